@@ -1,0 +1,30 @@
+-- How large a database is (TPC-C 1.2), and within which limits.
+use Rattle.std.specs.Prelude.{ℕ, ◌≤◌}
+
+-- the numbers of warehouses, districts a warehouse, customers a district and items, the greatest order number of a district, and the greatest number of commits
+pub record Sizes : Type 0 where
+  pub warehouses : ℕ
+  pub districts : ℕ
+  pub customers : ℕ
+  pub items : ℕ
+  pub orders : ℕ
+  pub commits : ℕ
+
+abbrev pub sizes : ℕ → ℕ → ℕ → ℕ → ℕ → ℕ → Sizes
+sizes warehouses districts customers items orders commits = record { warehouses = warehouses; districts = districts; customers = customers; items = items; orders = orders; commits = commits }
+
+abbrev pub IsBetween : ℕ → ℕ → ℕ → Type 0
+IsBetween low high n = (low ≤ n) × (n ≤ high)
+
+-- one of the numbers from 1 to n
+abbrev pub IsNumber : ℕ → ℕ → Type 0
+IsNumber n k = IsBetween 1 n k
+
+-- the limits of this engine
+pub record IsLawful (s : Sizes) : Type 0 where
+  pub warehouses : IsBetween 1 8 s.warehouses
+  pub districts : IsBetween 1 10 s.districts
+  pub customers : IsBetween 10 3000 s.customers
+  pub items : IsBetween 20 100000 s.items
+  pub orders : IsBetween s.customers 100000 s.orders
+  pub commits : IsBetween 1 600000 s.commits

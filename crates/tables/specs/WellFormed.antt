@@ -1,0 +1,113 @@
+-- Which tables are well-formed: keys within the scale, columns within their ranges, and no row that names a missing one.
+use Rattle.std.specs.Prelude.{◌≡◌, ℕ, ◌+◌, ◌*◌, ◌≤◌, ℤ, pos, neg_ℤ, ◌+ℤ◌, ◌-ℤ◌, ◌≤ℤ◌, Some, IsSome, All}
+use Rattle.std.specs.Option.{ForSome}
+use Rattle.std.specs.FinMap.{get}
+use Rattle.tables.specs.Sizes.{Sizes, IsBetween, IsNumber}
+use Rattle.tables.specs.Keys.{IsWarehouseKey, IsDistrictKey, IsCustomerKey, IsOrderKey, IsLineKey, IsItemKey, IsStockKey, order_of}
+use Rattle.tables.specs.Maps.{RowsAt, RowsWithin, EachRow}
+use Rattle.tables.specs.Database.{Database}
+use Rattle.tables.specs.declared.keys.OrderKey.{OrderKey}
+use Rattle.tables.specs.declared.keys.CustomerKey.{CustomerKey}
+use Rattle.tables.specs.declared.rows.District.{District}
+use Rattle.tables.specs.declared.rows.Customer.{Customer}
+use Rattle.tables.specs.declared.rows.History.{History}
+use Rattle.tables.specs.declared.rows.Order.{Order}
+use Rattle.tables.specs.declared.rows.OrderLine.{OrderLine}
+use Rattle.tables.specs.declared.rows.Stock.{Stock}
+
+-- within 10,000,000,000,000 cents of zero, also after n more commits, of which each moves a column by at most 15,000,000 cents
+abbrev pub IsMoneyFor : ℕ → ℤ → Type 0
+IsMoneyFor n z = ((z +ℤ pos (15000000 * n)) ≤ℤ pos 10000000000000) × (neg_ℤ (pos 10000000000000) ≤ℤ (z -ℤ pos (15000000 * n)))
+
+-- at most 1,000,000,000, also after n more commits, of which each raises a count by at most 150
+abbrev pub IsCountFor : ℕ → ℕ → Type 0
+IsCountFor n c = c + 150 * n ≤ 1000000000
+
+abbrev pub IsMoney : ℤ → Type 0
+IsMoney z = IsMoneyFor 0 z
+
+abbrev pub IsCount : ℕ → Type 0
+IsCount c = IsCountFor 0 c
+
+-- a date that isn't null
+abbrev pub IsDate : ℕ → Type 0
+IsDate n = IsBetween 1 4000000000 n
+
+pub record IsDistrictRow (s : Sizes) (r : District) : Type 0 where
+  pub year_to_date : IsMoney r.year_to_date
+  pub next_order : IsNumber (s.orders + 1) r.next_order
+
+pub record IsCustomerRow (r : Customer) : Type 0 where
+  pub balance : IsMoney r.balance
+  pub paid : IsMoney r.paid
+  pub payments : IsCount r.payments
+  pub deliveries : IsCount r.deliveries
+
+pub record IsHistoryRow (s : Sizes) (r : History) : Type 0 where
+  pub customer : IsNumber s.customers r.customer
+  pub customer_district : IsNumber s.districts r.customer_district
+  pub customer_warehouse : IsNumber s.warehouses r.customer_warehouse
+  pub district : IsNumber s.districts r.district
+  pub warehouse : IsNumber s.warehouses r.warehouse
+  pub date : IsDate r.date
+  pub at_least : pos 100 ≤ℤ r.amount
+  pub at_most : r.amount ≤ℤ pos 500000
+
+pub record IsOrderRow (r : Order) : Type 0 where
+  pub entry_date : IsDate r.entry_date
+  pub carrier : ForSome r.carrier (λ n. IsNumber 10 n)
+  pub line_count : IsBetween 5 15 r.line_count
+
+pub record IsLineRow (s : Sizes) (r : OrderLine) : Type 0 where
+  pub item : IsItemKey s r.item
+  pub supply_warehouse : IsWarehouseKey s r.supply_warehouse
+  pub delivery_date : ForSome r.delivery_date (λ n. IsDate n)
+  pub quantity : IsNumber 10 r.quantity
+  pub at_least : pos 0 ≤ℤ r.amount
+  pub at_most : r.amount ≤ℤ pos 999999
+
+pub record IsStockRow (r : Stock) : Type 0 where
+  pub quantity : IsBetween 10 100 r.quantity
+  pub year_to_date : IsCount r.year_to_date
+  pub orders : IsCount r.orders
+  pub remote_orders : IsCount r.remote_orders
+
+-- the customer that an order names
+abbrev pub orderer : OrderKey → Order → CustomerKey
+orderer k r = record { warehouse = k.warehouse; district = k.district; customer = r.customer }
+
+pub record IsWellFormed (t : Database) : Type 0 where
+  -- a row of WAREHOUSE, DISTRICT, CUSTOMER and STOCK for each key of the scale
+  pub warehouses : RowsAt (IsWarehouseKey t.scale) t.warehouses
+  pub districts : RowsAt (IsDistrictKey t.scale) t.districts
+  pub customers : RowsAt (IsCustomerKey t.scale) t.customers
+  pub stock : RowsAt (IsStockKey t.scale) t.stock
+
+  -- the other keys within the scale
+  pub new_orders : RowsWithin (IsOrderKey t.scale) t.new_orders
+  pub orders : RowsWithin (IsOrderKey t.scale) t.orders
+  pub lines : RowsWithin (IsLineKey t.scale) t.lines
+  pub items : RowsWithin (IsItemKey t.scale) t.items
+
+  -- columns within their ranges
+  pub warehouse_rows : EachRow (λ k r. IsMoney r.year_to_date) t.warehouses
+  pub district_rows : EachRow (λ k r. IsDistrictRow t.scale r) t.districts
+  pub customer_rows : EachRow (λ k r. IsCustomerRow r) t.customers
+  pub history_rows : All (IsHistoryRow t.scale) t.history
+  pub order_rows : EachRow (λ k r. IsOrderRow r) t.orders
+  pub line_rows : EachRow (λ k r. IsLineRow t.scale r) t.lines
+  pub stock_rows : EachRow (λ k r. IsStockRow r) t.stock
+
+  -- every order names a customer, every NEW-ORDER row and every line has its order, and a line's number is at most its order's O_OL_CNT
+  pub order_customers : EachRow (λ k r. IsSome (get t.customers (orderer k r))) t.orders
+  pub new_order_orders : (k : OrderKey) → IsSome (get t.new_orders k) → IsSome (get t.orders k)
+  pub line_orders : EachRow (λ k r. (order : Order) × (get t.orders (order_of k) ≡ Some order) × (k.line ≤ order.line_count)) t.lines
+
+-- the columns that commits move stay within their ranges for n more commits
+pub record HasRoom (n : ℕ) (t : Database) : Type 0 where
+  pub warehouses : EachRow (λ k r. IsMoneyFor n r.year_to_date) t.warehouses
+  pub districts : EachRow (λ k r. IsMoneyFor n r.year_to_date) t.districts
+  pub balances : EachRow (λ k r. IsMoneyFor n r.balance) t.customers
+  pub paid : EachRow (λ k r. IsMoneyFor n r.paid) t.customers
+  pub payments : EachRow (λ k r. IsCountFor n r.payments) t.customers
+  pub deliveries : EachRow (λ k r. IsCountFor n r.deliveries) t.customers

@@ -1,0 +1,60 @@
+//! The nine tables of TPC-C as they are kept here, the inputs and replies of its transactions, and, in
+//! `specs/`, the definitions that every promise of this repository is made of: what a transaction does to
+//! the tables, when tables are well-formed, and the consistency conditions (TPC-C 3.3.2).
+#![tactic(auto)]
+
+mod input;
+mod keys;
+mod reply;
+mod rows;
+mod scale;
+
+pub use input::{Input, Payment, Who};
+pub use keys::{CustomerKey, DistrictKey, LineKey, OrderKey, StockKey};
+pub use reply::{PaymentReply, Reply};
+pub use rows::{Credit, Customer, District, History, Item, NewOrder, Order, OrderLine, Stock, Warehouse};
+pub use scale::{Scale, is_between};
+
+use std::alloc::Global;
+use std::collections::BTreeMap;
+
+/// The nine tables (TPC-C 1.3): eight maps from key to row, and HISTORY, which has no key, as a list in
+/// the order in which its rows came.
+///
+/// Contracts see them as the finite maps and the list of `database` in `specs/Database.antt`.
+#[derive(Debug, Drop)]
+pub struct Tables {
+    pub scale: Scale,
+    pub warehouses: BTreeMap<u32, Warehouse>,
+    pub districts: BTreeMap<DistrictKey, District>,
+    pub customers: BTreeMap<CustomerKey, Customer>,
+    pub history: Vec<History>,
+    pub new_orders: BTreeMap<OrderKey, NewOrder>,
+    pub orders: BTreeMap<OrderKey, Order>,
+    pub lines: BTreeMap<LineKey, OrderLine>,
+    pub items: BTreeMap<u32, Item>,
+    pub stock: BTreeMap<StockKey, Stock>,
+}
+
+impl Tables {
+    ghost use Rattle.std.specs.Prelude.{◌≡◌};
+    ghost use Rattle.tables.specs.Database.{database, empty_database};
+
+    /// Tables without rows. Takes no memory.
+    pub fn new(alloc: Global, scale: Scale) -> Tables
+        ensures { database result ≡ empty_database scale }
+    {
+        Tables {
+            scale,
+            warehouses: BTreeMap::new(alloc),
+            districts: BTreeMap::new(alloc),
+            customers: BTreeMap::new(alloc),
+            history: Vec::new(alloc),
+            new_orders: BTreeMap::new(alloc),
+            orders: BTreeMap::new(alloc),
+            lines: BTreeMap::new(alloc),
+            items: BTreeMap::new(alloc),
+            stock: BTreeMap::new(alloc),
+        }
+    }
+}

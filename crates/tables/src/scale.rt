@@ -1,0 +1,125 @@
+//! How large a database is.
+
+ghost use Rattle.std.specs.Prelude.{◌≡◌, ◌≤◌, ◌↔◌, IsTrue, MatchResult};
+
+use money::Refusal;
+use std::marker::Model;
+
+/// The numbers of warehouses, districts a warehouse, customers a district and items (TPC-C 1.2), the order
+/// cap of a district and the commit cap. Each is within its limits:
+///
+/// | number | from | to |
+/// |---|---|---|
+/// | warehouses | 1 | 8 |
+/// | districts a warehouse | 1 | 10 |
+/// | customers a district | 10 | 3,000 |
+/// | items | 20 | 100,000 |
+/// | order cap | the number of customers | 100,000 |
+/// | commit cap | 1 | 600,000 |
+#[derive(Clone, Copy, Debug, PartialEq, Eq)]
+pub struct Scale {
+    warehouses: u32,
+    districts: u32,
+    customers: u32,
+    items: u32,
+    orders: u32,
+    commits: u32,
+}
+
+impl Model for Scale {
+    ghost use Rattle.tables.specs.Sizes.{Sizes, IsLawful, sizes};
+
+    ghost Value = { Sizes };
+
+    ghost view = { λ s. sizes s.warehouses s.districts s.customers s.items s.orders s.commits };
+
+    ghost invariant = { λ s. IsLawful (sizes s.warehouses s.districts s.customers s.items s.orders s.commits) };
+
+    ghost inverse = { λ s. record { warehouses = s.warehouses; districts = s.districts; customers = s.customers; items = s.items; orders = s.orders; commits = s.commits } };
+}
+
+impl Scale {
+    ghost use Rattle.tables.specs.Sizes.{IsLawful, sizes, IsBetween};
+    ghost use Rattle.money.specs.declared.refusal.Refusal.TheVariants.{BadScale};
+
+    /// The scale of these numbers, or `BadScale` exactly where one is outside its limits.
+    pub fn new(warehouses: u32, districts: u32, customers: u32, items: u32, orders: u32, commits: u32) -> Result<Scale, Refusal>
+        ensures limits {
+            let asked = sizes warehouses districts customers items orders commits in
+            MatchResult result (λ scale. (scale ≡ asked) × IsLawful asked) (λ refusal. (refusal ≡ BadScale) × ¬ IsLawful asked)
+        }
+    {
+        let is_lawful = is_between(1, 8, warehouses)
+            && is_between(1, 10, districts)
+            && is_between(10, 3_000, customers)
+            && is_between(20, 100_000, items)
+            && is_between(customers, 100_000, orders)
+            && is_between(1, 600_000, commits);
+        if !is_lawful {
+            return Err(Refusal::BadScale);
+        }
+        Ok(Scale {
+            warehouses,
+            districts,
+            customers,
+            items,
+            orders,
+            commits,
+        })
+    }
+
+    /// The number of warehouses.
+    pub fn warehouses(&self) -> u32
+        ensures value { result ≡ self.now.warehouses }
+        ensures limits { IsBetween 1 8 result }
+    {
+        self.warehouses
+    }
+
+    /// The number of districts of each warehouse.
+    pub fn districts(&self) -> u32
+        ensures value { result ≡ self.now.districts }
+        ensures limits { IsBetween 1 10 result }
+    {
+        self.districts
+    }
+
+    /// The number of customers of each district.
+    pub fn customers(&self) -> u32
+        ensures value { result ≡ self.now.customers }
+        ensures limits { IsBetween 10 3000 result }
+    {
+        self.customers
+    }
+
+    /// The number of items.
+    pub fn items(&self) -> u32
+        ensures value { result ≡ self.now.items }
+        ensures limits { IsBetween 20 100000 result }
+    {
+        self.items
+    }
+
+    /// The greatest order number of a district.
+    pub fn orders(&self) -> u32
+        ensures value { result ≡ self.now.orders }
+        ensures limits { IsBetween self.now.customers 100000 result }
+    {
+        self.orders
+    }
+
+    /// The greatest number of commits.
+    pub fn commits(&self) -> u32
+        ensures value { result ≡ self.now.commits }
+        ensures limits { IsBetween 1 600000 result }
+    {
+        self.commits
+    }
+}
+
+/// Whether a number stands between two others, which count as between.
+pub fn is_between(low: u32, high: u32, number: u32) -> bool
+    ensures { IsTrue result ↔ ((low ≤ number) × (number ≤ high)) }
+{
+    low <= number && number <= high
+}
