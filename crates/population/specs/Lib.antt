@@ -1,1 +1,4 @@
 pub mod Plain
+pub mod Adds
+pub mod Unique
+pub mod Initial

@@ -1,5 +1,5 @@
 -- The plain population: which row stands at which key (clause 4.3.3.1 draws most of these columns; here none is drawn).
-use Rattle.std.specs.Prelude.{◌≡◌, ℕ, ◌+◌, ◌-◌, ◌*◌, ◌/◌, ◌%◌, ◌<◌, pos, neg_ℤ, Bool, true, cond, nat_le, ◌==◌, Option, Some, None, IsSome, List, [], ◌∷◌, ◌++◌, map}
+use Rattle.std.specs.Prelude.{◌≡◌, ℕ, zero, suc, ◌+◌, ◌-◌, ◌*◌, ◌/◌, ◌%◌, ◌<◌, pos, neg_ℤ, Bool, true, cond, nat_le, ◌==◌, Option, Some, None, IsSome, List, [], ◌∷◌, ◌++◌, map}
 use Rattle.std.specs.List.{flat_map}
 use Rattle.std.specs.FinMap.{FinMap, get}
 use Rattle.std.specs.declared.cmp.Ordering.{Ordering}
@@ -115,7 +115,7 @@ pub record IsPlain (s : Sizes) (t : Database) : Type 0 where
   pub districts : IsTable (IsDistrictKey s) (λ k. plain_district s) t.districts
   pub customers : IsTable (IsCustomerKey s) (λ k. plain_customer k.customer) t.customers
   pub history : t.history ≡ plain_history s
-  pub new_orders : IsTable (IsPlainNewOrderKey s) (λ k. NewOrder) t.new_orders
+  pub new_orders : IsTable (IsPlainNewOrderKey s) (λ k. record {}) t.new_orders
   pub orders : IsTable (IsPlainOrderKey s) (λ k. plain_order s k.order) t.orders
   pub lines : IsTable (IsPlainLineKey s) (λ k. plain_line s k.warehouse k.order k.line) t.lines
   pub items : IsTable (IsItemKey s) plain_item t.items

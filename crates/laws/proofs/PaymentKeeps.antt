@@ -1,0 +1,238 @@
+-- A Payment keeps tables well-formed and consistent.
+use Rattle.std.proofs.Common.{◌≡◌, ℕ, ◌+◌, ◌*◌, ◌≤◌, ℤ, pos, ◌+ℤ◌, ◌-ℤ◌, ◌≤ℤ◌, Bool, true, false, cond, ◌&&◌, ◌==◌, true≢false, eqb, List, [], ◌∷◌, ◌++◌, Option, Some, None, IsSome, is_some, fold, refl, sym, ap, ◌∙◌, subst, arith, All}
+use Rattle.std.proofs.lemmas.Int.{ints}
+use Rattle.std.proofs.lemmas.Bool.Decides.{nat_tests}
+use Rattle.std.proofs.lemmas.List.Sums.{fold_push}
+use Rattle.std.proofs.lemmas.List.Elements.{All-push}
+use Rattle.std.specs.Ordering.{eq_by_cmp, is_eq, nat_cmp, ordering_then}
+use Rattle.std.specs.FinMap.{FinMap, get}
+use Rattle.std.specs.declared.cmp.Ordering.{Ordering}
+use Rattle.std.specs.declared.cmp.Ordering.TheVariants.{Less, Equal, Greater}
+use Rattle.std.specs.Option.{option_map_or}
+use Rattle.tables.specs.Keys.{district_cmp, customer_cmp, is_district, is_customer, IsWarehouseKey, IsDistrictKey, IsCustomerKey}
+use Rattle.tables.specs.Maps.{total, map_rows, update_where, column, sum_of, RowsAt, EachRow}
+use Rattle.tables.specs.Database.{Database}
+use Rattle.tables.specs.Inputs.{IsPayment, number_of, payer}
+use Rattle.tables.specs.Apply.{after_payment, history_row}
+use Rattle.tables.specs.Conditions.{IsConsistent, Condition1At, Condition8At, Condition9At, Condition10At, Condition12At, warehouse_history, district_history, customer_history, delivered_amount}
+use Rattle.tables.specs.WellFormed.{IsWellFormed, HasRoom, IsMoneyFor, IsCountFor, IsDistrictRow, IsCustomerRow, IsHistoryRow, orderer}
+use Rattle.tables.specs.declared.keys.DistrictKey.{DistrictKey}
+use Rattle.tables.specs.declared.keys.CustomerKey.{CustomerKey}
+use Rattle.tables.specs.declared.rows.Warehouse.{Warehouse}
+use Rattle.tables.specs.declared.rows.District.{District}
+use Rattle.tables.specs.declared.rows.Customer.{Customer}
+use Rattle.tables.specs.declared.rows.History.{History}
+use Rattle.tables.specs.declared.input.Payment.{Payment}
+use Rattle.tables.proofs.Orders.{IsExact, exact_number, exact_district, exact_customer}
+use Rattle.laws.proofs.KeyTests.{is_district-key, is_customer-key}
+use Rattle.laws.proofs.Updates.{column-update_where, total-update_where, is_some-map_rows, row_before}
+
+-- the row at a key of the scale
+there : {K X : Type 0} {R : K → K → Ordering} (IsKey : K → Type 0) (m : FinMap R X) → RowsAt IsKey m → (k : K) → IsKey k → (r : X) × (get m k ≡ Some r)
+there {X = X} IsKey m at k is = found (get m k) refl ((at k).1 is)
+  where
+    found : (w : Option X) → get m k ≡ w → IsSome w → (r : X) × (get m k ≡ Some r)
+    found None e some = absurd (true≢false (sym some))
+    found (Some r) e some = (r, e)
+
+-- ---- the updates of a Payment
+abbrev raised_warehouse : ℤ → Warehouse → Warehouse
+raised_warehouse a r = record r { year_to_date = r.year_to_date +ℤ a }
+
+abbrev raised_district : ℤ → District → District
+raised_district a r = record r { year_to_date = r.year_to_date +ℤ a }
+
+abbrev charged : ℤ → Customer → Customer
+charged a r = record r { balance = r.balance -ℤ a; paid = r.paid +ℤ a; payments = r.payments + 1 }
+
+module _ (t : Database) (x : Payment) (ok : IsPayment t.scale x) (wf : IsWellFormed t) (con : IsConsistent t) where
+  abbrev in_district : ℕ → DistrictKey → District → ℤ
+  in_district w k r = cond (k.warehouse == w) r.year_to_date (pos 0)
+
+  condition_1 : (w : ℕ) → IsWarehouseKey t.scale w → Condition1At (after_payment t x) w
+  condition_1 w is =
+      let key : DistrictKey = record { warehouse = x.warehouse; district = x.district } in
+      let warehouse = there (IsWarehouseKey t.scale) t.warehouses wf.warehouses w is in
+      let district = there (IsDistrictKey t.scale) t.districts wf.districts key (ok.warehouse, ok.district) in
+      let r = warehouse.0 in
+      let d = district.0 in
+      let was : r.year_to_date ≡ total (in_district w) t.districts = ap (λ (o : Option Warehouse). option_map_or (λ q. q.year_to_date) o (pos 0)) (sym warehouse.1) ∙ con.condition_1 w is in
+      column-update_where exact_number (λ q. q.year_to_date) (λ v. x.warehouse == v) (raised_warehouse x.amount) t.warehouses w r warehouse.1
+      ∙ (elim (x.warehouse == w) as (λ b. (cond b (raised_warehouse x.amount r) r).year_to_date ≡ total (in_district w) t.districts +ℤ (cond b (d.year_to_date +ℤ x.amount) (pos 0) -ℤ cond b d.year_to_date (pos 0))) [
+        | true ↦ omega (arith, ints)
+        | false ↦ omega (arith, ints)
+      ])
+      ∙ sym (total-update_where exact_district (in_district w) (is_district x.warehouse x.district) (raised_district x.amount) key d t.districts (is_district-key x.warehouse x.district) district.1)
+
+  condition_8 : (w : ℕ) → IsWarehouseKey t.scale w → Condition8At (after_payment t x) w
+  condition_8 w is =
+      let warehouse = there (IsWarehouseKey t.scale) t.warehouses wf.warehouses w is in
+      let r = warehouse.0 in
+      let was : r.year_to_date ≡ warehouse_history t w = ap (λ (o : Option Warehouse). option_map_or (λ q. q.year_to_date) o (pos 0)) (sym warehouse.1) ∙ con.condition_8 w is in
+      column-update_where exact_number (λ q. q.year_to_date) (λ v. x.warehouse == v) (raised_warehouse x.amount) t.warehouses w r warehouse.1
+      ∙ (elim (x.warehouse == w) as (λ b. (cond b (raised_warehouse x.amount r) r).year_to_date ≡ warehouse_history t w +ℤ cond b x.amount (pos 0)) [
+        | true ↦ omega (arith, ints)
+        | false ↦ omega (arith, ints)
+      ])
+      ∙ sym (fold_push (λ (a : ℤ) (h : History). a +ℤ cond (h.warehouse == w) h.amount (pos 0)) (pos 0) t.history (history_row x))
+
+  condition_9 : (k : DistrictKey) → IsDistrictKey t.scale k → Condition9At (after_payment t x) k
+  condition_9 k is =
+      let district = there (IsDistrictKey t.scale) t.districts wf.districts k is in
+      let r = district.0 in
+      let was : r.year_to_date ≡ district_history t k = ap (λ (o : Option District). option_map_or (λ q. q.year_to_date) o (pos 0)) (sym district.1) ∙ con.condition_9 k is in
+      column-update_where exact_district (λ q. q.year_to_date) (is_district x.warehouse x.district) (raised_district x.amount) t.districts k r district.1
+      ∙ (elim (is_district x.warehouse x.district k) as (λ b. (cond b (raised_district x.amount r) r).year_to_date ≡ district_history t k +ℤ cond b x.amount (pos 0)) [
+        | true ↦ omega (arith, ints)
+        | false ↦ omega (arith, ints)
+      ])
+      ∙ sym (fold_push (λ (a : ℤ) (h : History). a +ℤ cond (is_district h.warehouse h.district k) h.amount (pos 0)) (pos 0) t.history (history_row x))
+
+  abbrev is_payer : CustomerKey → Bool
+  is_payer k = is_customer x.customer_warehouse x.customer_district (number_of x.who) k
+
+  condition_10 : (k : CustomerKey) → IsCustomerKey t.scale k → Condition10At (after_payment t x) k
+  condition_10 k is =
+      let customer = there (IsCustomerKey t.scale) t.customers wf.customers k is in
+      let r = customer.0 in
+      let was : r.balance ≡ delivered_amount t k -ℤ customer_history t k = ap (λ (o : Option Customer). option_map_or (λ q. q.balance) o (pos 0)) (sym customer.1) ∙ con.condition_10 k is in
+      column-update_where exact_customer (λ q. q.balance) is_payer (charged x.amount) t.customers k r customer.1
+      ∙ (elim (is_payer k) as (λ b. (cond b (charged x.amount r) r).balance ≡ delivered_amount t k -ℤ (customer_history t k +ℤ cond b x.amount (pos 0))) [
+        | true ↦ omega (arith, ints)
+        | false ↦ omega (arith, ints)
+      ])
+      ∙ ap (λ h. delivered_amount t k -ℤ h) (sym (fold_push (λ (a : ℤ) (h : History). a +ℤ cond (is_customer h.customer_warehouse h.customer_district h.customer k) h.amount (pos 0)) (pos 0) t.history (history_row x)))
+
+  condition_12 : (k : CustomerKey) → IsCustomerKey t.scale k → Condition12At (after_payment t x) k
+  condition_12 k is =
+      let customer = there (IsCustomerKey t.scale) t.customers wf.customers k is in
+      let r = customer.0 in
+      let was : r.balance +ℤ r.paid ≡ delivered_amount t k = ap (λ (o : Option Customer). option_map_or (λ q. q.balance) o (pos 0) +ℤ option_map_or (λ q. q.paid) o (pos 0)) (sym customer.1) ∙ con.condition_12 k is in
+      (λ i. column-update_where exact_customer (λ q. q.balance) is_payer (charged x.amount) t.customers k r customer.1 i +ℤ column-update_where exact_customer (λ q. q.paid) is_payer (charged x.amount) t.customers k r customer.1 i)
+      ∙ (elim (is_payer k) as (λ b. (cond b (charged x.amount r) r).balance +ℤ (cond b (charged x.amount r) r).paid ≡ delivered_amount t k) [
+        | true ↦ omega (arith, ints)
+        | false ↦ omega (arith, ints)
+      ])
+
+  pub payment_keeps_consistent : IsConsistent (after_payment t x)
+  payment_keeps_consistent = record {
+    condition_1 = condition_1;
+    condition_8 = condition_8;
+    condition_9 = condition_9;
+    condition_10 = condition_10;
+    condition_12 = condition_12;
+  }
+
+-- ---- well-formed
+updated_rows : {K X : Type 0} {R : K → K → Ordering} (o : IsExact R) (IsKey : K → Type 0) (g : K → X → X) (m : FinMap R X) → RowsAt IsKey m → RowsAt IsKey (map_rows g m)
+updated_rows o IsKey g m at k =
+    let same = is_some-map_rows o g m k in
+    ((λ some. (at k).0 (subst (λ b. b ≡ true) same some)), (λ is. subst (λ b. b ≡ true) (sym same) ((at k).1 is)))
+
+-- what holds of each row before the update and is kept by it holds of each row after it
+each_updated : {K X : Type 0} {R : K → K → Ordering} (o : IsExact R) (P Q : K → X → Type 0) (g : K → X → X) (m : FinMap R X) → EachRow P m → ((k : K) (r : X) → P k r → Q k (g k r)) → EachRow Q (map_rows g m)
+each_updated o P Q g m each kept k s found =
+    let before = row_before o g m k s found in
+    subst (Q k) (sym before.2) (kept k before.0 (each k before.0 before.1))
+
+module _ (t : Database) (x : Payment) (n : ℕ) (ok : IsPayment t.scale x) (wf : IsWellFormed t) (room : HasRoom (n + 1) t) where
+  rises : (z : ℤ) → IsMoneyFor (n + 1) z → IsMoneyFor n (z +ℤ x.amount)
+  rises z h = (omega (arith, ints, ok.at_least, ok.at_most, h.0, h.1), omega (arith, ints, ok.at_least, ok.at_most, h.0, h.1))
+
+  falls : (z : ℤ) → IsMoneyFor (n + 1) z → IsMoneyFor n (z -ℤ x.amount)
+  falls z h = (omega (arith, ints, ok.at_least, ok.at_most, h.0, h.1), omega (arith, ints, ok.at_least, ok.at_most, h.0, h.1))
+
+  stays : (z : ℤ) → IsMoneyFor (n + 1) z → IsMoneyFor n z
+  stays z h = (omega (arith, ints, h.0, h.1), omega (arith, ints, h.0, h.1))
+
+  counts : (c : ℕ) → IsCountFor (n + 1) c → IsCountFor n (c + 1)
+  counts c h = omega (arith, h)
+
+  count_stays : (c : ℕ) → IsCountFor (n + 1) c → IsCountFor n c
+  count_stays c h = omega (arith, h)
+
+  warehouse_room : EachRow (λ k r. IsMoneyFor n r.year_to_date) (after_payment t x).warehouses
+  warehouse_room = each_updated exact_number (λ k r. IsMoneyFor (n + 1) r.year_to_date) (λ k r. IsMoneyFor n r.year_to_date) (λ w r. cond (x.warehouse == w) (raised_warehouse x.amount r) r) t.warehouses room.warehouses
+      (λ w r h. elim (x.warehouse == w) as (λ b. IsMoneyFor n (cond b (raised_warehouse x.amount r) r).year_to_date) [ true ↦ rises r.year_to_date h | false ↦ stays r.year_to_date h ])
+
+  district_room : EachRow (λ k r. IsMoneyFor n r.year_to_date) (after_payment t x).districts
+  district_room = each_updated exact_district (λ k r. IsMoneyFor (n + 1) r.year_to_date) (λ k r. IsMoneyFor n r.year_to_date) (λ k r. cond (is_district x.warehouse x.district k) (raised_district x.amount r) r) t.districts room.districts
+      (λ k r h. elim (is_district x.warehouse x.district k) as (λ b. IsMoneyFor n (cond b (raised_district x.amount r) r).year_to_date) [ true ↦ rises r.year_to_date h | false ↦ stays r.year_to_date h ])
+
+  abbrev pays : CustomerKey → Customer → Customer
+  pays k r = cond (is_customer x.customer_warehouse x.customer_district (number_of x.who) k) (charged x.amount r) r
+
+  -- what holds of a customer's row that didn't pay and of one that did
+  each_customer : (P Q : Customer → Type 0) → EachRow (λ k r. P r) t.customers → ((r : Customer) → P r → Q r) → ((r : Customer) → P r → Q (charged x.amount r)) → EachRow (λ k r. Q r) (after_payment t x).customers
+  each_customer P Q each same paid = each_updated exact_customer (λ k r. P r) (λ k r. Q r) pays t.customers each
+      (λ k r h. elim (is_customer x.customer_warehouse x.customer_district (number_of x.who) k) as (λ b. Q (cond b (charged x.amount r) r)) [ true ↦ paid r h | false ↦ same r h ])
+
+  pub payment_keeps_room : HasRoom n (after_payment t x)
+  payment_keeps_room = record {
+    warehouses = warehouse_room;
+    districts = district_room;
+    balances = each_customer (λ r. IsMoneyFor (n + 1) r.balance) (λ r. IsMoneyFor n r.balance) room.balances (λ r h. stays r.balance h) (λ r h. falls r.balance h);
+    paid = each_customer (λ r. IsMoneyFor (n + 1) r.paid) (λ r. IsMoneyFor n r.paid) room.paid (λ r h. stays r.paid h) (λ r h. rises r.paid h);
+    payments = each_customer (λ r. IsCountFor (n + 1) r.payments) (λ r. IsCountFor n r.payments) room.payments (λ r h. count_stays r.payments h) (λ r h. counts r.payments h);
+    deliveries = each_customer (λ r. IsCountFor (n + 1) r.deliveries) (λ r. IsCountFor n r.deliveries) room.deliveries (λ r h. count_stays r.deliveries h) (λ r h. count_stays r.deliveries h);
+  }
+
+  money : (z : ℤ) → IsMoneyFor n z → IsMoneyFor 0 z
+  money z h = (omega (arith, ints, h.0, h.1), omega (arith, ints, h.0, h.1))
+
+  count : (c : ℕ) → IsCountFor n c → IsCountFor 0 c
+  count c h = omega (arith, h)
+
+  district_rows : EachRow (λ k r. IsDistrictRow t.scale r) (after_payment t x).districts
+  district_rows = each_updated exact_district (λ k r. IsDistrictRow t.scale r × IsMoneyFor (n + 1) r.year_to_date) (λ k r. IsDistrictRow t.scale r) (λ k r. cond (is_district x.warehouse x.district k) (raised_district x.amount r) r) t.districts
+      (λ k r f. (wf.district_rows k r f, room.districts k r f))
+      (λ k r h. elim (is_district x.warehouse x.district k) as (λ b. IsDistrictRow t.scale (cond b (raised_district x.amount r) r)) [
+        | true ↦ record { year_to_date = money _ (rises r.year_to_date h.1); next_order = h.0.next_order }
+        | false ↦ h.0
+      ])
+
+  customer_rows : EachRow (λ k r. IsCustomerRow r) (after_payment t x).customers
+  customer_rows = each_customer
+      (λ r. IsCustomerRow r × IsMoneyFor (n + 1) r.balance × IsMoneyFor (n + 1) r.paid × IsCountFor (n + 1) r.payments) IsCustomerRow
+      (λ k r f. (wf.customer_rows k r f, room.balances k r f, room.paid k r f, room.payments k r f))
+      (λ r h. h.0)
+      (λ r h. record {
+        balance = money _ (falls r.balance h.1);
+        paid = money _ (rises r.paid h.2);
+        payments = count _ (counts r.payments h.3);
+        deliveries = h.0.deliveries;
+      })
+
+  abbrev added : IsHistoryRow t.scale (history_row x)
+  added = record {
+    customer = ok.customer;
+    customer_district = ok.customer_district;
+    customer_warehouse = ok.customer_warehouse;
+    district = ok.district;
+    warehouse = ok.warehouse;
+    date = ok.date;
+    at_least = ok.at_least;
+    at_most = ok.at_most;
+  }
+
+  pub payment_keeps_well_formed : IsWellFormed (after_payment t x)
+  payment_keeps_well_formed = record {
+    warehouses = updated_rows exact_number (IsWarehouseKey t.scale) (λ w r. cond (x.warehouse == w) (raised_warehouse x.amount r) r) t.warehouses wf.warehouses;
+    districts = updated_rows exact_district (IsDistrictKey t.scale) (λ k r. cond (is_district x.warehouse x.district k) (raised_district x.amount r) r) t.districts wf.districts;
+    customers = updated_rows exact_customer (IsCustomerKey t.scale) pays t.customers wf.customers;
+    stock = wf.stock;
+    new_orders = wf.new_orders;
+    orders = wf.orders;
+    lines = wf.lines;
+    items = wf.items;
+    warehouse_rows = λ w r f. money r.year_to_date (warehouse_room w r f);
+    district_rows = district_rows;
+    customer_rows = customer_rows;
+    history_rows = All-push (IsHistoryRow t.scale) t.history (history_row x) wf.history_rows added;
+    order_rows = wf.order_rows;
+    line_rows = wf.line_rows;
+    stock_rows = wf.stock_rows;
+    order_customers = λ k r f. subst (λ b. b ≡ true) (sym (is_some-map_rows exact_customer pays t.customers (orderer k r))) (wf.order_customers k r f);
+    new_order_orders = wf.new_order_orders;
+    line_orders = wf.line_orders;
+  }

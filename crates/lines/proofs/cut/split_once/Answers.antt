@@ -1,0 +1,16 @@
+use Rattle.std.proofs.Common.{arith}
+use Rattle.lines.proofs.Marks.{parts_none, parts_at, whole_at}
+use Rattle.lines.proofs.cut.split_once.Goals as goal
+
+pub returns-clause-parts : goal.returns-clause-parts
+returns-clause-parts c =
+    let found = c.in_ok-end.ensures in
+    parts_at c.args.mark c.in_ok-end.end c.args.text.now found.0.high found.0.before found.1
+
+pub returns-clause-bytes : goal.returns-clause-bytes
+returns-clause-bytes c =
+    let found = c.in_ok-end.ensures in
+    whole_at c.args.mark c.in_ok-end.end c.args.text.now found.0.high found.1
+
+pub returns-in_err-end-clause-parts : goal.returns-in_err-end-clause-parts
+returns-in_err-end-clause-parts c = rw c.from_residual.ensures (parts_none c.args.mark c.args.text.now c.in_err-end.ensures)

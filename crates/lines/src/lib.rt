@@ -1,0 +1,6 @@
+//! The text of scripts: how a stream of bytes is cut into lines, what a line asks, and how the replies are
+//! written. Nothing here reads or writes a file.
+#![tactic(auto)]
+
+mod cut;
+mod words;

@@ -1,0 +1,2 @@
+pub mod MoneyReading
+pub mod MoneyText

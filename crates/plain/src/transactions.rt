@@ -1,0 +1,121 @@
+//! A transaction on plain tables.
+
+ghost use Rattle.std.specs.Prelude.{◌≡◌, ℕ, ℤ, ◌+◌, ◌+ℤ◌, ◌-ℤ◌, ◌≤ℤ◌, ◌==◌, pos, Some, IsSomeAnd, OnOk, OnErr, IfOk, IfErr};
+ghost use Rattle.std.specs.FinMap.{from_entries, get};
+ghost use Rattle.std.specs.Ordering.{nat_cmp};
+ghost use Rattle.tables.specs.Database.{database};
+ghost use Rattle.tables.specs.Inputs.{IsInput, IsPayment};
+ghost use Rattle.tables.specs.Apply.{after, reply_to, after_payment, payment_reply};
+ghost use Rattle.tables.specs.Keys.{district_cmp, customer_cmp, is_district, is_customer};
+ghost use Rattle.tables.specs.Maps.{update_where, column};
+ghost use Rattle.tables.specs.WellFormed.{IsWellFormed, IsMoney, IsCustomerRow};
+ghost use Rattle.money.specs.declared.refusal.Refusal.TheVariants.{OutOfMemory};
+
+use money::{Cents, Refusal};
+use std::collections::BTreeMap;
+use tables::{
+    Customer, CustomerKey, District, DistrictKey, History, Input, Payment, PaymentReply, Reply,
+    Tables, Warehouse, Who,
+};
+
+/// Does a transaction, and answers its reply. Costs a few look-ups, and memory only where HISTORY grows.
+/// After `OutOfMemory`, the only refusal, the tables are as before.
+pub fn apply(tables: &mut Tables, input: &Input) -> Result<Reply, Refusal>
+    requires input { IsInput tables.old.scale input.now }
+    requires well_formed { IsWellFormed (database tables.old) }
+    ensures tables { OnOk result (database tables.new ≡ after (database tables.old) input.now) }
+    ensures reply { IfOk result (λ reply. reply ≡ reply_to (database tables.old) input.now) }
+    ensures err { IfErr result (λ refusal. (refusal ≡ OutOfMemory) × (database tables.new ≡ database tables.old)) }
+{
+    match input {
+        Input::Payment(payment) => Ok(Reply::Payment(apply_payment(tables, payment)?)),
+    }
+}
+
+/// A Payment (TPC-C 2.5.2.2).
+fn apply_payment(tables: &mut Tables, payment: &Payment) -> Result<PaymentReply, Refusal>
+    requires input { IsPayment tables.old.scale payment.now }
+    requires well_formed { IsWellFormed (database tables.old) }
+    ensures tables { OnOk result (database tables.new ≡ after_payment (database tables.old) payment.now) }
+    ensures reply { IfOk result (λ reply. reply ≡ payment_reply (database tables.old) payment.now) }
+    ensures err { IfErr result (λ refusal. (refusal ≡ OutOfMemory) × (database tables.new ≡ database tables.old)) }
+{
+    let Who::Id(customer) = payment.who;
+    tables.history.reserve(1)?;
+    raise_warehouse(&mut tables.warehouses, payment.warehouse, payment.amount);
+    let district = DistrictKey {
+        warehouse: payment.warehouse,
+        district: payment.district,
+    };
+    raise_district(&mut tables.districts, district, payment.amount);
+    let payer = CustomerKey {
+        warehouse: payment.customer_warehouse,
+        district: payment.customer_district,
+        customer,
+    };
+    let balance = charge_customer(&mut tables.customers, payer, payment.amount);
+    tables.history.push_reserved(History {
+        customer,
+        customer_district: payment.customer_district,
+        customer_warehouse: payment.customer_warehouse,
+        district: payment.district,
+        warehouse: payment.warehouse,
+        date: payment.date,
+        amount: payment.amount,
+    });
+    Ok(PaymentReply {
+        warehouse: payment.warehouse,
+        district: payment.district,
+        customer_warehouse: payment.customer_warehouse,
+        customer_district: payment.customer_district,
+        customer,
+        balance,
+    })
+}
+
+/// Raises W_YTD.
+fn raise_warehouse(warehouses: &mut BTreeMap<u32, Warehouse>, warehouse: u32, amount: Cents)
+    requires row { IsSomeAnd (get (from_entries {R = nat_cmp} warehouses.old.entries) warehouse) (λ r. IsMoney r.year_to_date) }
+    requires low { pos 0 ≤ℤ amount }
+    requires high { amount ≤ℤ pos 500000 }
+    ensures { from_entries {R = nat_cmp} warehouses.new.entries
+        ≡ update_where (λ w. warehouse == w) (λ r. record r { year_to_date = r.year_to_date +ℤ amount }) (from_entries warehouses.old.entries) }
+{
+    if let Some(row) = warehouses.get_mut(&warehouse) {
+        row.year_to_date = row.year_to_date + amount;
+    }
+}
+
+/// Raises D_YTD.
+fn raise_district(districts: &mut BTreeMap<DistrictKey, District>, key: DistrictKey, amount: Cents)
+    requires row { IsSomeAnd (get (from_entries {R = district_cmp} districts.old.entries) key) (λ r. IsMoney r.year_to_date) }
+    requires low { pos 0 ≤ℤ amount }
+    requires high { amount ≤ℤ pos 500000 }
+    ensures { from_entries {R = district_cmp} districts.new.entries
+        ≡ update_where (is_district key.warehouse key.district) (λ r. record r { year_to_date = r.year_to_date +ℤ amount }) (from_entries districts.old.entries) }
+{
+    if let Some(row) = districts.get_mut(&key) {
+        row.year_to_date = row.year_to_date + amount;
+    }
+}
+
+/// Lowers C_BALANCE, raises C_YTD_PAYMENT and C_PAYMENT_CNT, and answers C_BALANCE.
+fn charge_customer(customers: &mut BTreeMap<CustomerKey, Customer>, key: CustomerKey, amount: Cents) -> Cents
+    requires row { IsSomeAnd (get (from_entries {R = customer_cmp} customers.old.entries) key) IsCustomerRow }
+    requires low { pos 0 ≤ℤ amount }
+    requires high { amount ≤ℤ pos 500000 }
+    ensures rows { from_entries {R = customer_cmp} customers.new.entries
+        ≡ update_where (is_customer key.warehouse key.district key.customer)
+            (λ r. record r { balance = r.balance -ℤ amount; paid = r.paid +ℤ amount; payments = r.payments + 1 }) (from_entries customers.old.entries) }
+    ensures balance { result ≡ column (λ r. r.balance) (from_entries {R = customer_cmp} customers.new.entries) key }
+{
+    match customers.get_mut(&key) {
+        None => unreachable!(),
+        Some(row) => {
+            row.balance = row.balance - amount;
+            row.paid = row.paid + amount;
+            row.payments += 1;
+            row.balance
+        }
+    }
+}

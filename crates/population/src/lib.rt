@@ -1,0 +1,8 @@
+//! The populations that a database begins with (TPC-C 4.3.3).
+#![tactic(auto)]
+
+mod plain;
+mod population;
+mod rows;
+
+pub use population::Population;

@@ -1,0 +1,180 @@
+//! The plain population: the rows of each table, in ascending order of their keys.
+
+ghost use Rattle.std.specs.Prelude.{◌≡◌, ◌+◌, ◌++◌, IfOk, OnOk};
+ghost use Rattle.std.specs.FinMap.{from_entries};
+ghost use Rattle.tables.specs.Database.{database};
+ghost use Rattle.population.specs.Plain.{IsPlain, delivered_orders};
+ghost use Rattle.population.specs.Adds.{is, is_in, is_number, district_history, warehouse_history, AddsWarehouses, AddsItems, AddsStock, AddsDistricts, AddsCustomers, AddsOrders, AddsNewOrders, AddsLines, AddsDistrictRows};
+
+use crate::rows::{
+    customer_row, delivered, district_row, history_row, item_row, line_row, order_row, stock_row, warehouse_row,
+};
+use std::alloc::{AllocError, Global};
+use std::collections::BTreeMap;
+use tables::{
+    Customer, CustomerKey, DistrictKey, History, Item, LineKey, NewOrder, Order, OrderKey, OrderLine, Scale, Stock,
+    StockKey, Tables, Warehouse,
+};
+
+/// The tables of the plain population.
+pub fn plain_tables(alloc: Global, scale: Scale) -> Result<Tables, AllocError>
+    ensures { IfOk result (λ tables. IsPlain scale (database tables)) }
+{
+    let mut tables = Tables::new(alloc, scale);
+    add_warehouses(&mut tables.warehouses, scale)?;
+    add_items(&mut tables.items, scale)?;
+    add_stock(&mut tables.stock, scale)?;
+    let payments = scale.warehouses() * scale.districts() * scale.customers();
+    tables.history.reserve(payments as usize)?;
+    for warehouse in 1..=scale.warehouses() {
+        add_districts(&mut tables, scale, warehouse)?;
+    }
+    Ok(tables)
+}
+
+fn add_warehouses(table: &mut BTreeMap<u32, Warehouse>, scale: Scale) -> Result<(), AllocError>
+    ensures {
+        OnOk result (AddsWarehouses scale (is_number scale.warehouses) (from_entries table.old.entries) (from_entries table.new.entries))
+    }
+{
+    for warehouse in 1..=scale.warehouses() {
+        table.insert(warehouse, warehouse_row(scale))?;
+    }
+    Ok(())
+}
+
+fn add_items(table: &mut BTreeMap<u32, Item>, scale: Scale) -> Result<(), AllocError>
+    ensures {
+        OnOk result (AddsItems (is_number scale.items) (from_entries table.old.entries) (from_entries table.new.entries))
+    }
+{
+    for item in 1..=scale.items() {
+        table.insert(item, item_row(item))?;
+    }
+    Ok(())
+}
+
+fn add_stock(table: &mut BTreeMap<StockKey, Stock>, scale: Scale) -> Result<(), AllocError>
+    ensures {
+        OnOk result (AddsStock (is_number scale.warehouses) (is_number scale.items) (from_entries table.old.entries) (from_entries table.new.entries))
+    }
+{
+    for warehouse in 1..=scale.warehouses() {
+        add_stock_of(table, scale, warehouse)?;
+    }
+    Ok(())
+}
+
+fn add_stock_of(table: &mut BTreeMap<StockKey, Stock>, scale: Scale, warehouse: u32) -> Result<(), AllocError>
+    ensures {
+        OnOk result (AddsStock (is warehouse) (is_number scale.items) (from_entries table.old.entries) (from_entries table.new.entries))
+    }
+{
+    for item in 1..=scale.items() {
+        table.insert(StockKey { warehouse, item }, stock_row())?;
+    }
+    Ok(())
+}
+
+/// The rows of the districts of a warehouse.
+fn add_districts(tables: &mut Tables, scale: Scale, warehouse: u32) -> Result<(), AllocError>
+    ensures {
+        OnOk result (AddsDistrictRows scale (is warehouse) (is_number scale.districts) (warehouse_history scale warehouse) (database tables.old) (database tables.new))
+    }
+{
+    for district in 1..=scale.districts() {
+        add_district(tables, scale, warehouse, district)?;
+    }
+    Ok(())
+}
+
+/// The rows of a district.
+fn add_district(tables: &mut Tables, scale: Scale, warehouse: u32, district: u32) -> Result<(), AllocError>
+    ensures {
+        OnOk result (AddsDistrictRows scale (is warehouse) (is district) (district_history scale warehouse district) (database tables.old) (database tables.new))
+    }
+{
+    let key = DistrictKey { warehouse, district };
+    tables.districts.insert(key, district_row(scale))?;
+    add_customers(&mut tables.customers, scale, warehouse, district)?;
+    add_payments(&mut tables.history, scale, warehouse, district)?;
+    add_orders(&mut tables.orders, scale, warehouse, district)?;
+    add_lines(&mut tables.lines, scale, warehouse, district)?;
+    add_new_orders(&mut tables.new_orders, scale, warehouse, district)
+}
+
+fn add_customers(
+    table: &mut BTreeMap<CustomerKey, Customer>, scale: Scale, warehouse: u32, district: u32,
+) -> Result<(), AllocError>
+    ensures {
+        OnOk result (AddsCustomers (is warehouse) (is district) (is_number scale.customers) (from_entries table.old.entries) (from_entries table.new.entries))
+    }
+{
+    for customer in 1..=scale.customers() {
+        let key = CustomerKey { warehouse, district, customer };
+        table.insert(key, customer_row(customer))?;
+    }
+    Ok(())
+}
+
+fn add_payments(table: &mut Vec<History>, scale: Scale, warehouse: u32, district: u32) -> Result<(), AllocError>
+    ensures { OnOk result (table.new.items ≡ table.old.items ++ district_history scale warehouse district) }
+{
+    for customer in 1..=scale.customers() {
+        table.push(history_row(warehouse, district, customer))?;
+    }
+    Ok(())
+}
+
+fn add_orders(
+    table: &mut BTreeMap<OrderKey, Order>, scale: Scale, warehouse: u32, district: u32,
+) -> Result<(), AllocError>
+    ensures {
+        OnOk result (AddsOrders scale (is warehouse) (is district) (is_number scale.customers) (from_entries table.old.entries) (from_entries table.new.entries))
+    }
+{
+    for order in 1..=scale.customers() {
+        let key = OrderKey { warehouse, district, order };
+        table.insert(key, order_row(scale, order))?;
+    }
+    Ok(())
+}
+
+fn add_new_orders(
+    table: &mut BTreeMap<OrderKey, NewOrder>, scale: Scale, warehouse: u32, district: u32,
+) -> Result<(), AllocError>
+    ensures {
+        OnOk result (AddsNewOrders (is warehouse) (is district) (is_in (delivered_orders scale + 1) (scale.customers + 1)) (from_entries table.old.entries) (from_entries table.new.entries))
+    }
+{
+    for order in delivered(scale) + 1..=scale.customers() {
+        let key = OrderKey { warehouse, district, order };
+        table.insert(key, NewOrder)?;
+    }
+    Ok(())
+}
+
+fn add_lines(
+    table: &mut BTreeMap<LineKey, OrderLine>, scale: Scale, warehouse: u32, district: u32,
+) -> Result<(), AllocError>
+    ensures {
+        OnOk result (AddsLines scale (is warehouse) (is district) (is_number scale.customers) (is_number 5) (from_entries table.old.entries) (from_entries table.new.entries))
+    }
+{
+    for order in 1..=scale.customers() {
+        add_lines_of(table, scale, OrderKey { warehouse, district, order })?;
+    }
+    Ok(())
+}
+
+fn add_lines_of(table: &mut BTreeMap<LineKey, OrderLine>, scale: Scale, of: OrderKey) -> Result<(), AllocError>
+    ensures {
+        OnOk result (AddsLines scale (is of.warehouse) (is of.district) (is of.order) (is_number 5) (from_entries table.old.entries) (from_entries table.new.entries))
+    }
+{
+    for line in 1..=5 {
+        let key = LineKey { warehouse: of.warehouse, district: of.district, order: of.order, line };
+        table.insert(key, line_row(scale, of.warehouse, of.order, line))?;
+    }
+    Ok(())
+}
