@@ -1,3 +1,4 @@
 pub mod KeyTests
 pub mod Updates
+pub mod Totals
 pub mod PaymentKeeps

@@ -1,2 +1,4 @@
 pub mod Marks
 pub mod Numbers
+pub mod Spaces
+pub mod RequestLemmas

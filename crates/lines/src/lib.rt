@@ -3,4 +3,8 @@
 #![tactic(auto)]
 
 mod cut;
+mod read;
+mod request;
 mod words;
+
+pub use request::Request;

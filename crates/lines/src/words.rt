@@ -1,9 +1,10 @@
-//! The words of a line, which are parted by one space each.
-ghost use Rattle.std.specs.Prelude.{◌≡◌, ◌≢◌, ℕ, ◌<◌, ◌^◌, List, [], ◌∷◌, MatchOption};
+//! The words of a line, which are parted by one space each. Each function here refuses with `BadLine`.
+ghost use Rattle.std.specs.Prelude.{◌≡◌, ◌≢◌, ℕ, ℤ, ◌<◌, ◌^◌, ◌⊎◌, List, [], ◌∷◌, MatchOption, MatchResult};
 ghost use Rattle.std.specs.Fmt.{decimal};
 ghost use Rattle.lines.specs.Words.{words};
 
 use crate::cut::split_once;
+use money::Refusal;
 
 /// The number that a word is: digits with no leading zero, or 0 alone, up to `u32::MAX`.
 pub fn read_number(word: &[u8]) -> Option<u32>
@@ -19,15 +20,37 @@ pub fn read_number(word: &[u8]) -> Option<u32>
     text.parse().ok()
 }
 
-/// The number that the first of several words is, and the words after it.
-pub fn take_number(text: &[u8]) -> Option<(u32, &[u8])>
+/// The first of several words, and the text after it.
+pub fn take_word(text: &[u8]) -> Result<(&[u8], &[u8]), Refusal>
     ensures {
-        MatchOption result
-            ((n : ℕ) → n < 2 ^ 32 → (next : List ℕ) (others : List (List ℕ)) →
-                words text.now ≢ decimal n ∷ next ∷ others)
-            (λ parts. words text.now ≡ decimal parts.0 ∷ words parts.1.now)
+        MatchResult result (λ parts. words text.now ≡ parts.0.now ∷ words parts.1.now)
+            (λ refusal. (refusal ≡ Refusal.BadLine) × (words text.now ≡ text.now ∷ []))
     }
 {
-    let (word, rest) = split_once(text, b' ')?;
-    Some((read_number(word)?, rest))
+    split_once(text, b' ').ok_or(Refusal::BadLine)
+}
+
+/// The number that the first of several words is, and the text after it.
+pub fn take_number(text: &[u8]) -> Result<(u32, &[u8]), Refusal>
+    ensures {
+        MatchResult result (λ parts. words text.now ≡ decimal parts.0 ∷ words parts.1.now)
+            (λ refusal. (refusal ≡ Refusal.BadLine)
+                × ((n : ℕ) → n < 2 ^ 32 → (next : List ℕ) (others : List (List ℕ)) →
+                    words text.now ≢ decimal n ∷ next ∷ others))
+    }
+{
+    let (word, rest) = take_word(text)?;
+    let number = read_number(word).ok_or(Refusal::BadLine)?;
+    Ok((number, rest))
+}
+
+/// The number that the only word of a text is.
+pub fn last_number(text: &[u8]) -> Result<u32, Refusal>
+    ensures {
+        MatchResult result (λ n. words text.now ≡ decimal n ∷ [])
+            (λ refusal. (refusal ≡ Refusal.BadLine)
+                × ((n : ℕ) → n < 2 ^ 32 → words text.now ≢ decimal n ∷ []))
+    }
+{
+    read_number(text).ok_or(Refusal::BadLine)
 }

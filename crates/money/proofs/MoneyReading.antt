@@ -1,11 +1,12 @@
 -- From a text to its parts, and back: what a reader of money texts rests on.
-use Rattle.std.proofs.Common.{◌≡◌, ◌≢◌, ℕ, suc, ◌+◌, ◌-◌, ◌*◌, ◌/◌, ◌%◌, ◌<◌, ◌≤◌, ℤ, pos, negsuc, List, [], ◌∷◌, ◌++◌, length, get_or, take, drop, sym, ◌∙◌, ap, refl, arith}
+use Rattle.std.proofs.Common.{◌≡◌, ◌≢◌, ℕ, suc, ◌+◌, ◌-◌, ◌*◌, ◌/◌, ◌%◌, ◌<◌, ◌≤◌, ℤ, pos, negsuc, List, [], ◌∷◌, ◌++◌, length, get_or, take, drop, sym, ◌∙◌, ap, refl, arith, w64}
+use Rattle.std.proofs.lemmas.Int.{fits_signed_from_abs}
 use Rattle.std.proofs.lemmas.List.{length-append, length-drop, take-append-drop}
 use Rattle.std.proofs.Math.Seq.{take-length}
 use Rattle.std.specs.Fmt.{decimal}
 use Rattle.std.specs.Int.{IsInRange}
 use Rattle.money.specs.Money.{two_digits, unsigned_money_text, IsMoneyText}
-use Rattle.money.proofs.MoneyText.{same_parts, unsigned_money_text-injective, unsigned_money_text-first}
+use Rattle.money.proofs.MoneyText.{same_parts, unsigned_money_text-injective, unsigned_money_text-first, money_text-injective}
 
 -- a money text without a sign is its units and its last three bytes
 pub split_text : (bs : List ℕ) (n : ℕ) → bs ≡ unsigned_money_text n
@@ -76,3 +77,8 @@ no_negative_zero bs rest e zero_text (negsuc m) text =
     let same : suc m ≡ 0 =
     unsigned_money_text-injective (suc m) 0 (omega arith) (omega arith) (ap (drop 1) (sym text.0 ∙ e) ∙ zero_text) in
     absurd (omega arith)
+
+-- a text is the money text of one amount within the limit at most
+pub one_value : (bs : List ℕ) (a b : ℤ) → IsMoneyText bs a → IsMoneyText bs b → a ≡ b
+one_value bs a b p q =
+    money_text-injective a b (fits_signed_from_abs w64 a (omega arith)) (fits_signed_from_abs w64 b (omega arith)) (sym p.0 ∙ q.0)

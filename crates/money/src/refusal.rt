@@ -16,7 +16,7 @@ pub enum Refusal {
     Stale,
     /// Another transaction wrote what this one read (Silo, section 4.4).
     Conflict,
-    /// The first item number of an order that is not in ITEM (TPC-C, clause 2.4.1.5).
+    /// The first item number of an order that is not in ITEM (TPC-C, clause 2.4.2.3).
     ItemNotValid {
         /// That item number.
         item: u32,

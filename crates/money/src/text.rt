@@ -18,6 +18,7 @@ impl Cents {
     /// The amount within 10,000,000,000,000 cents of zero that has this text. Takes no memory.
     pub fn read(text: &str) -> Result<Cents, Refusal>
         ensures ok { IfOk result (IsMoneyText text.now) }
+        ensures inverse { (z : ℤ) → IsMoneyText text.now z → result ≡ Ok z }
         ensures no_money { OnErr result ((z : ℤ) → ¬ IsMoneyText text.now z) }
         ensures refusal { IfErr result (λ e. e ≡ Refusal.BadInput) }
     {
@@ -63,7 +64,8 @@ impl fmt::Display for Cents {
     }
 }
 
-/// Two amounts with the same text are the same: reading a printed amount gives it back.
+/// Two amounts with the same text are the same, so the amount that is read from a printed text is
+/// the one that was printed.
 pub fn one_text_one_value()
     ensures { (a b : ℤ) → FitsSigned w64 a → FitsSigned w64 b → money_text a ≡ money_text b → a ≡ b }
 {}

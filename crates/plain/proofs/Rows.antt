@@ -30,3 +30,10 @@ module _ {K X : Type 0} {R : K → K → Ordering} (o : IsExact R) where
   -- a column of the row that was written
   pub column-written : (f : X → ℤ) (m n : BTreeMap K X) (k : K) (s : X) → tree.Updates R m n k (Some s) → column f (from_entries {R = R} n.entries) k ≡ f s
   column-written f m n k s h = ap (λ (w : Option X). option_map_or f w (pos 0)) (get-view o n k ∙ h.1)
+
+  -- a column of the row that was found, or of a missing one
+  pub column-found : (f : X → ℤ) (m : BTreeMap K X) (k : K) (r : X) → Some r ≡ tree.get R m k → f r ≡ column f (from_entries {R = R} m.entries) k
+  column-found f m k r e = ap (λ (w : Option X). option_map_or f w (pos 0)) (sym (found m k r e))
+
+  pub column-missing : (f : X → ℤ) (m : BTreeMap K X) (k : K) → None ≡ tree.get R m k → pos 0 ≡ column f (from_entries {R = R} m.entries) k
+  column-missing f m k e = ap (λ (w : Option X). option_map_or f w (pos 0)) (sym (get-view o m k ∙ sym e))

@@ -2,6 +2,11 @@
 //! consistent.
 #![tactic(auto)]
 
+mod conditions;
+mod report;
+mod sums;
 mod transactions;
 
+pub use conditions::check;
+pub use report::Report;
 pub use transactions::apply;

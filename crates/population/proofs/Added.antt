@@ -15,8 +15,8 @@ use Rattle.population.specs.Adds.{is, is_in, Adds}
 pub is_in-none : (low k : ℕ) → is_in low low k ≡ false
 is_in-none low k = grind (arith, nat_tests)
 
-pub is_in_more : (low i k : ℕ) → low ≤ i → is_in low (i + 1) k ≡ (is_in low i k || is i k)
-is_in_more low i k h = grind (arith, nat_tests)
+pub is_in_more : (low i j k : ℕ) → low ≤ i → j ≡ i + 1 → is_in low j k ≡ (is_in low i k || is i k)
+is_in_more low i j k from next = grind (arith, nat_tests)
 
 -- one part of a key that passes one of two tests
 pub left : (u v y w : Bool) → w ≡ (u || v) → (w && y) ≡ ((u && y) || (v && y))

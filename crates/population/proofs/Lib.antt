@@ -1,1 +1,5 @@
 mod Added
+mod Lists
+mod Districts
+mod Whole
+mod Sound

@@ -6,3 +6,6 @@ mod population;
 mod rows;
 
 pub use population::Population;
+
+#[cfg(test)]
+mod tests;

@@ -3,7 +3,7 @@
 ghost use Rattle.std.specs.Prelude.{◌≡◌, ◌+◌, ◌++◌, IfOk, OnOk};
 ghost use Rattle.std.specs.FinMap.{from_entries};
 ghost use Rattle.tables.specs.Database.{database};
-ghost use Rattle.population.specs.Plain.{IsPlain, delivered_orders};
+ghost use Rattle.population.specs.Plain.{IsPlain, delivered_orders, plain_history};
 ghost use Rattle.population.specs.Adds.{is, is_in, is_number, district_history, warehouse_history, AddsWarehouses, AddsItems, AddsStock, AddsDistricts, AddsCustomers, AddsOrders, AddsNewOrders, AddsLines, AddsDistrictRows};
 
 use crate::rows::{
@@ -26,9 +26,7 @@ pub fn plain_tables(alloc: Global, scale: Scale) -> Result<Tables, AllocError>
     add_stock(&mut tables.stock, scale)?;
     let payments = scale.warehouses() * scale.districts() * scale.customers();
     tables.history.reserve(payments as usize)?;
-    for warehouse in 1..=scale.warehouses() {
-        add_districts(&mut tables, scale, warehouse)?;
-    }
+    add_districts(&mut tables, scale)?;
     Ok(tables)
 }
 
@@ -76,8 +74,20 @@ fn add_stock_of(table: &mut BTreeMap<StockKey, Stock>, scale: Scale, warehouse: 
     Ok(())
 }
 
+/// The rows of the districts of every warehouse.
+fn add_districts(tables: &mut Tables, scale: Scale) -> Result<(), AllocError>
+    ensures {
+        OnOk result (AddsDistrictRows scale (is_number scale.warehouses) (is_number scale.districts) (plain_history scale) (database tables.old) (database tables.new))
+    }
+{
+    for warehouse in 1..=scale.warehouses() {
+        add_districts_of(tables, scale, warehouse)?;
+    }
+    Ok(())
+}
+
 /// The rows of the districts of a warehouse.
-fn add_districts(tables: &mut Tables, scale: Scale, warehouse: u32) -> Result<(), AllocError>
+fn add_districts_of(tables: &mut Tables, scale: Scale, warehouse: u32) -> Result<(), AllocError>
     ensures {
         OnOk result (AddsDistrictRows scale (is warehouse) (is_number scale.districts) (warehouse_history scale warehouse) (database tables.old) (database tables.new))
     }
@@ -100,7 +110,8 @@ fn add_district(tables: &mut Tables, scale: Scale, warehouse: u32, district: u32
     add_payments(&mut tables.history, scale, warehouse, district)?;
     add_orders(&mut tables.orders, scale, warehouse, district)?;
     add_lines(&mut tables.lines, scale, warehouse, district)?;
-    add_new_orders(&mut tables.new_orders, scale, warehouse, district)
+    add_new_orders(&mut tables.new_orders, scale, warehouse, district)?;
+    Ok(())
 }
 
 fn add_customers(

@@ -5,6 +5,9 @@ ghost use Rattle.population.specs.Unique.{line_order-prop};
 ghost use Rattle.tables.specs.Database.{database};
 ghost use Rattle.tables.specs.WellFormed.{IsWellFormed, HasRoom};
 
+use crate::plain::plain_tables;
+use money::Refusal;
+use std::alloc::Global;
 use tables::{Scale, Tables};
 
 /// The rows that a database begins with.
@@ -17,8 +20,28 @@ pub struct Population {
 }
 
 impl Population {
-    ghost use Rattle.std.specs.Prelude.{◌≡◌};
+    ghost use Rattle.std.specs.Prelude.{◌≡◌, IfOk, IfErr};
+    ghost use Rattle.money.specs.declared.refusal.Refusal.TheVariants.{OutOfMemory};
+    ghost use Rattle.population.specs.Plain.{IsPlain};
     ghost use Rattle.population.specs.Initial.{initial, seed_of};
+
+    /// The plain population of a scale, in which no column is drawn. Its seed is 0.
+    ///
+    /// # Errors
+    ///
+    /// `OutOfMemory`, and no other.
+    pub fn plain(alloc: Global, scale: Scale) -> Result<Population, Refusal>
+        ensures rows { IfOk result (λ population. IsPlain scale (initial population)) }
+        ensures seed { IfOk result (λ population. seed_of population ≡ 0) }
+        ensures only_memory { IfErr result (λ refusal. refusal ≡ OutOfMemory) }
+    {
+        let tables = plain_tables(alloc, scale)?;
+        // The tables are well-formed and have room by these limits of a scale.
+        prove!(scale.districts() <= 10);
+        prove!(scale.customers() <= scale.orders());
+        prove!(scale.items() >= 5);
+        Ok(Population { tables, seed: 0 })
+    }
 
     /// The seed that the rows were drawn from: 0 where none were.
     pub fn seed(&self) -> u64

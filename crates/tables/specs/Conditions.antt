@@ -1,22 +1,23 @@
 -- The consistency conditions (TPC-C 3.3.2) over the rows of the tables.
 use Rattle.std.specs.Prelude.{◌≡◌, ℕ, ℤ, pos, ◌+ℤ◌, ◌-ℤ◌, Bool, false, ◌==◌, ◌&&◌, cond, is_some}
 use Rattle.std.specs.Option.{option_map_or}
-use Rattle.std.specs.FinMap.{get}
-use Rattle.tables.specs.Keys.{IsWarehouseKey, IsDistrictKey, IsCustomerKey, is_district, is_customer, order_of}
+use Rattle.std.specs.FinMap.{FinMap, get}
+use Rattle.tables.specs.Keys.{IsWarehouseKey, IsDistrictKey, IsCustomerKey, order_cmp, is_district, is_customer, order_of}
 use Rattle.tables.specs.Maps.{total, sum_of, column}
 use Rattle.tables.specs.Database.{Database}
 use Rattle.tables.specs.declared.keys.DistrictKey.{DistrictKey}
 use Rattle.tables.specs.declared.keys.CustomerKey.{CustomerKey}
 use Rattle.tables.specs.declared.keys.LineKey.{LineKey}
+use Rattle.tables.specs.declared.rows.Order.{Order}
 use Rattle.tables.specs.declared.rows.OrderLine.{OrderLine}
 
 -- whether a line is delivered, and its order is this customer's
-abbrev pub is_delivered_to : Database → CustomerKey → LineKey → OrderLine → Bool
-is_delivered_to t k j line = is_some line.delivery_date && (j.warehouse == k.warehouse) && (j.district == k.district) && option_map_or (λ order. order.customer == k.customer) (get t.orders (order_of j)) false
+abbrev pub is_line_of : FinMap order_cmp Order → CustomerKey → LineKey → OrderLine → Bool
+is_line_of orders k j line = is_some line.delivery_date && (j.warehouse == k.warehouse) && (j.district == k.district) && option_map_or (λ order. order.customer == k.customer) (get orders (order_of j)) false
 
 -- the sum of OL_AMOUNT over the customer's delivered lines
 abbrev pub delivered_amount : Database → CustomerKey → ℤ
-delivered_amount t k = total (λ j line. cond (is_delivered_to t k j line) line.amount (pos 0)) t.lines
+delivered_amount t k = total (λ j line. cond (is_line_of t.orders k j line) line.amount (pos 0)) t.lines
 
 -- the sums of H_AMOUNT by H_W_ID; by H_W_ID and H_D_ID; by H_C_W_ID, H_C_D_ID and H_C_ID
 abbrev pub warehouse_history : Database → ℕ → ℤ

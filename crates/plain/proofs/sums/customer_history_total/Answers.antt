@@ -1,0 +1,14 @@
+use Rattle.std.proofs.Common.{◌≡◌, ◌==◌, ◌+ℤ◌, ℤ, pos, cond, arith}
+use Rattle.std.proofs.lemmas.Int.{ints}
+use Rattle.tables.specs.Keys.{is_customer}
+use Rattle.tables.specs.declared.rows.History.{History}
+use Rattle.plain.proofs.Steps.{sum_of_more}
+use Rattle.plain.proofs.sums.customer_history_total.Goals as goal
+
+pub loop-row-preserved : goal.loop-row-preserved
+loop-row-preserved c = record {
+  sum = sum_of_more (λ (h : History). cond (is_customer h.customer_warehouse h.customer_district h.customer c.args.key.now) h.amount (pos 0)) c.deref-row-items.result.now c.loop-row.row-index c.row-item.result _ c.payer_share.result _
+    c.loop-row-test.true c.row-item.is c.loop-row.invariant.sum c.payer_share.ensures (omega (arith, ints));
+  low = omega (arith, ints);
+  high = omega (arith, ints);
+}

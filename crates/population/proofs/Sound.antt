@@ -1,0 +1,158 @@
+-- The plain population is well-formed and has room.
+use Rattle.std.proofs.Common.{◌≡◌, ℕ, zero, suc, ◌+◌, ◌*◌, ◌-◌, ◌≤◌, pos, neg_ℤ, ◌≤ℤ◌, ◌+ℤ◌, ◌-ℤ◌, Bool, true, false, cond, Option, Some, None, IsSome, List, [], ◌∷◌, ◌++◌, map, refl, sym, ap, ◌∙◌, subst, arith}
+use Rattle.std.specs.Prelude.{All}
+use Rattle.std.specs.List.{flat_map}
+use Rattle.std.specs.Option.{ForSome}
+use Rattle.std.specs.FinMap.{FinMap, get}
+use Rattle.std.specs.declared.cmp.Ordering.{Ordering}
+use Rattle.std.proofs.lemmas.Int.{ints}
+use Rattle.std.proofs.lemmas.List.Elements.{All-nil, All-append, All-push}
+use Rattle.std.proofs.lemmas.Nat.{mul-le}
+use Rattle.tables.specs.Sizes.{Sizes, IsNumber}
+use Rattle.tables.specs.Maps.{RowsAt, RowsWithin, EachRow}
+use Rattle.tables.specs.Database.{Database}
+use Rattle.tables.specs.WellFormed.{IsMoneyFor, IsCountFor, IsDistrictRow, IsCustomerRow, IsHistoryRow, IsOrderRow, IsLineRow, IsStockRow, IsWellFormed, HasRoom}
+use Rattle.population.specs.Plain.{numbers, plain_district, plain_customer, plain_history_row, plain_history, plain_order, plain_line, plain_stock, IsTable, IsPlain}
+use Rattle.population.proofs.Lists.{map_more, flat_map_more}
+
+-- what the proofs need of a scale
+pub record IsFit (s : Sizes) : Type 0 where
+  pub districts : s.districts ≤ 10
+  pub customers : s.customers ≤ 3000
+  pub orders : s.customers ≤ s.orders
+  pub items : 5 ≤ s.items
+
+module _ {K X : Type 0} {R : K → K → Ordering} {IsKey : K → Type 0} {row : K → X} {m : FinMap R X} (table : IsTable IsKey row m) where
+  found : (k : K) → IsKey k → IsSome (get m k)
+  found k is_key = subst IsSome (sym (table.rows k is_key)) refl
+
+  at : RowsAt IsKey m
+  at k = (table.only k, found k)
+
+  within : (IsWider : K → Type 0) → ((k : K) → IsKey k → IsWider k) → RowsWithin IsWider m
+  within IsWider wider k some = wider k (table.only k some)
+
+  each : (P : K → X → Type 0) → ((k : K) → IsKey k → P k (row k)) → EachRow P m
+  each P holds k r is_row =
+      let is_key : IsKey k = table.only k (subst IsSome (sym is_row) refl) in
+      let some_same : Some (row k) ≡ Some r = sym (table.rows k is_key) ∙ is_row in
+      let same : row k ≡ r = cc some_same in
+      subst (P k) same (holds k is_key)
+
+module _ {X : Type 0} (P : X → Type 0) where
+  all_listed : (f : ℕ → X) (n : ℕ) → ((k : ℕ) → IsNumber n k → P (f k)) → All P (map f (numbers n))
+  all_listed f zero holds = All-nil P
+  all_listed f (suc n) holds =
+      subst (All P) (sym (map_more f (numbers n) (suc n)))
+        (All-push P _ _ (all_listed f n (λ k h. holds k (h.0, omega arith))) (holds (suc n) (omega arith, omega arith)))
+
+  all_joined : (f : ℕ → List X) (n : ℕ) → ((k : ℕ) → IsNumber n k → All P (f k)) → All P (flat_map f (numbers n))
+  all_joined f zero holds = All-nil P
+  all_joined f (suc n) holds =
+      subst (All P) (sym (flat_map_more f (numbers n) (suc n)))
+        (All-append P _ _ (all_joined f n (λ k h. holds k (h.0, omega arith))) (holds (suc n) (omega arith, omega arith)))
+
+money : (n amount : ℕ) → amount + 15000000 * n ≤ 10000000000000 → IsMoneyFor n (pos amount)
+money n amount fits = (omega (arith, ints), omega (arith, ints))
+
+debt : (n : ℕ) → 1000 + 15000000 * n ≤ 10000000000000 → IsMoneyFor n (neg_ℤ (pos 1000))
+debt n fits = (omega (arith, ints), omega (arith, ints))
+
+is_history_row : (s : Sizes) (w d c : ℕ) → IsNumber s.warehouses w → IsNumber s.districts d → IsNumber s.customers c → IsHistoryRow s (plain_history_row w d c)
+is_history_row s w d c in_warehouse in_district in_customer = record {
+  customer = in_customer;
+  customer_district = in_district;
+  customer_warehouse = in_warehouse;
+  district = in_district;
+  warehouse = in_warehouse;
+  date = (omega arith, omega arith);
+  at_least = omega (arith, ints);
+  at_most = omega (arith, ints);
+}
+
+-- a number that may be null, and is 1
+one_or_null : (P : ℕ → Type 0) (b : Bool) → P 1 → ForSome (cond b (Some 1) None) P
+one_or_null P true one x e = let same : 1 ≡ x = cc e in subst P same one
+one_or_null P false one x e = cc e
+
+amount_least : (b : Bool) (n : ℕ) → pos 0 ≤ℤ cond b (pos 0) (pos n)
+amount_least true n = omega (arith, ints)
+amount_least false n = omega (arith, ints)
+
+amount_most : (b : Bool) (n : ℕ) → n ≤ 999999 → cond b (pos 0) (pos n) ≤ℤ pos 999999
+amount_most true n fits = omega (arith, ints)
+amount_most false n fits = omega (arith, ints)
+
+module _ (t : Database) (fit : IsFit t.scale) (plain : IsPlain t.scale t) where
+  total : t.scale.districts * (t.scale.customers * 1000) ≤ 30000000
+  total = mul-le t.scale.districts (t.scale.customers * 1000) 10 3000000 fit.districts (omega (arith, fit.customers))
+
+  room : HasRoom 600000 t
+  room = record {
+    warehouses = each plain.warehouses _ (λ k h. money 600000 (t.scale.districts * (t.scale.customers * 1000)) (omega (arith, total)));
+    districts = each plain.districts _ (λ k h. money 600000 (t.scale.customers * 1000) (omega (arith, fit.customers)));
+    balances = each plain.customers _ (λ k h. debt 600000 (omega arith));
+    paid = each plain.customers _ (λ k h. money 600000 1000 (omega arith));
+    payments = each plain.customers _ (λ k h. omega arith);
+    deliveries = each plain.customers _ (λ k h. omega arith);
+  }
+
+  well_formed : IsWellFormed t
+  well_formed = record {
+    warehouses = at plain.warehouses;
+    districts = at plain.districts;
+    customers = at plain.customers;
+    stock = at plain.stock;
+    new_orders = within plain.new_orders _ (λ k h. (h.0, h.1, (omega (arith, h.2), omega (arith, h.2, fit.orders))));
+    orders = within plain.orders _ (λ k h. (h.0, h.1, (h.2.0, omega (arith, h.2, fit.orders))));
+    lines = within plain.lines _ (λ k h. (h.0, h.1, (h.2.0, omega (arith, h.2, fit.orders)), (h.3.0, omega (arith, h.3))));
+    items = within plain.items _ (λ k h. h);
+    warehouse_rows = each plain.warehouses _ (λ k h. money 0 (t.scale.districts * (t.scale.customers * 1000)) (omega (arith, total)));
+    district_rows = each plain.districts _ (λ k h. record {
+      year_to_date = money 0 (t.scale.customers * 1000) (omega (arith, fit.customers));
+      next_order = (omega arith, omega (arith, fit.orders));
+    });
+    customer_rows = each plain.customers _ (λ k h. record {
+      balance = debt 0 (omega arith);
+      paid = money 0 1000 (omega arith);
+      payments = omega arith;
+      deliveries = omega arith;
+    });
+    history_rows = subst (All (IsHistoryRow t.scale)) (sym plain.history)
+      (all_joined (IsHistoryRow t.scale) _ t.scale.warehouses (λ w in_warehouse. all_joined (IsHistoryRow t.scale) _ t.scale.districts (λ d in_district. all_listed (IsHistoryRow t.scale) _ t.scale.customers (λ c in_customer. is_history_row t.scale w d c in_warehouse in_district in_customer))));
+    order_rows = each plain.orders _ (λ k h. record {
+      entry_date = (omega arith, omega arith);
+      carrier = one_or_null _ _ (omega arith, omega arith);
+      line_count = (omega arith, omega arith);
+    });
+    line_rows = each plain.lines _ (λ k h. record {
+      item = (h.3.0, omega (arith, h.3, fit.items));
+      supply_warehouse = h.0;
+      delivery_date = one_or_null _ _ (omega arith, omega arith);
+      quantity = (omega arith, omega arith);
+      at_least = amount_least _ _;
+      at_most = amount_most _ _ (omega (arith, h.3));
+    });
+    stock_rows = each plain.stock _ (λ k h. record {
+      quantity = (omega arith, omega arith);
+      year_to_date = omega arith;
+      orders = omega arith;
+      remote_orders = omega arith;
+    });
+    order_customers = each plain.orders _ (λ k h. found plain.customers _ h);
+    new_order_orders = λ k some. let h = plain.new_orders.only k some in found plain.orders k (h.0, h.1, (omega (arith, h.2), h.2.1));
+    line_orders = each plain.lines _ (λ k h. (plain_order t.scale k.order, plain.orders.rows _ (h.0, h.1, h.2), h.3.1));
+  }
+
+module _ (s : Sizes) (t : Database) (fit : IsFit s) (plain : IsPlain s t) where
+  fit_here : IsFit t.scale
+  fit_here = subst IsFit (sym plain.scale) fit
+
+  plain_here : IsPlain t.scale t
+  plain_here = subst (λ (x : Sizes). IsPlain x t) (sym plain.scale) plain
+
+  pub has_room : HasRoom 600000 t
+  has_room = room t fit_here plain_here
+
+  pub is_well_formed : IsWellFormed t
+  is_well_formed = well_formed t fit_here plain_here
