@@ -1,4 +1,6 @@
 pub mod Marks
 pub mod Numbers
 pub mod Spaces
+pub mod Numerals
+pub mod Amounts
 pub mod RequestLemmas

@@ -14,7 +14,7 @@ use Rattle.lines.specs.Amount.{numeral, amount_text}
 abbrev pub HasNoSpace : List ℕ → Type 0
 HasNoSpace xs = AllByRecursion (λ b. eqb b 32 ≡ false) xs
 
-not_space : (b : ℕ) → 32 < b → eqb b 32 ≡ false
+pub not_space : (b : ℕ) → 32 < b → eqb b 32 ≡ false
 not_space b above = false_from_ne_true _ (λ e. let is : b ≡ 32 = (Decides-eqb b 32).0 e in omega arith)
 
 glyph_not_space : (d : ℕ) → eqb (digit_glyph false d) 32 ≡ false

@@ -2,9 +2,11 @@
 //! written. Nothing here reads or writes a file.
 #![tactic(auto)]
 
+mod amount;
 mod cut;
 mod read;
 mod request;
 mod words;
 
+pub use read::read_request;
 pub use request::Request;

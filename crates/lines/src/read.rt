@@ -1,11 +1,47 @@
 //! How a line is read as a request.
-ghost use Rattle.std.specs.Prelude.{◌∷◌, codes};
+ghost use Rattle.std.specs.Prelude.{◌≡◌, ◌∷◌, codes, IfOk, IfErr};
 ghost use Rattle.lines.specs.Words.{words};
-ghost use Rattle.lines.specs.Requests.{Answers};
+ghost use Rattle.lines.specs.Requests.{Answers, request_text, IsWithinReach, IsRefused};
 
 use crate::Request;
+use crate::amount::read_amount;
 use crate::words::{last_number, take_number, take_word};
-use money::{Cents, Refusal};
+use money::Refusal;
+
+/// The request that a line, without its line feed, asks: `BadInput` for a payment of an amount further than
+/// 10,000,000,000,000 cents from zero, and `BadLine` for a line that is no request's. The caller tests the
+/// other ranges. Takes no memory.
+pub fn read_request(line: &[u8]) -> Result<Request, Refusal>
+    ensures request { IfOk result (λ request. line.now ≡ request_text request) }
+    ensures reach { IfOk result IsWithinReach }
+    ensures refusal { IfErr result (IsRefused line.now) }
+{
+    let (verb, rest) = take_word(line)?;
+    match verb {
+        b"payment" => read_payment(rest),
+        b"show" => read_show(rest),
+        _ => Err(Refusal::BadLine),
+    }
+}
+
+fn read_payment(text: &[u8]) -> Result<Request, Refusal>
+    ensures { Answers (codes "payment" ∷ words text.now) result }
+{
+    let (warehouse, rest) = take_number(text)?;
+    let (district, rest) = take_number(rest)?;
+    let (customer_warehouse, rest) = take_number(rest)?;
+    let (customer_district, rest) = take_number(rest)?;
+    let (customer, rest) = take_number(rest)?;
+    let amount = read_amount(rest)?;
+    Ok(Request::Payment {
+        warehouse,
+        district,
+        customer_warehouse,
+        customer_district,
+        customer,
+        amount,
+    })
+}
 
 fn read_show(text: &[u8]) -> Result<Request, Refusal>
     ensures { Answers (codes "show" ∷ words text.now) result }

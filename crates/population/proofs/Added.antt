@@ -1,5 +1,5 @@
 -- Rows added one after another.
-use Rattle.std.proofs.Common.{◌≡◌, ℕ, ◌+◌, ◌≤◌, Bool, true, false, cond, ◌==◌, nat_le, nat_lt, ◌&&◌, ◌||◌, Option, Some, refl, sym, ap, ◌∙◌, arith}
+use Rattle.std.proofs.Common.{◌≡◌, ℕ, ◌+◌, ◌≤◌, Bool, true, false, cond, ◌==◌, ◌&&◌, ◌||◌, Option, Some, refl, sym, ap, ◌∙◌, arith}
 use Rattle.std.specs.Ordering.{nat_cmp, ordering_then, is_eq, eq_by_cmp}
 use Rattle.std.specs.BTreeMap as tree
 use Rattle.std.specs.BTreeMap.{BTreeMap}
@@ -75,12 +75,16 @@ module _ {K X : Type 0} {R : K → K → Ordering} {row : K → X} where
 
   -- the rows at the keys p, and then those at the keys q
   pub adds_both : {p q both : K → Bool} {old middle new : FinMap R X} → ((k : K) → both k ≡ (p k || q k)) → Adds R p row old middle → Adds R q row middle new → Adds R both row old new
-  adds_both {p} {q} {both} {old} {middle} {new} is_both first second = record { rows = λ k.
-      second.rows k ∙ ap (cond (q k) (Some (row k))) (first.rows k) ∙ cond_or (p k) (q k) (Some (row k)) (get old k)
-      ∙ ap (λ b. cond b (Some (row k)) (get old k)) (sym (is_both k)) }
+  adds_both {p} {q} {both} {old} {middle} {new} is_both first second = record {
+    rows = λ k.
+        second.rows k ∙ ap (cond (q k) (Some (row k))) (first.rows k) ∙ cond_or (p k) (q k) (Some (row k)) (get old k)
+        ∙ ap (λ b. cond b (Some (row k)) (get old k)) (sym (is_both k));
+  }
 
   -- the row that `insert` adds
   pub adds_one : {is_added : K → Bool} (o : IsExact R) (m n : BTreeMap K X) (k : K) (v : X) → v ≡ row k → ((q : K) → eq_by_cmp R q k ≡ is_added q) → tree.Updates R m n k (Some v) → Adds R is_added row (from_entries m.entries) (from_entries n.entries)
-  adds_one o m n k v is_row is_key updates = record { rows = λ q.
-      ap (λ (t : FinMap R X). get t q) (insert-view o m n k v updates) ∙ get-insert o.total (from_entries m.entries) k v q
-      ∙ tied_row o q k v _ row is_row (R q k) refl ∙ ap (λ b. cond b (Some (row q)) (get (from_entries {R = R} m.entries) q)) (is_key q) }
+  adds_one o m n k v is_row is_key updates = record {
+    rows = λ q.
+        ap (λ (t : FinMap R X). get t q) (insert-view o m n k v updates) ∙ get-insert o.total (from_entries m.entries) k v q
+        ∙ tied_row o q k v _ row is_row (R q k) refl ∙ ap (λ b. cond b (Some (row q)) (get (from_entries {R = R} m.entries) q)) (is_key q);
+  }

@@ -1,5 +1,5 @@
 -- The plain population is well-formed and has room.
-use Rattle.std.proofs.Common.{◌≡◌, ℕ, zero, suc, ◌+◌, ◌*◌, ◌-◌, ◌≤◌, pos, neg_ℤ, ◌≤ℤ◌, ◌+ℤ◌, ◌-ℤ◌, Bool, true, false, cond, Option, Some, None, IsSome, List, [], ◌∷◌, ◌++◌, map, refl, sym, ap, ◌∙◌, subst, arith}
+use Rattle.std.proofs.Common.{◌≡◌, ℕ, zero, suc, ◌+◌, ◌*◌, ◌≤◌, pos, neg_ℤ, ◌≤ℤ◌, Bool, true, false, cond, Some, None, IsSome, List, map, refl, sym, ◌∙◌, subst, arith}
 use Rattle.std.specs.Prelude.{All}
 use Rattle.std.specs.List.{flat_map}
 use Rattle.std.specs.Option.{ForSome}
@@ -11,8 +11,8 @@ use Rattle.std.proofs.lemmas.Nat.{mul-le}
 use Rattle.tables.specs.Sizes.{Sizes, IsNumber}
 use Rattle.tables.specs.Maps.{RowsAt, RowsWithin, EachRow}
 use Rattle.tables.specs.Database.{Database}
-use Rattle.tables.specs.WellFormed.{IsMoneyFor, IsCountFor, IsDistrictRow, IsCustomerRow, IsHistoryRow, IsOrderRow, IsLineRow, IsStockRow, IsWellFormed, HasRoom}
-use Rattle.population.specs.Plain.{numbers, plain_district, plain_customer, plain_history_row, plain_history, plain_order, plain_line, plain_stock, IsTable, IsPlain}
+use Rattle.tables.specs.WellFormed.{IsMoneyFor, IsHistoryRow, IsWellFormed, HasRoom}
+use Rattle.population.specs.Plain.{numbers, plain_history_row, plain_order, IsTable, IsPlain}
 use Rattle.population.proofs.Lists.{map_more, flat_map_more}
 
 -- what the proofs need of a scale
@@ -44,13 +44,13 @@ module _ {X : Type 0} (P : X → Type 0) where
   all_listed f zero holds = All-nil P
   all_listed f (suc n) holds =
       subst (All P) (sym (map_more f (numbers n) (suc n)))
-        (All-push P _ _ (all_listed f n (λ k h. holds k (h.0, omega arith))) (holds (suc n) (omega arith, omega arith)))
+      (All-push P _ _ (all_listed f n (λ k h. holds k (h.0, omega arith))) (holds (suc n) (omega arith, omega arith)))
 
   all_joined : (f : ℕ → List X) (n : ℕ) → ((k : ℕ) → IsNumber n k → All P (f k)) → All P (flat_map f (numbers n))
   all_joined f zero holds = All-nil P
   all_joined f (suc n) holds =
       subst (All P) (sym (flat_map_more f (numbers n) (suc n)))
-        (All-append P _ _ (all_joined f n (λ k h. holds k (h.0, omega arith))) (holds (suc n) (omega arith, omega arith)))
+      (All-append P _ _ (all_joined f n (λ k h. holds k (h.0, omega arith))) (holds (suc n) (omega arith, omega arith)))
 
 money : (n amount : ℕ) → amount + 15000000 * n ≤ 10000000000000 → IsMoneyFor n (pos amount)
 money n amount fits = (omega (arith, ints), omega (arith, ints))
@@ -119,7 +119,7 @@ module _ (t : Database) (fit : IsFit t.scale) (plain : IsPlain t.scale t) where
       deliveries = omega arith;
     });
     history_rows = subst (All (IsHistoryRow t.scale)) (sym plain.history)
-      (all_joined (IsHistoryRow t.scale) _ t.scale.warehouses (λ w in_warehouse. all_joined (IsHistoryRow t.scale) _ t.scale.districts (λ d in_district. all_listed (IsHistoryRow t.scale) _ t.scale.customers (λ c in_customer. is_history_row t.scale w d c in_warehouse in_district in_customer))));
+        (all_joined (IsHistoryRow t.scale) _ t.scale.warehouses (λ w in_warehouse. all_joined (IsHistoryRow t.scale) _ t.scale.districts (λ d in_district. all_listed (IsHistoryRow t.scale) _ t.scale.customers (λ c in_customer. is_history_row t.scale w d c in_warehouse in_district in_customer))));
     order_rows = each plain.orders _ (λ k h. record {
       entry_date = (omega arith, omega arith);
       carrier = one_or_null _ _ (omega arith, omega arith);

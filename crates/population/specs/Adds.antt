@@ -1,5 +1,5 @@
 -- What the functions that fill the tables add to them. A row is added where each part of its key passes a test.
-use Rattle.std.specs.Prelude.{◌≡◌, ℕ, ◌+◌, Bool, nat_le, nat_lt, ◌==◌, ◌&&◌, if◌then◌else◌, Option, Some, List, ◌++◌, map}
+use Rattle.std.specs.Prelude.{◌≡◌, ℕ, ◌+◌, Bool, nat_le, nat_lt, ◌==◌, ◌&&◌, if◌then◌else◌, Some, List, ◌++◌, map}
 use Rattle.std.specs.List.{flat_map}
 use Rattle.std.specs.Ordering.{nat_cmp}
 use Rattle.std.specs.FinMap.{FinMap, get}

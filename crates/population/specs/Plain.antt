@@ -1,5 +1,5 @@
 -- The plain population: which row stands at which key (clause 4.3.3.1 draws most of these columns; here none is drawn).
-use Rattle.std.specs.Prelude.{◌≡◌, ℕ, zero, suc, ◌+◌, ◌-◌, ◌*◌, ◌/◌, ◌%◌, ◌<◌, pos, neg_ℤ, Bool, true, cond, nat_le, ◌==◌, Option, Some, None, IsSome, List, [], ◌∷◌, ◌++◌, map}
+use Rattle.std.specs.Prelude.{◌≡◌, ℕ, zero, suc, ◌+◌, ◌-◌, ◌*◌, ◌/◌, ◌%◌, pos, neg_ℤ, Bool, true, cond, nat_le, ◌==◌, Some, None, IsSome, List, [], ◌∷◌, ◌++◌, map}
 use Rattle.std.specs.List.{flat_map}
 use Rattle.std.specs.FinMap.{FinMap, get}
 use Rattle.std.specs.declared.cmp.Ordering.{Ordering}
@@ -8,13 +8,11 @@ use Rattle.tables.specs.Keys.{IsWarehouseKey, IsDistrictKey, IsCustomerKey, IsIt
 use Rattle.tables.specs.Database.{Database}
 use Rattle.tables.specs.declared.keys.OrderKey.{OrderKey}
 use Rattle.tables.specs.declared.keys.LineKey.{LineKey}
-use Rattle.tables.specs.declared.rows.Credit.{Credit}
 use Rattle.tables.specs.declared.rows.Credit.TheVariants.{Good, Bad}
 use Rattle.tables.specs.declared.rows.Warehouse.{Warehouse}
 use Rattle.tables.specs.declared.rows.District.{District}
 use Rattle.tables.specs.declared.rows.Customer.{Customer}
 use Rattle.tables.specs.declared.rows.History.{History}
-use Rattle.tables.specs.declared.rows.NewOrder.{NewOrder}
 use Rattle.tables.specs.declared.rows.Order.{Order}
 use Rattle.tables.specs.declared.rows.OrderLine.{OrderLine}
 use Rattle.tables.specs.declared.rows.Item.{Item}

@@ -5,7 +5,9 @@ ghost use Rattle.tables.specs.Sizes.{IsNumber};
 ghost use Rattle.population.specs.Plain.{plain_warehouse, plain_district, plain_customer, plain_history_row, plain_order, plain_line, plain_item, plain_stock, delivered_orders, is_delivered};
 
 use money::{Cents, Rate};
-use tables::{Credit, Customer, District, History, Item, Order, OrderLine, Scale, Stock, Warehouse};
+use tables::{
+    Credit, Customer, District, History, Item, Order, OrderLine, Scale, Stock, Warehouse,
+};
 
 /// W_TAX is 0.1000, and W_YTD the sum of the districts' D_YTD.
 pub fn warehouse_row(scale: Scale) -> Warehouse
@@ -39,7 +41,11 @@ pub fn customer_row(customer: u32) -> Customer
     Customer {
         first_name: 9_999 - customer,
         last_name: (customer - 1) % 1_000,
-        credit: if customer % 10 == 0 { Credit::Bad } else { Credit::Good },
+        credit: if customer % 10 == 0 {
+            Credit::Bad
+        } else {
+            Credit::Good
+        },
         discount: rate(1_000),
         balance: Cents::new(-1_000),
         paid: Cents::new(1_000),
@@ -70,7 +76,11 @@ pub fn order_row(scale: Scale, order: u32) -> Order
     Order {
         customer: order,
         entry_date: 1,
-        carrier: if order <= delivered(scale) { Some(1) } else { None },
+        carrier: if order <= delivered(scale) {
+            Some(1)
+        } else {
+            None
+        },
         line_count: 5,
         all_local: true,
     }
@@ -88,7 +98,11 @@ pub fn line_row(scale: Scale, warehouse: u32, order: u32, line: u32) -> OrderLin
         supply_warehouse: warehouse,
         delivery_date: if is_delivered { Some(1) } else { None },
         quantity: 5,
-        amount: Cents::new(if is_delivered { 0 } else { i64::from(line * 100) }),
+        amount: Cents::new(if is_delivered {
+            0
+        } else {
+            i64::from(line * 100)
+        }),
     }
 }
 

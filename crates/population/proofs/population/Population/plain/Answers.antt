@@ -7,6 +7,6 @@ pub invariant_of-result : goal.invariant_of-result
 invariant_of-result c =
     let fit : IsFit c.args.scale = record { districts = omega arith; customers = omega arith; orders = omega arith; items = omega arith } in
     let made = database c.in_ok-tables.tables in record {
-  room = has_room c.args.scale made fit c.in_ok-tables.ensures;
-  well_formed = is_well_formed c.args.scale made fit c.in_ok-tables.ensures;
-}
+      room = has_room c.args.scale made fit c.in_ok-tables.ensures;
+      well_formed = is_well_formed c.args.scale made fit c.in_ok-tables.ensures;
+    }

@@ -1,0 +1,54 @@
+//! What a command line asks for.
+
+use money::Refusal;
+use tables::Scale;
+
+/// What the program is to do.
+#[derive(Clone, Copy, Debug, PartialEq, Eq)]
+pub enum Subcommand {
+    /// `script`: answers the lines of standard input.
+    Script,
+}
+
+/// A command line: the subcommand and its options.
+#[derive(Clone, Copy, Debug, PartialEq, Eq)]
+pub struct Options {
+    pub subcommand: Subcommand,
+    /// `--warehouses`.
+    pub warehouses: u32,
+    /// `--districts`, of each warehouse.
+    pub districts: u32,
+    /// `--customers`, of each district.
+    pub customers: u32,
+    /// `--items`.
+    pub items: u32,
+    /// `--orders`, the order cap of a district.
+    pub orders: u32,
+    /// `--commits`, the commit cap.
+    pub commits: u32,
+    /// `--population`: 0 is the plain one, and any other is the one seeded by that number.
+    pub population: u64,
+}
+
+impl Options {
+    ghost use Rattle.std.specs.Prelude.{◌≡◌, MatchResult};
+    ghost use Rattle.tables.specs.Sizes.{IsLawful, sizes};
+    ghost use Rattle.money.specs.declared.refusal.Refusal.TheVariants.{BadScale};
+
+    /// The scale that is asked for, or `BadScale` exactly where a number is outside its limits.
+    pub fn scale(&self) -> Result<Scale, Refusal>
+        ensures limits {
+            let asked = sizes self.now.warehouses self.now.districts self.now.customers self.now.items self.now.orders self.now.commits in
+            MatchResult result (λ scale. (scale ≡ asked) × IsLawful asked) (λ refusal. (refusal ≡ BadScale) × ¬ IsLawful asked)
+        }
+    {
+        Scale::new(
+            self.warehouses,
+            self.districts,
+            self.customers,
+            self.items,
+            self.orders,
+            self.commits,
+        )
+    }
+}

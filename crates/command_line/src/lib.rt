@@ -1,0 +1,8 @@
+//! The command line of `tpcc`.
+#![tactic(auto)]
+
+mod asked;
+mod words;
+
+pub use asked::{Options, Subcommand};
+pub use words::options;
