@@ -2,3 +2,4 @@ pub mod KeyTests
 pub mod Updates
 pub mod Totals
 pub mod PaymentKeeps
+pub mod Kept

@@ -1,3 +1,5 @@
 pub mod Words
 pub mod Amount
 pub mod Requests
+pub mod Output
+pub mod Report

@@ -3,10 +3,14 @@
 #![tactic(auto)]
 
 mod amount;
+mod answer;
 mod cut;
 mod read;
+mod report;
 mod request;
 mod words;
 
+pub use answer::Answer;
 pub use read::read_request;
+pub use report::{Key, Verdict, print_report};
 pub use request::Request;

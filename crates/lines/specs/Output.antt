@@ -1,0 +1,49 @@
+use Rattle.std.specs.Prelude.{ℕ, Option, Some, None, List, [], ◌∷◌, ◌++◌, codes}
+use Rattle.std.specs.Fmt.{decimal}
+use Rattle.std.specs.List.{join_with_byte}
+use Rattle.money.specs.Money.{money_text}
+use Rattle.money.specs.Refusal.{number_of}
+use Rattle.money.specs.declared.refusal.Refusal.{Refusal}
+use Rattle.money.specs.declared.refusal.Refusal.TheVariants.{ItemNotValid}
+use Rattle.tables.specs.declared.keys.CustomerKey.{CustomerKey}
+use Rattle.tables.specs.declared.rows.Customer.{Customer as CustomerRow}
+use Rattle.lines.specs.declared.answer.Answer.{Answer}
+use Rattle.lines.specs.declared.answer.Answer.TheVariants.{Payment, Warehouse, District, Customer, Refused}
+
+-- the item that a refusal names
+abbrev pub refused_item : Refusal → Option ℕ
+refused_item (ItemNotValid item) = Some item
+refused_item _ = None
+
+-- the words that name it
+abbrev pub item_words : Option ℕ → List (List ℕ)
+item_words (Some item) = codes "item" ∷ decimal item ∷ []
+item_words None = []
+
+-- the words of a refused line
+abbrev pub refused_words : Refusal → ℕ → List (List ℕ)
+refused_words refusal line = decimal (number_of refusal) ∷ codes "line" ∷ decimal line ∷ item_words (refused_item refusal)
+
+-- the words of a row of CUSTOMER
+abbrev pub customer_words : CustomerKey → CustomerRow → List (List ℕ)
+customer_words key row =
+    codes "customer" ∷ decimal key.warehouse ∷ decimal key.district ∷ decimal key.customer
+    ∷ codes "balance" ∷ money_text row.balance ∷ codes "paid" ∷ money_text row.paid
+    ∷ codes "payments" ∷ decimal row.payments ∷ codes "deliveries" ∷ decimal row.deliveries ∷ []
+
+-- the words of an answer
+abbrev pub answer_words : Answer → List (List ℕ)
+answer_words (Payment reply) =
+    codes "payment" ∷ decimal reply.warehouse ∷ decimal reply.district
+    ∷ codes "customer" ∷ decimal reply.customer_warehouse ∷ decimal reply.customer_district ∷ decimal reply.customer
+    ∷ codes "balance" ∷ money_text reply.balance ∷ []
+answer_words (Warehouse warehouse row) = codes "warehouse" ∷ decimal warehouse ∷ codes "ytd" ∷ money_text row.year_to_date ∷ []
+answer_words (District key row) =
+    codes "district" ∷ decimal key.warehouse ∷ decimal key.district
+    ∷ codes "ytd" ∷ money_text row.year_to_date ∷ codes "next" ∷ decimal row.next_order ∷ []
+answer_words (Customer key row) = customer_words key row
+answer_words (Refused refusal line) = refused_words refusal line
+
+-- an answer, without its line feed
+abbrev pub answer_text : Answer → List ℕ
+answer_text answer = join_with_byte 32 (answer_words answer)

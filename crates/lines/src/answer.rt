@@ -1,0 +1,131 @@
+//! What is printed for a line of a script.
+ghost use Rattle.std.specs.Prelude.{◌≡◌, ◌++◌, OnOk, OnErr, IfErr, IfSome, string_bytes, codes};
+ghost use Rattle.lines.specs.Output.{refused_item};
+
+use money::Refusal;
+use std::fmt::{self, Display};
+use tables::{Customer, CustomerKey, District, DistrictKey, PaymentReply, Warehouse};
+
+/// What a line of a script is answered with.
+#[derive(Clone, Copy, Debug, PartialEq, Eq)]
+pub enum Answer {
+    /// A committed Payment's reply (TPC-C 2.5.3.3), as `payment 1 1 customer 1 1 3 balance -22.34`.
+    Payment(PaymentReply),
+    /// A row of WAREHOUSE, as `warehouse 1 ytd 212.34`.
+    Warehouse { warehouse: u32, row: Warehouse },
+    /// A row of DISTRICT, as `district 1 1 ytd 112.34 next 11`.
+    District { key: DistrictKey, row: District },
+    /// A row of CUSTOMER, as `customer 1 1 3 balance -22.34 paid 22.34 payments 2 deliveries 0`.
+    Customer { key: CustomerKey, row: Customer },
+    /// A line that was refused, counted from 1, as `14 line 3` or `5 line 3 item 21`.
+    Refused { refusal: Refusal, line: u64 },
+}
+
+impl Answer {
+    ghost use Rattle.lines.specs.Output.{answer_text};
+
+    /// Appends this answer and a line feed. Refuses only where memory runs out, and then `out` is as before.
+    pub fn print(&self, out: &mut String) -> Result<(), Refusal>
+        ensures ok { OnOk result (string_bytes out.new ≡ string_bytes out.old ++ (answer_text self.now ++ codes "\n")) }
+        ensures err { OnErr result (string_bytes out.new ≡ string_bytes out.old) }
+        ensures memory { IfErr result (λ refusal. refusal ≡ Refusal.OutOfMemory) }
+    {
+        let text = format!(in *out.allocator(); "{self}\n")?;
+        out.push_str(text.as_str())?;
+        Ok(())
+    }
+}
+
+impl Display for Answer {
+    ghost use Rattle.std.specs.Prelude.{Some};
+    ghost use Rattle.lines.specs.Output.{answer_text};
+
+    ghost output = { λ answer. Some (answer_text answer) };
+
+    fn fmt<W: fmt::Write>(&self, f: &mut fmt::Formatter<W>) -> fmt::Result {
+        match *self {
+            Answer::Payment(reply) => write!(
+                f,
+                "payment {} {} customer {} {} {} balance {}",
+                reply.warehouse,
+                reply.district,
+                reply.customer_warehouse,
+                reply.customer_district,
+                reply.customer,
+                reply.balance
+            ),
+            Answer::Warehouse { warehouse, row } => {
+                let year_to_date = row.year_to_date;
+                write!(f, "warehouse {warehouse} ytd {year_to_date}")
+            }
+            Answer::District { key, row } => write!(
+                f,
+                "district {} {} ytd {} next {}",
+                key.warehouse, key.district, row.year_to_date, row.next_order
+            ),
+            Answer::Customer { key, row } => CustomerLine { key, row }.fmt(f),
+            Answer::Refused { refusal, line } => RefusedLine { refusal, line }.fmt(f),
+        }
+    }
+}
+
+#[derive(Clone, Copy)]
+struct CustomerLine {
+    key: CustomerKey,
+    row: Customer,
+}
+
+impl Display for CustomerLine {
+    ghost use Rattle.std.specs.Prelude.{Some};
+    ghost use Rattle.std.specs.List.{join_with_byte};
+    ghost use Rattle.lines.specs.Output.{customer_words};
+
+    ghost output = { λ shown. Some (join_with_byte 32 (customer_words shown.key shown.row)) };
+
+    fn fmt<W: fmt::Write>(&self, f: &mut fmt::Formatter<W>) -> fmt::Result {
+        let (key, row) = (&self.key, &self.row);
+        write!(
+            f,
+            "customer {} {} {} balance {} paid {} payments {} deliveries {}",
+            key.warehouse,
+            key.district,
+            key.customer,
+            row.balance,
+            row.paid,
+            row.payments,
+            row.deliveries
+        )
+    }
+}
+
+#[derive(Clone, Copy)]
+struct RefusedLine {
+    refusal: Refusal,
+    line: u64,
+}
+
+impl Display for RefusedLine {
+    ghost use Rattle.std.specs.Prelude.{Some};
+    ghost use Rattle.std.specs.List.{join_with_byte};
+    ghost use Rattle.lines.specs.Output.{refused_words};
+
+    ghost output = { λ refused. Some (join_with_byte 32 (refused_words refused.refusal refused.line)) };
+
+    fn fmt<W: fmt::Write>(&self, f: &mut fmt::Formatter<W>) -> fmt::Result {
+        let (number, line) = (self.refusal.number(), self.line);
+        match item_of(self.refusal) {
+            Some(item) => write!(f, "{number} line {line} item {item}"),
+            None => write!(f, "{number} line {line}"),
+        }
+    }
+}
+
+// The item that a refusal names.
+fn item_of(refusal: Refusal) -> Option<u32>
+    ensures { result ≡ refused_item refusal }
+{
+    match refusal {
+        Refusal::ItemNotValid { item } => Some(item),
+        _ => None,
+    }
+}
