@@ -80,9 +80,9 @@ long_amount word n e = omega (arith, ap length e ∙ length-append (numeral (n /
 first_unsigned : (n : ℕ) → get_or (unsigned_amount_text n) 0 0 ≡ get_or (numeral (n / 100)) 0 0
 first_unsigned n = go (numeral (n / 100)) (text_from_numeral (n / 100)).some
   where
-  go : (xs : List ℕ) → 0 < length xs → get_or (xs ++ (codes "." ++ two_digits (n % 100))) 0 0 ≡ get_or xs 0 0
-  go [] some = absurd (omega arith)
-  go (x ∷ xs) some = refl
+    go : (xs : List ℕ) → 0 < length xs → get_or (xs ++ (codes "." ++ two_digits (n % 100))) 0 0 ≡ get_or xs 0 0
+    go [] some = absurd (omega arith)
+    go (x ∷ xs) some = refl
 
 pub no_sign : (n : ℕ) → get_or (unsigned_amount_text n) 0 0 ≢ 45
 no_sign n e =

@@ -4,3 +4,4 @@ pub mod Spaces
 pub mod Numerals
 pub mod Amounts
 pub mod RequestLemmas
+pub mod Cutting

@@ -1,7 +1,7 @@
 -- How a list is cut at its first mark.
-use Rattle.std.proofs.Common.{◌≡◌, ℕ, suc, add-one, ◌+◌, ◌-◌, ◌<◌, ◌≤◌, Bool, true, false, eqb, List, [], ◌∷◌, ◌++◌, length, get_or, take, drop, length-take, sym, ap, ◌∙◌, subst, refl, arith}
+use Rattle.std.proofs.Common.{◌≡◌, ◌≢◌, ℕ, suc, add-one, ◌+◌, ◌-◌, ◌<◌, ◌≤◌, Bool, true, false, eqb, List, [], ◌∷◌, ◌++◌, length, get_or, take, drop, length-take, sym, ap, ◌∙◌, subst, refl, arith}
 use Rattle.std.specs.List.{All, slice_split}
-use Rattle.std.proofs.lemmas.Bool.{false_from_ne_true}
+use Rattle.std.proofs.lemmas.Bool.{false_from_ne_true, true≢false}
 use Rattle.std.proofs.lemmas.Bool.Decides.{Decides-eqb}
 use Rattle.std.proofs.lemmas.List.{take-append-drop, get_or-take, get_or_default, take_rest, take_all}
 use Rattle.std.proofs.lemmas.List.Splits.{slice_split_at, slice_split_none}
@@ -17,6 +17,14 @@ lacks_before mark k text within none i d below =
     let inside : i < k = omega (arith, length-take k text) in
     let read : get_or (take k text) i d ≡ get_or text i 0 = get_or-take k text i d inside ∙ get_or_default text i d 0 (omega arith) in
     ap (λ b. eqb b mark) read ∙ false_from_ne_true _ (none i (omega arith) inside)
+
+-- the same of the list before place k
+pub lacks_at : (mark k : ℕ) (text : List ℕ) → k ≤ length text → LacksBefore mark text k → All (λ b. b ≢ mark) (take k text)
+lacks_at mark k text within none i d below e = true≢false (sym ((Decides-eqb (get_or (take k text) i d) mark).1 e) ∙ lacks_before mark k text within none i d below)
+
+pub lacks_none : (mark : ℕ) (text : List ℕ) → LacksBefore mark text (length text) → All (λ b. b ≢ mark) text
+lacks_none mark text none =
+    subst (λ l. All (λ b. b ≢ mark) l) (take_all (length text) text (omega arith)) (lacks_at mark (length text) text (omega arith) none)
 
 -- with no mark the list is one part
 pub parts_none : (mark : ℕ) (text : List ℕ) → LacksBefore mark text (length text) → slice_split (λ b. eqb b mark) text ≡ text ∷ []

@@ -33,10 +33,11 @@ front_digits xs small first zero within =
 front_digits xs small first (suc i) within =
     let before = front_digits xs small first i (omega arith) in
     let more : number_from_digits 10 (take (suc i + 1) xs) ≡ number_from_digits 10 (take (i + 1) xs) * 10 + get_or xs (suc i) 0 = number_more 10 xs (suc i) within ∙ ap (λ k. number_from_digits 10 (take k xs) * 10 + get_or xs (suc i) 0) (sym (add-one i)) in
-    let some : 0 < number_from_digits 10 (take (i + 1) xs) * 10 + get_or xs (suc i) 0 = omega (arith, before.1) in
-    (ap (digits_of 10) more ∙ digits_of_more _ (get_or xs (suc i) 0) (take (i + 1) xs) (small (suc i) within) some before.0
-        ∙ sym (take_more xs (suc i) 0 within ∙ ap (λ k. take k xs ++ (get_or xs (suc i) 0 ∷ [])) (sym (add-one i)))
-    , omega (arith, more, some))
+    let some : 0 < number_from_digits 10 (take (i + 1) xs) * 10 + get_or xs (suc i) 0 = omega (arith, before.1) in (
+      ap (digits_of 10) more ∙ digits_of_more _ (get_or xs (suc i) 0) (take (i + 1) xs) (small (suc i) within) some before.0
+          ∙ sym (take_more xs (suc i) 0 within ∙ ap (λ k. take k xs ++ (get_or xs (suc i) 0 ∷ [])) (sym (add-one i))),
+      omega (arith, more, some),
+    )
 
 digits_of_number : (xs : List ℕ) → AllBelowBase 10 xs → 0 < length xs → 0 < get_or xs 0 0 → (digits_of 10 (number_from_digits 10 xs) ≡ xs) × (0 < number_from_digits 10 xs)
 digits_of_number xs small some first =
@@ -98,9 +99,9 @@ pub numeral_from_text : (ds : List ℕ) → IsNumeralText ds → (n : ℕ) × (d
 numeral_from_text [] h = absurd (omega (arith, h.some))
 numeral_from_text (c ∷ cs) h =
     elim (cases_lt 0 (digit_value c)) [
-      inl above ↦ let number = digits_of_number (map digit_value (c ∷ cs)) (all_below_base_from_digits 10 (c ∷ cs) h.are_digits) (omega arith) above in
+      | inl above ↦ let number = digits_of_number (map digit_value (c ∷ cs)) (all_below_base_from_digits 10 (c ∷ cs) h.are_digits) (omega arith) above in
           (number_from_digits 10 (map digit_value (c ∷ cs)), sym (numeral_of_some _ number.1 ∙ ap (map (λ d. 48 + d)) number.0 ∙ glyphs_of_values (c ∷ cs) h.are_digits))
-    | inr none ↦ let glyph = glyph_of_value c h.are_digits.0 in
+      | inr none ↦ let glyph = glyph_of_value c h.are_digits.0 in
           let nought : c ≡ 48 = omega arith in
           let alone : cs ≡ [] = length-zero cs (omega (arith, h.no_zero nought)) in
           (0, ap (λ b. b ∷ cs) nought ∙ ap (λ l. 48 ∷ l) alone ∙ sym numeral_zero)
@@ -126,9 +127,9 @@ pub zero_from_first : (n : ℕ) → get_or (numeral n) 0 0 ≡ 48 → n ≡ 0
 zero_from_first zero e = refl
 zero_from_first (suc n) e = absurd (go (digits_of 10 (suc n)) (first_digits_of 10 (suc n) (lit≤ tt) (omega arith)) (sym (ap (λ l. get_or l 0 0) (numeral_of_some (suc n) (omega arith))) ∙ e))
   where
-  go : (xs : List ℕ) → 0 < get_or xs 0 0 → get_or (map (λ d. 48 + d) xs) 0 0 ≡ 48 → Prim.⊥
-  go [] first is = omega arith
-  go (d ∷ ds) first is = omega arith
+    go : (xs : List ℕ) → 0 < get_or xs 0 0 → get_or (map (λ d. 48 + d) xs) 0 0 ≡ 48 → Prim.⊥
+    go [] first is = omega arith
+    go (d ∷ ds) first is = omega arith
 
 -- up to 64 bits a numeral is what `{}` writes
 pub numeral_is_decimal : (n : ℕ) → n < 2 ^ 64 → numeral n ≡ decimal n

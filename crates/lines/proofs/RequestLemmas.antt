@@ -18,7 +18,7 @@ use Rattle.lines.proofs.Spaces.{HasNoSpace, decimal_no_space, words_one, words_j
 -- what an only word says, where it may be a number
 pub last_from_number : (text : List ℕ) (o : Option ℕ) → MatchOption o ((n : ℕ) → n < 2 ^ 32 → text ≢ decimal n) (λ n. text ≡ decimal n) → MatchResult (ok_or o BadLine) (λ n. words text ≡ decimal n ∷ []) (λ refusal. (refusal ≡ BadLine) × ((n : ℕ) → n < 2 ^ 32 → words text ≢ decimal n ∷ []))
 last_from_number text None none = (refl, λ n small e. none n small (text_from_words text (decimal n ∷ []) e))
-last_from_number text (Some n) is = ap words is ∙ words_one (decimal n) (decimal_no_space n) 
+last_from_number text (Some n) is = ap words is ∙ words_one (decimal n) (decimal_no_space n)
 
 -- the first byte of a word
 abbrev byte_of : ℕ → List (List ℕ) → ℕ
@@ -82,5 +82,5 @@ pub payment_words : (t0 t1 t2 t3 t4 t5 : List ℕ) (w d cw cd c : ℕ) (z : ℤ)
 payment_words t0 t1 t2 t3 t4 t5 w d cw cd c z e0 e1 e2 e3 e4 e5 =
     let last = words_amount t5 z e5 in
     let all : words t0 ≡ decimal w ∷ decimal d ∷ decimal cw ∷ decimal cd ∷ decimal c ∷ amount_text z ∷ [] =
-        e0 ∙ ap (λ l. decimal w ∷ l) (e1 ∙ ap (λ l. decimal d ∷ l) (e2 ∙ ap (λ l. decimal cw ∷ l) (e3 ∙ ap (λ l. decimal cd ∷ l) (e4 ∙ ap (λ l. decimal c ∷ l) last)))) in
+    e0 ∙ ap (λ l. decimal w ∷ l) (e1 ∙ ap (λ l. decimal d ∷ l) (e2 ∙ ap (λ l. decimal cw ∷ l) (e3 ∙ ap (λ l. decimal cd ∷ l) (e4 ∙ ap (λ l. decimal c ∷ l) last)))) in
     ap (λ l. codes "payment" ∷ l) all

@@ -20,9 +20,9 @@ not_space b above = false_from_ne_true _ (λ e. let is : b ≡ 32 = (Decides-eqb
 glyph_not_space : (d : ℕ) → eqb (digit_glyph false d) 32 ≡ false
 glyph_not_space d = go (ltb d 10)
   where
-  go : (t : Bool) → eqb (cond t (48 + d) (cond false (55 + d) (87 + d))) 32 ≡ false
-  go true = not_space (48 + d) (omega arith)
-  go false = not_space (87 + d) (omega arith)
+    go : (t : Bool) → eqb (cond t (48 + d) (cond false (55 + d) (87 + d))) 32 ≡ false
+    go true = not_space (48 + d) (omega arith)
+    go false = not_space (87 + d) (omega arith)
 
 cond_no_space : (t : Bool) (xs ys : List ℕ) → HasNoSpace xs → HasNoSpace ys → HasNoSpace (cond t xs ys)
 cond_no_space true xs ys h i = h

@@ -3,3 +3,4 @@ pub mod Amount
 pub mod Requests
 pub mod Output
 pub mod Report
+pub mod Lines

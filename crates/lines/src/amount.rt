@@ -10,12 +10,10 @@ use money::{Cents, Refusal};
 /// The amount that a word is, of 10,000,000,000,000 cents from zero at most: `BadInput` for one beyond
 /// that, and `BadLine` for a word that is the text of no amount.
 pub fn read_amount(word: &[u8]) -> Result<Cents, Refusal>
-    ensures {
-        MatchResult result (λ z. (word.now ≡ amount_text z) × IsWithinLimit z)
-            (λ refusal.
-                ((refusal ≡ Refusal.BadInput) × ((z : ℤ) × (word.now ≡ amount_text z) × ¬ IsWithinLimit z))
-                ⊎ ((refusal ≡ Refusal.BadLine) × ((z : ℤ) → word.now ≢ amount_text z)))
-    }
+    ensures { MatchResult result (λ z. (word.now ≡ amount_text z) × IsWithinLimit z)
+        (λ refusal.
+        ((refusal ≡ Refusal.BadInput) × ((z : ℤ) × (word.now ≡ amount_text z) × ¬ IsWithinLimit z))
+        ⊎ ((refusal ≡ Refusal.BadLine) × ((z : ℤ) → word.now ≢ amount_text z))) }
 {
     let Ok(text) = str::from_utf8(word) else {
         return Err(Refusal::BadLine);
@@ -29,9 +27,7 @@ pub fn read_amount(word: &[u8]) -> Result<Cents, Refusal>
 
 // Whether a word is the text of an amount, of any size.
 fn is_amount(word: &[u8]) -> bool
-    ensures {
-        MatchBool result ((z : ℤ) × (word.now ≡ amount_text z)) ((z : ℤ) → word.now ≢ amount_text z)
-    }
+    ensures { MatchBool result ((z : ℤ) × (word.now ≡ amount_text z)) ((z : ℤ) → word.now ≢ amount_text z) }
 {
     match word {
         [b'-', unsigned @ ..] => is_unsigned_amount(unsigned) && unsigned != b"0.00".as_slice(),
@@ -41,10 +37,8 @@ fn is_amount(word: &[u8]) -> bool
 
 // The same of an amount without a sign.
 fn is_unsigned_amount(word: &[u8]) -> bool
-    ensures {
-        MatchBool result ((n : ℕ) × (word.now ≡ unsigned_amount_text n))
-            ((n : ℕ) → word.now ≢ unsigned_amount_text n)
-    }
+    ensures { MatchBool result ((n : ℕ) × (word.now ≡ unsigned_amount_text n))
+        ((n : ℕ) → word.now ≢ unsigned_amount_text n) }
 {
     if word.len() < 3 {
         return false;
@@ -55,19 +49,15 @@ fn is_unsigned_amount(word: &[u8]) -> bool
 
 // Whether these bytes are a point and two digits.
 fn are_cents(bytes: &[u8]) -> bool
-    ensures {
-        MatchBool result ((n : ℕ) × (n < 100) × (bytes.now ≡ codes "." ++ two_digits n))
-            ((n : ℕ) → n < 100 → bytes.now ≢ codes "." ++ two_digits n)
-    }
+    ensures { MatchBool result ((n : ℕ) × (n < 100) × (bytes.now ≡ codes "." ++ two_digits n))
+        ((n : ℕ) → n < 100 → bytes.now ≢ codes "." ++ two_digits n) }
 {
     matches!(bytes, [b'.', b'0'..=b'9', b'0'..=b'9'])
 }
 
 // Whether a word is a number of any size, with no zero in front.
 fn is_numeral(word: &[u8]) -> bool
-    ensures {
-        MatchBool result ((n : ℕ) × (word.now ≡ numeral n)) ((n : ℕ) → word.now ≢ numeral n)
-    }
+    ensures { MatchBool result ((n : ℕ) × (word.now ≡ numeral n)) ((n : ℕ) → word.now ≢ numeral n) }
 {
     if let [b'0', _, ..] = word {
         return false;

@@ -5,12 +5,17 @@
 mod amount;
 mod answer;
 mod cut;
+mod line_buffer;
 mod read;
 mod report;
 mod request;
 mod words;
 
 pub use answer::Answer;
+pub use line_buffer::{LineBuffer, MAX_LINE};
 pub use read::read_request;
 pub use report::{Key, Verdict, print_report};
 pub use request::Request;
+
+#[cfg(test)]
+mod tests;

@@ -67,7 +67,10 @@ fn show_district(key: &[u8]) -> Result<Request, Refusal>
 {
     let (warehouse, key) = take_number(key)?;
     let district = last_number(key)?;
-    Ok(Request::ShowDistrict { warehouse, district })
+    Ok(Request::ShowDistrict {
+        warehouse,
+        district,
+    })
 }
 
 fn show_customer(key: &[u8]) -> Result<Request, Refusal>

@@ -29,9 +29,7 @@ pub struct Verdict {
 /// Appends the report, each of its lines with a line feed: how many transactions were committed, and then
 /// each verdict. Refuses only where memory runs out, and then `out` is as before.
 pub fn print_report(commits: u64, verdicts: &[Verdict], out: &mut String) -> Result<(), Refusal>
-    ensures ok {
-        OnOk result (string_bytes out.new ≡ string_bytes out.old ++ report_text commits verdicts.now)
-    }
+    ensures ok { OnOk result (string_bytes out.new ≡ string_bytes out.old ++ report_text commits verdicts.now) }
     ensures err { OnErr result (string_bytes out.new ≡ string_bytes out.old) }
     ensures memory { IfErr result (λ refusal. refusal ≡ Refusal.OutOfMemory) }
 {

@@ -16,9 +16,14 @@ pub enum Request {
         amount: Cents,
     },
     /// A row of WAREHOUSE: `show warehouse W`.
-    ShowWarehouse { warehouse: u32 },
+    ShowWarehouse {
+        warehouse: u32,
+    },
     /// A row of DISTRICT: `show district W D`.
-    ShowDistrict { warehouse: u32, district: u32 },
+    ShowDistrict {
+        warehouse: u32,
+        district: u32,
+    },
     /// A row of CUSTOMER: `show customer W D C`.
     ShowCustomer {
         warehouse: u32,

@@ -5,39 +5,40 @@ use std::alloc::{AllocError, AllocFailed};
 use std::error::Error;
 use std::fmt;
 
-/// Why a call gave no value. A refused call changed nothing, unless it says otherwise.
+/// Why a call gave no value. After any refusal the state is as before the call, unless the call says
+/// otherwise.
 #[derive(Clone, Copy, Debug, PartialEq, Eq)]
 pub enum Refusal {
-    /// Memory ran out.
+    /// Memory was wanted and refused.
     OutOfMemory,
-    /// An argument or a text outside what the call takes.
+    /// A field of an input, or a text, is outside its range.
     BadInput,
-    /// A number of a row, version or transaction that is no longer current.
+    /// No consistent tables agree with what a transaction read, so it read at several moments.
     Stale,
-    /// Another transaction wrote what this one read (Silo, section 4.4).
+    /// A record that a transaction read has changed since (Silo, section 4.4).
     Conflict,
-    /// The first item number of an order that is not in ITEM (TPC-C, clause 2.4.2.3).
+    /// An order line names an item that isn't in ITEM, which rolls New-Order back (TPC-C 2.4.1.5).
     ItemNotValid {
-        /// That item number.
+        /// The first such item of the order.
         item: u32,
     },
-    /// No room is left for an order.
+    /// The district's order numbers have reached the order cap.
     OrdersFull,
-    /// No transaction number is left in this epoch.
+    /// The commits have reached the commit cap.
     CommitsFull,
-    /// No epoch number is left.
+    /// No epoch, or no transaction number in an epoch, is left (Silo, sections 4.1 and 4.2).
     EpochFull,
-    /// The device that keeps the log failed.
+    /// A device failed: a disk, a file, or a standard stream.
     Device,
-    /// A log or a checkpoint that is not as it was written.
+    /// The bytes of a log aren't in its grammar, or the log belongs to another database.
     Damaged,
-    /// A log that leaves an epoch out.
+    /// Logs that lack a commit of an epoch that they are to have whole.
     Gap,
-    /// A transaction that met a conflict at each of its tries.
+    /// A transaction met a conflict at each of its tries.
     GaveUp,
-    /// A number of warehouses that the engine does not hold.
+    /// A number of a scale is outside its limits.
     BadScale,
-    /// A line of input that is no request.
+    /// A line of a script is in none of the forms.
     BadLine,
 }
 

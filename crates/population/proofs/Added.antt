@@ -11,10 +11,7 @@ use Rattle.tables.proofs.Orders.{IsExact}
 use Rattle.tables.proofs.Views.{insert-view}
 use Rattle.population.specs.Adds.{is, is_in, Adds}
 
--- no number is in an empty range, and one more
-pub is_in-none : (low k : ℕ) → is_in low low k ≡ false
-is_in-none low k = grind (arith, nat_tests)
-
+-- one number more
 pub is_in_more : (low i j k : ℕ) → low ≤ i → j ≡ i + 1 → is_in low j k ≡ (is_in low i k || is i k)
 is_in_more low i j k from next = grind (arith, nat_tests)
 
@@ -70,9 +67,6 @@ module _ {K X : Type 0} {R : K → K → Ordering} where
   tied_row o q k v z row' is_row Greater e = refl
 
 module _ {K X : Type 0} {R : K → K → Ordering} {row : K → X} where
-  pub adds_none : {is_added : K → Bool} (m : FinMap R X) → ((k : K) → is_added k ≡ false) → Adds R is_added row m m
-  adds_none m none = record { rows = λ k. ap (λ b. cond b (Some (row k)) (get m k)) (sym (none k)) }
-
   -- the rows at the keys p, and then those at the keys q
   pub adds_both : {p q both : K → Bool} {old middle new : FinMap R X} → ((k : K) → both k ≡ (p k || q k)) → Adds R p row old middle → Adds R q row middle new → Adds R both row old new
   adds_both {p} {q} {both} {old} {middle} {new} is_both first second = record {

@@ -18,13 +18,15 @@ use Rattle.tables.specs.declared.rows.Item.{Item}
 use Rattle.tables.specs.declared.rows.Stock.{Stock}
 use Rattle.population.specs.Plain.{plain_warehouse, plain_district, plain_customer, plain_order, plain_line, plain_item, plain_stock, plain_history_row, delivered_orders, numbers}
 
--- whether k is this number; one of low, low + 1, .. below end; one of 1, .., n
+-- whether k is this number
 abbrev pub is : ℕ → ℕ → Bool
 is number k = k == number
 
+-- whether k is one of the numbers from low on and below end
 abbrev pub is_in : ℕ → ℕ → ℕ → Bool
 is_in low end k = nat_le low k && nat_lt k end
 
+-- whether k is one of the numbers from 1 to n
 abbrev pub is_number : ℕ → ℕ → Bool
 is_number n k = is_in 1 (n + 1) k
 
@@ -32,7 +34,7 @@ is_number n k = is_in 1 (n + 1) k
 pub record Adds {K X : Type 0} (R : K → K → Ordering) (is_added : K → Bool) (row : K → X) (old new : FinMap R X) : Type 0 where
   pub rows : (k : K) → get new k ≡ (if is_added k then Some (row k) else get old k)
 
--- the rows of each table at the keys whose parts pass these tests
+-- the tables' rows are added at the keys whose parts pass these tests
 abbrev pub AddsWarehouses : Sizes → (ℕ → Bool) → FinMap nat_cmp Warehouse → FinMap nat_cmp Warehouse → Type 0
 AddsWarehouses s in_warehouse = Adds nat_cmp in_warehouse (λ w. plain_warehouse s)
 

@@ -1,5 +1,6 @@
 //! A committed transaction.
 
+use lines::Answer;
 use tables::Reply;
 
 /// A committed transaction: its commit number, from 1, and its reply.
@@ -7,4 +8,13 @@ use tables::Reply;
 pub struct Done {
     pub number: u32,
     pub reply: Reply,
+}
+
+impl Done {
+    /// What its terminal is told.
+    pub fn answer(&self) -> Answer {
+        match self.reply {
+            Reply::Payment(reply) => Answer::Payment(reply),
+        }
+    }
 }

@@ -1,8 +1,11 @@
 //! A script: lines that come in, each answered in turn, over one session.
 #![tactic(auto)]
 
+mod answering;
 mod done;
+mod running;
 mod session;
 
 pub use done::Done;
+pub use running::script;
 pub use session::Session;

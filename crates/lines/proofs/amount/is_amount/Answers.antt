@@ -17,8 +17,8 @@ returns-else-is_unsigned_amount c =
 pub returns-in_default : goal.returns-in_default
 returns-in_default c =
     let plain : get_or c.args.word.now 0 0 ≢ 45 = λ e.
-        elim c.in_default.branch [
-          in_default-via-then-word-lt1 w ↦ let short : length c.args.word.now < 1 = search rules in omega (arith, get_or_past c.args.word.now 0 0 (omega arith))
-        | in_default-via-else-word-lt1+in_default-1 w ↦ let no : get_or c.args.word.now 0 0 ≢ 45 = search rules in no e
-        ] in
+    elim c.in_default.branch [
+      | in_default-via-then-word-lt1 w ↦ let short : length c.args.word.now < 1 = search rules in omega (arith, get_or_past c.args.word.now 0 0 (omega arith))
+      | in_default-via-else-word-lt1+in_default-1 w ↦ let no : get_or c.args.word.now 0 0 ≢ 45 = search rules in no e
+    ] in
     plain_answer c.args.word.now c.is_unsigned_amount-in_default.result plain c.is_unsigned_amount-in_default.ensures

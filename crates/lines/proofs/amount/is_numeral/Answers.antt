@@ -16,8 +16,8 @@ pub returns-then-not-is_empty : goal.returns-then-not-is_empty
 returns-then-not-is_empty c =
     let some : 0 < length c.args.word.now = grind (arith, nat_tests, c.if-not-is_empty.ensures) in
     let alone : get_or c.args.word.now 0 0 ≡ 48 → length c.args.word.now ≡ 1 = λ zero.
-        elim c.if-word-lt2.branch [
-          then-word-lt2 w ↦ let short : length c.args.word.now < 2 = search rules in omega arith
-        | else-word-lt2+in_default-1 w ↦ let no : get_or c.args.word.now 0 0 ≢ 48 = search rules in absurd (no zero)
-        ] in
+    elim c.if-word-lt2.branch [
+      | then-word-lt2 w ↦ let short : length c.args.word.now < 2 = search rules in omega arith
+      | else-word-lt2+in_default-1 w ↦ let no : get_or c.args.word.now 0 0 ≢ 48 = search rules in absurd (no zero)
+    ] in
     numeral_answer c.args.word.now c.are_digits.result c.are_digits.ensures some alone

@@ -46,15 +46,18 @@ returns-in_err-amount c =
     let first_customer_district = c.in_ok-customer_district.ensures in
     let first_customer = c.in_ok-customer.ensures in
     elim c.in_err-amount.ensures [
-      inl h ↦ rw (is, h.0) (Payment c.in_ok-warehouse.warehouse c.in_ok-district.district c.in_ok-customer_warehouse.customer_warehouse c.in_ok-customer_district.customer_district c.in_ok-customer.customer h.1.0
-          , (search rules, search rules, search rules, search rules, search rules)
-          , payment_words c.args.text.now c.in_ok-warehouse.rest.now c.in_ok-district.rest.now c.in_ok-customer_warehouse.rest.now c.in_ok-customer_district.rest.now c.in_ok-customer.rest.now _ _ _ _ _ h.1.0 first_warehouse first_district first_customer_warehouse first_customer_district first_customer h.1.1
-          , h.1.2)
-    | inr h ↦ rw (is, h.0) (no_payment _ (λ w d cw cd k z small_w small_d small_cw small_cd small_k e. h.1 z (text_from_words c.in_ok-customer.rest.now (amount_text z ∷ []) cc)))
+      | inl h ↦ rw (is, h.0) (
+        Payment c.in_ok-warehouse.warehouse c.in_ok-district.district c.in_ok-customer_warehouse.customer_warehouse c.in_ok-customer_district.customer_district c.in_ok-customer.customer h.1.0,
+        (search rules, search rules, search rules, search rules, search rules),
+        payment_words c.args.text.now c.in_ok-warehouse.rest.now c.in_ok-district.rest.now c.in_ok-customer_warehouse.rest.now c.in_ok-customer_district.rest.now c.in_ok-customer.rest.now _ _ _ _ _ h.1.0 first_warehouse first_district first_customer_warehouse first_customer_district first_customer h.1.1,
+        h.1.2,
+      )
+      | inr h ↦ rw (is, h.0) (no_payment _ (λ w d cw cd k z small_w small_d small_cw small_cd small_k e. h.1 z (text_from_words c.in_ok-customer.rest.now (amount_text z ∷ []) cc)))
     ]
 
 pub returns : goal.returns
-returns c =
-    (payment_words c.args.text.now c.in_ok-warehouse.rest.now c.in_ok-district.rest.now c.in_ok-customer_warehouse.rest.now c.in_ok-customer_district.rest.now c.in_ok-customer.rest.now _ _ _ _ _ c.in_ok-amount.amount
-        c.in_ok-warehouse.ensures c.in_ok-district.ensures c.in_ok-customer_warehouse.ensures c.in_ok-customer_district.ensures c.in_ok-customer.ensures c.in_ok-amount.ensures.0
-    , c.in_ok-amount.ensures.1)
+returns c = (
+  payment_words c.args.text.now c.in_ok-warehouse.rest.now c.in_ok-district.rest.now c.in_ok-customer_warehouse.rest.now c.in_ok-customer_district.rest.now c.in_ok-customer.rest.now _ _ _ _ _ c.in_ok-amount.amount
+      c.in_ok-warehouse.ensures c.in_ok-district.ensures c.in_ok-customer_warehouse.ensures c.in_ok-customer_district.ensures c.in_ok-customer.ensures c.in_ok-amount.ensures.0,
+  c.in_ok-amount.ensures.1,
+)

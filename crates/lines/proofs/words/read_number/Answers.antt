@@ -14,10 +14,10 @@ returns-then-first-eq43 c =
     let first = c.in_ok-first.ensures.item.3.1 0 in
     no_number c.args.word.now
     (λ starts.
-        elim c.then-first-eq43.branch [
-          then-first-eq43-via-then-first-eq43 w ↦ starts.1 (sym first ∙ w.if-first-eq43.true)
-        | then-first-eq43-via-else-first-eq43+then-word-gt1 w ↦ let alone = starts.2 (sym first ∙ w.if-word-gt1.true.0) in let longer = w.if-word-gt1.true.1 in omega arith
-        ])
+    elim c.then-first-eq43.branch [
+      | then-first-eq43-via-then-first-eq43 w ↦ starts.1 (sym first ∙ w.if-first-eq43.true)
+      | then-first-eq43-via-else-first-eq43+then-word-gt1 w ↦ let alone = starts.2 (sym first ∙ w.if-word-gt1.true.0) in let longer = w.if-word-gt1.true.1 in omega arith
+    ])
 
 pub returns-in_err-text : goal.returns-in_err-text
 returns-in_err-text c =
@@ -32,5 +32,5 @@ returns c =
     let same = same_text _ word c.in_ok-text.text c.from_utf8.result c.in_ok-text.ensures.value c.from_utf8.ensures.cases in
     let parses : ParsesUnsigned 32 10 word c.parse.result = subst (λ l. ParsesUnsigned 32 10 l c.parse.result) same c.parse.ensures.value.0 in
     let alone : get_or word 0 0 ≡ 48 → length word ≡ 1 = λ zero.
-        elim c.if-word-gt1.either [ inl h ↦ let short = h.1 in omega arith | inr h ↦ absurd (h (first ∙ zero)) ] in
+    elim c.if-word-gt1.either [ inl h ↦ let short = h.1 in omega arith | inr h ↦ absurd (h (first ∙ zero)) ] in
     rw c.ok-2.ensures.value (parsed word c.parse.result parses some (λ plus. c.if-first-eq43.false (first ∙ plus)) alone)

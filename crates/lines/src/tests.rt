@@ -1,0 +1,207 @@
+ghost use Rattle.std.specs.Prelude.{◌<◌};
+
+use crate::{Answer, Key, LineBuffer, Request, Verdict, print_report, read_request};
+use money::{Cents, Rate, Refusal};
+use std::alloc::Global;
+use std::process::Abort;
+use std::test::Fail;
+use tables::{
+    Credit, Customer, CustomerKey, District, DistrictKey, LineKey, PaymentReply, Warehouse,
+};
+
+#[test]
+fn requests_are_read(rt: HostRuntime) {
+    let payment = Request::Payment {
+        warehouse: 1,
+        district: 1,
+        customer_warehouse: 1,
+        customer_district: 1,
+        customer: 3,
+        amount: Cents::new(1234),
+    };
+    assert_eq!(rt; read_request(b"payment 1 1 1 1 3 12.34"), Ok(payment));
+    let warehouse = Request::ShowWarehouse { warehouse: 1 };
+    assert_eq!(rt; read_request(b"show warehouse 1"), Ok(warehouse));
+    let district = Request::ShowDistrict {
+        warehouse: 1,
+        district: 1,
+    };
+    assert_eq!(rt; read_request(b"show district 1 1"), Ok(district));
+    let customer = Request::ShowCustomer {
+        warehouse: 1,
+        district: 1,
+        customer: 3,
+    };
+    assert_eq!(rt; read_request(b"show customer 1 1 3"), Ok(customer));
+}
+
+fn is_bad_line(line: &[u8]) -> bool {
+    read_request(line) == Err(Refusal::BadLine)
+}
+
+#[test]
+fn other_lines_are_bad(rt: HostRuntime) {
+    assert!(rt; is_bad_line(b""));
+    assert!(rt; is_bad_line(b"show"));
+    assert!(rt; is_bad_line(b"show warehouse 01"));
+    assert!(rt; is_bad_line(b"show warehouse +1"));
+    assert!(rt; is_bad_line(b"show warehouse 4294967296"));
+    assert!(rt; is_bad_line(b"show warehouse 1 "));
+    assert!(rt; is_bad_line(b"show  warehouse 1"));
+    assert!(rt; is_bad_line(b"show warehouse 1\r"));
+    assert!(rt; is_bad_line(b"show warehouse \x00"));
+    assert!(rt; is_bad_line(b"show warehouse \xff"));
+    assert!(rt; is_bad_line(b"payment 1 1 1 1 3 -0.00"));
+    assert!(rt; is_bad_line(b"payment 1 1 1 1 3 1.2"));
+}
+
+#[test]
+fn amounts_beyond_the_limit_are_bad_input(rt: HostRuntime) {
+    let line = b"payment 1 1 1 1 3 99999999999999999999.00";
+    assert_eq!(rt; read_request(line), Err(Refusal::BadInput));
+}
+
+fn printed(rt: &(impl Abort + AllocGlobal), answer: Answer) -> String {
+    let mut text = String::new(rt.alloc());
+    answer.print(&mut text).expect(rt, "memory");
+    text
+}
+
+#[test]
+fn answers_are_printed(rt: HostRuntime) {
+    let payment = Answer::Payment(PaymentReply {
+        warehouse: 1,
+        district: 1,
+        customer_warehouse: 1,
+        customer_district: 1,
+        customer: 3,
+        balance: Cents::new(-2234),
+    });
+    let text = printed(&rt, payment);
+    assert_eq!(rt;
+        text.as_str(),
+        "payment 1 1 customer 1 1 3 balance -22.34\n"
+    );
+    let line = Answer::Refused {
+        refusal: Refusal::BadLine,
+        line: 1,
+    };
+    assert_eq!(rt; printed(&rt, line).as_str(), "14 line 1\n");
+    let item = Answer::Refused {
+        refusal: Refusal::ItemNotValid { item: 21 },
+        line: 1,
+    };
+    assert_eq!(rt; printed(&rt, item).as_str(), "5 line 1 item 21\n");
+}
+
+#[test]
+fn rows_are_printed(rt: HostRuntime) {
+    let tax = Rate::new(1000).expect(&rt, "a rate");
+    let warehouse = Answer::Warehouse {
+        warehouse: 1,
+        row: Warehouse {
+            tax,
+            year_to_date: Cents::new(21234),
+        },
+    };
+    assert_eq!(rt;
+        printed(&rt, warehouse).as_str(),
+        "warehouse 1 ytd 212.34\n"
+    );
+    let district = Answer::District {
+        key: DistrictKey {
+            warehouse: 1,
+            district: 1,
+        },
+        row: District {
+            tax,
+            year_to_date: Cents::new(11234),
+            next_order: 11,
+        },
+    };
+    assert_eq!(rt;
+        printed(&rt, district).as_str(),
+        "district 1 1 ytd 112.34 next 11\n"
+    );
+    let customer = Answer::Customer {
+        key: CustomerKey {
+            warehouse: 1,
+            district: 1,
+            customer: 3,
+        },
+        row: Customer {
+            first_name: 0,
+            last_name: 2,
+            credit: Credit::Good,
+            discount: tax,
+            balance: Cents::new(-2234),
+            paid: Cents::new(2234),
+            payments: 2,
+            deliveries: 0,
+        },
+    };
+    let text = "customer 1 1 3 balance -22.34 paid 22.34 payments 2 deliveries 0\n";
+    assert_eq!(rt; printed(&rt, customer).as_str(), text);
+}
+
+#[test]
+fn a_report_is_printed(rt: HostRuntime) {
+    let verdicts = [
+        Verdict {
+            condition: 1,
+            broken: None,
+        },
+        Verdict {
+            condition: 7,
+            broken: Some(Key::Line(LineKey {
+                warehouse: 1,
+                district: 1,
+                order: 8,
+                line: 5,
+            })),
+        },
+    ];
+    let mut text = String::new(rt.alloc());
+    print_report(1, &verdicts, &mut text).expect(&rt, "memory");
+    assert_eq!(rt; text.as_str(), "commits 1\nC1 ok\nC7 broken 1 1 8 5\n");
+}
+
+// The lengths of the lines of a text that comes in pieces of this size; 9999 for one that is too long.
+fn line_lengths(alloc: Global, text: &[u8], piece_size: usize) -> Result<Vec<usize>, Fail>
+    requires { 0 < piece_size }
+{
+    let mut lengths = Vec::new(alloc);
+    let mut buffer = LineBuffer::new(alloc)?;
+    for piece in text.chunks(piece_size) {
+        let mut rest = piece;
+        for _ in 0..piece.len() {
+            let Some(after) = buffer.take_line(rest) else {
+                break;
+            };
+            lengths.push(buffer.line().map_or(9999, |line| line.len()))?;
+            buffer.clear();
+            rest = after;
+        }
+    }
+    if !buffer.is_empty() {
+        lengths.push(buffer.line().map_or(9999, |line| line.len()))?;
+    }
+    Ok(lengths)
+}
+
+#[test]
+fn lines_are_cut(rt: HostRuntime) -> Result<(), Fail> {
+    for piece_size in 1..4 {
+        let two = line_lengths(rt.alloc(), b"a\nbc", piece_size)?;
+        assert_eq!(rt; two.as_slice(), [1, 2].as_slice());
+        let empty = line_lengths(rt.alloc(), b"\n\na\n", piece_size)?;
+        assert_eq!(rt; empty.as_slice(), [0, 0, 1].as_slice());
+    }
+    let longest = vec![in rt.alloc(); b'a'; 1024]?;
+    let lengths = line_lengths(rt.alloc(), &longest, 100)?;
+    assert_eq!(rt; lengths.as_slice(), [1024].as_slice());
+    let longer = vec![in rt.alloc(); b'a'; 1025]?;
+    let lengths = line_lengths(rt.alloc(), &longer, 100)?;
+    assert_eq!(rt; lengths.as_slice(), [9999].as_slice());
+    Ok(())
+}
