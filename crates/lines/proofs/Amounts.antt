@@ -1,10 +1,9 @@
 -- The text of an amount of any size.
-use Rattle.std.proofs.Common.{◌≡◌, ◌≢◌, ℕ, zero, suc, ◌+◌, ◌-◌, ◌*◌, ◌<◌, ◌≤◌, ◌^◌, ◌/◌, ◌%◌, Bool, true, false, eqb, not, List, [], ◌∷◌, ◌++◌, length, length-append, get_or, take, drop, codes, ℤ, pos, negsuc, IsUtf8, MatchBool, sym, ap, ◌∙◌, subst, refl, arith, rules, lit<, lit≤}
-use Rattle.std.specs.Char.{digit_value, is_ascii_digit}
-use Rattle.std.specs.List.{AllByRecursion, All, list_all}
+use Rattle.std.proofs.Common.{◌≡◌, ◌≢◌, ℕ, zero, suc, ◌+◌, ◌-◌, ◌*◌, ◌<◌, ◌≤◌, ◌/◌, ◌%◌, Bool, true, false, eqb, not, List, [], ◌∷◌, ◌++◌, length, length-append, get_or, take, drop, codes, ℤ, pos, negsuc, IsUtf8, MatchBool, sym, ap, ◌∙◌, subst, refl, arith, lit<}
+use Rattle.std.specs.List.{AllByRecursion}
 use Rattle.std.specs.Str.Parse.{AllDigits}
 use Rattle.std.proofs.lemmas.Bool.{true≢false, not-false}
-use Rattle.std.proofs.lemmas.List.{take_at, drop_at, take-append-drop, get_or_past}
+use Rattle.std.proofs.lemmas.List.{take_at, drop_at, take-append-drop}
 use Rattle.std.proofs.lemmas.List.Elements.{All-from_recursion}
 use Rattle.std.proofs.lemmas.Nat.{div-mul-add, mod-mul-add}
 use Rattle.std.proofs.lemmas.Str.{IsUtf8-from_ascii}
@@ -15,8 +14,7 @@ use Rattle.std.specs.Cmp.Lexicographic.{pointwise}
 use Rattle.std.proofs.lemmas.Str.Parse.{digit_from_value, digit_at}
 use Rattle.money.specs.Money.{two_digits, money_text, IsWithinLimit}
 use Rattle.lines.specs.Amount.{numeral, unsigned_amount_text, amount_text}
-use Rattle.lines.specs.Words.{words}
-use Rattle.lines.proofs.Numerals.{IsNumeralText, numeral_from_text, text_from_numeral, zero_from_first, numeral_is_decimal, numeral_zero}
+use Rattle.lines.proofs.Numerals.{text_from_numeral, zero_from_first, numeral_is_decimal, numeral_zero}
 use Rattle.lines.proofs.Spaces.{HasNoSpace, not_space}
 
 -- a byte above a space and below 128

@@ -1,6 +1,6 @@
 -- How the lines of a text come one after another.
-use Rattle.std.proofs.Common.{◌≡◌, ◌≢◌, ℕ, ◌+◌, ◌<◌, ◌≤◌, Bool, true, false, cond, eqb, leb, Option, Some, None, List, [], ◌∷◌, ◌++◌, length, length-append, get_or, append_assoc, append-nil, sym, ap, ◌∙◌, subst, refl, arith, rules}
-use Rattle.std.specs.List.{All, AllByRecursion, slice_split, flat_map, count_by}
+use Rattle.std.proofs.Common.{◌≡◌, ◌≢◌, ℕ, ◌<◌, ◌≤◌, Bool, true, false, cond, eqb, leb, Some, None, List, [], ◌∷◌, ◌++◌, length, length-append, get_or, append_assoc, append-nil, sym, ap, ◌∙◌, refl, arith}
+use Rattle.std.specs.List.{All, AllByRecursion, slice_split, flat_map}
 use Rattle.std.proofs.lemmas.Bool.{false_from_ne_true}
 use Rattle.std.proofs.lemmas.Bool.Decides.{Decides-eqb, nat_tests}
 use Rattle.std.proofs.lemmas.List.Elements.{All-nil, All-append}

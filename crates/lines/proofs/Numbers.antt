@@ -1,6 +1,6 @@
 -- What a word that is a number reads as.
-use Rattle.std.proofs.Common.{◌≡◌, ◌≢◌, ℕ, ◌+◌, ◌-◌, ◌<◌, ◌≤◌, ◌^◌, Bool, true, false, List, [], ◌∷◌, length, get_or, Option, Some, None, inl, inr, Result, Ok, Err, MatchOption, IsUtf8, sym, ap, ◌∙◌, subst, refl, arith, rules, lit<, lit≤}
-use Rattle.std.specs.Result.{result_ok, OkIff, MatchResult}
+use Rattle.std.proofs.Common.{◌≡◌, ◌≢◌, ℕ, ◌<◌, ◌^◌, List, length, get_or, Some, None, inl, inr, Result, Ok, Err, MatchOption, IsUtf8, sym, ap, ◌∙◌, subst, arith, lit<}
+use Rattle.std.specs.Result.{result_ok, MatchResult}
 use denote.Ref.{Bor}
 use Rattle.std.specs.Fmt.{decimal}
 use Rattle.std.specs.Str.Parse.{AllDigits, digits_value, ParsesUnsigned}

@@ -1,5 +1,5 @@
 -- What the words of a line can ask.
-use Rattle.std.proofs.Common.{Bool, true, eqb, not, get_or, drop, ◌≡◌, ◌≢◌, ℕ, ◌<◌, ◌^◌, List, [], ◌∷◌, codes, ℤ, Result, Ok, Err, Option, Some, None, MatchOption, MatchResult, IfOk, IfErr, sym, ap, ◌∙◌, subst, refl, arith, rules}
+use Rattle.std.proofs.Common.{true, eqb, not, get_or, drop, ◌≡◌, ◌≢◌, ℕ, ◌<◌, ◌^◌, List, [], ◌∷◌, codes, ℤ, Result, Ok, Err, Option, Some, None, MatchOption, MatchResult, IfOk, IfErr, ap, ◌∙◌, refl, arith}
 use Rattle.std.specs.Fmt.{decimal}
 use Rattle.std.specs.List.{AllByRecursion, list_all}
 use Rattle.std.proofs.lemmas.Bool.{not-true}
@@ -11,7 +11,7 @@ use Rattle.lines.specs.declared.request.Request.{Request}
 use Rattle.lines.specs.declared.request.Request.TheVariants.{Payment, ShowWarehouse, ShowDistrict, ShowCustomer}
 use Rattle.lines.specs.Amount.{amount_text}
 use Rattle.lines.specs.Words.{words}
-use Rattle.lines.specs.Requests.{Answers, HasNumbers, IsWithinReach, IsRefused, words_of, request_text}
+use Rattle.lines.specs.Requests.{Answers, IsWithinReach, IsRefused, words_of, request_text}
 use Rattle.lines.proofs.Amounts.{amount_no_space}
 use Rattle.lines.proofs.Spaces.{HasNoSpace, decimal_no_space, words_one, words_joined, text_from_words}
 

@@ -2,14 +2,14 @@
 ghost use Rattle.std.specs.Prelude.{◌≡◌, ◌≢◌, ◌⊎◌, ◌++◌, ◌<◌, ℕ, ℤ, MatchBool, MatchResult, codes};
 ghost use Rattle.std.specs.List.{list_all};
 ghost use Rattle.std.specs.Char.{is_ascii_digit};
-ghost use Rattle.money.specs.Money.{IsWithinLimit, two_digits};
+ghost use Rattle.money.specs.Money.{IsWithinLimit, money_text, two_digits};
 ghost use Rattle.lines.specs.Amount.{numeral, unsigned_amount_text, amount_text};
 
 use money::{Cents, Refusal};
 
 /// The amount that a word is, of 10,000,000,000,000 cents from zero at most: `BadInput` for one beyond
 /// that, and `BadLine` for a word that is the text of no amount.
-pub fn read_amount(word: &[u8]) -> Result<Cents, Refusal>
+pub(crate) fn read_amount(word: &[u8]) -> Result<Cents, Refusal>
     ensures { MatchResult result (λ z. (word.now ≡ amount_text z) × IsWithinLimit z)
         (λ refusal.
         ((refusal ≡ Refusal.BadInput) × ((z : ℤ) × (word.now ≡ amount_text z) × ¬ IsWithinLimit z))
@@ -24,6 +24,11 @@ pub fn read_amount(word: &[u8]) -> Result<Cents, Refusal>
         Err(_) => Err(Refusal::BadLine),
     }
 }
+
+/// An amount that can be read has the text that `Cents` prints.
+pub fn amounts_read_as_printed()
+    ensures { (z : ℤ) → IsWithinLimit z → amount_text z ≡ money_text z }
+{}
 
 // Whether a word is the text of an amount, of any size.
 fn is_amount(word: &[u8]) -> bool

@@ -5,7 +5,7 @@ ghost use Rattle.std.specs.List.{slice_split};
 use memchr::memchr;
 
 /// What stands before the first `mark` and what follows it, or `None` where there is none.
-pub fn split_once(text: &[u8], mark: u8) -> Option<(&[u8], &[u8])>
+pub(crate) fn split_once(text: &[u8], mark: u8) -> Option<(&[u8], &[u8])>
     ensures parts { MatchOption result (slice_split (λ b. b == mark) text.now ≡ text.now ∷ [])
         (λ parts. slice_split (λ b. b == mark) text.now
         ≡ parts.0.now ∷ slice_split (λ b. b == mark) parts.1.now) }

@@ -7,7 +7,7 @@ use crate::cut::split_once;
 use money::Refusal;
 
 /// The number that a word is: digits with no leading zero, or 0 alone, up to `u32::MAX`.
-pub fn read_number(word: &[u8]) -> Option<u32>
+pub(crate) fn read_number(word: &[u8]) -> Option<u32>
     ensures { MatchOption result ((n : ℕ) → n < 2 ^ 32 → word.now ≢ decimal n) (λ n. word.now ≡ decimal n) }
 {
     let first = *word.first()?;
@@ -19,7 +19,7 @@ pub fn read_number(word: &[u8]) -> Option<u32>
 }
 
 /// The first of several words, and the text after it.
-pub fn take_word(text: &[u8]) -> Result<(&[u8], &[u8]), Refusal>
+pub(crate) fn take_word(text: &[u8]) -> Result<(&[u8], &[u8]), Refusal>
     ensures { MatchResult result (λ parts. words text.now ≡ parts.0.now ∷ words parts.1.now)
         (λ refusal. (refusal ≡ Refusal.BadLine) × (words text.now ≡ text.now ∷ [])) }
 {
@@ -27,7 +27,7 @@ pub fn take_word(text: &[u8]) -> Result<(&[u8], &[u8]), Refusal>
 }
 
 /// The number that the first of several words is, and the text after it.
-pub fn take_number(text: &[u8]) -> Result<(u32, &[u8]), Refusal>
+pub(crate) fn take_number(text: &[u8]) -> Result<(u32, &[u8]), Refusal>
     ensures { MatchResult result (λ parts. words text.now ≡ decimal parts.0 ∷ words parts.1.now)
         (λ refusal. (refusal ≡ Refusal.BadLine)
         × ((n : ℕ) → n < 2 ^ 32 → (next : List ℕ) (others : List (List ℕ)) →
@@ -39,7 +39,7 @@ pub fn take_number(text: &[u8]) -> Result<(u32, &[u8]), Refusal>
 }
 
 /// The number that the only word of a text is.
-pub fn last_number(text: &[u8]) -> Result<u32, Refusal>
+pub(crate) fn last_number(text: &[u8]) -> Result<u32, Refusal>
     ensures { MatchResult result (λ n. words text.now ≡ decimal n ∷ [])
         (λ refusal. (refusal ≡ Refusal.BadLine)
         × ((n : ℕ) → n < 2 ^ 32 → words text.now ≢ decimal n ∷ [])) }

@@ -1,4 +1,4 @@
-use Rattle.std.proofs.Common.{◌≡◌, ◌≤◌, get_or, arith, rules}
+use Rattle.std.proofs.Common.{arith, rules}
 use Rattle.lines.proofs.Amounts.{cents_from_bytes}
 use Rattle.lines.proofs.amount.are_cents.Goals as goal
 

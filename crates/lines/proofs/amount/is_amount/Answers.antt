@@ -1,4 +1,4 @@
-use Rattle.std.proofs.Common.{◌≡◌, ◌≢◌, ◌<◌, length, get_or, arith, rules}
+use Rattle.std.proofs.Common.{◌≢◌, ◌<◌, length, get_or, arith, rules}
 use Rattle.lines.proofs.Amounts.{behind_minus, negative_answer, no_negative, plain_answer}
 use Rattle.std.proofs.lemmas.List.{get_or_past}
 use Rattle.lines.proofs.amount.is_amount.Goals as goal

@@ -1,4 +1,4 @@
-use Rattle.std.proofs.Common.{inl, inr, sym, ◌∙◌, refl, arith, rules}
+use Rattle.std.proofs.Common.{inl, inr, sym, ◌∙◌, refl}
 use Rattle.lines.proofs.Amounts.{utf8_amount, amount_is_money}
 use Rattle.lines.proofs.amount.read_amount.Goals as goal
 

@@ -1,4 +1,4 @@
-use Rattle.std.proofs.Common.{◌≡◌, codes, Err, [], ◌∷◌, List, ℕ, inl, inr, ◌<◌, ◌^◌, subst, sym, ap, ◌∙◌, arith, rules}
+use Rattle.std.proofs.Common.{◌≡◌, Err, [], ◌∷◌, inl, inr, rules}
 use Rattle.std.specs.Fmt.{decimal}
 use Rattle.money.specs.declared.refusal.Refusal.TheVariants.{BadLine}
 use Rattle.lines.specs.Amount.{amount_text}

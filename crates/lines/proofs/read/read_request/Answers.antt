@@ -1,8 +1,8 @@
-use Rattle.std.proofs.Common.{◌≡◌, codes, ◌∷◌, List, ℕ, subst, sym, ap, ◌∙◌, arith, rules}
+use Rattle.std.proofs.Common.{◌≡◌, codes, ◌∷◌, subst, sym, ap, ◌∙◌, arith, rules}
 use Rattle.std.proofs.lemmas.Slice.Eq.{text_from_reads}
 use Rattle.lines.specs.Words.{words}
 use Rattle.lines.specs.Requests.{Answers}
-use Rattle.lines.proofs.RequestLemmas.{line_request, line_reach, line_refusal}
+use Rattle.lines.proofs.RequestLemmas.{line_request, line_refusal}
 use Rattle.lines.proofs.read.read_request.Goals as goal
 
 pub returns-in-show-clause-request : goal.returns-in-show-clause-request

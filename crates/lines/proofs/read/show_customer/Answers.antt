@@ -1,4 +1,4 @@
-use Rattle.std.proofs.Common.{◌≡◌, codes, subst, sym, arith, rules, Err, []}
+use Rattle.std.proofs.Common.{◌≡◌, rules, Err, []}
 use Rattle.std.specs.Fmt.{decimal}
 use Rattle.money.specs.declared.refusal.Refusal.TheVariants.{BadLine}
 use Rattle.lines.proofs.RequestLemmas.{no_customer}

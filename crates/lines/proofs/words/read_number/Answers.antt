@@ -1,4 +1,4 @@
-use Rattle.std.proofs.Common.{◌<◌, ◌≡◌, ◌≢◌, ◌≤◌, ◌⊎◌, length, get_or, inl, inr, subst, arith, ◌∙◌, sym}
+use Rattle.std.proofs.Common.{◌≡◌, length, get_or, inl, inr, subst, arith, ◌∙◌, sym}
 use Rattle.std.specs.Str.Parse.{ParsesUnsigned}
 use Rattle.lines.proofs.Numbers.{no_number, utf8_number, no_text, same_text, parsed}
 use Rattle.lines.proofs.words.read_number.Goals as goal

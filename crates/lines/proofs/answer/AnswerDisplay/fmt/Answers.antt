@@ -1,4 +1,3 @@
-use Rattle.std.proofs.Common.{◌≡◌, sym, subst, refl, arith, rules}
 use Rattle.lines.proofs.answer.AnswerDisplay.fmt.Goals as goal
 
 pub returns-in-Customer-clause-writes : goal.returns-in-Customer-clause-writes

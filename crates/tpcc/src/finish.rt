@@ -1,0 +1,34 @@
+//! How the program ends.
+
+ghost use Rattle.tpcc.specs.Status.{IsStatusOf};
+
+use money::Refusal;
+use plain::Report;
+use std::io::Write;
+
+/// The exit status of a good end.
+pub const GOOD: u8 = 0;
+
+/// The exit status where a condition is broken, or where the run was refused.
+pub const FAILED: u8 = 1;
+
+/// The exit status of a command line that asks for nothing that can be done.
+pub const USAGE_FAULT: u8 = 2;
+
+/// Writes a refusal's line, as `9 Device`, and answers the exit status: 0 where all conditions hold, 1 where
+/// one is broken or the run was refused, and 2 where the scale was. A failure of that write is left aside.
+pub fn finish<E: Write>(outcome: Result<&Report, Refusal>, errors: &mut E) -> u8
+    ensures { IsStatusOf outcome.entry result }
+{
+    match outcome {
+        Ok(report) if report.is_good() => GOOD,
+        Ok(_) => FAILED,
+        Err(refusal) => {
+            let _ = writeln!(errors, "{refusal}");
+            match refusal {
+                Refusal::BadScale => USAGE_FAULT,
+                _ => FAILED,
+            }
+        }
+    }
+}
