@@ -30,4 +30,3 @@ is_customer-key w d c k =
     ∙ (λ i. eqb-nat_cmp w k.warehouse i && (eqb-nat_cmp d k.district i && eqb-nat_cmp c k.customer i))
     ∙ ap (λ b. is_eq (nat_cmp w k.warehouse) && b) (sym (is_eq-then (nat_cmp d k.district) (nat_cmp c k.customer)))
     ∙ sym (is_eq-then (nat_cmp w k.warehouse) (ordering_then (nat_cmp d k.district) (nat_cmp c k.customer)))
-

@@ -1,18 +1,15 @@
 -- A Payment keeps tables well-formed and consistent.
-use Rattle.std.proofs.Common.{◌≡◌, ℕ, ◌+◌, ◌*◌, ◌≤◌, ℤ, pos, ◌+ℤ◌, ◌-ℤ◌, ◌≤ℤ◌, Bool, true, false, cond, ◌&&◌, ◌==◌, true≢false, eqb, List, [], ◌∷◌, ◌++◌, Option, Some, None, IsSome, is_some, fold, refl, sym, ap, ◌∙◌, subst, arith, All}
+use Rattle.std.proofs.Common.{◌≡◌, ℕ, ◌+◌, ℤ, pos, ◌+ℤ◌, ◌-ℤ◌, Bool, true, false, cond, ◌==◌, true≢false, Option, Some, None, IsSome, refl, sym, ap, ◌∙◌, subst, arith}
 use Rattle.std.proofs.lemmas.Int.{ints}
-use Rattle.std.proofs.lemmas.Bool.Decides.{nat_tests}
 use Rattle.std.proofs.lemmas.List.Sums.{fold_push}
 use Rattle.std.proofs.lemmas.List.Elements.{All-push}
-use Rattle.std.specs.Ordering.{eq_by_cmp, is_eq, nat_cmp, ordering_then}
 use Rattle.std.specs.FinMap.{FinMap, get}
 use Rattle.std.specs.declared.cmp.Ordering.{Ordering}
-use Rattle.std.specs.declared.cmp.Ordering.TheVariants.{Less, Equal, Greater}
 use Rattle.std.specs.Option.{option_map_or}
-use Rattle.tables.specs.Keys.{district_cmp, customer_cmp, is_district, is_customer, IsWarehouseKey, IsDistrictKey, IsCustomerKey}
-use Rattle.tables.specs.Maps.{total, map_rows, update_where, column, sum_of, RowsAt, EachRow}
+use Rattle.tables.specs.Keys.{is_district, is_customer, IsWarehouseKey, IsDistrictKey, IsCustomerKey}
+use Rattle.tables.specs.Maps.{total, map_rows, RowsAt, EachRow}
 use Rattle.tables.specs.Database.{Database}
-use Rattle.tables.specs.Inputs.{IsPayment, number_of, payer}
+use Rattle.tables.specs.Inputs.{IsPayment, number_of}
 use Rattle.tables.specs.Apply.{after_payment, history_row}
 use Rattle.tables.specs.Conditions.{IsConsistent, Condition1At, Condition8At, Condition9At, Condition10At, Condition12At, warehouse_history, district_history, customer_history, delivered_amount}
 use Rattle.tables.specs.WellFormed.{IsWellFormed, HasRoom, IsMoneyFor, IsCountFor, IsDistrictRow, IsCustomerRow, IsHistoryRow, orderer}
@@ -24,7 +21,7 @@ use Rattle.tables.specs.declared.rows.Customer.{Customer}
 use Rattle.tables.specs.declared.rows.History.{History}
 use Rattle.tables.specs.declared.input.Payment.{Payment}
 use Rattle.tables.proofs.Orders.{IsExact, exact_number, exact_district, exact_customer}
-use Rattle.laws.proofs.KeyTests.{is_district-key, is_customer-key}
+use Rattle.laws.proofs.KeyTests.{is_district-key}
 use Rattle.laws.proofs.Updates.{column-update_where, total-update_where, is_some-map_rows, row_before}
 
 -- the row at a key of the scale

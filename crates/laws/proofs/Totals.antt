@@ -1,12 +1,12 @@
 -- A sum over a table, by the entries of its `BTreeMap`.
-use Rattle.std.proofs.Common.{◌≡◌, ℕ, ℤ, T, Bool, true, false, ◌&&◌, List, [], ◌∷◌, map, Option, sym, ap, ◌∙◌, subst}
+use Rattle.std.proofs.Common.{◌≡◌, ℤ, T, Bool, true, false, ◌&&◌, List, [], ◌∷◌, sym, ap, ◌∙◌, subst}
 use Rattle.std.specs.Ordering.{is_lt}
 use Rattle.std.specs.List.{AllByRecursion}
 use Rattle.std.specs.List.Sorted.{IsStrictlySortedBy}
 use Rattle.std.specs.Map.{keys_of}
 use Rattle.std.specs.BTreeMap as tree
 use Rattle.std.specs.BTreeMap.{BTreeMap}
-use Rattle.std.specs.FinMap.{FinMap, entries, from_entries, from_sorted, entries-from_sorted, get-from_entries, get-from_sorted, same_map, is_sorted}
+use Rattle.std.specs.FinMap.{entries, from_entries, from_sorted, entries-from_sorted, get-from_entries, get-from_sorted, same_map, is_sorted}
 use Rattle.std.specs.FinMap.Entries.{below_all}
 use Rattle.std.specs.declared.cmp.Ordering.{Ordering}
 use Rattle.std.specs.declared.cmp.Ordering.TheVariants.{Less}

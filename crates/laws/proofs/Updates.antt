@@ -1,10 +1,10 @@
 -- UPDATE .. WHERE: what it leaves at a key, and in a sum over all rows.
-use Rattle.std.proofs.Common.{◌≡◌, ℕ, ℤ, pos, ◌+ℤ◌, ◌-ℤ◌, Bool, true, false, cond, T, List, [], ◌∷◌, map, Option, Some, None, IsSome, is_some, unwrap_or, refl, sym, ap, ◌∙◌, subst, arith, ◌&&◌}
+use Rattle.std.proofs.Common.{◌≡◌, ℤ, pos, ◌+ℤ◌, ◌-ℤ◌, Bool, true, false, cond, T, List, [], ◌∷◌, Option, Some, None, is_some, refl, sym, ap, ◌∙◌, subst, arith, ◌&&◌}
 use Rattle.std.proofs.lemmas.Int.{ints}
 use Rattle.std.specs.Option.{option_map, option_map_or}
 use Rattle.std.specs.Ordering.{eq_by_cmp, is_eq, is_lt}
 use Rattle.std.specs.Cmp.{tied_itself, eq_by_cmp_equiv}
-use Rattle.std.specs.FinMap.{FinMap, entries, entries_sorted, from_sorted, entries-from_sorted, get, get-entries, get-insert, insert, same_map, find, is_sorted}
+use Rattle.std.specs.FinMap.{FinMap, entries, entries_sorted, entries-from_sorted, get, get-entries, get-insert, insert, same_map, find, is_sorted}
 use Rattle.std.specs.FinMap.Entries.{below_all}
 use Rattle.std.specs.declared.cmp.Ordering.{Ordering}
 use Rattle.std.specs.declared.cmp.Ordering.TheVariants.{Less, Equal, Greater}
@@ -85,7 +85,7 @@ module _ {K X : Type 0} {R : K → K → Ordering} (o : IsExact R) where
   sum_updated f p g k r at [] h found = cc
   sum_updated f p g k r at (e ∷ es) h found =
       elim (eq_by_cmp R k e.0) as (λ b. eq_by_cmp R k e.0 ≡ b → cond b (Some e.1) (find R k es) ≡ Some r
-          → f e.0 (cond (p e.0) (g e.1) e.1) +ℤ sum_entries f (map_entries (λ j s. cond (p j) (g s) s) es) ≡ (f e.0 e.1 +ℤ sum_entries f es) +ℤ (f k (g r) -ℤ f k r)) [
+      → f e.0 (cond (p e.0) (g e.1) e.1) +ℤ sum_entries f (map_entries (λ j s. cond (p j) (g s) s) es) ≡ (f e.0 e.1 +ℤ sum_entries f es) +ℤ (f k (g r) -ℤ f k r)) [
         | true ↦ λ t n.
             let key : k ≡ e.0 = o.same k e.0 (equal _ t) in
             let row : e.1 ≡ r = same_Some _ _ n in
@@ -106,6 +106,7 @@ module _ {K X : Type 0} {R : K → K → Ordering} (o : IsExact R) where
     where
       joined : (b c a d u v : ℤ) → b ≡ u → a ≡ v → c ≡ d → b +ℤ c ≡ (a +ℤ d) +ℤ (u -ℤ v)
       joined b c a d u v p q r = omega (arith, ints)
+
       regrouped : (a b c : ℤ) → a +ℤ (b +ℤ c) ≡ (a +ℤ b) +ℤ c
       regrouped a b c = omega (arith, ints)
 
@@ -147,6 +148,7 @@ module _ {K X : Type 0} {R : K → K → Ordering} (o : IsExact R) where
       unchanged : (w : Option X) → option_map (λ s. s) w ≡ w
       unchanged None = refl
       unchanged (Some s) = refl
+
       put : (q : K) → option_map (λ s. cond (p q) (g s) s) (get m q) ≡ cond (eq_by_cmp R k q) (Some (g r)) (get m q)
       put q =
           ap (λ b. option_map (λ s. cond b (g s) s) (get m q)) (at q)

@@ -14,16 +14,10 @@ ghost use Rattle.tables.specs.declared.input.Input.{Input};
 /// Each transaction keeps well-formed tables well-formed while there is room, and takes up the room of one
 /// commit.
 pub fn transactions_keep_tables_well_formed()
-    ensures {
-        (t : Database) (x : Input) (n : ℕ) → IsInput t.scale x → IsWellFormed t → HasRoom (n + 1) t → IsWellFormed (after t x) × HasRoom n (after t x)
-    }
-{
-}
+    ensures { (t : Database) (x : Input) (n : ℕ) → IsInput t.scale x → IsWellFormed t → HasRoom (n + 1) t → IsWellFormed (after t x) × HasRoom n (after t x) }
+{}
 
 /// Each transaction keeps the consistency conditions (TPC-C 3.3.2) of well-formed tables.
 pub fn transactions_keep_tables_consistent()
-    ensures {
-        (t : Database) (x : Input) → IsInput t.scale x → IsWellFormed t → IsConsistent t → IsConsistent (after t x)
-    }
-{
-}
+    ensures { (t : Database) (x : Input) → IsInput t.scale x → IsWellFormed t → IsConsistent t → IsConsistent (after t x) }
+{}

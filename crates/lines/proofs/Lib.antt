@@ -5,3 +5,4 @@ pub mod Numerals
 pub mod Amounts
 pub mod RequestLemmas
 pub mod Cutting
+pub mod OneText

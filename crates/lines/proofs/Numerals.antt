@@ -64,7 +64,7 @@ pub record IsNumeralText (ds : List ℕ) : Type 0 where
   pub are_digits : AllDigits 10 ds
   pub no_zero : get_or ds 0 0 ≡ 48 → length ds ≡ 1
 
-numeral_of_some : (n : ℕ) → 0 < n → numeral n ≡ map (λ d. 48 + d) (digits_of 10 n)
+pub numeral_of_some : (n : ℕ) → 0 < n → numeral n ≡ map (λ d. 48 + d) (digits_of 10 n)
 unfolding numeral
 numeral_of_some n some = let no : eqb n 0 ≡ false = false_from_ne_true _ (λ e. let zero_n : n ≡ 0 = (Decides-eqb n 0).0 e in omega arith) in rw no refl
 

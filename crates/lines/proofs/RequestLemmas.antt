@@ -21,7 +21,7 @@ last_from_number text None none = (refl, λ n small e. none n small (text_from_w
 last_from_number text (Some n) is = ap words is ∙ words_one (decimal n) (decimal_no_space n)
 
 -- the first byte of a word
-abbrev byte_of : ℕ → List (List ℕ) → ℕ
+abbrev pub byte_of : ℕ → List (List ℕ) → ℕ
 byte_of k ws = get_or (get_or ws k []) 0 0
 
 -- words that are no customer's key show none

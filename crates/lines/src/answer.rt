@@ -26,7 +26,8 @@ impl Answer {
 
     /// Appends this answer and a line feed. Refuses only where memory runs out, and then `out` is as before.
     pub fn print(&self, out: &mut String) -> Result<(), Refusal>
-        ensures ok { OnOk result (string_bytes out.new ≡ string_bytes out.old ++ (answer_text self.now ++ codes "\n")) }
+        ensures ok { OnOk result
+            (string_bytes out.new ≡ string_bytes out.old ++ (answer_text self.now ++ codes "\n")) }
         ensures err { OnErr result (string_bytes out.new ≡ string_bytes out.old) }
         ensures memory { IfErr result (λ refusal. refusal ≡ Refusal.OutOfMemory) }
     {

@@ -1,7 +1,8 @@
 //! How a line is read as a request.
 ghost use Rattle.std.specs.Prelude.{◌≡◌, ◌∷◌, codes, IfOk, IfErr};
+ghost use Rattle.lines.specs.declared.request.Request.{Request};
 ghost use Rattle.lines.specs.Words.{words};
-ghost use Rattle.lines.specs.Requests.{Answers, request_text, IsWithinReach, IsRefused};
+ghost use Rattle.lines.specs.Requests.{Answers, HasNumbers, request_text, IsWithinReach, IsRefused};
 
 use crate::Request;
 use crate::amount::read_amount;
@@ -23,6 +24,11 @@ pub fn read_request(line: &[u8]) -> Result<Request, Refusal>
         _ => Err(Refusal::BadLine),
     }
 }
+
+/// No two requests have the same line, so the request that is read from a line is the one that asks it.
+pub fn one_line_one_request()
+    ensures { (a b : Request) → HasNumbers a → HasNumbers b → request_text a ≡ request_text b → a ≡ b }
+{}
 
 fn read_payment(text: &[u8]) -> Result<Request, Refusal>
     ensures { Answers (codes "payment" ∷ words text.now) result }

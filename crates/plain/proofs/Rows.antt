@@ -1,10 +1,10 @@
 -- A row that `get_mut` lends, and what writing it leaves.
-use Rattle.std.proofs.Common.{◌≡◌, ℕ, ℤ, pos, Bool, cond, Option, Some, None, IsSome, is_some, refl, sym, ap, ◌∙◌, true≢false, T, subst}
+use Rattle.std.proofs.Common.{◌≡◌, ℤ, pos, Bool, Option, Some, None, sym, ap, ◌∙◌, subst}
 use Rattle.std.specs.Option.{IsSomeAnd, option_map_or}
 use Rattle.std.specs.Ordering.{eq_by_cmp}
 use Rattle.std.specs.BTreeMap as tree
 use Rattle.std.specs.BTreeMap.{BTreeMap}
-use Rattle.std.specs.FinMap.{FinMap, get, insert, from_entries}
+use Rattle.std.specs.FinMap.{get, insert, from_entries}
 use Rattle.std.specs.declared.cmp.Ordering.{Ordering}
 use Rattle.tables.specs.Maps.{update_where, column}
 use Rattle.tables.proofs.Orders.{IsExact}

@@ -1,2 +1,4 @@
+pub mod Amounts
+pub mod Sums
 pub mod Report
 pub mod Check

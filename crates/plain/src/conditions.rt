@@ -1,37 +1,42 @@
 //! Whether tables are consistent: for each condition the least key that breaks it.
 
-ghost use Rattle.std.specs.Prelude.{◌≡◌, ◌+ℤ◌, ℕ, ◌↔◌, IsTrue};
+ghost use Rattle.std.specs.Prelude.{◌≡◌, ◌+ℤ◌, ◌-ℤ◌, ℕ, ◌↔◌, IsTrue, IfOk, IfErr};
 ghost use Rattle.std.specs.Ordering.{nat_cmp};
-
 ghost use Rattle.tables.specs.Sizes.{IsNumber};
 ghost use Rattle.tables.specs.Keys.{district_cmp, customer_cmp, IsWarehouseKey, IsDistrictKey, IsCustomerKey};
 ghost use Rattle.tables.specs.Maps.{column};
 ghost use Rattle.tables.specs.Database.{Database, database};
-ghost use Rattle.tables.specs.Conditions.{Condition1At, Condition8At, Condition9At, Condition10At, Condition12At};
+ghost use Rattle.tables.specs.Conditions.{Condition1At, Condition8At, Condition9At, Condition10At, Condition12At, delivered_amount, customer_history};
 ghost use Rattle.tables.specs.declared.keys.DistrictKey.{DistrictKey as KeyOfDistrict};
 ghost use Rattle.tables.specs.declared.keys.CustomerKey.{CustomerKey as KeyOfCustomer};
+ghost use Rattle.money.specs.declared.refusal.Refusal.TheVariants.{OutOfMemory};
+ghost use Rattle.plain.specs.Sums.{AreSumsOf};
 ghost use Rattle.plain.specs.Check.{Finds, FindsDistrictOf, FindsCustomerOf, IsReportOf};
 
 use crate::report::Report;
 use crate::sums::{
-    customer_history_total, delivered_total, district_history_total, district_total,
+    CustomerSums, amount_of, customer_sums, difference, district_history_total, district_total,
     warehouse_history_total,
 };
-use money::Cents;
+use money::{Cents, Refusal};
+use std::alloc::Global;
 use tables::{CustomerKey, DistrictKey, Tables};
 
-/// Checks the consistency conditions (TPC-C 3.3.2), of any tables. Slow: it sums over whole tables for each
-/// key of the scale. Takes no memory.
-pub fn check(tables: &Tables) -> Report
-    ensures { IsReportOf (database tables.now) result }
+/// Checks the consistency conditions (TPC-C 3.3.2), of any tables. Costs a pass over DISTRICT and HISTORY
+/// for each warehouse, one over HISTORY for each district, and one over HISTORY and ORDER-LINE with a look-up
+/// for each row. Refuses only for memory.
+pub fn check(alloc: Global, tables: &Tables) -> Result<Report, Refusal>
+    ensures ok { IfOk result (IsReportOf (database tables.now)) }
+    ensures memory { IfErr result (λ refusal. refusal ≡ OutOfMemory) }
 {
-    Report {
+    let sums = customer_sums(alloc, tables)?;
+    Ok(Report {
         condition_1: least_warehouse::<Condition1>(tables),
         condition_8: least_warehouse::<Condition8>(tables),
         condition_9: least_district::<Condition9>(tables),
-        condition_10: least_customer::<Condition10>(tables),
-        condition_12: least_customer::<Condition12>(tables),
-    }
+        condition_10: least_customer::<Condition10>(tables, &sums),
+        condition_12: least_customer::<Condition12>(tables, &sums),
+    })
 }
 
 /// A condition that is asked of each warehouse.
@@ -54,7 +59,8 @@ trait DistrictCondition {
 trait CustomerCondition {
     ghost holds_at: { Database → KeyOfCustomer → Type 0 };
 
-    fn holds(tables: &Tables, key: &CustomerKey) -> bool
+    fn holds(tables: &Tables, sums: &CustomerSums, key: &CustomerKey) -> bool
+        requires { AreSumsOf (database tables.now) sums.now }
         ensures { IsTrue result ↔ holds_at (database tables.now) key.now };
 }
 
@@ -89,7 +95,8 @@ impl DistrictCondition for Condition9 {
     ghost holds_at = { Condition9At };
 
     fn holds(tables: &Tables, key: &DistrictKey) -> bool {
-        i128::from(district_year_to_date(tables, key).amount()) == district_history_total(tables, key)
+        i128::from(district_year_to_date(tables, key).amount())
+            == district_history_total(tables, key)
     }
 }
 
@@ -99,9 +106,8 @@ struct Condition10;
 impl CustomerCondition for Condition10 {
     ghost holds_at = { Condition10At };
 
-    fn holds(tables: &Tables, key: &CustomerKey) -> bool {
-        let balance = i128::from(balance(tables, key).amount());
-        balance == delivered_total(tables, key) - customer_history_total(tables, key)
+    fn holds(tables: &Tables, sums: &CustomerSums, key: &CustomerKey) -> bool {
+        i128::from(balance(tables, key).amount()) == owed(tables, sums, key)
     }
 }
 
@@ -111,8 +117,8 @@ struct Condition12;
 impl CustomerCondition for Condition12 {
     ghost holds_at = { Condition12At };
 
-    fn holds(tables: &Tables, key: &CustomerKey) -> bool {
-        both(balance(tables, key), paid(tables, key)) == delivered_total(tables, key)
+    fn holds(tables: &Tables, sums: &CustomerSums, key: &CustomerKey) -> bool {
+        both(balance(tables, key), paid(tables, key)) == amount_of(&sums.delivered, key)
     }
 }
 
@@ -154,6 +160,16 @@ fn paid(tables: &Tables, key: &CustomerKey) -> Cents
         Some(row) => row.paid,
         None => Cents::new(0),
     }
+}
+
+/// What was delivered to a customer minus what it paid.
+fn owed(tables: &Tables, sums: &CustomerSums, key: &CustomerKey) -> i128
+    requires { AreSumsOf (database tables.now) sums.now }
+    ensures { result ≡ delivered_amount (database tables.now) key.now -ℤ customer_history (database tables.now) key.now }
+{
+    let delivered = amount_of(&sums.delivered, key);
+    let paid = amount_of(&sums.history, key);
+    difference(delivered, paid)
 }
 
 /// Two amounts together.
@@ -204,12 +220,13 @@ fn least_district_of<C: DistrictCondition>(tables: &Tables, warehouse: u32) -> O
 }
 
 /// The least customer that breaks the condition.
-fn least_customer<C: CustomerCondition>(tables: &Tables) -> Option<CustomerKey>
+fn least_customer<C: CustomerCondition>(tables: &Tables, sums: &CustomerSums) -> Option<CustomerKey>
+    requires { AreSumsOf (database tables.now) sums.now }
     ensures { Finds customer_cmp (IsCustomerKey (database tables.now).scale) (C.holds_at (database tables.now)) result }
 {
     for warehouse in 1..=tables.scale.warehouses() {
         for district in 1..=tables.scale.districts() {
-            if let Some(key) = least_customer_of::<C>(tables, warehouse, district) {
+            if let Some(key) = least_customer_of::<C>(tables, sums, warehouse, district) {
                 return Some(key);
             }
         }
@@ -218,7 +235,13 @@ fn least_customer<C: CustomerCondition>(tables: &Tables) -> Option<CustomerKey>
 }
 
 /// The least customer of a district that breaks the condition.
-fn least_customer_of<C: CustomerCondition>(tables: &Tables, warehouse: u32, district: u32) -> Option<CustomerKey>
+fn least_customer_of<C: CustomerCondition>(
+    tables: &Tables,
+    sums: &CustomerSums,
+    warehouse: u32,
+    district: u32,
+) -> Option<CustomerKey>
+    requires { AreSumsOf (database tables.now) sums.now }
     ensures { FindsCustomerOf warehouse district tables.now.scale.customers (C.holds_at (database tables.now)) result }
 {
     for customer in 1..=tables.scale.customers() {
@@ -227,7 +250,7 @@ fn least_customer_of<C: CustomerCondition>(tables: &Tables, warehouse: u32, dist
             district,
             customer,
         };
-        if !C::holds(tables, &key) {
+        if !C::holds(tables, sums, &key) {
             return Some(key);
         }
     }

@@ -1,14 +1,17 @@
 //! Sums over all rows of a table, in one pass each.
 
-ghost use Rattle.std.specs.Prelude.{◌≡◌, ℕ, ◌^◌, ℤ, pos, neg_ℤ, ◌+ℤ◌, ◌-ℤ◌, ◌≤ℤ◌, ◌<ℤ◌, ◌==◌, cond, false};
-ghost use Rattle.std.specs.Option.{option_map_or};
-ghost use Rattle.std.specs.FinMap.{from_entries, get};
-ghost use Rattle.tables.specs.Keys.{district_cmp, order_cmp, is_district, is_customer, order_of};
+ghost use Rattle.std.specs.Prelude.{IfOk, OnOk, ◌≡◌, ℕ, ◌^◌, ℤ, pos, neg_ℤ, ◌+ℤ◌, ◌-ℤ◌, ◌≤ℤ◌, ◌<ℤ◌, ◌==◌, cond, false};
+ghost use Rattle.std.specs.FinMap.{from_entries};
+ghost use Rattle.tables.specs.Keys.{district_cmp, order_cmp, is_district, is_customer};
 ghost use Rattle.tables.specs.Maps.{total};
 ghost use Rattle.tables.specs.Database.{database};
 ghost use Rattle.tables.specs.Conditions.{is_line_of, delivered_amount, warehouse_history, district_history, customer_history};
+ghost use Rattle.tables.specs.declared.keys.CustomerKey.{CustomerKey as KeyOfCustomer};
+ghost use Rattle.plain.specs.Amounts.{amount_at, AreBounded, AreRoomy};
+ghost use Rattle.plain.specs.Sums.{AreSumsOf};
 
 use money::Cents;
+use std::alloc::{AllocError, Global};
 use std::collections::BTreeMap;
 use tables::{
     CustomerKey, District, DistrictKey, History, LineKey, Order, OrderKey, OrderLine, Tables,
@@ -92,71 +95,127 @@ fn payee_share(row: &History, key: &DistrictKey) -> Cents
     }
 }
 
-/// The sum of H_AMOUNT by H_C_W_ID, H_C_D_ID and H_C_ID.
-pub fn customer_history_total(tables: &Tables, key: &CustomerKey) -> i128
-    ensures sum { result ≡ customer_history (database tables.now) key.now }
-    ensures low { neg_ℤ (pos (2 ^ 126)) ≤ℤ result }
-    ensures high { result <ℤ pos (2 ^ 126) }
+/// The sums by customer that two conditions ask for.
+#[derive(Debug, Drop)]
+pub struct CustomerSums {
+    /// Of H_AMOUNT, by H_C_W_ID, H_C_D_ID and H_C_ID.
+    pub history: BTreeMap<CustomerKey, i128>,
+    /// Of OL_AMOUNT, over delivered lines.
+    pub delivered: BTreeMap<CustomerKey, i128>,
+}
+
+/// Sums by customer, in one pass over HISTORY and one over ORDER-LINE.
+pub fn customer_sums(alloc: Global, tables: &Tables) -> Result<CustomerSums, AllocError>
+    ensures { IfOk result (AreSumsOf (database tables.now)) }
 {
-    let mut sum = 0i128;
+    Ok(CustomerSums {
+        history: history_by_customer(alloc, tables)?,
+        delivered: delivered_by_customer(alloc, tables)?,
+    })
+}
+
+/// The sums of H_AMOUNT.
+fn history_by_customer(
+    alloc: Global,
+    tables: &Tables,
+) -> Result<BTreeMap<CustomerKey, i128>, AllocError>
+    ensures sums { IfOk result (λ sums. (k : KeyOfCustomer) → amount_at sums k ≡ customer_history (database tables.now) k) }
+    ensures bound { IfOk result AreBounded }
+{
+    let mut sums = BTreeMap::new(alloc);
     for row in &tables.history {
-        sum = plus(sum, payer_share(row, key));
+        let key = CustomerKey {
+            warehouse: row.customer_warehouse,
+            district: row.customer_district,
+            customer: row.customer,
+        };
+        add(&mut sums, key, row.amount)?;
     }
-    sum
+    Ok(sums)
 }
 
-/// What a HISTORY row adds to the sum of a customer that paid.
-fn payer_share(row: &History, key: &CustomerKey) -> Cents
-    ensures { result ≡ cond (is_customer row.now.customer_warehouse row.now.customer_district row.now.customer key.now) row.now.amount (pos 0) }
-{
-    if row.customer_warehouse == key.warehouse && row.customer_district == key.district && row.customer == key.customer {
-        row.amount
-    } else {
-        Cents::new(0)
-    }
-}
-
-/// The sum of OL_AMOUNT over a customer's delivered lines. Costs a pass over ORDER-LINE with a look-up in
-/// ORDER for each delivered line of the customer's district.
-pub fn delivered_total(tables: &Tables, key: &CustomerKey) -> i128
-    ensures sum { result ≡ delivered_amount (database tables.now) key.now }
-    ensures low { neg_ℤ (pos (2 ^ 126)) ≤ℤ result }
-    ensures high { result <ℤ pos (2 ^ 126) }
+/// The sums of OL_AMOUNT over delivered lines.
+fn delivered_by_customer(
+    alloc: Global,
+    tables: &Tables,
+) -> Result<BTreeMap<CustomerKey, i128>, AllocError>
+    ensures sums { IfOk result (λ sums. (k : KeyOfCustomer) → amount_at sums k ≡ delivered_amount (database tables.now) k) }
+    ensures bound { IfOk result AreBounded }
 {
     let _few = tables.lines.len();
-    let mut sum = 0i128;
+    let mut sums = BTreeMap::new(alloc);
     for (line_key, line) in &tables.lines {
-        sum = plus(sum, line_share(&tables.orders, line_key, line, key));
+        add_line(&mut sums, &tables.orders, line_key, line)?;
     }
-    sum
+    Ok(sums)
 }
 
-/// What a line adds to what was delivered to a customer.
-fn line_share(orders: &BTreeMap<OrderKey, Order>, line_key: &LineKey, line: &OrderLine, key: &CustomerKey) -> Cents
-    ensures { result ≡ cond (is_line_of (from_entries {R = order_cmp} orders.now.entries) key.now line_key.now line.now) line.now.amount (pos 0) }
+/// Adds a line to the sum of the customer that its order names, if it is delivered.
+fn add_line(
+    sums: &mut BTreeMap<CustomerKey, i128>,
+    orders: &BTreeMap<OrderKey, Order>,
+    line_key: &LineKey,
+    line: &OrderLine,
+) -> Result<(), AllocError>
+    requires room { AreRoomy sums.old }
+    ensures sums { OnOk result ((k : KeyOfCustomer) → amount_at sums.new k
+        ≡ amount_at sums.old k +ℤ cond (is_line_of (from_entries {R = order_cmp} orders.now.entries) k line_key.now line.now) line.now.amount (pos 0)) }
+    ensures above { OnOk result ((k : KeyOfCustomer) → (amount_at sums.old k -ℤ pos (2 ^ 63)) ≤ℤ amount_at sums.new k) }
+    ensures below { OnOk result ((k : KeyOfCustomer) → amount_at sums.new k ≤ℤ (amount_at sums.old k +ℤ pos (2 ^ 63))) }
 {
-    if line.delivery_date.is_some()
-        && line_key.warehouse == key.warehouse
-        && line_key.district == key.district
-        && is_order_of(orders, line_key, key.customer)
-    {
-        line.amount
-    } else {
-        Cents::new(0)
+    if line.delivery_date.is_none() {
+        return Ok(());
     }
-}
-
-/// Whether a line's order is there and is this customer's.
-fn is_order_of(orders: &BTreeMap<OrderKey, Order>, line_key: &LineKey, customer: u32) -> bool
-    ensures { result ≡ option_map_or (λ order. order.customer == customer) (get (from_entries {R = order_cmp} orders.now.entries) (order_of line_key.now)) false }
-{
     let order_key = OrderKey {
         warehouse: line_key.warehouse,
         district: line_key.district,
         order: line_key.order,
     };
-    match orders.get(&order_key) {
-        Some(order) => order.customer == customer,
-        None => false,
+    let Some(order) = orders.get(&order_key) else {
+        return Ok(());
+    };
+    let key = CustomerKey {
+        warehouse: line_key.warehouse,
+        district: line_key.district,
+        customer: order.customer,
+    };
+    add(sums, key, line.amount)?;
+    Ok(())
+}
+
+/// Adds an amount to the sum of a customer.
+fn add(
+    sums: &mut BTreeMap<CustomerKey, i128>,
+    key: CustomerKey,
+    amount: Cents,
+) -> Result<(), AllocError>
+    requires room { AreRoomy sums.old }
+    ensures sums { OnOk result ((k : KeyOfCustomer) → amount_at sums.new k ≡ amount_at sums.old k +ℤ cond (is_customer key.warehouse key.district key.customer k) amount (pos 0)) }
+    ensures above { OnOk result ((k : KeyOfCustomer) → (amount_at sums.old k -ℤ pos (2 ^ 63)) ≤ℤ amount_at sums.new k) }
+    ensures below { OnOk result ((k : KeyOfCustomer) → amount_at sums.new k ≤ℤ (amount_at sums.old k +ℤ pos (2 ^ 63))) }
+{
+    let sum = amount_of(sums, &key);
+    sums.insert(key, plus(sum, amount))?;
+    Ok(())
+}
+
+/// What is left of one amount without another.
+pub fn difference(one: i128, other: i128) -> i128
+    requires one_low { neg_ℤ (pos (2 ^ 126)) ≤ℤ one }
+    requires one_high { one <ℤ pos (2 ^ 126) }
+    requires other_low { neg_ℤ (pos (2 ^ 126)) ≤ℤ other }
+    requires other_high { other <ℤ pos (2 ^ 126) }
+    ensures { result ≡ one -ℤ other }
+{
+    one - other
+}
+
+/// The sum of a customer, or 0 where nothing was added to it.
+pub fn amount_of(sums: &BTreeMap<CustomerKey, i128>, key: &CustomerKey) -> i128
+    ensures { result ≡ amount_at sums.now key.now }
+{
+    match sums.get(key) {
+        Some(sum) => *sum,
+        None => 0,
     }
 }

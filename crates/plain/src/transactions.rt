@@ -100,13 +100,17 @@ fn raise_district(districts: &mut BTreeMap<DistrictKey, District>, key: District
 }
 
 /// Lowers C_BALANCE, raises C_YTD_PAYMENT and C_PAYMENT_CNT, and answers C_BALANCE.
-fn charge_customer(customers: &mut BTreeMap<CustomerKey, Customer>, key: CustomerKey, amount: Cents) -> Cents
+fn charge_customer(
+    customers: &mut BTreeMap<CustomerKey, Customer>,
+    key: CustomerKey,
+    amount: Cents,
+) -> Cents
     requires row { IsSomeAnd (get (from_entries {R = customer_cmp} customers.old.entries) key) IsCustomerRow }
     requires low { pos 0 ≤ℤ amount }
     requires high { amount ≤ℤ pos 500000 }
     ensures rows { from_entries {R = customer_cmp} customers.new.entries
         ≡ update_where (is_customer key.warehouse key.district key.customer)
-            (λ r. record r { balance = r.balance -ℤ amount; paid = r.paid +ℤ amount; payments = r.payments + 1 }) (from_entries customers.old.entries) }
+        (λ r. record r { balance = r.balance -ℤ amount; paid = r.paid +ℤ amount; payments = r.payments + 1 }) (from_entries customers.old.entries) }
     ensures balance { result ≡ column (λ r. r.balance) (from_entries {R = customer_cmp} customers.new.entries) key }
 {
     match customers.get_mut(&key) {

@@ -51,7 +51,7 @@ pub fn script<R: Read, W: Write>(
         desk.answer_lines(&piece[..count])?;
     }
     desk.answer_last()?;
-    desk.close(writer)
+    desk.close(alloc, writer)
 }
 
 /// A session with the line that is coming in and the answers that aren't written yet.
@@ -114,14 +114,14 @@ impl Desk {
     }
 
     /// Writes the report behind the last answers.
-    fn close<W: Write>(self, writer: &mut W) -> Result<(Report, Vec<Done>), Refusal> {
+    fn close<W: Write>(self, alloc: Global, writer: &mut W) -> Result<(Report, Vec<Done>), Refusal> {
         let Desk {
             session,
             line: _,
             answered: _,
             mut output,
         } = self;
-        let (report, dones) = session.close();
+        let (report, dones) = session.close(alloc)?;
         print_report(dones.len() as u64, &verdicts(&report), &mut output)?;
         write_text(writer, output.as_bytes())?;
         Ok((report, dones))

@@ -25,7 +25,7 @@ pub struct Session {
 }
 
 impl Session {
-    ghost use Rattle.std.specs.Prelude.{◌≡◌, ◌+◌, ◌↔◌, [], ◌∷◌, ◌++◌, IfOk, OnErr, IsErrOf};
+    ghost use Rattle.std.specs.Prelude.{◌≡◌, ◌+◌, ◌↔◌, [], ◌∷◌, ◌++◌, IfOk, IfErr, OnErr, IsErrOf};
     ghost use Rattle.tables.specs.Inputs.{IsInput};
     ghost use Rattle.tables.specs.Apply.{after, reply_to};
     ghost use Rattle.population.specs.Initial.{initial};
@@ -78,12 +78,13 @@ impl Session {
         Ok(*done)
     }
 
-    /// The report of the committed tables, and what was committed.
-    pub fn close(self) -> (Report, Vec<Done>)
-        ensures report { IsReportOf (committed self) result.0 }
-        ensures dones { result.1.items ≡ dones_of self }
+    /// The report of the committed tables, and what was committed. Refuses only for memory.
+    pub fn close(self, alloc: Global) -> Result<(Report, Vec<Done>), Refusal>
+        ensures report { IfOk result (λ closed. IsReportOf (committed self) closed.0) }
+        ensures dones { IfOk result (λ closed. closed.1.items ≡ dones_of self) }
+        ensures memory { IfErr result (λ refusal. refusal ≡ OutOfMemory) }
     {
-        let report = check(&self.tables);
-        (report, self.dones)
+        let report = check(alloc, &self.tables)?;
+        Ok((report, self.dones))
     }
 }

@@ -1,5 +1,5 @@
 -- The keys' orders are total, and keys that tie are equal.
-use Rattle.std.proofs.Common.{◌≡◌, ℕ, ap}
+use Rattle.std.proofs.Common.{ℕ, ap}
 use Rattle.std.specs.Ordering.{nat_cmp, ordering_then}
 use Rattle.std.specs.Cmp.{IsTotalOrder}
 use Rattle.std.specs.FinMap.{IsAntisymmetric}

@@ -1,10 +1,10 @@
 -- From the contracts of `BTreeMap` to finite maps.
-use Rattle.std.proofs.Common.{◌≡◌, ℕ, Bool, true, cond, T, List, [], ◌∷◌, ◌++◌, map, Option, Some, None, IsSome, is_some, refl, sym, ap, ◌∙◌, subst}
+use Rattle.std.proofs.Common.{◌≡◌, cond, List, [], ◌∷◌, Some, refl, sym, ap, ◌∙◌}
 use Rattle.std.specs.Map.{lookup}
 use Rattle.std.specs.BTreeMap as tree
 use Rattle.std.specs.BTreeMap.{BTreeMap, is_at}
 use Rattle.std.specs.Cmp.{eq_by_cmp_equiv}
-use Rattle.std.specs.FinMap.{FinMap, find, get, get-from_entries, get-insert, insert, from_entries, same_map}
+use Rattle.std.specs.FinMap.{find, get, get-from_entries, get-insert, insert, from_entries, same_map}
 use Rattle.std.specs.declared.cmp.Ordering.{Ordering}
 use Rattle.tables.proofs.Orders.{IsExact}
 

@@ -30,7 +30,7 @@ after_payment t x = record t {
   warehouses = update_where (λ w. x.warehouse == w) (λ r. record r { year_to_date = r.year_to_date +ℤ x.amount }) t.warehouses;
   districts = update_where (is_district x.warehouse x.district) (λ r. record r { year_to_date = r.year_to_date +ℤ x.amount }) t.districts;
   customers = update_where (is_customer x.customer_warehouse x.customer_district (number_of x.who))
-    (λ r. record r { balance = r.balance -ℤ x.amount; paid = r.paid +ℤ x.amount; payments = r.payments + 1 }) t.customers;
+      (λ r. record r { balance = r.balance -ℤ x.amount; paid = r.paid +ℤ x.amount; payments = r.payments + 1 }) t.customers;
   history = t.history ++ history_row x ∷ [];
 }
 

@@ -1,5 +1,5 @@
 -- The nine tables as finite maps and a list (TPC-C 1.3).
-use Rattle.std.specs.Prelude.{ℕ, List, []}
+use Rattle.std.specs.Prelude.{List, []}
 use Rattle.std.specs.Ordering.{nat_cmp}
 use Rattle.std.specs.FinMap.{FinMap, from_entries, empty}
 use Rattle.tables.specs.Sizes.{Sizes}

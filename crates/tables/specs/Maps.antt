@@ -1,5 +1,5 @@
 -- Finite maps as tables: sums over rows, and UPDATE .. WHERE.
-use Rattle.std.specs.Prelude.{◌≡◌, ◌↔◌, ℕ, ℤ, pos, ◌+ℤ◌, Bool, Option, Some, List, [], ◌∷◌, map, fold, cond, IsSome}
+use Rattle.std.specs.Prelude.{◌≡◌, ◌↔◌, ℤ, pos, ◌+ℤ◌, Bool, Some, List, [], ◌∷◌, map, fold, cond, IsSome}
 use Rattle.std.specs.Option.{option_map_or}
 use Rattle.std.specs.FinMap.{FinMap, entries, from_sorted, get}
 use Rattle.std.specs.declared.cmp.Ordering.{Ordering}

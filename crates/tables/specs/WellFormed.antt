@@ -82,13 +82,11 @@ pub record IsWellFormed (t : Database) : Type 0 where
   pub districts : RowsAt (IsDistrictKey t.scale) t.districts
   pub customers : RowsAt (IsCustomerKey t.scale) t.customers
   pub stock : RowsAt (IsStockKey t.scale) t.stock
-
   -- the other keys within the scale
   pub new_orders : RowsWithin (IsOrderKey t.scale) t.new_orders
   pub orders : RowsWithin (IsOrderKey t.scale) t.orders
   pub lines : RowsWithin (IsLineKey t.scale) t.lines
   pub items : RowsWithin (IsItemKey t.scale) t.items
-
   -- columns within their ranges
   pub warehouse_rows : EachRow (λ k r. IsMoney r.year_to_date) t.warehouses
   pub district_rows : EachRow (λ k r. IsDistrictRow t.scale r) t.districts
@@ -97,7 +95,6 @@ pub record IsWellFormed (t : Database) : Type 0 where
   pub order_rows : EachRow (λ k r. IsOrderRow r) t.orders
   pub line_rows : EachRow (λ k r. IsLineRow t.scale r) t.lines
   pub stock_rows : EachRow (λ k r. IsStockRow r) t.stock
-
   -- every order names a customer, every NEW-ORDER row and every line has its order, and a line's number is at most its order's O_OL_CNT
   pub order_customers : EachRow (λ k r. IsSome (get t.customers (orderer k r))) t.orders
   pub new_order_orders : (k : OrderKey) → IsSome (get t.new_orders k) → IsSome (get t.orders k)

@@ -39,10 +39,8 @@ impl Input {
     /// and the customer within the scale, the date from 1 to 4,000,000,000, the amount from 1.00 to
     /// 5,000.00.
     pub fn payment(scale: &Scale, payment: Payment) -> Result<Input, Refusal>
-        ensures ranges {
-            MatchResult result (λ input. (input ≡ Input.Payment payment) × IsPayment scale.now payment)
-                (λ refusal. (refusal ≡ BadInput) × ¬ IsPayment scale.now payment)
-        }
+        ensures ranges { MatchResult result (λ input. (input ≡ Input.Payment payment) × IsPayment scale.now payment)
+            (λ refusal. (refusal ≡ BadInput) × ¬ IsPayment scale.now payment) }
     {
         let Who::Id(customer) = payment.who;
         let is_in_range = is_between(1, 4_000_000_000, payment.date)

@@ -8,13 +8,16 @@ mod keys;
 mod reply;
 mod rows;
 mod scale;
+#[cfg(test)]
+mod tests;
 
 pub use input::{Input, Payment, Who};
 pub use keys::{CustomerKey, DistrictKey, LineKey, OrderKey, StockKey};
 pub use reply::{PaymentReply, Reply};
-pub use rows::{Credit, Customer, District, History, Item, NewOrder, Order, OrderLine, Stock, Warehouse};
+pub use rows::{
+    Credit, Customer, District, History, Item, NewOrder, Order, OrderLine, Stock, Warehouse,
+};
 pub use scale::{Scale, is_between};
-
 use std::alloc::Global;
 use std::collections::BTreeMap;
 

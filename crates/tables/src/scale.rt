@@ -43,11 +43,16 @@ impl Scale {
     ghost use Rattle.money.specs.declared.refusal.Refusal.TheVariants.{BadScale};
 
     /// The scale of these numbers, or `BadScale` exactly where one is outside its limits.
-    pub fn new(warehouses: u32, districts: u32, customers: u32, items: u32, orders: u32, commits: u32) -> Result<Scale, Refusal>
-        ensures limits {
-            let asked = sizes warehouses districts customers items orders commits in
-            MatchResult result (λ scale. (scale ≡ asked) × IsLawful asked) (λ refusal. (refusal ≡ BadScale) × ¬ IsLawful asked)
-        }
+    pub fn new(
+        warehouses: u32,
+        districts: u32,
+        customers: u32,
+        items: u32,
+        orders: u32,
+        commits: u32,
+    ) -> Result<Scale, Refusal>
+        ensures limits { let asked = sizes warehouses districts customers items orders commits in
+            MatchResult result (λ scale. (scale ≡ asked) × IsLawful asked) (λ refusal. (refusal ≡ BadScale) × ¬ IsLawful asked) }
     {
         let is_lawful = is_between(1, 8, warehouses)
             && is_between(1, 10, districts)

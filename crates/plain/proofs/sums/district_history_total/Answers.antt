@@ -1,4 +1,4 @@
-use Rattle.std.proofs.Common.{◌≡◌, ◌==◌, ◌+ℤ◌, ℤ, pos, cond, arith}
+use Rattle.std.proofs.Common.{pos, cond, arith}
 use Rattle.std.proofs.lemmas.Int.{ints}
 use Rattle.tables.specs.Keys.{is_district}
 use Rattle.tables.specs.declared.rows.History.{History}
@@ -8,7 +8,7 @@ use Rattle.plain.proofs.sums.district_history_total.Goals as goal
 pub loop-row-preserved : goal.loop-row-preserved
 loop-row-preserved c = record {
   sum = sum_of_more (λ (h : History). cond (is_district h.warehouse h.district c.args.key.now) h.amount (pos 0)) c.deref-row-items.result.now c.loop-row.row-index c.row-item.result _ c.payee_share.result _
-    c.loop-row-test.true c.row-item.is c.loop-row.invariant.sum c.payee_share.ensures (omega (arith, ints));
+      c.loop-row-test.true c.row-item.is c.loop-row.invariant.sum c.payee_share.ensures (omega (arith, ints));
   low = omega (arith, ints);
   high = omega (arith, ints);
 }

@@ -1,4 +1,4 @@
-use Rattle.std.proofs.Common.{◌≡◌, ◌*◌, ◌^◌, ◌+ℤ◌, ◌≤ℤ◌, ℤ, pos, neg_ℤ, cond, take}
+use Rattle.std.proofs.Common.{◌≡◌, ◌*◌, ◌^◌, ◌≤ℤ◌, pos, neg_ℤ, cond, take}
 use Rattle.tables.specs.Keys.{is_district}
 use Rattle.tables.specs.Maps.{sum_of}
 use Rattle.plain.proofs.sums.district_history_total.Given as goal

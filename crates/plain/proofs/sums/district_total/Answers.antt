@@ -1,6 +1,5 @@
-use Rattle.std.proofs.Common.{◌≡◌, ◌==◌, ◌+ℤ◌, ◌∙◌, ℤ, pos, cond, arith, sym, ap, length, [], List}
+use Rattle.std.proofs.Common.{◌==◌, ◌∙◌, pos, cond, arith, sym, ap, length}
 use Rattle.std.proofs.lemmas.Int.{ints}
-use Rattle.tables.specs.Maps.{sum_entries}
 use Rattle.tables.specs.declared.keys.DistrictKey.{DistrictKey}
 use Rattle.tables.specs.declared.rows.District.{District}
 use Rattle.tables.proofs.Orders.{exact_district}
@@ -13,7 +12,7 @@ loop-key-preserved c =
     let fewer = ap length c.in-Some.ensures.steps in
     record {
       sum = sum_entries_more (λ (k : DistrictKey) (r : District). cond (k.warehouse == c.args.warehouse) r.year_to_date (pos 0)) c.args.districts.now.entries c.loop-key.key-iterator c.next.new.self
-        c.in-Some.key.now c.in-Some.row.now _ c.district_share.result _ c.in-Some.ensures.steps c.loop-key.invariant.sum c.district_share.ensures (omega (arith, ints));
+          c.in-Some.key.now c.in-Some.row.now _ c.district_share.result _ c.in-Some.ensures.steps c.loop-key.invariant.sum c.district_share.ensures (omega (arith, ints));
       low = omega (arith, ints, fewer);
       high = omega (arith, ints, fewer);
     }

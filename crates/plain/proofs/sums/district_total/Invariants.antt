@@ -1,4 +1,4 @@
-use Rattle.std.proofs.Common.{◌≡◌, ◌+◌, ◌*◌, ◌^◌, ◌≤◌, ◌==◌, ◌+ℤ◌, ◌-ℤ◌, ◌≤ℤ◌, ℤ, pos, neg_ℤ, cond, length}
+use Rattle.std.proofs.Common.{◌≡◌, ◌*◌, ◌^◌, ◌==◌, ◌+ℤ◌, ◌-ℤ◌, ◌≤ℤ◌, pos, neg_ℤ, cond, length}
 use Rattle.std.specs.BTreeMap.{btree_map_len}
 use Rattle.tables.specs.Maps.{sum_entries}
 use Rattle.plain.proofs.sums.district_total.Given as goal

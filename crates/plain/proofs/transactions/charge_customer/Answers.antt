@@ -1,4 +1,4 @@
-use Rattle.std.proofs.Common.{rules, ◌+◌, ◌+ℤ◌, ◌-ℤ◌, ap, ◌∙◌, ◌≡◌, sym, arith}
+use Rattle.std.proofs.Common.{rules, ◌+◌, ◌+ℤ◌, ◌-ℤ◌, sym}
 use Rattle.tables.specs.Keys.{is_customer}
 use Rattle.tables.specs.WellFormed.{IsCustomerRow}
 use Rattle.tables.specs.declared.rows.Customer.{Customer}
