@@ -5,6 +5,8 @@ mod answering;
 mod done;
 mod running;
 mod session;
+#[cfg(test)]
+mod tests;
 
 pub use done::Done;
 pub use running::script;
