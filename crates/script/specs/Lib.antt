@@ -1,1 +1,3 @@
 pub mod Session
+pub mod Refusals
+pub mod Done

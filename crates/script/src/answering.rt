@@ -12,7 +12,11 @@ use tables::{CustomerKey, DistrictKey, Input, Payment, Tables, Who};
 /// Answers the line of a script that has this number, which is its date too. `None` is a line that is too
 /// long. What the line asks is done or refused, and the answer tells which; only want of memory is a
 /// refusal of this call, and then nothing is done.
-pub fn answer_line(session: &mut Session, line: Option<&[u8]>, number: u32) -> Result<Answer, Refusal>
+pub fn answer_line(
+    session: &mut Session,
+    line: Option<&[u8]>,
+    number: u32,
+) -> Result<Answer, Refusal>
     ensures memory { IfErr result (λ refusal. refusal ≡ OutOfMemory) }
     ensures err { OnErr result ((committed session.new ≡ committed session.old) × (dones_of session.new ≡ dones_of session.old)) }
 {
@@ -78,7 +82,13 @@ fn show(tables: &Tables, request: &Request, number: u32) -> Answer {
         Request::ShowDistrict {
             warehouse,
             district,
-        } => show_district(tables, DistrictKey { warehouse, district }),
+        } => show_district(
+            tables,
+            DistrictKey {
+                warehouse,
+                district,
+            },
+        ),
         Request::ShowCustomer {
             warehouse,
             district,

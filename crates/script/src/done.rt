@@ -11,8 +11,13 @@ pub struct Done {
 }
 
 impl Done {
+    ghost use Rattle.std.specs.Prelude.{◌≡◌};
+    ghost use Rattle.script.specs.Done.{answer_of};
+
     /// What its terminal is told.
-    pub fn answer(&self) -> Answer {
+    pub fn answer(&self) -> Answer
+        ensures { result ≡ answer_of self.now.reply }
+    {
         match self.reply {
             Reply::Payment(reply) => Answer::Payment(reply),
         }

@@ -10,4 +10,3 @@ mod tests;
 
 pub use done::Done;
 pub use running::script;
-pub use session::Session;

@@ -1,7 +1,7 @@
 //! Running a script from its bytes to its replies.
 
-ghost use Rattle.std.specs.Prelude.{◌≡◌, ◌⊎◌, ◌≤◌, IfErr, IfOk, OnErr, length};
-ghost use Rattle.money.specs.declared.refusal.Refusal.TheVariants.{OutOfMemory, BadInput, Device};
+ghost use Rattle.std.specs.Prelude.{IfErr};
+ghost use Rattle.script.specs.Refusals.{IsScriptRefusal};
 
 use crate::answering::answer_line;
 use crate::done::Done;
@@ -35,6 +35,7 @@ pub fn script<R: Read, W: Write>(
     reader: &mut R,
     writer: &mut W,
 ) -> Result<(Report, Vec<Done>), Refusal>
+    ensures { IfErr result IsScriptRefusal }
 {
     let mut desk = Desk::new(alloc, population)?;
     let mut piece = vec![in alloc; 0u8; PIECE]?;
@@ -65,7 +66,9 @@ struct Desk {
 }
 
 impl Desk {
-    fn new(alloc: Global, population: Population) -> Result<Desk, Refusal> {
+    fn new(alloc: Global, population: Population) -> Result<Desk, Refusal>
+        ensures { IfErr result IsScriptRefusal }
+    {
         Ok(Desk {
             session: Session::new(alloc, population),
             line: LineBuffer::new(alloc)?,
@@ -75,7 +78,9 @@ impl Desk {
     }
 
     /// Answers the lines that a piece of the input ends.
-    fn answer_lines(&mut self, piece: &[u8]) -> Result<(), Refusal> {
+    fn answer_lines(&mut self, piece: &[u8]) -> Result<(), Refusal>
+        ensures { IfErr result IsScriptRefusal }
+    {
         let mut rest = piece;
         while let Some(after) = self.line.take_line(rest) {
             rest = after;
@@ -85,7 +90,9 @@ impl Desk {
     }
 
     /// Answers a last line that no line feed ends.
-    fn answer_last(&mut self) -> Result<(), Refusal> {
+    fn answer_last(&mut self) -> Result<(), Refusal>
+        ensures { IfErr result IsScriptRefusal }
+    {
         if self.line.is_empty() {
             return Ok(());
         }
@@ -93,7 +100,9 @@ impl Desk {
     }
 
     /// Answers the line that is held.
-    fn answer_held(&mut self) -> Result<(), Refusal> {
+    fn answer_held(&mut self) -> Result<(), Refusal>
+        ensures { IfErr result IsScriptRefusal }
+    {
         if self.answered >= MAX_LINES {
             return Err(Refusal::BadInput);
         }
@@ -104,7 +113,9 @@ impl Desk {
     }
 
     /// Writes the answers that aren't written yet.
-    fn write<W: Write>(&mut self, writer: &mut W) -> Result<(), Refusal> {
+    fn write<W: Write>(&mut self, writer: &mut W) -> Result<(), Refusal>
+        ensures { IfErr result IsScriptRefusal }
+    {
         if self.output.is_empty() {
             return Ok(());
         }
@@ -114,7 +125,9 @@ impl Desk {
     }
 
     /// Writes the report behind the last answers.
-    fn close<W: Write>(self, alloc: Global, writer: &mut W) -> Result<(Report, Vec<Done>), Refusal> {
+    fn close<W: Write>(self, alloc: Global, writer: &mut W) -> Result<(Report, Vec<Done>), Refusal>
+        ensures { IfErr result IsScriptRefusal }
+    {
         let Desk {
             session,
             line: _,
@@ -128,7 +141,9 @@ impl Desk {
     }
 }
 
-fn write_text<W: Write>(writer: &mut W, text: &[u8]) -> Result<(), Refusal> {
+fn write_text<W: Write>(writer: &mut W, text: &[u8]) -> Result<(), Refusal>
+    ensures { IfErr result IsScriptRefusal }
+{
     writer.write_all(text).map_err(|_| Refusal::Device)?;
     writer.flush().map_err(|_| Refusal::Device)
 }

@@ -15,7 +15,11 @@ fn small(alloc: Global, commits: u32) -> Result<Population, Refusal> {
     Population::plain(alloc, Scale::new(1, 2, 10, 20, 30, commits)?)
 }
 
-fn answers<R: Read>(alloc: Global, commits: u32, reader: &mut R) -> Result<(Vec<u8>, Report, Vec<Done>), Refusal> {
+fn answers<R: Read>(
+    alloc: Global,
+    commits: u32,
+    reader: &mut R,
+) -> Result<(Vec<u8>, Report, Vec<Done>), Refusal> {
     let mut written = Vec::new(alloc);
     let (report, dones) = script(alloc, small(alloc, commits)?, reader, &mut written)?;
     Ok((written, report, dones))
@@ -107,7 +111,11 @@ fn worked_rows(rt: HostRuntime) -> Result<(), Fail> {
         assert_eq!(rt; written.as_slice(), expected.as_bytes(), "on {input:?}");
         assert!(rt; report.is_good(), "on {input:?}");
         let (bytewise, _, _) = answers(rt.alloc(), commits, &mut Bytewise(input.as_bytes()))?;
-        assert_eq!(rt; bytewise.as_slice(), expected.as_bytes(), "byte by byte on {input:?}");
+        assert_eq!(rt;
+            bytewise.as_slice(),
+            expected.as_bytes(),
+            "byte by byte on {input:?}"
+        );
     }
     Ok(())
 }
@@ -153,9 +161,15 @@ fn long_lines(rt: HostRuntime) -> Result<(), Fail> {
             input.push(b'9')?;
         }
         input.extend_from_slice(b".00\nshow warehouse 1\n")?;
-        let expected = format!(in rt.alloc(); "{refusal} line 1\nwarehouse 1 ytd 200.00\ncommits 0\n{GOOD}")?;
+        let expected = format!(in rt.alloc();
+            "{refusal} line 1\nwarehouse 1 ytd 200.00\ncommits 0\n{GOOD}"
+        )?;
         let (written, _, _) = answers(rt.alloc(), 1_000, &mut input.as_slice())?;
-        assert_eq!(rt; written.as_slice(), expected.as_bytes(), "at {length} bytes");
+        assert_eq!(rt;
+            written.as_slice(),
+            expected.as_bytes(),
+            "at {length} bytes"
+        );
     }
     Ok(())
 }
@@ -187,7 +201,12 @@ fn dones_are_of_the_lines_that_commit(rt: HostRuntime) -> Result<(), Fail> {
 fn a_device_that_fails(rt: HostRuntime) -> Result<(), Fail> {
     let mut written = Vec::new(rt.alloc());
     let mut broken = Broken(b"show warehouse 1\nshow dis");
-    let outcome = script(rt.alloc(), small(rt.alloc(), 1_000)?, &mut broken, &mut written);
+    let outcome = script(
+        rt.alloc(),
+        small(rt.alloc(), 1_000)?,
+        &mut broken,
+        &mut written,
+    );
     assert!(rt; matches!(outcome, Err(Refusal::Device)));
     assert_eq!(rt; written.as_slice(), b"warehouse 1 ytd 200.00\n".as_slice());
     let mut full = Full {
@@ -197,6 +216,9 @@ fn a_device_that_fails(rt: HostRuntime) -> Result<(), Fail> {
     let mut input = b"show warehouse 1\nshow warehouse 1\n".as_slice();
     let outcome = script(rt.alloc(), small(rt.alloc(), 1_000)?, &mut input, &mut full);
     assert!(rt; matches!(outcome, Err(Refusal::Device)));
-    assert_eq!(rt; full.written.as_slice(), b"warehouse 1 ytd 200.00\nwarehou".as_slice());
+    assert_eq!(rt;
+        full.written.as_slice(),
+        b"warehouse 1 ytd 200.00\nwarehou".as_slice()
+    );
     Ok(())
 }
