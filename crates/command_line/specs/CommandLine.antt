@@ -1,0 +1,117 @@
+-- What the words of a command line ask for, as clap reads them for the program's command.
+use Rattle.std.specs.Prelude.{◌≡◌, ◌<◌, ◌^◌, ℕ, pos, true, List, [], ◌∷◌, Option, false, Some, None, codes}
+use Rattle.std.specs.Prelude.{drop, fold}
+use Rattle.std.specs.Option.{option_or}
+use Rattle.std.specs.Str.Parse.{IsNumeral, digits_value, without_leading_plus}
+use Rattle.clap.specs.Walk.{Held, Row, Rule, Text, nothing_held, one_of, settled, stop_after, walk}
+use Rattle.clap.specs.Simple.{App, Shape, app_of, built, built_leaf, inherited, names_of, new_app, new_rule}
+use Rattle.clap.specs.Simple.{with_rule, with_subcommand}
+use Rattle.clap.specs.Kinds.{HasKind}
+use Rattle.clap.specs.Faults.{fault_of}
+use Rattle.clap.specs.declared.builder.command.Command.{Command}
+use Rattle.clap.specs.declared.builder.command.Command.TheViews.{out-Command}
+use Rattle.clap.specs.declared.builder.value_parser.ValueParser.{ValueParser}
+use Rattle.clap.specs.declared.builder.value_parser.ValueParser.TheVariants.{Signed, Unsigned}
+use Rattle.clap.specs.declared.error.Error.{Error}
+use Rattle.clap.specs.declared.error.kind.ErrorKind.TheVariants.{InvalidValue}
+use Rattle.command_line.specs.declared.asked.Options.{Options}
+
+-- `--NAME VALUE`, with the default that stands for it and the parser that its value passes
+abbrev pub option : Text → Text → ValueParser → Rule
+option name default parser = record (new_rule name) {
+  long = Some name;
+  value_names = 1;
+  defaults = default ∷ [];
+  parser = Some parser;
+}
+
+-- clap reads the command as this one, and none of its arguments is global
+abbrev pub HasApp : App → Command → Type 0
+HasApp app command = (app_of command ≡ app) × ((out-Command command).has_globals ≡ false)
+
+-- an option whose value is a `u32`
+abbrev pub number_option : Text → Text → Rule
+number_option name default = option name default (Signed (pos 0) (pos 4294967295))
+
+-- the options of `script`
+abbrev pub script_options : List Rule
+script_options = number_option (codes "warehouses") (codes "1")
+    ∷ number_option (codes "districts") (codes "10")
+    ∷ number_option (codes "customers") (codes "100")
+    ∷ number_option (codes "items") (codes "1000")
+    ∷ number_option (codes "orders") (codes "3000")
+    ∷ number_option (codes "commits") (codes "100000")
+    ∷ option (codes "population") (codes "0") (Unsigned 0 0)
+    ∷ []
+
+-- the subcommand `script`
+abbrev pub script_app : App
+script_app = fold with_rule (new_app (codes "script")) script_options
+
+-- `tpcc` before its subcommand is added
+abbrev pub bare_app : App
+bare_app = record (new_app (codes "tpcc")) {
+  top = record (new_app (codes "tpcc")).top {
+    subcommand_required = true;
+    arg_required_else_help = true;
+  };
+}
+
+-- the program's command, as clap reads it
+abbrev pub program_app : App
+program_app = with_subcommand bare_app script_app.top
+
+-- the subcommand that the words of the program name, and the words after it
+abbrev pub subcommand_words : List Text → Option (Text × List Text)
+subcommand_words words =
+    stop_after (built program_app).top.rules (names_of (built program_app)) (drop 1 words)
+
+-- `script` as clap builds it
+abbrev pub built_script : Shape
+built_script = built_leaf (inherited program_app.top script_app.top)
+
+-- its arguments, the last of which is `--help`
+abbrev pub script_rules : List Rule
+script_rules = built_script.rules
+
+-- what the words after `script` give for its arguments, before any default
+abbrev pub given : List Text → Held
+given words = settled script_rules (walk script_rules [] nothing_held words).held
+
+-- the text that stands for an option of this name and default: the one that the words after
+-- `script` give, or the default
+abbrev pub text_for : List Text → Text → Text → Option Text
+text_for words name default = option_or (one_of name (given words).rows) (Some default)
+
+-- the text that stands for it in the matches of `script`, which hold the defaults
+abbrev pub text_in : List Row → Text → Text → Option Text
+text_in rows name default = one_of name rows
+
+-- a text is there, and writes the number, which has so many bits
+abbrev pub Writes : ℕ → Option Text → ℕ → Type 0
+Writes bits None n = ⊥
+Writes bits (Some text) n = IsNumeral 10 (without_leading_plus text)
+    × (n ≡ digits_value 10 (without_leading_plus text)) × (n < 2 ^ bits)
+
+-- each option is the number that its text writes
+pub record AreWritten (text : Text → Text → Option Text) (o : Options) : Type 0 where
+  pub warehouses : Writes 32 (text (codes "warehouses") (codes "1")) o.warehouses
+  pub districts : Writes 32 (text (codes "districts") (codes "10")) o.districts
+  pub customers : Writes 32 (text (codes "customers") (codes "100")) o.customers
+  pub items : Writes 32 (text (codes "items") (codes "1000")) o.items
+  pub orders : Writes 32 (text (codes "orders") (codes "3000")) o.orders
+  pub commits : Writes 32 (text (codes "commits") (codes "100000")) o.commits
+  pub population : Writes 64 (text (codes "population") (codes "0")) o.population
+  pub is_plain : o.population ≡ 0
+
+-- clap finds no fault with the words, they name `script`, and those after it write these options
+pub record IsAskedBy (words : List Text) (o : Options) : Type 0 where
+  pub faultless : fault_of program_app words ≡ []
+  pub after : List Text
+  pub script : subcommand_words words ≡ Some (codes "script", after)
+  pub options : AreWritten (text_for after) o
+
+-- memory ran out, or the error's kind is one of clap's faults with the words, or that of a value
+-- that can't be read
+abbrev pub IsRefusalOf : List Text → Error → Type 0
+IsRefusalOf words error = HasKind (InvalidValue ∷ fault_of program_app words) error
