@@ -1,3 +1,4 @@
 pub mod Session
-pub mod Refusals
-pub mod Done
+pub mod Turns
+pub mod Written
+pub mod Answered

@@ -1,8 +1,15 @@
 //! How a session answers a line.
 
-ghost use Rattle.std.specs.Prelude.{◌≡◌, ◌≤◌, ◌<◌, ◌↔◌, IfErr, IfOk, OnErr};
+ghost use Rattle.std.specs.Prelude.{◌≡◌, ℕ, List, Some, IfErr, IfOk, OnErr};
+ghost use Rattle.std.specs.Option.{option_copied, option_map};
+ghost use Rattle.std.specs.FinMap.{get};
 ghost use Rattle.money.specs.declared.refusal.Refusal.TheVariants.{OutOfMemory};
-ghost use Rattle.script.specs.Session.{committed, dones_of};
+ghost use Rattle.lines.specs.Lines.{held};
+ghost use Rattle.lines.specs.Requests.{HasNumbers};
+ghost use Rattle.lines.specs.declared.answer.Answer.TheVariants as answer;
+ghost use Rattle.tables.specs.Database.{database};
+ghost use Rattle.script.specs.Session.{state_of};
+ghost use Rattle.script.specs.Turns.{State, IsPaymentTurn, IsRequestTurn, IsLineTurn, shown};
 
 use crate::session::Session;
 use lines::{Answer, Request, read_request};
@@ -18,24 +25,28 @@ pub fn answer_line(
     number: u32,
 ) -> Result<Answer, Refusal>
     ensures memory { IfErr result (λ refusal. refusal ≡ OutOfMemory) }
-    ensures err { OnErr result ((committed session.new ≡ committed session.old) × (dones_of session.new ≡ dones_of session.old)) }
+    ensures turn { IfOk result (λ answer. (bytes : List ℕ) → option_copied line.entry ≡ held bytes
+        → IsLineTurn (state_of session.old) number bytes (record { answer = answer; state = state_of session.new })) }
+    ensures err { OnErr result (state_of session.new ≡ state_of session.old) }
 {
-    let request = match line {
-        Some(text) => read_request(text),
-        None => Err(Refusal::BadLine),
+    let Some(text) = line else {
+        return Ok(refused(Refusal::BadLine, number));
     };
-    match request {
-        Ok(request) => answer_request(session, &request, number),
+    match read_request(text) {
+        Ok(request) => answer_request(session, request, number),
         Err(refusal) => Ok(refused(refusal, number)),
     }
 }
 
 /// Answers a request.
-fn answer_request(session: &mut Session, request: &Request, number: u32) -> Result<Answer, Refusal>
+fn answer_request(session: &mut Session, request: Request, number: u32) -> Result<Answer, Refusal>
     ensures memory { IfErr result (λ refusal. refusal ≡ OutOfMemory) }
-    ensures err { OnErr result ((committed session.new ≡ committed session.old) × (dones_of session.new ≡ dones_of session.old)) }
+    ensures turn { IfOk result (λ answer.
+        IsRequestTurn (state_of session.old) number request (record { answer = answer; state = state_of session.new })) }
+    ensures numbers { HasNumbers request }
+    ensures err { OnErr result (state_of session.new ≡ state_of session.old) }
 {
-    match *request {
+    match request {
         Request::Payment {
             warehouse,
             district,
@@ -53,77 +64,91 @@ fn answer_request(session: &mut Session, request: &Request, number: u32) -> Resu
                 who: Who::Id(customer),
                 amount,
             };
-            pay(session, payment, number)
+            pay(session, payment)
         }
-        _ => Ok(show(session.tables(), request, number)),
+        Request::ShowWarehouse { warehouse } => {
+            let row = show_warehouse(session.tables(), warehouse);
+            Ok(row_or_refused(row, number))
+        }
+        Request::ShowDistrict {
+            warehouse,
+            district,
+        } => {
+            let row = show_district(
+                session.tables(),
+                DistrictKey {
+                    warehouse,
+                    district,
+                },
+            );
+            Ok(row_or_refused(row, number))
+        }
+        Request::ShowCustomer {
+            warehouse,
+            district,
+            customer,
+        } => {
+            let key = CustomerKey {
+                warehouse,
+                district,
+                customer,
+            };
+            Ok(row_or_refused(show_customer(session.tables(), key), number))
+        }
     }
 }
 
 /// Commits a Payment.
-fn pay(session: &mut Session, payment: Payment, number: u32) -> Result<Answer, Refusal>
+fn pay(session: &mut Session, payment: Payment) -> Result<Answer, Refusal>
     ensures memory { IfErr result (λ refusal. refusal ≡ OutOfMemory) }
-    ensures err { OnErr result ((committed session.new ≡ committed session.old) × (dones_of session.new ≡ dones_of session.old)) }
+    ensures turn { IfOk result (λ answer.
+        IsPaymentTurn (state_of session.old) payment (record { answer = answer; state = state_of session.new })) }
+    ensures err { OnErr result (state_of session.new ≡ state_of session.old) }
 {
+    let number = payment.date;
     let input = match Input::payment(&session.tables().scale, payment) {
         Ok(input) => input,
         Err(refusal) => return Ok(refused(refusal, number)),
     };
     match session.commit(&input) {
         Ok(done) => Ok(done.answer()),
-        Err(Refusal::OutOfMemory) => Err(Refusal::OutOfMemory),
-        Err(refusal) => Ok(refused(refusal, number)),
+        Err(Refusal::CommitsFull) => Ok(refused(Refusal::CommitsFull, number)),
+        Err(refusal) => Err(refusal),
     }
 }
 
-/// Shows a row.
-fn show(tables: &Tables, request: &Request, number: u32) -> Answer {
-    let row = match *request {
-        Request::ShowWarehouse { warehouse } => show_warehouse(tables, warehouse),
-        Request::ShowDistrict {
-            warehouse,
-            district,
-        } => show_district(
-            tables,
-            DistrictKey {
-                warehouse,
-                district,
-            },
-        ),
-        Request::ShowCustomer {
-            warehouse,
-            district,
-            customer,
-        } => show_customer(
-            tables,
-            CustomerKey {
-                warehouse,
-                district,
-                customer,
-            },
-        ),
-        Request::Payment { .. } => None,
-    };
-    row.unwrap_or(refused(Refusal::BadInput, number))
-}
-
-fn show_warehouse(tables: &Tables, warehouse: u32) -> Option<Answer> {
+fn show_warehouse(tables: &Tables, warehouse: u32) -> Option<Answer>
+    ensures { result ≡ option_map (λ row. answer.Warehouse warehouse row) (get (database tables.now).warehouses warehouse) }
+{
     let row = *tables.warehouses.get(&warehouse)?;
     Some(Answer::Warehouse { warehouse, row })
 }
 
-fn show_district(tables: &Tables, key: DistrictKey) -> Option<Answer> {
+fn show_district(tables: &Tables, key: DistrictKey) -> Option<Answer>
+    ensures { result ≡ option_map (λ row. answer.District key row) (get (database tables.now).districts key) }
+{
     let row = *tables.districts.get(&key)?;
     Some(Answer::District { key, row })
 }
 
-fn show_customer(tables: &Tables, key: CustomerKey) -> Option<Answer> {
+fn show_customer(tables: &Tables, key: CustomerKey) -> Option<Answer>
+    ensures { result ≡ option_map (λ row. answer.Customer key row) (get (database tables.now).customers key) }
+{
     let row = *tables.customers.get(&key)?;
     Some(Answer::Customer { key, row })
 }
 
-fn refused(refusal: Refusal, number: u32) -> Answer {
+fn refused(refusal: Refusal, number: u32) -> Answer
+    ensures { result ≡ answer.Refused refusal number }
+{
     Answer::Refused {
         refusal,
         line: u64::from(number),
     }
+}
+
+fn row_or_refused(row: Option<Answer>, number: u32) -> Answer
+    ensures { (s : State) → record { answer = result; state = s } ≡ shown s number row }
+{
+    row.unwrap_or(refused(Refusal::BadInput, number))
 }

@@ -12,7 +12,7 @@ pub struct Done {
 
 impl Done {
     ghost use Rattle.std.specs.Prelude.{◌≡◌};
-    ghost use Rattle.script.specs.Done.{answer_of};
+    ghost use Rattle.script.specs.Turns.{answer_of};
 
     /// What its terminal is told.
     pub fn answer(&self) -> Answer

@@ -7,6 +7,8 @@ mod running;
 mod session;
 #[cfg(test)]
 mod tests;
+mod turns;
 
 pub use done::Done;
 pub use running::script;
+pub use turns::lines_determine_turns;

@@ -1,7 +1,16 @@
 //! Running a script from its bytes to its replies.
 
-ghost use Rattle.std.specs.Prelude.{IfErr};
-ghost use Rattle.script.specs.Refusals.{IsScriptRefusal};
+ghost use Rattle.std.specs.Prelude.{◌≡◌, ◌⊎◌, ◌≤◌, ◌<◌, ◌+◌, ℕ, Some, List, [], ◌++◌, length, take, codes, string_bytes, IfErr, IfOk, OnOk, OnErr, IsErrOf};
+ghost use Rattle.std.specs.Io.KnownBytes.{Appends, Consumes, IsAtEnd};
+ghost use Rattle.money.specs.declared.refusal.Refusal.TheVariants.{OutOfMemory, BadInput, Device};
+ghost use Rattle.tables.specs.Database.{Database};
+ghost use Rattle.population.specs.Initial.{initial};
+ghost use Rattle.lines.specs.Lines.{held, lines_of};
+ghost use Rattle.lines.specs.Output.{answer_text};
+ghost use Rattle.script.specs.Session.{state_of};
+ghost use Rattle.script.specs.Turns.{Turn, IsLineTurn};
+ghost use Rattle.script.specs.Written.{verdicts_of, IsWhole, IsBeginning};
+ghost use Rattle.script.specs.Answered.{HasAnswered, HasAnsweredAll, HasTooMany};
 
 use crate::answering::answer_line;
 use crate::done::Done;
@@ -23,36 +32,34 @@ const MAX_LINES: u32 = 4_000_000_000;
 /// line is its number, from 1. A line in none of the forms, or of more than 1,024 bytes, is answered by
 /// `14 line N`.
 ///
+/// What is written is the text of a whole script of the bytes that the reader has, in whatever pieces they
+/// come, and what is returned is that script's report and its commits in order (`specs/Written.antt`).
+///
 /// What was answered is written before each read, so it is out before a read can wait. Memory beside the
 /// tables is bounded by the size of a piece, whatever comes.
 ///
 /// Refuses by `Device` only where the reader or the writer failed, by `BadInput` only where there are more
-/// than 4,000,000,000 lines, and else only for memory. What was written by then is a beginning of the
-/// replies.
+/// than 4,000,000,000 lines, and else only for memory. What was written by then is a beginning of that text.
 pub fn script<R: Read, W: Write>(
     alloc: Global,
     population: Population,
     reader: &mut R,
     writer: &mut W,
 ) -> Result<(Report, Vec<Done>), Refusal>
-    ensures { IfErr result IsScriptRefusal }
+    ensures whole { IfOk result (λ closed. (bytes : List ℕ) → R.remaining reader.old ≡ Some bytes → (text : List ℕ)
+        × Appends (W.contents writer.old) (W.contents writer.new) text
+        × IsWhole (initial population) bytes text closed.0 closed.1.items) }
+    ensures beginning { OnErr result ((bytes : List ℕ) → R.remaining reader.old ≡ Some bytes → (front : List ℕ)
+        × Appends (W.contents writer.old) (W.contents writer.new) front × IsBeginning (initial population) bytes front) }
+    ensures too_many { IsErrOf result BadInput → (bytes : List ℕ) → R.remaining reader.old ≡ Some bytes
+        → 4000000000 < length (lines_of bytes) }
+    ensures refusals { IfErr result (λ refusal. (refusal ≡ OutOfMemory) ⊎ (refusal ≡ BadInput) ⊎ (refusal ≡ Device)) }
 {
     let mut desk = Desk::new(alloc, population)?;
     let mut piece = vec![in alloc; 0u8; PIECE]?;
-    for _ in 0..u64::MAX {
-        desk.write(writer)?;
-        let count = match reader.read(&mut piece) {
-            Ok(count) => count,
-            Err(error) if error.kind() == ErrorKind::Interrupted => continue,
-            Err(_) => return Err(Refusal::Device),
-        };
-        if count == 0 {
-            break;
-        }
-        desk.answer_lines(&piece[..count])?;
-    }
-    desk.answer_last()?;
-    desk.close(alloc, writer)
+    desk.answer_all(&mut piece, reader, writer)?;
+    let (report, dones) = desk.close(alloc, writer)?;
+    Ok((report, dones))
 }
 
 /// A session with the line that is coming in and the answers that aren't written yet.
@@ -67,7 +74,8 @@ struct Desk {
 
 impl Desk {
     fn new(alloc: Global, population: Population) -> Result<Desk, Refusal>
-        ensures { IfErr result IsScriptRefusal }
+        ensures start { IfOk result (λ desk. HasAnswered (initial population) [] [] desk) }
+        ensures memory { IfErr result (λ refusal. refusal ≡ OutOfMemory) }
     {
         Ok(Desk {
             session: Session::new(alloc, population),
@@ -77,9 +85,44 @@ impl Desk {
         })
     }
 
+    /// Answers all lines that a reader gives, which come through `piece`. The answers to the last ones aren't
+    /// written yet.
+    fn answer_all<R: Read, W: Write>(
+        &mut self,
+        piece: &mut [u8],
+        reader: &mut R,
+        writer: &mut W,
+    ) -> Result<(), Refusal>
+        requires { 0 < length piece.old }
+        ensures all { OnOk result ((tables : Database) (bytes : List ℕ) → R.remaining reader.old ≡ Some bytes
+            → HasAnswered tables [] [] self.old → (written : List ℕ)
+            × Appends (W.contents writer.old) (W.contents writer.new) written × HasAnsweredAll tables bytes written self.new) }
+        ensures beginning { OnErr result ((tables : Database) (bytes : List ℕ) → R.remaining reader.old ≡ Some bytes
+            → HasAnswered tables [] [] self.old → (front : List ℕ)
+            × Appends (W.contents writer.old) (W.contents writer.new) front × IsBeginning tables bytes front) }
+        ensures too_many { IsErrOf result BadInput → (tables : Database) (bytes : List ℕ) → R.remaining reader.old ≡ Some bytes
+            → HasAnswered tables [] [] self.old → 4000000000 < length (lines_of bytes) }
+        ensures refusals { IfErr result (λ refusal. (refusal ≡ OutOfMemory) ⊎ (refusal ≡ BadInput) ⊎ (refusal ≡ Device)) }
+    {
+        for _ in 0..u64::MAX {
+            self.write(writer)?;
+            let count = read_piece(reader, piece)?;
+            if count == 0 {
+                self.answer_last()?;
+                return Ok(());
+            }
+            self.answer_lines(&piece[..count])?;
+        }
+        Err(Refusal::Device)
+    }
+
     /// Answers the lines that a piece of the input ends.
     fn answer_lines(&mut self, piece: &[u8]) -> Result<(), Refusal>
-        ensures { IfErr result IsScriptRefusal }
+        ensures ok { OnOk result ((tables : Database) (text written : List ℕ) → HasAnswered tables text written self.old
+            → HasAnswered tables (text ++ piece.now) written self.new) }
+        ensures too_many { IsErrOf result BadInput → (tables : Database) (text written : List ℕ)
+            → HasAnswered tables text written self.old → HasTooMany (text ++ piece.now) }
+        ensures refusals { IfErr result (λ refusal. (refusal ≡ OutOfMemory) ⊎ (refusal ≡ BadInput)) }
     {
         let mut rest = piece;
         while let Some(after) = self.line.take_line(rest) {
@@ -91,17 +134,29 @@ impl Desk {
 
     /// Answers a last line that no line feed ends.
     fn answer_last(&mut self) -> Result<(), Refusal>
-        ensures { IfErr result IsScriptRefusal }
+        ensures ok { OnOk result ((tables : Database) (text written : List ℕ) → HasAnswered tables text written self.old
+            → HasAnsweredAll tables text written self.new) }
+        ensures too_many { IsErrOf result BadInput → (tables : Database) (text written : List ℕ)
+            → HasAnswered tables text written self.old → 4000000000 < length (lines_of text) }
+        ensures refusals { IfErr result (λ refusal. (refusal ≡ OutOfMemory) ⊎ (refusal ≡ BadInput)) }
     {
         if self.line.is_empty() {
             return Ok(());
         }
-        self.answer_held()
+        self.answer_held()?;
+        Ok(())
     }
 
     /// Answers the line that is held.
     fn answer_held(&mut self) -> Result<(), Refusal>
-        ensures { IfErr result IsScriptRefusal }
+        ensures turn { OnOk result ((bytes : List ℕ) → self.old.line ≡ held bytes → (turn : Turn)
+            × IsLineTurn (state_of self.old.session) (self.old.answered + 1) bytes turn
+            × (state_of self.new.session ≡ turn.state)
+            × (string_bytes self.new.output ≡ string_bytes self.old.output ++ (answer_text turn.answer ++ codes "\n"))) }
+        ensures count { OnOk result (self.new.answered ≡ self.old.answered + 1) }
+        ensures line { OnOk result (self.new.line ≡ Some []) }
+        ensures refusals { IfErr result (λ refusal. (refusal ≡ OutOfMemory)
+            ⊎ ((refusal ≡ BadInput) × (4000000000 ≤ self.old.answered))) }
     {
         if self.answered >= MAX_LINES {
             return Err(Refusal::BadInput);
@@ -109,12 +164,18 @@ impl Desk {
         self.answered += 1;
         let answer = answer_line(&mut self.session, self.line.line(), self.answered)?;
         self.line.clear();
-        answer.print(&mut self.output)
+        answer.print(&mut self.output)?;
+        Ok(())
     }
 
     /// Writes the answers that aren't written yet.
     fn write<W: Write>(&mut self, writer: &mut W) -> Result<(), Refusal>
-        ensures { IfErr result IsScriptRefusal }
+        ensures ok { OnOk result ((tables : Database) (text written : List ℕ) → HasAnswered tables text written self.old
+            → (more : List ℕ) × Appends (W.contents writer.old) (W.contents writer.new) more
+            × HasAnswered tables text (written ++ more) self.new) }
+        ensures err { OnErr result ((front rest : List ℕ) × (string_bytes self.old.output ≡ front ++ rest)
+            × Appends (W.contents writer.old) (W.contents writer.new) front) }
+        ensures device { IfErr result (λ refusal. refusal ≡ Device) }
     {
         if self.output.is_empty() {
             return Ok(());
@@ -126,7 +187,15 @@ impl Desk {
 
     /// Writes the report behind the last answers.
     fn close<W: Write>(self, alloc: Global, writer: &mut W) -> Result<(Report, Vec<Done>), Refusal>
-        ensures { IfErr result IsScriptRefusal }
+        ensures whole { IfOk result (λ closed. (tables : Database) (bytes written : List ℕ)
+            → HasAnsweredAll tables bytes written self → (more : List ℕ)
+            × Appends (W.contents writer.old) (W.contents writer.new) more
+            × IsWhole tables bytes (written ++ more) closed.0 closed.1.items) }
+        ensures beginning { OnErr result ((tables : Database) (bytes written : List ℕ)
+            → HasAnsweredAll tables bytes written self → (more : List ℕ)
+            × Appends (W.contents writer.old) (W.contents writer.new) more
+            × IsBeginning tables bytes (written ++ more)) }
+        ensures refusals { IfErr result (λ refusal. (refusal ≡ OutOfMemory) ⊎ (refusal ≡ Device)) }
     {
         let Desk {
             session,
@@ -141,15 +210,60 @@ impl Desk {
     }
 }
 
-fn write_text<W: Write>(writer: &mut W, text: &[u8]) -> Result<(), Refusal>
-    ensures { IfErr result IsScriptRefusal }
+/// Reads what comes next. A read that was interrupted has taken nothing, and is tried again.
+fn read_piece<R: Read>(reader: &mut R, piece: &mut [u8]) -> Result<usize, Refusal>
+    ensures within { IfOk result (λ count. count ≤ length piece.new) }
+    ensures bytes { IfOk result (λ count. Consumes (R.remaining reader.old) (R.remaining reader.new) (take count piece.new)) }
+    ensures end { IfOk result (λ count. count ≡ 0 → 0 < length piece.new → IsAtEnd (R.remaining reader.new)) }
+    ensures device { IfErr result (λ refusal. refusal ≡ Device) }
 {
-    writer.write_all(text).map_err(|_| Refusal::Device)?;
+    for _ in 0..u64::MAX {
+        match reader.read(piece) {
+            Ok(count) => return Ok(count),
+            Err(error) if error.kind() == ErrorKind::Interrupted => continue,
+            Err(_) => return Err(Refusal::Device),
+        }
+    }
+    Err(Refusal::Device)
+}
+
+/// Writes a text and flushes it. Where that fails, a beginning of it may be written.
+fn write_text<W: Write>(writer: &mut W, text: &[u8]) -> Result<(), Refusal>
+    ensures ok { OnOk result (Appends (W.contents writer.old) (W.contents writer.new) text.now) }
+    ensures err { OnErr result ((front rest : List ℕ) × (text.now ≡ front ++ rest)
+        × Appends (W.contents writer.old) (W.contents writer.new) front) }
+    ensures device { IfErr result (λ refusal. refusal ≡ Device) }
+{
+    write_whole(writer, text)?;
     writer.flush().map_err(|_| Refusal::Device)
 }
 
+/// Writes a text piece by piece, so that where a write fails it is known what the writer has taken.
+fn write_whole<W: Write>(writer: &mut W, text: &[u8]) -> Result<(), Refusal>
+    ensures ok { OnOk result (Appends (W.contents writer.old) (W.contents writer.new) text.now) }
+    ensures err { OnErr result ((front rest : List ℕ) × (text.now ≡ front ++ rest)
+        × Appends (W.contents writer.old) (W.contents writer.new) front) }
+    ensures device { IfErr result (λ refusal. refusal ≡ Device) }
+{
+    let mut rest = text;
+    for _ in 0..u64::MAX {
+        if rest.is_empty() {
+            return Ok(());
+        }
+        match writer.write(rest) {
+            Ok(0) => return Err(Refusal::Device),
+            Ok(count) => rest = &rest[count..],
+            Err(error) if error.kind() == ErrorKind::Interrupted => continue,
+            Err(_) => return Err(Refusal::Device),
+        }
+    }
+    Err(Refusal::Device)
+}
+
 /// The lines of a report, in order.
-fn verdicts(report: &Report) -> [Verdict; 5] {
+fn verdicts(report: &Report) -> [Verdict; 5]
+    ensures { result ≡ verdicts_of report.now }
+{
     [
         Verdict {
             condition: 1,

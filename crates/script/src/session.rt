@@ -25,7 +25,7 @@ pub struct Session {
 }
 
 impl Session {
-    ghost use Rattle.std.specs.Prelude.{◌≡◌, ◌+◌, ◌↔◌, [], ◌∷◌, ◌++◌, IfOk, IfErr, OnErr, IsErrOf};
+    ghost use Rattle.std.specs.Prelude.{◌≡◌, ◌⊎◌, ◌+◌, ◌↔◌, [], ◌∷◌, ◌++◌, IfOk, IfErr, OnErr, IsErrOf};
     ghost use Rattle.tables.specs.Inputs.{IsInput};
     ghost use Rattle.tables.specs.Apply.{after, reply_to};
     ghost use Rattle.population.specs.Initial.{initial};
@@ -61,6 +61,7 @@ impl Session {
         ensures reply { IfOk result (λ done. done.reply ≡ reply_to (committed self.old) input.now) }
         ensures number { IfOk result (λ done. done.number ≡ length (dones_of self.old) + 1) }
         ensures dones { IfOk result (λ done. dones_of self.new ≡ dones_of self.old ++ done ∷ []) }
+        ensures refusals { IfErr result (λ refusal. (refusal ≡ CommitsFull) ⊎ (refusal ≡ OutOfMemory)) }
         ensures full { IsErrOf result CommitsFull ↔ (length (dones_of self.old) ≡ (committed self.old).scale.commits) }
         ensures err { OnErr result ((committed self.new ≡ committed self.old) × (dones_of self.new ≡ dones_of self.old)) }
     {

@@ -1,0 +1,4 @@
+pub mod TurnLemmas
+pub mod DeskLemmas
+pub mod Progress
+pub mod OneRun

@@ -1,0 +1,65 @@
+-- Lines have one run.
+use Rattle.std.proofs.Common.{◌≡◌, ℕ, ◌+◌, List, [], ◌∷◌, refl, sym, ap, ◌∙◌, subst, arith}
+use Rattle.money.specs.declared.refusal.Refusal.{Refusal}
+use Rattle.money.specs.declared.refusal.Refusal.TheVariants.{BadInput, BadLine}
+use Rattle.tables.specs.declared.input.Payment.{Payment}
+use Rattle.lines.specs.Requests.{HasNumbers, IsWithinReach, IsRefused, request_text}
+use Rattle.lines.specs.declared.request.Request.{Request}
+use Rattle.lines.specs.declared.request.Request.TheVariants as request
+use Rattle.lines.specs.declared.answer.Answer.{Answer}
+use Rattle.lines.proofs.OneText.{one_line_one_request}
+use Rattle.script.specs.Turns.{State, Turn, IsPaymentTurn, bad, full, done, IsRequestTurn, IsLineTurn, long, unread, read, AreTurns, refused}
+
+one_payment : (s : State) (x : Payment) (a b : Turn) → IsPaymentTurn s x a → IsPaymentTurn s x b → a ≡ b
+one_payment s x a b (bad not e) (bad isnt f) = e ∙ sym f
+one_payment s x a b (bad not e) (full is at_cap f) = absurd (not is)
+one_payment s x a b (bad not e) (done is room f) = absurd (not is)
+one_payment s x a b (full is at_cap e) (bad isnt f) = absurd (isnt is)
+one_payment s x a b (full is at_cap e) (full ok top f) = e ∙ sym f
+one_payment s x a b (full is at_cap e) (done ok room f) = absurd (room at_cap)
+one_payment s x a b (done is room e) (bad isnt f) = absurd (isnt is)
+one_payment s x a b (done is room e) (full ok at_cap f) = absurd (room at_cap)
+one_payment s x a b (done is room e) (done ok free f) = e ∙ sym f
+
+one_request : (s : State) (n : ℕ) (asked : Request) (a b : Turn) → IsRequestTurn s n asked a → IsRequestTurn s n asked b → a ≡ b
+one_request s n (request.Payment w d cw cd c z) a b e f = one_payment s _ a b e f
+one_request s n (request.ShowWarehouse w) a b e f = e ∙ sym f
+one_request s n (request.ShowDistrict w d) a b e f = e ∙ sym f
+one_request s n (request.ShowCustomer w d c) a b e f = e ∙ sym f
+
+one_refusal : (line : List ℕ) (a b : Refusal) → IsRefused line a → IsRefused line b → a ≡ b
+one_refusal line BadInput BadInput h k = refl
+one_refusal line BadInput BadLine h k = absurd (k h.0 h.1 h.2)
+one_refusal line BadLine BadInput h k = absurd (h k.0 k.1 k.2)
+one_refusal line BadLine BadLine h k = refl
+one_refusal line BadInput _ h k = absurd k
+one_refusal line BadLine _ h k = absurd k
+one_refusal line _ b h k = absurd h
+
+not_both : (line : List ℕ) (refusal : Refusal) (asked : Request) → IsRefused line refusal → HasNumbers asked → IsWithinReach asked → line ≡ request_text asked → ⊥
+not_both line BadInput asked h numbers reach is = h.3 (subst IsWithinReach (one_line_one_request asked h.0 numbers h.1 (sym is ∙ h.2)) reach)
+not_both line BadLine asked h numbers reach is = h asked numbers is
+not_both line _ asked h numbers reach is = h
+
+one_line : (s : State) (n : ℕ) (line : List ℕ) (a b : Turn) → IsLineTurn s n line a → IsLineTurn s n line b → a ≡ b
+one_line s n line a b (long above e) (long over f) = e ∙ sym f
+one_line s n line a b (long above e) (unread r short h f) = absurd (omega arith)
+one_line s n line a b (long above e) (read asked short numbers reach is f) = absurd (omega arith)
+one_line s n line a b (unread r short h e) (long over f) = absurd (omega arith)
+one_line s n line a b (unread r short h e) (unread q brief k f) = e ∙ ap (λ x. refused s x n) (one_refusal line r q h k) ∙ sym f
+one_line s n line a b (unread r short h e) (read asked brief numbers reach is f) = absurd (not_both line r asked h numbers reach is)
+one_line s n line a b (read asked short numbers reach is e) (long over f) = absurd (omega arith)
+one_line s n line a b (read asked short numbers reach is e) (unread q brief k f) = absurd (not_both line q asked k numbers reach is)
+one_line s n line a b (read asked short numbers reach is e) (read other brief counts within same f) =
+    let one : asked ≡ other = one_line_one_request asked other numbers counts (sym is ∙ same) in
+    one_request s n other a b (subst (λ r. IsRequestTurn s n r a) one e) f
+
+-- two runs of the same lines from one state
+pub one_run : (s : State) (n : ℕ) (lines : List (List ℕ)) (one other : List Answer) (last end : State) → AreTurns s n lines one last → AreTurns s n lines other end → (one ≡ other) × (last ≡ end)
+one_run s n [] one other last end p q = (p.0 ∙ sym q.0, p.1 ∙ sym q.1)
+one_run s n (line ∷ lines) one other last end p q =
+    let same : p.0 ≡ q.0 = one_line s n line p.0 q.0 p.2 q.2 in
+    let moved : AreTurns q.0.state (n + 1) lines p.1 last = subst (λ (t : Turn). AreTurns t.state (n + 1) lines p.1 last) same p.4 in
+    let later = one_run q.0.state (n + 1) lines p.1 q.1 last end moved q.4 in
+    let told : p.0.answer ∷ p.1 ≡ q.0.answer ∷ q.1 = ap (λ (t : Turn). t.answer ∷ p.1) same ∙ ap (λ l. q.0.answer ∷ l) later.0 in
+    (p.3 ∙ told ∙ sym q.3, later.1)

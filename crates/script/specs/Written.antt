@@ -1,0 +1,47 @@
+-- What a script writes.
+use Rattle.std.specs.Prelude.{◌≡◌, ℕ, List, [], ◌∷◌, ◌++◌, length, codes}
+use Rattle.std.specs.List.{flat_map}
+use Rattle.std.specs.Option.{option_map}
+use Rattle.tables.specs.Database.{Database}
+use Rattle.lines.specs.Lines.{lines_of}
+use Rattle.lines.specs.Output.{answer_text}
+use Rattle.lines.specs.Report.{report_text}
+use Rattle.lines.specs.declared.answer.Answer.{Answer}
+use Rattle.lines.specs.declared.report.Key.TheVariants.{Warehouse, District, Customer}
+use Rattle.lines.specs.declared.report.Verdict.{Verdict}
+use Rattle.plain.specs.Check.{IsReportOf}
+use Rattle.plain.specs.declared.report.Report.{Report}
+use Rattle.script.specs.declared.done.Done.{Done}
+use Rattle.script.specs.Turns.{State, AreTurns}
+
+-- the state in which nothing is committed
+abbrev pub start : Database → State
+start t = record { tables = t; dones = [] }
+
+-- answers, each with a line feed
+abbrev pub answers_text : List Answer → List ℕ
+answers_text answers = flat_map (λ told. answer_text told ++ codes "\n") answers
+
+-- what a report says of the consistency conditions 1, 8, 9, 10 and 12
+abbrev pub verdicts_of : Report → List Verdict
+verdicts_of r =
+    record { condition = 1; broken = option_map Warehouse r.condition_1 }
+    ∷ record { condition = 8; broken = option_map Warehouse r.condition_8 }
+    ∷ record { condition = 9; broken = option_map District r.condition_9 }
+    ∷ record { condition = 10; broken = option_map Customer r.condition_10 }
+    ∷ record { condition = 12; broken = option_map Customer r.condition_12 }
+    ∷ []
+
+-- the text of a whole script of these bytes: the answers to its lines, from number 1 on, and then the report on the last tables
+pub record IsWhole (tables : Database) (bytes text : List ℕ) (report : Report) (dones : List Done) : Type 0 where
+  pub answers : List Answer
+  pub last : State
+  pub turns : AreTurns (start tables) 1 (lines_of bytes) answers last
+  pub report_is : IsReportOf last.tables report
+  pub dones_are : dones ≡ last.dones
+  pub text_is : text ≡ answers_text answers ++ report_text (length dones) (verdicts_of report)
+
+-- a beginning of that text: of the answers to the first of its lines, or of the whole
+pub data IsBeginning (tables : Database) (bytes front : List ℕ) : Type 0 where
+  of_answers : (lines later : List (List ℕ)) (answers : List Answer) (last : State) (rest : List ℕ) → lines_of bytes ≡ lines ++ later → AreTurns (start tables) 1 lines answers last → answers_text answers ≡ front ++ rest → IsBeginning tables bytes front
+  of_whole : (text rest : List ℕ) (report : Report) (dones : List Done) → IsWhole tables bytes text report dones → text ≡ front ++ rest → IsBeginning tables bytes front
