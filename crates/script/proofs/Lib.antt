@@ -2,3 +2,4 @@ pub mod TurnLemmas
 pub mod DeskLemmas
 pub mod Progress
 pub mod OneRun
+pub mod OneText

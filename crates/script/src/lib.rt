@@ -10,5 +10,5 @@ mod tests;
 mod turns;
 
 pub use done::Done;
-pub use running::script;
-pub use turns::lines_determine_turns;
+pub use running::{script, write_text};
+pub use turns::{bytes_determine_text, lines_determine_turns};

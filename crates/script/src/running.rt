@@ -38,8 +38,9 @@ const MAX_LINES: u32 = 4_000_000_000;
 /// What was answered is written before each read, so it is out before a read can wait. Memory beside the
 /// tables is bounded by the size of a piece, whatever comes.
 ///
-/// Refuses by `Device` only where the reader or the writer failed, by `BadInput` only where there are more
-/// than 4,000,000,000 lines, and else only for memory. What was written by then is a beginning of that text.
+/// Refuses by `Device` where the reader or the writer fails, or comes to no end in 2^64 - 1 calls, by `BadInput`
+/// only where there are more than 4,000,000,000 lines, and else for memory. What was written by then is a
+/// beginning of that text.
 pub fn script<R: Read, W: Write>(
     alloc: Global,
     population: Population,
@@ -228,7 +229,7 @@ fn read_piece<R: Read>(reader: &mut R, piece: &mut [u8]) -> Result<usize, Refusa
 }
 
 /// Writes a text and flushes it. Where that fails, a beginning of it may be written.
-fn write_text<W: Write>(writer: &mut W, text: &[u8]) -> Result<(), Refusal>
+pub fn write_text<W: Write>(writer: &mut W, text: &[u8]) -> Result<(), Refusal>
     ensures ok { OnOk result (Appends (W.contents writer.old) (W.contents writer.new) text.now) }
     ensures err { OnErr result ((front rest : List ℕ) × (text.now ≡ front ++ rest)
         × Appends (W.contents writer.old) (W.contents writer.new) front) }

@@ -1,9 +1,13 @@
 //! How the program ends.
 
-ghost use Rattle.tpcc.specs.Status.{IsStatusOf};
+ghost use Rattle.std.specs.Prelude.{OnOk, IsErr};
+ghost use Rattle.std.specs.Io.KnownBytes.{Appends};
+ghost use Rattle.tpcc.specs.Status.{IsStatusOf, line_of, refusal_line, WritesBeginning};
 
+use itoa::Buffer;
 use money::Refusal;
 use plain::Report;
+use script::write_text;
 use std::io::Write;
 
 /// The exit status of a good end.
@@ -16,21 +20,36 @@ pub const FAILED: u8 = 1;
 pub const USAGE_FAULT: u8 = 2;
 
 /// Writes a refusal's line, as `9 Device`, and answers the exit status: 0 where all conditions hold, 1 where
-/// one is broken or the run was refused, and 2 where the scale was. A failure of that write is left aside.
+/// one is broken or the run was refused, and 2 where the scale was. A failure of that write is left aside:
+/// a beginning of the line is written then. Takes no memory.
 pub fn finish<E: Write>(outcome: Result<&Report, Refusal>, errors: &mut E) -> u8
-    ensures { IsStatusOf outcome.entry result }
+    ensures status { IsStatusOf outcome.entry result }
+    ensures line { WritesBeginning (line_of outcome.entry) (E.contents errors.old) (E.contents errors.new) }
 {
     match outcome {
         Ok(report) if report.is_good() => GOOD,
         Ok(_) => FAILED,
         Err(refusal) => {
-            let _ = writeln!(errors, "{refusal}");
+            let _ = write_refusal(refusal, errors);
             match refusal {
                 Refusal::BadScale => USAGE_FAULT,
                 _ => FAILED,
             }
         }
     }
+}
+
+/// Writes a refusal's line.
+fn write_refusal<E: Write>(refusal: Refusal, errors: &mut E) -> Result<(), Refusal>
+    ensures whole { OnOk result (Appends (E.contents errors.old) (E.contents errors.new) (refusal_line refusal)) }
+    ensures beginning { IsErr result → WritesBeginning (refusal_line refusal) (E.contents errors.old) (E.contents errors.new) }
+{
+    let mut digits = Buffer::new();
+    write_text(errors, digits.format(refusal.number()).as_bytes())?;
+    write_text(errors, b" ")?;
+    write_text(errors, refusal.name().as_bytes())?;
+    write_text(errors, b"\n")?;
+    Ok(())
 }
 
 #[cfg(test)]

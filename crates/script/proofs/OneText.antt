@@ -1,0 +1,45 @@
+-- Bytes have one text.
+use Rattle.std.proofs.Common.{◌≡◌, ℕ, Option, None, Some, List, ◌++◌, length, refl, sym, ap, ◌∙◌, subst}
+use Rattle.std.specs.Ordering.{ordering_reverse}
+use Rattle.std.specs.declared.cmp.Ordering.{Ordering}
+use Rattle.std.specs.declared.cmp.Ordering.TheVariants.{Less, Equal, Greater}
+use Rattle.tables.specs.Database.{Database}
+use Rattle.tables.proofs.Orders.{IsExact, exact_number, exact_district, exact_customer}
+use Rattle.lines.specs.Lines.{lines_of}
+use Rattle.lines.specs.Report.{report_text}
+use Rattle.plain.specs.Check.{Finds, IsReportOf}
+use Rattle.plain.specs.declared.report.Report.{Report}
+use Rattle.script.specs.declared.done.Done.{Done}
+use Rattle.script.specs.Written.{start, answers_text, verdicts_of, IsWhole}
+use Rattle.script.proofs.OneRun.{one_run}
+
+-- there is one least key
+one_finding : {K : Type 0} {R : K → K → Ordering} → IsExact R → (IsKey HoldsAt : K → Type 0) (a b : Option K) → Finds R IsKey HoldsAt a → Finds R IsKey HoldsAt b → a ≡ b
+one_finding o IsKey HoldsAt None None p q = refl
+one_finding o IsKey HoldsAt None (Some k) p q = absurd (q.1 (p k q.0))
+one_finding o IsKey HoldsAt (Some k) None p q = absurd (p.1 (q k p.0))
+one_finding {K} {R} o IsKey HoldsAt (Some k) (Some j) p q = go (R k j) refl
+  where
+    go : (c : Ordering) → R k j ≡ c → Some k ≡ Some j
+    go Less e = absurd (p.1 (q.2 k p.0 e))
+    go Equal e = ap (λ x. Some x) (o.same k j e)
+    go Greater e = absurd (q.1 (p.2 j q.0 (o.total.antisymm j k ∙ ap ordering_reverse e)))
+
+one_report : (t : Database) (a b : Report) → IsReportOf t a → IsReportOf t b → a ≡ b
+one_report t a b p q =
+    let first = one_finding exact_number _ _ a.condition_1 b.condition_1 p.condition_1 q.condition_1 in
+    let eighth = one_finding exact_number _ _ a.condition_8 b.condition_8 p.condition_8 q.condition_8 in
+    let ninth = one_finding exact_district _ _ a.condition_9 b.condition_9 p.condition_9 q.condition_9 in
+    let tenth = one_finding exact_customer _ _ a.condition_10 b.condition_10 p.condition_10 q.condition_10 in
+    let twelfth = one_finding exact_customer _ _ a.condition_12 b.condition_12 p.condition_12 q.condition_12 in
+    λ i. record { condition_1 = first i; condition_8 = eighth i; condition_9 = ninth i; condition_10 = tenth i; condition_12 = twelfth i }
+
+-- two whole scripts of the same bytes
+pub one_text : (tables : Database) (bytes text other : List ℕ) (report found : Report) (dones told : List Done) → IsWhole tables bytes text report dones → IsWhole tables bytes other found told → (text ≡ other) × (report ≡ found) × (dones ≡ told)
+one_text tables bytes text other report found dones told w v =
+    let run = one_run (start tables) 1 (lines_of bytes) w.answers v.answers w.last v.last w.turns v.turns in
+    let commits : dones ≡ told = w.dones_are ∙ ap (λ s. s.dones) run.1 ∙ sym v.dones_are in
+    let reports : report ≡ found = one_report v.last.tables report found (subst (λ s. IsReportOf s.tables report) run.1 w.report_is) v.report_is in
+    let texts : answers_text w.answers ++ report_text (length dones) (verdicts_of report) ≡ answers_text v.answers ++ report_text (length told) (verdicts_of found) =
+    λ i. answers_text (run.0 i) ++ report_text (length (commits i)) (verdicts_of (reports i)) in
+    (w.text_is ∙ texts ∙ sym v.text_is, reports, commits)

@@ -1,0 +1,18 @@
+-- What is written when a write of several parts fails.
+use Rattle.std.proofs.Common.{◌≡◌, ℕ, List, ◌++◌, Option, ap, ◌∙◌, append_assoc}
+use Rattle.std.specs.Io.KnownBytes.{Appends}
+use Rattle.std.proofs.KnownBytes.{Appends-trans}
+use Rattle.tpcc.specs.Status.{WritesBeginning}
+
+-- the parts before were written, and of this part a front
+pub broken_off : (old mid new : Option (List ℕ)) (text before part later : List ℕ) → text ≡ (before ++ part) ++ later → Appends old mid before
+    → (front : List ℕ) × (rest : List ℕ) × (part ≡ front ++ rest) × Appends mid new front → WritesBeginning text old new
+broken_off old mid new text before part later whole written failed = (
+  before ++ failed.0,
+  failed.1 ++ later,
+  whole ∙ ap (λ p. (before ++ p) ++ later) failed.2 ∙ regrouped before failed.0 failed.1 later,
+  Appends-trans old mid new before failed.0 written failed.3,
+)
+  where
+    regrouped : (a b c d : List ℕ) → (a ++ (b ++ c)) ++ d ≡ (a ++ b) ++ (c ++ d)
+    regrouped a b c d = simp append_assoc
