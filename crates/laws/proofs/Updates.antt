@@ -1,6 +1,7 @@
 -- UPDATE .. WHERE: what it leaves at a key, and in a sum over all rows.
 use Rattle.std.proofs.Common.{◌≡◌, ℤ, pos, ◌+ℤ◌, ◌-ℤ◌, Bool, true, false, cond, T, List, [], ◌∷◌, Option, Some, None, is_some, refl, sym, ap, ◌∙◌, subst, arith, ◌&&◌}
 use Rattle.std.proofs.lemmas.Int.{ints}
+use Rattle.std.proofs.lemmas.Option.{same_Some}
 use Rattle.std.specs.Option.{option_map, option_map_or}
 use Rattle.std.specs.Ordering.{eq_by_cmp, is_eq, is_lt}
 use Rattle.std.specs.Cmp.{tied_itself, eq_by_cmp_equiv}
@@ -19,13 +20,11 @@ second : (a b : Bool) → T (a && b) → T b
 second true b p = p
 second false b p = absurd p
 
-equal : (r : Ordering) → is_eq r ≡ true → r ≡ Equal
+-- a tie that a test found
+pub equal : (r : Ordering) → is_eq r ≡ true → r ≡ Equal
 equal Less p = cc
 equal Equal p = refl
 equal Greater p = cc
-
-same_Some : {A : Type 0} (x y : A) → Some x ≡ Some y → x ≡ y
-same_Some x y e = cc
 
 module _ {K X : Type 0} (R : K → K → Ordering) where
   below_all-map_entries : (g : K → X → X) (k : K) (es : List (K × X)) → below_all R k (map_entries g es) ≡ below_all R k es

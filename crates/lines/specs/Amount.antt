@@ -1,3 +1,4 @@
+-- The text of an amount of money of any size.
 use Rattle.std.specs.Prelude.{ℕ, suc, ◌+◌, ◌/◌, ◌%◌, ℤ, pos, negsuc, List, ◌++◌, codes, map, ◌==◌, if◌then◌else◌}
 use Rattle.std.specs.Int.Digits.{digits_of}
 use Rattle.money.specs.Money.{two_digits}

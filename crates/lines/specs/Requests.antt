@@ -1,4 +1,5 @@
-use Rattle.std.specs.Prelude.{◌≡◌, ◌≢◌, ◌<◌, ◌^◌, ⊤, List, [], ◌∷◌, ℕ, Result, Ok, Err, codes}
+-- Which lines are requests, and which refusal any other line gets.
+use Rattle.std.specs.Prelude.{◌≡◌, ◌<◌, ◌^◌, ⊤, List, [], ◌∷◌, ℕ, Result, Ok, Err, codes}
 use Rattle.std.specs.Fmt.{decimal}
 use Rattle.std.specs.List.{join_with_byte}
 use Rattle.money.specs.Money.{IsWithinLimit}
@@ -34,15 +35,17 @@ IsWithinReach (ShowWarehouse w) = ⊤
 IsWithinReach (ShowDistrict w d) = ⊤
 IsWithinReach (ShowCustomer w d c) = ⊤
 
--- what a refused line is: `BadInput` a request with its amount beyond the limit, `BadLine` no request
-abbrev pub IsRefused : List ℕ → Refusal → Type 0
-IsRefused line BadInput = (request : Request) × HasNumbers request × (line ≡ request_text request) × ¬ IsWithinReach request
-IsRefused line BadLine = (request : Request) → HasNumbers request → line ≢ request_text request
-IsRefused line _ = ⊥
+-- what asks these requests gets this refusal: `BadInput` where one has its amount beyond the limit, `BadLine` where there is none
+abbrev pub IsRefusalOf : (Request → Type 0) → Refusal → Type 0
+IsRefusalOf IsAsked BadInput = (request : Request) × HasNumbers request × IsAsked request × ¬ IsWithinReach request
+IsRefusalOf IsAsked BadLine = (request : Request) → HasNumbers request → ¬ IsAsked request
+IsRefusalOf IsAsked _ = ⊥
 
--- the same of words, with the answer to them
+-- a line gets this refusal
+abbrev pub IsRefused : List ℕ → Refusal → Type 0
+IsRefused line = IsRefusalOf (λ request. line ≡ request_text request)
+
+-- the words of a line get this answer
 abbrev pub Answers : List (List ℕ) → Result Request Refusal → Type 0
 Answers ws (Ok request) = (ws ≡ words_of request) × IsWithinReach request
-Answers ws (Err BadInput) = (request : Request) × HasNumbers request × (ws ≡ words_of request) × ¬ IsWithinReach request
-Answers ws (Err BadLine) = (request : Request) → HasNumbers request → ws ≢ words_of request
-Answers ws (Err _) = ⊥
+Answers ws (Err refusal) = IsRefusalOf (λ request. ws ≡ words_of request) refusal

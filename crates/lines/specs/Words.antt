@@ -1,3 +1,4 @@
+-- The words of a line.
 use Rattle.std.specs.Prelude.{ℕ, List, ◌==◌}
 use Rattle.std.specs.List.{slice_split}
 

@@ -1,5 +1,5 @@
 //! What is printed for a line of a script.
-ghost use Rattle.std.specs.Prelude.{◌≡◌, ◌++◌, OnOk, OnErr, IfErr, IfSome, string_bytes, codes};
+ghost use Rattle.std.specs.Prelude.{◌≡◌, ◌++◌, OnOk, OnErr, IfErr, string_bytes, codes};
 ghost use Rattle.lines.specs.Output.{refused_item};
 
 use money::Refusal;

@@ -1,5 +1,5 @@
 //! The report that ends a script: what was committed, and which consistency conditions hold.
-ghost use Rattle.std.specs.Prelude.{◌≡◌, ◌++◌, IfOk, OnOk, OnErr, IfErr, IfSome, string_bytes};
+ghost use Rattle.std.specs.Prelude.{◌≡◌, ◌++◌, IfOk, OnOk, OnErr, IfErr, string_bytes};
 ghost use Rattle.lines.specs.Report.{report_text};
 
 use money::Refusal;

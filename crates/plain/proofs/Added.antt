@@ -1,14 +1,13 @@
 -- What an amount that is added to a customer's sum changes.
-use Rattle.std.proofs.Common.{◌≡◌, ℤ, pos, ◌+ℤ◌, Bool, true, false, cond, ◌&&◌, ◌==◌, Option, Some, None, is_some, unwrap_or, refl, sym, ap, ◌∙◌, subst, arith}
-use Rattle.std.proofs.lemmas.Int.{ints}
+use Rattle.std.proofs.Common.{◌≡◌, ℤ, pos, ◌+ℤ◌, Bool, true, false, cond, ◌&&◌, ◌==◌, Option, Some, None, is_some, unwrap_or, refl, sym, ap, ◌∙◌, subst}
+use Rattle.std.proofs.Math.IntN.{+ℤ_idr}
 use Rattle.std.specs.Option.{option_map_or}
 use Rattle.std.specs.Ordering.{eq_by_cmp, is_eq}
 use Rattle.std.specs.Cmp.{tied_itself}
 use Rattle.std.specs.BTreeMap as tree
 use Rattle.std.specs.BTreeMap.{BTreeMap}
 use Rattle.std.specs.FinMap.{FinMap, get}
-use Rattle.std.specs.declared.cmp.Ordering.{Ordering}
-use Rattle.std.specs.declared.cmp.Ordering.TheVariants.{Less, Equal, Greater}
+use Rattle.std.specs.declared.cmp.Ordering.TheVariants.{Equal}
 use Rattle.tables.specs.Keys.{customer_cmp, order_cmp, is_customer, order_of}
 use Rattle.tables.specs.Conditions.{is_line_of}
 use Rattle.tables.specs.declared.keys.CustomerKey.{CustomerKey}
@@ -17,15 +16,8 @@ use Rattle.tables.specs.declared.rows.Order.{Order}
 use Rattle.tables.specs.declared.rows.OrderLine.{OrderLine}
 use Rattle.tables.proofs.Orders.{exact_customer}
 use Rattle.laws.proofs.KeyTests.{is_customer-key}
+use Rattle.laws.proofs.Updates.{equal}
 use Rattle.plain.specs.Amounts.{amount_at}
-
-equal : (r : Ordering) → is_eq r ≡ true → r ≡ Equal
-equal Less p = cc
-equal Equal p = refl
-equal Greater p = cc
-
-pub nothing : (a : ℤ) → a ≡ a +ℤ pos 0
-nothing a = omega (arith, ints)
 
 -- P holds of each sum before and after, if it holds of a sum that stays and of the one that changes
 pub each_sum : (P : CustomerKey → ℤ → ℤ → Type 0) (m n : BTreeMap CustomerKey ℤ) (key : CustomerKey) (v : ℤ) → tree.Updates customer_cmp m n key (Some v)
@@ -40,7 +32,7 @@ each_sum P m n key v h stays changes k =
 pub added : (m n : BTreeMap CustomerKey ℤ) (key : CustomerKey) (a v : ℤ) → tree.Updates customer_cmp m n key (Some v) → v ≡ amount_at m key +ℤ a
     → (k : CustomerKey) → amount_at n k ≡ amount_at m k +ℤ cond (is_customer key.warehouse key.district key.customer k) a (pos 0)
 added m n key a v h new = each_sum (λ k before after. after ≡ before +ℤ cond (is_customer key.warehouse key.district key.customer k) a (pos 0)) m n key v h
-    (λ k t. nothing (amount_at m k) ∙ ap (λ b. amount_at m k +ℤ cond b a (pos 0)) (sym (is_customer-key key.warehouse key.district key.customer k ∙ t)))
+    (λ k t. sym (+ℤ_idr (amount_at m k)) ∙ ap (λ b. amount_at m k +ℤ cond b a (pos 0)) (sym (is_customer-key key.warehouse key.district key.customer k ∙ t)))
     (new ∙ ap (λ b. amount_at m key +ℤ cond b a (pos 0)) (sym (is_customer-key key.warehouse key.district key.customer key ∙ ap is_eq (itself key))))
   where
     itself : (k : CustomerKey) → customer_cmp k k ≡ Equal

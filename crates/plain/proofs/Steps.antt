@@ -1,6 +1,7 @@
 -- One step of a sum in a loop.
 use Rattle.std.proofs.Common.{◌≡◌, ℕ, ◌+◌, ◌<◌, ℤ, pos, ◌+ℤ◌, List, [], ◌∷◌, take, get_or, length, sym, ap, ◌∙◌, arith}
 use Rattle.std.proofs.lemmas.Int.{ints}
+use Rattle.std.proofs.Math.IntN.{+ℤ_idr}
 use Rattle.std.proofs.lemmas.List.Sums.{fold_more}
 use Rattle.tables.specs.Maps.{sum_entries, sum_of}
 
@@ -19,7 +20,4 @@ sum_entries_more f all left rest k r sum share sum' next before one after =
 
 -- at the end, none are left
 pub sum_entries_all : {K X : Type 0} (f : K → X → ℤ) (all left : List (K × X)) (sum : ℤ) → left ≡ [] → sum +ℤ sum_entries f left ≡ sum_entries f all → sum ≡ sum_entries f all
-sum_entries_all f all left sum none before = nothing sum ∙ ap (λ es. sum +ℤ sum_entries f es) (sym none) ∙ before
-  where
-    nothing : (a : ℤ) → a ≡ a +ℤ pos 0
-    nothing a = omega (arith, ints)
+sum_entries_all f all left sum none before = sym (+ℤ_idr sum) ∙ ap (λ es. sum +ℤ sum_entries f es) (sym none) ∙ before

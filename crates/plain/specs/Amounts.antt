@@ -8,10 +8,6 @@ use Rattle.tables.specs.declared.keys.CustomerKey.{CustomerKey}
 abbrev pub amount_at : BTreeMap CustomerKey ℤ → CustomerKey → ℤ
 amount_at sums k = unwrap_or (get customer_cmp sums k) (pos 0)
 
--- two of them can be subtracted
+-- an amount of 64 bits can be added to each of them, and two of them can be subtracted
 abbrev pub AreBounded : BTreeMap CustomerKey ℤ → Type 0
 AreBounded sums = ((k : CustomerKey) → neg_ℤ (pos (2 ^ 126)) ≤ℤ amount_at sums k) × ((k : CustomerKey) → amount_at sums k <ℤ pos (2 ^ 126))
-
--- an amount of 64 bits can be added to each
-abbrev pub AreRoomy : BTreeMap CustomerKey ℤ → Type 0
-AreRoomy sums = ((k : CustomerKey) → neg_ℤ (pos (2 ^ 126)) ≤ℤ amount_at sums k) × ((k : CustomerKey) → amount_at sums k ≤ℤ pos (2 ^ 126))

@@ -1,13 +1,13 @@
 //! Sums over all rows of a table, in one pass each.
 
-ghost use Rattle.std.specs.Prelude.{IfOk, OnOk, ◌≡◌, ℕ, ◌^◌, ℤ, pos, neg_ℤ, ◌+ℤ◌, ◌-ℤ◌, ◌≤ℤ◌, ◌<ℤ◌, ◌==◌, cond, false};
+ghost use Rattle.std.specs.Prelude.{IfOk, OnOk, ◌≡◌, ◌^◌, ℤ, pos, neg_ℤ, ◌+ℤ◌, ◌-ℤ◌, ◌≤ℤ◌, ◌<ℤ◌, ◌==◌, cond};
 ghost use Rattle.std.specs.FinMap.{from_entries};
 ghost use Rattle.tables.specs.Keys.{district_cmp, order_cmp, is_district, is_customer};
 ghost use Rattle.tables.specs.Maps.{total};
 ghost use Rattle.tables.specs.Database.{database};
 ghost use Rattle.tables.specs.Conditions.{is_line_of, delivered_amount, warehouse_history, district_history, customer_history};
 ghost use Rattle.tables.specs.declared.keys.CustomerKey.{CustomerKey as KeyOfCustomer};
-ghost use Rattle.plain.specs.Amounts.{amount_at, AreBounded, AreRoomy};
+ghost use Rattle.plain.specs.Amounts.{amount_at, AreBounded};
 ghost use Rattle.plain.specs.Sums.{AreSumsOf};
 
 use money::Cents;
@@ -157,7 +157,7 @@ fn add_line(
     line_key: &LineKey,
     line: &OrderLine,
 ) -> Result<(), AllocError>
-    requires room { AreRoomy sums.old }
+    requires bound { AreBounded sums.old }
     ensures sums { OnOk result ((k : KeyOfCustomer) → amount_at sums.new k
         ≡ amount_at sums.old k +ℤ cond (is_line_of (from_entries {R = order_cmp} orders.now.entries) k line_key.now line.now) line.now.amount (pos 0)) }
     ensures above { OnOk result ((k : KeyOfCustomer) → (amount_at sums.old k -ℤ pos (2 ^ 63)) ≤ℤ amount_at sums.new k) }
@@ -189,7 +189,7 @@ fn add(
     key: CustomerKey,
     amount: Cents,
 ) -> Result<(), AllocError>
-    requires room { AreRoomy sums.old }
+    requires bound { AreBounded sums.old }
     ensures sums { OnOk result ((k : KeyOfCustomer) → amount_at sums.new k ≡ amount_at sums.old k +ℤ cond (is_customer key.warehouse key.district key.customer k) amount (pos 0)) }
     ensures above { OnOk result ((k : KeyOfCustomer) → (amount_at sums.old k -ℤ pos (2 ^ 63)) ≤ℤ amount_at sums.new k) }
     ensures below { OnOk result ((k : KeyOfCustomer) → amount_at sums.new k ≤ℤ (amount_at sums.old k +ℤ pos (2 ^ 63))) }

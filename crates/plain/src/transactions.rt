@@ -1,6 +1,6 @@
 //! A transaction on plain tables.
 
-ghost use Rattle.std.specs.Prelude.{◌≡◌, ℕ, ℤ, ◌+◌, ◌+ℤ◌, ◌-ℤ◌, ◌≤ℤ◌, ◌==◌, pos, Some, IsSomeAnd, OnOk, OnErr, IfOk, IfErr};
+ghost use Rattle.std.specs.Prelude.{◌≡◌, ℤ, ◌+◌, ◌+ℤ◌, ◌-ℤ◌, ◌≤ℤ◌, ◌==◌, pos, Some, IsSomeAnd, OnOk, IfOk, IfErr};
 ghost use Rattle.std.specs.FinMap.{from_entries, get};
 ghost use Rattle.std.specs.Ordering.{nat_cmp};
 ghost use Rattle.tables.specs.Database.{database};

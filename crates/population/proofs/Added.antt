@@ -7,6 +7,8 @@ use Rattle.std.specs.FinMap.{FinMap, get, get-insert, from_entries}
 use Rattle.std.specs.declared.cmp.Ordering.{Ordering}
 use Rattle.std.specs.declared.cmp.Ordering.TheVariants.{Less, Equal, Greater}
 use Rattle.std.proofs.lemmas.Bool.Decides.{nat_tests}
+use Rattle.std.proofs.Math.Bool.{and_assoc}
+use Rattle.std.specs.Cmp.{tied_then}
 use Rattle.tables.proofs.Orders.{IsExact}
 use Rattle.tables.proofs.Views.{insert-view}
 use Rattle.population.specs.Adds.{is, is_in, Adds}
@@ -25,17 +27,8 @@ pub right : (x u v w : Bool) → w ≡ (u || v) → (x && w) ≡ ((x && u) || (x
 right true u v w e = e
 right false u v w e = refl
 
-is_eq-then : (a b : Ordering) → is_eq (ordering_then a b) ≡ (is_eq a && is_eq b)
-is_eq-then Less b = refl
-is_eq-then Equal b = refl
-is_eq-then Greater b = refl
-
 pub is_eq-nat_cmp : (a b : ℕ) → is_eq (nat_cmp a b) ≡ (a == b)
 is_eq-nat_cmp a b = grind (arith, nat_tests)
-
-and_assoc : (a b c : Bool) → (a && b && c) ≡ (a && (b && c))
-and_assoc true b c = refl
-and_assoc false b c = refl
 
 and_assoc_four : (a b c d : Bool) → (a && (b && c && d)) ≡ (a && b && c && d)
 and_assoc_four true b c d = refl
@@ -46,13 +39,13 @@ pair e f i = e i && f i
 
 -- the keys that tie with a key are those with the same parts
 pub tied_two : (a b x y : ℕ) → is_eq (ordering_then (nat_cmp a x) (nat_cmp b y)) ≡ (is x a && is y b)
-tied_two a b x y = is_eq-then (nat_cmp a x) _ ∙ pair (is_eq-nat_cmp a x) (is_eq-nat_cmp b y)
+tied_two a b x y = sym (tied_then (nat_cmp a x) _) ∙ pair (is_eq-nat_cmp a x) (is_eq-nat_cmp b y)
 
 pub tied_three : (a b c x y z : ℕ) → is_eq (ordering_then (nat_cmp a x) (ordering_then (nat_cmp b y) (nat_cmp c z))) ≡ (is x a && is y b && is z c)
-tied_three a b c x y z = is_eq-then (nat_cmp a x) _ ∙ pair (is_eq-nat_cmp a x) (tied_two b c y z) ∙ sym (and_assoc (is x a) (is y b) (is z c))
+tied_three a b c x y z = sym (tied_then (nat_cmp a x) _) ∙ pair (is_eq-nat_cmp a x) (tied_two b c y z) ∙ sym (and_assoc (is x a) (is y b) (is z c))
 
 pub tied_four : (a b c d x y z w : ℕ) → is_eq (ordering_then (nat_cmp a x) (ordering_then (nat_cmp b y) (ordering_then (nat_cmp c z) (nat_cmp d w)))) ≡ (is x a && is y b && is z c && is w d)
-tied_four a b c d x y z w = is_eq-then (nat_cmp a x) _ ∙ pair (is_eq-nat_cmp a x) (tied_three b c d y z w) ∙ and_assoc_four (is x a) (is y b) (is z c) (is w d)
+tied_four a b c d x y z w = sym (tied_then (nat_cmp a x) _) ∙ pair (is_eq-nat_cmp a x) (tied_three b c d y z w) ∙ and_assoc_four (is x a) (is y b) (is z c) (is w d)
 
 cond_or : {A : Type 0} (p q : Bool) (x z : A) → cond q x (cond p x z) ≡ cond (p || q) x z
 cond_or true true x z = refl

@@ -4,8 +4,8 @@ use Rattle.std.specs.List.{flat_map}
 use Rattle.tables.specs.Sizes.{Sizes}
 use Rattle.tables.specs.Database.{Database}
 use Rattle.tables.specs.declared.rows.History.{History}
-use Rattle.population.specs.Plain.{delivered_orders, numbers}
-use Rattle.population.specs.Adds.{is, is_in, is_number, district_history, warehouse_history, AddsDistrictRows}
+use Rattle.population.specs.Plain.{delivered_orders, numbers, district_payments, warehouse_payments}
+use Rattle.population.specs.Adds.{is, is_in, is_number, AddsDistrictRows}
 use Rattle.population.proofs.Added.{is_in_more, left, right, adds_both}
 use Rattle.population.proofs.Lists.{flat_rows_more}
 
@@ -27,16 +27,16 @@ rows_both {s} {a} {b} {a'} {b'} {c} {d} {first_rows} {later_rows} rows {old} {mi
 
 -- a warehouse's next district
 pub district_more : (s : Sizes) (w i j last : ℕ) {old middle new : Database} → 1 ≤ i → j ≡ i + 1 → last ≡ i
-    → AddsDistrictRows s (is w) (is_in 1 i) (flat_map (λ d. district_history s w d) (numbers (i - 1))) old middle
-    → AddsDistrictRows s (is w) (is i) (district_history s w i) middle new
-    → AddsDistrictRows s (is w) (is_in 1 j) (flat_map (λ d. district_history s w d) (numbers last)) old new
+    → AddsDistrictRows s (is w) (is_in 1 i) (flat_map (λ d. district_payments s w d) (numbers (i - 1))) old middle
+    → AddsDistrictRows s (is w) (is i) (district_payments s w i) middle new
+    → AddsDistrictRows s (is w) (is_in 1 j) (flat_map (λ d. district_payments s w d) (numbers last)) old new
 district_more s w i j last from next same first later =
-    rows_both _ (λ x k. right (is w x) _ _ _ (is_in_more 1 i j k from next)) (flat_rows_more (λ d. district_history s w d) i last from same) first later
+    rows_both _ (λ x k. right (is w x) _ _ _ (is_in_more 1 i j k from next)) (flat_rows_more (λ d. district_payments s w d) i last from same) first later
 
 -- the next warehouse
 pub warehouse_more : (s : Sizes) (i j last : ℕ) {old middle new : Database} → 1 ≤ i → j ≡ i + 1 → last ≡ i
-    → AddsDistrictRows s (is_in 1 i) (is_number s.districts) (flat_map (λ w. warehouse_history s w) (numbers (i - 1))) old middle
-    → AddsDistrictRows s (is i) (is_number s.districts) (warehouse_history s i) middle new
-    → AddsDistrictRows s (is_in 1 j) (is_number s.districts) (flat_map (λ w. warehouse_history s w) (numbers last)) old new
+    → AddsDistrictRows s (is_in 1 i) (is_number s.districts) (flat_map (λ w. warehouse_payments s w) (numbers (i - 1))) old middle
+    → AddsDistrictRows s (is i) (is_number s.districts) (warehouse_payments s i) middle new
+    → AddsDistrictRows s (is_in 1 j) (is_number s.districts) (flat_map (λ w. warehouse_payments s w) (numbers last)) old new
 warehouse_more s i j last from next same first later =
-    rows_both _ (λ x k. left _ _ (is_number s.districts k) _ (is_in_more 1 i j x from next)) (flat_rows_more (λ w. warehouse_history s w) i last from same) first later
+    rows_both _ (λ x k. left _ _ (is_number s.districts k) _ (is_in_more 1 i j x from next)) (flat_rows_more (λ w. warehouse_payments s w) i last from same) first later

@@ -1,6 +1,5 @@
 -- What the functions that fill the tables add to them. A row is added where each part of its key passes a test.
-use Rattle.std.specs.Prelude.{◌≡◌, ℕ, ◌+◌, Bool, nat_le, nat_lt, ◌==◌, ◌&&◌, if◌then◌else◌, Some, List, ◌++◌, map}
-use Rattle.std.specs.List.{flat_map}
+use Rattle.std.specs.Prelude.{◌≡◌, ℕ, ◌+◌, Bool, nat_le, nat_lt, ◌==◌, ◌&&◌, if◌then◌else◌, Some, List, ◌++◌}
 use Rattle.std.specs.Ordering.{nat_cmp}
 use Rattle.std.specs.FinMap.{FinMap, get}
 use Rattle.std.specs.declared.cmp.Ordering.{Ordering}
@@ -16,7 +15,7 @@ use Rattle.tables.specs.declared.rows.Order.{Order}
 use Rattle.tables.specs.declared.rows.OrderLine.{OrderLine}
 use Rattle.tables.specs.declared.rows.Item.{Item}
 use Rattle.tables.specs.declared.rows.Stock.{Stock}
-use Rattle.population.specs.Plain.{plain_warehouse, plain_district, plain_customer, plain_order, plain_line, plain_item, plain_stock, plain_history_row, delivered_orders, numbers}
+use Rattle.population.specs.Plain.{plain_warehouse, plain_district, plain_customer, plain_order, plain_line, plain_item, plain_stock, delivered_orders}
 
 -- whether k is this number
 abbrev pub is : ℕ → ℕ → Bool
@@ -58,13 +57,6 @@ AddsNewOrders in_warehouse in_district in_order = Adds order_cmp (λ k. in_wareh
 
 abbrev pub AddsLines : Sizes → (ℕ → Bool) → (ℕ → Bool) → (ℕ → Bool) → (ℕ → Bool) → FinMap line_cmp OrderLine → FinMap line_cmp OrderLine → Type 0
 AddsLines s in_warehouse in_district in_order in_line = Adds line_cmp (λ k. in_warehouse k.warehouse && in_district k.district && in_order k.order && in_line k.line) (λ k. plain_line s k.warehouse k.order k.line)
-
--- the rows of HISTORY of a district, and of a warehouse
-abbrev pub district_history : Sizes → ℕ → ℕ → List History
-district_history s w d = map (λ c. plain_history_row w d c) (numbers s.customers)
-
-abbrev pub warehouse_history : Sizes → ℕ → List History
-warehouse_history s w = flat_map (λ d. district_history s w d) (numbers s.districts)
 
 -- the rows of the districts whose numbers pass these tests, with these rows of HISTORY
 pub record AddsDistrictRows (s : Sizes) (in_warehouse in_district : ℕ → Bool) (payments : List History) (old new : Database) : Type 0 where

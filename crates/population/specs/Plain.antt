@@ -54,9 +54,15 @@ plain_history_row w d c = record {
   amount = pos 1000;
 }
 
--- one payment a customer, in the order of warehouse, district and customer
+-- one payment a customer: those of a district, of a warehouse, and of all, in the order of warehouse, district and customer
+abbrev pub district_payments : Sizes → ℕ → ℕ → List History
+district_payments s w d = map (λ c. plain_history_row w d c) (numbers s.customers)
+
+abbrev pub warehouse_payments : Sizes → ℕ → List History
+warehouse_payments s w = flat_map (λ d. district_payments s w d) (numbers s.districts)
+
 abbrev pub plain_history : Sizes → List History
-plain_history s = flat_map (λ w. flat_map (λ d. map (λ c. plain_history_row w d c) (numbers s.customers)) (numbers s.districts)) (numbers s.warehouses)
+plain_history s = flat_map (λ w. warehouse_payments s w) (numbers s.warehouses)
 
 -- of the orders, as many as customers, the first seven tenths are delivered
 abbrev pub delivered_orders : Sizes → ℕ

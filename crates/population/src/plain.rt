@@ -3,8 +3,8 @@
 ghost use Rattle.std.specs.Prelude.{◌≡◌, ◌+◌, ◌++◌, IfOk, OnOk};
 ghost use Rattle.std.specs.FinMap.{from_entries};
 ghost use Rattle.tables.specs.Database.{database};
-ghost use Rattle.population.specs.Plain.{IsPlain, delivered_orders, plain_history};
-ghost use Rattle.population.specs.Adds.{is, is_in, is_number, district_history, warehouse_history, AddsWarehouses, AddsItems, AddsStock, AddsDistricts, AddsCustomers, AddsOrders, AddsNewOrders, AddsLines, AddsDistrictRows};
+ghost use Rattle.population.specs.Plain.{IsPlain, delivered_orders, district_payments, warehouse_payments, plain_history};
+ghost use Rattle.population.specs.Adds.{is, is_in, is_number, AddsWarehouses, AddsItems, AddsStock, AddsCustomers, AddsOrders, AddsNewOrders, AddsLines, AddsDistrictRows};
 
 use crate::rows::{
     customer_row, delivered, district_row, history_row, item_row, line_row, order_row, stock_row,
@@ -92,7 +92,7 @@ fn add_districts(tables: &mut Tables, scale: Scale) -> Result<(), AllocError>
 
 /// The rows of the districts of a warehouse.
 fn add_districts_of(tables: &mut Tables, scale: Scale, warehouse: u32) -> Result<(), AllocError>
-    ensures { OnOk result (AddsDistrictRows scale (is warehouse) (is_number scale.districts) (warehouse_history scale warehouse)
+    ensures { OnOk result (AddsDistrictRows scale (is warehouse) (is_number scale.districts) (warehouse_payments scale warehouse)
         (database tables.old) (database tables.new)) }
 {
     for district in 1..=scale.districts() {
@@ -108,7 +108,7 @@ fn add_district(
     warehouse: u32,
     district: u32,
 ) -> Result<(), AllocError>
-    ensures { OnOk result (AddsDistrictRows scale (is warehouse) (is district) (district_history scale warehouse district)
+    ensures { OnOk result (AddsDistrictRows scale (is warehouse) (is district) (district_payments scale warehouse district)
         (database tables.old) (database tables.new)) }
 {
     let key = DistrictKey {
@@ -152,7 +152,7 @@ fn add_payments(
     warehouse: u32,
     district: u32,
 ) -> Result<(), AllocError>
-    ensures { OnOk result (table.new.items ≡ table.old.items ++ district_history scale warehouse district) }
+    ensures { OnOk result (table.new.items ≡ table.old.items ++ district_payments scale warehouse district) }
 {
     for payer in 1..=scale.customers() {
         table.push(history_row(warehouse, district, payer))?;

@@ -1,6 +1,6 @@
 //! The rows of the plain population, in which no column is drawn.
 
-ghost use Rattle.std.specs.Prelude.{◌≡◌, ℕ, ◌≤◌};
+ghost use Rattle.std.specs.Prelude.{◌≡◌, ◌≤◌};
 ghost use Rattle.tables.specs.Sizes.{IsNumber};
 ghost use Rattle.population.specs.Plain.{plain_warehouse, plain_district, plain_customer, plain_history_row, plain_order, plain_line, plain_item, plain_stock, delivered_orders, is_delivered};
 

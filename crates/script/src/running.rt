@@ -36,7 +36,8 @@ const MAX_LINES: u32 = 4_000_000_000;
 /// come, and what is returned is that script's report and its commits in order (`specs/Written.antt`).
 ///
 /// What was answered is written before each read, so it is out before a read can wait. Memory beside the
-/// tables is bounded by the size of a piece, whatever comes.
+/// tables is that of one piece and its answers, of a [`Done`] for each commit, up to the commit cap, and, at
+/// the end, of the report's sums by customer.
 ///
 /// Refuses by `Device` where the reader or the writer fails, or comes to no end in 2^64 - 1 calls, by `BadInput`
 /// only where there are more than 4,000,000,000 lines, and else for memory. What was written by then is a

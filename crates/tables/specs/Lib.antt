@@ -2,6 +2,8 @@ pub mod Sizes
 pub mod Keys
 pub mod Maps
 pub mod Database
+pub mod Records
+pub mod Rows
 pub mod Inputs
 pub mod Apply
 pub mod Conditions

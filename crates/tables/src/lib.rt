@@ -5,14 +5,17 @@
 
 mod input;
 mod keys;
+mod records;
 mod reply;
 mod rows;
 mod scale;
 #[cfg(test)]
 mod tests;
+mod words;
 
 pub use input::{Input, Payment, Who};
 pub use keys::{CustomerKey, DistrictKey, LineKey, OrderKey, StockKey};
+pub use records::{RecordKey, Table, number_of, rec, records_have_one_number_each};
 pub use reply::{PaymentReply, Reply};
 pub use rows::{
     Credit, Customer, District, History, Item, NewOrder, Order, OrderLine, Stock, Warehouse,
@@ -20,6 +23,7 @@ pub use rows::{
 pub use scale::{Scale, is_between};
 use std::alloc::Global;
 use std::collections::BTreeMap;
+pub use words::{money_from_word, money_to_word};
 
 /// The nine tables (TPC-C 1.3): eight maps from key to row, and HISTORY, which has no key, as a list in
 /// the order in which its rows came.

@@ -1,7 +1,10 @@
-//! Which numbers make a scale, and which fields a Payment's input.
+//! Which numbers make a scale, which fields a Payment's input, and how records are numbered and kept.
 
-use crate::{Input, Payment, Scale, Tables, Who};
-use money::{Cents, Refusal};
+use crate::{
+    Credit, Customer, CustomerKey, District, Input, Payment, RecordKey, Scale, Table, Tables,
+    Warehouse, Who, money_from_word, money_to_word, number_of, rec,
+};
+use money::{Cents, Rate, Refusal};
 use std::test::Fail;
 
 fn small() -> Result<Scale, Fail> {
@@ -63,5 +66,69 @@ fn no_rows_at_first(rt: HostRuntime) -> Result<(), Fail> {
     let tables = Tables::new(rt.alloc(), small()?);
     assert_eq!(rt; tables.scale, small()?);
     assert!(rt; tables.warehouses.is_empty() && tables.history.is_empty());
+    Ok(())
+}
+
+#[test]
+fn record_numbers(rt: HostRuntime) -> Result<(), Fail> {
+    let scale = Scale::new(1, 2, 10, 20, 30, 1_000)?;
+    let firsts = [
+        (Table::Warehouse, 1, 0),
+        (Table::District, 2, 1),
+        (Table::Customer, 20, 3),
+        (Table::NewOrder, 60, 23),
+        (Table::Order, 60, 83),
+        (Table::OrderLine, 900, 143),
+        (Table::Stock, 20, 1_043),
+        (Table::Oldest, 2, 1_063),
+        (Table::Last, 20, 1_065),
+    ];
+    for (table, size, first) in firsts {
+        assert_eq!(rt; table.size(&scale), size, "{table:?}");
+        if table.size(&scale) > 0 {
+            assert_eq!(rt; rec(&scale, table, 0), first, "{table:?}");
+        }
+    }
+    assert_eq!(rt; Table::History.size(&scale), 0);
+    assert_eq!(rt; Table::Item.size(&scale), 0);
+    let customer = CustomerKey {
+        warehouse: 1,
+        district: 2,
+        customer: 3,
+    };
+    assert_eq!(rt; number_of(&scale, RecordKey::Customer(customer)), 15);
+    assert_eq!(rt; number_of(&scale, RecordKey::Last(customer)), 1_077);
+    Ok(())
+}
+
+#[test]
+fn words_of_rows(rt: HostRuntime) -> Result<(), Fail> {
+    assert_eq!(rt; money_to_word(Cents::new(-2_234)), 0xffff_ffff_ffff_f746);
+    assert_eq!(rt; money_from_word(0xffff_ffff_ffff_f746), Cents::new(-2_234));
+    let warehouse = Warehouse {
+        tax: Rate::new(1_000).ok_or(Refusal::BadInput)?,
+        year_to_date: Cents::new(21_234),
+    };
+    assert_eq!(rt; warehouse.words(), [0x52f2, 0, 0, 0, 0, 0, 0]);
+    let district = District {
+        tax: Rate::new(500).ok_or(Refusal::BadInput)?,
+        year_to_date: Cents::new(11_234),
+        next_order: 11,
+    };
+    assert_eq!(rt; district.words(), [0x2be2, 11, 0, 0, 0, 0, 0]);
+    let customer = Customer {
+        first_name: 9_996,
+        last_name: 2,
+        credit: Credit::Good,
+        discount: Rate::new(1_000).ok_or(Refusal::BadInput)?,
+        balance: Cents::new(-2_234),
+        paid: Cents::new(2_234),
+        payments: 2,
+        deliveries: 0,
+    };
+    assert_eq!(rt;
+        customer.words(),
+        [0xffff_ffff_ffff_f746, 0x8ba, 2, 0, 0, 0, 0]
+    );
     Ok(())
 }

@@ -3,14 +3,12 @@
 
 mod finish;
 
-use clap::Error;
 use command_line::{Options, Subcommand, options};
 use finish::{USAGE_FAULT, finish};
 use money::Refusal;
 use plain::Report;
 use population::Population;
 use script::script;
-use std::alloc::Global;
 use std::env;
 use std::process::ExitCode;
 

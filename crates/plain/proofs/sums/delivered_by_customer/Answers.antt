@@ -10,7 +10,7 @@ use Rattle.plain.proofs.Steps.{sum_entries_more, sum_entries_all}
 use Rattle.plain.proofs.sums.delivered_by_customer.Goals as goal
 
 pub add_line-requires : goal.add_line-requires
-add_line-requires c = record { room = (λ k. omega (arith, ints, c.loop-line_key.invariant.low k), λ k. omega (arith, ints, c.loop-line_key.invariant.high k)) }
+add_line-requires c = record { bound = (λ k. omega (arith, ints, c.loop-line_key.invariant.low k), λ k. omega (arith, ints, c.loop-line_key.invariant.high k)) }
 
 pub loop-line_key-preserved : goal.loop-line_key-preserved
 loop-line_key-preserved c =

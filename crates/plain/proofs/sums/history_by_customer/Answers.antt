@@ -6,7 +6,7 @@ use Rattle.plain.proofs.Steps.{sum_of_more}
 use Rattle.plain.proofs.sums.history_by_customer.Goals as goal
 
 pub add-requires : goal.add-requires
-add-requires c = record { room = (λ k. omega (arith, ints, c.loop-row.invariant.low k), λ k. omega (arith, ints, c.loop-row.invariant.high k)) }
+add-requires c = record { bound = (λ k. omega (arith, ints, c.loop-row.invariant.low k), λ k. omega (arith, ints, c.loop-row.invariant.high k)) }
 
 pub loop-row-preserved : goal.loop-row-preserved
 loop-row-preserved c = record {

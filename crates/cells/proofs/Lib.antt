@@ -1,0 +1,6 @@
+pub mod Rising
+pub mod Moves
+pub mod Known
+pub mod Places
+pub mod Records
+pub mod Firsts

@@ -1,0 +1,7 @@
+pub mod TidWord
+pub mod Versions
+pub mod Views
+pub mod Records
+pub mod Places
+pub mod Opening
+pub mod First

@@ -1,0 +1,49 @@
+-- What the holder of the pen and a reader know of all records, by record number, and what each call does to it.
+use Rattle.std.specs.Prelude.{◌≡◌, ℕ, ◌+◌, List, [], ◌∷◌, ◌++◌, slice_index, slice_index_or, slice_set}
+use Rattle.atomic_table.specs.Seated.{TableId}
+use Rattle.cells.specs.declared.cells.Version.{Version}
+use Rattle.cells.specs.Versions.{StartsWith, EndsWith, IsRising}
+
+-- the pen's: which cell a record has, and all its versions
+pub record Written : Type 0 where
+  pub cells : List TableId
+  pub all : List (List (List ℕ))
+
+-- a reader's: which cell a record has, which first ones of its versions the reader has seen, and how often it has loaded
+pub record Sights : Type 0 where
+  pub cells : List TableId
+  pub seen : List (List (List ℕ))
+  pub loads : List ℕ
+
+-- the words of a version
+abbrev pub words_of : Version → List ℕ
+words_of version = version.word ∷ version.payload
+
+-- the versions of record n
+abbrev pub at : List (List (List ℕ)) → ℕ → List (List ℕ)
+at versions n = slice_index_or versions n []
+
+-- a version is stored in record n
+pub record Writes (old new : Written) (n : ℕ) (version : List ℕ) : Type 0 where
+  pub cells : new.cells ≡ old.cells
+  pub others : new.all ≡ slice_set old.all n (at new.all n)
+  pub last : at new.all n ≡ at old.all n ++ version ∷ []
+
+-- a reader loads record n once, and this version is the last that it has then seen
+pub record Reads (old new : Sights) (n : ℕ) (version : List ℕ) : Type 0 where
+  pub cells : new.cells ≡ old.cells
+  pub others : new.seen ≡ slice_set old.seen n (at new.seen n)
+  pub other_loads : new.loads ≡ slice_set old.loads n (slice_index new.loads n)
+  pub loads : slice_index new.loads n ≡ slice_index old.loads n + 1
+  pub grows : StartsWith (at new.seen n) (at old.seen n)
+  pub rising : IsRising (at new.seen n)
+  pub last : EndsWith (at new.seen n) version
+
+-- a reader has then seen all versions of record n, of which it had seen the first
+pub record Learns (pen : Written) (old new : Sights) (n : ℕ) : Type 0 where
+  pub cells : new.cells ≡ old.cells
+  pub others : new.seen ≡ slice_set old.seen n (at new.seen n)
+  pub loads : new.loads ≡ old.loads
+  pub learnt : at new.seen n ≡ at pen.all n
+  pub grows : StartsWith (at pen.all n) (at old.seen n)
+  pub rising : IsRising (at pen.all n)

@@ -1,0 +1,33 @@
+-- The versions of one record, oldest first. A version is the list of its words, of which the first is the TID word (Silo, section 4.2).
+use Rattle.std.specs.Prelude.{◌≡◌, ℕ, ◌+◌, ◌≤◌, List, [], ◌∷◌, ◌++◌, slice_index}
+use Rattle.cells.specs.TidWord.{tid_of}
+
+-- the TID of a version
+abbrev pub tid : List ℕ → ℕ
+tid version = tid_of (slice_index version 0)
+
+-- the TID of the last version
+abbrev pub last_tid : List (List ℕ) → ℕ
+last_tid [] = 0
+last_tid (v ∷ []) = tid v
+last_tid (v ∷ w ∷ vs) = last_tid (w ∷ vs)
+
+-- the TIDs rise, from n or more
+abbrev pub RisesFrom : ℕ → List (List ℕ) → Type 0
+RisesFrom n [] = Unit {0}
+RisesFrom n (v ∷ vs) = (n ≤ tid v) × RisesFrom (tid v + 1) vs
+
+abbrev pub IsRising : List (List ℕ) → Type 0
+IsRising versions = RisesFrom 0 versions
+
+-- these versions are the first ones of all
+abbrev pub StartsWith : List (List ℕ) → List (List ℕ) → Type 0
+StartsWith all versions = (rest : List (List ℕ)) × (all ≡ versions ++ rest)
+
+-- this version is the last one of all
+abbrev pub EndsWith : List (List ℕ) → List ℕ → Type 0
+EndsWith all version = (front : List (List ℕ)) × (all ≡ front ++ version ∷ [])
+
+-- this version is one of all
+abbrev pub Has : List (List ℕ) → List ℕ → Type 0
+Has all version = (front : List (List ℕ)) × (rest : List (List ℕ)) × (all ≡ front ++ version ∷ rest)

@@ -1,0 +1,63 @@
+-- The rule of one cell, over what each of its passes knows.
+use Rattle.std.specs.Prelude.{◌≡◌, ◌≢◌, ℕ, ◌+◌, ◌⊎◌, List, [], ◌∷◌, ◌++◌, true, false}
+use mathlib.Core.Option.{some}
+use lib.ListN.{get_elem?}
+use Rattle.atomic_table.specs.declared.shared.Seat.{Seat}
+use Rattle.crossbeam_utils.specs.declared.atomic.seq_cell.Doing.{Doing}
+use Rattle.crossbeam_utils.specs.Seq.{cell_view}
+use Rattle.cells.specs.declared.rule.View.{View}
+use Rattle.cells.specs.Versions.{StartsWith, EndsWith, IsRising}
+
+-- the pen, which knows these versions
+abbrev pub pen_view : List (List ℕ) → View
+pen_view all = record { pen = true; seen = all; told = []; loads = 0 }
+
+-- a reader that has seen these versions
+abbrev pub sight : List (List ℕ) → ℕ → View
+sight seen loads = record { pen = false; seen = seen; told = []; loads = loads }
+
+-- a pass that is told what another has seen
+abbrev pub heard : View → View → View
+heard v w = record { pen = v.pen; seen = v.seen; told = w.seen; loads = v.loads }
+
+-- a pass that has then seen what another has seen
+abbrev pub learnt : View → View → View
+learnt v w = record { pen = v.pen; seen = w.seen; told = v.told; loads = v.loads }
+
+-- a pass has seen the first versions of all, and the pen, of which there is one, has seen all
+abbrev pub Fits : ℕ → List (List ℕ) → ℕ → View → Type 0
+Fits seat all by v = StartsWith all v.seen × StartsWith all v.told × (v.pen ≡ true → (by ≡ seat) × (v.seen ≡ all))
+
+-- the cell has the last of its versions, which rise
+abbrev pub Kept : List ℕ → List View → Type 0
+Kept now views =
+    (seat : ℕ) × (all : List (List ℕ)) × IsRising all × ((all ≡ []) ⊎ EndsWith all now)
+    × ((by : ℕ) (v : View) → get_elem? views by ≡ some v → Fits seat all by v)
+
+-- the pen stores a version
+abbrev pub Stored : View → List ℕ → List ℕ → View → Type 0
+Stored v before after w = w ≡ pen_view (v.seen ++ after ∷ [])
+
+-- a reader loads the last version, and has then seen all up to it
+abbrev pub Loaded : View → List ℕ → List ℕ → View → Type 0
+Loaded v before after w =
+    (w ≡ sight w.seen (v.loads + 1)) × StartsWith w.seen v.seen × IsRising w.seen × ((w.seen ≡ []) ⊎ EndsWith w.seen after)
+
+-- the pen loads the last version, and learns that what it was told is the first of its versions
+abbrev pub Compared : View → List ℕ → List ℕ → View → Type 0
+Compared v before after w =
+    (w ≡ pen_view v.seen) × StartsWith v.seen v.told × IsRising v.seen × ((v.seen ≡ []) ⊎ EndsWith v.seen after)
+
+-- what a pass of the pen, and of a reader, knows between calls
+abbrev pub IsPen : View → Type 0
+IsPen v = (v ≡ pen_view v.seen) × (v.seen ≢ []) × IsRising v.seen
+
+abbrev pub IsReader : View → Type 0
+IsReader v = (v ≡ sight v.seen v.loads) × (v.seen ≢ []) × IsRising v.seen
+
+-- a pass of one cell
+abbrev pub Place : Type 0
+Place = Seat (List ℕ) (Doing (List ℕ) View)
+
+abbrev pub known : Place → View
+known place = cell_view place

@@ -1,0 +1,198 @@
+//! The cells of all records, by table.
+ghost use Rattle.std.specs.Prelude.{◌≡◌, ◌≢◌, ◌<◌, Some, List, [], ◌∷◌, ◌++◌, length, slice_get, MatchBool, OnOk, OnErr, IfErr};
+ghost use Rattle.money.specs.declared.refusal.Refusal.TheVariants.{OutOfMemory};
+ghost use Rattle.atomic_table.specs.Seated.{TableId};
+ghost use Rattle.cells.specs.TidWord.{tid_of};
+ghost use Rattle.cells.specs.Versions.{EndsWith, Has, last_tid};
+ghost use Rattle.cells.specs.Records.{at, Writes, Reads, Learns};
+
+use crate::holders::{PenOf, ReaderOf};
+use crate::rule::Cell;
+use crate::tid::TidWord;
+use money::Refusal;
+use std::alloc::Global;
+use std::marker::Model;
+use std::sync::Wait;
+
+/// The right to store versions, of which there is one. Contracts see what it knows of each record, by record
+/// number: its cell, and all its versions (`Written`). It has no bytes of its own a record.
+pub type Pen = PenOf<8>;
+
+/// The right to read. Contracts see what it knows of each record, by record number: its cell, which first ones of
+/// its versions this reader has seen, and how often it has loaded (`Sights`). It has no bytes of its own a record.
+pub type Reader = ReaderOf<8>;
+
+/// A version of a record: its record number, its TID word, and its data.
+#[derive(Clone, Copy, Debug, PartialEq, Eq)]
+pub struct Version {
+    pub record: u32,
+    pub word: TidWord,
+    pub payload: [u64; 7],
+}
+
+/// The cells of one table's records. Contracts see which cells they are.
+#[derive(Drop)]
+pub(crate) struct CellList<const N: usize> {
+    pub(crate) cells: Vec<Cell<N>>,
+}
+
+impl<const N: usize> Model for CellList<N> {
+    ghost use Rattle.std.specs.Prelude.{List, map};
+    ghost use Rattle.atomic_table.specs.Seated.{TableId};
+
+    ghost Value = { List TableId };
+
+    ghost view = { λ l. map (λ c. c.table.shared.table_id) l.cells.items };
+}
+
+impl<const N: usize> CellList<N> {
+    /// No cell.
+    pub(crate) fn new(alloc: Global) -> CellList<N>
+        ensures { result ≡ [] }
+    {
+        CellList {
+            cells: Vec::new(alloc),
+        }
+    }
+
+    /// Adds a cell at the end.
+    pub(crate) fn push(&mut self, cell: Cell<N>) -> Result<(), Refusal>
+        ensures ok { OnOk result (self.new ≡ self.old ++ cell.entry.table.shared.table_id ∷ []) }
+        ensures err { OnErr result (self.new ≡ self.old) }
+        ensures memory { IfErr result (λ e. e ≡ OutOfMemory) }
+    {
+        self.cells.push(cell)?;
+        Ok(())
+    }
+
+    fn len(&self) -> usize
+        ensures { result ≡ length self.now }
+    {
+        self.cells.len()
+    }
+
+    // The cell of the n-th record of this table.
+    fn cell(&self, n: usize) -> &Cell<N>
+        requires { n < length self.now }
+        ensures { slice_get self.now n ≡ Some result.now.table.shared.table_id }
+    {
+        &self.cells[n]
+    }
+}
+
+/// The cells of all records: those of WAREHOUSE, then of DISTRICT, then of CUSTOMER. Contracts see which cells they
+/// are, by record number.
+#[derive(Drop)]
+pub struct Cells {
+    warehouses: CellList<8>,
+    districts: CellList<8>,
+    customers: CellList<8>,
+}
+
+impl Model for Cells {
+    ghost Value = { List TableId };
+
+    ghost view = { λ c. c.warehouses ++ (c.districts ++ c.customers) };
+}
+
+impl Cells {
+    ghost use Rattle.cells.specs.Records.{words_of};
+
+    // The cells of these tables.
+    pub(crate) fn of_tables(
+        warehouses: CellList<8>,
+        districts: CellList<8>,
+        customers: CellList<8>,
+    ) -> Cells
+        ensures { result ≡ warehouses ++ (districts ++ customers) }
+    {
+        Cells {
+            warehouses,
+            districts,
+            customers,
+        }
+    }
+
+    // The cell of a record.
+    fn cell(&self, number: u32) -> &Cell<8>
+        requires { number < length self.now }
+        ensures { slice_get self.now number ≡ Some result.now.table.shared.table_id }
+    {
+        let number = number as usize;
+        let Some(number) = number.checked_sub(self.warehouses.len()) else {
+            return self.warehouses.cell(number);
+        };
+        match number.checked_sub(self.districts.len()) {
+            None => self.districts.cell(number),
+            Some(number) => self.customers.cell(number),
+        }
+    }
+
+    /// The latest version of a record, whose words are all of one version: never a mix of two (Silo, section 4.5).
+    ///
+    /// One load step, which takes effect between the call and the return. It waits only where a version is being
+    /// stored in this record. Takes no memory.
+    pub fn read<R: Wait>(&self, rt: &R, reader: &mut Reader, number: u32) -> Version
+        requires own { reader.old.cells ≡ self.now }
+        requires is_record { number < length self.now }
+        ensures reads { Reads reader.old reader.new number (words_of result) }
+        ensures record { result.record ≡ number }
+    {
+        let cell = self.cell(number);
+        let [word, a, b, c, d, e, f, g] = reader.read(rt, cell, number as usize);
+        Version {
+            record: number,
+            word: TidWord::new(word),
+            payload: [a, b, c, d, e, f, g],
+        }
+    }
+
+    /// Makes a version the latest of its record: its TID is larger than that of the latest so far. Readers see all
+    /// of it or nothing of it. Takes no memory, and constant time.
+    pub fn store<R: Wait>(
+        &self,
+        rt: &R,
+        pen: &mut Pen,
+        number: u32,
+        word: TidWord,
+        payload: [u64; 7],
+    )
+        requires own { pen.old.cells ≡ self.now }
+        requires is_record { number < length self.now }
+        requires larger { last_tid (at pen.old.all number) < tid_of word }
+        ensures { Writes pen.old pen.new number (word ∷ payload) }
+    {
+        let version = words(word, payload);
+        pen.store(rt, self.cell(number), number as usize, version);
+    }
+
+    /// Whether a version that the reader has read is still the latest of its record (the second phase of Silo's
+    /// commit, section 4.4): true exactly where its TID is the latest's, and then it is the latest.
+    ///
+    /// The reader has then seen all versions of the record. Takes no memory, and constant time.
+    pub fn meet<R: Wait>(
+        &self,
+        rt: &R,
+        pen: &mut Pen,
+        reader: &mut Reader,
+        version: &Version,
+    ) -> bool
+        requires own { (pen.old.cells ≡ self.now) × (reader.old.cells ≡ self.now) }
+        requires is_record { version.now.record < length self.now }
+        requires seen { Has (at reader.old.seen version.now.record) (words_of version.now) }
+        ensures pen { pen.new ≡ pen.old }
+        ensures reader { Learns pen.old reader.old reader.new version.now.record }
+        ensures latest { MatchBool result (EndsWith (at pen.old.all version.now.record) (words_of version.now)) (tid_of version.now.word ≢ last_tid (at pen.old.all version.now.record)) }
+    {
+        let cell = self.cell(version.record);
+        let latest = pen.meet(rt, cell, version.record as usize, reader);
+        TidWord::new(latest[0]).tid() == version.word.tid()
+    }
+}
+
+fn words(word: TidWord, payload: [u64; 7]) -> [u64; 8]
+    ensures { result ≡ word ∷ payload }
+{
+    let [a, b, c, d, e, f, g] = payload;
+    [word.word(), a, b, c, d, e, f, g]
+}

@@ -1,0 +1,131 @@
+//! The pen and the readers of all cells: what their holders know, one pass a record, in the order of record numbers. A
+//! pass has no bytes.
+ghost use Rattle.std.specs.Prelude.{◌≡◌, ◌<◌, Some, [], slice_get, OnOk, OnErr, IfErr};
+ghost use Rattle.money.specs.declared.refusal.Refusal.TheVariants.{OutOfMemory};
+ghost use Rattle.cells.specs.Versions.{EndsWith, last_tid, tid};
+ghost use Rattle.cells.specs.Records.{at, Writes, Reads, Learns};
+ghost use Rattle.cells.specs.Places.{written_of, written_and, sights_of, sights_and};
+ghost use Rattle.cells.specs.Views.{IsPen, IsReader, known};
+
+use crate::place::{load, meet, store};
+use crate::rule::{Cell, Place};
+use money::Refusal;
+use std::alloc::Global;
+use std::marker::Model;
+use std::sync::Wait;
+
+/// The right to store versions in cells of `N` words, of which there is one. Contracts see it as `Written`.
+#[derive(Drop)]
+pub struct PenOf<const N: usize> {
+    pub(crate) places: Vec<Place<N>>,
+}
+
+impl<const N: usize> Model for PenOf<N> {
+    ghost use Rattle.std.specs.Prelude.{All};
+    ghost use Rattle.cells.specs.Records.{Written};
+    ghost use Rattle.cells.specs.Places.{written_of};
+    ghost use Rattle.cells.specs.Views.{IsPen, known};
+
+    ghost Value = { Written };
+
+    ghost view = { λ p. written_of p.places.items };
+
+    ghost invariant = { λ p. All (λ place. IsPen (known place)) p.places.items };
+}
+
+/// The right to read cells of `N` words. Contracts see it as `Sights`.
+#[derive(Drop)]
+pub struct ReaderOf<const N: usize> {
+    pub(crate) places: Vec<Place<N>>,
+}
+
+impl<const N: usize> Model for ReaderOf<N> {
+    ghost use Rattle.std.specs.Prelude.{All};
+    ghost use Rattle.cells.specs.Records.{Sights};
+    ghost use Rattle.cells.specs.Places.{sights_of};
+    ghost use Rattle.cells.specs.Views.{IsReader, known};
+
+    ghost Value = { Sights };
+
+    ghost view = { λ r. sights_of r.places.items };
+
+    ghost invariant = { λ r. All (λ place. IsReader (known place)) r.places.items };
+}
+
+impl<const N: usize> ReaderOf<N> {
+    // A reader of no record.
+    pub(crate) fn new(alloc: Global) -> ReaderOf<N>
+        ensures { result ≡ sights_of [] }
+    {
+        ReaderOf {
+            places: Vec::new(alloc),
+        }
+    }
+
+    // Adds a record.
+    pub(crate) fn push(&mut self, place: Place<N>) -> Result<(), Refusal>
+        requires { IsReader (known place) }
+        ensures ok { OnOk result (self.new ≡ sights_and self.old place.entry) }
+        ensures err { OnErr result (self.new ≡ self.old) }
+        ensures memory { IfErr result (λ e. e ≡ OutOfMemory) }
+    {
+        self.places.push(place)?;
+        Ok(())
+    }
+
+    // Loads the last version of record n, whose cell this is.
+    pub(crate) fn read<R: Wait>(&mut self, rt: &R, cell: &Cell<N>, n: usize) -> [u64; N]
+        requires { slice_get self.old.cells n ≡ Some cell.now.table.shared.table_id }
+        ensures { Reads self.old self.new n result }
+    {
+        load(rt, cell, &mut self.places[n])
+    }
+}
+
+impl<const N: usize> PenOf<N> {
+    // The pen of no record.
+    pub(crate) fn new(alloc: Global) -> PenOf<N>
+        ensures { result ≡ written_of [] }
+    {
+        PenOf {
+            places: Vec::new(alloc),
+        }
+    }
+
+    // Adds a record.
+    pub(crate) fn push(&mut self, place: Place<N>) -> Result<(), Refusal>
+        requires { IsPen (known place) }
+        ensures ok { OnOk result (self.new ≡ written_and self.old place.entry) }
+        ensures err { OnErr result (self.new ≡ self.old) }
+        ensures memory { IfErr result (λ e. e ≡ OutOfMemory) }
+    {
+        self.places.push(place)?;
+        Ok(())
+    }
+
+    // Stores a version of record n, whose cell this is.
+    pub(crate) fn store<R: Wait>(&mut self, rt: &R, cell: &Cell<N>, n: usize, version: [u64; N])
+        requires own { slice_get self.old.cells n ≡ Some cell.now.table.shared.table_id }
+        requires larger { last_tid (at self.old.all n) < tid version }
+        ensures { Writes self.old self.new n version.entry }
+    {
+        store(rt, cell, &mut self.places[n], version);
+    }
+
+    // Lets a reader see all versions of record n, whose cell this is, and gives the last.
+    pub(crate) fn meet<R: Wait>(
+        &mut self,
+        rt: &R,
+        cell: &Cell<N>,
+        n: usize,
+        reader: &mut ReaderOf<N>,
+    ) -> [u64; N]
+        requires own { slice_get self.old.cells n ≡ Some cell.now.table.shared.table_id }
+        requires reader { slice_get reader.old.cells n ≡ Some cell.now.table.shared.table_id }
+        ensures same { self.new ≡ self.old }
+        ensures reader { Learns self.old reader.old reader.new n }
+        ensures last { EndsWith (at self.old.all n) result }
+    {
+        meet(rt, cell, &mut self.places[n], &mut reader.places[n])
+    }
+}

@@ -1,0 +1,16 @@
+//! Record cells: the latest version of each record, which threads read without a lock and without tearing, and
+//! which the holder of the pen changes (Silo, sections 4.2, 4.3 and 4.5).
+#![tactic(auto)]
+
+mod cells;
+mod holders;
+mod opening;
+mod place;
+mod populate;
+mod rule;
+#[cfg(test)]
+mod tests;
+mod tid;
+
+pub use cells::{Cells, Pen, Reader, Version};
+pub use tid::{Status, TidWord};

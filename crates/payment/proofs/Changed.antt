@@ -1,0 +1,106 @@
+-- What a Payment changes of the records.
+use Rattle.std.proofs.Common.{◌≡◌, ◌≢◌, ℕ, ℤ, ◌+◌, ◌+ℤ◌, ◌-ℤ◌, Bool, true, false, cond, T, List, [], ◌∷◌, Option, Some, None, refl, sym, ap, ◌∙◌, ◌==◌, ◌&&◌, eqb, subst, true≢false}
+use Rattle.std.proofs.lemmas.Bool.{eqb-true, eq-eqb}
+use Rattle.std.specs.Option.{option_map, option_map_or, unwrap_or}
+use Rattle.std.specs.FinMap.{FinMap, get}
+use Rattle.tables.specs.Database.{Database}
+use Rattle.tables.specs.Keys.{is_district, is_customer}
+use Rattle.tables.specs.Maps.{map_rows, update_where, column}
+use Rattle.tables.specs.Inputs.{number_of, payer}
+use Rattle.tables.specs.Apply.{after_payment}
+use Rattle.tables.specs.Rows.{row_at, least, order_numbers, number_words, warehouse_words, district_words, customer_words}
+use Rattle.tables.proofs.Orders.{IsExact, exact_number, exact_district, exact_customer}
+use Rattle.laws.proofs.Updates.{get-map_rows, column-update_where}
+use Rattle.tables.specs.declared.keys.DistrictKey.{DistrictKey}
+use Rattle.tables.specs.declared.keys.CustomerKey.{CustomerKey}
+use Rattle.tables.specs.declared.records.RecordKey.{RecordKey}
+use Rattle.tables.specs.declared.records.RecordKey.TheVariants as key
+use Rattle.tables.specs.declared.rows.Warehouse.{Warehouse}
+use Rattle.tables.specs.declared.rows.District.{District}
+use Rattle.tables.specs.declared.rows.Customer.{Customer}
+use Rattle.tables.specs.declared.input.Payment.{Payment}
+use Rattle.payment.specs.Paid.{raised_warehouse, raised_district, charged_customer}
+
+both : (a b : Bool) → (a && b) ≡ true → (a ≡ true) × (b ≡ true)
+both true b h = (refl, h)
+both false b h = absurd (true≢false (sym h))
+
+-- a test that names one key passes at that key alone
+district_named : (w d : ℕ) (k : DistrictKey) → is_district w d k ≡ true → record { warehouse = w; district = d } ≡ k
+district_named w d k h = let p = both (w == k.warehouse) (d == k.district) h in
+    λ i. record { warehouse = eqb-true w k.warehouse p.0 i; district = eqb-true d k.district p.1 i }
+
+customer_named : (w d c : ℕ) (k : CustomerKey) → is_customer w d c k ≡ true → record { warehouse = w; district = d; customer = c } ≡ k
+customer_named w d c k h =
+    let p = both ((w == k.warehouse) && (d == k.district)) (c == k.customer) h in
+    let q = both (w == k.warehouse) (d == k.district) p.0 in
+    λ i. record { warehouse = eqb-true w k.warehouse q.0 i; district = eqb-true d k.district q.1 i; customer = eqb-true c k.customer p.1 i }
+
+self : (n : ℕ) → (n == n) ≡ true
+self n = eq-eqb n n refl
+
+-- a row that no update touches, and the one that it touches
+module _ {K X : Type 0} {R : K → K → Rattle.std.specs.declared.cmp.Ordering.Ordering} (o : IsExact R) (p : K → Bool) (g : X → X) (words : X → List ℕ) (m : FinMap R X) where
+  same_row : (w : Option X) (b : Bool) → b ≡ false → option_map words (option_map (λ r. cond b (g r) r) w) ≡ option_map words w
+  same_row None b h = refl
+  same_row (Some r) b h = ap (λ (q : Bool). Some (words (cond q (g r) r))) h
+
+  untouched : (k : K) → (p k ≡ true → ⊥) → option_map words (get (update_where p g m) k) ≡ option_map words (get m k)
+  untouched k never = ap (option_map words) (get-map_rows o (λ j r. cond (p j) (g r) r) m k) ∙ same_row (get m k) (p k) (off (p k) never)
+    where
+      off : (b : Bool) → (b ≡ true → ⊥) → b ≡ false
+      off true n = absurd (n refl)
+      off false n = refl
+
+  touched : (k : K) (r : X) → p k ≡ true → get m k ≡ Some r → option_map words (get (update_where p g m) k) ≡ Some (words (g r))
+  touched k r h found =
+      ap (option_map words) (get-map_rows o (λ j s. cond (p j) (g s) s) m k)
+      ∙ (λ i. option_map words (option_map (λ s. cond (h i) (g s) s) (found i)))
+
+-- an update that leaves a column leaves it
+kept_column : {K X : Type 0} {R : K → K → Rattle.std.specs.declared.cmp.Ordering.Ordering} (o : IsExact R) (p : K → Bool) (g : X → X) (f : X → ℕ) → ((r : X) → f (g r) ≡ f r) → (m : FinMap R X) (k : K)
+    → option_map_or f (get (update_where p g m) k) 0 ≡ option_map_or f (get m k) 0
+kept_column o p g f same m k = ap (λ w. option_map_or f w 0) (get-map_rows o (λ j r. cond (p j) (g r) r) m k) ∙ go (get m k) (p k)
+  where
+    go : (w : Option _) (b : Bool) → option_map_or f (option_map (λ r. cond b (g r) r) w) 0 ≡ option_map_or f w 0
+    go None b = refl
+    go (Some r) true = same r
+    go (Some r) false = refl
+
+module _ (t : Database) (x : Payment) where
+  -- the records of all keys but three are as before
+  pub others : (k : RecordKey) → k ≢ key.Warehouse x.warehouse → k ≢ key.District (record { warehouse = x.warehouse; district = x.district }) → k ≢ key.Customer (payer x)
+      → row_at (after_payment t x) k ≡ row_at t k
+  others (key.Warehouse w) a b c = untouched exact_number (λ w. x.warehouse == w) (λ r. record r { year_to_date = r.year_to_date +ℤ x.amount }) warehouse_words t.warehouses w
+      (λ h. a (ap key.Warehouse (sym (eqb-true x.warehouse w h))))
+  others (key.District k) a b c = untouched exact_district (is_district x.warehouse x.district) (λ r. record r { year_to_date = r.year_to_date +ℤ x.amount }) district_words t.districts k
+      (λ h. b (ap key.District (sym (district_named x.warehouse x.district k h))))
+  others (key.Customer k) a b c = untouched exact_customer (is_customer x.customer_warehouse x.customer_district (number_of x.who))
+      (λ r. record r { balance = r.balance -ℤ x.amount; paid = r.paid +ℤ x.amount; payments = r.payments + 1 }) customer_words t.customers k
+      (λ h. c (ap key.Customer (sym (customer_named x.customer_warehouse x.customer_district (number_of x.who) k h))))
+  others (key.NewOrder k) a b c = refl
+  others (key.Order k) a b c = refl
+  others (key.OrderLine k) a b c = refl
+  others (key.Stock k) a b c = refl
+  others (key.Oldest k) a b c = ap (λ n. Some (number_words n)) (ap (unwrap_or (least (order_numbers (λ e. (e.0.warehouse == k.warehouse) && (e.0.district == k.district)) t.new_orders)))
+      (kept_column exact_district (is_district x.warehouse x.district) (λ r. record r { year_to_date = r.year_to_date +ℤ x.amount }) (λ r. r.next_order) (λ r. refl) t.districts k))
+  others (key.Last k) a b c = refl
+
+  pub warehouse_changed : (r : Warehouse) → get t.warehouses x.warehouse ≡ Some r → row_at (after_payment t x) (key.Warehouse x.warehouse) ≡ Some (warehouse_words (raised_warehouse x.amount r))
+  warehouse_changed r found = touched exact_number (λ w. x.warehouse == w) (λ r. record r { year_to_date = r.year_to_date +ℤ x.amount }) warehouse_words t.warehouses x.warehouse r (self x.warehouse) found
+
+  pub district_changed : (r : District) → get t.districts (record { warehouse = x.warehouse; district = x.district }) ≡ Some r
+      → row_at (after_payment t x) (key.District (record { warehouse = x.warehouse; district = x.district })) ≡ Some (district_words (raised_district x.amount r))
+  district_changed r found = touched exact_district (is_district x.warehouse x.district) (λ r. record r { year_to_date = r.year_to_date +ℤ x.amount }) district_words t.districts
+      (record { warehouse = x.warehouse; district = x.district }) r (λ i. self x.warehouse i && self x.district i) found
+
+  pub customer_changed : (r : Customer) → get t.customers (payer x) ≡ Some r → row_at (after_payment t x) (key.Customer (payer x)) ≡ Some (customer_words (charged_customer x.amount r))
+  customer_changed r found = touched exact_customer (is_customer x.customer_warehouse x.customer_district (number_of x.who))
+      (λ r. record r { balance = r.balance -ℤ x.amount; paid = r.paid +ℤ x.amount; payments = r.payments + 1 }) customer_words t.customers (payer x) r
+      (λ i. (self x.customer_warehouse i && self x.customer_district i) && self (number_of x.who) i) found
+
+  pub balance_changed : (r : Customer) → get t.customers (payer x) ≡ Some r → column (λ c. c.balance) (after_payment t x).customers (payer x) ≡ r.balance -ℤ x.amount
+  balance_changed r found =
+      column-update_where exact_customer (λ c. c.balance) (is_customer x.customer_warehouse x.customer_district (number_of x.who))
+      (λ c. record c { balance = c.balance -ℤ x.amount; paid = c.paid +ℤ x.amount; payments = c.payments + 1 }) t.customers (payer x) r found
+      ∙ (λ i. (cond ((self x.customer_warehouse i && self x.customer_district i) && self (number_of x.who) i) (charged_customer x.amount r) r).balance)

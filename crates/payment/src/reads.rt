@@ -1,0 +1,72 @@
+//! What a transaction has read.
+ghost use Rattle.std.specs.Prelude.{◌≡◌, ◌≢◌, ℕ, ◌+◌, ◌<◌, ◌≤◌, Some, None, Ok, IfOk, IfErr, OnOk, [], length};
+ghost use Rattle.payment.specs.Reads.{held};
+ghost use Rattle.cells.specs.Records.{Reads, words_of};
+ghost use Rattle.cells.specs.declared.cells.Version.{Version};
+
+use cells::{Cells, Reader, Version};
+use money::Refusal;
+use std::alloc::Global;
+use std::collections::BTreeMap;
+use std::marker::Model;
+use std::sync::Wait;
+
+/// The versions that a transaction has read, one a record (Silo, section 4.4: the read set). Contracts see
+/// them by record number.
+#[derive(Drop)]
+pub struct ReadSet {
+    versions: BTreeMap<u32, Version>,
+}
+
+impl Model for ReadSet {
+    ghost use Rattle.payment.specs.Reads.{Readings};
+
+    ghost Value = { Readings };
+
+    ghost view = { λ r. r.versions.entries };
+}
+
+impl ReadSet {
+    ghost use Rattle.money.specs.declared.refusal.Refusal.TheVariants.{OutOfMemory};
+
+    /// Nothing read. Takes no memory.
+    pub fn new(alloc: Global) -> ReadSet
+        ensures { result ≡ [] }
+    {
+        ReadSet {
+            versions: BTreeMap::new(alloc),
+        }
+    }
+
+    /// The version of a record: the one held, or else what a load of its cell gives, which is held from then
+    /// on. Costs the logarithm of the number of records held.
+    ///
+    /// # Errors
+    ///
+    /// `OutOfMemory`, and no other.
+    pub fn get<R: Wait>(
+        &mut self,
+        rt: &R,
+        cells: &Cells,
+        reader: &mut Reader,
+        number: u32,
+    ) -> Result<Version, Refusal>
+        requires own { reader.old.cells ≡ cells.now }
+        requires is_record { number < length cells.now }
+        ensures held { (v : Version) → held self.old number ≡ Some v → (result ≡ Ok v) × (self.new ≡ self.old) × (reader.new ≡ reader.old) }
+        ensures read { held self.old number ≡ None → IfOk result (λ v. Reads reader.old reader.new number (words_of v) × (v.record ≡ number)) }
+        ensures holds { IfOk result (λ v. held self.new number ≡ Some v) }
+        ensures others { (n : ℕ) → n ≢ number → held self.new n ≡ held self.old n }
+        ensures limit { length self.new ≤ length self.old + 1 }
+        ensures only_memory { IfErr result (λ refusal. refusal ≡ OutOfMemory) }
+    {
+        if let Some(version) = self.versions.get(&number) {
+            return Ok(*version);
+        }
+        let version = &cells.read(rt, reader, number);
+        match self.versions.insert(number, *version) {
+            Ok(_) => Ok(*version),
+            Err(_) => Err(Refusal::OutOfMemory),
+        }
+    }
+}

@@ -1,0 +1,229 @@
+//! A Payment on record cells.
+ghost use Rattle.std.specs.Prelude.{◌≡◌, ◌+◌, ◌<◌, ◌≤◌, ◌⊎◌, ◌≤ℤ◌, pos, ℕ, [], ◌∷◌, length, Some, IfOk, IfErr, OnOk};
+ghost use Rattle.tables.specs.Database.{Database};
+ghost use Rattle.tables.specs.Inputs.{IsInput, IsPayment};
+ghost use Rattle.tables.specs.Apply.{history_row};
+ghost use Rattle.tables.specs.declared.input.Input.TheVariants as input_variants;
+ghost use Rattle.tables.specs.declared.rows.Warehouse.{Warehouse};
+ghost use Rattle.tables.specs.declared.rows.District.{District};
+ghost use Rattle.tables.specs.declared.rows.Customer.{Customer};
+ghost use Rattle.money.specs.declared.refusal.Refusal.TheVariants.{OutOfMemory, Stale};
+ghost use Rattle.cells.specs.First.{cell_count};
+ghost use Rattle.cells.specs.declared.cells.Version.{Version};
+ghost use Rattle.population.specs.Initial.{initial};
+ghost use Rattle.payment.specs.Reads.{Readings, AreRead, held};
+ghost use Rattle.payment.specs.Explains.{Explains, NoneMayBe, IsWithinLimits};
+ghost use Rattle.payment.specs.declared.transaction.Paid.{Paid as Made};
+ghost use Rattle.payment.specs.Paid.{warehouse_record, district_record, customer_record, writings_of, reply_of, AreRows, IsPaid};
+
+use crate::pay::{Charged, charge_customer, raise_district, raise_warehouse};
+use crate::reads::ReadSet;
+use crate::work::Work;
+use crate::writes::WriteSet;
+use cells::{Cells, Reader, Version};
+use money::{Cents, Refusal};
+use population::Population;
+use std::alloc::Global;
+use std::sync::Wait;
+use tables::{
+    CustomerKey, DistrictKey, History, Input, Payment, PaymentReply, RecordKey, Reply, Scale, Who,
+    number_of,
+};
+
+/// The numbers of the records that a Payment reads and writes.
+#[derive(Clone, Copy, Debug, PartialEq, Eq)]
+struct Records {
+    warehouse: u32,
+    district: u32,
+    customer: u32,
+}
+
+/// The versions of those records.
+#[derive(Clone, Copy, Debug, PartialEq, Eq)]
+struct Found {
+    warehouse: Version,
+    district: Version,
+    customer: Version,
+}
+
+/// What they are to hold.
+#[derive(Clone, Copy, Debug, PartialEq, Eq)]
+struct Paid {
+    warehouse: [u64; 7],
+    district: [u64; 7],
+    customer: Charged,
+}
+
+/// Executes a transaction: reads its records once each, and says what it is to write and to reply if it
+/// commits. No cell changes. Costs three loads and a few look-ups, whatever the tables' size.
+///
+/// # Errors
+///
+/// `Stale` only where no consistent, well-formed tables of this population have the versions that this call
+/// has read, as when they were never the latest ones together; `OutOfMemory`.
+pub fn execute<R: Wait>(
+    rt: &R,
+    alloc: Global,
+    cells: &Cells,
+    reader: &mut Reader,
+    population: &Population,
+    input: &Input,
+) -> Result<Work, Refusal>
+    requires input { IsInput (initial population.now).scale input.now }
+    requires own { reader.old.cells ≡ cells.now }
+    requires cells { length cells.now ≡ cell_count (initial population.now).scale }
+    ensures input { IfOk result (λ work. work.input ≡ input.now) }
+    ensures read { IfOk result (λ work. AreRead reader.old reader.new work.reads) }
+    ensures explains { IfOk result (λ work. Explains (initial population.now) input.now work.reads work.writes work.reply) }
+    ensures limits { IfOk result (λ work. IsWithinLimits (length cells.now) work.reads work.writes) }
+    ensures refused { IfErr result (λ refusal. (refusal ≡ OutOfMemory) ⊎
+        ((refusal ≡ Stale) × ((reads : Readings) × AreRead reader.old reader.new reads × NoneMayBe (initial population.now) reads))) }
+{
+    match input {
+        Input::Payment(payment) => pay(rt, alloc, cells, reader, population, payment),
+    }
+}
+
+/// A Payment (TPC-C 2.5.2.2).
+fn pay<R: Wait>(
+    rt: &R,
+    alloc: Global,
+    cells: &Cells,
+    reader: &mut Reader,
+    population: &Population,
+    payment: &Payment,
+) -> Result<Work, Refusal>
+    requires input { IsPayment (initial population.now).scale payment.now }
+    requires own { reader.old.cells ≡ cells.now }
+    requires cells { length cells.now ≡ cell_count (initial population.now).scale }
+    ensures input { IfOk result (λ work. work.input ≡ input_variants.Payment payment.now) }
+    ensures read { IfOk result (λ work. AreRead reader.old reader.new work.reads) }
+    ensures explains { IfOk result (λ work. Explains (initial population.now) (input_variants.Payment payment.now) work.reads work.writes work.reply) }
+    ensures limits { IfOk result (λ work. IsWithinLimits (length cells.now) work.reads work.writes) }
+    ensures refused { IfErr result (λ refusal. (refusal ≡ OutOfMemory) ⊎
+        ((refusal ≡ Stale) × ((reads : Readings) × AreRead reader.old reader.new reads × NoneMayBe (initial population.now) reads))) }
+{
+    let records = records_of(&population.scale(), payment);
+    let mut reads = ReadSet::new(alloc);
+    let found = read(rt, cells, reader, &mut reads, records)?;
+    let Some(paid) = make(&found, payment.amount) else {
+        return Err(Refusal::Stale);
+    };
+    let writes = write(alloc, records, &paid, payment)?;
+    let reply = Reply::Payment(reply(payment, &paid));
+    Ok(Work {
+        input: Input::Payment(*payment),
+        reads,
+        writes,
+        reply,
+    })
+}
+
+/// The numbers of the records that a Payment reads and writes.
+fn records_of(scale: &Scale, payment: &Payment) -> Records
+    requires { IsPayment scale.now payment.now }
+    ensures warehouse { result.warehouse ≡ warehouse_record scale.now payment.now }
+    ensures district { result.district ≡ district_record scale.now payment.now }
+    ensures customer { result.customer ≡ customer_record scale.now payment.now }
+{
+    let Who::Id(customer) = payment.who;
+    let district = DistrictKey {
+        warehouse: payment.warehouse,
+        district: payment.district,
+    };
+    let payer = CustomerKey {
+        warehouse: payment.customer_warehouse,
+        district: payment.customer_district,
+        customer,
+    };
+    Records {
+        warehouse: number_of(scale, RecordKey::Warehouse(payment.warehouse)),
+        district: number_of(scale, RecordKey::District(district)),
+        customer: number_of(scale, RecordKey::Customer(payer)),
+    }
+}
+
+/// Reads the three records, each once.
+fn read<R: Wait>(
+    rt: &R,
+    cells: &Cells,
+    reader: &mut Reader,
+    reads: &mut ReadSet,
+    records: Records,
+) -> Result<Found, Refusal>
+    requires own { reader.old.cells ≡ cells.now }
+    requires none { reads.old ≡ [] }
+    requires order { (records.warehouse < records.district) × (records.district < records.customer) × (records.customer < length cells.now) }
+    ensures read { OnOk result (AreRead reader.old reader.new reads.new) }
+    ensures warehouse { IfOk result (λ found. held reads.new records.warehouse ≡ Some found.warehouse) }
+    ensures district { IfOk result (λ found. held reads.new records.district ≡ Some found.district) }
+    ensures customer { IfOk result (λ found. held reads.new records.customer ≡ Some found.customer) }
+    ensures limit { OnOk result (length reads.new ≤ 3) }
+    ensures cells { OnOk result ((n : ℕ) (v : Version) → held reads.new n ≡ Some v → n < length cells.now) }
+    ensures only_memory { IfErr result (λ refusal. refusal ≡ OutOfMemory) }
+{
+    let warehouse = reads.get(rt, cells, reader, records.warehouse)?;
+    let district = reads.get(rt, cells, reader, records.district)?;
+    let customer = reads.get(rt, cells, reader, records.customer)?;
+    Ok(Found {
+        warehouse,
+        district,
+        customer,
+    })
+}
+
+/// What the three records are to hold. None only where no well-formed tables have these versions.
+fn make(found: &Found, amount: Cents) -> Option<Paid>
+    requires low { pos 0 ≤ℤ amount }
+    requires high { amount ≤ℤ pos 500000 }
+    ensures { (w : Warehouse) (d : District) (c : Customer) → AreRows found.now w d c → (paid : Made) × (result ≡ Some paid) × IsPaid amount w d c paid }
+{
+    Some(Paid {
+        warehouse: raise_warehouse(&found.warehouse, amount)?,
+        district: raise_district(&found.district, amount)?,
+        customer: charge_customer(&found.customer, amount)?,
+    })
+}
+
+/// The writes of a Payment.
+fn write(
+    alloc: Global,
+    records: Records,
+    paid: &Paid,
+    payment: &Payment,
+) -> Result<WriteSet, Refusal>
+    requires { (records.warehouse < records.district) × (records.district < records.customer) }
+    ensures ok { IfOk result (λ writes. writes ≡ writings_of records paid.now payment.now) }
+    ensures only_memory { IfErr result (λ refusal. refusal ≡ OutOfMemory) }
+{
+    let Who::Id(customer) = payment.who;
+    let mut writes = WriteSet::new(alloc);
+    writes.put(records.warehouse, Some(paid.warehouse))?;
+    writes.put(records.district, Some(paid.district))?;
+    writes.put(records.customer, Some(paid.customer.words))?;
+    writes.add_history(History {
+        customer,
+        customer_district: payment.customer_district,
+        customer_warehouse: payment.customer_warehouse,
+        district: payment.district,
+        warehouse: payment.warehouse,
+        date: payment.date,
+        amount: payment.amount,
+    });
+    Ok(writes)
+}
+
+/// The reply of a Payment (TPC-C 2.5.3.3).
+fn reply(payment: &Payment, paid: &Paid) -> PaymentReply
+    ensures { result ≡ reply_of paid.now payment.now }
+{
+    let Who::Id(customer) = payment.who;
+    PaymentReply {
+        warehouse: payment.warehouse,
+        district: payment.district,
+        customer_warehouse: payment.customer_warehouse,
+        customer_district: payment.customer_district,
+        customer,
+        balance: paid.customer.balance,
+    }
+}

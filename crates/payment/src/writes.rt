@@ -1,0 +1,65 @@
+//! What a transaction is to write.
+ghost use Rattle.std.specs.Prelude.{◌≡◌, Some, None, [], OnOk, IfErr};
+ghost use Rattle.std.specs.Ordering.{nat_cmp};
+ghost use Rattle.std.specs.BTreeMap.{insert_entry};
+ghost use Rattle.payment.specs.Writes.{Writings};
+
+use money::Refusal;
+use std::alloc::Global;
+use std::collections::BTreeMap;
+use std::marker::Model;
+use tables::History;
+
+/// What a transaction is to write: for each record written the seven words that it is to hold, or nothing
+/// where it is to be absent, and at most one HISTORY row (Silo, section 4.4: the write set). Contracts see it
+/// as `Writings`.
+#[derive(Drop)]
+pub struct WriteSet {
+    values: BTreeMap<u32, Option<[u64; 7]>>,
+    history: Option<History>,
+}
+
+impl Model for WriteSet {
+    ghost use Rattle.payment.specs.Writes.{Writings};
+
+    ghost Value = { Writings };
+
+    ghost view = { λ w. record { values = w.values.entries; history = w.history } };
+}
+
+impl WriteSet {
+    ghost use Rattle.money.specs.declared.refusal.Refusal.TheVariants.{OutOfMemory};
+
+    /// Nothing to write. Takes no memory.
+    pub fn new(alloc: Global) -> WriteSet
+        ensures { result ≡ record { values = []; history = None } }
+    {
+        WriteSet {
+            values: BTreeMap::new(alloc),
+            history: None,
+        }
+    }
+
+    /// Says what a record is to hold, in the place of what was said of it before. Costs the logarithm of the
+    /// number of records written.
+    ///
+    /// # Errors
+    ///
+    /// `OutOfMemory`, and no other.
+    pub fn put(&mut self, number: u32, value: Option<[u64; 7]>) -> Result<(), Refusal>
+        ensures puts { OnOk result (self.new ≡ record { values = insert_entry nat_cmp self.old.values number value; history = self.old.history }) }
+        ensures only_memory { IfErr result (λ refusal. refusal ≡ OutOfMemory) }
+    {
+        match self.values.insert(number, value) {
+            Ok(_) => Ok(()),
+            Err(_) => Err(Refusal::OutOfMemory),
+        }
+    }
+
+    /// Says which row HISTORY is to get.
+    pub fn add_history(&mut self, row: History)
+        ensures { self.new ≡ record { values = self.old.values; history = Some row } }
+    {
+        self.history = Some(row);
+    }
+}

@@ -1,0 +1,95 @@
+-- What records hold: the columns that change, as seven words, or nothing where a record is absent.
+use Rattle.std.specs.Prelude.{ℕ, ◌-◌, ℤ, max, min, Bool, cond, Option, Some, None, List, [], ◌∷◌, ◌++◌, map, length, replicate, ◌==◌, ◌&&◌}
+use Rattle.std.specs.Int.{w64, cast_unsigned, cast_signed}
+use Rattle.std.specs.List.{filter}
+use Rattle.std.specs.Option.{option_map, option_map_or, unwrap_or}
+use Rattle.std.specs.FinMap.{FinMap, get, entries}
+use Rattle.tables.specs.Keys.{order_cmp}
+use Rattle.tables.specs.Database.{Database}
+use Rattle.tables.specs.Records.{key_of}
+use Rattle.tables.specs.declared.keys.DistrictKey.{DistrictKey}
+use Rattle.tables.specs.declared.keys.CustomerKey.{CustomerKey}
+use Rattle.tables.specs.declared.keys.OrderKey.{OrderKey}
+use Rattle.tables.specs.declared.rows.Warehouse.{Warehouse}
+use Rattle.tables.specs.declared.rows.District.{District}
+use Rattle.tables.specs.declared.rows.Customer.{Customer}
+use Rattle.tables.specs.declared.rows.NewOrder.{NewOrder}
+use Rattle.tables.specs.declared.rows.Order.{Order}
+use Rattle.tables.specs.declared.rows.OrderLine.{OrderLine}
+use Rattle.tables.specs.declared.rows.Stock.{Stock}
+use Rattle.tables.specs.declared.records.RecordKey.{RecordKey}
+use Rattle.tables.specs.declared.records.RecordKey.TheVariants as key
+
+-- money as a word of 64 bits, two's complement, and back
+abbrev pub money_word : ℤ → ℕ
+money_word z = cast_unsigned w64 z
+
+abbrev pub money_of : ℕ → ℤ
+money_of n = cast_signed w64 n
+
+-- seven words: these, then zeros
+abbrev pub seven : List ℕ → List ℕ
+seven words = words ++ replicate (7 - length words) 0
+
+abbrev pub warehouse_words : Warehouse → List ℕ
+warehouse_words r = seven (money_word r.year_to_date ∷ [])
+
+abbrev pub district_words : District → List ℕ
+district_words r = seven (money_word r.year_to_date ∷ r.next_order ∷ [])
+
+abbrev pub customer_words : Customer → List ℕ
+customer_words r = seven (money_word r.balance ∷ money_word r.paid ∷ r.payments ∷ r.deliveries ∷ [])
+
+abbrev pub new_order_words : NewOrder → List ℕ
+new_order_words r = seven []
+
+-- null is 0
+abbrev pub order_words : Order → List ℕ
+order_words r = seven (r.customer ∷ r.entry_date ∷ unwrap_or r.carrier 0 ∷ r.line_count ∷ cond r.all_local 1 0 ∷ [])
+
+abbrev pub line_words : OrderLine → List ℕ
+line_words r = seven (r.item ∷ r.supply_warehouse ∷ unwrap_or r.delivery_date 0 ∷ r.quantity ∷ money_word r.amount ∷ [])
+
+abbrev pub stock_words : Stock → List ℕ
+stock_words r = seven (r.quantity ∷ r.year_to_date ∷ r.orders ∷ r.remote_orders ∷ [])
+
+abbrev pub number_words : ℕ → List ℕ
+number_words n = seven (n ∷ [])
+
+-- the least of some numbers, if there is one; the greatest, or 0
+abbrev pub least : List ℕ → Option ℕ
+least [] = None
+least (n ∷ ns) = Some (option_map_or (min n) (least ns) n)
+
+abbrev pub greatest : List ℕ → ℕ
+greatest [] = 0
+greatest (n ∷ ns) = max n (greatest ns)
+
+-- the order numbers of the rows that pass a test
+abbrev pub order_numbers : {X : Type 0} → (OrderKey × X → Bool) → FinMap order_cmp X → List ℕ
+order_numbers {X} p m = map (λ (e : OrderKey × X). e.0.order) (filter p (entries m))
+
+-- the least NO_O_ID of a district, or D_NEXT_O_ID where it has no NEW-ORDER row
+abbrev pub oldest : Database → DistrictKey → ℕ
+oldest t k = unwrap_or (least (order_numbers (λ e. (e.0.warehouse == k.warehouse) && (e.0.district == k.district)) t.new_orders))
+    (option_map_or (λ r. r.next_order) (get t.districts k) 0)
+
+-- the greatest O_ID of a customer, or 0
+abbrev pub last : Database → CustomerKey → ℕ
+last t k = greatest (order_numbers (λ e. (e.0.warehouse == k.warehouse) && (e.0.district == k.district) && (e.1.customer == k.customer)) t.orders)
+
+-- what the record of a key holds
+abbrev pub row_at : Database → RecordKey → Option (List ℕ)
+row_at t (key.Warehouse w) = option_map warehouse_words (get t.warehouses w)
+row_at t (key.District k) = option_map district_words (get t.districts k)
+row_at t (key.Customer k) = option_map customer_words (get t.customers k)
+row_at t (key.NewOrder k) = option_map new_order_words (get t.new_orders k)
+row_at t (key.Order k) = option_map order_words (get t.orders k)
+row_at t (key.OrderLine k) = option_map line_words (get t.lines k)
+row_at t (key.Stock k) = option_map stock_words (get t.stock k)
+row_at t (key.Oldest k) = Some (number_words (oldest t k))
+row_at t (key.Last k) = Some (number_words (last t k))
+
+-- what the record of a number holds
+abbrev pub rows : Database → ℕ → Option (List ℕ)
+rows t n = row_at t (key_of t.scale n)

@@ -1,0 +1,204 @@
+//! Records: what a transaction reads or writes as one. A record is a row by its key, or one of two index
+//! records of the engine's own, and has a number (Silo, SOSP 2013, section 4.2, names a record by its
+//! address; the numbers are the engine's own).
+
+ghost use Rattle.std.specs.Prelude.{◌≡◌, ◌+◌, ◌-◌, ◌*◌, ◌<◌, ◌≤◌, ◌^◌};
+ghost use Rattle.tables.specs.Sizes.{Sizes};
+ghost use Rattle.tables.specs.Keys.{IsDistrictKey, IsCustomerKey, IsOrderKey, IsLineKey, IsStockKey};
+ghost use Rattle.tables.specs.Records.{size, start, record_number, record_count, IsRecordKey, number_of_key, district_place, customer_place, order_place, place_of, NumbersNameKeys, NumbersNamePlaces};
+ghost use Rattle.tables.specs.declared.records.Table.TheVariants as table;
+ghost use Rattle.tables.specs.declared.records.RecordKey.TheVariants as record_key;
+
+use crate::keys::{CustomerKey, DistrictKey, LineKey, OrderKey, StockKey};
+use crate::scale::Scale;
+
+/// The tables of records, in the order of their numbers, which begin at 1. HISTORY has no key and ITEM
+/// never changes, so those two have no records.
+#[derive(Clone, Copy, Debug, PartialEq, Eq)]
+pub enum Table {
+    Warehouse,
+    District,
+    Customer,
+    History,
+    NewOrder,
+    Order,
+    OrderLine,
+    Item,
+    Stock,
+    /// The least NO_O_ID of a district, or D_NEXT_O_ID where it has no NEW-ORDER row.
+    Oldest,
+    /// The greatest O_ID of a customer, or 0 where it has no order.
+    Last,
+}
+
+/// A record by its table and key.
+#[derive(Clone, Copy, Debug, PartialEq, Eq)]
+pub enum RecordKey {
+    Warehouse(u32),
+    District(DistrictKey),
+    Customer(CustomerKey),
+    NewOrder(OrderKey),
+    Order(OrderKey),
+    OrderLine(LineKey),
+    Stock(StockKey),
+    Oldest(DistrictKey),
+    Last(CustomerKey),
+}
+
+impl Table {
+    /// How many records the table has room for.
+    pub fn size(self, scale: &Scale) -> u32
+        ensures value { result ≡ size scale.now self }
+        ensures limit { result < 120000001 }
+    {
+        let districts = scale.warehouses() * scale.districts();
+        match self {
+            Table::Warehouse => scale.warehouses(),
+            Table::District | Table::Oldest => districts,
+            Table::Customer | Table::Last => districts * scale.customers(),
+            Table::NewOrder | Table::Order => districts * scale.orders(),
+            Table::OrderLine => districts * scale.orders() * 15,
+            Table::Stock => scale.warehouses() * scale.items(),
+            Table::History | Table::Item => 0,
+        }
+    }
+}
+
+/// The number of a record: its place in its table, from 0, after the records of all tables with smaller
+/// numbers. Constant time.
+pub fn rec(scale: &Scale, table: Table, place: u32) -> u32
+    requires { place < size scale.now table }
+    ensures value { result ≡ record_number scale.now table place }
+    ensures limit { result < record_count scale.now }
+{
+    start_of(scale, table) + place
+}
+
+/// The number of the record of a key. Constant time.
+pub fn number_of(scale: &Scale, key: RecordKey) -> u32
+    requires { IsRecordKey scale.now key }
+    ensures value { result ≡ number_of_key scale.now key }
+    ensures limit { result < record_count scale.now }
+{
+    match key {
+        RecordKey::Warehouse(warehouse) => rec(scale, Table::Warehouse, warehouse - 1),
+        RecordKey::District(key) => rec(scale, Table::District, place_of_district(scale, key)),
+        RecordKey::Customer(key) => rec(scale, Table::Customer, place_of_customer(scale, key)),
+        RecordKey::NewOrder(key) => rec(scale, Table::NewOrder, place_of_order(scale, key)),
+        RecordKey::Order(key) => rec(scale, Table::Order, place_of_order(scale, key)),
+        RecordKey::OrderLine(key) => rec(scale, Table::OrderLine, place_of_line(scale, key)),
+        RecordKey::Stock(key) => rec(scale, Table::Stock, place_of_stock(scale, key)),
+        RecordKey::Oldest(key) => rec(scale, Table::Oldest, place_of_district(scale, key)),
+        RecordKey::Last(key) => rec(scale, Table::Last, place_of_customer(scale, key)),
+    }
+}
+
+#[tactic(auto, using(crate::proofs::Numbers::district_there))]
+fn place_of_district(scale: &Scale, key: DistrictKey) -> u32
+    requires { IsDistrictKey scale.now key }
+    ensures value { result ≡ district_place scale.now key.warehouse key.district }
+    ensures limit { result < size scale.now table.District }
+{
+    let size = Table::District.size(scale);
+    place(size, key.warehouse - 1, scale.districts(), key.district)
+}
+
+#[tactic(auto, using(crate::proofs::Numbers::customer_there))]
+fn place_of_customer(scale: &Scale, key: CustomerKey) -> u32
+    requires { IsCustomerKey scale.now key }
+    ensures value { result ≡ customer_place scale.now key }
+    ensures limit { result < size scale.now table.Customer }
+{
+    let district = DistrictKey {
+        warehouse: key.warehouse,
+        district: key.district,
+    };
+    let row = place_of_district(scale, district);
+    let size = Table::Customer.size(scale);
+    place(size, row, scale.customers(), key.customer)
+}
+
+#[tactic(auto, using(crate::proofs::Numbers::order_there))]
+fn place_of_order(scale: &Scale, key: OrderKey) -> u32
+    requires { IsOrderKey scale.now key }
+    ensures value { result ≡ order_place scale.now key }
+    ensures limit { result < size scale.now table.Order }
+{
+    let district = DistrictKey {
+        warehouse: key.warehouse,
+        district: key.district,
+    };
+    let row = place_of_district(scale, district);
+    let size = Table::Order.size(scale);
+    place(size, row, scale.orders(), key.order)
+}
+
+#[tactic(auto, using(crate::proofs::Numbers::line_there))]
+fn place_of_line(scale: &Scale, key: LineKey) -> u32
+    requires { IsLineKey scale.now key }
+    ensures value { result ≡ place_of scale.now (record_key.OrderLine key) }
+    ensures limit { result < size scale.now table.OrderLine }
+{
+    let order = OrderKey {
+        warehouse: key.warehouse,
+        district: key.district,
+        order: key.order,
+    };
+    let row = place_of_order(scale, order);
+    place(Table::OrderLine.size(scale), row, 15, key.line)
+}
+
+#[tactic(auto, using(crate::proofs::Numbers::stock_there))]
+fn place_of_stock(scale: &Scale, key: StockKey) -> u32
+    requires { IsStockKey scale.now key }
+    ensures value { result ≡ place_of scale.now (record_key.Stock key) }
+    ensures limit { result < size scale.now table.Stock }
+{
+    let size = Table::Stock.size(scale);
+    place(size, key.warehouse - 1, scale.items(), key.item)
+}
+
+/// The place of a column, counted from 1, of a row, counted from 0, where a row has that width.
+fn place(size: u32, row: u32, width: u32, column: u32) -> u32
+    requires column { 1 ≤ column }
+    requires limit { row * width + (column - 1) < size }
+    ensures value { result ≡ row * width + (column - 1) }
+    ensures limit { result < size }
+{
+    let place = row * width + (column - 1);
+    // The table's size bounds the sum.
+    prove!(place < size);
+    place
+}
+
+/// The number of a table's first record.
+fn start_of(scale: &Scale, table: Table) -> u32
+    ensures value { result ≡ start scale.now table }
+    ensures limit { result + size scale.now table ≤ record_count scale.now }
+    ensures fits { record_count scale.now < 2 ^ 32 }
+{
+    let districts = scale.warehouses() * scale.districts();
+    let customers = districts * scale.customers();
+    let orders = districts * scale.orders();
+    let before_orders = scale.warehouses() + districts + customers;
+    let before_stock = before_orders + orders * 17;
+    let before_oldest = before_stock + scale.warehouses() * scale.items();
+    match table {
+        Table::Warehouse => 0,
+        Table::District => scale.warehouses(),
+        Table::Customer => scale.warehouses() + districts,
+        Table::History | Table::NewOrder => before_orders,
+        Table::Order => before_orders + orders,
+        Table::OrderLine => before_orders + orders * 2,
+        Table::Item | Table::Stock => before_stock,
+        Table::Oldest => before_oldest,
+        Table::Last => before_oldest + districts,
+    }
+}
+
+/// The keys of a scale and the numbers of its records are one to one, and so are the places of its tables
+/// and those numbers. The function does nothing: its contract is the law.
+pub fn records_have_one_number_each(scale: &Scale)
+    ensures keys { NumbersNameKeys scale.now }
+    ensures places { NumbersNamePlaces scale.now }
+{}
