@@ -22,6 +22,7 @@ value_of version = cond (version.word / 4 % 2 == 0) (Some version.payload) None
 -- between these two states, a reader has loaded exactly the records of these versions, each once, and each version is what that load gave
 pub record AreRead (old new : Sights) (reads : Readings) : Type 0 where
   pub cells : new.cells ≡ old.cells
+  pub records : (n : ℕ) (v : Version) → held reads n ≡ Some v → v.record ≡ n
   pub loads : (n : ℕ) (v : Version) → held reads n ≡ Some v → slice_index new.loads n ≡ slice_index old.loads n + 1
   pub grows : (n : ℕ) (v : Version) → held reads n ≡ Some v → StartsWith (at new.seen n) (at old.seen n)
   pub last : (n : ℕ) (v : Version) → held reads n ≡ Some v → EndsWith (at new.seen n) (words_of v)

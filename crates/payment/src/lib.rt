@@ -4,6 +4,8 @@
 
 mod pay;
 mod reads;
+#[cfg(test)]
+mod tests;
 mod transaction;
 mod work;
 mod writes;

@@ -1,5 +1,6 @@
 //! What a transaction has read.
-ghost use Rattle.std.specs.Prelude.{◌≡◌, ◌≢◌, ℕ, ◌+◌, ◌<◌, ◌≤◌, Some, None, Ok, IfOk, IfErr, OnOk, [], length};
+ghost use Rattle.std.specs.Prelude.{◌≡◌, ◌≢◌, ℕ, ◌+◌, ◌<◌, ◌≤◌, Some, None, Ok, IfOk, IfErr, OnOk, [], length, All};
+ghost use Rattle.std.specs.Option.{option_copied};
 ghost use Rattle.payment.specs.Reads.{held};
 ghost use Rattle.cells.specs.Records.{Reads, words_of};
 ghost use Rattle.cells.specs.declared.cells.Version.{Version};
@@ -8,6 +9,7 @@ use cells::{Cells, Reader, Version};
 use money::Refusal;
 use std::alloc::Global;
 use std::collections::BTreeMap;
+use std::collections::btree_map::Iter;
 use std::marker::Model;
 use std::sync::Wait;
 
@@ -68,5 +70,20 @@ impl ReadSet {
             Ok(_) => Ok(*version),
             Err(_) => Err(Refusal::OutOfMemory),
         }
+    }
+
+    /// The version held of a record. Costs the logarithm of the number of records held.
+    pub fn held(&self, number: u32) -> Option<&Version>
+        ensures { option_copied result ≡ held self.now number }
+    {
+        self.versions.get(&number)
+    }
+
+    /// The versions held, by record number and in the order of the numbers.
+    pub fn versions(&self) -> Iter<'_, u32, Version>
+        ensures versions { result ≡ self.now }
+        ensures found { All (λ e. held self.now e.0 ≡ Some e.1) self.now }
+    {
+        self.versions.iter()
     }
 }

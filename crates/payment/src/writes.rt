@@ -1,12 +1,16 @@
 //! What a transaction is to write.
-ghost use Rattle.std.specs.Prelude.{◌≡◌, Some, None, [], OnOk, IfErr};
+ghost use Rattle.std.specs.Prelude.{◌≡◌, Some, None, [], All, OnOk, IfErr};
 ghost use Rattle.std.specs.Ordering.{nat_cmp};
 ghost use Rattle.std.specs.BTreeMap.{insert_entry};
+ghost use Rattle.std.specs.Map.{keys_of};
+ghost use Rattle.std.specs.List.Sorted.{IsStrictlySortedBy};
+ghost use Rattle.payment.specs.Writes.{value_for};
 ghost use Rattle.payment.specs.Writes.{Writings};
 
 use money::Refusal;
 use std::alloc::Global;
 use std::collections::BTreeMap;
+use std::collections::btree_map::Iter;
 use std::marker::Model;
 use tables::History;
 
@@ -61,5 +65,21 @@ impl WriteSet {
         ensures { self.new ≡ record { values = self.old.values; history = Some row } }
     {
         self.history = Some(row);
+    }
+
+    /// What each record written is to hold, by record number and in the order of the numbers.
+    pub fn values(&self) -> Iter<'_, u32, Option<[u64; 7]>>
+        ensures values { result ≡ self.now.values }
+        ensures found { All (λ e. value_for self.now e.0 ≡ Some e.1) self.now.values }
+        ensures ordered { IsStrictlySortedBy nat_cmp (keys_of self.now.values) }
+    {
+        self.values.iter()
+    }
+
+    /// The row that HISTORY is to get, if there is one.
+    pub fn history(&self) -> Option<History>
+        ensures { result ≡ self.now.history }
+    {
+        self.history
     }
 }

@@ -1,5 +1,7 @@
 mod Added
 mod Lists
+mod Sums
 mod Districts
 mod Whole
 mod Sound
+mod Consistent

@@ -32,7 +32,7 @@ module _ {K X : Type 0} {R : K → K → Ordering} {IsKey : K → Type 0} {row :
   within : (IsWider : K → Type 0) → ((k : K) → IsKey k → IsWider k) → RowsWithin IsWider m
   within IsWider wider k some = wider k (table.only k some)
 
-  each : (P : K → X → Type 0) → ((k : K) → IsKey k → P k (row k)) → EachRow P m
+  pub each : (P : K → X → Type 0) → ((k : K) → IsKey k → P k (row k)) → EachRow P m
   each P holds k r is_row =
       let is_key : IsKey k = table.only k (subst IsSome (sym is_row) refl) in
       let some_same : Some (row k) ≡ Some r = sym (table.rows k is_key) ∙ is_row in

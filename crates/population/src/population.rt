@@ -2,6 +2,7 @@
 
 ghost use Rattle.std.proofs.Props.{props};
 ghost use Rattle.population.specs.Unique.{line_order-prop};
+ghost use Rattle.tables.specs.Conditions.{IsConsistent};
 ghost use Rattle.tables.specs.Database.{database};
 ghost use Rattle.tables.specs.WellFormed.{IsWellFormed, HasRoom};
 
@@ -17,6 +18,7 @@ pub struct Population {
     seed: u64,
     pub ghost room: { HasRoom 600000 (database tables) } by { Prim.hlevel props },
     pub ghost well_formed: { IsWellFormed (database tables) } by { Prim.hlevel (props, line_order-prop) },
+    pub ghost consistent: { IsConsistent (database tables) } by { Prim.hlevel props },
 }
 
 impl Population {
@@ -36,7 +38,7 @@ impl Population {
         ensures only_memory { IfErr result (λ refusal. refusal ≡ OutOfMemory) }
     {
         let tables = plain_tables(alloc, scale)?;
-        // The tables are well-formed and have room by these limits of a scale.
+        // The tables are well-formed and have room by these limits of a scale, and are consistent at any.
         prove!(scale.districts() <= 10);
         prove!(scale.customers() <= scale.orders());
         prove!(scale.items() >= 5);

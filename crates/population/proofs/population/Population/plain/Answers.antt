@@ -1,5 +1,6 @@
 use Rattle.std.proofs.Common.{arith}
 use Rattle.tables.specs.Database.{database}
+use Rattle.population.proofs.Consistent.{plain-consistent}
 use Rattle.population.proofs.Sound.{IsFit, has_room, is_well_formed}
 use Rattle.population.proofs.population.Population.plain.Goals as goal
 
@@ -9,4 +10,5 @@ invariant_of-result c =
     let made = database c.in_ok-tables.tables in record {
       room = has_room c.args.scale made fit c.in_ok-tables.ensures;
       well_formed = is_well_formed c.args.scale made fit c.in_ok-tables.ensures;
+      consistent = plain-consistent c.args.scale made c.in_ok-tables.ensures;
     }

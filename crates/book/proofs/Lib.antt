@@ -1,0 +1,6 @@
+mod Grown
+mod Checks
+mod Stores
+mod Same
+mod Sound
+mod Committed

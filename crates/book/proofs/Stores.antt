@@ -1,0 +1,160 @@
+-- The stores of a commit, record by record.
+use Rattle.std.proofs.Common.{◌≡◌, ◌≢◌, ◌⊎◌, ℕ, ◌<◌, Bool, true, false, true≢false, cond, Option, Some, None, IsSome, is_some, List, [], ◌∷◌, ◌++◌, ⊎_elim, refl, sym, ap, ◌∙◌, subst, set, length}
+use Rattle.std.proofs.lemmas.Bool.{cases_eq, eqb-true, eq-eqb}
+use Rattle.std.proofs.lemmas.List.{get_or-set_other, append-nil}
+use Rattle.std.proofs.lemmas.List.Elements.{All-head, All-tail}
+use Rattle.std.specs.Option.{option_map_or}
+use Rattle.std.specs.Ordering.{nat_cmp, is_eq}
+use Rattle.std.specs.Map.{lookup, keys_of}
+use Rattle.std.specs.BTreeMap.{is_at}
+use Rattle.std.specs.List.{All, AllByRecursion}
+use Rattle.std.specs.List.Sorted.{IsStrictlySortedBy}
+use Rattle.std.specs.declared.cmp.Ordering.{Ordering}
+use Rattle.std.specs.declared.cmp.Ordering.TheVariants.{Less}
+use Rattle.laws.proofs.KeyTests.{eqb-nat_cmp}
+use Rattle.cells.specs.TidWord.{tid_of}
+use Rattle.cells.specs.Versions.{StartsWith, Has, last_tid}
+use Rattle.cells.specs.Records.{Written, Sights, at, words_of, Writes, Learns}
+use Rattle.cells.specs.declared.cells.Version.{Version}
+use Rattle.cells.proofs.Rising.{has_more}
+use Rattle.payment.specs.Reads.{Readings, held}
+use Rattle.payment.specs.Writes.{Writings, value_for}
+use Rattle.book.specs.History.{commit_word, version_of, versions_for}
+use Rattle.book.specs.Book.{AreRead, HasGrown, HasSeen, IsReadBy}
+use Rattle.book.proofs.Grown.{grown_itself, learns_grown}
+
+abbrev Values : Type 0
+Values = List (ℕ × Option (List ℕ))
+
+abbrev find : ℕ → Values → Option (Option (List ℕ))
+find n values = lookup (is_at (nat_cmp n)) values
+
+absent : (m : ℕ) (values : Values) → AllByRecursion (λ y. nat_cmp m y ≡ Less) (keys_of values) → find m values ≡ None
+absent m [] h = refl
+absent m (e ∷ es) h = ap (λ (r : Ordering). cond (is_eq r) (Some e.1) (find m es)) h.0 ∙ absent m es h.1
+
+first_absent : (m : ℕ) (value : Option (List ℕ)) (next : Values) → IsStrictlySortedBy nat_cmp (keys_of ((m, value) ∷ next)) → find m next ≡ None
+unfolding IsStrictlySortedBy
+first_absent m value next h = absent m next h.0
+
+rest_sorted : (m : ℕ) (value : Option (List ℕ)) (next : Values) → IsStrictlySortedBy nat_cmp (keys_of ((m, value) ∷ next)) → IsStrictlySortedBy nat_cmp (keys_of next)
+unfolding IsStrictlySortedBy
+rest_sorted m value next h = h.1
+
+same_test : (n m : ℕ) → n ≡ m → is_eq (nat_cmp n m) ≡ true
+same_test n m e = sym (eqb-nat_cmp n m) ∙ eq-eqb n m e
+
+other_test : (n m : ℕ) → n ≢ m → is_eq (nat_cmp n m) ≡ false
+other_test n m never = go (is_eq (nat_cmp n m)) refl
+  where
+    go : (b : Bool) → is_eq (nat_cmp n m) ≡ b → b ≡ false
+    go true e = absurd (never (eqb-true n m (eqb-nat_cmp n m ∙ e)))
+    go false e = refl
+
+found_first : (n m : ℕ) (value : Option (List ℕ)) (next : Values) → n ≡ m → find n ((m, value) ∷ next) ≡ Some value
+found_first n m value next e = ap (λ b. cond b (Some value) (find n next)) (same_test n m e)
+
+found_later : (n m : ℕ) (value : Option (List ℕ)) (next : Values) → n ≢ m → find n ((m, value) ∷ next) ≡ find n next
+found_later n m value next e = ap (λ b. cond b (Some value) (find n next)) (other_test n m e)
+
+pub never_none : {X : Type 0} (w : Option X) → w ≡ None → IsSome w → ⊥
+never_none w e s = true≢false (sym s ∙ ap is_some e)
+
+-- the writes before the rest are stored, and the reader has seen them
+pub record Stored (number : ℕ) (pen0 : Written) (r0 : Sights) (writes : Writings) (pen : Written) (r : Sights) (rest : Values) : Type 0 where
+  pub own : pen.cells ≡ pen0.cells
+  pub grown : HasGrown r0 r
+  pub found : All (λ e. value_for writes e.0 ≡ Some e.1) rest
+  pub sorted : IsStrictlySortedBy nat_cmp (keys_of rest)
+  pub waiting : (n : ℕ) → IsSome (find n rest) → at pen.all n ≡ at pen0.all n
+  pub done : (n : ℕ) → find n rest ≡ None → at pen.all n ≡ at pen0.all n ++ versions_for number writes.values n
+  pub seen : (n : ℕ) → find n rest ≡ None → IsSome (value_for writes n) → at r.seen n ≡ at pen.all n
+
+pub begins : (number : ℕ) (pen0 : Written) (r0 : Sights) (writes : Writings) (rest : Values) → rest ≡ writes.values
+    → All (λ e. value_for writes e.0 ≡ Some e.1) writes.values → IsStrictlySortedBy nat_cmp (keys_of writes.values) → Stored number pen0 r0 writes pen0 r0 rest
+begins number pen0 r0 writes rest e found sorted = record {
+  own = refl;
+  grown = grown_itself r0;
+  found = subst (All (λ e. value_for writes e.0 ≡ Some e.1)) (sym e) found;
+  sorted = subst (λ (q : Values). IsStrictlySortedBy nat_cmp (keys_of q)) (sym e) sorted;
+  waiting = λ n h. refl;
+  done = λ n h. sym (ap (λ (w : Option (Option (List ℕ))). at pen0.all n ++ option_map_or (λ value. version_of number value ∷ []) w []) (ap (find n) (sym e) ∙ h) ∙ append-nil (at pen0.all n));
+  seen = λ n h s. absurd (never_none (find n rest) h (subst (λ (q : Values). IsSome (find n q)) (sym e) s));
+}
+
+module _ (cells : ℕ) (number : ℕ) (pen0 : Written) (r0 : Sights) (reads : Readings) (writes : Writings) (by : IsReadBy cells r0 reads) (are_read : AreRead writes reads)
+    (smaller : (n : ℕ) → n < cells → last_tid (at pen0.all n) < tid_of (commit_word number))
+    (pen : Written) (r : Sights) (rest : Values) (c : Stored number pen0 r0 writes pen r rest)
+    (m : ℕ) (value : Option (List ℕ)) (next : Values) (steps : rest ≡ (m, value) ∷ next) where
+  sorted : IsStrictlySortedBy nat_cmp (keys_of ((m, value) ∷ next))
+  sorted = subst (λ (q : Values). IsStrictlySortedBy nat_cmp (keys_of q)) steps c.sorted
+
+  pub here : value_for writes m ≡ Some value
+  here = All-head (λ e. value_for writes e.0 ≡ Some e.1) (m, value) next (subst (All (λ e. value_for writes e.0 ≡ Some e.1)) steps c.found)
+
+  pub is_held : IsSome (held reads m)
+  is_held = are_read m value here
+
+  held_version : (w : Option Version) → IsSome w → (v : Version) × (w ≡ Some v)
+  held_version None h = absurd (true≢false (sym h))
+  held_version (Some v) h = (v, refl)
+
+  pub within : m < cells
+  within = let v = held_version (held reads m) is_held in by.within m v.0 v.1
+
+  fresh : at pen.all m ≡ at pen0.all m
+  fresh = c.waiting m (ap is_some (ap (find m) steps ∙ found_first m m value next refl))
+
+  pub larger : (word : ℕ) → tid_of word ≡ tid_of (commit_word number) → last_tid (at pen.all m) < tid_of word
+  larger word e = subst (λ (q : List (List ℕ) × ℕ). last_tid q.0 < q.1) (λ i. (sym fresh i, sym e i)) (smaller m within)
+
+  -- what `meet` asks for, of the version held
+  module _ (v : Version) (v_is : held reads m ≡ Some v) where
+    pub record_is : v.record ≡ m
+    record_is = by.records m v v_is
+
+    pub record_within : v.record < cells
+    record_within = subst (λ q. q < cells) (sym record_is) within
+
+    pub has : Has (at r.seen v.record) (words_of v)
+    has = subst (λ q. Has (at r.seen q) (words_of v)) (sym record_is) (has_more (at r.seen m) (at r0.seen m) (words_of v) (c.grown.grows m) (by.seen m v v_is))
+
+    module _ (version : List ℕ) (version_is : version ≡ version_of number value) (pen' pen'' : Written) (r' : Sights) (wrote : Writes pen pen' m version) (same : pen'' ≡ pen') (learns : Learns pen' r r' v.record) where
+      other : (n : ℕ) → n ≢ m → at pen''.all n ≡ at pen.all n
+      other n e = ap (λ (w : Written). at w.all n) same ∙ ap (λ (l : List (List (List ℕ))). at l n) wrote.others ∙ get_or-set_other pen.all m n (at pen'.all m) [] e
+
+      other_seen : (n : ℕ) → n ≢ m → at r'.seen n ≡ at r.seen n
+      other_seen n e = ap (λ (l : List (List (List ℕ))). at l n) learns.others ∙ get_or-set_other r.seen v.record n (at r'.seen v.record) [] (λ q. e (q ∙ record_is))
+
+      here_now : at pen''.all m ≡ at pen0.all m ++ version_of number value ∷ []
+      here_now = ap (λ (w : Written). at w.all m) same ∙ wrote.last ∙ (λ i. fresh i ++ version_is i ∷ [])
+
+      later : (n : ℕ) → n ≢ m → find n next ≡ find n rest
+      later n e = sym (ap (find n) steps ∙ found_later n m value next e)
+
+      pub goes_on : Stored number pen0 r0 writes pen'' r' next
+      goes_on = record {
+        own = ap (λ (w : Written). w.cells) same ∙ wrote.cells ∙ c.own;
+        grown = learns_grown pen' r0 r r' v.record c.grown learns;
+        found = All-tail (λ e. value_for writes e.0 ≡ Some e.1) (m, value) next (subst (All (λ e. value_for writes e.0 ≡ Some e.1)) steps c.found);
+        sorted = rest_sorted m value next sorted;
+        waiting = λ n h. ⊎_elim
+            (λ (e : n ≡ m). absurd (never_none (find n next) (ap (λ q. find q next) e ∙ first_absent m value next sorted) h))
+            (λ (e : n ≢ m). other n e ∙ c.waiting n (subst IsSome (later n e) h))
+            (cases_eq n m);
+        done = λ n h. ⊎_elim
+            (λ (e : n ≡ m). subst (λ q. at pen''.all q ≡ at pen0.all q ++ versions_for number writes.values q) (sym e) (here_now ∙ sym (ap (λ (w : Option (Option (List ℕ))). at pen0.all m ++ option_map_or (λ x. version_of number x ∷ []) w []) here)))
+            (λ (e : n ≢ m). other n e ∙ c.done n (sym (later n e) ∙ h))
+            (cases_eq n m);
+        seen = λ n h s. ⊎_elim
+            (λ (e : n ≡ m). subst (λ q. at r'.seen q ≡ at pen''.all q) (record_is ∙ sym e) (learns.learnt ∙ ap (λ (w : Written). at w.all v.record) (sym same)))
+            (λ (e : n ≢ m). other_seen n e ∙ c.seen n (sym (later n e) ∙ h) s ∙ sym (other n e))
+            (cases_eq n m);
+      }
+
+pub all_done : (number : ℕ) (pen0 : Written) (r0 : Sights) (writes : Writings) (pen : Written) (r : Sights) (rest : Values) → Stored number pen0 r0 writes pen r rest → rest ≡ []
+    → (n : ℕ) → at pen.all n ≡ at pen0.all n ++ versions_for number writes.values n
+all_done number pen0 r0 writes pen r rest c none n = c.done n (ap (find n) none)
+
+pub all_seen : (number : ℕ) (pen0 : Written) (r0 : Sights) (writes : Writings) (pen : Written) (r : Sights) (rest : Values) → Stored number pen0 r0 writes pen r rest → rest ≡ [] → HasSeen r pen writes
+all_seen number pen0 r0 writes pen r rest c none n value e = c.seen n (ap (find n) none) (ap is_some e)

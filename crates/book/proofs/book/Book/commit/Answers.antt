@@ -1,0 +1,109 @@
+use Rattle.std.proofs.Common.{◌≡◌, ℕ, ◌+◌, ◌<◌, ◌≤◌, List, [], ◌∷◌, ◌++◌, inl, inr, refl, sym, ap, ◌∙◌, subst, length, arith, rules, length-append}
+use Rattle.tables.specs.Sizes.{Sizes}
+use Rattle.tables.specs.Database.{Database, database}
+use Rattle.cells.specs.Records.{Written, at}
+use Rattle.payment.specs.Reads.{Readings}
+use Rattle.book.specs.Book.{Kept, AreLatest, IsSound, IsReadBy, Commits, HasSeen, entry_of}
+use Rattle.book.specs.History.{commit_word, versions_for}
+use Rattle.book.specs.Share.{Holding}
+use Rattle.book.proofs.Sound.{sound_after, may_be}
+use Rattle.book.proofs.Committed.{read_by_more, grown_twice}
+use Rattle.book.specs.declared.entry.Entry.{Entry}
+use Rattle.book.proofs.book.Book.commit.Goals as goal
+
+pub returns-then-commits-clause-answer : goal.returns-then-commits-clause-answer
+returns-then-commits-clause-answer g c =
+    let view = c.self.view_is in
+    let sound = c.self.invariant.0 in
+    let full : c.commits.result ≤ c.len-commits.result = c.if-commits.true in
+    let cap = ap (λ (s : Sizes). s.commits) sound.of_population.scale in
+    let history : List Entry = c.self.inside.history.items in
+    let len : c.len-commits.result ≡ length c.self.inside.history.items = search rules in (
+      (λ i. record { written = c.validate.ensures.pen i; history = c.self.inside.history.items }) ∙ view,
+      refl,
+      inr (
+        subst (λ (k : Kept). AreLatest k.written.all c.args.work.reads) view c.if-not-validate.ensures.latest,
+        inl (refl, subst (λ (k : Kept). g.K.Run.first.scale.commits ≤ length k.history) view (omega (arith, full, cap, len, c.commits.ensures.value))),
+      ),
+    )
+
+pub store-requires-clause-read : goal.store-requires-clause-read
+store-requires-clause-read g c =
+    subst (λ (cells : List _). IsReadBy (length cells) c.validate.new.reader c.args.work.reads) (sym c.requires.cells)
+    (read_by_more (length g.K.Run.cells) c.args.reader.now c.validate.new.reader c.args.work.reads c.requires.work.read c.validate.ensures.reader)
+
+pub returns-clause-reader : goal.returns-clause-reader
+returns-clause-reader g c = grown_twice c.args.reader.now c.validate.new.reader c.store.new.reader c.validate.ensures.reader c.store.ensures.reader
+
+pub returns-in_default-clause-answer : goal.returns-in_default-clause-answer
+returns-in_default-clause-answer g c =
+    let view = c.self.view_is in
+    let sound = c.self.invariant.0 in
+    let cap = ap (λ (s : Sizes). s.commits) sound.of_population.scale in
+    let len : c.len-commits.result ≡ length c.self.inside.history.items = search rules in (
+      (λ i. record { written = c.validate.ensures.pen i; history = c.reserve.ensures.items i }) ∙ view,
+      refl,
+      inr (
+        subst (λ (k : Kept). AreLatest k.written.all c.args.work.reads) view c.if-not-validate.ensures.latest,
+        inr (refl, subst (λ (k : Kept). length k.history < g.K.Run.first.scale.commits) view (omega (arith, c.if-commits.false, cap, len, c.commits.ensures.value))),
+      ),
+    )
+
+pub returns-in_default-apply-clause-answer : goal.returns-in_default-apply-clause-answer
+returns-in_default-apply-clause-answer g c =
+    let view = c.self.view_is in
+    let sound = c.self.invariant.0 in
+    let cap = ap (λ (s : Sizes). s.commits) sound.of_population.scale in
+    let len : c.len-commits.result ≡ length c.self.inside.history.items = search rules in (
+      (λ i. record { written = c.validate.ensures.pen i; history = c.reserve.ensures.items i }) ∙ view,
+      refl,
+      inr (
+        subst (λ (k : Kept). AreLatest k.written.all c.args.work.reads) view c.if-not-validate.ensures.latest,
+        inr (refl, subst (λ (k : Kept). length k.history < g.K.Run.first.scale.commits) view (omega (arith, c.if-commits.false, cap, len, c.commits.ensures.value))),
+      ),
+    )
+
+pub invariant_of-self-2 : goal.invariant_of-self-2
+invariant_of-self-2 g c =
+    let sound = c.self.invariant.0 in
+    let items : List Entry = c.self.inside.history.items in
+    let cap = ap (λ (s : Sizes). s.commits) sound.of_population.scale in
+    let len : c.len-commits.result ≡ length c.self.inside.history.items = search rules in
+    let small : length c.self.inside.history.items < g.K.Run.first.scale.commits = omega (arith, c.if-commits.false, cap, len, c.commits.ensures.value) in
+    let next : c.len-commits.result + 1 ≡ length c.self.inside.history.items + 1 = ap (λ n. n + 1) len in
+    let cells : c.store.new.pen.cells ≡ c.self.inside.pen.cells = c.store.ensures.cells ∙ ap (λ (w : Written). w.cells) c.validate.ensures.pen in
+    let made = sound_after g.K.Run.first g.K.Run.cells (record { written = c.self.inside.pen; history = c.self.inside.history.items }) (database c.self.inside.tables) sound
+    c.args.reader.now c.args.work c.requires.work c.if-not-validate.ensures.latest c.share.inside.terminal c.store.new.pen small cells
+    (λ n. c.store.ensures.versions n ∙ (λ i. at (c.validate.ensures.pen i).all n ++ versions_for (next i) c.args.work.writes.values n)) in
+    let history : c.push_reserved.new.self.items ≡ c.self.inside.history.items ++ entry_of (length c.self.inside.history.items + 1) c.share.inside.terminal c.args.work ∷ [] =
+    c.push_reserved.ensures.items ∙ (λ i. c.reserve.ensures.items i ++ record { number = next i; tid = (c.commit_tid.ensures ∙ ap commit_word next) i; terminal = c.share.inside.terminal; input = c.args.work.input; reply = c.args.work.reply; writes = c.args.work.writes } ∷ []) in (
+      subst (λ (q : List Entry × Database). IsSound g.K.Run.first g.K.Run.cells (record { written = c.store.new.pen; history = q.0 }) q.1) (λ i. (sym history i, sym c.in-Ok-apply.ensures.tables i)) made,
+      c.add.ensures.total ∙ ap (λ n. n + 1) c.self.invariant.1 ∙ sym (ap length history ∙ length-append c.self.inside.history.items (entry_of (length c.self.inside.history.items + 1) c.share.inside.terminal c.args.work ∷ [])),
+    )
+
+pub returns-clause-answer : goal.returns-clause-answer
+returns-clause-answer g c =
+    let sound = c.self.invariant.0 in
+    let cap = ap (λ (s : Sizes). s.commits) sound.of_population.scale in
+    let len : c.len-commits.result ≡ length c.self.inside.history.items = search rules in
+    let small : length c.self.inside.history.items < g.K.Run.first.scale.commits = omega (arith, c.if-commits.false, cap, len, c.commits.ensures.value) in
+    let next : c.len-commits.result + 1 ≡ length c.self.inside.history.items + 1 = ap (λ n. n + 1) len in
+    let tid = c.commit_tid.ensures ∙ ap commit_word next in
+    let history : c.push_reserved.new.self.items ≡ c.self.inside.history.items ++ entry_of (length c.self.inside.history.items + 1) c.share.inside.terminal c.args.work ∷ [] =
+    c.push_reserved.ensures.items ∙ (λ i. c.reserve.ensures.items i ++ record { number = next i; tid = tid i; terminal = c.share.inside.terminal; input = c.args.work.input; reply = c.args.work.reply; writes = c.args.work.writes } ∷ []) in
+    subst (λ (q : Kept × Holding). AreLatest q.0.written.all c.args.work.reads × (length q.0.history < g.K.Run.first.scale.commits)
+    × Commits q.0 (record { written = c.store.new.pen; history = c.push_reserved.new.self.items }) (entry_of (length q.0.history + 1) q.1.terminal c.args.work)
+    × (c.of.result ≡ record { number = length q.0.history + 1; tid = commit_word (length q.0.history + 1); reply = c.args.work.reply })
+    × (◌≡◌ {A = Holding} (record { terminal = c.share.inside.terminal; commits = c.add.new.share.amount }) (record { terminal = q.1.terminal; commits = q.1.commits + 1 }))
+    × HasSeen c.store.new.reader c.store.new.pen c.args.work.writes) (λ i. (c.self.view_is i, c.share.view_is i)) (
+      c.if-not-validate.ensures.latest,
+      small,
+      record {
+        history = history;
+        cells = c.store.ensures.cells ∙ ap (λ (w : Written). w.cells) c.validate.ensures.pen;
+        versions = λ n _. c.store.ensures.versions n ∙ (λ i. at (c.validate.ensures.pen i).all n ++ versions_for (next i) c.args.work.writes.values n);
+      },
+      c.of.ensures ∙ (λ i. record { number = next i; tid = tid i; reply = c.args.work.reply }),
+      (λ i. record { terminal = c.share.inside.terminal; commits = c.add.ensures.amount i }),
+      c.store.ensures.seen,
+    )

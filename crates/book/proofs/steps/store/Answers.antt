@@ -1,0 +1,25 @@
+use Rattle.std.proofs.Common.{◌≡◌, ◌∷◌, sym, ap, ◌∙◌, subst, length}
+use Rattle.cells.specs.Records.{Written, Sights}
+use Rattle.payment.specs.Reads.{held}
+use Rattle.book.proofs.Stores.{begins, never_none, within, larger, is_held, record_within, has, goes_on, all_done, all_seen}
+use Rattle.book.proofs.steps.store.Goals as goal
+
+pub loop-record-init : goal.loop-record-init
+loop-record-init g c = begins c.args.number c.args.pen.now c.args.reader.now c.args.writes.now c.into_iter-record-iterator.result
+    (c.into_iter-record-iterator.ensures.into_iter_gives ∙ c.values-record-items.ensures.values) c.values-record-items.ensures.found c.values-record-items.ensures.ordered
+
+pub store-requires-clause-is_record : goal.store-requires-clause-is_record
+store-requires-clause-is_record g c = within (length c.args.cells.now) c.args.number c.args.pen.now c.args.reader.now c.args.reads.now c.args.writes.now c.requires.read c.requires.written_read c.requires.smaller c.loop-record.pen c.loop-record.reader c.loop-record.record-iterator c.loop-record.invariant c.in-Some.record.now c.in-Some.value.now c.next.new.self c.in-Some.ensures.steps
+
+pub store-requires-clause-larger : goal.store-requires-clause-larger
+store-requires-clause-larger g c = larger (length c.args.cells.now) c.args.number c.args.pen.now c.args.reader.now c.args.reads.now c.args.writes.now c.requires.read c.requires.written_read c.requires.smaller c.loop-record.pen c.loop-record.reader c.loop-record.record-iterator c.loop-record.invariant c.in-Some.record.now c.in-Some.value.now c.next.new.self c.in-Some.ensures.steps c.version-version.result.word c.version-version.ensures.tid
+
+pub meet-requires-clause-seen : goal.meet-requires-clause-seen
+meet-requires-clause-seen g c = has (length c.args.cells.now) c.args.number c.args.pen.now c.args.reader.now c.args.reads.now c.args.writes.now c.requires.read c.requires.written_read c.requires.smaller c.loop-record.pen c.loop-record.reader c.loop-record.record-iterator c.loop-record.invariant c.in-Some.record.now c.in-Some.value.now c.next.new.self c.in-Some.ensures.steps c.in-Some-held.held.now (sym c.in-Some-held.ensures)
+
+pub loop-record-preserved : goal.loop-record-preserved
+loop-record-preserved g c = goes_on (length c.args.cells.now) c.args.number c.args.pen.now c.args.reader.now c.args.reads.now c.args.writes.now c.requires.read c.requires.written_read c.requires.smaller c.loop-record.pen c.loop-record.reader c.loop-record.record-iterator c.loop-record.invariant c.in-Some.record.now c.in-Some.value.now c.next.new.self c.in-Some.ensures.steps c.in-Some-held.held.now (sym c.in-Some-held.ensures) (c.version-version.result.word ∷ c.version-version.result.payload) c.version-version.ensures.words
+    c.store.new.pen c.meet.new.pen c.meet.new.reader (record { cells = c.store.ensures.cells; others = c.store.ensures.others; last = c.store.ensures.last }) c.meet.ensures.pen c.meet.ensures.reader
+
+pub unreachable-requires : goal.unreachable-requires
+unreachable-requires g c = never_none (held c.args.reads.now c.in-Some.record.now) (sym c.in-None-held.ensures) (is_held (length c.args.cells.now) c.args.number c.args.pen.now c.args.reader.now c.args.reads.now c.args.writes.now c.requires.read c.requires.written_read c.requires.smaller c.loop-record.pen c.loop-record.reader c.loop-record.record-iterator c.loop-record.invariant c.in-Some.record.now c.in-Some.value.now c.next.new.self c.in-Some.ensures.steps)

@@ -1,0 +1,69 @@
+-- What has committed, in order, and what it makes of the tables and of the records' versions.
+use Rattle.std.specs.Prelude.{◌≡◌, ℕ, ◌+◌, ◌<◌, ◌/◌, ◌%◌, ◌==◌, cond, true, false, Option, Some, None, List, [], ◌∷◌, ◌++◌, replicate}
+use Rattle.std.specs.Option.{option_map_or}
+use Rattle.std.specs.Ordering.{nat_cmp}
+use Rattle.std.specs.Map.{lookup}
+use Rattle.std.specs.BTreeMap.{is_at}
+use Rattle.tables.specs.Database.{Database}
+use Rattle.tables.specs.Inputs.{IsInput}
+use Rattle.tables.specs.Apply.{after, reply_to}
+use Rattle.tables.specs.Records.{record_count}
+use Rattle.tables.specs.Rows.{rows}
+use Rattle.cells.specs.TidWord.{tid_word}
+use Rattle.cells.specs.First.{first_version}
+use Rattle.payment.specs.Writes.{written, added}
+use Rattle.book.specs.declared.entry.Entry.{Entry}
+
+-- the tables after these entries: their inputs applied one after another
+abbrev pub replay : Database → List Entry → Database
+replay t [] = t
+replay t (e ∷ es) = replay (after t e.input) es
+
+-- the TID word of commit number n: epoch 1, sequence n, the latest version. Where a record becomes absent, its absent bit is set too
+abbrev pub commit_word : ℕ → ℕ
+commit_word n = tid_word 1 n (record { latest = true; absent = false; locked = false })
+
+abbrev pub absent_word : ℕ → ℕ
+absent_word n = tid_word 1 n (record { latest = true; absent = true; locked = false })
+
+-- an entry as it is done at these tables: its reply is the transaction's, its writes put into the rows before give the rows after, and its HISTORY row is the row added
+pub record IsDone (t : Database) (e : Entry) : Type 0 where
+  pub input : IsInput t.scale e.input
+  pub reply : e.reply ≡ reply_to t e.input
+  pub writes : (n : ℕ) → n < record_count t.scale → rows (after t e.input) n ≡ written e.writes (rows t) n
+  pub history : (after t e.input).history ≡ t.history ++ added e.writes.history
+
+-- the entries have the commit numbers from n on, and each is done at the tables that the entries before it leave
+abbrev pub Replays : ℕ → Database → List Entry → Type 0
+Replays n t [] = Unit {0}
+Replays n t (e ∷ es) = (e.number ≡ n) × (e.tid ≡ commit_word n) × IsDone t e × Replays (n + 1) (after t e.input) es
+
+-- a history from t0 to t: numbers from 1 on, each entry done in its turn, and the end is t
+pub record IsLegal (t0 : Database) (history : List Entry) (t : Database) : Type 0 where
+  pub replays : Replays 1 t0 history
+  pub end : replay t0 history ≡ t
+
+-- the version that commit number n makes of a value
+abbrev pub version_of : ℕ → Option (List ℕ) → List ℕ
+version_of n (Some words) = commit_word n ∷ words
+version_of n None = absent_word n ∷ replicate 7 0
+
+-- the versions that these writes of commit number n add to a record, and those of an entry: one or none
+abbrev pub versions_for : ℕ → List (ℕ × Option (List ℕ)) → ℕ → List (List ℕ)
+versions_for n values number = option_map_or (λ value. version_of n value ∷ []) (lookup (is_at (nat_cmp number)) values) []
+
+abbrev pub versions_by : Entry → ℕ → List (List ℕ)
+versions_by e number = versions_for e.number e.writes.values number
+
+-- the versions that entries add to a record, and all its versions: the one of the first tables, then those
+abbrev pub later_versions : List Entry → ℕ → List (List ℕ)
+later_versions [] number = []
+later_versions (e ∷ es) number = versions_by e number ++ later_versions es number
+
+abbrev pub versions_of : Database → List Entry → ℕ → List (List ℕ)
+versions_of t0 history number = first_version (rows t0 number) ∷ later_versions history number
+
+-- what a version says that its record holds
+abbrev pub value_in : List ℕ → Option (List ℕ)
+value_in [] = None
+value_in (word ∷ words) = cond (word / 4 % 2 == 0) (Some words) None

@@ -1,0 +1,3 @@
+pub mod History
+pub mod Book
+pub mod Share

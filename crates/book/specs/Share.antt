@@ -1,0 +1,7 @@
+-- What contracts see of a terminal's share.
+use Rattle.std.specs.Prelude.{ℕ}
+
+-- the terminal's number, and how many of the commits are its own
+pub record Holding : Type 0 where
+  pub terminal : ℕ
+  pub commits : ℕ

@@ -1,0 +1,84 @@
+//! Committing a transaction.
+ghost use Rattle.std.specs.Prelude.{◌≡◌, ◌+◌, ◌<◌, ◌≤◌, ◌⊎◌, length, MatchResult, IsErr};
+ghost use Rattle.money.specs.declared.refusal.Refusal.TheVariants.{OutOfMemory, Conflict, CommitsFull};
+ghost use Rattle.book.specs.History.{commit_word};
+ghost use Rattle.book.specs.Book.{AreLatest, HasConflict, HasGrown, HasSeen, IsWorkOf, Commits, entry_of};
+
+use crate::book::Book;
+use crate::entry::{Done, Entry};
+use crate::run::Run;
+use crate::share::Share;
+use crate::steps::{commit_tid, store, validate};
+use cells::{Cells, Reader};
+use money::Refusal;
+use payment::Work;
+use plain::apply;
+use std::sync::Wait;
+
+impl<K: Run> Book<K> {
+    /// Commits a transaction that this reader has executed, as the next in the history (Silo, section 4.4). Costs
+    /// a comparison a record read, a store a record written, and the look-ups of the transaction on the tables.
+    ///
+    /// # Errors
+    ///
+    /// `Conflict` exactly where a version read isn't its record's latest; then `CommitsFull` exactly at the commit
+    /// cap; then `OutOfMemory`. After a refusal book and share are as before.
+    pub fn commit<R: Wait>(
+        &mut self,
+        rt: &R,
+        cells: &Cells,
+        reader: &mut Reader,
+        share: &mut Share<K>,
+        work: Work,
+    ) -> Result<Done, Refusal>
+        requires cells { cells.now ≡ K.cells }
+        requires reader { reader.old.cells ≡ K.cells }
+        requires work { IsWorkOf K.first (length K.cells) reader.old work }
+        ensures reader { HasGrown reader.old reader.new }
+        ensures answer { MatchResult result
+            (λ done. AreLatest self.old.written.all work.reads × (length self.old.history < K.first.scale.commits)
+            × Commits self.old self.new (entry_of (length self.old.history + 1) share.old.terminal work)
+            × (done ≡ record { number = length self.old.history + 1; tid = commit_word (length self.old.history + 1); reply = work.reply })
+            × (share.new ≡ record { terminal = share.old.terminal; commits = share.old.commits + 1 })
+            × HasSeen reader.new self.new.written work.writes)
+            (λ refusal. (self.new ≡ self.old) × (share.new ≡ share.old)
+            × (((refusal ≡ Conflict) × HasConflict self.old.written.all work.reads)
+            ⊎ (AreLatest self.old.written.all work.reads
+            × (((refusal ≡ CommitsFull) × (K.first.scale.commits ≤ length self.old.history))
+            ⊎ ((refusal ≡ OutOfMemory) × (length self.old.history < K.first.scale.commits)))))) }
+    {
+        let Work {
+            input,
+            reads,
+            writes,
+            reply,
+        } = work;
+        if !validate(rt, cells, &mut self.pen, reader, &reads) {
+            return Err(Refusal::Conflict);
+        }
+        let commits = self.history.len();
+        if commits >= self.tables.scale.commits() as usize {
+            return Err(Refusal::CommitsFull);
+        }
+        // What is refused for want of memory is refused here, before the first store.
+        let Ok(()) = self.history.reserve(1) else {
+            return Err(Refusal::OutOfMemory);
+        };
+        let Ok(_) = apply(&mut self.tables, &input) else {
+            return Err(Refusal::OutOfMemory);
+        };
+        let number = commits as u32 + 1;
+        store(rt, cells, &mut self.pen, reader, &reads, &writes, number);
+        let (tid, reply) = (&commit_tid(number), &reply);
+        self.history.push_reserved(Entry {
+            number,
+            tid: *tid,
+            terminal: share.terminal,
+            input,
+            reply: *reply,
+            writes,
+        });
+        self.shares.add(&mut share.part, 1);
+        Ok(Done::of(number, *tid, *reply))
+    }
+}

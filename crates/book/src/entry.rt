@@ -1,0 +1,58 @@
+//! What has committed.
+ghost use Rattle.std.specs.Prelude.{◌≡◌};
+
+use cells::TidWord;
+use payment::WriteSet;
+use tables::{Input, Reply};
+
+/// A committed transaction as the history has it.
+#[derive(Drop)]
+pub struct Entry {
+    /// The commit number, from 1.
+    pub number: u32,
+    /// The TID of the versions that it stored (Silo, section 4.2).
+    pub tid: TidWord,
+    /// The terminal that asked for it, from 0.
+    pub terminal: u16,
+    pub input: Input,
+    pub reply: Reply,
+    pub writes: WriteSet,
+}
+
+/// What a terminal is told of a commit. Only a commit makes one.
+#[derive(Clone, Copy, Debug, PartialEq, Eq)]
+pub struct Done {
+    number: u32,
+    tid: TidWord,
+    reply: Reply,
+}
+
+impl Done {
+    /// Of a commit.
+    pub(crate) fn of(number: u32, tid: TidWord, reply: Reply) -> Done
+        ensures { result ≡ record { number = number; tid = tid; reply = reply } }
+    {
+        Done { number, tid, reply }
+    }
+
+    /// The commit number, from 1.
+    pub fn number(&self) -> u32
+        ensures { result ≡ self.now.number }
+    {
+        self.number
+    }
+
+    /// The TID of the versions that the commit stored.
+    pub fn tid(&self) -> TidWord
+        ensures { result ≡ self.now.tid }
+    {
+        self.tid
+    }
+
+    /// The reply to the transaction.
+    pub fn reply(&self) -> Reply
+        ensures { result ≡ self.now.reply }
+    {
+        self.reply
+    }
+}

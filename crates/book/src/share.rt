@@ -1,0 +1,34 @@
+//! A terminal's share of the commits.
+ghost use Rattle.std.specs.Prelude.{◌≡◌};
+
+use crate::run::Run;
+use std::marker::Model;
+use std::sync::ledger;
+
+/// How many of the commits are a terminal's, and that terminal's number. It has no bytes but that number: how
+/// many is what a proof knows.
+#[derive(Drop)]
+pub struct Share<K: Run> {
+    pub(crate) part: ledger::Share<K>,
+    pub(crate) terminal: u16,
+}
+
+impl<K: Run> Model for Share<K> {
+    ghost use Rattle.std.specs.Prelude.{◌<◌};
+    ghost use Rattle.book.specs.Share.{Holding};
+
+    ghost Value = { Holding };
+
+    ghost view = { λ s. record { terminal = s.terminal; commits = s.part.amount } };
+
+    ghost invariant = { λ s. 0 < s.part.parts };
+}
+
+impl<K: Run> Share<K> {
+    /// The number of the terminal, from 0.
+    pub fn terminal(&self) -> u16
+        ensures { result ≡ self.now.terminal }
+    {
+        self.terminal
+    }
+}

@@ -1,0 +1,107 @@
+//! The steps of a commit at the records' cells (Silo, section 4.4).
+ghost use Rattle.std.specs.Prelude.{◌≡◌, ℕ, ◌<◌, ◌^◌, ◌∷◌, ◌++◌, Some, List, length, MatchBool};
+ghost use Rattle.cells.specs.TidWord.{tid_of};
+ghost use Rattle.cells.specs.Versions.{last_tid};
+ghost use Rattle.cells.specs.Records.{at};
+ghost use Rattle.book.specs.History.{commit_word, version_of, versions_for};
+ghost use Rattle.book.specs.Book.{AreLatest, AreRead, HasConflict, HasGrown, HasSeen, IsReadBy};
+
+use cells::{Cells, Pen, Reader, Status, TidWord};
+use payment::{ReadSet, WriteSet};
+use std::sync::Wait;
+
+/// Whether each version read is still its record's latest (phase 2). The reader has then seen all versions of
+/// the records that were compared.
+pub(crate) fn validate<R: Wait>(
+    rt: &R,
+    cells: &Cells,
+    pen: &mut Pen,
+    reader: &mut Reader,
+    reads: &ReadSet,
+) -> bool
+    requires own { (pen.old.cells ≡ cells.now) × (reader.old.cells ≡ cells.now) }
+    requires read { IsReadBy (length cells.now) reader.old reads.now }
+    ensures pen { pen.new ≡ pen.old }
+    ensures reader { HasGrown reader.old reader.new }
+    ensures latest { MatchBool result (AreLatest pen.old.all reads.now) (HasConflict pen.old.all reads.now) }
+{
+    for (_, version) in reads.versions() {
+        if !cells.meet(rt, pen, reader, version) {
+            return false;
+        }
+    }
+    true
+}
+
+/// Stores the versions that a commit writes (phase 3), each in one store with its TID word. The reader has then
+/// seen them.
+pub(crate) fn store<R: Wait>(
+    rt: &R,
+    cells: &Cells,
+    pen: &mut Pen,
+    reader: &mut Reader,
+    reads: &ReadSet,
+    writes: &WriteSet,
+    number: u32,
+)
+    requires own { (pen.old.cells ≡ cells.now) × (reader.old.cells ≡ cells.now) }
+    requires read { IsReadBy (length cells.now) reader.old reads.now }
+    requires written_read { AreRead writes.now reads.now }
+    requires number { number < 2 ^ 29 }
+    requires smaller { (n : ℕ) → n < length cells.now → last_tid (at pen.old.all n) < tid_of (commit_word number) }
+    ensures cells { pen.new.cells ≡ pen.old.cells }
+    ensures versions { (n : ℕ) → at pen.new.all n ≡ at pen.old.all n ++ versions_for number writes.now.values n }
+    ensures reader { HasGrown reader.old reader.new }
+    ensures seen { HasSeen reader.new pen.new writes.now }
+{
+    for (record, value) in writes.values() {
+        let version = version(number, value);
+        cells.store(rt, pen, *record, version.word, version.payload);
+        match reads.held(*record) {
+            Some(held) => {
+                cells.meet(rt, pen, reader, held);
+            }
+            None => unreachable!(),
+        }
+    }
+}
+
+/// A version to be stored.
+#[derive(Clone, Copy, Debug, PartialEq, Eq)]
+struct NewVersion {
+    word: TidWord,
+    payload: [u64; 7],
+}
+
+/// The version that a commit makes of a value.
+fn version(number: u32, value: &Option<[u64; 7]>) -> NewVersion
+    requires { number < 2 ^ 29 }
+    ensures words { result.word ∷ result.payload ≡ version_of number value.now }
+    ensures tid { tid_of result.word ≡ tid_of (commit_word number) }
+{
+    let status = Status {
+        latest: true,
+        absent: value.is_none(),
+        locked: false,
+    };
+    NewVersion {
+        word: TidWord::pack(1, number, status),
+        payload: match value {
+            Some(words) => *words,
+            None => [0; 7],
+        },
+    }
+}
+
+/// The TID word of a commit: epoch 1 and its number, the latest version.
+pub(crate) fn commit_tid(number: u32) -> TidWord
+    requires { number < 2 ^ 29 }
+    ensures { result ≡ commit_word number }
+{
+    let status = Status {
+        latest: true,
+        absent: false,
+        locked: false,
+    };
+    TidWord::pack(1, number, status)
+}

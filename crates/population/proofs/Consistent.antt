@@ -1,0 +1,111 @@
+-- The plain population is consistent (TPC-C 3.3.2).
+use Rattle.std.proofs.Common.{◌≡◌, ℕ, ◌*◌, ℤ, pos, ◌+ℤ◌, ◌-ℤ◌, Bool, true, false, cond, ◌&&◌, ◌==◌, Option, Some, None, is_some, refl, sym, ap, ◌∙◌, subst, arith}
+use Rattle.std.specs.Option.{option_map_or}
+use Rattle.std.specs.Ordering.{eq_by_cmp}
+use Rattle.std.specs.FinMap.{FinMap}
+use Rattle.std.specs.declared.cmp.Ordering.{Ordering}
+use Rattle.std.proofs.lemmas.Bool.Decides.{nat_tests}
+use Rattle.tables.specs.Sizes.{Sizes}
+use Rattle.tables.specs.Keys.{district_cmp, IsWarehouseKey, IsDistrictKey, IsCustomerKey, is_district, is_customer}
+use Rattle.tables.specs.Maps.{sum_of, total, column}
+use Rattle.tables.specs.Database.{Database}
+use Rattle.tables.specs.Conditions.{delivered_amount, customer_history, Condition1At, Condition8At, Condition9At, Condition10At, Condition12At, IsConsistent}
+use Rattle.tables.specs.declared.keys.DistrictKey.{DistrictKey}
+use Rattle.tables.specs.declared.keys.CustomerKey.{CustomerKey}
+use Rattle.tables.specs.declared.rows.History.{History}
+use Rattle.tables.proofs.Orders.{exact_district, exact_line}
+use Rattle.population.specs.Plain.{numbers, plain_history_row, district_payments, warehouse_payments, plain_history, is_delivered, IsTable, IsPlain}
+use Rattle.population.proofs.Sound.{each}
+use Rattle.population.proofs.Sums.{sum_each, sum_none, sum_one, sum_joined, sum_listed, total_same, total_at, total_sums, total_none}
+
+-- the test of a district key's columns is the test by the keys' order
+is_district-key : (w d : ℕ) (k : DistrictKey) → is_district w d k ≡ eq_by_cmp district_cmp (record { warehouse = w; district = d }) k
+is_district-key w d k = grind (arith, nat_tests)
+
+-- ---- columns of the plain population
+column_of : {K X : Type 0} {R : K → K → Ordering} {IsKey : K → Type 0} {row : K → X} {m : FinMap R X} (f : X → ℤ) → IsTable IsKey row m → (k : K) → IsKey k → column f m k ≡ f (row k)
+column_of f table k h = ap (λ (o : Option _). option_map_or f o (pos 0)) (table.rows k h)
+
+-- a line that is delivered costs 0
+delivered_free : (b p q r : Bool) (n : ℕ) → cond (is_some {T = ℕ} (cond b (Some 1) None) && p && q && r) (cond b (pos 0) (pos n)) (pos 0) ≡ pos 0
+delivered_free true p q r n = grind arith
+delivered_free false p q r n = refl
+
+-- ---- sums over the plain population's payments
+payments_sum : (s : Sizes) (f : History → ℤ)
+    → sum_of f (plain_history s) ≡ sum_of (λ w. sum_of (λ d. sum_of (λ c. f (plain_history_row w d c)) (numbers s.customers)) (numbers s.districts)) (numbers s.warehouses)
+payments_sum s f =
+    sum_joined f (warehouse_payments s) s.warehouses
+    ∙ (λ i. sum_of (λ w. sum_joined f (district_payments s w) s.districts i) (numbers s.warehouses))
+    ∙ (λ i. sum_of (λ w. sum_of (λ d. sum_listed f (plain_history_row w d) s.customers i) (numbers s.districts)) (numbers s.warehouses))
+
+module _ (s : Sizes) where
+  warehouse_payments_sum : (w : ℕ) → IsWarehouseKey s w → sum_of (λ h. cond (h.warehouse == w) h.amount (pos 0)) (plain_history s) ≡ pos (s.districts * (s.customers * 1000))
+  warehouse_payments_sum w is =
+      payments_sum s _
+      ∙ sum_one _ s.warehouses w is (λ v _ apart. sum_none _ s.districts (λ d _. sum_none _ s.customers (λ c _. grind (arith, nat_tests))))
+      ∙ sum_each _ s.districts (s.customers * 1000) (λ d _. sum_each _ s.customers 1000 (λ c _. grind (arith, nat_tests)))
+
+  district_payments_sum : (k : DistrictKey) → IsDistrictKey s k → sum_of (λ h. cond (is_district h.warehouse h.district k) h.amount (pos 0)) (plain_history s) ≡ pos (s.customers * 1000)
+  district_payments_sum k is =
+      payments_sum s _
+      ∙ sum_one _ s.warehouses k.warehouse is.0 (λ w _ apart. sum_none _ s.districts (λ d _. sum_none _ s.customers (λ c _. grind (arith, nat_tests))))
+      ∙ sum_one _ s.districts k.district is.1 (λ d _ apart. sum_none _ s.customers (λ c _. grind (arith, nat_tests)))
+      ∙ sum_each _ s.customers 1000 (λ c _. grind (arith, nat_tests))
+
+  customer_payments_sum : (k : CustomerKey) → IsCustomerKey s k → sum_of (λ h. cond (is_customer h.customer_warehouse h.customer_district h.customer k) h.amount (pos 0)) (plain_history s) ≡ pos 1000
+  customer_payments_sum k is =
+      payments_sum s _
+      ∙ sum_one _ s.warehouses k.warehouse is.0 (λ w _ apart. sum_none _ s.districts (λ d _. sum_none _ s.customers (λ c _. grind (arith, nat_tests))))
+      ∙ sum_one _ s.districts k.district is.1 (λ d _ apart. sum_none _ s.customers (λ c _. grind (arith, nat_tests)))
+      ∙ sum_one _ s.customers k.customer is.2 (λ c _ apart. grind (arith, nat_tests))
+      ∙ grind (arith, nat_tests)
+
+module _ (t : Database) (plain : IsPlain t.scale t) where
+  nothing_delivered : (k : CustomerKey) → delivered_amount t k ≡ pos 0
+  nothing_delivered k = total_none exact_line _ t.lines (each plain.lines _ (λ j _. delivered_free (is_delivered t.scale j.order) _ _ _ _))
+
+  customer_paid : (k : CustomerKey) → IsCustomerKey t.scale k → customer_history t k ≡ pos 1000
+  customer_paid k is = ap (sum_of _) plain.history ∙ customer_payments_sum t.scale k is
+
+  condition_8 : (w : ℕ) → IsWarehouseKey t.scale w → Condition8At t w
+  condition_8 w is =
+      column_of (λ r. r.year_to_date) plain.warehouses w is
+      ∙ sym (ap (sum_of _) plain.history ∙ warehouse_payments_sum t.scale w is)
+
+  condition_9 : (k : DistrictKey) → IsDistrictKey t.scale k → Condition9At t k
+  condition_9 k is =
+      column_of (λ r. r.year_to_date) plain.districts k is
+      ∙ sym (ap (sum_of _) plain.history ∙ district_payments_sum t.scale k is)
+
+  condition_10 : (k : CustomerKey) → IsCustomerKey t.scale k → Condition10At t k
+  condition_10 k is =
+      column_of (λ r. r.balance) plain.customers k is
+      ∙ sym (λ i. nothing_delivered k i -ℤ customer_paid k is i)
+
+  condition_12 : (k : CustomerKey) → IsCustomerKey t.scale k → Condition12At t k
+  condition_12 k is =
+      (λ i. column_of (λ r. r.balance) plain.customers k is i +ℤ column_of (λ r. r.paid) plain.customers k is i)
+      ∙ sym (nothing_delivered k)
+
+  district_sum : (w d : ℕ) → IsDistrictKey t.scale (record { warehouse = w; district = d }) → total (λ k r. cond (is_district w d k) r.year_to_date (pos 0)) t.districts ≡ pos (t.scale.customers * 1000)
+  district_sum w d is =
+      total_at exact_district (λ r. r.year_to_date) (is_district w d) (record { warehouse = w; district = d }) t.districts (is_district-key w d)
+      ∙ column_of (λ r. r.year_to_date) plain.districts _ is
+
+  -- the sum over all rows is the sum over the warehouse's district numbers of the row at each
+  districts_sum : (w : ℕ) → IsWarehouseKey t.scale w → total (λ k r. cond (k.warehouse == w) r.year_to_date (pos 0)) t.districts ≡ pos (t.scale.districts * (t.scale.customers * 1000))
+  districts_sum w is =
+      total_same exact_district _ (λ k r. sum_of (λ d. cond (is_district w d k) r.year_to_date (pos 0)) (numbers t.scale.districts)) t.districts
+      (each plain.districts _ (λ k h. sym (sum_one _ t.scale.districts k.district h.1 (λ d _ apart. grind (arith, nat_tests)) ∙ grind (arith, nat_tests))))
+      ∙ total_sums (λ d k r. cond (is_district w d k) r.year_to_date (pos 0)) t.scale.districts t.districts
+      ∙ sum_each _ t.scale.districts (t.scale.customers * 1000) (λ d h. district_sum w d (is, h))
+
+  condition_1 : (w : ℕ) → IsWarehouseKey t.scale w → Condition1At t w
+  condition_1 w is = column_of (λ r. r.year_to_date) plain.warehouses w is ∙ sym (districts_sum w is)
+
+  consistent : IsConsistent t
+  consistent = record { condition_1 = condition_1; condition_8 = condition_8; condition_9 = condition_9; condition_10 = condition_10; condition_12 = condition_12 }
+
+pub plain-consistent : (s : Sizes) (t : Database) → IsPlain s t → IsConsistent t
+plain-consistent s t plain = consistent t (subst (λ (x : Sizes). IsPlain x t) (sym plain.scale) plain)
