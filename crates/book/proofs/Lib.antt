@@ -4,3 +4,4 @@ mod Stores
 mod Same
 mod Sound
 mod Committed
+mod Opened

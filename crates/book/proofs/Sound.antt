@@ -65,7 +65,7 @@ value_in_version : (n : ℕ) (value : Option (List ℕ)) → value_in (version_o
 value_in_version n (Some words) = ap (λ k. cond (k == 0) (Some words) None) (present n)
 value_in_version n None = ap (λ k. cond (k == 0) (Some (replicate 7 0)) None) (gone n)
 
-last_one : (xs ys : List (List ℕ)) (a b : List ℕ) → xs ++ a ∷ [] ≡ ys ++ b ∷ [] → a ≡ b
+pub last_one : (xs ys : List (List ℕ)) (a b : List ℕ) → xs ++ a ∷ [] ≡ ys ++ b ∷ [] → a ≡ b
 last_one xs ys a b e = sym (end xs a) ∙ ap last_of e ∙ end ys b
   where
     last_of : List (List ℕ) → List ℕ

@@ -1,3 +1,5 @@
 pub mod History
 pub mod Book
 pub mod Share
+pub mod Parts
+pub mod Seats

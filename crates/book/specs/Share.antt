@@ -1,7 +1,8 @@
 -- What contracts see of a terminal's share.
 use Rattle.std.specs.Prelude.{ℕ}
 
--- the terminal's number, and how many of the commits are its own
+-- the terminal's number, how many parts of the ledger it has, and how many of the commits are its own
 pub record Holding : Type 0 where
   pub terminal : ℕ
+  pub parts : ℕ
   pub commits : ℕ

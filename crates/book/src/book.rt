@@ -1,8 +1,13 @@
 //! The committed state.
 
+use crate::copy::copy_of;
 use crate::entry::Entry;
 use crate::run::Run;
+use crate::share::Share;
 use cells::Pen;
+use money::Refusal;
+use plain::{Report, check};
+use std::alloc::Global;
 use std::marker::Model;
 use std::sync::ledger;
 use tables::Tables;
@@ -27,4 +32,58 @@ impl<K: Run> Model for Book<K> {
     ghost view = { λ b. record { written = b.pen; history = b.history.items } };
 
     ghost invariant = { λ b. IsSound K.first K.cells (record { written = b.pen; history = b.history.items }) (database b.tables) × (b.shares.total ≡ length b.history.items) };
+}
+
+impl<K: Run> Book<K> {
+    ghost use Rattle.std.specs.Prelude.{◌≡◌, ◌+◌, length, IfOk, IfErr};
+    ghost use Rattle.money.specs.declared.refusal.Refusal.TheVariants.{OutOfMemory};
+    ghost use Rattle.tables.specs.Database.{database};
+    ghost use Rattle.plain.specs.Check.{IsReportOf};
+    ghost use Rattle.book.specs.History.{replay};
+    ghost use Rattle.book.specs.Book.{IsSound};
+
+    /// What has committed, in order. Takes no memory.
+    ///
+    /// The committed tables, `replay K.first` of it, meet the conditions, and each entry's reply is the one that
+    /// its transaction has at its place in the order.
+    pub fn history(&self) -> &[Entry]
+        ensures history { result.now ≡ self.now.history }
+        ensures sound { IsSound K.first K.cells self.now (replay K.first self.now.history) }
+    {
+        self.history.as_slice()
+    }
+
+    /// The committed tables, while the book is lent.
+    pub fn committed(&self) -> &Tables
+        ensures tables { database result.now ≡ replay K.first self.now.history }
+        ensures sound { IsSound K.first K.cells self.now (database result.now) }
+    {
+        &self.tables
+    }
+
+    /// A copy of the committed tables. Costs a pass over each. `OutOfMemory` is the only refusal.
+    pub fn tables(&self) -> Result<Tables, Refusal>
+        ensures tables { IfOk result (λ tables. database tables ≡ replay K.first self.now.history) }
+        ensures sound { IfOk result (λ tables. IsSound K.first K.cells self.now (database tables)) }
+        ensures only_memory { IfErr result (λ refusal. refusal ≡ OutOfMemory) }
+    {
+        Ok(copy_of(&self.tables)?)
+    }
+
+    /// Which conditions the committed tables meet. Costs what `check` does. `OutOfMemory` is the only refusal.
+    pub fn report(&self, alloc: Global) -> Result<Report, Refusal>
+        ensures report { IfOk result (IsReportOf (replay K.first self.now.history)) }
+        ensures only_memory { IfErr result (λ refusal. refusal ≡ OutOfMemory) }
+    {
+        check(alloc, &self.tables)
+    }
+
+    /// Tells how many commits a share with all parts of the ledger has: as many as the history. Does nothing else.
+    pub fn audit(&mut self, share: &mut Share<K>)
+        ensures book { self.new ≡ self.old }
+        ensures share { share.new ≡ share.old }
+        ensures whole { share.old.parts ≡ K.parts → share.old.commits ≡ length self.old.history }
+    {
+        self.shares.audit(&mut share.part);
+    }
 }

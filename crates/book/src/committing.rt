@@ -39,7 +39,7 @@ impl<K: Run> Book<K> {
             (λ done. AreLatest self.old.written.all work.reads × (length self.old.history < K.first.scale.commits)
             × Commits self.old self.new (entry_of (length self.old.history + 1) share.old.terminal work)
             × (done ≡ record { number = length self.old.history + 1; tid = commit_word (length self.old.history + 1); reply = work.reply })
-            × (share.new ≡ record { terminal = share.old.terminal; commits = share.old.commits + 1 })
+            × (share.new ≡ record { terminal = share.old.terminal; parts = share.old.parts; commits = share.old.commits + 1 })
             × HasSeen reader.new self.new.written work.writes)
             (λ refusal. (self.new ≡ self.old) × (share.new ≡ share.old)
             × (((refusal ≡ Conflict) × HasConflict self.old.written.all work.reads)

@@ -5,12 +5,15 @@
 
 mod book;
 mod committing;
+mod copy;
+mod engine;
 mod entry;
 mod run;
 mod share;
 mod steps;
 
 pub use book::Book;
+pub use engine::{Engine, Parts, Seat, Seats};
 pub use entry::{Done, Entry};
 pub use run::Run;
 pub use share::Share;

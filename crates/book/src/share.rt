@@ -19,7 +19,7 @@ impl<K: Run> Model for Share<K> {
 
     ghost Value = { Holding };
 
-    ghost view = { λ s. record { terminal = s.terminal; commits = s.part.amount } };
+    ghost view = { λ s. record { terminal = s.terminal; parts = s.part.parts; commits = s.part.amount } };
 
     ghost invariant = { λ s. 0 < s.part.parts };
 }

@@ -94,7 +94,7 @@ returns-clause-answer g c =
     subst (λ (q : Kept × Holding). AreLatest q.0.written.all c.args.work.reads × (length q.0.history < g.K.Run.first.scale.commits)
     × Commits q.0 (record { written = c.store.new.pen; history = c.push_reserved.new.self.items }) (entry_of (length q.0.history + 1) q.1.terminal c.args.work)
     × (c.of.result ≡ record { number = length q.0.history + 1; tid = commit_word (length q.0.history + 1); reply = c.args.work.reply })
-    × (◌≡◌ {A = Holding} (record { terminal = c.share.inside.terminal; commits = c.add.new.share.amount }) (record { terminal = q.1.terminal; commits = q.1.commits + 1 }))
+    × (◌≡◌ {A = Holding} (record { terminal = c.share.inside.terminal; parts = c.add.new.share.parts; commits = c.add.new.share.amount }) (record { terminal = q.1.terminal; parts = q.1.parts; commits = q.1.commits + 1 }))
     × HasSeen c.store.new.reader c.store.new.pen c.args.work.writes) (λ i. (c.self.view_is i, c.share.view_is i)) (
       c.if-not-validate.ensures.latest,
       small,
@@ -104,6 +104,6 @@ returns-clause-answer g c =
         versions = λ n _. c.store.ensures.versions n ∙ (λ i. at (c.validate.ensures.pen i).all n ++ versions_for (next i) c.args.work.writes.values n);
       },
       c.of.ensures ∙ (λ i. record { number = next i; tid = tid i; reply = c.args.work.reply }),
-      (λ i. record { terminal = c.share.inside.terminal; commits = c.add.ensures.amount i }),
+      (λ i. record { terminal = c.share.inside.terminal; parts = c.add.ensures.parts i; commits = c.add.ensures.amount i }),
       c.store.ensures.seen,
     )

@@ -1,0 +1,48 @@
+-- A run that begins is sound.
+use Rattle.std.proofs.Common.{◌≡◌, ℕ, ◌+◌, ◌-◌, ◌<◌, ◌≤◌, Option, Some, None, List, [], ◌∷◌, ◌++◌, length, refl, sym, ap, ◌∙◌, subst, arith, zero-add}
+use Rattle.std.proofs.lemmas.List.FromFn.{get_or-map-range_with_len}
+use Rattle.atomic_table.specs.Seated.{TableId}
+use Rattle.tables.specs.Database.{Database}
+use Rattle.tables.specs.Rows.{rows}
+use Rattle.tables.specs.Conditions.{IsConsistent}
+use Rattle.tables.specs.WellFormed.{IsWellFormed, HasRoom}
+use Rattle.cells.specs.First.{cell_count, first_version, firsts}
+use Rattle.cells.specs.TidWord.{tid_of}
+use Rattle.cells.specs.Versions.{EndsWith, tid, last_tid}
+use Rattle.cells.specs.Records.{Written, at}
+use Rattle.payment.specs.Explains.{IsOf}
+use Rattle.book.specs.History.{commit_word, value_in}
+use Rattle.book.specs.Book.{Kept, IsSound}
+use Rattle.book.proofs.Sound.{last_one}
+
+same_population : (t : Database) → IsOf t t
+same_population t = record { scale = refl; warehouse_taxes = λ w. refl; district_taxes = λ k. refl; first_names = λ k. refl; last_names = λ k. refl; credit = λ k. refl; discounts = λ k. refl; items = refl }
+
+first_value : (w : Option (List ℕ)) → value_in (first_version w) ≡ w
+first_value (Some words) = refl
+first_value None = refl
+
+first_tid : (w : Option (List ℕ)) → tid (first_version w) < tid_of (commit_word 1)
+first_tid (Some words) = omega arith
+first_tid None = omega arith
+
+pub sound_first : (t0 : Database) (run_cells : List TableId) (pen : Written) → IsWellFormed t0 → IsConsistent t0 → HasRoom 600000 t0 → t0.scale.commits ≤ 600000
+    → length run_cells ≡ cell_count t0.scale → pen ≡ record { cells = run_cells; all = firsts t0 0 (cell_count t0.scale) }
+    → IsSound t0 run_cells (record { written = pen; history = [] }) t0
+sound_first t0 run_cells pen well_formed consistent room few count fresh =
+    let first : (n : ℕ) → n < length run_cells → at pen.all n ≡ first_version (rows t0 n) ∷ [] = λ n h.
+    ap (λ (w : Written). at w.all n) fresh ∙ get_or-map-range_with_len (λ number. first_version (rows t0 number) ∷ []) 0 (cell_count t0.scale) n n [] (subst (λ m. n < m) count h) (zero-add n) in
+    record {
+      legal = record { replays = tt; end = refl };
+      well_formed = well_formed;
+      consistent = consistent;
+      of_population = same_population t0;
+      cells = ap (λ (w : Written). w.cells) fresh;
+      count = count;
+      versions = first;
+      latest = λ n h v e. ap value_in (last_one e.0 [] v (first_version (rows t0 n)) (sym e.1 ∙ first n h)) ∙ first_value (rows t0 n);
+      smaller = λ n h. subst (λ (l : List (List ℕ)). last_tid l < tid_of (commit_word 1)) (sym (first n h)) (first_tid (rows t0 n));
+      cap = omega arith;
+      few = few;
+      room = room;
+    }

@@ -1,0 +1,188 @@
+//! The engine: the cells, which anyone reads, and the book under its lock.
+ghost use Rattle.std.specs.Prelude.{◌≡◌, ◌+◌, ◌<◌, ◌^◌, IfOk, IfErr, IfSome, IfNone};
+ghost use Rattle.money.specs.declared.refusal.Refusal.TheVariants.{OutOfMemory};
+ghost use Rattle.population.specs.Initial.{initial};
+ghost use Rattle.book.specs.Parts.{IsFresh, first_of, cells_of, ledger_name, ledger_parts, terminals_of};
+
+use crate::book::Book;
+use crate::copy::copy_of;
+use crate::entry::Entry;
+use crate::run::Run;
+use crate::share::Share;
+use cells::{Cells, Pen, Reader};
+use money::Refusal;
+use population::Population;
+use std::alloc::Global;
+use std::marker::Model;
+use std::sync::ledger::{self, Blank};
+use std::sync::{Mutex, MutexGuard, Wait};
+use tables::Tables;
+
+/// What an engine is opened with: all memory that opening one takes.
+#[derive(Drop)]
+pub struct Parts {
+    population: Population,
+    tables: Tables,
+    history: Vec<Entry>,
+    cells: Cells,
+    pen: Pen,
+    readers: Vec<Reader>,
+    blank: Blank,
+}
+
+impl Parts {
+    /// The parts of an engine over this population, with this many terminals. Costs a copy of the tables, and what
+    /// `Cells::new` costs.
+    ///
+    /// # Errors
+    ///
+    /// `OutOfMemory`, and no other.
+    pub fn new<R: Wait>(
+        rt: &R,
+        alloc: Global,
+        population: Population,
+        terminals: u16,
+    ) -> Result<Parts, Refusal>
+        ensures fresh { IfOk result IsFresh }
+        ensures first { IfOk result (λ parts. first_of parts ≡ initial population) }
+        ensures terminals { IfOk result (λ parts. terminals_of parts ≡ terminals) }
+        ensures only_memory { IfErr result (λ refusal. refusal ≡ OutOfMemory) }
+    {
+        let tables = copy_of(population.tables())?;
+        let (cells, pen, readers) = Cells::new(rt, alloc, &population, terminals as usize)?;
+        Ok(Parts {
+            population,
+            tables,
+            history: Vec::new(alloc),
+            cells,
+            pen,
+            readers,
+            blank: Blank::new(u64::from(terminals)),
+        })
+    }
+}
+
+/// An engine: the population, the record cells, which terminals read without a lock, and the book under one lock
+/// (Silo, section 4.1). Contracts see nothing of it but that it is of the run that `K` names.
+#[derive(Drop)]
+pub struct Engine<K: Run> {
+    population: Population,
+    cells: Cells,
+    book: Mutex<Book<K>>,
+}
+
+impl<K: Run> Model for Engine<K> {
+    ghost use Rattle.std.specs.Prelude.{◌≡◌};
+    ghost use Rattle.population.specs.Initial.{initial};
+
+    ghost Value = { Unit {0} };
+
+    ghost view = { λ e. tt };
+
+    ghost invariant = { λ e. (initial e.population ≡ K.first) × (e.cells ≡ K.cells) };
+}
+
+impl<K: Run> Engine<K> {
+    /// An engine in which nothing has committed, and its terminals' seats. Takes no memory.
+    pub fn open(parts: Parts) -> (Engine<K>, Seats<K>)
+        requires fresh { IsFresh parts }
+        requires run { (first_of parts ≡ K.first) × (cells_of parts ≡ K.cells) }
+        requires ledger { (ledger_name parts ≡ K.name) × (ledger_parts parts ≡ K.parts) }
+        ensures { result.1.left ≡ terminals_of parts }
+    {
+        let Parts {
+            population,
+            tables,
+            history,
+            cells,
+            pen,
+            readers,
+            blank,
+        } = parts;
+        // The commit cap is at most 600,000.
+        let _ = population.scale().commits();
+        let (shares, share) = blank.open::<K>();
+        let book = Book {
+            pen,
+            tables,
+            history,
+            shares,
+        };
+        let engine = Engine {
+            population,
+            cells,
+            book: Mutex::new(book),
+        };
+        let seats = Seats {
+            readers,
+            share,
+            given: 0,
+        };
+        (engine, seats)
+    }
+
+    /// The population that the run began with.
+    pub fn population(&self) -> &Population
+        ensures { initial result.now ≡ K.first }
+    {
+        &self.population
+    }
+
+    /// The record cells.
+    pub fn cells(&self) -> &Cells
+        ensures { result.now ≡ K.cells }
+    {
+        &self.cells
+    }
+
+    /// The book, once no other thread has it. While the lock is free, the committed tables are consistent and are
+    /// the history's serial replay: the type of `Book` keeps it.
+    pub fn lock<R: Wait>(&self, rt: &R) -> MutexGuard<'_, Book<K>> {
+        self.book.lock(rt)
+    }
+}
+
+/// What the terminals of an engine are given: a reader and a share each.
+#[derive(Drop)]
+pub struct Seats<K: Run> {
+    readers: Vec<Reader>,
+    share: ledger::Share<K>,
+    given: u16,
+}
+
+impl<K: Run> Model for Seats<K> {
+    ghost use Rattle.std.specs.Prelude.{◌≡◌, length, All};
+    ghost use Rattle.book.specs.Seats.{Left};
+
+    ghost Value = { Left };
+
+    ghost view = { λ s. record { left = length s.readers.items; given = s.given } };
+
+    ghost invariant = { λ s. All (λ reader. reader.cells ≡ K.cells) s.readers.items × (s.share.parts ≡ length s.readers.items) × (s.share.amount ≡ 0) };
+}
+
+/// What one terminal is given.
+#[derive(Drop)]
+pub struct Seat<K: Run> {
+    pub reader: Reader,
+    pub share: Share<K>,
+}
+
+impl<K: Run> Seats<K> {
+    /// The next terminal's seat, while there is one. Terminals are numbered from 0. Takes no memory.
+    pub fn next(&mut self) -> Option<Seat<K>>
+        requires { self.old.given < 2 ^ 15 }
+        ensures seat { IfSome result (λ seat. (seat.reader.cells ≡ K.cells) × (seat.share ≡ record { terminal = self.old.given; parts = 1; commits = 0 })) }
+        ensures left { IfSome result (λ seat. (self.old.left ≡ self.new.left + 1) × (self.new.given ≡ self.old.given + 1)) }
+        ensures none { IfNone result (self.old.left ≡ 0) }
+    {
+        let reader = self.readers.pop()?;
+        let part = self.share.split_off(1, 0);
+        let terminal = self.given;
+        self.given = terminal + 1;
+        Some(Seat {
+            reader,
+            share: Share { part, terminal },
+        })
+    }
+}
