@@ -1,5 +1,5 @@
 -- What an engine is opened with.
-use Rattle.std.specs.Prelude.{◌≡◌, ℕ, List, [], length, All}
+use Rattle.std.specs.Prelude.{◌≡◌, ℕ, ◌<◌, ◌^◌, List, [], length, All}
 use Rattle.atomic_table.specs.Seated.{TableId}
 use Rattle.tables.specs.Database.{Database, database}
 use Rattle.population.specs.Initial.{initial}
@@ -31,3 +31,4 @@ pub record IsFresh (p : Parts) : Type 0 where
   pub pen : p.pen ≡ record { cells = p.cells; all = firsts (initial p.population) 0 (cell_count (initial p.population).scale) }
   pub readers : All (λ reader. reader ≡ seen_all p.pen) p.readers.items
   pub parts : p.blank.parts ≡ length p.readers.items
+  pub few : length p.readers.items < 2 ^ 16

@@ -1,5 +1,5 @@
 //! The engine: the cells, which anyone reads, and the book under its lock.
-ghost use Rattle.std.specs.Prelude.{◌≡◌, ◌+◌, ◌<◌, ◌^◌, IfOk, IfErr, IfSome, IfNone};
+ghost use Rattle.std.specs.Prelude.{◌≡◌, ◌+◌, IfOk, IfErr, IfSome, IfNone};
 ghost use Rattle.money.specs.declared.refusal.Refusal.TheVariants.{OutOfMemory};
 ghost use Rattle.population.specs.Initial.{initial};
 ghost use Rattle.book.specs.Parts.{IsFresh, first_of, cells_of, ledger_name, ledger_parts, terminals_of};
@@ -151,14 +151,14 @@ pub struct Seats<K: Run> {
 }
 
 impl<K: Run> Model for Seats<K> {
-    ghost use Rattle.std.specs.Prelude.{◌≡◌, length, All};
+    ghost use Rattle.std.specs.Prelude.{◌≡◌, ◌+◌, ◌<◌, ◌^◌, length, All};
     ghost use Rattle.book.specs.Seats.{Left};
 
     ghost Value = { Left };
 
     ghost view = { λ s. record { left = length s.readers.items; given = s.given } };
 
-    ghost invariant = { λ s. All (λ reader. reader.cells ≡ K.cells) s.readers.items × (s.share.parts ≡ length s.readers.items) × (s.share.amount ≡ 0) };
+    ghost invariant = { λ s. All (λ reader. reader.cells ≡ K.cells) s.readers.items × (s.share.parts ≡ length s.readers.items) × (s.share.amount ≡ 0) × (s.given + length s.readers.items < 2 ^ 16) };
 }
 
 /// What one terminal is given.
@@ -171,7 +171,6 @@ pub struct Seat<K: Run> {
 impl<K: Run> Seats<K> {
     /// The next terminal's seat, while there is one. Terminals are numbered from 0. Takes no memory.
     pub fn next(&mut self) -> Option<Seat<K>>
-        requires { self.old.given < 2 ^ 15 }
         ensures seat { IfSome result (λ seat. (seat.reader.cells ≡ K.cells) × (seat.share ≡ record { terminal = self.old.given; parts = 1; commits = 0 })) }
         ensures left { IfSome result (λ seat. (self.old.left ≡ self.new.left + 1) × (self.new.given ≡ self.old.given + 1)) }
         ensures none { IfNone result (self.old.left ≡ 0) }
