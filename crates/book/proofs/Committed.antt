@@ -1,8 +1,7 @@
 -- Small steps of a commit's clauses.
-use Rattle.std.proofs.Common.{◌≡◌, ℕ, ◌+◌, ◌<◌, ◌≤◌, List, [], ◌∷◌, ◌++◌, length, refl, sym, ap, ◌∙◌, subst, arith}
+use Rattle.std.proofs.Common.{ℕ, ◌∙◌}
 use Rattle.cells.proofs.Rising.{has_more}
-use Rattle.cells.specs.Versions.{StartsWith}
-use Rattle.cells.specs.Records.{Written, Sights, at}
+use Rattle.cells.specs.Records.{Sights, at}
 use Rattle.payment.specs.Reads.{Readings}
 use Rattle.book.specs.Book.{IsReadBy, HasGrown}
 use Rattle.book.proofs.Grown.{starts_starts}

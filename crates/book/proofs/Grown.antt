@@ -1,10 +1,10 @@
 -- A reader has seen what it had seen, and perhaps more.
-use Rattle.std.proofs.Common.{◌≡◌, ◌≢◌, ◌⊎◌, ℕ, List, [], ◌∷◌, ◌++◌, ⊎_elim, refl, sym, ap, ◌∙◌, subst, set, get_or}
+use Rattle.std.proofs.Common.{◌≡◌, ◌≢◌, ℕ, List, [], ◌++◌, ⊎_elim, refl, sym, ap, ◌∙◌, subst, set}
 use Rattle.std.proofs.lemmas.Bool.{cases_eq}
 use Rattle.std.proofs.lemmas.List.{get_or-set_other, append_assoc}
 use Rattle.cells.specs.Versions.{StartsWith}
 use Rattle.cells.proofs.Rising.{starts_self}
-use Rattle.cells.specs.Records.{Written, Sights, at, Reads, Learns}
+use Rattle.cells.specs.Records.{Written, Sights, at, Learns}
 use Rattle.book.specs.Book.{HasGrown}
 
 pub starts_starts : (a b c : List (List ℕ)) → StartsWith a b → StartsWith b c → StartsWith a c

@@ -5,3 +5,4 @@ mod Same
 mod Sound
 mod Committed
 mod Opened
+mod Executed

@@ -1,5 +1,5 @@
 -- A run that begins is sound.
-use Rattle.std.proofs.Common.{◌≡◌, ℕ, ◌+◌, ◌-◌, ◌<◌, ◌≤◌, Option, Some, None, List, [], ◌∷◌, ◌++◌, length, refl, sym, ap, ◌∙◌, subst, arith, zero-add}
+use Rattle.std.proofs.Common.{◌≡◌, ℕ, ◌<◌, ◌≤◌, Option, Some, None, List, [], ◌∷◌, length, refl, sym, ap, ◌∙◌, subst, arith, zero-add}
 use Rattle.std.proofs.lemmas.List.FromFn.{get_or-map-range_with_len}
 use Rattle.atomic_table.specs.Seated.{TableId}
 use Rattle.tables.specs.Database.{Database}
@@ -8,11 +8,11 @@ use Rattle.tables.specs.Conditions.{IsConsistent}
 use Rattle.tables.specs.WellFormed.{IsWellFormed, HasRoom}
 use Rattle.cells.specs.First.{cell_count, first_version, firsts}
 use Rattle.cells.specs.TidWord.{tid_of}
-use Rattle.cells.specs.Versions.{EndsWith, tid, last_tid}
+use Rattle.cells.specs.Versions.{tid, last_tid}
 use Rattle.cells.specs.Records.{Written, at}
 use Rattle.payment.specs.Explains.{IsOf}
 use Rattle.book.specs.History.{commit_word, value_in}
-use Rattle.book.specs.Book.{Kept, IsSound}
+use Rattle.book.specs.Book.{IsSound}
 use Rattle.book.proofs.Sound.{last_one}
 
 same_population : (t : Database) → IsOf t t

@@ -6,24 +6,21 @@ use Rattle.atomic_table.specs.Seated.{TableId}
 use Rattle.tables.specs.Sizes.{Sizes}
 use Rattle.tables.specs.Database.{Database}
 use Rattle.tables.specs.Inputs.{IsInput}
-use Rattle.tables.specs.Apply.{after, reply_to}
+use Rattle.tables.specs.Apply.{after}
 use Rattle.tables.specs.Records.{record_count}
 use Rattle.tables.specs.Rows.{rows}
 use Rattle.tables.specs.WellFormed.{HasRoom}
-use Rattle.tables.specs.declared.input.Input.{Input}
 use Rattle.laws.proofs.Kept.{after-IsWellFormed, after-HasRoom, after-IsConsistent}
-use Rattle.cells.specs.TidWord.{tid_word, tid_of}
+use Rattle.cells.specs.TidWord.{tid_of}
 use Rattle.cells.specs.First.{cell_count, first_version}
 use Rattle.cells.specs.Versions.{EndsWith, tid, last_tid}
 use Rattle.cells.specs.Records.{Written, Sights, at, words_of}
-use Rattle.cells.specs.declared.cells.Version.{Version}
 use Rattle.cells.proofs.Rising.{last_tid-push}
-use Rattle.payment.specs.Reads.{Readings, held, value_of}
-use Rattle.payment.specs.Writes.{Writings, written, value_for}
-use Rattle.payment.specs.Explains.{IsOf, Agrees, MayBe}
+use Rattle.payment.specs.Writes.{written, value_for}
+use Rattle.payment.specs.Explains.{Agrees, MayBe}
 use Rattle.payment.specs.declared.work.Work.{Work}
-use Rattle.book.specs.History.{replay, commit_word, absent_word, IsDone, Replays, IsLegal, version_of, versions_for, versions_by, later_versions, versions_of, value_in}
-use Rattle.book.specs.Book.{Kept, IsSound, IsReadBy, IsWorkOf, AreLatest, entry_of}
+use Rattle.book.specs.History.{replay, commit_word, absent_word, IsDone, Replays, IsLegal, version_of, versions_for, versions_by, later_versions, value_in}
+use Rattle.book.specs.Book.{Kept, IsSound, IsWorkOf, AreLatest, entry_of}
 use Rattle.book.specs.declared.entry.Entry.{Entry}
 use Rattle.book.proofs.Same.{after-IsOf}
 

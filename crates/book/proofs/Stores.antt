@@ -1,5 +1,5 @@
 -- The stores of a commit, record by record.
-use Rattle.std.proofs.Common.{◌≡◌, ◌≢◌, ◌⊎◌, ℕ, ◌<◌, Bool, true, false, true≢false, cond, Option, Some, None, IsSome, is_some, List, [], ◌∷◌, ◌++◌, ⊎_elim, refl, sym, ap, ◌∙◌, subst, set, length}
+use Rattle.std.proofs.Common.{◌≡◌, ◌≢◌, ℕ, ◌<◌, Bool, true, false, true≢false, cond, Option, Some, None, IsSome, is_some, List, [], ◌∷◌, ◌++◌, ⊎_elim, refl, sym, ap, ◌∙◌, subst}
 use Rattle.std.proofs.lemmas.Bool.{cases_eq, eqb-true, eq-eqb}
 use Rattle.std.proofs.lemmas.List.{get_or-set_other, append-nil}
 use Rattle.std.proofs.lemmas.List.Elements.{All-head, All-tail}
@@ -13,7 +13,7 @@ use Rattle.std.specs.declared.cmp.Ordering.{Ordering}
 use Rattle.std.specs.declared.cmp.Ordering.TheVariants.{Less}
 use Rattle.laws.proofs.KeyTests.{eqb-nat_cmp}
 use Rattle.cells.specs.TidWord.{tid_of}
-use Rattle.cells.specs.Versions.{StartsWith, Has, last_tid}
+use Rattle.cells.specs.Versions.{Has, last_tid}
 use Rattle.cells.specs.Records.{Written, Sights, at, words_of, Writes, Learns}
 use Rattle.cells.specs.declared.cells.Version.{Version}
 use Rattle.cells.proofs.Rising.{has_more}

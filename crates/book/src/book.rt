@@ -78,7 +78,8 @@ impl<K: Run> Book<K> {
         check(alloc, &self.tables)
     }
 
-    /// Tells how many commits a share with all parts of the ledger has: as many as the history. Does nothing else.
+    /// Tells how many commits a share with all parts of the ledger has: as many as the history. Does nothing else. Until
+    /// shares can be joined, only a run of one terminal has such a share.
     pub fn audit(&mut self, share: &mut Share<K>)
         ensures book { self.new ≡ self.old }
         ensures share { share.new ≡ share.old }

@@ -31,7 +31,7 @@ pub struct Parts {
 }
 
 impl Parts {
-    /// The parts of an engine over this population, with this many terminals. Costs a copy of the tables, and what
+    /// The parts of an engine over this population, with this many terminals, of which each gets a seat. Costs a copy of the tables, and what
     /// `Cells::new` costs.
     ///
     /// # Errors
@@ -88,7 +88,8 @@ impl<K: Run> Engine<K> {
         requires fresh { IsFresh parts }
         requires run { (first_of parts ≡ K.first) × (cells_of parts ≡ K.cells) }
         requires ledger { (ledger_name parts ≡ K.name) × (ledger_parts parts ≡ K.parts) }
-        ensures { result.1.left ≡ terminals_of parts }
+        ensures left { result.1.left ≡ terminals_of parts }
+        ensures given { result.1.given ≡ 0 }
     {
         let Parts {
             population,

@@ -16,6 +16,7 @@ pub trait Run: Ledger {
     ghost cells: { List TableId };
 }
 
+/// Only so that there is one: a call at `Brand` names its own tables and cells.
 impl Run for Brand {
     ghost use Rattle.std.specs.Prelude.{[]};
     ghost use Rattle.tables.specs.Sizes.{sizes};

@@ -10,8 +10,7 @@ use cells::{Cells, Pen, Reader, Status, TidWord};
 use payment::{ReadSet, WriteSet};
 use std::sync::Wait;
 
-/// Whether each version read is still its record's latest (phase 2). The reader has then seen all versions of
-/// the records that were compared.
+/// Whether each version read is still its record's latest (phase 2). The reader may have seen more by then.
 pub(crate) fn validate<R: Wait>(
     rt: &R,
     cells: &Cells,

@@ -148,7 +148,7 @@ impl Cells {
     }
 
     /// Makes a version the latest of its record: its TID is larger than that of the latest so far. Readers see all
-    /// of it or nothing of it. Takes no memory, and constant time.
+    /// of it or nothing of it. Takes no memory. May wait at this record's cell; else constant time.
     pub fn store<R: Wait>(
         &self,
         rt: &R,
@@ -169,7 +169,7 @@ impl Cells {
     /// Whether a version that the reader has read is still the latest of its record (the second phase of Silo's
     /// commit, section 4.4): true exactly where its TID is the latest's, and then it is the latest.
     ///
-    /// The reader has then seen all versions of the record. Takes no memory, and constant time.
+    /// The reader has then seen all versions of the record. Takes no memory. May wait at this record's cell; else constant time.
     pub fn meet<R: Wait>(
         &self,
         rt: &R,

@@ -20,7 +20,7 @@ impl Cells {
     /// The cells of a population's records, each with its first version, with the pen and this many readers.
     /// Each reader has seen the first versions. Costs a look-up a record, and a step a reader and record.
     ///
-    /// It may wait, though no other thread has a cell yet: see `open`.
+    /// It may wait, though no other thread has a cell yet: a cell's rule learns its first version by a store.
     ///
     /// # Errors
     ///

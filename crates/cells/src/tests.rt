@@ -1,10 +1,10 @@
 //! Reads, stores and meets by one thread, and reads while another thread stores.
 
-ghost use Rattle.std.specs.Prelude.{◌≡◌, ◌<◌, All, [], ◌∷◌, length, IfOk};
+ghost use Rattle.std.specs.Prelude.{◌≡◌, ◌<◌, All, length, IfOk};
 ghost use Rattle.cells.specs.TidWord.{tid_of};
 ghost use Rattle.cells.specs.Versions.{last_tid};
-ghost use Rattle.cells.specs.Records.{at};
 ghost use Rattle.cells.specs.Opening.{seen_all};
+ghost use Rattle.cells.specs.Records.{at};
 
 use crate::cells::CellList;
 use crate::opening::OpeningOf;
@@ -44,7 +44,9 @@ fn answers<R: Wait>(
     number: u32,
     word: TidWord,
 ) -> (bool, bool, bool, [u64; 7])
-    requires own { (pen.old.cells ≡ cells.now) × (reader.old.cells ≡ cells.now) × (number < length cells.now) }
+    requires pen { pen.old.cells ≡ cells.now }
+    requires reader { reader.old.cells ≡ cells.now }
+    requires record { number < length cells.now }
     requires larger { last_tid (at pen.old.all number) < tid_of word }
 {
     let old = cells.read(rt, reader, number);
@@ -65,6 +67,13 @@ fn one_thread(rt: HostRuntime) -> Result<(), Fail> {
     let warehouse = cells.read(&rt, &mut reader, 0);
     let district = cells.read(&rt, &mut reader, 1);
     let customer = cells.read(&rt, &mut reader, 2);
+    let status = Status {
+        latest: true,
+        absent: false,
+        locked: false,
+    };
+    let word = TidWord::pack(1, 7, status);
+    let met = answers(&rt, &cells, &mut pen, &mut reader, 1, word);
     for (version, number) in [(warehouse, 0), (district, 1), (customer, 2)] {
         assert_eq!(rt;
             (version.record, version.word),
@@ -73,13 +82,6 @@ fn one_thread(rt: HostRuntime) -> Result<(), Fail> {
         let payload = version.payload;
         assert_eq!(rt; payload, [u64::from(number); 7]);
     }
-    let status = Status {
-        latest: true,
-        absent: false,
-        locked: false,
-    };
-    let word = TidWord::pack(1, 7, status);
-    let met = answers(&rt, &cells, &mut pen, &mut reader, 1, word);
     assert_eq!(rt; met, (true, false, true, [9, 8, 7, 6, 5, 4, 3]));
     Ok(())
 }

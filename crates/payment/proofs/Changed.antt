@@ -1,11 +1,11 @@
 -- What a Payment changes of the records.
-use Rattle.std.proofs.Common.{◌≡◌, ◌≢◌, ℕ, ℤ, ◌+◌, ◌+ℤ◌, ◌-ℤ◌, Bool, true, false, cond, T, List, [], ◌∷◌, Option, Some, None, refl, sym, ap, ◌∙◌, ◌==◌, ◌&&◌, eqb, subst, true≢false}
+use Rattle.std.proofs.Common.{◌≡◌, ◌≢◌, ℕ, ◌+◌, ◌+ℤ◌, ◌-ℤ◌, Bool, true, false, cond, List, Option, Some, None, refl, sym, ap, ◌∙◌, ◌==◌, ◌&&◌, true≢false}
 use Rattle.std.proofs.lemmas.Bool.{eqb-true, eq-eqb}
 use Rattle.std.specs.Option.{option_map, option_map_or, unwrap_or}
 use Rattle.std.specs.FinMap.{FinMap, get}
 use Rattle.tables.specs.Database.{Database}
 use Rattle.tables.specs.Keys.{is_district, is_customer}
-use Rattle.tables.specs.Maps.{map_rows, update_where, column}
+use Rattle.tables.specs.Maps.{update_where, column}
 use Rattle.tables.specs.Inputs.{number_of, payer}
 use Rattle.tables.specs.Apply.{after_payment}
 use Rattle.tables.specs.Rows.{row_at, least, order_numbers, number_words, warehouse_words, district_words, customer_words}

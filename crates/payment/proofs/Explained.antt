@@ -1,16 +1,15 @@
 -- What a Payment reads explains what it writes and replies.
-use Rattle.std.proofs.Common.{◌≡◌, ◌≢◌, ◌⊎◌, ℕ, ℤ, ◌<◌, Bool, true, false, cond, List, [], ◌∷◌, ◌++◌, Option, Some, None, IsSome, refl, sym, ap, ◌∙◌, ◌==◌, eqb, subst, arith, true≢false, ◌≤◌, length}
+use Rattle.std.proofs.Common.{◌≡◌, ◌≢◌, ℕ, ◌<◌, true, false, cond, List, Option, Some, None, IsSome, refl, sym, ap, ◌∙◌, subst, true≢false}
 use Rattle.std.proofs.lemmas.Bool.{eqb-true, eq-eqb}
-use Rattle.std.specs.Option.{option_map, option_map_or, unwrap_or}
+use Rattle.std.specs.Option.{option_map, unwrap_or}
 use Rattle.std.specs.FinMap.{get}
 use Rattle.std.specs.Ordering.{nat_cmp, is_eq}
 use Rattle.tables.specs.Database.{Database}
 use Rattle.tables.specs.Sizes.{Sizes}
 use Rattle.tables.specs.Inputs.{IsPayment, payer}
-use Rattle.tables.specs.Apply.{after_payment, payment_reply, history_row}
+use Rattle.tables.specs.Apply.{after_payment, payment_reply}
 use Rattle.tables.specs.Records.{record_count, number_of_key, key_of, IsRecordKey}
 use Rattle.tables.specs.Rows.{rows, row_at, warehouse_words, district_words, customer_words}
-use Rattle.tables.specs.WellFormed.{IsMoney, IsCustomerRow}
 use Rattle.tables.proofs.Numbers.{named, numbered}
 use Rattle.laws.proofs.KeyTests.{eqb-nat_cmp}
 use Rattle.tables.specs.declared.records.RecordKey.{RecordKey}
@@ -21,10 +20,10 @@ use Rattle.tables.specs.declared.rows.Customer.{Customer}
 use Rattle.tables.specs.declared.input.Payment.{Payment}
 use Rattle.tables.specs.declared.input.Input.TheVariants as input
 use Rattle.tables.specs.declared.reply.Reply.TheVariants as reply
-use Rattle.payment.specs.Reads.{Readings, held, value_of}
-use Rattle.payment.specs.Writes.{Writings, value_for, written, added}
-use Rattle.payment.specs.Explains.{IsOf, Agrees, MayBe, Explains, NoneMayBe, IsWithinLimits}
-use Rattle.payment.specs.Paid.{raised_warehouse, raised_district, charged_customer, warehouse_record, district_record, customer_record, AreRows, IsPaid, writings_of, reply_of}
+use Rattle.payment.specs.Reads.{Readings, held}
+use Rattle.payment.specs.Writes.{value_for, written}
+use Rattle.payment.specs.Explains.{MayBe, Explains}
+use Rattle.payment.specs.Paid.{warehouse_record, district_record, customer_record, AreRows, IsPaid, writings_of, reply_of}
 use Rattle.payment.specs.declared.transaction.Records.{Records}
 use Rattle.payment.specs.declared.transaction.Found.{Found}
 use Rattle.payment.specs.declared.transaction.Paid.{Paid}

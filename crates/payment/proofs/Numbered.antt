@@ -1,5 +1,5 @@
 -- The numbers of a Payment's three records: in this order, and each has a cell.
-use Rattle.std.proofs.Common.{◌≡◌, ℕ, ◌+◌, ◌*◌, ◌<◌, arith}
+use Rattle.std.proofs.Common.{◌≡◌, ℕ, ◌<◌, arith}
 use Rattle.tables.specs.Sizes.{Sizes}
 use Rattle.tables.specs.Inputs.{IsPayment, payer}
 use Rattle.tables.proofs.Numbers.{warehouse_there, district_there, customer_there}

@@ -3,7 +3,6 @@ use Rattle.std.specs.Prelude.{◌≡◌, ℕ, ◌<◌, ◌≤◌, ◌++◌, Opti
 use Rattle.std.specs.Option.{option_map}
 use Rattle.std.specs.FinMap.{get}
 use Rattle.tables.specs.Database.{Database}
-use Rattle.tables.specs.Inputs.{IsInput}
 use Rattle.tables.specs.Apply.{after, reply_to}
 use Rattle.tables.specs.Records.{record_count}
 use Rattle.tables.specs.Rows.{rows}

@@ -11,7 +11,8 @@ use money::Refusal;
 use std::alloc::Global;
 use tables::{Scale, Tables};
 
-/// The rows that a database begins with.
+/// The rows that a database begins with. Its type keeps that they are well-formed and consistent, and have room for
+/// 600,000 commits.
 #[derive(Debug, Drop)]
 pub struct Population {
     tables: Tables,

@@ -326,8 +326,8 @@ module _ (s : Sizes) where
   key_there table.History p h = absurd (not-suc-le-zero h)
   key_there table.Item p h = absurd (not-suc-le-zero h)
 
-  pub places : NumbersNamePlaces s
-  places t u p q hp hq =
+  apart : (t u : Table) (p q : ℕ) → p < size s t → q < size s u → (record_number s t p < record_count s) × (record_number s t p ≡ record_number s u q → (t ≡ u) × (p ≡ q))
+  apart t u p q hp hq =
       let k = key_there t p hp in
       let l = key_there u q hq in
       let at_k : number_of_key s k.0 ≡ record_number s t p = λ i. record_number s (k.2 i) (k.3 i) in
@@ -337,3 +337,17 @@ module _ (s : Sizes) where
             let one : k.0 ≡ l.0 = sym (named k.0 k.1).1 ∙ ap (key_of s) (at_k ∙ same ∙ sym at_l) ∙ (named l.0 l.1).1 in
             (sym k.2 ∙ ap table_of one ∙ l.2, sym k.3 ∙ ap (place_of s) one ∙ l.3),
       )
+
+  place_below : (k : RecordKey) → IsRecordKey s k → place_of s k < size s (table_of k)
+  place_below (key.Warehouse w) h = (warehouse_there s w h).0
+  place_below (key.District k) h = (district_there s k h).0
+  place_below (key.Customer k) h = (customer_there s k h).0
+  place_below (key.NewOrder k) h = (order_there s k h).0
+  place_below (key.Order k) h = (order_there s k h).0
+  place_below (key.OrderLine k) h = (line_there s k h).0
+  place_below (key.Stock k) h = (stock_there s k h).0
+  place_below (key.Oldest k) h = (district_there s k h).0
+  place_below (key.Last k) h = (customer_there s k h).0
+
+  pub places : NumbersNamePlaces s
+  places = (apart, λ n h. let k = numbered n h in (table_of (key_of s n), place_of s (key_of s n), place_below (key_of s n) k.0, k.1))

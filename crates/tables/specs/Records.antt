@@ -139,6 +139,7 @@ abbrev pub NumbersNameKeys : Sizes → Type 0
 NumbersNameKeys s = ((k : RecordKey) → IsRecordKey s k → (number_of_key s k < record_count s) × (key_of s (number_of_key s k) ≡ k))
     × ((n : ℕ) → n < record_count s → IsRecordKey s (key_of s n) × (number_of_key s (key_of s n) ≡ n))
 
--- records of two tables, or of two places of one table, have two numbers, all below `record_count`
+-- the places of a scale's tables and those numbers are one to one too: two places have two numbers, and each number has its place
 abbrev pub NumbersNamePlaces : Sizes → Type 0
-NumbersNamePlaces s = (t u : Table) (p q : ℕ) → p < size s t → q < size s u → (record_number s t p < record_count s) × (record_number s t p ≡ record_number s u q → (t ≡ u) × (p ≡ q))
+NumbersNamePlaces s = ((t u : Table) (p q : ℕ) → p < size s t → q < size s u → (record_number s t p < record_count s) × (record_number s t p ≡ record_number s u q → (t ≡ u) × (p ≡ q)))
+    × ((n : ℕ) → n < record_count s → (t : Table) × (p : ℕ) × (p < size s t) × (record_number s t p ≡ n))

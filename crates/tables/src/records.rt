@@ -49,7 +49,7 @@ impl Table {
     /// How many records the table has room for.
     pub fn size(self, scale: &Scale) -> u32
         ensures value { result ≡ size scale.now self }
-        ensures limit { result < 120000001 }
+        ensures limit { result ≤ 120000000 }
     {
         let districts = scale.warehouses() * scale.districts();
         match self {

@@ -1,7 +1,6 @@
-use Rattle.std.proofs.Common.{◌≡◌, ◌∷◌, sym, ap, ◌∙◌, subst, length}
-use Rattle.cells.specs.Records.{Written, Sights}
+use Rattle.std.proofs.Common.{◌∷◌, sym, ◌∙◌, length}
 use Rattle.payment.specs.Reads.{held}
-use Rattle.book.proofs.Stores.{begins, never_none, within, larger, is_held, record_within, has, goes_on, all_done, all_seen}
+use Rattle.book.proofs.Stores.{begins, never_none, within, larger, is_held, has, goes_on}
 use Rattle.book.proofs.steps.store.Goals as goal
 
 pub loop-record-init : goal.loop-record-init

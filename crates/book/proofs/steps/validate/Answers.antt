@@ -1,6 +1,5 @@
-use Rattle.std.proofs.Common.{sym, ap, ◌∙◌, subst, length}
-use Rattle.cells.specs.Records.{Written, Sights}
-use Rattle.book.specs.Book.{HasGrown}
+use Rattle.std.proofs.Common.{ap, ◌∙◌, length}
+use Rattle.cells.specs.Records.{Written}
 use Rattle.book.proofs.Checks.{begins, within, seen, grown, conflict, goes_on, all_latest}
 use Rattle.book.proofs.steps.validate.Goals as goal
 

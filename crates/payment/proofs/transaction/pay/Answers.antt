@@ -1,17 +1,12 @@
-use Rattle.std.proofs.Common.{◌≡◌, ◌≤◌, ◌<◌, ℕ, Some, None, Option, List, IsSome, is_some, inl, inr, refl, sym, ap, ◌∙◌, subst, arith, length}
+use Rattle.std.proofs.Common.{◌≡◌, ◌<◌, Some, Option, IsSome, is_some, inr, refl, sym, ap, ◌∙◌, subst, arith, length}
 use Rattle.tables.specs.Sizes.{Sizes}
-use Rattle.tables.specs.Database.{Database}
-use Rattle.tables.specs.declared.rows.Warehouse.{Warehouse}
-use Rattle.tables.specs.declared.rows.District.{District}
-use Rattle.tables.specs.declared.rows.Customer.{Customer}
 use Rattle.tables.specs.declared.input.Input.TheVariants as input
 use Rattle.tables.specs.declared.reply.Reply.TheVariants as reply
 use Rattle.population.specs.Initial.{initial}
 use Rattle.payment.specs.Explains.{Explains, IsWithinLimits}
-use Rattle.payment.specs.Paid.{AreRows, IsPaid, warehouse_record, district_record, customer_record, writings_of}
+use Rattle.payment.specs.Paid.{IsPaid, warehouse_record, district_record, customer_record, writings_of}
 use Rattle.payment.specs.Reads.{held}
-use Rattle.payment.specs.Writes.{Writings, value_for}
-use Rattle.payment.specs.declared.transaction.Paid.{Paid}
+use Rattle.payment.specs.Writes.{Writings}
 use Rattle.payment.proofs.Explained.{rows_of, explains, each_written, same_Paid}
 use Rattle.payment.proofs.Numbered.{in_order_as}
 use Rattle.payment.proofs.transaction.pay.Goals as goal

@@ -1,12 +1,11 @@
-use Rattle.std.proofs.Common.{◌≡◌, ℕ, ◌+◌, ◌<◌, ◌≤◌, List, [], ◌∷◌, ◌++◌, inl, inr, refl, sym, ap, ◌∙◌, subst, length, arith, rules, length-append}
+use Rattle.std.proofs.Common.{◌≡◌, ◌+◌, ◌<◌, ◌≤◌, List, [], ◌∷◌, ◌++◌, inl, inr, refl, sym, ap, ◌∙◌, subst, length, arith, rules, length-append}
 use Rattle.tables.specs.Sizes.{Sizes}
 use Rattle.tables.specs.Database.{Database, database}
 use Rattle.cells.specs.Records.{Written, at}
-use Rattle.payment.specs.Reads.{Readings}
 use Rattle.book.specs.Book.{Kept, AreLatest, IsSound, IsReadBy, Commits, HasSeen, entry_of}
 use Rattle.book.specs.History.{commit_word, versions_for}
 use Rattle.book.specs.Share.{Holding}
-use Rattle.book.proofs.Sound.{sound_after, may_be}
+use Rattle.book.proofs.Sound.{sound_after}
 use Rattle.book.proofs.Committed.{read_by_more, grown_twice}
 use Rattle.book.specs.declared.entry.Entry.{Entry}
 use Rattle.book.proofs.book.Book.commit.Goals as goal

@@ -1,0 +1,313 @@
+//! Two Payments to one district, both executed before either commits, by threads that take no lock.
+ghost use Rattle.std.specs.Prelude.{◌≡◌, length, IfOk, IfErr};
+ghost use Rattle.cells.specs.First.{cell_count};
+ghost use Rattle.book.specs.Book.{IsWorkOf};
+ghost use Rattle.book.specs.Parts.{IsFresh, first_of, cells_of, ledger_name, ledger_parts};
+
+use crate::{Engine, Parts, Run, Seat};
+use cells::Reader;
+use money::{Cents, Refusal};
+use payment::{Work, execute};
+use population::Population;
+use std::alloc::Global;
+use std::marker::{Brand, Model};
+use std::sync::Wait;
+use std::sync::atomic::{AtomicU64, Ordering};
+use std::test::Fail;
+use std::thread::{Threads, join, yield_now};
+use tables::{Input, Payment, PaymentReply, Reply, Scale, Who};
+
+/// The parts of an engine with two terminals, over one warehouse with two districts and ten customers in each.
+fn parts<R: Wait>(rt: &R, alloc: Global) -> Result<Parts, Refusal>
+    ensures fresh { IfOk result IsFresh }
+    ensures cells { IfOk result (λ parts. length (cells_of parts) ≡ 23) }
+{
+    let scale = Scale::new(1, 2, 10, 20, 30, 1_000)?;
+    let population = Population::plain(alloc, scale)?;
+    Parts::new(rt, alloc, population, 2)
+}
+
+/// Executes a Payment of 1.00 by a customer of district 1 to that district.
+fn pay<K: Run, R: Wait>(
+    rt: &R,
+    alloc: Global,
+    engine: &Engine<K>,
+    seat: &mut Seat<K>,
+    customer: u32,
+) -> Result<Work, Refusal>
+    requires count { length K.cells ≡ cell_count K.first.scale }
+    requires reader { seat.old.reader.cells ≡ K.cells }
+    ensures reader { IfOk result (λ work. seat.new.reader.cells ≡ K.cells) }
+    ensures share { seat.new.share ≡ seat.old.share }
+    ensures work { IfOk result (λ work. IsWorkOf K.first (length K.cells) seat.new.reader work) }
+{
+    let population = engine.population();
+    let payment = Payment {
+        date: 1,
+        warehouse: 1,
+        district: 1,
+        customer_warehouse: 1,
+        customer_district: 1,
+        who: Who::Id(customer),
+        amount: Cents::new(100),
+    };
+    let input = Input::payment(&population.scale(), payment)?;
+    let cells = engine.cells();
+    let work = execute(rt, alloc, cells, &mut seat.reader, population, &input)?;
+    Ok(work)
+}
+
+/// How often a thread looks for another before it gives up.
+const TURNS: u32 = 10_000_000;
+
+/// Waits until that many threads have come, and tells whether they have.
+fn wait_for(come: &AtomicU64, wanted: u64) -> bool {
+    for _ in 0..TURNS {
+        if come.load(Ordering::Acquire) >= wanted {
+            return true;
+        }
+        yield_now();
+    }
+    false
+}
+
+/// Holds the book until both Payments are executed, and tells whether they were.
+fn hold<K: Run, R: Wait>(
+    rt: &R,
+    engine: &Engine<K>,
+    held: &AtomicU64,
+    executed: &AtomicU64,
+) -> bool {
+    let book = engine.lock(rt);
+    held.store(1, Ordering::Release);
+    let is_executed = wait_for(executed, 2);
+    drop(book);
+    is_executed
+}
+
+/// A Payment that a terminal has executed.
+#[derive(Drop)]
+struct Executed<K: Run> {
+    seat: Seat<K>,
+    work: Work,
+}
+
+impl<K: Run> Model for Executed<K> {
+    ghost use Rattle.std.specs.Prelude.{◌≡◌, length};
+    ghost use Rattle.book.specs.Book.{IsWorkOf};
+
+    ghost Value = { Unit {0} };
+
+    ghost view = { λ e. tt };
+
+    ghost invariant = { λ e. (e.seat.reader.cells ≡ K.cells) × IsWorkOf K.first (length K.cells) e.seat.reader e.work };
+}
+
+/// Executes a Payment while another thread holds the book.
+fn pay_meanwhile<K: Run, R: Wait>(
+    rt: &R,
+    alloc: Global,
+    engine: &Engine<K>,
+    seat: Seat<K>,
+    customer: u32,
+    held: &AtomicU64,
+    executed: &AtomicU64,
+) -> Option<Executed<K>>
+    requires count { length K.cells ≡ cell_count K.first.scale }
+    requires reader { seat.reader.cells ≡ K.cells }
+{
+    let mut seat = seat;
+    if !wait_for(held, 1) {
+        return None;
+    }
+    let work = pay(rt, alloc, engine, &mut seat, customer).ok()?;
+    executed.fetch_add(1, Ordering::AcqRel);
+    Some(Executed { seat, work })
+}
+
+/// Executes a Payment at each of two terminals, in threads of their own.
+fn pay_both<K: Run + Send + Sync, R: Threads + Wait + Sync>(
+    rt: &R,
+    alloc: Global,
+    engine: &Engine<K>,
+    left: Seat<K>,
+    right: Seat<K>,
+    held: &AtomicU64,
+    executed: &AtomicU64,
+) -> (Option<Executed<K>>, Option<Executed<K>>)
+    requires count { length K.cells ≡ cell_count K.first.scale }
+    requires left { left.reader.cells ≡ K.cells }
+    requires right { right.reader.cells ≡ K.cells }
+{
+    let third = move || -> Option<Executed<K>>
+        requires count { length K.cells ≡ cell_count K.first.scale }
+        requires reader { left.reader.cells ≡ K.cells }
+    { pay_meanwhile(rt, alloc, engine, left, 3, held, executed) };
+    let fourth = move || -> Option<Executed<K>>
+        requires count { length K.cells ≡ cell_count K.first.scale }
+        requires reader { right.reader.cells ≡ K.cells }
+    { pay_meanwhile(rt, alloc, engine, right, 4, held, executed) };
+    join(rt, third, fourth)
+}
+
+/// Has both Payments executed while a third thread holds the book.
+fn pay_both_meanwhile<K: Run + Send + Sync, R: Threads + Wait + Sync>(
+    rt: &R,
+    alloc: Global,
+    engine: &Engine<K>,
+    left: Seat<K>,
+    right: Seat<K>,
+) -> Option<(Executed<K>, Executed<K>)>
+    requires count { length K.cells ≡ cell_count K.first.scale }
+    requires left { left.reader.cells ≡ K.cells }
+    requires right { right.reader.cells ≡ K.cells }
+{
+    let (held, executed) = (AtomicU64::new(0), AtomicU64::new(0));
+    let (held, executed) = (&held, &executed);
+    let payers = move || -> (Option<Executed<K>>, Option<Executed<K>>)
+        requires count { length K.cells ≡ cell_count K.first.scale }
+        requires left { left.reader.cells ≡ K.cells }
+        requires right { right.reader.cells ≡ K.cells }
+    { pay_both(rt, alloc, engine, left, right, held, executed) };
+    let (is_executed, (third, fourth)) = join(rt, move || hold(rt, engine, held, executed), payers);
+    if !is_executed {
+        return None;
+    }
+    Some((third?, fourth?))
+}
+
+/// Commits a Payment, and tells the commit's number and the reply. A refusal leaves the share as it was.
+fn commit<K: Run, R: Wait>(
+    rt: &R,
+    engine: &Engine<K>,
+    seat: &mut Seat<K>,
+    work: Work,
+) -> Result<(u32, Reply), Refusal>
+    requires reader { seat.old.reader.cells ≡ K.cells }
+    requires work { IsWorkOf K.first (length K.cells) seat.old.reader work }
+    ensures reader { seat.new.reader.cells ≡ K.cells }
+    ensures share { IfErr result (λ refusal. seat.new.share ≡ seat.old.share) }
+{
+    let mut book = engine.lock(rt);
+    let done = book.commit(rt, engine.cells(), &mut seat.reader, &mut seat.share, work)?;
+    Ok((done.number(), done.reply()))
+}
+
+/// How many have committed, and the TID words and first words of the warehouse, the district and customers 3 and 4.
+#[derive(Clone, Copy, Debug, PartialEq, Eq)]
+struct Standing {
+    commits: usize,
+    tids: [u64; 4],
+    words: [u64; 4],
+}
+
+fn standing_of<K: Run, R: Wait>(rt: &R, engine: &Engine<K>, reader: &mut Reader) -> Standing
+    requires reader { reader.old.cells ≡ K.cells }
+    requires count { length K.cells ≡ 23 }
+    ensures reader { reader.new.cells ≡ K.cells }
+{
+    let cells = engine.cells();
+    let warehouse = cells.read(rt, reader, 0);
+    let district = cells.read(rt, reader, 1);
+    let third = cells.read(rt, reader, 5);
+    let fourth = cells.read(rt, reader, 6);
+    Standing {
+        commits: engine.lock(rt).history().len(),
+        tids: [
+            warehouse.word.word(),
+            district.word.word(),
+            third.word.word(),
+            fourth.word.word(),
+        ],
+        words: [
+            warehouse.payload[0],
+            district.payload[0],
+            third.payload[0],
+            fourth.payload[0],
+        ],
+    }
+}
+
+/// What came of the Payments, and the states before, between and after them.
+#[derive(Clone, Copy, Debug, PartialEq, Eq)]
+struct Outcome {
+    first: Result<(u32, Reply), Refusal>,
+    second: Result<(u32, Reply), Refusal>,
+    again: Result<(u32, Reply), Refusal>,
+    states: [Standing; 4],
+}
+
+fn pay_twice<K: Run + Send + Sync, R: Threads + Wait + Sync>(
+    rt: &R,
+    alloc: Global,
+    parts: Parts,
+) -> Result<Outcome, Fail>
+    requires fresh { IsFresh parts }
+    requires cells { length (cells_of parts) ≡ 23 }
+    requires run { (first_of parts ≡ K.first) × (cells_of parts ≡ K.cells) }
+    requires ledger { (ledger_name parts ≡ K.name) × (ledger_parts parts ≡ K.parts) }
+{
+    let (engine, mut seats) = Engine::<K>::open(parts);
+    let mut left = seats.next().ok_or("seat")?;
+    let right = seats.next().ok_or("seat")?;
+    let opened = standing_of(rt, &engine, &mut left.reader);
+    let paid = pay_both_meanwhile(rt, alloc, &engine, left, right).ok_or("hold")?;
+    let (third, fourth) = paid;
+    let Executed {
+        seat: mut left,
+        work: third,
+    } = third;
+    let Executed {
+        seat: mut right,
+        work: fourth,
+    } = fourth;
+    let first = commit(rt, &engine, &mut left, third);
+    let before = standing_of(rt, &engine, &mut left.reader);
+    let second = commit(rt, &engine, &mut right, fourth);
+    let after = standing_of(rt, &engine, &mut left.reader);
+    let fourth = pay(rt, alloc, &engine, &mut right, 4)?;
+    let again = commit(rt, &engine, &mut right, fourth);
+    let end = standing_of(rt, &engine, &mut left.reader);
+    Ok(Outcome {
+        first,
+        second,
+        again,
+        states: [opened, before, after, end],
+    })
+}
+
+fn reply(customer: u32) -> Reply {
+    Reply::Payment(PaymentReply {
+        warehouse: 1,
+        district: 1,
+        customer_warehouse: 1,
+        customer_district: 1,
+        customer,
+        balance: Cents::new(-1_100),
+    })
+}
+
+#[test]
+fn the_second_of_two_conflicts(rt: HostRuntime) -> Result<(), Fail> {
+    let parts = parts(&rt, rt.alloc())?;
+    let outcome = pay_twice::<Brand, _>(&rt, rt.alloc(), parts)?;
+    let Outcome {
+        first,
+        second,
+        again,
+        states,
+    } = outcome;
+    assert_eq!(rt; first, Ok((1, reply(3))));
+    assert_eq!(rt; second, Err(Refusal::Conflict));
+    assert_eq!(rt; again, Ok((2, reply(4))));
+    let [opened, before, after, end] = states;
+    assert_eq!(rt; opened.commits, 0);
+    assert_eq!(rt; opened.tids, [2; 4]);
+    assert_eq!(rt; before.commits, 1);
+    assert_eq!(rt; after, before);
+    assert_eq!(rt; end.commits, 2);
+    let [warehouse, district, third, fourth] = end.words;
+    assert_eq!(rt; (warehouse, district), (20_200, 10_200));
+    assert_eq!(rt; third, fourth);
+    Ok(())
+}
