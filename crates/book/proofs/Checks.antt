@@ -1,19 +1,18 @@
 -- The comparison of the versions read with their records' latest.
-use Rattle.std.proofs.Common.{◌≡◌, ◌≢◌, ℕ, ◌<◌, Some, List, [], ◌∷◌, refl, sym, ◌∙◌, subst, true}
+use Rattle.std.proofs.Common.{◌≡◌, ◌≢◌, ℕ, ◌<◌, Some, List, [], ◌∷◌, refl, sym, ◌∙◌, subst}
 use Rattle.std.specs.List.{All}
 use Rattle.std.specs.Ordering.{nat_cmp, is_eq}
 use Rattle.std.proofs.lemmas.List.Elements.{All-head, All-tail, All-cons, All-nil, All-contains}
 use Rattle.std.proofs.lemmas.Map.Views.{Contains-from_lookup}
-use Rattle.std.proofs.lemmas.Bool.{eqb-true}
-use Rattle.laws.proofs.KeyTests.{eqb-nat_cmp}
 use Rattle.cells.specs.TidWord.{tid_of}
 use Rattle.cells.specs.Versions.{EndsWith, Has, last_tid}
-use Rattle.cells.specs.Records.{Written, Sights, at, words_of, Learns}
+use Rattle.cells.specs.Records.{Written, Sights, at, words_of, Learns, HasGrown}
 use Rattle.cells.proofs.Rising.{has_more}
+use Rattle.cells.proofs.Grown.{grown_itself, learns_grown}
 use Rattle.cells.specs.declared.cells.Version.{Version}
 use Rattle.payment.specs.Reads.{Readings, held}
-use Rattle.book.specs.Book.{AreLatest, HasConflict, HasGrown, IsReadBy}
-use Rattle.book.proofs.Grown.{grown_itself, learns_grown}
+use Rattle.payment.proofs.Numbers.{same_number}
+use Rattle.book.specs.Book.{AreLatest, HasConflict, IsReadBy}
 
 abbrev IsFound : Readings → ℕ × Version → Type 0
 IsFound reads e = held reads e.0 ≡ Some e.1
@@ -22,13 +21,13 @@ abbrev IsLatest : List (List (List ℕ)) → ℕ × Version → Type 0
 IsLatest all e = EndsWith (at all e.0) (words_of e.1)
 
 -- the versions before the rest were compared, and are the latest
-pub record Compared (pen0 : Written) (r0 : Sights) (reads : Readings) (pen : Written) (r : Sights) (rest : Readings) : Type 0 where
+pub record AreCompared (pen0 : Written) (r0 : Sights) (reads : Readings) (pen : Written) (r : Sights) (rest : Readings) : Type 0 where
   pub same : pen ≡ pen0
   pub grown : HasGrown r0 r
   pub found : All (IsFound reads) rest
   pub latest : All (IsLatest pen0.all) rest → All (IsLatest pen0.all) reads
 
-pub begins : (pen0 : Written) (r0 : Sights) (reads rest : Readings) → rest ≡ reads → All (IsFound reads) reads → Compared pen0 r0 reads pen0 r0 rest
+pub begins : (pen0 : Written) (r0 : Sights) (reads rest : Readings) → rest ≡ reads → All (IsFound reads) reads → AreCompared pen0 r0 reads pen0 r0 rest
 begins pen0 r0 reads rest e found = record {
   same = refl;
   grown = grown_itself r0;
@@ -36,7 +35,7 @@ begins pen0 r0 reads rest e found = record {
   latest = subst (All (IsLatest pen0.all)) e;
 }
 
-module _ (cells : ℕ) (pen0 : Written) (r0 : Sights) (reads : Readings) (by : IsReadBy cells r0 reads) (pen : Written) (r : Sights) (rest : Readings) (c : Compared pen0 r0 reads pen r rest)
+module _ (cells : ℕ) (pen0 : Written) (r0 : Sights) (reads : Readings) (by : IsReadBy cells r0 reads) (pen : Written) (r : Sights) (rest : Readings) (c : AreCompared pen0 r0 reads pen r rest)
     (n : ℕ) (v : Version) (next : Readings) (steps : rest ≡ (n, v) ∷ next) where
   here : held reads n ≡ Some v
   here = All-head (IsFound reads) (n, v) next (subst (All (IsFound reads)) steps c.found)
@@ -60,7 +59,7 @@ module _ (cells : ℕ) (pen0 : Written) (r0 : Sights) (reads : Readings) (by : I
     conflict other = (n, v, here, subst (λ (m : ℕ × Written). tid_of v.word ≢ last_tid (at m.1.all m.0)) (λ i. (record_is i, c.same i)) other)
 
     -- one that is
-    pub goes_on : EndsWith (at pen.all v.record) (words_of v) → Compared pen0 r0 reads pen' r' next
+    pub goes_on : EndsWith (at pen.all v.record) (words_of v) → AreCompared pen0 r0 reads pen' r' next
     goes_on latest = record {
       same = same ∙ c.same;
       grown = grown;
@@ -68,9 +67,6 @@ module _ (cells : ℕ) (pen0 : Written) (r0 : Sights) (reads : Readings) (by : I
       latest = λ h. c.latest (subst (All (IsLatest pen0.all)) (sym steps) (All-cons (IsLatest pen0.all) (n, v) next (subst (λ (m : ℕ × Written). EndsWith (at m.1.all m.0) (words_of v)) (λ i. (record_is i, c.same i)) latest) h));
     }
 
-exact : (x y : ℕ) → is_eq (nat_cmp x y) ≡ true → x ≡ y
-exact x y e = eqb-true x y (eqb-nat_cmp x y ∙ e)
-
-pub all_latest : (pen0 : Written) (r0 : Sights) (reads : Readings) (pen : Written) (r : Sights) (rest : Readings) → Compared pen0 r0 reads pen r rest → rest ≡ [] → AreLatest pen0.all reads
+pub all_latest : (pen0 : Written) (r0 : Sights) (reads : Readings) (pen : Written) (r : Sights) (rest : Readings) → AreCompared pen0 r0 reads pen r rest → rest ≡ [] → AreLatest pen0.all reads
 all_latest pen0 r0 reads pen r rest c none n v e =
-    All-contains (IsLatest pen0.all) reads (n, v) (c.latest (subst (All (IsLatest pen0.all)) (sym none) (All-nil (IsLatest pen0.all)))) (Contains-from_lookup {eq = λ x y. is_eq (nat_cmp x y)} exact n v reads e)
+    All-contains (IsLatest pen0.all) reads (n, v) (c.latest (subst (All (IsLatest pen0.all)) (sym none) (All-nil (IsLatest pen0.all)))) (Contains-from_lookup {eq = λ x y. is_eq (nat_cmp x y)} same_number n v reads e)

@@ -1,10 +1,9 @@
 -- Small steps of a commit's clauses.
-use Rattle.std.proofs.Common.{ℕ, ◌∙◌}
+use Rattle.std.proofs.Common.{ℕ}
 use Rattle.cells.proofs.Rising.{has_more}
-use Rattle.cells.specs.Records.{Sights, at}
+use Rattle.cells.specs.Records.{Sights, at, HasGrown}
 use Rattle.payment.specs.Reads.{Readings}
-use Rattle.book.specs.Book.{IsReadBy, HasGrown}
-use Rattle.book.proofs.Grown.{starts_starts}
+use Rattle.book.specs.Book.{IsReadBy}
 
 -- what a reader had seen, it has seen once it has grown
 pub read_by_more : (cells : ℕ) (r s : Sights) (reads : Readings) → IsReadBy cells r reads → HasGrown r s → IsReadBy cells s reads
@@ -12,10 +11,4 @@ read_by_more cells r s reads by grown = record {
   within = by.within;
   records = by.records;
   seen = λ n v e. has_more (at s.seen n) (at r.seen n) _ (grown.grows n) (by.seen n v e);
-}
-
-pub grown_twice : (r s t : Sights) → HasGrown r s → HasGrown s t → HasGrown r t
-grown_twice r s t g h = record {
-  cells = h.cells ∙ g.cells;
-  grows = λ n. starts_starts (at t.seen n) (at s.seen n) (at r.seen n) (h.grows n) (g.grows n);
 }

@@ -1,8 +1,8 @@
-mod Grown
 mod Checks
 mod Stores
 mod Same
 mod Sound
+pub mod Replaying
 mod Committed
 mod Opened
-mod Executed
+pub mod Executed

@@ -8,10 +8,10 @@ use Rattle.tables.specs.Conditions.{IsConsistent}
 use Rattle.tables.specs.WellFormed.{IsWellFormed, HasRoom}
 use Rattle.cells.specs.First.{cell_count, first_version, firsts}
 use Rattle.cells.specs.TidWord.{tid_of}
-use Rattle.cells.specs.Versions.{tid, last_tid}
+use Rattle.cells.specs.Versions.{tid, last_tid, value_in}
 use Rattle.cells.specs.Records.{Written, at}
 use Rattle.payment.specs.Explains.{IsOf}
-use Rattle.book.specs.History.{commit_word, value_in}
+use Rattle.book.specs.History.{commit_word}
 use Rattle.book.specs.Book.{IsSound}
 use Rattle.book.proofs.Sound.{last_one}
 

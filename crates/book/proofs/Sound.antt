@@ -13,15 +13,16 @@ use Rattle.tables.specs.WellFormed.{HasRoom}
 use Rattle.laws.proofs.Kept.{after-IsWellFormed, after-HasRoom, after-IsConsistent}
 use Rattle.cells.specs.TidWord.{tid_of}
 use Rattle.cells.specs.First.{cell_count, first_version}
-use Rattle.cells.specs.Versions.{EndsWith, tid, last_tid}
+use Rattle.cells.specs.Versions.{EndsWith, tid, last_tid, value_in}
 use Rattle.cells.specs.Records.{Written, Sights, at, words_of}
 use Rattle.cells.proofs.Rising.{last_tid-push}
 use Rattle.payment.specs.Writes.{written, value_for}
 use Rattle.payment.specs.Explains.{Agrees, MayBe}
 use Rattle.payment.specs.declared.work.Work.{Work}
-use Rattle.book.specs.History.{replay, commit_word, absent_word, IsDone, Replays, IsLegal, version_of, versions_for, versions_by, later_versions, value_in}
+use Rattle.book.specs.History.{replay, commit_word, absent_word, IsDone, Replays, IsLegal, version_of, versions_for, versions_by, later_versions}
 use Rattle.book.specs.Book.{Kept, IsSound, IsWorkOf, AreLatest, entry_of}
 use Rattle.book.specs.declared.entry.Entry.{Entry}
+use Rattle.book.proofs.Replaying.{replay_push}
 use Rattle.book.proofs.Same.{after-IsOf}
 
 -- one entry more
@@ -32,10 +33,6 @@ replays_push n t (f ∷ es) e h number tid done =
   where
     shifted : (n m : ℕ) → n + Rattle.std.proofs.Common.suc m ≡ n + 1 + m
     shifted n m = omega arith
-
-replay_push : (t : Database) (es : List Entry) (e : Entry) → replay t (es ++ e ∷ []) ≡ after (replay t es) e.input
-replay_push t [] e = refl
-replay_push t (f ∷ es) e = replay_push (after t f.input) es e
 
 later_push : (es : List Entry) (e : Entry) (n : ℕ) → later_versions (es ++ e ∷ []) n ≡ later_versions es n ++ versions_by e n
 later_push [] e n = append-nil (versions_by e n)

@@ -1,6 +1,6 @@
 -- The stores of a commit, record by record.
-use Rattle.std.proofs.Common.{◌≡◌, ◌≢◌, ℕ, ◌<◌, Bool, true, false, true≢false, cond, Option, Some, None, IsSome, is_some, List, [], ◌∷◌, ◌++◌, ⊎_elim, refl, sym, ap, ◌∙◌, subst}
-use Rattle.std.proofs.lemmas.Bool.{cases_eq, eqb-true, eq-eqb}
+use Rattle.std.proofs.Common.{◌≡◌, ◌≢◌, ℕ, ◌<◌, true≢false, cond, Option, Some, None, IsSome, is_some, List, [], ◌∷◌, ◌++◌, ⊎_elim, refl, sym, ap, ◌∙◌, subst}
+use Rattle.std.proofs.lemmas.Bool.{cases_eq}
 use Rattle.std.proofs.lemmas.List.{get_or-set_other, append-nil}
 use Rattle.std.proofs.lemmas.List.Elements.{All-head, All-tail}
 use Rattle.std.specs.Option.{option_map_or}
@@ -11,17 +11,18 @@ use Rattle.std.specs.List.{All, AllByRecursion}
 use Rattle.std.specs.List.Sorted.{IsStrictlySortedBy}
 use Rattle.std.specs.declared.cmp.Ordering.{Ordering}
 use Rattle.std.specs.declared.cmp.Ordering.TheVariants.{Less}
-use Rattle.laws.proofs.KeyTests.{eqb-nat_cmp}
 use Rattle.cells.specs.TidWord.{tid_of}
 use Rattle.cells.specs.Versions.{Has, last_tid}
-use Rattle.cells.specs.Records.{Written, Sights, at, words_of, Writes, Learns}
+use Rattle.cells.specs.Records.{Written, Sights, at, words_of, Writes, Learns, HasGrown}
 use Rattle.cells.specs.declared.cells.Version.{Version}
 use Rattle.cells.proofs.Rising.{has_more}
+use Rattle.cells.proofs.Grown.{grown_itself, learns_grown}
 use Rattle.payment.specs.Reads.{Readings, held}
 use Rattle.payment.specs.Writes.{Writings, value_for}
+use Rattle.payment.specs.Explains.{WritesAreRead}
+use Rattle.payment.proofs.Numbers.{same_test, other_test}
 use Rattle.book.specs.History.{commit_word, version_of, versions_for}
-use Rattle.book.specs.Book.{AreRead, HasGrown, HasSeen, IsReadBy}
-use Rattle.book.proofs.Grown.{grown_itself, learns_grown}
+use Rattle.book.specs.Book.{HasSeen, IsReadBy}
 
 abbrev Values : Type 0
 Values = List (ℕ × Option (List ℕ))
@@ -41,16 +42,6 @@ rest_sorted : (m : ℕ) (value : Option (List ℕ)) (next : Values) → IsStrict
 unfolding IsStrictlySortedBy
 rest_sorted m value next h = h.1
 
-same_test : (n m : ℕ) → n ≡ m → is_eq (nat_cmp n m) ≡ true
-same_test n m e = sym (eqb-nat_cmp n m) ∙ eq-eqb n m e
-
-other_test : (n m : ℕ) → n ≢ m → is_eq (nat_cmp n m) ≡ false
-other_test n m never = go (is_eq (nat_cmp n m)) refl
-  where
-    go : (b : Bool) → is_eq (nat_cmp n m) ≡ b → b ≡ false
-    go true e = absurd (never (eqb-true n m (eqb-nat_cmp n m ∙ e)))
-    go false e = refl
-
 found_first : (n m : ℕ) (value : Option (List ℕ)) (next : Values) → n ≡ m → find n ((m, value) ∷ next) ≡ Some value
 found_first n m value next e = ap (λ b. cond b (Some value) (find n next)) (same_test n m e)
 
@@ -61,7 +52,7 @@ pub never_none : {X : Type 0} (w : Option X) → w ≡ None → IsSome w → ⊥
 never_none w e s = true≢false (sym s ∙ ap is_some e)
 
 -- the writes before the rest are stored, and the reader has seen them
-pub record Stored (number : ℕ) (pen0 : Written) (r0 : Sights) (writes : Writings) (pen : Written) (r : Sights) (rest : Values) : Type 0 where
+pub record AreStored (number : ℕ) (pen0 : Written) (r0 : Sights) (writes : Writings) (pen : Written) (r : Sights) (rest : Values) : Type 0 where
   pub own : pen.cells ≡ pen0.cells
   pub grown : HasGrown r0 r
   pub found : All (λ e. value_for writes e.0 ≡ Some e.1) rest
@@ -71,7 +62,7 @@ pub record Stored (number : ℕ) (pen0 : Written) (r0 : Sights) (writes : Writin
   pub seen : (n : ℕ) → find n rest ≡ None → IsSome (value_for writes n) → at r.seen n ≡ at pen.all n
 
 pub begins : (number : ℕ) (pen0 : Written) (r0 : Sights) (writes : Writings) (rest : Values) → rest ≡ writes.values
-    → All (λ e. value_for writes e.0 ≡ Some e.1) writes.values → IsStrictlySortedBy nat_cmp (keys_of writes.values) → Stored number pen0 r0 writes pen0 r0 rest
+    → All (λ e. value_for writes e.0 ≡ Some e.1) writes.values → IsStrictlySortedBy nat_cmp (keys_of writes.values) → AreStored number pen0 r0 writes pen0 r0 rest
 begins number pen0 r0 writes rest e found sorted = record {
   own = refl;
   grown = grown_itself r0;
@@ -82,9 +73,9 @@ begins number pen0 r0 writes rest e found sorted = record {
   seen = λ n h s. absurd (never_none (find n rest) h (subst (λ (q : Values). IsSome (find n q)) (sym e) s));
 }
 
-module _ (cells : ℕ) (number : ℕ) (pen0 : Written) (r0 : Sights) (reads : Readings) (writes : Writings) (by : IsReadBy cells r0 reads) (are_read : AreRead writes reads)
+module _ (cells : ℕ) (number : ℕ) (pen0 : Written) (r0 : Sights) (reads : Readings) (writes : Writings) (by : IsReadBy cells r0 reads) (are_read : WritesAreRead writes reads)
     (smaller : (n : ℕ) → n < cells → last_tid (at pen0.all n) < tid_of (commit_word number))
-    (pen : Written) (r : Sights) (rest : Values) (c : Stored number pen0 r0 writes pen r rest)
+    (pen : Written) (r : Sights) (rest : Values) (c : AreStored number pen0 r0 writes pen r rest)
     (m : ℕ) (value : Option (List ℕ)) (next : Values) (steps : rest ≡ (m, value) ∷ next) where
   sorted : IsStrictlySortedBy nat_cmp (keys_of ((m, value) ∷ next))
   sorted = subst (λ (q : Values). IsStrictlySortedBy nat_cmp (keys_of q)) steps c.sorted
@@ -132,7 +123,7 @@ module _ (cells : ℕ) (number : ℕ) (pen0 : Written) (r0 : Sights) (reads : Re
       later : (n : ℕ) → n ≢ m → find n next ≡ find n rest
       later n e = sym (ap (find n) steps ∙ found_later n m value next e)
 
-      pub goes_on : Stored number pen0 r0 writes pen'' r' next
+      pub goes_on : AreStored number pen0 r0 writes pen'' r' next
       goes_on = record {
         own = ap (λ (w : Written). w.cells) same ∙ wrote.cells ∙ c.own;
         grown = learns_grown pen' r0 r r' v.record c.grown learns;
@@ -152,9 +143,9 @@ module _ (cells : ℕ) (number : ℕ) (pen0 : Written) (r0 : Sights) (reads : Re
             (cases_eq n m);
       }
 
-pub all_done : (number : ℕ) (pen0 : Written) (r0 : Sights) (writes : Writings) (pen : Written) (r : Sights) (rest : Values) → Stored number pen0 r0 writes pen r rest → rest ≡ []
+pub all_done : (number : ℕ) (pen0 : Written) (r0 : Sights) (writes : Writings) (pen : Written) (r : Sights) (rest : Values) → AreStored number pen0 r0 writes pen r rest → rest ≡ []
     → (n : ℕ) → at pen.all n ≡ at pen0.all n ++ versions_for number writes.values n
 all_done number pen0 r0 writes pen r rest c none n = c.done n (ap (find n) none)
 
-pub all_seen : (number : ℕ) (pen0 : Written) (r0 : Sights) (writes : Writings) (pen : Written) (r : Sights) (rest : Values) → Stored number pen0 r0 writes pen r rest → rest ≡ [] → HasSeen r pen writes
+pub all_seen : (number : ℕ) (pen0 : Written) (r0 : Sights) (writes : Writings) (pen : Written) (r : Sights) (rest : Values) → AreStored number pen0 r0 writes pen r rest → rest ≡ [] → HasSeen r pen writes
 all_seen number pen0 r0 writes pen r rest c none n value e = c.seen n (ap (find n) none) (ap is_some e)

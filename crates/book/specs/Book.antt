@@ -1,5 +1,5 @@
 -- What the book keeps, and what a commit does to it.
-use Rattle.std.specs.Prelude.{◌≡◌, ◌≢◌, ℕ, ◌+◌, ◌-◌, ◌<◌, ◌≤◌, Option, Some, IsSome, List, [], ◌∷◌, ◌++◌, length}
+use Rattle.std.specs.Prelude.{◌≡◌, ◌≢◌, ℕ, ◌+◌, ◌-◌, ◌<◌, ◌≤◌, Option, Some, List, [], ◌∷◌, ◌++◌, length}
 use Rattle.atomic_table.specs.Seated.{TableId}
 use Rattle.tables.specs.Database.{Database}
 use Rattle.tables.specs.Inputs.{IsInput}
@@ -8,14 +8,14 @@ use Rattle.tables.specs.Conditions.{IsConsistent}
 use Rattle.tables.specs.WellFormed.{IsWellFormed, HasRoom}
 use Rattle.cells.specs.TidWord.{tid_of}
 use Rattle.cells.specs.First.{cell_count}
-use Rattle.cells.specs.Versions.{StartsWith, EndsWith, Has, last_tid}
+use Rattle.cells.specs.Versions.{EndsWith, Has, last_tid, value_in}
 use Rattle.cells.specs.Records.{Written, Sights, at, words_of}
 use Rattle.cells.specs.declared.cells.Version.{Version}
 use Rattle.payment.specs.Reads.{Readings, held}
 use Rattle.payment.specs.Writes.{Writings, value_for}
 use Rattle.payment.specs.Explains.{IsOf, Explains, IsWithinLimits}
 use Rattle.payment.specs.declared.work.Work.{Work}
-use Rattle.book.specs.History.{IsLegal, commit_word, versions_by, versions_of, value_in}
+use Rattle.book.specs.History.{IsLegal, commit_word, versions_by, versions_of}
 use Rattle.book.specs.declared.entry.Entry.{Entry}
 
 -- what contracts see of the book: all versions of the records, and the history. The committed tables are the history's replay
@@ -62,18 +62,9 @@ AreLatest all reads = (n : ℕ) (v : Version) → held reads n ≡ Some v → En
 abbrev pub HasConflict : List (List (List ℕ)) → Readings → Type 0
 HasConflict all reads = (n : ℕ) × (v : Version) × (held reads n ≡ Some v) × (tid_of v.word ≢ last_tid (at all n))
 
--- a reader has seen what it had seen, and perhaps more
-pub record HasGrown (old new : Sights) : Type 0 where
-  pub cells : new.cells ≡ old.cells
-  pub grows : (n : ℕ) → StartsWith (at new.seen n) (at old.seen n)
-
 -- a reader has seen all versions of the records of these writes
 abbrev pub HasSeen : Sights → Written → Writings → Type 0
 HasSeen reader pen writes = (n : ℕ) (value : Option (List ℕ)) → value_for writes n ≡ Some value → at reader.seen n ≡ at pen.all n
-
--- no write of a record that wasn't read
-abbrev pub AreRead : Writings → Readings → Type 0
-AreRead writes reads = (n : ℕ) (value : Option (List ℕ)) → value_for writes n ≡ Some value → IsSome (held reads n)
 
 -- the entry of a work that commits
 abbrev pub entry_of : ℕ → ℕ → Work → Entry

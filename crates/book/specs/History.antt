@@ -1,5 +1,5 @@
 -- What has committed, in order, and what it makes of the tables and of the records' versions.
-use Rattle.std.specs.Prelude.{◌≡◌, ℕ, ◌+◌, ◌<◌, ◌/◌, ◌%◌, ◌==◌, cond, true, false, Option, Some, None, List, [], ◌∷◌, ◌++◌, replicate}
+use Rattle.std.specs.Prelude.{◌≡◌, ℕ, ◌+◌, ◌<◌, true, false, Option, Some, None, List, [], ◌∷◌, ◌++◌, replicate}
 use Rattle.std.specs.Option.{option_map_or}
 use Rattle.std.specs.Ordering.{nat_cmp}
 use Rattle.std.specs.Map.{lookup}
@@ -62,8 +62,3 @@ later_versions (e ∷ es) number = versions_by e number ++ later_versions es num
 
 abbrev pub versions_of : Database → List Entry → ℕ → List (List ℕ)
 versions_of t0 history number = first_version (rows t0 number) ∷ later_versions history number
-
--- what a version says that its record holds
-abbrev pub value_in : List ℕ → Option (List ℕ)
-value_in [] = None
-value_in (word ∷ words) = cond (word / 4 % 2 == 0) (Some words) None

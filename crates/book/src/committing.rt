@@ -1,8 +1,9 @@
 //! Committing a transaction.
 ghost use Rattle.std.specs.Prelude.{◌≡◌, ◌+◌, ◌<◌, ◌≤◌, ◌⊎◌, length, MatchResult, IsErr};
 ghost use Rattle.money.specs.declared.refusal.Refusal.TheVariants.{OutOfMemory, Conflict, CommitsFull};
+ghost use Rattle.cells.specs.Records.{HasGrown};
 ghost use Rattle.book.specs.History.{commit_word};
-ghost use Rattle.book.specs.Book.{AreLatest, HasConflict, HasGrown, HasSeen, IsWorkOf, Commits, entry_of};
+ghost use Rattle.book.specs.Book.{AreLatest, HasConflict, HasSeen, IsWorkOf, Commits, entry_of};
 
 use crate::book::Book;
 use crate::entry::{Done, Entry};

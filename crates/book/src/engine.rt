@@ -174,7 +174,7 @@ impl<K: Run> Seats<K> {
     pub fn next(&mut self) -> Option<Seat<K>>
         ensures seat { IfSome result (λ seat. (seat.reader.cells ≡ K.cells) × (seat.share ≡ record { terminal = self.old.given; parts = 1; commits = 0 })) }
         ensures left { IfSome result (λ seat. (self.old.left ≡ self.new.left + 1) × (self.new.given ≡ self.old.given + 1)) }
-        ensures none { IfNone result (self.old.left ≡ 0) }
+        ensures none { IfNone result ((self.old.left ≡ 0) × (self.new ≡ self.old)) }
     {
         let reader = self.readers.pop()?;
         let part = self.share.split_off(1, 0);

@@ -2,9 +2,10 @@
 ghost use Rattle.std.specs.Prelude.{◌≡◌, ℕ, ◌<◌, ◌^◌, ◌∷◌, ◌++◌, Some, List, length, MatchBool};
 ghost use Rattle.cells.specs.TidWord.{tid_of};
 ghost use Rattle.cells.specs.Versions.{last_tid};
-ghost use Rattle.cells.specs.Records.{at};
+ghost use Rattle.cells.specs.Records.{at, HasGrown};
+ghost use Rattle.payment.specs.Explains.{WritesAreRead};
 ghost use Rattle.book.specs.History.{commit_word, version_of, versions_for};
-ghost use Rattle.book.specs.Book.{AreLatest, AreRead, HasConflict, HasGrown, HasSeen, IsReadBy};
+ghost use Rattle.book.specs.Book.{AreLatest, HasConflict, HasSeen, IsReadBy};
 
 use cells::{Cells, Pen, Reader, Status, TidWord};
 use payment::{ReadSet, WriteSet};
@@ -45,7 +46,7 @@ pub(crate) fn store<R: Wait>(
 )
     requires own { (pen.old.cells ≡ cells.now) × (reader.old.cells ≡ cells.now) }
     requires read { IsReadBy (length cells.now) reader.old reads.now }
-    requires written_read { AreRead writes.now reads.now }
+    requires written_read { WritesAreRead writes.now reads.now }
     requires number { number < 2 ^ 29 }
     requires smaller { (n : ℕ) → n < length cells.now → last_tid (at pen.old.all n) < tid_of (commit_word number) }
     ensures cells { pen.new.cells ≡ pen.old.cells }

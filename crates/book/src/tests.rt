@@ -14,7 +14,8 @@ use std::marker::{Brand, Model};
 use std::sync::Wait;
 use std::sync::atomic::{AtomicU64, Ordering};
 use std::test::Fail;
-use std::thread::{Threads, join, yield_now};
+use std::thread::{Threads, join, sleep};
+use std::time::{Clock, Duration};
 use tables::{Input, Payment, PaymentReply, Reply, Scale, Who};
 
 /// The parts of an engine with two terminals, over one warehouse with two districts and ten customers in each.
@@ -57,22 +58,23 @@ fn pay<K: Run, R: Wait>(
     Ok(work)
 }
 
-/// How often a thread looks for another before it gives up.
-const TURNS: u32 = 10_000_000;
+/// How often a thread looks for another before it gives up. It sleeps a millisecond between, so that the others run
+/// even on a busy machine.
+const TURNS: u32 = 20_000;
 
 /// Waits until that many threads have come, and tells whether they have.
-fn wait_for(come: &AtomicU64, wanted: u64) -> bool {
+fn wait_for<R: Clock>(rt: &R, come: &AtomicU64, wanted: u64) -> bool {
     for _ in 0..TURNS {
         if come.load(Ordering::Acquire) >= wanted {
             return true;
         }
-        yield_now();
+        sleep(rt, Duration::from_millis(1));
     }
     false
 }
 
 /// Holds the book until both Payments are executed, and tells whether they were.
-fn hold<K: Run, R: Wait>(
+fn hold<K: Run, R: Wait + Clock>(
     rt: &R,
     engine: &Engine<K>,
     held: &AtomicU64,
@@ -80,7 +82,7 @@ fn hold<K: Run, R: Wait>(
 ) -> bool {
     let book = engine.lock(rt);
     held.store(1, Ordering::Release);
-    let is_executed = wait_for(executed, 2);
+    let is_executed = wait_for(rt, executed, 2);
     drop(book);
     is_executed
 }
@@ -104,7 +106,7 @@ impl<K: Run> Model for Executed<K> {
 }
 
 /// Executes a Payment while another thread holds the book.
-fn pay_meanwhile<K: Run, R: Wait>(
+fn pay_meanwhile<K: Run, R: Wait + Clock>(
     rt: &R,
     alloc: Global,
     engine: &Engine<K>,
@@ -117,7 +119,7 @@ fn pay_meanwhile<K: Run, R: Wait>(
     requires reader { seat.reader.cells ≡ K.cells }
 {
     let mut seat = seat;
-    if !wait_for(held, 1) {
+    if !wait_for(rt, held, 1) {
         return None;
     }
     let work = pay(rt, alloc, engine, &mut seat, customer).ok()?;
@@ -126,7 +128,7 @@ fn pay_meanwhile<K: Run, R: Wait>(
 }
 
 /// Executes a Payment at each of two terminals, in threads of their own.
-fn pay_both<K: Run + Send + Sync, R: Threads + Wait + Sync>(
+fn pay_both<K: Run + Send + Sync, R: Threads + Wait + Clock + Sync>(
     rt: &R,
     alloc: Global,
     engine: &Engine<K>,
@@ -151,7 +153,7 @@ fn pay_both<K: Run + Send + Sync, R: Threads + Wait + Sync>(
 }
 
 /// Has both Payments executed while a third thread holds the book.
-fn pay_both_meanwhile<K: Run + Send + Sync, R: Threads + Wait + Sync>(
+fn pay_both_meanwhile<K: Run + Send + Sync, R: Threads + Wait + Clock + Sync>(
     rt: &R,
     alloc: Global,
     engine: &Engine<K>,
@@ -237,7 +239,7 @@ struct Outcome {
     states: [Standing; 4],
 }
 
-fn pay_twice<K: Run + Send + Sync, R: Threads + Wait + Sync>(
+fn pay_twice<K: Run + Send + Sync, R: Threads + Wait + Clock + Sync>(
     rt: &R,
     alloc: Global,
     parts: Parts,

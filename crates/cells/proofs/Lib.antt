@@ -3,4 +3,5 @@ pub mod Moves
 pub mod Known
 pub mod Places
 pub mod Records
+pub mod Grown
 pub mod Firsts

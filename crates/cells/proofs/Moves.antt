@@ -6,7 +6,7 @@ use Rattle.crossbeam_utils.specs.Register.{Turns, Forks, Merges}
 use Rattle.atomic_table.proofs.Lists.{at_set, at_snoc, set_again}
 use Rattle.cells.specs.declared.rule.View.{View}
 use Rattle.cells.specs.Versions.{StartsWith, EndsWith, IsRising}
-use Rattle.cells.specs.Views.{pen_view, sight, heard, learnt, Fits, Kept, Stored, Loaded, Compared}
+use Rattle.cells.specs.Views.{pen_view, sight, heard, learnt, Fits, IsKept, Stored, Loaded, Compared}
 use Rattle.cells.proofs.Rising.{starts_self}
 
 off : {A : Type 0} → false ≡ true → A
@@ -30,14 +30,14 @@ fits_pen seat all by e = (starts_self all, (all, refl), λ _. (e, refl))
 starts_more : (all seen more : List (List ℕ)) → StartsWith all seen → StartsWith (all ++ more) seen
 starts_more all seen more s = (s.0 ++ more, ap (λ (l : List (List ℕ)). l ++ more) s.1 ∙ append_assoc seen s.0 more)
 
-pub begins : (now : List ℕ) → Kept now (pen_view [] ∷ [])
+pub begins : (now : List ℕ) → IsKept now (pen_view [] ∷ [])
 begins now = (0, [], tt, inl refl, one)
   where
     one : (by : ℕ) (v : View) → get_elem? (pen_view [] ∷ []) by ≡ some v → Fits 0 [] by v
     one zero v e = subst (Fits 0 [] 0) (some-injective _ _ e) (fits_pen 0 [] 0 refl)
     one (suc by) v e = absurd (some-ne-none v (sym e))
 
-pub stores : (by : ℕ) (all : List (List ℕ)) (new : List ℕ) → IsRising (all ++ new ∷ []) → Turns Kept by (pen_view all) (λ _. new) Stored
+pub stores : (by : ℕ) (all : List (List ℕ)) (new : List ℕ) → IsRising (all ++ new ∷ []) → Turns IsKept by (pen_view all) (λ _. new) Stored
 stores by all new rising now views h at =
     let seat = h.0 in
     let log = h.1 in
@@ -58,14 +58,14 @@ stores by all new rising now views h at =
       refl,
     )
 
-pub loads : (by : ℕ) (v : View) → Turns Kept by v (λ x. x) Loaded
+pub loads : (by : ℕ) (v : View) → Turns IsKept by v (λ x. x) Loaded
 loads by v now views h at =
     let log = h.1 in
     let fits = h.4 in
     let w = sight log (v.loads + 1) in
     (w, (h.0, log, h.2, h.3, fits_set h.0 log views by w (λ j u _ e. fits j u e) (fits_sight h.0 log log (v.loads + 1) by (starts_self log))), (refl, (fits by v at).0, h.2, h.3))
 
-pub compares : (by : ℕ) (v : View) → v.pen ≡ true → Turns Kept by v (λ x. x) Compared
+pub compares : (by : ℕ) (v : View) → v.pen ≡ true → Turns IsKept by v (λ x. x) Compared
 compares by v pen now views h at =
     let log = h.1 in
     let fits = h.4 in
@@ -77,7 +77,7 @@ compares by v pen now views h at =
       subst (λ (l : List (List ℕ)). (w ≡ pen_view v.seen) × StartsWith l v.told × IsRising l × ((l ≡ []) ⊎ EndsWith l now)) (sym known.1) (refl, mine.1, h.2, h.3),
     )
 
-pub tells : (by : ℕ) (v : View) → Forks Kept by v v (sight v.seen 0)
+pub tells : (by : ℕ) (v : View) → Forks IsKept by v v (sight v.seen 0)
 tells by v now views h at = (
   h.0,
   h.1,
@@ -90,7 +90,7 @@ tells by v now views h at = (
 )
 
 -- two passes meet, and one has what they know
-merges : (by : ℕ) (v : View) (other : ℕ) (u w : View) → ((seat : ℕ) (all : List (List ℕ)) → Fits seat all by v → Fits seat all other u → Fits seat all by w) → Merges Kept by v other u w (sight [] 0)
+merges : (by : ℕ) (v : View) (other : ℕ) (u w : View) → ((seat : ℕ) (all : List (List ℕ)) → Fits seat all by v → Fits seat all other u → Fits seat all by w) → Merges IsKept by v other u w (sight [] 0)
 merges by v other u w both now views h at apart there =
     let theirs = ⊎_elim (λ (t : (other ≡ by) × (w ≡ u)). absurd (apart t.0)) (λ (t : (other ≢ by) × (get_elem? views other ≡ some u)). h.4 other u t.1) (at_set views by other w u there) in (
       h.0,
@@ -102,11 +102,11 @@ merges by v other u w both now views h at apart there =
           (fits_sight h.0 h.1 [] 0 other (h.1, refl)),
     )
 
-pub hears : (by : ℕ) (v : View) (other : ℕ) (u : View) → Merges Kept by v other u (heard v u) (sight [] 0)
+pub hears : (by : ℕ) (v : View) (other : ℕ) (u : View) → Merges IsKept by v other u (heard v u) (sight [] 0)
 hears by v other u = merges by v other u (heard v u) (λ seat all mine theirs. (mine.0, theirs.0, mine.2))
 
-pub learns : (by : ℕ) (v : View) (other : ℕ) (u : View) → v.pen ≡ false → Merges Kept by v other u (learnt v u) (sight [] 0)
+pub learns : (by : ℕ) (v : View) (other : ℕ) (u : View) → v.pen ≡ false → Merges IsKept by v other u (learnt v u) (sight [] 0)
 learns by v other u reader = merges by v other u (learnt v u) (λ seat all mine theirs. (theirs.0, mine.1, λ p. off (sym reader ∙ p)))
 
-pub stores_as : (by : ℕ) (v : View) (all : List (List ℕ)) (new : List ℕ) → v ≡ pen_view all → IsRising (all ++ new ∷ []) → Turns Kept by v (λ _. new) Stored
-stores_as by v all new is rising = subst (λ (u : View). Turns Kept by u (λ _. new) Stored) (sym is) (stores by all new rising)
+pub stores_as : (by : ℕ) (v : View) (all : List (List ℕ)) (new : List ℕ) → v ≡ pen_view all → IsRising (all ++ new ∷ []) → Turns IsKept by v (λ _. new) Stored
+stores_as by v all new is rising = subst (λ (u : View). Turns IsKept by u (λ _. new) Stored) (sym is) (stores by all new rising)

@@ -47,3 +47,8 @@ pub record Learns (pen : Written) (old new : Sights) (n : ℕ) : Type 0 where
   pub learnt : at new.seen n ≡ at pen.all n
   pub grows : StartsWith (at pen.all n) (at old.seen n)
   pub rising : IsRising (at pen.all n)
+
+-- a reader has seen what it had seen, and perhaps more
+pub record HasGrown (old new : Sights) : Type 0 where
+  pub cells : new.cells ≡ old.cells
+  pub grows : (n : ℕ) → StartsWith (at new.seen n) (at old.seen n)

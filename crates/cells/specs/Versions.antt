@@ -1,10 +1,15 @@
 -- The versions of one record, oldest first. A version is the list of its words, of which the first is the TID word (Silo, section 4.2).
-use Rattle.std.specs.Prelude.{◌≡◌, ℕ, ◌+◌, ◌≤◌, List, [], ◌∷◌, ◌++◌, slice_index}
+use Rattle.std.specs.Prelude.{◌≡◌, ℕ, ◌+◌, ◌/◌, ◌%◌, ◌≤◌, ◌==◌, cond, Option, Some, None, List, [], ◌∷◌, ◌++◌, slice_index}
 use Rattle.cells.specs.TidWord.{tid_of}
 
 -- the TID of a version
 abbrev pub tid : List ℕ → ℕ
 tid version = tid_of (slice_index version 0)
+
+-- what a version says that its record holds: its data, or nothing where its absent bit (bit 2) is set
+abbrev pub value_in : List ℕ → Option (List ℕ)
+value_in [] = None
+value_in (word ∷ words) = cond (word / 4 % 2 == 0) (Some words) None
 
 -- the TID of the last version
 abbrev pub last_tid : List (List ℕ) → ℕ

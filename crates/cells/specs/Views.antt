@@ -29,8 +29,8 @@ abbrev pub Fits : ℕ → List (List ℕ) → ℕ → View → Type 0
 Fits seat all by v = StartsWith all v.seen × StartsWith all v.told × (v.pen ≡ true → (by ≡ seat) × (v.seen ≡ all))
 
 -- the cell has the last of its versions, which rise
-abbrev pub Kept : List ℕ → List View → Type 0
-Kept now views =
+abbrev pub IsKept : List ℕ → List View → Type 0
+IsKept now views =
     (seat : ℕ) × (all : List (List ℕ)) × IsRising all × ((all ≡ []) ⊎ EndsWith all now)
     × ((by : ℕ) (v : View) → get_elem? views by ≡ some v → Fits seat all by v)
 

@@ -20,9 +20,9 @@ pub struct Rises;
 
 impl<const N: usize> Protocol<[u64; N], View> for Rises {
     ghost use Rattle.std.specs.Prelude.{[]};
-    ghost use Rattle.cells.specs.Views.{Kept, pen_view};
+    ghost use Rattle.cells.specs.Views.{IsKept, pen_view};
 
-    ghost holds = { Kept };
+    ghost holds = { IsKept };
 
     ghost first = { pen_view [] };
 }

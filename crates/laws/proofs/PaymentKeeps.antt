@@ -21,7 +21,7 @@ use Rattle.tables.specs.declared.rows.Customer.{Customer}
 use Rattle.tables.specs.declared.rows.History.{History}
 use Rattle.tables.specs.declared.input.Payment.{Payment}
 use Rattle.tables.proofs.Orders.{IsExact, exact_number, exact_district, exact_customer}
-use Rattle.laws.proofs.KeyTests.{is_district-key}
+use Rattle.tables.proofs.KeyTests.{is_district-key}
 use Rattle.laws.proofs.Updates.{column-update_where, total-update_where, is_some-map_rows, row_before}
 
 -- the row at a key of the scale

@@ -122,6 +122,15 @@ module _ {K X : Type 0} {R : K → K → Ordering} (o : IsExact R) where
   column-update_where f p g m q r found =
       ap (λ (w : Option X). option_map_or f w (pos 0)) (get-map_rows (λ j s. cond (p j) (g s) s) m q ∙ ap (option_map (λ s. cond (p q) (g s) s)) found)
 
+  -- an update keeps of a row what it keeps of each row that it touches
+  pub kept-update_where : {Y : Type 0} (p : K → Bool) (g : X → X) (f : Option X → Y) (m : FinMap R X) (q : K) → (p q ≡ true → (r : X) → f (Some (g r)) ≡ f (Some r)) → f (get (update_where p g m) q) ≡ f (get m q)
+  kept-update_where p g f m q same = ap f (get-map_rows (λ j s. cond (p j) (g s) s) m q) ∙ go (get m q) (p q) same
+    where
+      go : (w : Option X) (b : Bool) → (b ≡ true → (r : X) → f (Some (g r)) ≡ f (Some r)) → f (option_map (λ s. cond b (g s) s) w) ≡ f w
+      go None b h = refl
+      go (Some r) true h = h refl r
+      go (Some r) false h = refl
+
   -- an update keeps which keys have rows
   pub is_some-map_rows : (g : K → X → X) (m : FinMap R X) (q : K) → is_some (get (map_rows g m) q) ≡ is_some (get m q)
   is_some-map_rows g m q = ap is_some (get-map_rows g m q) ∙ kept (get m q)

@@ -1,5 +1,5 @@
 -- What a Payment changes of the records.
-use Rattle.std.proofs.Common.{◌≡◌, ◌≢◌, ℕ, ◌+◌, ◌+ℤ◌, ◌-ℤ◌, Bool, true, false, cond, List, Option, Some, None, refl, sym, ap, ◌∙◌, ◌==◌, ◌&&◌, true≢false}
+use Rattle.std.proofs.Common.{◌≡◌, ◌≢◌, ℕ, ◌+◌, ◌+ℤ◌, ◌-ℤ◌, Bool, true, false, cond, List, Option, Some, refl, sym, ap, ◌∙◌, ◌==◌, ◌&&◌, true≢false}
 use Rattle.std.proofs.lemmas.Bool.{eqb-true, eq-eqb}
 use Rattle.std.specs.Option.{option_map, option_map_or, unwrap_or}
 use Rattle.std.specs.FinMap.{FinMap, get}
@@ -10,7 +10,7 @@ use Rattle.tables.specs.Inputs.{number_of, payer}
 use Rattle.tables.specs.Apply.{after_payment}
 use Rattle.tables.specs.Rows.{row_at, least, order_numbers, number_words, warehouse_words, district_words, customer_words}
 use Rattle.tables.proofs.Orders.{IsExact, exact_number, exact_district, exact_customer}
-use Rattle.laws.proofs.Updates.{get-map_rows, column-update_where}
+use Rattle.laws.proofs.Updates.{get-map_rows, column-update_where, kept-update_where}
 use Rattle.tables.specs.declared.keys.DistrictKey.{DistrictKey}
 use Rattle.tables.specs.declared.keys.CustomerKey.{CustomerKey}
 use Rattle.tables.specs.declared.records.RecordKey.{RecordKey}
@@ -41,31 +41,13 @@ self n = eq-eqb n n refl
 
 -- a row that no update touches, and the one that it touches
 module _ {K X : Type 0} {R : K → K → Rattle.std.specs.declared.cmp.Ordering.Ordering} (o : IsExact R) (p : K → Bool) (g : X → X) (words : X → List ℕ) (m : FinMap R X) where
-  same_row : (w : Option X) (b : Bool) → b ≡ false → option_map words (option_map (λ r. cond b (g r) r) w) ≡ option_map words w
-  same_row None b h = refl
-  same_row (Some r) b h = ap (λ (q : Bool). Some (words (cond q (g r) r))) h
-
   untouched : (k : K) → (p k ≡ true → ⊥) → option_map words (get (update_where p g m) k) ≡ option_map words (get m k)
-  untouched k never = ap (option_map words) (get-map_rows o (λ j r. cond (p j) (g r) r) m k) ∙ same_row (get m k) (p k) (off (p k) never)
-    where
-      off : (b : Bool) → (b ≡ true → ⊥) → b ≡ false
-      off true n = absurd (n refl)
-      off false n = refl
+  untouched k never = kept-update_where o p g (option_map words) m k (λ h. absurd (never h))
 
   touched : (k : K) (r : X) → p k ≡ true → get m k ≡ Some r → option_map words (get (update_where p g m) k) ≡ Some (words (g r))
   touched k r h found =
       ap (option_map words) (get-map_rows o (λ j s. cond (p j) (g s) s) m k)
       ∙ (λ i. option_map words (option_map (λ s. cond (h i) (g s) s) (found i)))
-
--- an update that leaves a column leaves it
-kept_column : {K X : Type 0} {R : K → K → Rattle.std.specs.declared.cmp.Ordering.Ordering} (o : IsExact R) (p : K → Bool) (g : X → X) (f : X → ℕ) → ((r : X) → f (g r) ≡ f r) → (m : FinMap R X) (k : K)
-    → option_map_or f (get (update_where p g m) k) 0 ≡ option_map_or f (get m k) 0
-kept_column o p g f same m k = ap (λ w. option_map_or f w 0) (get-map_rows o (λ j r. cond (p j) (g r) r) m k) ∙ go (get m k) (p k)
-  where
-    go : (w : Option _) (b : Bool) → option_map_or f (option_map (λ r. cond b (g r) r) w) 0 ≡ option_map_or f w 0
-    go None b = refl
-    go (Some r) true = same r
-    go (Some r) false = refl
 
 module _ (t : Database) (x : Payment) where
   -- the records of all keys but three are as before
@@ -83,7 +65,7 @@ module _ (t : Database) (x : Payment) where
   others (key.OrderLine k) a b c = refl
   others (key.Stock k) a b c = refl
   others (key.Oldest k) a b c = ap (λ n. Some (number_words n)) (ap (unwrap_or (least (order_numbers (λ e. (e.0.warehouse == k.warehouse) && (e.0.district == k.district)) t.new_orders)))
-      (kept_column exact_district (is_district x.warehouse x.district) (λ r. record r { year_to_date = r.year_to_date +ℤ x.amount }) (λ r. r.next_order) (λ r. refl) t.districts k))
+      (kept-update_where exact_district (is_district x.warehouse x.district) (λ r. record r { year_to_date = r.year_to_date +ℤ x.amount }) (λ (w : Option District). option_map_or (λ r. r.next_order) w 0) t.districts k (λ _ r. refl)))
   others (key.Last k) a b c = refl
 
   pub warehouse_changed : (r : Warehouse) → get t.warehouses x.warehouse ≡ Some r → row_at (after_payment t x) (key.Warehouse x.warehouse) ≡ Some (warehouse_words (raised_warehouse x.amount r))

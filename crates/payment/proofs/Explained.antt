@@ -1,6 +1,5 @@
 -- What a Payment reads explains what it writes and replies.
-use Rattle.std.proofs.Common.{◌≡◌, ◌≢◌, ℕ, ◌<◌, true, false, cond, List, Option, Some, None, IsSome, refl, sym, ap, ◌∙◌, subst, true≢false}
-use Rattle.std.proofs.lemmas.Bool.{eqb-true, eq-eqb}
+use Rattle.std.proofs.Common.{◌≡◌, ℕ, ◌<◌, true, false, cond, List, Option, Some, None, IsSome, refl, sym, ap, ◌∙◌, subst, true≢false}
 use Rattle.std.specs.Option.{option_map, unwrap_or}
 use Rattle.std.specs.FinMap.{get}
 use Rattle.std.specs.Ordering.{nat_cmp, is_eq}
@@ -11,7 +10,6 @@ use Rattle.tables.specs.Apply.{after_payment, payment_reply}
 use Rattle.tables.specs.Records.{record_count, number_of_key, key_of, IsRecordKey}
 use Rattle.tables.specs.Rows.{rows, row_at, warehouse_words, district_words, customer_words}
 use Rattle.tables.proofs.Numbers.{named, numbered}
-use Rattle.laws.proofs.KeyTests.{eqb-nat_cmp}
 use Rattle.tables.specs.declared.records.RecordKey.{RecordKey}
 use Rattle.tables.specs.declared.records.RecordKey.TheVariants as key
 use Rattle.tables.specs.declared.rows.Warehouse.{Warehouse}
@@ -27,6 +25,7 @@ use Rattle.payment.specs.Paid.{warehouse_record, district_record, customer_recor
 use Rattle.payment.specs.declared.transaction.Records.{Records}
 use Rattle.payment.specs.declared.transaction.Found.{Found}
 use Rattle.payment.specs.declared.transaction.Paid.{Paid}
+use Rattle.payment.proofs.Numbers.{same_number, other_number}
 use Rattle.payment.proofs.Changed.{others, warehouse_changed, district_changed, customer_changed, balance_changed}
 
 -- the record of a key holds what the key's row has
@@ -37,12 +36,6 @@ at_key t k h = ap (row_at t) (named t.scale k h).1
 is_row : {X : Type 0} (w : Option X) → IsSome w → (r : X) × (w ≡ Some r)
 is_row None h = absurd (true≢false (sym h))
 is_row (Some r) h = (r, refl)
-
-same_number : (n m : ℕ) → is_eq (nat_cmp n m) ≡ true → n ≡ m
-same_number n m e = eqb-true n m (eqb-nat_cmp n m ∙ e)
-
-other_number : (n m : ℕ) → is_eq (nat_cmp n m) ≡ false → n ≢ m
-other_number n m f e = true≢false (sym (eq-eqb n m e) ∙ eqb-nat_cmp n m ∙ f)
 
 pub same_Paid : (a b : Paid) → Some a ≡ Some b → a ≡ b
 same_Paid a b e = cc

@@ -1,3 +1,4 @@
+pub mod Numbers
 mod Numbered
 mod Changed
 mod Explained

@@ -48,10 +48,14 @@ pub record Explains (t0 : Database) (x : Input) (reads : Readings) (writes : Wri
 abbrev pub NoneMayBe : Database → Readings → Type 0
 NoneMayBe t0 reads = (t : Database) → ¬ MayBe t0 reads t
 
+-- no write of a record that wasn't read
+abbrev pub WritesAreRead : Writings → Readings → Type 0
+WritesAreRead writes reads = (n : ℕ) (value : Option (List ℕ)) → value_for writes n ≡ Some value → IsSome (held reads n)
+
 -- at most 1,024 reads and 200 writes, each of a record that has a cell, and no write of a record that wasn't read
 pub record IsWithinLimits (cells : ℕ) (reads : Readings) (writes : Writings) : Type 0 where
   pub reads_limit : length reads ≤ 1024
   pub writes_limit : length writes.values ≤ 200
   pub reads_cells : (n : ℕ) (v : Version) → held reads n ≡ Some v → n < cells
   pub writes_cells : (n : ℕ) (value : Option (List ℕ)) → value_for writes n ≡ Some value → n < cells
-  pub writes_read : (n : ℕ) (value : Option (List ℕ)) → value_for writes n ≡ Some value → IsSome (held reads n)
+  pub writes_read : WritesAreRead writes reads

@@ -1,9 +1,9 @@
 -- What a transaction has read (Silo, section 4.4: the read set).
-use Rattle.std.specs.Prelude.{◌≡◌, ℕ, ◌+◌, ◌/◌, ◌%◌, ◌==◌, cond, Option, Some, None, List, slice_index}
+use Rattle.std.specs.Prelude.{◌≡◌, ℕ, ◌+◌, Option, Some, None, List, slice_index}
 use Rattle.std.specs.Ordering.{nat_cmp}
 use Rattle.std.specs.Map.{lookup}
 use Rattle.std.specs.BTreeMap.{is_at}
-use Rattle.cells.specs.Versions.{StartsWith, EndsWith}
+use Rattle.cells.specs.Versions.{StartsWith, EndsWith, value_in}
 use Rattle.cells.specs.Records.{Sights, words_of, at}
 use Rattle.cells.specs.declared.cells.Version.{Version}
 
@@ -15,9 +15,9 @@ Readings = List (ℕ × Version)
 abbrev pub held : Readings → ℕ → Option Version
 held reads n = lookup (is_at (nat_cmp n)) reads
 
--- what a version says that its record holds: its data, or nothing where its absent bit (bit 2) is set
+-- what a version says that its record holds
 abbrev pub value_of : Version → Option (List ℕ)
-value_of version = cond (version.word / 4 % 2 == 0) (Some version.payload) None
+value_of version = value_in (words_of version)
 
 -- between these two states, a reader has loaded exactly the records of these versions, each once, and each version is what that load gave
 pub record AreRead (old new : Sights) (reads : Readings) : Type 0 where

@@ -1,8 +1,8 @@
 //! What a transaction has read.
-ghost use Rattle.std.specs.Prelude.{◌≡◌, ◌≢◌, ℕ, ◌+◌, ◌<◌, ◌≤◌, Some, None, Ok, IfOk, IfErr, OnOk, [], length, All};
+ghost use Rattle.std.specs.Prelude.{◌≡◌, ◌≢◌, ℕ, ◌+◌, ◌<◌, ◌≤◌, Some, None, Ok, IfOk, IfErr, OnOk, OnErr, [], length, All};
 ghost use Rattle.std.specs.Option.{option_copied};
 ghost use Rattle.payment.specs.Reads.{held};
-ghost use Rattle.cells.specs.Records.{Reads, words_of};
+ghost use Rattle.cells.specs.Records.{Reads, HasGrown, words_of};
 ghost use Rattle.cells.specs.declared.cells.Version.{Version};
 
 use cells::{Cells, Reader, Version};
@@ -45,7 +45,7 @@ impl ReadSet {
     ///
     /// # Errors
     ///
-    /// `OutOfMemory`, and no other.
+    /// `OutOfMemory`, and no other. The versions held are then as before; the reader may have loaded.
     pub fn get<R: Wait>(
         &mut self,
         rt: &R,
@@ -60,6 +60,8 @@ impl ReadSet {
         ensures holds { IfOk result (λ v. held self.new number ≡ Some v) }
         ensures others { (n : ℕ) → n ≢ number → held self.new n ≡ held self.old n }
         ensures limit { length self.new ≤ length self.old + 1 }
+        ensures kept { OnErr result (self.new ≡ self.old) }
+        ensures grown { HasGrown reader.old reader.new }
         ensures only_memory { IfErr result (λ refusal. refusal ≡ OutOfMemory) }
     {
         if let Some(version) = self.versions.get(&number) {

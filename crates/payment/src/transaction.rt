@@ -9,6 +9,7 @@ ghost use Rattle.tables.specs.declared.rows.District.{District};
 ghost use Rattle.tables.specs.declared.rows.Customer.{Customer};
 ghost use Rattle.money.specs.declared.refusal.Refusal.TheVariants.{OutOfMemory, Stale};
 ghost use Rattle.cells.specs.First.{cell_count};
+ghost use Rattle.cells.specs.Records.{HasGrown};
 ghost use Rattle.cells.specs.declared.cells.Version.{Version};
 ghost use Rattle.population.specs.Initial.{initial};
 ghost use Rattle.payment.specs.Reads.{Readings, AreRead, held};
@@ -60,7 +61,8 @@ struct Paid {
 /// # Errors
 ///
 /// `Stale` only where no consistent, well-formed tables of this population have the versions that this call
-/// has read, as when they were never the latest ones together; `OutOfMemory`.
+/// has read, as when they were never the latest ones together; `OutOfMemory`. After a refusal, too, the reader has
+/// seen what it had seen, and perhaps more.
 pub fn execute<R: Wait>(
     rt: &R,
     alloc: Global,
@@ -76,6 +78,7 @@ pub fn execute<R: Wait>(
     ensures read { IfOk result (λ work. AreRead reader.old reader.new work.reads) }
     ensures explains { IfOk result (λ work. Explains (initial population.now) input.now work.reads work.writes work.reply) }
     ensures limits { IfOk result (λ work. IsWithinLimits (length cells.now) work.reads work.writes) }
+    ensures grown { HasGrown reader.old reader.new }
     ensures refused { IfErr result (λ refusal. (refusal ≡ OutOfMemory) ⊎
         ((refusal ≡ Stale) × ((reads : Readings) × AreRead reader.old reader.new reads × NoneMayBe (initial population.now) reads))) }
 {
@@ -100,6 +103,7 @@ fn pay<R: Wait>(
     ensures read { IfOk result (λ work. AreRead reader.old reader.new work.reads) }
     ensures explains { IfOk result (λ work. Explains (initial population.now) (input_variants.Payment payment.now) work.reads work.writes work.reply) }
     ensures limits { IfOk result (λ work. IsWithinLimits (length cells.now) work.reads work.writes) }
+    ensures grown { HasGrown reader.old reader.new }
     ensures refused { IfErr result (λ refusal. (refusal ≡ OutOfMemory) ⊎
         ((refusal ≡ Stale) × ((reads : Readings) × AreRead reader.old reader.new reads × NoneMayBe (initial population.now) reads))) }
 {
@@ -160,6 +164,7 @@ fn read<R: Wait>(
     ensures customer { IfOk result (λ found. held reads.new records.customer ≡ Some found.customer) }
     ensures limit { OnOk result (length reads.new ≤ 3) }
     ensures cells { OnOk result ((n : ℕ) (v : Version) → held reads.new n ≡ Some v → n < length cells.now) }
+    ensures grown { HasGrown reader.old reader.new }
     ensures only_memory { IfErr result (λ refusal. refusal ≡ OutOfMemory) }
 {
     let warehouse = reads.get(rt, cells, reader, records.warehouse)?;

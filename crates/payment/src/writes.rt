@@ -1,5 +1,5 @@
 //! What a transaction is to write.
-ghost use Rattle.std.specs.Prelude.{◌≡◌, Some, None, [], All, OnOk, IfErr};
+ghost use Rattle.std.specs.Prelude.{◌≡◌, Some, None, [], All, OnOk, OnErr, IfErr};
 ghost use Rattle.std.specs.Ordering.{nat_cmp};
 ghost use Rattle.std.specs.BTreeMap.{insert_entry};
 ghost use Rattle.std.specs.Map.{keys_of};
@@ -49,9 +49,10 @@ impl WriteSet {
     ///
     /// # Errors
     ///
-    /// `OutOfMemory`, and no other.
+    /// `OutOfMemory`, and no other. What was said is then as before.
     pub fn put(&mut self, number: u32, value: Option<[u64; 7]>) -> Result<(), Refusal>
         ensures puts { OnOk result (self.new ≡ record { values = insert_entry nat_cmp self.old.values number value; history = self.old.history }) }
+        ensures kept { OnErr result (self.new ≡ self.old) }
         ensures only_memory { IfErr result (λ refusal. refusal ≡ OutOfMemory) }
     {
         match self.values.insert(number, value) {

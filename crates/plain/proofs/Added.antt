@@ -15,7 +15,7 @@ use Rattle.tables.specs.declared.keys.LineKey.{LineKey}
 use Rattle.tables.specs.declared.rows.Order.{Order}
 use Rattle.tables.specs.declared.rows.OrderLine.{OrderLine}
 use Rattle.tables.proofs.Orders.{exact_customer}
-use Rattle.laws.proofs.KeyTests.{is_customer-key}
+use Rattle.tables.proofs.KeyTests.{is_customer-key}
 use Rattle.laws.proofs.Updates.{equal}
 use Rattle.plain.specs.Amounts.{amount_at}
 

@@ -1,12 +1,11 @@
 -- The plain population is consistent (TPC-C 3.3.2).
 use Rattle.std.proofs.Common.{◌≡◌, ℕ, ◌*◌, ℤ, pos, ◌+ℤ◌, ◌-ℤ◌, Bool, true, false, cond, ◌&&◌, ◌==◌, Option, Some, None, is_some, refl, sym, ap, ◌∙◌, subst, arith}
 use Rattle.std.specs.Option.{option_map_or}
-use Rattle.std.specs.Ordering.{eq_by_cmp}
 use Rattle.std.specs.FinMap.{FinMap}
 use Rattle.std.specs.declared.cmp.Ordering.{Ordering}
 use Rattle.std.proofs.lemmas.Bool.Decides.{nat_tests}
 use Rattle.tables.specs.Sizes.{Sizes}
-use Rattle.tables.specs.Keys.{district_cmp, IsWarehouseKey, IsDistrictKey, IsCustomerKey, is_district, is_customer}
+use Rattle.tables.specs.Keys.{IsWarehouseKey, IsDistrictKey, IsCustomerKey, is_district, is_customer}
 use Rattle.tables.specs.Maps.{sum_of, total, column}
 use Rattle.tables.specs.Database.{Database}
 use Rattle.tables.specs.Conditions.{delivered_amount, customer_history, Condition1At, Condition8At, Condition9At, Condition10At, Condition12At, IsConsistent}
@@ -14,13 +13,10 @@ use Rattle.tables.specs.declared.keys.DistrictKey.{DistrictKey}
 use Rattle.tables.specs.declared.keys.CustomerKey.{CustomerKey}
 use Rattle.tables.specs.declared.rows.History.{History}
 use Rattle.tables.proofs.Orders.{exact_district, exact_line}
+use Rattle.tables.proofs.KeyTests.{is_district-key}
 use Rattle.population.specs.Plain.{numbers, plain_history_row, district_payments, warehouse_payments, plain_history, is_delivered, IsTable, IsPlain}
 use Rattle.population.proofs.Sound.{each}
 use Rattle.population.proofs.Sums.{sum_each, sum_none, sum_one, sum_joined, sum_listed, total_same, total_at, total_sums, total_none}
-
--- the test of a district key's columns is the test by the keys' order
-is_district-key : (w d : ℕ) (k : DistrictKey) → is_district w d k ≡ eq_by_cmp district_cmp (record { warehouse = w; district = d }) k
-is_district-key w d k = grind (arith, nat_tests)
 
 -- ---- columns of the plain population
 column_of : {K X : Type 0} {R : K → K → Ordering} {IsKey : K → Type 0} {row : K → X} {m : FinMap R X} (f : X → ℤ) → IsTable IsKey row m → (k : K) → IsKey k → column f m k ≡ f (row k)

@@ -12,11 +12,10 @@ use Rattle.lines.specs.Lines.{HasNoLineFeed, IsCut, held, held_after, last_line,
 use Rattle.lines.specs.Output.{answer_text}
 use Rattle.lines.specs.declared.answer.Answer.{Answer}
 use Rattle.lines.proofs.Cutting.{lines_first, lines_of_cut, cut_line, cut_more, held_more}
-use Rattle.script.specs.declared.running.Desk.{Desk}
 use Rattle.script.specs.Session.{state_of}
 use Rattle.script.specs.Turns.{State, Turn, IsLineTurn, AreTurns}
 use Rattle.script.specs.Written.{start, answers_text}
-use Rattle.script.specs.Answered.{HasAnswered, HasAnsweredAll, HasTooMany}
+use Rattle.script.specs.Answered.{Standing, HasAnswered, HasAnsweredAll, HasTooMany}
 use Rattle.script.proofs.TurnLemmas.{held_some}
 
 -- one more line
@@ -42,20 +41,20 @@ lines_of_more text lines rest later cut =
     ap lines_of (ap (λ t. t ++ later) cut.whole ∙ append_assoc _ rest later) ∙ lines_begun lines (rest ++ later) cut.each
 
 -- the answer stands behind those before
-more_output : (written : List ℕ) (d e : Desk) (turn : Turn) (answers : List Answer) → answers_text answers ≡ written ++ string_bytes d.output → string_bytes e.output ≡ string_bytes d.output ++ (answer_text turn.answer ++ codes "\n") → answers_text (answers ++ turn.answer ∷ []) ≡ written ++ string_bytes e.output
+more_output : (written : List ℕ) (d e : Standing) (turn : Turn) (answers : List Answer) → answers_text answers ≡ written ++ d.output → e.output ≡ d.output ++ (answer_text turn.answer ++ codes "\n") → answers_text (answers ++ turn.answer ∷ []) ≡ written ++ e.output
 more_output written d e turn answers before after =
     sym (flat_map_more (λ told. answer_text told ++ codes "\n") [] answers turn.answer)
     ∙ ap (λ t. t ++ (answer_text turn.answer ++ codes "\n")) before
-    ∙ append_assoc written (string_bytes d.output) (answer_text turn.answer ++ codes "\n")
+    ∙ append_assoc written (d.output) (answer_text turn.answer ++ codes "\n")
     ∙ ap (λ t. written ++ t) (sym after)
 
 -- the held line ends, and is answered
-pub line_answered : (tables : Database) (text written end : List ℕ) (d e : Desk) (h : HasAnswered tables text written d) → HasNoLineFeed end
-    → (turn : Turn) × IsLineTurn (state_of d.session) (d.answered + 1) (h.rest ++ end) turn × (state_of e.session ≡ turn.state) × (string_bytes e.output ≡ string_bytes d.output ++ (answer_text turn.answer ++ codes "\n"))
+pub line_answered : (tables : Database) (text written end : List ℕ) (d e : Standing) (h : HasAnswered tables text written d) → HasNoLineFeed end
+    → (turn : Turn) × IsLineTurn (state_of tables d.session) (d.answered + 1) (h.rest ++ end) turn × ((state_of tables e.session) ≡ turn.state) × (e.output ≡ d.output ++ (answer_text turn.answer ++ codes "\n"))
     → e.answered ≡ d.answered + 1 → e.line ≡ Some [] → HasAnswered tables (text ++ (end ++ 10 ∷ [])) written e
 line_answered tables text written end d e h feeds t count line =
     let number : d.answered + 1 ≡ 1 + length h.lines = omega (arith, h.count) in
-    let turn = subst (λ k. IsLineTurn (state_of d.session) k (h.rest ++ end) t.0) number t.1 in
+    let turn = subst (λ k. IsLineTurn (state_of tables d.session) k (h.rest ++ end) t.0) number t.1 in
     record {
       lines = h.lines ++ (h.rest ++ end) ∷ [];
       rest = [];
@@ -63,13 +62,13 @@ line_answered tables text written end d e h feeds t count line =
       cut = cut_line text h.lines h.rest end h.cut feeds;
       line_is = line;
       turns = subst (λ s. AreTurns (start tables) 1 (h.lines ++ (h.rest ++ end) ∷ []) (h.answers ++ t.0.answer ∷ []) s) (sym t.2)
-          (turns_more (start tables) 1 h.lines h.answers (state_of d.session) (h.rest ++ end) t.0 h.turns turn);
+          (turns_more (start tables) 1 h.lines h.answers (state_of tables d.session) (h.rest ++ end) t.0 h.turns turn);
       count = count ∙ ap (λ n. n + 1) h.count ∙ sym (length_push _ _);
       output_is = more_output written d e t.0 h.answers h.output_is t.3;
     }
 
 -- the held line goes on
-pub more_held : (tables : Database) (text written more : List ℕ) (d : Desk) (line : Option (List ℕ)) → HasAnswered tables text written d → HasNoLineFeed more → line ≡ held_after d.line more → HasAnswered tables (text ++ more) written (record d { line = line })
+pub more_held : (tables : Database) (text written more : List ℕ) (d : Standing) (line : Option (List ℕ)) → HasAnswered tables text written d → HasNoLineFeed more → line ≡ held_after d.line more → HasAnswered tables (text ++ more) written (record d { line = line })
 more_held tables text written more d line h feeds is = record {
   lines = h.lines;
   rest = h.rest ++ more;
@@ -88,38 +87,38 @@ some_last (b ∷ rest) some =
     ap (λ t. cond t [] ((b ∷ rest) ∷ [])) more
 
 -- there is no last line
-pub last_empty : (tables : Database) (text written : List ℕ) (d : Desk) → HasAnswered tables text written d → d.line ≡ Some [] → HasAnsweredAll tables text written d
+pub last_empty : (tables : Database) (text written : List ℕ) (d : Standing) → HasAnswered tables text written d → d.line ≡ Some [] → HasAnsweredAll tables text written d
 last_empty tables text written d h empty =
     let none : h.rest ≡ [] = (held_some h.rest [] (sym empty ∙ h.line_is)).1 in
     let all : lines_of text ≡ h.lines = lines_of_cut text h.lines h.rest h.cut ∙ ap (λ r. h.lines ++ last_line r) none ∙ append-nil h.lines in
     record {
       answers = h.answers;
-      turns = subst (λ ls. AreTurns (start tables) 1 ls h.answers (state_of d.session)) (sym all) h.turns;
+      turns = subst (λ ls. AreTurns (start tables) 1 ls h.answers (state_of tables d.session)) (sym all) h.turns;
       output_is = h.output_is;
     }
 
-all_lines : (tables : Database) (text written : List ℕ) (d : Desk) (h : HasAnswered tables text written d) → (d.line ≡ Some [] → ⊥) → lines_of text ≡ h.lines ++ h.rest ∷ []
+all_lines : (tables : Database) (text written : List ℕ) (d : Standing) (h : HasAnswered tables text written d) → (d.line ≡ Some [] → ⊥) → lines_of text ≡ h.lines ++ h.rest ∷ []
 all_lines tables text written d h some =
     let some_rest : h.rest ≡ [] → ⊥ = λ e. some (h.line_is ∙ ap held e) in
     lines_of_cut text h.lines h.rest h.cut ∙ ap (λ l. h.lines ++ l) (some_last h.rest some_rest)
 
 -- the last line is answered
-pub last_answered : (tables : Database) (text written : List ℕ) (d e : Desk) (h : HasAnswered tables text written d) → (d.line ≡ Some [] → ⊥)
-    → (turn : Turn) × IsLineTurn (state_of d.session) (d.answered + 1) h.rest turn × (state_of e.session ≡ turn.state) × (string_bytes e.output ≡ string_bytes d.output ++ (answer_text turn.answer ++ codes "\n"))
+pub last_answered : (tables : Database) (text written : List ℕ) (d e : Standing) (h : HasAnswered tables text written d) → (d.line ≡ Some [] → ⊥)
+    → (turn : Turn) × IsLineTurn (state_of tables d.session) (d.answered + 1) h.rest turn × ((state_of tables e.session) ≡ turn.state) × (e.output ≡ d.output ++ (answer_text turn.answer ++ codes "\n"))
     → HasAnsweredAll tables text written e
 last_answered tables text written d e h some t =
     let number : d.answered + 1 ≡ 1 + length h.lines = omega (arith, h.count) in
-    let turn = subst (λ k. IsLineTurn (state_of d.session) k h.rest t.0) number t.1 in
-    let turns = turns_more (start tables) 1 h.lines h.answers (state_of d.session) h.rest t.0 h.turns turn in
+    let turn = subst (λ k. IsLineTurn (state_of tables d.session) k h.rest t.0) number t.1 in
+    let turns = turns_more (start tables) 1 h.lines h.answers (state_of tables d.session) h.rest t.0 h.turns turn in
     record {
       answers = h.answers ++ t.0.answer ∷ [];
-      turns = subst (λ ls. AreTurns (start tables) 1 ls (h.answers ++ t.0.answer ∷ []) (state_of e.session)) (sym (all_lines tables text written d h some))
+      turns = subst (λ ls. AreTurns (start tables) 1 ls (h.answers ++ t.0.answer ∷ []) (state_of tables e.session)) (sym (all_lines tables text written d h some))
           (subst (λ s. AreTurns (start tables) 1 (h.lines ++ h.rest ∷ []) (h.answers ++ t.0.answer ∷ []) s) (sym t.2) turns);
       output_is = more_output written d e t.0 h.answers h.output_is t.3;
     }
 
 -- a line that ends beyond the last number
-pub too_many : (tables : Database) (text written end : List ℕ) (d : Desk) → HasAnswered tables text written d → HasNoLineFeed end → 4000000000 ≤ d.answered → HasTooMany (text ++ (end ++ 10 ∷ []))
+pub too_many : (tables : Database) (text written end : List ℕ) (d : Standing) → HasAnswered tables text written d → HasNoLineFeed end → 4000000000 ≤ d.answered → HasTooMany (text ++ (end ++ 10 ∷ []))
 too_many tables text written end d h feeds full later =
     let cut = cut_line text h.lines h.rest end h.cut feeds in
     let all = ap length (lines_of_more (text ++ (end ++ 10 ∷ [])) (h.lines ++ (h.rest ++ end) ∷ []) [] later cut) in
@@ -133,17 +132,17 @@ pub too_many_more : (text more : List ℕ) → HasTooMany text → HasTooMany (t
 too_many_more text more many later = subst (λ t. 4000000000 < length (lines_of t)) (sym (append_assoc text more later)) (many (more ++ later))
 
 -- a last line beyond the last number
-pub last_too_many : (tables : Database) (text written : List ℕ) (d : Desk) → HasAnswered tables text written d → (d.line ≡ Some [] → ⊥) → 4000000000 ≤ d.answered → 4000000000 < length (lines_of text)
+pub last_too_many : (tables : Database) (text written : List ℕ) (d : Standing) → HasAnswered tables text written d → (d.line ≡ Some [] → ⊥) → 4000000000 ≤ d.answered → 4000000000 < length (lines_of text)
 last_too_many tables text written d h some full =
     let all = ap length (all_lines tables text written d h some) ∙ length_push _ _ in
     let answered = h.count in
     omega arith
 
 -- the line that is taken from a piece is answered
-pub line_taken : (tables : Database) (text written piece rest after : List ℕ) (d e : Desk) (line : Option (List ℕ))
+pub line_taken : (tables : Database) (text written piece rest after : List ℕ) (d e : Standing) (line : Option (List ℕ))
     → (taken : List ℕ) × (piece ≡ taken ++ rest) × HasAnswered tables (text ++ taken) written d
     → (end : List ℕ) × (rest ≡ end ++ 10 ∷ after) × HasNoLineFeed end × (line ≡ held_after d.line end)
-    → ((bytes : List ℕ) → line ≡ held bytes → (turn : Turn) × IsLineTurn (state_of d.session) (d.answered + 1) bytes turn × (state_of e.session ≡ turn.state) × (string_bytes e.output ≡ string_bytes d.output ++ (answer_text turn.answer ++ codes "\n")))
+    → ((bytes : List ℕ) → line ≡ held bytes → (turn : Turn) × IsLineTurn (state_of tables d.session) (d.answered + 1) bytes turn × ((state_of tables e.session) ≡ turn.state) × (e.output ≡ d.output ++ (answer_text turn.answer ++ codes "\n")))
     → e.answered ≡ d.answered + 1 → e.line ≡ Some []
     → (taken : List ℕ) × (piece ≡ taken ++ after) × HasAnswered tables (text ++ taken) written e
 line_taken tables text written piece rest after d e line before ended turn count empty =
@@ -156,7 +155,7 @@ line_taken tables text written piece rest after d e line before ended turn count
     (before.0 ++ (end ++ 10 ∷ []), parts, subst (λ t. HasAnswered tables t written e) (append_assoc text before.0 (end ++ 10 ∷ [])) answered)
 
 -- the line that is taken from a piece is beyond the last number
-pub line_too_many : (tables : Database) (text written piece rest after : List ℕ) (d : Desk) (line : Option (List ℕ))
+pub line_too_many : (tables : Database) (text written piece rest after : List ℕ) (d : Standing) (line : Option (List ℕ))
     → (taken : List ℕ) × (piece ≡ taken ++ rest) × HasAnswered tables (text ++ taken) written d
     → (end : List ℕ) × (rest ≡ end ++ 10 ∷ after) × HasNoLineFeed end × (line ≡ held_after d.line end)
     → 4000000000 ≤ d.answered → HasTooMany (text ++ piece)
@@ -169,7 +168,7 @@ line_too_many tables text written piece rest after d line before ended full =
     subst HasTooMany parts many
 
 -- the rest of a piece, which ends no line, is held
-pub rest_held : (tables : Database) (text written piece rest : List ℕ) (d : Desk) (line : Option (List ℕ))
+pub rest_held : (tables : Database) (text written piece rest : List ℕ) (d : Standing) (line : Option (List ℕ))
     → (taken : List ℕ) × (piece ≡ taken ++ rest) × HasAnswered tables (text ++ taken) written d
     → HasNoLineFeed rest → line ≡ held_after d.line rest → HasAnswered tables (text ++ piece) written (record d { line = line })
 rest_held tables text written piece rest d line before feeds is =

@@ -1,3 +1,4 @@
+pub mod Commits
 pub mod TurnLemmas
 pub mod DeskLemmas
 pub mod Progress

@@ -9,7 +9,7 @@ use Rattle.lines.specs.Lines.{lines_of}
 use Rattle.lines.specs.Report.{report_text}
 use Rattle.plain.specs.Check.{Finds, IsReportOf}
 use Rattle.plain.specs.declared.report.Report.{Report}
-use Rattle.script.specs.declared.done.Done.{Done}
+use Rattle.book.specs.declared.entry.Done.{Done}
 use Rattle.script.specs.Written.{start, answers_text, verdicts_of, IsWhole}
 use Rattle.script.proofs.OneRun.{one_run}
 

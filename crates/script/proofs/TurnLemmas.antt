@@ -13,18 +13,19 @@ use Rattle.lines.specs.Requests.{HasNumbers, IsWithinReach, IsRefused, request_t
 use Rattle.lines.specs.declared.request.Request.{Request}
 use Rattle.lines.specs.declared.answer.Answer.{Answer}
 use Rattle.lines.specs.declared.answer.Answer.TheVariants as answer
-use Rattle.script.specs.declared.done.Done.{Done}
+use Rattle.book.specs.History.{commit_word}
+use Rattle.book.specs.declared.entry.Done.{Done}
+use Rattle.script.specs.Session.{IsNext}
 use Rattle.script.specs.Turns.{State, IsRequestTurn, IsLineTurn, unread, read, answer_of, paid}
 
 -- what a commit leaves
-pub paid_turn : (s : State) (x : Payment) (asked : Input) (d : Done) (told : Answer) (tables : Database) (dones : List Done) → asked ≡ input.Payment x → told ≡ answer_of d.reply → d.number ≡ length s.dones + 1 → d.reply ≡ reply_to s.tables asked → tables ≡ after s.tables asked → dones ≡ s.dones ++ d ∷ [] → record { answer = told; state = record { tables = tables; dones = dones } } ≡ paid s x
-paid_turn s x asked d told tables dones is says number replies moved pushed =
-    let replied : d.reply ≡ reply.Payment (payment_reply s.tables x) = replies ∙ ap (reply_to s.tables) is in
-    let answered : told ≡ answer.Payment (payment_reply s.tables x) = says ∙ ap answer_of replied in
-    let after_it : tables ≡ after s.tables (input.Payment x) = moved ∙ ap (after s.tables) is in
-    let entry : Done = record { number = length s.dones + 1; reply = reply.Payment (payment_reply s.tables x) } in
-    let same : d ≡ entry = λ i. record { number = number i; reply = replied i } in
-    let told_all : dones ≡ s.dones ++ entry ∷ [] = pushed ∙ ap (λ y. s.dones ++ y ∷ []) same in
+pub paid_turn : (s last : State) (x : Payment) (asked : Input) (d : Done) (told : Answer) → asked ≡ input.Payment x → told ≡ answer_of d.reply → IsNext s asked d last → record { answer = told; state = last } ≡ paid s x
+paid_turn s last x asked d told is says next =
+    let entry : Done = record { number = length s.dones + 1; tid = commit_word (length s.dones + 1); reply = reply.Payment (payment_reply s.tables x) } in
+    let same : d ≡ entry = next.told ∙ ap (λ (y : Input). record { number = length s.dones + 1; tid = commit_word (length s.dones + 1); reply = reply_to s.tables y }) is in
+    let answered : told ≡ answer.Payment (payment_reply s.tables x) = says ∙ ap (λ (y : Done). answer_of y.reply) same in
+    let after_it : last.tables ≡ after s.tables (input.Payment x) = next.tables ∙ ap (after s.tables) is in
+    let told_all : last.dones ≡ s.dones ++ entry ∷ [] = next.dones ∙ ap (λ y. s.dones ++ y ∷ []) same in
     λ i. record { answer = answered i; state = record { tables = after_it i; dones = told_all i } }
 
 -- the bytes of a line that is held

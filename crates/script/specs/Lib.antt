@@ -1,4 +1,4 @@
-pub mod Session
 pub mod Turns
 pub mod Written
+pub mod Session
 pub mod Answered

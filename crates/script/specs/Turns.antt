@@ -18,7 +18,8 @@ use Rattle.lines.specs.declared.request.Request.{Request}
 use Rattle.lines.specs.declared.request.Request.TheVariants as request
 use Rattle.lines.specs.declared.answer.Answer.{Answer}
 use Rattle.lines.specs.declared.answer.Answer.TheVariants as answer
-use Rattle.script.specs.declared.done.Done.{Done}
+use Rattle.book.specs.History.{commit_word}
+use Rattle.book.specs.declared.entry.Done.{Done}
 
 -- the committed tables, and what was committed, in order
 pub record State : Type 0 where
@@ -49,7 +50,7 @@ paid s x = record {
   answer = answer.Payment (payment_reply s.tables x);
   state = record {
     tables = after_payment s.tables x;
-    dones = s.dones ++ record { number = length s.dones + 1; reply = reply.Payment (payment_reply s.tables x) } ∷ [];
+    dones = s.dones ++ record { number = length s.dones + 1; tid = commit_word (length s.dones + 1); reply = reply.Payment (payment_reply s.tables x) } ∷ [];
   };
 }
 

@@ -11,7 +11,7 @@ use Rattle.lines.specs.declared.report.Key.TheVariants.{Warehouse, District, Cus
 use Rattle.lines.specs.declared.report.Verdict.{Verdict}
 use Rattle.plain.specs.Check.{IsReportOf}
 use Rattle.plain.specs.declared.report.Report.{Report}
-use Rattle.script.specs.declared.done.Done.{Done}
+use Rattle.book.specs.declared.entry.Done.{Done}
 use Rattle.script.specs.Turns.{State, AreTurns}
 
 -- the state in which nothing is committed

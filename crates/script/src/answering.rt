@@ -9,42 +9,50 @@ ghost use Rattle.lines.specs.Requests.{HasNumbers};
 ghost use Rattle.lines.specs.declared.answer.Answer.TheVariants as answer;
 ghost use Rattle.tables.specs.Database.{database};
 ghost use Rattle.script.specs.Session.{state_of};
-ghost use Rattle.script.specs.Turns.{State, IsPaymentTurn, IsRequestTurn, IsLineTurn, shown};
+ghost use Rattle.script.specs.Turns.{State, IsPaymentTurn, IsRequestTurn, IsLineTurn, shown, answer_of};
 
 use crate::session::Session;
+use book::Run;
 use lines::{Answer, Request, read_request};
 use money::Refusal;
-use tables::{CustomerKey, DistrictKey, Input, Payment, Tables, Who};
+use std::sync::Wait;
+use tables::{CustomerKey, DistrictKey, Input, Payment, Reply, Tables, Who};
 
 /// Answers the line of a script that has this number, which is its date too. `None` is a line that is too
 /// long. What the line asks is done or refused, and the answer tells which; only want of memory is a
 /// refusal of this call, and then nothing is done.
-pub fn answer_line(
-    session: &mut Session,
+pub fn answer_line<K: Run, R: Wait>(
+    rt: &R,
+    session: &mut Session<'_, K>,
     line: Option<&[u8]>,
     number: u32,
 ) -> Result<Answer, Refusal>
     ensures memory { IfErr result (λ refusal. refusal ≡ OutOfMemory) }
     ensures turn { IfOk result (λ answer. (bytes : List ℕ) → option_copied line.entry ≡ held bytes
-        → IsLineTurn (state_of session.old) number bytes (record { answer = answer; state = state_of session.new })) }
-    ensures err { OnErr result (state_of session.new ≡ state_of session.old) }
+        → IsLineTurn (state_of K.first session.old) number bytes (record { answer = answer; state = state_of K.first session.new })) }
+    ensures err { OnErr result (session.new ≡ session.old) }
 {
     let Some(text) = line else {
         return Ok(refused(Refusal::BadLine, number));
     };
     match read_request(text) {
-        Ok(request) => answer_request(session, request, number),
+        Ok(request) => answer_request(rt, session, request, number),
         Err(refusal) => Ok(refused(refusal, number)),
     }
 }
 
 /// Answers a request.
-fn answer_request(session: &mut Session, request: Request, number: u32) -> Result<Answer, Refusal>
+fn answer_request<K: Run, R: Wait>(
+    rt: &R,
+    session: &mut Session<'_, K>,
+    request: Request,
+    number: u32,
+) -> Result<Answer, Refusal>
     ensures memory { IfErr result (λ refusal. refusal ≡ OutOfMemory) }
     ensures turn { IfOk result (λ answer.
-        IsRequestTurn (state_of session.old) number request (record { answer = answer; state = state_of session.new })) }
+        IsRequestTurn (state_of K.first session.old) number request (record { answer = answer; state = state_of K.first session.new })) }
     ensures numbers { HasNumbers request }
-    ensures err { OnErr result (state_of session.new ≡ state_of session.old) }
+    ensures err { OnErr result (session.new ≡ session.old) }
 {
     match request {
         Request::Payment {
@@ -64,7 +72,7 @@ fn answer_request(session: &mut Session, request: Request, number: u32) -> Resul
                 who: Who::Id(customer),
                 amount,
             };
-            pay(session, payment)
+            pay(rt, session, payment)
         }
         Request::ShowWarehouse { warehouse } => {
             let row = show_warehouse(session.tables(), warehouse);
@@ -88,32 +96,48 @@ fn answer_request(session: &mut Session, request: Request, number: u32) -> Resul
             district,
             customer,
         } => {
-            let key = CustomerKey {
-                warehouse,
-                district,
-                customer,
-            };
-            Ok(row_or_refused(show_customer(session.tables(), key), number))
+            let row = show_customer(
+                session.tables(),
+                CustomerKey {
+                    warehouse,
+                    district,
+                    customer,
+                },
+            );
+            Ok(row_or_refused(row, number))
         }
     }
 }
 
 /// Commits a Payment.
-fn pay(session: &mut Session, payment: Payment) -> Result<Answer, Refusal>
+fn pay<K: Run, R: Wait>(
+    rt: &R,
+    session: &mut Session<'_, K>,
+    payment: Payment,
+) -> Result<Answer, Refusal>
     ensures memory { IfErr result (λ refusal. refusal ≡ OutOfMemory) }
     ensures turn { IfOk result (λ answer.
-        IsPaymentTurn (state_of session.old) payment (record { answer = answer; state = state_of session.new })) }
-    ensures err { OnErr result (state_of session.new ≡ state_of session.old) }
+        IsPaymentTurn (state_of K.first session.old) payment (record { answer = answer; state = state_of K.first session.new })) }
+    ensures err { OnErr result (session.new ≡ session.old) }
 {
     let number = payment.date;
     let input = match Input::payment(&session.tables().scale, payment) {
         Ok(input) => input,
         Err(refusal) => return Ok(refused(refusal, number)),
     };
-    match session.commit(&input) {
-        Ok(done) => Ok(done.answer()),
+    match session.commit(rt, &input) {
+        Ok(done) => Ok(told(done.reply())),
         Err(Refusal::CommitsFull) => Ok(refused(Refusal::CommitsFull, number)),
         Err(refusal) => Err(refusal),
+    }
+}
+
+/// What a terminal is told of a reply.
+fn told(reply: Reply) -> Answer
+    ensures { result ≡ answer_of reply }
+{
+    match reply {
+        Reply::Payment(reply) => Answer::Payment(reply),
     }
 }
 

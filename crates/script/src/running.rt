@@ -3,24 +3,26 @@
 ghost use Rattle.std.specs.Prelude.{◌≡◌, ◌⊎◌, ◌≤◌, ◌<◌, ◌+◌, ℕ, Some, List, [], ◌++◌, length, take, codes, string_bytes, IfErr, IfOk, OnOk, OnErr, IsErrOf};
 ghost use Rattle.std.specs.Io.KnownBytes.{Appends, Consumes, IsAtEnd};
 ghost use Rattle.money.specs.declared.refusal.Refusal.TheVariants.{OutOfMemory, BadInput, Device};
-ghost use Rattle.tables.specs.Database.{Database};
 ghost use Rattle.population.specs.Initial.{initial};
 ghost use Rattle.lines.specs.Lines.{held, lines_of};
 ghost use Rattle.lines.specs.Output.{answer_text};
+ghost use Rattle.book.specs.Parts.{IsFresh, first_of, cells_of, ledger_name, ledger_parts, terminals_of};
 ghost use Rattle.script.specs.Session.{state_of};
 ghost use Rattle.script.specs.Turns.{Turn, IsLineTurn};
 ghost use Rattle.script.specs.Written.{verdicts_of, IsWhole, IsBeginning};
-ghost use Rattle.script.specs.Answered.{HasAnswered, HasAnsweredAll, HasTooMany};
+ghost use Rattle.script.specs.Answered.{standing_of, HasAnswered, HasAnsweredAll, HasTooMany};
 
 use crate::answering::answer_line;
-use crate::done::Done;
 use crate::session::Session;
+use book::{Done, Engine, Parts, Run, Seat};
 use lines::{Key, LineBuffer, Verdict, print_report};
 use money::Refusal;
 use plain::Report;
 use population::Population;
 use std::alloc::Global;
 use std::io::{ErrorKind, Read, Write};
+use std::marker::Brand;
+use std::sync::Wait;
 
 /// The most bytes that are read at once.
 const PIECE: usize = 65_536;
@@ -42,7 +44,8 @@ const MAX_LINES: u32 = 4_000_000_000;
 /// Refuses by `Device` where the reader or the writer fails, or comes to no end in 2^64 - 1 calls, by `BadInput`
 /// only where there are more than 4,000,000,000 lines, and else for memory. What was written by then is a
 /// beginning of that text.
-pub fn script<R: Read, W: Write>(
+pub fn script<R: Read, W: Write, T: Wait>(
+    rt: &T,
     alloc: Global,
     population: Population,
     reader: &mut R,
@@ -57,103 +60,162 @@ pub fn script<R: Read, W: Write>(
         → 4000000000 < length (lines_of bytes) }
     ensures refusals { IfErr result (λ refusal. (refusal ≡ OutOfMemory) ⊎ (refusal ≡ BadInput) ⊎ (refusal ≡ Device)) }
 {
-    let mut desk = Desk::new(alloc, population)?;
-    let mut piece = vec![in alloc; 0u8; PIECE]?;
-    desk.answer_all(&mut piece, reader, writer)?;
-    let (report, dones) = desk.close(alloc, writer)?;
-    Ok((report, dones))
+    let parts = Parts::new(rt, alloc, population, 1)?;
+    run::<Brand, R, W, T>(rt, alloc, parts, reader, writer)
+}
+
+/// Answers the lines, over the one terminal of an engine of these parts, and then reports.
+fn run<K: Run, R: Read, W: Write, T: Wait>(
+    rt: &T,
+    alloc: Global,
+    parts: Parts,
+    reader: &mut R,
+    writer: &mut W,
+) -> Result<(Report, Vec<Done>), Refusal>
+    requires fresh { IsFresh parts }
+    requires one { terminals_of parts ≡ 1 }
+    requires run { (first_of parts ≡ K.first) × (cells_of parts ≡ K.cells) }
+    requires ledger { (ledger_name parts ≡ K.name) × (ledger_parts parts ≡ K.parts) }
+    ensures whole { IfOk result (λ closed. (bytes : List ℕ) → R.remaining reader.old ≡ Some bytes → (text : List ℕ)
+        × Appends (W.contents writer.old) (W.contents writer.new) text
+        × IsWhole K.first bytes text closed.0 closed.1.items) }
+    ensures beginning { OnErr result ((bytes : List ℕ) → R.remaining reader.old ≡ Some bytes → (front : List ℕ)
+        × Appends (W.contents writer.old) (W.contents writer.new) front × IsBeginning K.first bytes front) }
+    ensures too_many { IsErrOf result BadInput → (bytes : List ℕ) → R.remaining reader.old ≡ Some bytes
+        → 4000000000 < length (lines_of bytes) }
+    ensures refusals { IfErr result (λ refusal. (refusal ≡ OutOfMemory) ⊎ (refusal ≡ BadInput) ⊎ (refusal ≡ Device)) }
+{
+    let (engine, mut seats) = Engine::<K>::open(parts);
+    let Some(seat) = seats.next() else {
+        unreachable!();
+    };
+    let desk = Desk::new(rt, alloc, &engine, seat)?;
+    desk.run(rt, alloc, reader, writer)
 }
 
 /// A session with the line that is coming in and the answers that aren't written yet.
 #[derive(Drop)]
-struct Desk {
-    session: Session,
+struct Desk<'e, K: Run> {
+    session: Session<'e, K>,
     line: LineBuffer,
     /// How many lines were answered.
     answered: u32,
     output: String,
 }
 
-impl Desk {
-    fn new(alloc: Global, population: Population) -> Result<Desk, Refusal>
-        ensures start { IfOk result (λ desk. HasAnswered (initial population) [] [] desk) }
+impl<'e, K: Run> Desk<'e, K> {
+    fn new<T: Wait>(
+        rt: &T,
+        alloc: Global,
+        engine: &'e Engine<K>,
+        seat: Seat<K>,
+    ) -> Result<Desk<'e, K>, Refusal>
+        requires reader { seat.reader.cells ≡ K.cells }
+        requires only { seat.share.parts ≡ K.parts }
+        requires none { seat.share.commits ≡ 0 }
+        ensures start { IfOk result (λ desk. HasAnswered K.first [] [] (standing_of desk)) }
         ensures memory { IfErr result (λ refusal. refusal ≡ OutOfMemory) }
     {
         Ok(Desk {
-            session: Session::new(alloc, population),
+            session: Session::open(rt, alloc, engine, seat),
             line: LineBuffer::new(alloc)?,
             answered: 0,
             output: String::new(alloc),
         })
     }
 
+    /// Answers all lines that a reader gives, and writes the report behind the last answer.
+    fn run<R: Read, W: Write, T: Wait>(
+        self,
+        rt: &T,
+        alloc: Global,
+        reader: &mut R,
+        writer: &mut W,
+    ) -> Result<(Report, Vec<Done>), Refusal>
+        requires start { HasAnswered K.first [] [] (standing_of self) }
+        ensures whole { IfOk result (λ closed. (bytes : List ℕ) → R.remaining reader.old ≡ Some bytes → (text : List ℕ)
+            × Appends (W.contents writer.old) (W.contents writer.new) text
+            × IsWhole K.first bytes text closed.0 closed.1.items) }
+        ensures beginning { OnErr result ((bytes : List ℕ) → R.remaining reader.old ≡ Some bytes → (front : List ℕ)
+            × Appends (W.contents writer.old) (W.contents writer.new) front × IsBeginning K.first bytes front) }
+        ensures too_many { IsErrOf result BadInput → (bytes : List ℕ) → R.remaining reader.old ≡ Some bytes
+            → 4000000000 < length (lines_of bytes) }
+        ensures refusals { IfErr result (λ refusal. (refusal ≡ OutOfMemory) ⊎ (refusal ≡ BadInput) ⊎ (refusal ≡ Device)) }
+    {
+        let mut desk = self;
+        let mut piece = vec![in alloc; 0u8; PIECE]?;
+        desk.answer_all(rt, &mut piece, reader, writer)?;
+        desk.close(writer)
+    }
+
     /// Answers all lines that a reader gives, which come through `piece`. The answers to the last ones aren't
     /// written yet.
-    fn answer_all<R: Read, W: Write>(
+    fn answer_all<R: Read, W: Write, T: Wait>(
         &mut self,
+        rt: &T,
         piece: &mut [u8],
         reader: &mut R,
         writer: &mut W,
     ) -> Result<(), Refusal>
         requires { 0 < length piece.old }
-        ensures all { OnOk result ((tables : Database) (bytes : List ℕ) → R.remaining reader.old ≡ Some bytes
-            → HasAnswered tables [] [] self.old → (written : List ℕ)
-            × Appends (W.contents writer.old) (W.contents writer.new) written × HasAnsweredAll tables bytes written self.new) }
-        ensures beginning { OnErr result ((tables : Database) (bytes : List ℕ) → R.remaining reader.old ≡ Some bytes
-            → HasAnswered tables [] [] self.old → (front : List ℕ)
-            × Appends (W.contents writer.old) (W.contents writer.new) front × IsBeginning tables bytes front) }
-        ensures too_many { IsErrOf result BadInput → (tables : Database) (bytes : List ℕ) → R.remaining reader.old ≡ Some bytes
-            → HasAnswered tables [] [] self.old → 4000000000 < length (lines_of bytes) }
+        ensures all { OnOk result ((bytes : List ℕ) → R.remaining reader.old ≡ Some bytes
+            → HasAnswered K.first [] [] (standing_of self.old) → (written : List ℕ)
+            × Appends (W.contents writer.old) (W.contents writer.new) written × HasAnsweredAll K.first bytes written (standing_of self.new)) }
+        ensures beginning { OnErr result ((bytes : List ℕ) → R.remaining reader.old ≡ Some bytes
+            → HasAnswered K.first [] [] (standing_of self.old) → (front : List ℕ)
+            × Appends (W.contents writer.old) (W.contents writer.new) front × IsBeginning K.first bytes front) }
+        ensures too_many { IsErrOf result BadInput → (bytes : List ℕ) → R.remaining reader.old ≡ Some bytes
+            → HasAnswered K.first [] [] (standing_of self.old) → 4000000000 < length (lines_of bytes) }
         ensures refusals { IfErr result (λ refusal. (refusal ≡ OutOfMemory) ⊎ (refusal ≡ BadInput) ⊎ (refusal ≡ Device)) }
     {
         for _ in 0..u64::MAX {
             self.write(writer)?;
             let count = read_piece(reader, piece)?;
             if count == 0 {
-                self.answer_last()?;
+                self.answer_last(rt)?;
                 return Ok(());
             }
-            self.answer_lines(&piece[..count])?;
+            self.answer_lines(rt, &piece[..count])?;
         }
         Err(Refusal::Device)
     }
 
     /// Answers the lines that a piece of the input ends.
-    fn answer_lines(&mut self, piece: &[u8]) -> Result<(), Refusal>
-        ensures ok { OnOk result ((tables : Database) (text written : List ℕ) → HasAnswered tables text written self.old
-            → HasAnswered tables (text ++ piece.now) written self.new) }
-        ensures too_many { IsErrOf result BadInput → (tables : Database) (text written : List ℕ)
-            → HasAnswered tables text written self.old → HasTooMany (text ++ piece.now) }
+    fn answer_lines<T: Wait>(&mut self, rt: &T, piece: &[u8]) -> Result<(), Refusal>
+        ensures ok { OnOk result ((text written : List ℕ) → HasAnswered K.first text written (standing_of self.old)
+            → HasAnswered K.first (text ++ piece.now) written (standing_of self.new)) }
+        ensures too_many { IsErrOf result BadInput → (text written : List ℕ)
+            → HasAnswered K.first text written (standing_of self.old) → HasTooMany (text ++ piece.now) }
         ensures refusals { IfErr result (λ refusal. (refusal ≡ OutOfMemory) ⊎ (refusal ≡ BadInput)) }
     {
         let mut rest = piece;
         while let Some(after) = self.line.take_line(rest) {
             rest = after;
-            self.answer_held()?;
+            self.answer_held(rt)?;
         }
         Ok(())
     }
 
     /// Answers a last line that no line feed ends.
-    fn answer_last(&mut self) -> Result<(), Refusal>
-        ensures ok { OnOk result ((tables : Database) (text written : List ℕ) → HasAnswered tables text written self.old
-            → HasAnsweredAll tables text written self.new) }
-        ensures too_many { IsErrOf result BadInput → (tables : Database) (text written : List ℕ)
-            → HasAnswered tables text written self.old → 4000000000 < length (lines_of text) }
+    fn answer_last<T: Wait>(&mut self, rt: &T) -> Result<(), Refusal>
+        ensures ok { OnOk result ((text written : List ℕ) → HasAnswered K.first text written (standing_of self.old)
+            → HasAnsweredAll K.first text written (standing_of self.new)) }
+        ensures too_many { IsErrOf result BadInput → (text written : List ℕ)
+            → HasAnswered K.first text written (standing_of self.old) → 4000000000 < length (lines_of text) }
         ensures refusals { IfErr result (λ refusal. (refusal ≡ OutOfMemory) ⊎ (refusal ≡ BadInput)) }
     {
         if self.line.is_empty() {
             return Ok(());
         }
-        self.answer_held()?;
+        self.answer_held(rt)?;
         Ok(())
     }
 
     /// Answers the line that is held.
-    fn answer_held(&mut self) -> Result<(), Refusal>
+    fn answer_held<T: Wait>(&mut self, rt: &T) -> Result<(), Refusal>
         ensures turn { OnOk result ((bytes : List ℕ) → self.old.line ≡ held bytes → (turn : Turn)
-            × IsLineTurn (state_of self.old.session) (self.old.answered + 1) bytes turn
-            × (state_of self.new.session ≡ turn.state)
+            × IsLineTurn (state_of K.first self.old.session) (self.old.answered + 1) bytes turn
+            × (state_of K.first self.new.session ≡ turn.state)
             × (string_bytes self.new.output ≡ string_bytes self.old.output ++ (answer_text turn.answer ++ codes "\n"))) }
         ensures count { OnOk result (self.new.answered ≡ self.old.answered + 1) }
         ensures line { OnOk result (self.new.line ≡ Some []) }
@@ -164,7 +226,7 @@ impl Desk {
             return Err(Refusal::BadInput);
         }
         self.answered += 1;
-        let answer = answer_line(&mut self.session, self.line.line(), self.answered)?;
+        let answer = answer_line(rt, &mut self.session, self.line.line(), self.answered)?;
         self.line.clear();
         answer.print(&mut self.output)?;
         Ok(())
@@ -172,9 +234,9 @@ impl Desk {
 
     /// Writes the answers that aren't written yet.
     fn write<W: Write>(&mut self, writer: &mut W) -> Result<(), Refusal>
-        ensures ok { OnOk result ((tables : Database) (text written : List ℕ) → HasAnswered tables text written self.old
+        ensures ok { OnOk result ((text written : List ℕ) → HasAnswered K.first text written (standing_of self.old)
             → (more : List ℕ) × Appends (W.contents writer.old) (W.contents writer.new) more
-            × HasAnswered tables text (written ++ more) self.new) }
+            × HasAnswered K.first text (written ++ more) (standing_of self.new)) }
         ensures err { OnErr result ((front rest : List ℕ) × (string_bytes self.old.output ≡ front ++ rest)
             × Appends (W.contents writer.old) (W.contents writer.new) front) }
         ensures device { IfErr result (λ refusal. refusal ≡ Device) }
@@ -188,15 +250,15 @@ impl Desk {
     }
 
     /// Writes the report behind the last answers.
-    fn close<W: Write>(self, alloc: Global, writer: &mut W) -> Result<(Report, Vec<Done>), Refusal>
-        ensures whole { IfOk result (λ closed. (tables : Database) (bytes written : List ℕ)
-            → HasAnsweredAll tables bytes written self → (more : List ℕ)
+    fn close<W: Write>(self, writer: &mut W) -> Result<(Report, Vec<Done>), Refusal>
+        ensures whole { IfOk result (λ closed. (bytes written : List ℕ)
+            → HasAnsweredAll K.first bytes written (standing_of self.entry) → (more : List ℕ)
             × Appends (W.contents writer.old) (W.contents writer.new) more
-            × IsWhole tables bytes (written ++ more) closed.0 closed.1.items) }
-        ensures beginning { OnErr result ((tables : Database) (bytes written : List ℕ)
-            → HasAnsweredAll tables bytes written self → (more : List ℕ)
+            × IsWhole K.first bytes (written ++ more) closed.0 closed.1.items) }
+        ensures beginning { OnErr result ((bytes written : List ℕ)
+            → HasAnsweredAll K.first bytes written (standing_of self.entry) → (more : List ℕ)
             × Appends (W.contents writer.old) (W.contents writer.new) more
-            × IsBeginning tables bytes (written ++ more)) }
+            × IsBeginning K.first bytes (written ++ more)) }
         ensures refusals { IfErr result (λ refusal. (refusal ≡ OutOfMemory) ⊎ (refusal ≡ Device)) }
     {
         let Desk {
@@ -205,7 +267,7 @@ impl Desk {
             answered: _,
             mut output,
         } = self;
-        let (report, dones) = session.close(alloc)?;
+        let (report, dones) = session.close()?;
         print_report(dones.len() as u64, &verdicts(&report), &mut output)?;
         write_text(writer, output.as_bytes())?;
         Ok((report, dones))

@@ -1,11 +1,13 @@
 //! Whole scripts, by what they write.
 
-use crate::{Done, script};
+use crate::script;
+use book::Done;
 use money::{Cents, Refusal};
 use plain::Report;
 use population::Population;
 use std::alloc::Global;
 use std::io::{self, ErrorKind, Read, Write};
+use std::sync::Wait;
 use std::test::Fail;
 use tables::{PaymentReply, Reply, Scale};
 
@@ -15,13 +17,14 @@ fn small(alloc: Global, commits: u32) -> Result<Population, Refusal> {
     Population::plain(alloc, Scale::new(1, 2, 10, 20, 30, commits)?)
 }
 
-fn answers<R: Read>(
+fn answers<R: Read, T: Wait>(
+    rt: &T,
     alloc: Global,
     commits: u32,
     reader: &mut R,
 ) -> Result<(Vec<u8>, Report, Vec<Done>), Refusal> {
     let mut written = Vec::new(alloc);
-    let (report, dones) = script(alloc, small(alloc, commits)?, reader, &mut written)?;
+    let (report, dones) = script(rt, alloc, small(alloc, commits)?, reader, &mut written)?;
     Ok((written, report, dones))
 }
 
@@ -107,10 +110,10 @@ fn worked_rows(rt: HostRuntime) -> Result<(), Fail> {
     ];
     for (commits, input, replies, committed) in rows {
         let expected = format!(in rt.alloc(); "{replies}commits {committed}\n{GOOD}")?;
-        let (written, report, _) = answers(rt.alloc(), commits, &mut input.as_bytes())?;
+        let (written, report, _) = answers(&rt, rt.alloc(), commits, &mut input.as_bytes())?;
         assert_eq!(rt; written.as_slice(), expected.as_bytes(), "on {input:?}");
         assert!(rt; report.is_good(), "on {input:?}");
-        let (bytewise, _, _) = answers(rt.alloc(), commits, &mut Bytewise(input.as_bytes()))?;
+        let (bytewise, _, _) = answers(&rt, rt.alloc(), commits, &mut Bytewise(input.as_bytes()))?;
         assert_eq!(rt;
             bytewise.as_slice(),
             expected.as_bytes(),
@@ -145,7 +148,7 @@ fn refused_lines(rt: HostRuntime) -> Result<(), Fail> {
     for (line, refusal) in refused {
         let input = format!(in rt.alloc(); "{line}\n")?;
         let expected = format!(in rt.alloc(); "{refusal} line 1\ncommits 0\n{GOOD}")?;
-        let (written, _, dones) = answers(rt.alloc(), 1_000, &mut input.as_bytes())?;
+        let (written, _, dones) = answers(&rt, rt.alloc(), 1_000, &mut input.as_bytes())?;
         assert_eq!(rt; written.as_slice(), expected.as_bytes(), "on {line:?}");
         assert!(rt; dones.is_empty(), "on {line:?}");
     }
@@ -164,7 +167,7 @@ fn long_lines(rt: HostRuntime) -> Result<(), Fail> {
         let expected = format!(in rt.alloc();
             "{refusal} line 1\nwarehouse 1 ytd 200.00\ncommits 0\n{GOOD}"
         )?;
-        let (written, _, _) = answers(rt.alloc(), 1_000, &mut input.as_slice())?;
+        let (written, _, _) = answers(&rt, rt.alloc(), 1_000, &mut input.as_slice())?;
         assert_eq!(rt;
             written.as_slice(),
             expected.as_bytes(),
@@ -177,7 +180,7 @@ fn long_lines(rt: HostRuntime) -> Result<(), Fail> {
 #[test]
 fn dones_are_of_the_lines_that_commit(rt: HostRuntime) -> Result<(), Fail> {
     let mut input = b"hello\npayment 1 2 1 1 3 1.00\npayment 1 2 1 1 4 2.00\n".as_slice();
-    let (_, _, dones) = answers(rt.alloc(), 1_000, &mut input)?;
+    let (_, _, dones) = answers(&rt, rt.alloc(), 1_000, &mut input)?;
     for (i, (customer, balance)) in [(3, -1_100), (4, -1_200)].iter().enumerate() {
         let reply = PaymentReply {
             warehouse: 1,
@@ -187,11 +190,9 @@ fn dones_are_of_the_lines_that_commit(rt: HostRuntime) -> Result<(), Fail> {
             customer: *customer,
             balance: Cents::new(*balance),
         };
-        let expected = Done {
-            number: if i == 0 { 1 } else { 2 },
-            reply: Reply::Payment(reply),
-        };
-        assert_eq!(rt; dones.get(i).copied(), Some(expected));
+        let told = dones.get(i).map(|done| (done.number(), done.reply()));
+        let number = if i == 0 { 1 } else { 2 };
+        assert_eq!(rt; told, Some((number, Reply::Payment(reply))));
     }
     assert_eq!(rt; dones.len(), 2);
     Ok(())
@@ -202,6 +203,7 @@ fn a_device_that_fails(rt: HostRuntime) -> Result<(), Fail> {
     let mut written = Vec::new(rt.alloc());
     let mut broken = Broken(b"show warehouse 1\nshow dis");
     let outcome = script(
+        &rt,
         rt.alloc(),
         small(rt.alloc(), 1_000)?,
         &mut broken,
@@ -214,7 +216,13 @@ fn a_device_that_fails(rt: HostRuntime) -> Result<(), Fail> {
         written: Vec::new(rt.alloc()),
     };
     let mut input = b"show warehouse 1\nshow warehouse 1\n".as_slice();
-    let outcome = script(rt.alloc(), small(rt.alloc(), 1_000)?, &mut input, &mut full);
+    let outcome = script(
+        &rt,
+        rt.alloc(),
+        small(rt.alloc(), 1_000)?,
+        &mut input,
+        &mut full,
+    );
     assert!(rt; matches!(outcome, Err(Refusal::Device)));
     assert_eq!(rt;
         full.written.as_slice(),

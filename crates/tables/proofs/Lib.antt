@@ -1,3 +1,4 @@
 pub mod Orders
+pub mod KeyTests
 pub mod Views
 pub mod Numbers

@@ -9,8 +9,11 @@ use money::Refusal;
 use plain::Report;
 use population::Population;
 use script::script;
+use std::alloc::Global;
 use std::env;
+use std::io::{Read, Write};
 use std::process::ExitCode;
+use std::sync::Wait;
 
 /// Reads the command line, does what it asks for, and ends with the status that tells how it went.
 fn main(rt: HostRuntime) -> ExitCode {
@@ -25,7 +28,7 @@ fn main(rt: HostRuntime) -> ExitCode {
         }
     };
     let status = match options(rt.alloc(), words.as_slice()) {
-        Ok(options) => match run(&rt, &options) {
+        Ok(options) => match run(&rt, rt.alloc(), &options, &mut rt.stdin(), &mut rt.stdout()) {
             Ok(report) => finish(Ok(&report), &mut rt.stderr()),
             Err(refusal) => finish(Err(refusal), &mut rt.stderr()),
         },
@@ -37,13 +40,19 @@ fn main(rt: HostRuntime) -> ExitCode {
     ExitCode::from(status)
 }
 
-/// Does what the options ask for.
-fn run(rt: &HostRuntime, options: &Options) -> Result<Report, Refusal> {
+/// Does what the options ask for, from input to output.
+fn run<T: Wait, R: Read, W: Write>(
+    rt: &T,
+    alloc: Global,
+    options: &Options,
+    input: &mut R,
+    output: &mut W,
+) -> Result<Report, Refusal> {
     let scale = options.scale()?;
-    let population = Population::plain(rt.alloc(), scale)?;
+    let population = Population::plain(alloc, scale)?;
     match options.subcommand {
         Subcommand::Script => {
-            let (report, _) = script(rt.alloc(), population, &mut rt.stdin(), &mut rt.stdout())?;
+            let (report, _) = script(rt, alloc, population, input, output)?;
             Ok(report)
         }
     }

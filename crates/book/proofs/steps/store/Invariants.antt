@@ -1,5 +1,5 @@
-use Rattle.book.proofs.Stores.{Stored}
+use Rattle.book.proofs.Stores.{AreStored}
 use Rattle.book.proofs.steps.store.Given as goal
 
 abbrev pub invariant-loop-record : goal.invariant-loop-record
-invariant-loop-record g l = Stored l.number l.fn.pen l.fn.reader l.writes l.pen l.reader l.record-iterator
+invariant-loop-record g l = AreStored l.number l.fn.pen l.fn.reader l.writes l.pen l.reader l.record-iterator

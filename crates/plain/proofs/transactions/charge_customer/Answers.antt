@@ -3,7 +3,7 @@ use Rattle.tables.specs.Keys.{is_customer}
 use Rattle.tables.specs.WellFormed.{IsCustomerRow}
 use Rattle.tables.specs.declared.rows.Customer.{Customer}
 use Rattle.tables.proofs.Orders.{exact_customer}
-use Rattle.laws.proofs.KeyTests.{is_customer-key}
+use Rattle.tables.proofs.KeyTests.{is_customer-key}
 use Rattle.plain.proofs.Rows.{fact_of_row, never_missing, written, column-written}
 use Rattle.plain.proofs.transactions.charge_customer.Goals as goal
 

@@ -3,7 +3,7 @@ use Rattle.tables.specs.Keys.{is_district}
 use Rattle.tables.specs.WellFormed.{IsMoney}
 use Rattle.tables.specs.declared.rows.District.{District}
 use Rattle.tables.proofs.Orders.{exact_district}
-use Rattle.laws.proofs.KeyTests.{is_district-key}
+use Rattle.tables.proofs.KeyTests.{is_district-key}
 use Rattle.plain.proofs.Rows.{fact_of_row, never_missing, written}
 use Rattle.plain.proofs.transactions.raise_district.Goals as goal
 

@@ -2,7 +2,7 @@ use Rattle.std.proofs.Common.{rules, ◌+ℤ◌, ◌==◌, ap}
 use Rattle.tables.specs.WellFormed.{IsMoney}
 use Rattle.tables.specs.declared.rows.Warehouse.{Warehouse}
 use Rattle.tables.proofs.Orders.{exact_number}
-use Rattle.laws.proofs.KeyTests.{eqb-nat_cmp}
+use Rattle.tables.proofs.KeyTests.{eqb-nat_cmp}
 use Rattle.plain.proofs.Rows.{fact_of_row, never_missing, written}
 use Rattle.plain.proofs.transactions.raise_warehouse.Goals as goal
 

@@ -2,11 +2,12 @@ use Rattle.std.proofs.Common.{◌≡◌, ◌+◌, ◌<◌, ◌≤◌, List, [], 
 use Rattle.tables.specs.Sizes.{Sizes}
 use Rattle.tables.specs.Database.{Database, database}
 use Rattle.cells.specs.Records.{Written, at}
+use Rattle.cells.proofs.Grown.{grown_twice}
 use Rattle.book.specs.Book.{Kept, AreLatest, IsSound, IsReadBy, Commits, HasSeen, entry_of}
 use Rattle.book.specs.History.{commit_word, versions_for}
 use Rattle.book.specs.Share.{Holding}
 use Rattle.book.proofs.Sound.{sound_after}
-use Rattle.book.proofs.Committed.{read_by_more, grown_twice}
+use Rattle.book.proofs.Committed.{read_by_more}
 use Rattle.book.specs.declared.entry.Entry.{Entry}
 use Rattle.book.proofs.book.Book.commit.Goals as goal
 
