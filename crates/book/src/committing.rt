@@ -65,6 +65,9 @@ impl<K: Run> Book<K> {
         let Ok(()) = self.history.reserve(1) else {
             return Err(Refusal::OutOfMemory);
         };
+        let Ok(written) = writes.list(*self.history.allocator()) else {
+            return Err(Refusal::OutOfMemory);
+        };
         let Ok(_) = apply(&mut self.tables, &input) else {
             return Err(Refusal::OutOfMemory);
         };
@@ -77,7 +80,7 @@ impl<K: Run> Book<K> {
             terminal: share.terminal,
             input,
             reply: *reply,
-            writes,
+            writes: written,
         });
         self.shares.add(&mut share.part, 1);
         Ok(Done::of(number, *tid, *reply))

@@ -2,7 +2,7 @@
 ghost use Rattle.std.specs.Prelude.{◌≡◌};
 
 use cells::TidWord;
-use payment::WriteSet;
+use payment::WriteList;
 use tables::{Input, Reply};
 
 /// A committed transaction as the history has it.
@@ -16,7 +16,7 @@ pub struct Entry {
     pub terminal: u16,
     pub input: Input,
     pub reply: Reply,
-    pub writes: WriteSet,
+    pub writes: WriteList,
 }
 
 /// What a terminal is told of a commit. Only a commit makes one.

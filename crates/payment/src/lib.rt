@@ -2,6 +2,7 @@
 //! before the commit (Silo, SOSP 2013, section 4.4).
 #![tactic(auto)]
 
+mod list;
 mod pay;
 mod reads;
 #[cfg(test)]
@@ -10,6 +11,7 @@ mod transaction;
 mod work;
 mod writes;
 
+pub use list::WriteList;
 pub use reads::ReadSet;
 pub use transaction::execute;
 pub use work::Work;

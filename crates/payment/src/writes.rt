@@ -1,5 +1,5 @@
 //! What a transaction is to write.
-ghost use Rattle.std.specs.Prelude.{◌≡◌, Some, None, [], All, OnOk, OnErr, IfErr};
+ghost use Rattle.std.specs.Prelude.{◌≡◌, Some, None, [], All, OnOk, OnErr, IfOk, IfErr};
 ghost use Rattle.std.specs.Ordering.{nat_cmp};
 ghost use Rattle.std.specs.BTreeMap.{insert_entry};
 ghost use Rattle.std.specs.Map.{keys_of};
@@ -7,6 +7,7 @@ ghost use Rattle.std.specs.List.Sorted.{IsStrictlySortedBy};
 ghost use Rattle.payment.specs.Writes.{value_for};
 ghost use Rattle.payment.specs.Writes.{Writings};
 
+use crate::list::WriteList;
 use money::Refusal;
 use std::alloc::Global;
 use std::collections::BTreeMap;
@@ -82,5 +83,18 @@ impl WriteSet {
         ensures { result ≡ self.now.history }
     {
         self.history
+    }
+
+    /// The same writes as a list, which takes less memory. Costs a pass over them.
+    ///
+    /// # Errors
+    ///
+    /// `OutOfMemory`, and no other.
+    pub fn list(&self, alloc: Global) -> Result<WriteList, Refusal>
+        ensures same { IfOk result (λ list. list ≡ self.now) }
+        ensures only_memory { IfErr result (λ refusal. refusal ≡ OutOfMemory) }
+    {
+        let values = self.values.iter().map(|(number, value)| (*number, *value));
+        Ok(WriteList::new(values.collect(alloc)?, self.history))
     }
 }

@@ -49,6 +49,20 @@ returns-in_default-clause-answer g c =
       ),
     )
 
+pub returns-in_default-list-clause-answer : goal.returns-in_default-list-clause-answer
+returns-in_default-list-clause-answer g c =
+    let view = c.self.view_is in
+    let sound = c.self.invariant.0 in
+    let cap = ap (λ (s : Sizes). s.commits) sound.of_population.scale in
+    let len : c.len-commits.result ≡ length c.self.inside.history.items = search rules in (
+      (λ i. record { written = c.validate.ensures.pen i; history = c.reserve.ensures.items i }) ∙ view,
+      refl,
+      inr (
+        subst (λ (k : Kept). AreLatest k.written.all c.args.work.reads) view c.if-not-validate.ensures.latest,
+        inr (refl, subst (λ (k : Kept). length k.history < g.K.Run.first.scale.commits) view (omega (arith, c.if-commits.false, cap, len, c.commits.ensures.value))),
+      ),
+    )
+
 pub returns-in_default-apply-clause-answer : goal.returns-in_default-apply-clause-answer
 returns-in_default-apply-clause-answer g c =
     let view = c.self.view_is in
@@ -76,7 +90,7 @@ invariant_of-self-2 g c =
     c.args.reader.now c.args.work c.requires.work c.if-not-validate.ensures.latest c.share.inside.terminal c.store.new.pen small cells
     (λ n. c.store.ensures.versions n ∙ (λ i. at (c.validate.ensures.pen i).all n ++ versions_for (next i) c.args.work.writes.values n)) in
     let history : c.push_reserved.new.self.items ≡ c.self.inside.history.items ++ entry_of (length c.self.inside.history.items + 1) c.share.inside.terminal c.args.work ∷ [] =
-    c.push_reserved.ensures.items ∙ (λ i. c.reserve.ensures.items i ++ record { number = next i; tid = (c.commit_tid.ensures ∙ ap commit_word next) i; terminal = c.share.inside.terminal; input = c.args.work.input; reply = c.args.work.reply; writes = c.args.work.writes } ∷ []) in (
+    c.push_reserved.ensures.items ∙ (λ i. c.reserve.ensures.items i ++ record { number = next i; tid = (c.commit_tid.ensures ∙ ap commit_word next) i; terminal = c.share.inside.terminal; input = c.args.work.input; reply = c.args.work.reply; writes = c.in-Ok-list.ensures.same i } ∷ []) in (
       subst (λ (q : List Entry × Database). IsSound g.K.Run.first g.K.Run.cells (record { written = c.store.new.pen; history = q.0 }) q.1) (λ i. (sym history i, sym c.in-Ok-apply.ensures.tables i)) made,
       c.add.ensures.total ∙ ap (λ n. n + 1) c.self.invariant.1 ∙ sym (ap length history ∙ length-append c.self.inside.history.items (entry_of (length c.self.inside.history.items + 1) c.share.inside.terminal c.args.work ∷ [])),
     )
@@ -90,7 +104,7 @@ returns-clause-answer g c =
     let next : c.len-commits.result + 1 ≡ length c.self.inside.history.items + 1 = ap (λ n. n + 1) len in
     let tid = c.commit_tid.ensures ∙ ap commit_word next in
     let history : c.push_reserved.new.self.items ≡ c.self.inside.history.items ++ entry_of (length c.self.inside.history.items + 1) c.share.inside.terminal c.args.work ∷ [] =
-    c.push_reserved.ensures.items ∙ (λ i. c.reserve.ensures.items i ++ record { number = next i; tid = tid i; terminal = c.share.inside.terminal; input = c.args.work.input; reply = c.args.work.reply; writes = c.args.work.writes } ∷ []) in
+    c.push_reserved.ensures.items ∙ (λ i. c.reserve.ensures.items i ++ record { number = next i; tid = tid i; terminal = c.share.inside.terminal; input = c.args.work.input; reply = c.args.work.reply; writes = c.in-Ok-list.ensures.same i } ∷ []) in
     subst (λ (q : Kept × Holding). AreLatest q.0.written.all c.args.work.reads × (length q.0.history < g.K.Run.first.scale.commits)
     × Commits q.0 (record { written = c.store.new.pen; history = c.push_reserved.new.self.items }) (entry_of (length q.0.history + 1) q.1.terminal c.args.work)
     × (c.of.result ≡ record { number = length q.0.history + 1; tid = commit_word (length q.0.history + 1); reply = c.args.work.reply })
