@@ -1,6 +1,6 @@
 -- What a reader that has executed a transaction has read.
-use Rattle.std.proofs.Common.{◌≡◌, ℕ, ◌<◌, Some, List, []}
-use Rattle.cells.specs.Records.{Sights, at, words_of}
+use Rattle.std.proofs.Common.{◌≡◌, ℕ, ◌<◌, Some, []}
+use Rattle.cells.specs.Records.{Sights}
 use Rattle.cells.specs.declared.cells.Version.{Version}
 use Rattle.payment.specs.Reads.{Readings, AreRead, held}
 use Rattle.book.specs.Book.{IsReadBy}

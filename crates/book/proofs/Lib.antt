@@ -5,4 +5,5 @@ mod Sound
 pub mod Replaying
 mod Committed
 mod Opened
+mod Good
 pub mod Executed

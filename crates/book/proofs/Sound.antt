@@ -19,17 +19,17 @@ use Rattle.cells.proofs.Rising.{last_tid-push}
 use Rattle.payment.specs.Writes.{written, value_for}
 use Rattle.payment.specs.Explains.{Agrees, MayBe}
 use Rattle.payment.specs.declared.work.Work.{Work}
-use Rattle.book.specs.History.{replay, commit_word, absent_word, IsDone, Replays, IsLegal, version_of, versions_for, versions_by, later_versions}
+use Rattle.book.specs.History.{replay, commit_tid, commit_word, absent_word, IsDone, Replays, IsLegal, version_of, versions_for, versions_by, later_versions}
 use Rattle.book.specs.Book.{Kept, IsSound, IsWorkOf, AreLatest, entry_of}
 use Rattle.book.specs.declared.entry.Entry.{Entry}
 use Rattle.book.proofs.Replaying.{replay_push}
 use Rattle.book.proofs.Same.{after-IsOf}
 
 -- one entry more
-replays_push : (n : ℕ) (t : Database) (es : List Entry) (e : Entry) → Replays n t es → e.number ≡ n + length es → e.tid ≡ commit_word (n + length es) → IsDone (replay t es) e → Replays n t (es ++ e ∷ [])
-replays_push n t [] e h number tid done = (number ∙ Rattle.std.proofs.Common.add-zero n, tid ∙ ap commit_word (Rattle.std.proofs.Common.add-zero n), done, tt)
+replays_push : (n : ℕ) (t : Database) (es : List Entry) (e : Entry) → Replays n t es → e.number ≡ n + length es → e.tid ≡ commit_tid (n + length es) → IsDone (replay t es) e → Replays n t (es ++ e ∷ [])
+replays_push n t [] e h number tid done = (number ∙ Rattle.std.proofs.Common.add-zero n, tid ∙ ap commit_tid (Rattle.std.proofs.Common.add-zero n), done, tt)
 replays_push n t (f ∷ es) e h number tid done =
-    (h.0, h.1, h.2, replays_push (n + 1) (after t f.input) es e h.3 (number ∙ shifted n (length es)) (tid ∙ ap commit_word (shifted n (length es))) done)
+    (h.0, h.1, h.2, replays_push (n + 1) (after t f.input) es e h.3 (number ∙ shifted n (length es)) (tid ∙ ap commit_tid (shifted n (length es))) done)
   where
     shifted : (n m : ℕ) → n + Rattle.std.proofs.Common.suc m ≡ n + 1 + m
     shifted n m = omega arith
@@ -109,7 +109,7 @@ module _ (t0 : Database) (run_cells : List TableId) (k : Kept) (t : Database) (s
 
     legal : IsLegal t0 (k.history ++ entry_of (length k.history + 1) terminal work ∷ []) (after t work.input)
     legal = record {
-      replays = replays_push 1 t0 k.history (entry_of (length k.history + 1) terminal work) sound.legal.replays (turned (length k.history)) (ap commit_word (turned (length k.history))) (subst (λ s. IsDone s (entry_of (length k.history + 1) terminal work)) (sym sound.legal.end) done);
+      replays = replays_push 1 t0 k.history (entry_of (length k.history + 1) terminal work) sound.legal.replays (turned (length k.history)) (ap commit_tid (turned (length k.history))) (subst (λ s. IsDone s (entry_of (length k.history + 1) terminal work)) (sym sound.legal.end) done);
       end = replay_push t0 k.history (entry_of (length k.history + 1) terminal work) ∙ ap (λ s. after s work.input) sound.legal.end;
     }
       where

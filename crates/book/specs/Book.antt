@@ -15,7 +15,7 @@ use Rattle.payment.specs.Reads.{Readings, held}
 use Rattle.payment.specs.Writes.{Writings, value_for}
 use Rattle.payment.specs.Explains.{IsOf, Explains, IsWithinLimits}
 use Rattle.payment.specs.declared.work.Work.{Work}
-use Rattle.book.specs.History.{IsLegal, commit_word, versions_by, versions_of}
+use Rattle.book.specs.History.{IsLegal, commit_tid, commit_word, versions_by, versions_of}
 use Rattle.book.specs.declared.entry.Entry.{Entry}
 
 -- what contracts see of the book: all versions of the records, and the history. The committed tables are the history's replay
@@ -37,7 +37,7 @@ pub record IsSound (t0 : Database) (run_cells : List TableId) (k : Kept) (t : Da
   pub latest : (n : ℕ) → n < length run_cells → (v : List ℕ) → EndsWith (at k.written.all n) v → value_in v ≡ rows t n
   -- the next commit's TID is larger than all of theirs
   pub smaller : (n : ℕ) → n < length run_cells → last_tid (at k.written.all n) < tid_of (commit_word (length k.history + 1))
-  -- there is room for the commits that are left
+  -- the commit cap isn't passed, and there is room for the commits that are left
   pub cap : length k.history ≤ t0.scale.commits
   pub few : t0.scale.commits ≤ 600000
   pub room : HasRoom (600000 - length k.history) t
@@ -55,10 +55,11 @@ pub record IsWorkOf (t0 : Database) (cells : ℕ) (reader : Sights) (work : Work
   pub limits : IsWithinLimits cells work.reads work.writes
   pub read : IsReadBy cells reader work.reads
 
--- each version read is its record's last, or some version read has another TID than its record's last
+-- each version read is its record's last
 abbrev pub AreLatest : List (List (List ℕ)) → Readings → Type 0
 AreLatest all reads = (n : ℕ) (v : Version) → held reads n ≡ Some v → EndsWith (at all n) (words_of v)
 
+-- some version read has another TID than its record's last
 abbrev pub HasConflict : List (List (List ℕ)) → Readings → Type 0
 HasConflict all reads = (n : ℕ) × (v : Version) × (held reads n ≡ Some v) × (tid_of v.word ≢ last_tid (at all n))
 
@@ -68,7 +69,7 @@ HasSeen reader pen writes = (n : ℕ) (value : Option (List ℕ)) → value_for 
 
 -- the entry of a work that commits
 abbrev pub entry_of : ℕ → ℕ → Work → Entry
-entry_of number terminal work = record { number = number; tid = commit_word number; terminal = terminal; input = work.input; reply = work.reply; writes = work.writes }
+entry_of number terminal work = record { number = number; tid = commit_tid number; terminal = terminal; input = work.input; reply = work.reply; writes = work.writes }
 
 -- a work has committed as this entry: the history has it at its end, and each record that it writes has one version more
 pub record Commits (old new : Kept) (entry : Entry) : Type 0 where

@@ -19,7 +19,11 @@ abbrev pub replay : Database → List Entry → Database
 replay t [] = t
 replay t (e ∷ es) = replay (after t e.input) es
 
--- the TID word of commit number n: epoch 1, sequence n, the latest version. Where a record becomes absent, its absent bit is set too
+-- the TID of commit number n: epoch 1, sequence n, and no status bits
+abbrev pub commit_tid : ℕ → ℕ
+commit_tid n = tid_word 1 n (record { latest = false; absent = false; locked = false })
+
+-- the TID word of its versions, each of which is the latest, and of those where a record becomes absent
 abbrev pub commit_word : ℕ → ℕ
 commit_word n = tid_word 1 n (record { latest = true; absent = false; locked = false })
 
@@ -36,29 +40,29 @@ pub record IsDone (t : Database) (e : Entry) : Type 0 where
 -- the entries have the commit numbers from n on, and each is done at the tables that the entries before it leave
 abbrev pub Replays : ℕ → Database → List Entry → Type 0
 Replays n t [] = Unit {0}
-Replays n t (e ∷ es) = (e.number ≡ n) × (e.tid ≡ commit_word n) × IsDone t e × Replays (n + 1) (after t e.input) es
+Replays n t (e ∷ es) = (e.number ≡ n) × (e.tid ≡ commit_tid n) × IsDone t e × Replays (n + 1) (after t e.input) es
 
 -- a history from t0 to t: numbers from 1 on, each entry done in its turn, and the end is t
 pub record IsLegal (t0 : Database) (history : List Entry) (t : Database) : Type 0 where
   pub replays : Replays 1 t0 history
   pub end : replay t0 history ≡ t
 
--- the version that commit number n makes of a value
+-- the version that a commit, by its number, makes of a value
 abbrev pub version_of : ℕ → Option (List ℕ) → List ℕ
-version_of n (Some words) = commit_word n ∷ words
-version_of n None = absent_word n ∷ replicate 7 0
+version_of commit (Some words) = commit_word commit ∷ words
+version_of commit None = absent_word commit ∷ replicate 7 0
 
--- the versions that these writes of commit number n add to a record, and those of an entry: one or none
+-- the versions that these writes of a commit add to record n, and those of an entry: one or none
 abbrev pub versions_for : ℕ → List (ℕ × Option (List ℕ)) → ℕ → List (List ℕ)
-versions_for n values number = option_map_or (λ value. version_of n value ∷ []) (lookup (is_at (nat_cmp number)) values) []
+versions_for commit values n = option_map_or (λ value. version_of commit value ∷ []) (lookup (is_at (nat_cmp n)) values) []
 
 abbrev pub versions_by : Entry → ℕ → List (List ℕ)
-versions_by e number = versions_for e.number e.writes.values number
+versions_by e n = versions_for e.number e.writes.values n
 
--- the versions that entries add to a record, and all its versions: the one of the first tables, then those
+-- the versions that entries add to record n, and all its versions: the one of the first tables, then those
 abbrev pub later_versions : List Entry → ℕ → List (List ℕ)
-later_versions [] number = []
-later_versions (e ∷ es) number = versions_by e number ++ later_versions es number
+later_versions [] n = []
+later_versions (e ∷ es) n = versions_by e n ++ later_versions es n
 
 abbrev pub versions_of : Database → List Entry → ℕ → List (List ℕ)
-versions_of t0 history number = first_version (rows t0 number) ∷ later_versions history number
+versions_of t0 history n = first_version (rows t0 n) ∷ later_versions history n

@@ -39,6 +39,7 @@ impl<K: Run> Book<K> {
     ghost use Rattle.money.specs.declared.refusal.Refusal.TheVariants.{OutOfMemory};
     ghost use Rattle.tables.specs.Database.{database};
     ghost use Rattle.plain.specs.Check.{IsReportOf};
+    ghost use Rattle.plain.specs.Report.{IsGood};
     ghost use Rattle.book.specs.History.{replay};
     ghost use Rattle.book.specs.Book.{IsSound};
 
@@ -70,16 +71,17 @@ impl<K: Run> Book<K> {
         Ok(copy_of(&self.tables)?)
     }
 
-    /// Which conditions the committed tables meet. Costs what `check` does. `OutOfMemory` is the only refusal.
+    /// Which conditions the committed tables meet: all. Costs what `check` does. `OutOfMemory` is the only refusal.
     pub fn report(&self, alloc: Global) -> Result<Report, Refusal>
         ensures report { IfOk result (IsReportOf (replay K.first self.now.history)) }
+        ensures good { IfOk result IsGood }
         ensures only_memory { IfErr result (λ refusal. refusal ≡ OutOfMemory) }
     {
         check(alloc, &self.tables)
     }
 
-    /// Tells how many commits a share with all parts of the ledger has: as many as the history. Does nothing else. Until
-    /// shares can be joined, only a run of one terminal has such a share.
+    /// For proofs: a share with all parts of the ledger has as many commits as the history has entries. Changes
+    /// neither book nor share. Until shares can be joined, only a run of one terminal has such a share.
     pub fn audit(&mut self, share: &mut Share<K>)
         ensures book { self.new ≡ self.old }
         ensures share { share.new ≡ share.old }

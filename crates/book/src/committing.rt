@@ -2,14 +2,14 @@
 ghost use Rattle.std.specs.Prelude.{◌≡◌, ◌+◌, ◌<◌, ◌≤◌, ◌⊎◌, length, MatchResult, IsErr};
 ghost use Rattle.money.specs.declared.refusal.Refusal.TheVariants.{OutOfMemory, Conflict, CommitsFull};
 ghost use Rattle.cells.specs.Records.{HasGrown};
-ghost use Rattle.book.specs.History.{commit_word};
+ghost use Rattle.book.specs.History.{commit_tid};
 ghost use Rattle.book.specs.Book.{AreLatest, HasConflict, HasSeen, IsWorkOf, Commits, entry_of};
 
 use crate::book::Book;
 use crate::entry::{Done, Entry};
 use crate::run::Run;
 use crate::share::Share;
-use crate::steps::{commit_tid, store, validate};
+use crate::steps::{store, tid_for, validate};
 use cells::{Cells, Reader};
 use money::Refusal;
 use payment::Work;
@@ -17,13 +17,17 @@ use plain::apply;
 use std::sync::Wait;
 
 impl<K: Run> Book<K> {
-    /// Commits a transaction that this reader has executed, as the next in the history (Silo, section 4.4). Costs
-    /// a comparison a record read, a store a record written, and the look-ups of the transaction on the tables.
+    /// Commits a transaction that this reader has executed, as the next in the history (Silo, section 4.4). Costs a
+    /// comparison a record read; a store, a comparison and a copy a record written; the look-ups of the transaction
+    /// on the tables; and constant time, amortized, for the history. May wait, at a record's cell alone.
+    ///
+    /// After Ok the reader has seen the versions stored.
     ///
     /// # Errors
     ///
     /// `Conflict` exactly where a version read isn't its record's latest; then `CommitsFull` exactly at the commit
-    /// cap; then `OutOfMemory`. After a refusal book and share are as before.
+    /// cap; then `OutOfMemory`. A refusal drops the work, and book and share are as before; the reader may have seen
+    /// more.
     pub fn commit<R: Wait>(
         &mut self,
         rt: &R,
@@ -39,7 +43,7 @@ impl<K: Run> Book<K> {
         ensures answer { MatchResult result
             (λ done. AreLatest self.old.written.all work.reads × (length self.old.history < K.first.scale.commits)
             × Commits self.old self.new (entry_of (length self.old.history + 1) share.old.terminal work)
-            × (done ≡ record { number = length self.old.history + 1; tid = commit_word (length self.old.history + 1); reply = work.reply })
+            × (done ≡ record { number = length self.old.history + 1; tid = commit_tid (length self.old.history + 1); reply = work.reply })
             × (share.new ≡ record { terminal = share.old.terminal; parts = share.old.parts; commits = share.old.commits + 1 })
             × HasSeen reader.new self.new.written work.writes)
             (λ refusal. (self.new ≡ self.old) × (share.new ≡ share.old)
@@ -48,15 +52,15 @@ impl<K: Run> Book<K> {
             × (((refusal ≡ CommitsFull) × (K.first.scale.commits ≤ length self.old.history))
             ⊎ ((refusal ≡ OutOfMemory) × (length self.old.history < K.first.scale.commits)))))) }
     {
+        if !validate(rt, cells, &mut self.pen, reader, &work) {
+            return Err(Refusal::Conflict);
+        }
         let Work {
             input,
             reads,
             writes,
             reply,
         } = work;
-        if !validate(rt, cells, &mut self.pen, reader, &reads) {
-            return Err(Refusal::Conflict);
-        }
         let commits = self.history.len();
         if commits >= self.tables.scale.commits() as usize {
             return Err(Refusal::CommitsFull);
@@ -73,7 +77,7 @@ impl<K: Run> Book<K> {
         };
         let number = commits as u32 + 1;
         store(rt, cells, &mut self.pen, reader, &reads, &writes, number);
-        let (tid, reply) = (&commit_tid(number), &reply);
+        let (tid, reply) = (&tid_for(number), &reply);
         self.history.push_reserved(Entry {
             number,
             tid: *tid,

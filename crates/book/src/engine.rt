@@ -31,8 +31,8 @@ pub struct Parts {
 }
 
 impl Parts {
-    /// The parts of an engine over this population, with this many terminals, of which each gets a seat. Costs a copy of the tables, and what
-    /// `Cells::new` costs.
+    /// The parts of an engine over this population, with any number of terminals, of which each gets a seat. Costs
+    /// a copy of the tables, and what `Cells::new` costs. May wait, at a record's cell alone.
     ///
     /// # Errors
     ///
@@ -83,7 +83,8 @@ impl<K: Run> Model for Engine<K> {
 }
 
 impl<K: Run> Engine<K> {
-    /// An engine in which nothing has committed, and its terminals' seats. Takes no memory.
+    /// An engine in which nothing has committed, which an audit of the whole share tells, and its terminals' seats.
+    /// Takes no memory.
     pub fn open(parts: Parts) -> (Engine<K>, Seats<K>)
         requires fresh { IsFresh parts }
         requires run { (first_of parts ≡ K.first) × (cells_of parts ≡ K.cells) }
@@ -100,7 +101,7 @@ impl<K: Run> Engine<K> {
             readers,
             blank,
         } = parts;
-        // The commit cap is at most 600,000.
+        // The accessor's contract says that the commit cap is at most 600,000.
         let _ = population.scale().commits();
         let (shares, share) = blank.open::<K>();
         let book = Book {
@@ -153,9 +154,9 @@ pub struct Seats<K: Run> {
 
 impl<K: Run> Model for Seats<K> {
     ghost use Rattle.std.specs.Prelude.{◌≡◌, ◌+◌, ◌<◌, ◌^◌, length, All};
-    ghost use Rattle.book.specs.Seats.{Left};
+    ghost use Rattle.book.specs.Seats.{Remaining};
 
-    ghost Value = { Left };
+    ghost Value = { Remaining };
 
     ghost view = { λ s. record { left = length s.readers.items; given = s.given } };
 

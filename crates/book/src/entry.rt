@@ -10,7 +10,7 @@ use tables::{Input, Reply};
 pub struct Entry {
     /// The commit number, from 1.
     pub number: u32,
-    /// The TID of the versions that it stored (Silo, section 4.2).
+    /// Its TID, which the words of the versions that it stored have (Silo, section 4.2).
     pub tid: TidWord,
     /// The terminal that asked for it, from 0.
     pub terminal: u16,
@@ -42,7 +42,7 @@ impl Done {
         self.number
     }
 
-    /// The TID of the versions that the commit stored.
+    /// The commit's TID, without status bits; the words of the versions that it stored have it.
     pub fn tid(&self) -> TidWord
         ensures { result ≡ self.now.tid }
     {

@@ -4,11 +4,11 @@ ghost use Rattle.cells.specs.TidWord.{tid_of};
 ghost use Rattle.cells.specs.Versions.{last_tid};
 ghost use Rattle.cells.specs.Records.{at, HasGrown};
 ghost use Rattle.payment.specs.Explains.{WritesAreRead};
-ghost use Rattle.book.specs.History.{commit_word, version_of, versions_for};
+ghost use Rattle.book.specs.History.{commit_tid, commit_word, version_of, versions_for};
 ghost use Rattle.book.specs.Book.{AreLatest, HasConflict, HasSeen, IsReadBy};
 
 use cells::{Cells, Pen, Reader, Status, TidWord};
-use payment::{ReadSet, WriteSet};
+use payment::{ReadSet, Work, WriteSet};
 use std::sync::Wait;
 
 /// Whether each version read is still its record's latest (phase 2). The reader may have seen more by then.
@@ -17,15 +17,15 @@ pub(crate) fn validate<R: Wait>(
     cells: &Cells,
     pen: &mut Pen,
     reader: &mut Reader,
-    reads: &ReadSet,
+    work: &Work,
 ) -> bool
     requires own { (pen.old.cells ≡ cells.now) × (reader.old.cells ≡ cells.now) }
-    requires read { IsReadBy (length cells.now) reader.old reads.now }
+    requires read { IsReadBy (length cells.now) reader.old work.now.reads }
     ensures pen { pen.new ≡ pen.old }
     ensures reader { HasGrown reader.old reader.new }
-    ensures latest { MatchBool result (AreLatest pen.old.all reads.now) (HasConflict pen.old.all reads.now) }
+    ensures latest { MatchBool result (AreLatest pen.old.all work.now.reads) (HasConflict pen.old.all work.now.reads) }
 {
-    for (_, version) in reads.versions() {
+    for (_, version) in work.reads.versions() {
         if !cells.meet(rt, pen, reader, version) {
             return false;
         }
@@ -93,13 +93,13 @@ fn version(number: u32, value: &Option<[u64; 7]>) -> NewVersion
     }
 }
 
-/// The TID word of a commit: epoch 1 and its number, the latest version.
-pub(crate) fn commit_tid(number: u32) -> TidWord
+/// The TID of a commit: epoch 1 and its number.
+pub(crate) fn tid_for(number: u32) -> TidWord
     requires { number < 2 ^ 29 }
-    ensures { result ≡ commit_word number }
+    ensures { result ≡ commit_tid number }
 {
     let status = Status {
-        latest: true,
+        latest: false,
         absent: false,
         locked: false,
     };

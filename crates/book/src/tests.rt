@@ -16,7 +16,7 @@ use std::sync::atomic::{AtomicU64, Ordering};
 use std::test::Fail;
 use std::thread::{Threads, join, sleep};
 use std::time::{Clock, Duration};
-use tables::{Input, Payment, PaymentReply, Reply, Scale, Who};
+use tables::{History, Input, Payment, PaymentReply, Reply, Scale, Who};
 
 /// The parts of an engine with two terminals, over one warehouse with two districts and ten customers in each.
 fn parts<R: Wait>(rt: &R, alloc: Global) -> Result<Parts, Refusal>
@@ -178,13 +178,16 @@ fn pay_both_meanwhile<K: Run + Send + Sync, R: Threads + Wait + Clock + Sync>(
     Some((third?, fourth?))
 }
 
-/// Commits a Payment, and tells the commit's number and the reply. A refusal leaves the share as it was.
+/// A commit's number, its TID's word, and the reply.
+type Told = (u32, u64, Reply);
+
+/// Commits a Payment, and tells of it. A refusal leaves the share as it was.
 fn commit<K: Run, R: Wait>(
     rt: &R,
     engine: &Engine<K>,
     seat: &mut Seat<K>,
     work: Work,
-) -> Result<(u32, Reply), Refusal>
+) -> Result<Told, Refusal>
     requires reader { seat.old.reader.cells ≡ K.cells }
     requires work { IsWorkOf K.first (length K.cells) seat.old.reader work }
     ensures reader { seat.new.reader.cells ≡ K.cells }
@@ -192,13 +195,16 @@ fn commit<K: Run, R: Wait>(
 {
     let mut book = engine.lock(rt);
     let done = book.commit(rt, engine.cells(), &mut seat.reader, &mut seat.share, work)?;
-    Ok((done.number(), done.reply()))
+    Ok((done.number(), done.tid().word(), done.reply()))
 }
 
-/// How many have committed, and the TID words and first words of the warehouse, the district and customers 3 and 4.
+/// How many have committed, W_YTD and the length of HISTORY in the committed tables, and the TID words and first
+/// words of the warehouse, the district and customers 3 and 4.
 #[derive(Clone, Copy, Debug, PartialEq, Eq)]
 struct Standing {
     commits: usize,
+    year_to_date: Option<Cents>,
+    payments: usize,
     tids: [u64; 4],
     words: [u64; 4],
 }
@@ -213,8 +219,12 @@ fn standing_of<K: Run, R: Wait>(rt: &R, engine: &Engine<K>, reader: &mut Reader)
     let district = cells.read(rt, reader, 1);
     let third = cells.read(rt, reader, 5);
     let fourth = cells.read(rt, reader, 6);
+    let book = engine.lock(rt);
+    let tables = book.committed();
     Standing {
-        commits: engine.lock(rt).history().len(),
+        commits: book.history().len(),
+        year_to_date: tables.warehouses.get(&1).map(|row| row.year_to_date),
+        payments: tables.history.len(),
         tids: [
             warehouse.word.word(),
             district.word.word(),
@@ -230,12 +240,41 @@ fn standing_of<K: Run, R: Wait>(rt: &R, engine: &Engine<K>, reader: &mut Reader)
     }
 }
 
+/// What the book says at the end: whether a copy of the tables has all HISTORY rows, whether the conditions hold, and
+/// of the first entry its terminal, how many records it wrote, and what it added to HISTORY.
+#[derive(Clone, Copy, Debug, PartialEq, Eq)]
+struct Account {
+    payments: usize,
+    is_good: bool,
+    terminal: Option<u16>,
+    writes: Option<usize>,
+    added: Option<History>,
+}
+
+fn account_of<K: Run, R: Wait>(
+    rt: &R,
+    alloc: Global,
+    engine: &Engine<K>,
+) -> Result<Account, Refusal> {
+    let book = engine.lock(rt);
+    let first = book.history().first();
+    Ok(Account {
+        payments: book.tables()?.history.len(),
+        is_good: book.report(alloc)?.is_good(),
+        terminal: first.map(|entry| entry.terminal),
+        writes: first.map(|entry| entry.writes.values().len()),
+        added: first.and_then(|entry| entry.writes.history()),
+    })
+}
+
 /// What came of the Payments, and the states before, between and after them.
 #[derive(Clone, Copy, Debug, PartialEq, Eq)]
 struct Outcome {
-    first: Result<(u32, Reply), Refusal>,
-    second: Result<(u32, Reply), Refusal>,
-    again: Result<(u32, Reply), Refusal>,
+    terminals: [u16; 2],
+    account: Account,
+    first: Result<Told, Refusal>,
+    second: Result<Told, Refusal>,
+    again: Result<Told, Refusal>,
     states: [Standing; 4],
 }
 
@@ -252,6 +291,7 @@ fn pay_twice<K: Run + Send + Sync, R: Threads + Wait + Clock + Sync>(
     let (engine, mut seats) = Engine::<K>::open(parts);
     let mut left = seats.next().ok_or("seat")?;
     let right = seats.next().ok_or("seat")?;
+    let terminals = [left.share.terminal(), right.share.terminal()];
     let opened = standing_of(rt, &engine, &mut left.reader);
     let paid = pay_both_meanwhile(rt, alloc, &engine, left, right).ok_or("hold")?;
     let (third, fourth) = paid;
@@ -271,6 +311,8 @@ fn pay_twice<K: Run + Send + Sync, R: Threads + Wait + Clock + Sync>(
     let again = commit(rt, &engine, &mut right, fourth);
     let end = standing_of(rt, &engine, &mut left.reader);
     Ok(Outcome {
+        terminals,
+        account: account_of(rt, alloc, &engine)?,
         first,
         second,
         again,
@@ -294,22 +336,56 @@ fn the_second_of_two_conflicts(rt: HostRuntime) -> Result<(), Fail> {
     let parts = parts(&rt, rt.alloc())?;
     let outcome = pay_twice::<Brand, _>(&rt, rt.alloc(), parts)?;
     let Outcome {
+        terminals,
+        account,
         first,
         second,
         again,
         states,
     } = outcome;
-    assert_eq!(rt; first, Ok((1, reply(3))));
+    assert_eq!(rt; terminals, [0, 1]);
+    assert_eq!(rt; first, Ok((1, 4_294_967_304, reply(3))));
     assert_eq!(rt; second, Err(Refusal::Conflict));
-    assert_eq!(rt; again, Ok((2, reply(4))));
+    assert_eq!(rt; again, Ok((2, 4_294_967_312, reply(4))));
     let [opened, before, after, end] = states;
     assert_eq!(rt; opened.commits, 0);
     assert_eq!(rt; opened.tids, [2; 4]);
     assert_eq!(rt; before.commits, 1);
     assert_eq!(rt; after, before);
+    assert_eq!(rt;
+        (opened.payments, opened.year_to_date),
+        (20, Some(Cents::new(20_000)))
+    );
+    assert_eq!(rt;
+        (before.payments, before.year_to_date),
+        (21, Some(Cents::new(20_100)))
+    );
+    assert_eq!(rt;
+        (end.payments, end.year_to_date),
+        (22, Some(Cents::new(20_200)))
+    );
     assert_eq!(rt; end.commits, 2);
-    let [warehouse, district, third, fourth] = end.words;
-    assert_eq!(rt; (warehouse, district), (20_200, 10_200));
-    assert_eq!(rt; third, fourth);
+    let (one, two) = (4_294_967_306, 4_294_967_314);
+    assert_eq!(rt; end.tids, [two, two, one, two]);
+    // A C_BALANCE of -11.00, in the 64 bits of a word.
+    let balance = u64::MAX - 1_099;
+    assert_eq!(rt; end.words, [20_200, 10_200, balance, balance]);
+    let paid = History {
+        customer: 3,
+        customer_district: 1,
+        customer_warehouse: 1,
+        district: 1,
+        warehouse: 1,
+        date: 1,
+        amount: Cents::new(100),
+    };
+    let expected = Account {
+        payments: 22,
+        is_good: true,
+        terminal: Some(0),
+        writes: Some(3),
+        added: Some(paid),
+    };
+    assert_eq!(rt; account, expected);
     Ok(())
 }

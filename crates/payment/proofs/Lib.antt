@@ -1,4 +1,5 @@
 pub mod Numbers
+mod Entries
 mod Numbered
 mod Changed
 mod Explained

@@ -1,5 +1,9 @@
 //! What a transaction that has committed wrote.
-ghost use Rattle.std.specs.Prelude.{◌≡◌};
+ghost use Rattle.std.specs.Prelude.{◌≡◌, Some, All};
+ghost use Rattle.std.specs.Ordering.{nat_cmp};
+ghost use Rattle.std.specs.Map.{keys_of};
+ghost use Rattle.std.specs.List.Sorted.{IsStrictlySortedBy};
+ghost use Rattle.payment.specs.Writes.{value_for};
 
 use std::marker::Model;
 use tables::History;
@@ -13,27 +17,32 @@ pub struct WriteList {
 }
 
 impl Model for WriteList {
+    ghost use Rattle.std.specs.Ordering.{nat_cmp};
+    ghost use Rattle.std.specs.Map.{keys_of};
+    ghost use Rattle.std.specs.List.Sorted.{IsStrictlySortedBy};
     ghost use Rattle.payment.specs.Writes.{Writings};
 
     ghost Value = { Writings };
 
     ghost view = { λ w. record { values = w.values.items; history = w.history } };
+
+    ghost invariant = { λ w. IsStrictlySortedBy nat_cmp (keys_of w.values.items) };
 }
 
 impl WriteList {
-    /// Of values by record number.
-    pub(crate) fn new(
-        values: Vec<(u32, Option<[u64; 7]>)>,
-        history: Option<History>,
-    ) -> WriteList
+    /// Of values by record number, in the order of the numbers.
+    pub(crate) fn new(values: Vec<(u32, Option<[u64; 7]>)>, history: Option<History>) -> WriteList
+        requires { IsStrictlySortedBy nat_cmp (keys_of values.items) }
         ensures { result ≡ record { values = values.items; history = history } }
     {
         WriteList { values, history }
     }
 
-    /// What each record written holds from then on.
+    /// What each record written holds after the commit, in the order of the record numbers.
     pub fn values(&self) -> &[(u32, Option<[u64; 7]>)]
-        ensures { result.now ≡ self.now.values }
+        ensures values { result.now ≡ self.now.values }
+        ensures found { All (λ e. value_for self.now e.0 ≡ Some e.1) self.now.values }
+        ensures ordered { IsStrictlySortedBy nat_cmp (keys_of self.now.values) }
     {
         self.values.as_slice()
     }

@@ -1,6 +1,9 @@
 //! What a transaction has read.
 ghost use Rattle.std.specs.Prelude.{◌≡◌, ◌≢◌, ℕ, ◌+◌, ◌<◌, ◌≤◌, Some, None, Ok, IfOk, IfErr, OnOk, OnErr, [], length, All};
 ghost use Rattle.std.specs.Option.{option_copied};
+ghost use Rattle.std.specs.Ordering.{nat_cmp};
+ghost use Rattle.std.specs.Map.{keys_of};
+ghost use Rattle.std.specs.List.Sorted.{IsStrictlySortedBy};
 ghost use Rattle.payment.specs.Reads.{held};
 ghost use Rattle.cells.specs.Records.{Reads, HasGrown, words_of};
 ghost use Rattle.cells.specs.declared.cells.Version.{Version};
@@ -85,6 +88,7 @@ impl ReadSet {
     pub fn versions(&self) -> Iter<'_, u32, Version>
         ensures versions { result ≡ self.now }
         ensures found { All (λ e. held self.now e.0 ≡ Some e.1) self.now }
+        ensures ordered { IsStrictlySortedBy nat_cmp (keys_of self.now) }
     {
         self.versions.iter()
     }

@@ -62,7 +62,7 @@ impl WriteSet {
         }
     }
 
-    /// Says which row HISTORY is to get.
+    /// Says which row HISTORY is to get, in the place of the row said before.
     pub fn add_history(&mut self, row: History)
         ensures { self.new ≡ record { values = self.old.values; history = Some row } }
     {

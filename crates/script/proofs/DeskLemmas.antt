@@ -1,9 +1,9 @@
 -- How the lines that a desk answers add up.
-use Rattle.std.proofs.Common.{◌≡◌, ℕ, ◌+◌, ◌<◌, ◌≤◌, false, eqb, cond, Option, Some, List, [], ◌∷◌, ◌++◌, length, length-append, append_assoc, append-nil, add-zero, codes, refl, sym, ap, ◌∙◌, subst, arith}
+use Rattle.std.proofs.Common.{◌≡◌, ℕ, ◌+◌, ◌≤◌, false, eqb, cond, Option, Some, List, [], ◌∷◌, ◌++◌, length, length-append, append_assoc, append-nil, add-zero, codes, refl, sym, ap, ◌∙◌, subst, arith}
 use Rattle.std.proofs.lemmas.Bool.Decides.{nat_tests}
 use Rattle.std.proofs.lemmas.List.{flat_map_more, length_push}
 use Rattle.std.specs.List.{AllByRecursion, flat_map}
-use Rattle.std.specs.Prelude.{string_bytes, Result, Err, IsErrOf, ◌⊎◌}
+use Rattle.std.specs.Prelude.{Result, Err, IsErrOf, ◌⊎◌}
 use Rattle.std.proofs.Common.{inl, inr}
 use Rattle.money.specs.declared.refusal.Refusal.{Refusal}
 use Rattle.money.specs.declared.refusal.Refusal.TheVariants.{OutOfMemory, BadInput}
@@ -14,7 +14,7 @@ use Rattle.lines.specs.declared.answer.Answer.{Answer}
 use Rattle.lines.proofs.Cutting.{lines_first, lines_of_cut, cut_line, cut_more, held_more}
 use Rattle.script.specs.Session.{state_of}
 use Rattle.script.specs.Turns.{State, Turn, IsLineTurn, AreTurns}
-use Rattle.script.specs.Written.{start, answers_text}
+use Rattle.script.specs.Written.{start, answers_text, HasTooManyLines}
 use Rattle.script.specs.Answered.{Standing, HasAnswered, HasAnsweredAll, HasTooMany}
 use Rattle.script.proofs.TurnLemmas.{held_some}
 
@@ -129,10 +129,10 @@ too_many tables text written end d h feeds full later =
 
 -- more of the text
 pub too_many_more : (text more : List ℕ) → HasTooMany text → HasTooMany (text ++ more)
-too_many_more text more many later = subst (λ t. 4000000000 < length (lines_of t)) (sym (append_assoc text more later)) (many (more ++ later))
+too_many_more text more many later = subst HasTooManyLines (sym (append_assoc text more later)) (many (more ++ later))
 
 -- a last line beyond the last number
-pub last_too_many : (tables : Database) (text written : List ℕ) (d : Standing) → HasAnswered tables text written d → (d.line ≡ Some [] → ⊥) → 4000000000 ≤ d.answered → 4000000000 < length (lines_of text)
+pub last_too_many : (tables : Database) (text written : List ℕ) (d : Standing) → HasAnswered tables text written d → (d.line ≡ Some [] → ⊥) → 4000000000 ≤ d.answered → HasTooManyLines text
 last_too_many tables text written d h some full =
     let all = ap length (all_lines tables text written d h some) ∙ length_push _ _ in
     let answered = h.count in

@@ -16,9 +16,9 @@ one_payment s x a b (bad not e) (full is at_cap f) = absurd (not is)
 one_payment s x a b (bad not e) (done is room f) = absurd (not is)
 one_payment s x a b (full is at_cap e) (bad isnt f) = absurd (isnt is)
 one_payment s x a b (full is at_cap e) (full ok top f) = e ∙ sym f
-one_payment s x a b (full is at_cap e) (done ok room f) = absurd (room at_cap)
+one_payment s x a b (full is at_cap e) (done ok room f) = absurd (omega arith)
 one_payment s x a b (done is room e) (bad isnt f) = absurd (isnt is)
-one_payment s x a b (done is room e) (full ok at_cap f) = absurd (room at_cap)
+one_payment s x a b (done is room e) (full ok at_cap f) = absurd (omega arith)
 one_payment s x a b (done is room e) (done ok free f) = e ∙ sym f
 
 one_request : (s : State) (n : ℕ) (asked : Request) (a b : Turn) → IsRequestTurn s n asked a → IsRequestTurn s n asked b → a ≡ b

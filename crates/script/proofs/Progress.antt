@@ -1,7 +1,7 @@
 -- How far a script has come between reads, and what is written by then.
-use Rattle.std.proofs.Common.{◌≡◌, ℕ, Option, Some, None, List, [], ◌++◌, length, append_assoc, append-nil, ◌-◌, ◌<◌, ◌≤◌, take, drop, length-drop, refl, sym, ap, ◌∙◌, subst}
+use Rattle.std.proofs.Common.{◌≡◌, ℕ, Option, Some, None, List, [], ◌++◌, length, append_assoc, append-nil, ◌-◌, ◌≤◌, take, drop, length-drop, refl, sym, ap, ◌∙◌, subst}
 use Rattle.std.proofs.Math.Seq.{take-length}
-use Rattle.std.specs.Prelude.{string_bytes, Result, Ok, Err, OnOk, OnErr, IfOk, IfErr, IsErrOf, ◌⊎◌}
+use Rattle.std.specs.Prelude.{Result, Ok, Err, OnOk, OnErr, IfOk, IfErr, IsErrOf, ◌⊎◌}
 use Rattle.std.proofs.Common.{inl, inr}
 use Rattle.money.specs.declared.refusal.Refusal.{Refusal}
 use Rattle.money.specs.declared.refusal.Refusal.TheVariants.{OutOfMemory, BadInput, Device}
@@ -17,7 +17,7 @@ use Rattle.lines.specs.Report.{report_text}
 use Rattle.book.specs.declared.entry.Done.{Done}
 use Rattle.script.specs.Session.{state_of}
 use Rattle.script.specs.Turns.{AreTurns}
-use Rattle.script.specs.Written.{start, verdicts_of, IsWhole, IsBeginning, of_answers, of_whole}
+use Rattle.script.specs.Written.{start, verdicts_of, HasTooManyLines, IsWhole, IsBeginning, of_answers, of_whole}
 use Rattle.script.specs.Answered.{Standing, HasAnswered, HasAnsweredAll, HasTooMany}
 use Rattle.script.proofs.DeskLemmas.{lines_of_more}
 
@@ -159,18 +159,18 @@ reached_end tables bytes left next old mid new c d e h wrote consumed end last =
 
 -- too many lines in a piece, or with the last one
 pub many_reached : (tables : Database) (bytes : List ℕ) (left next old mid new : Option (List ℕ)) (c d : Standing) (piece : List ℕ) → HasReached tables bytes left old mid c → Wrote tables mid new c d → Consumes left next piece
-    → ((text written : List ℕ) → HasAnswered tables text written d → HasTooMany (text ++ piece)) → 4000000000 < length (lines_of bytes)
+    → ((text written : List ℕ) → HasAnswered tables text written d → HasTooMany (text ++ piece)) → HasTooManyLines bytes
 many_reached tables bytes left next old mid new c d piece h wrote consumed many =
     let w = wrote h.text h.written h.desk_is in
     let r = consumed_some h.rest next piece (subst (λ l. Consumes l next piece) h.left_is consumed) in
     let is : bytes ≡ (h.text ++ piece) ++ r.0 = h.bytes_are ∙ ap (λ t. h.text ++ t) r.2 ∙ sym (append_assoc h.text piece r.0) in
-    subst (λ t. 4000000000 < length (lines_of t)) (sym is) (many h.text (h.written ++ w.0) w.2 r.0)
+    subst HasTooManyLines (sym is) (many h.text (h.written ++ w.0) w.2 r.0)
 
 pub many_at_end : (tables : Database) (bytes : List ℕ) (left next old mid new : Option (List ℕ)) (c d : Standing) → HasReached tables bytes left old mid c → Wrote tables mid new c d → Consumes left next [] → IsAtEnd next
-    → ((text written : List ℕ) → HasAnswered tables text written d → 4000000000 < length (lines_of text)) → 4000000000 < length (lines_of bytes)
+    → ((text written : List ℕ) → HasAnswered tables text written d → HasTooManyLines text) → HasTooManyLines bytes
 many_at_end tables bytes left next old mid new c d h wrote consumed end many =
     let w = wrote h.text h.written h.desk_is in
-    subst (λ t. 4000000000 < length (lines_of t)) (sym (ended_text tables bytes left next old mid c h consumed end)) (many h.text (h.written ++ w.0) w.2)
+    subst HasTooManyLines (sym (ended_text tables bytes left next old mid c h consumed end)) (many h.text (h.written ++ w.0) w.2)
 
 -- at the start
 pub reached_start : (tables : Database) (bytes : List ℕ) (left old : Option (List ℕ)) (d : Standing) → left ≡ Some bytes → HasAnswered tables [] [] d → HasReached tables bytes left old old d

@@ -1,32 +1,26 @@
 -- What the calls of a turn make.
-use Rattle.std.proofs.Common.{◌≡◌, ℕ, ◌+◌, ◌<◌, ◌≤◌, Bool, true, false, leb, cond, Option, Some, None, Result, Ok, Err, IfOk, List, [], ◌∷◌, ◌++◌, length, refl, sym, ap, ◌∙◌, subst, arith}
+use Rattle.std.proofs.Common.{◌≡◌, ℕ, ◌<◌, ◌≤◌, Bool, true, false, leb, cond, Option, Some, None, Result, Ok, Err, IfOk, List, length, refl, sym, ap, ◌∙◌, subst, arith}
 use Rattle.std.proofs.lemmas.Bool.Decides.{nat_tests}
 use Rattle.money.specs.declared.refusal.Refusal.{Refusal}
-use Rattle.tables.specs.Database.{Database}
-use Rattle.tables.specs.Apply.{after, reply_to, payment_reply}
+use Rattle.tables.specs.Apply.{reply_to}
 use Rattle.tables.specs.declared.input.Input.{Input}
 use Rattle.tables.specs.declared.input.Input.TheVariants as input
 use Rattle.tables.specs.declared.input.Payment.{Payment}
-use Rattle.tables.specs.declared.reply.Reply.TheVariants as reply
 use Rattle.lines.specs.Lines.{held}
 use Rattle.lines.specs.Requests.{HasNumbers, IsWithinReach, IsRefused, request_text}
 use Rattle.lines.specs.declared.request.Request.{Request}
 use Rattle.lines.specs.declared.answer.Answer.{Answer}
 use Rattle.lines.specs.declared.answer.Answer.TheVariants as answer
-use Rattle.book.specs.History.{commit_word}
 use Rattle.book.specs.declared.entry.Done.{Done}
 use Rattle.script.specs.Session.{IsNext}
-use Rattle.script.specs.Turns.{State, IsRequestTurn, IsLineTurn, unread, read, answer_of, paid}
+use Rattle.script.specs.Turns.{State, IsRequestTurn, IsLineTurn, unread, read, answer_of, committed}
 
 -- what a commit leaves
-pub paid_turn : (s last : State) (x : Payment) (asked : Input) (d : Done) (told : Answer) → asked ≡ input.Payment x → told ≡ answer_of d.reply → IsNext s asked d last → record { answer = told; state = last } ≡ paid s x
-paid_turn s last x asked d told is says next =
-    let entry : Done = record { number = length s.dones + 1; tid = commit_word (length s.dones + 1); reply = reply.Payment (payment_reply s.tables x) } in
-    let same : d ≡ entry = next.told ∙ ap (λ (y : Input). record { number = length s.dones + 1; tid = commit_word (length s.dones + 1); reply = reply_to s.tables y }) is in
-    let answered : told ≡ answer.Payment (payment_reply s.tables x) = says ∙ ap (λ (y : Done). answer_of y.reply) same in
-    let after_it : last.tables ≡ after s.tables (input.Payment x) = next.tables ∙ ap (after s.tables) is in
-    let told_all : last.dones ≡ s.dones ++ entry ∷ [] = next.dones ∙ ap (λ y. s.dones ++ y ∷ []) same in
-    λ i. record { answer = answered i; state = record { tables = after_it i; dones = told_all i } }
+pub committed_turn : (s last : State) (x : Payment) (asked : Input) (d : Done) (told : Answer) → asked ≡ input.Payment x → told ≡ answer_of d.reply → IsNext s asked d last → record { answer = told; state = last } ≡ committed s (input.Payment x)
+committed_turn s last x asked d told is says next =
+    let answered : told ≡ answer_of (reply_to s.tables asked) = says ∙ ap (λ (y : Done). answer_of y.reply) next.told in
+    let turn : record { answer = told; state = last } ≡ committed s asked = λ i. record { answer = answered i; state = next.state i } in
+    turn ∙ ap (committed s) is
 
 -- the bytes of a line that is held
 pub held_some : (bytes text : List ℕ) → Some text ≡ held bytes → (length bytes ≤ 1024) × (bytes ≡ text)

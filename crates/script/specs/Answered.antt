@@ -1,16 +1,16 @@
--- How far a desk has come in a script.
-use Rattle.std.specs.Prelude.{◌≡◌, ℕ, ◌<◌, Option, List, ◌++◌, length, string_bytes}
+-- How far a desk has come in a script: for a script's private steps. What it promises is in Written.antt.
+use Rattle.std.specs.Prelude.{◌≡◌, ℕ, Option, List, ◌++◌, length, string_bytes}
 use Rattle.tables.specs.Database.{Database}
 use Rattle.lines.specs.Lines.{IsCut, held, lines_of}
 use Rattle.lines.specs.declared.answer.Answer.{Answer}
 use Rattle.script.specs.declared.running.Desk.{Desk}
-use Rattle.script.specs.Session.{Committed, state_of}
+use Rattle.script.specs.Session.{Transcript, state_of}
 use Rattle.script.specs.Turns.{AreTurns}
-use Rattle.script.specs.Written.{start, answers_text}
+use Rattle.script.specs.Written.{start, answers_text, HasTooManyLines}
 
 -- what a desk has: what has committed, the line that is coming in, how many lines were answered, and the answers that aren't written yet
 pub record Standing : Type 0 where
-  pub session : Committed
+  pub session : Transcript
   pub line : Option (List ℕ)
   pub answered : ℕ
   pub output : List ℕ
@@ -35,6 +35,6 @@ pub record HasAnsweredAll (tables : Database) (bytes written : List ℕ) (d : St
   pub turns : AreTurns (start tables) 1 (lines_of bytes) answers (state_of tables d.session)
   pub output_is : answers_text answers ≡ written ++ d.output
 
--- whatever follows the text, there are more lines than are answered
+-- whatever follows the text, it has too many lines
 abbrev pub HasTooMany : List ℕ → Type 0
-HasTooMany text = (later : List ℕ) → 4000000000 < length (lines_of (text ++ later))
+HasTooMany text = (later : List ℕ) → HasTooManyLines (text ++ later)

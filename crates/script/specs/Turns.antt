@@ -1,14 +1,16 @@
 -- What the lines of a script are answered, and what they commit.
-use Rattle.std.specs.Prelude.{◌≡◌, ◌≢◌, ℕ, ◌+◌, ◌<◌, ◌≤◌, Option, Some, None, List, [], ◌∷◌, ◌++◌, length}
+use Rattle.std.specs.Prelude.{◌≡◌, ℕ, ◌+◌, ◌<◌, ◌≤◌, Option, Some, None, List, [], ◌∷◌, ◌++◌, length}
 use Rattle.std.specs.Option.{option_map}
 use Rattle.std.specs.FinMap.{get}
 use Rattle.money.specs.declared.refusal.Refusal.{Refusal}
 use Rattle.money.specs.declared.refusal.Refusal.TheVariants.{BadInput, BadLine, CommitsFull}
 use Rattle.tables.specs.Database.{Database}
 use Rattle.tables.specs.Inputs.{IsPayment}
-use Rattle.tables.specs.Apply.{after_payment, payment_reply}
+use Rattle.tables.specs.Apply.{after, reply_to}
 use Rattle.tables.specs.declared.keys.DistrictKey.{DistrictKey}
 use Rattle.tables.specs.declared.keys.CustomerKey.{CustomerKey}
+use Rattle.tables.specs.declared.input.Input.{Input}
+use Rattle.tables.specs.declared.input.Input.TheVariants as input
 use Rattle.tables.specs.declared.input.Payment.{Payment}
 use Rattle.tables.specs.declared.input.Who.TheVariants.{Id}
 use Rattle.tables.specs.declared.reply.Reply.{Reply}
@@ -18,7 +20,7 @@ use Rattle.lines.specs.declared.request.Request.{Request}
 use Rattle.lines.specs.declared.request.Request.TheVariants as request
 use Rattle.lines.specs.declared.answer.Answer.{Answer}
 use Rattle.lines.specs.declared.answer.Answer.TheVariants as answer
-use Rattle.book.specs.History.{commit_word}
+use Rattle.book.specs.History.{commit_tid}
 use Rattle.book.specs.declared.entry.Done.{Done}
 
 -- the committed tables, and what was committed, in order
@@ -44,21 +46,22 @@ shown s n (Some row) = record { answer = row; state = s }
 abbrev pub answer_of : Reply → Answer
 answer_of (reply.Payment r) = answer.Payment r
 
--- a Payment is the next commit
-abbrev pub paid : State → Payment → Turn
-paid s x = record {
-  answer = answer.Payment (payment_reply s.tables x);
-  state = record {
-    tables = after_payment s.tables x;
-    dones = s.dones ++ record { number = length s.dones + 1; tid = commit_word (length s.dones + 1); reply = reply.Payment (payment_reply s.tables x) } ∷ [];
-  };
+-- what its terminal is told of an input that commits after n others, at these tables
+abbrev pub done_of : Database → ℕ → Input → Done
+done_of t n x = record { number = n + 1; tid = commit_tid (n + 1); reply = reply_to t x }
+
+-- an input is the next commit
+abbrev pub committed : State → Input → Turn
+committed s x = record {
+  answer = answer_of (reply_to s.tables x);
+  state = record { tables = after s.tables x; dones = s.dones ++ done_of s.tables (length s.dones) x ∷ [] };
 }
 
 -- the turn of a Payment, whose date is the number of its line: refused outside the ranges of the input, then at the commit cap, and else committed
 pub data IsPaymentTurn (s : State) (x : Payment) (turn : Turn) : Type 0 where
   bad : ¬ IsPayment s.tables.scale x → turn ≡ refused s BadInput x.date → IsPaymentTurn s x turn
-  full : IsPayment s.tables.scale x → length s.dones ≡ s.tables.scale.commits → turn ≡ refused s CommitsFull x.date → IsPaymentTurn s x turn
-  done : IsPayment s.tables.scale x → length s.dones ≢ s.tables.scale.commits → turn ≡ paid s x → IsPaymentTurn s x turn
+  full : IsPayment s.tables.scale x → s.tables.scale.commits ≤ length s.dones → turn ≡ refused s CommitsFull x.date → IsPaymentTurn s x turn
+  done : IsPayment s.tables.scale x → length s.dones < s.tables.scale.commits → turn ≡ committed s (input.Payment x) → IsPaymentTurn s x turn
 
 -- the row that a request asks for, if there is one
 abbrev pub row_of : Database → Request → Option Answer

@@ -1,5 +1,5 @@
 -- What a script writes.
-use Rattle.std.specs.Prelude.{◌≡◌, ℕ, List, [], ◌∷◌, ◌++◌, length, codes}
+use Rattle.std.specs.Prelude.{◌≡◌, ℕ, ◌<◌, List, [], ◌∷◌, ◌++◌, length, codes}
 use Rattle.std.specs.List.{flat_map}
 use Rattle.std.specs.Option.{option_map}
 use Rattle.tables.specs.Database.{Database}
@@ -20,7 +20,11 @@ start t = record { tables = t; dones = [] }
 
 -- answers, each with a line feed
 abbrev pub answers_text : List Answer → List ℕ
-answers_text answers = flat_map (λ told. answer_text told ++ codes "\n") answers
+answers_text answers = flat_map (λ answer. answer_text answer ++ codes "\n") answers
+
+-- more lines than a script may have
+abbrev pub HasTooManyLines : List ℕ → Type 0
+HasTooManyLines bytes = 4000000000 < length (lines_of bytes)
 
 -- what a report says of the consistency conditions 1, 8, 9, 10 and 12
 abbrev pub verdicts_of : Report → List Verdict

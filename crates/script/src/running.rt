@@ -4,12 +4,12 @@ ghost use Rattle.std.specs.Prelude.{◌≡◌, ◌⊎◌, ◌≤◌, ◌<◌, �
 ghost use Rattle.std.specs.Io.KnownBytes.{Appends, Consumes, IsAtEnd};
 ghost use Rattle.money.specs.declared.refusal.Refusal.TheVariants.{OutOfMemory, BadInput, Device};
 ghost use Rattle.population.specs.Initial.{initial};
-ghost use Rattle.lines.specs.Lines.{held, lines_of};
+ghost use Rattle.lines.specs.Lines.{held};
 ghost use Rattle.lines.specs.Output.{answer_text};
 ghost use Rattle.book.specs.Parts.{IsFresh, first_of, cells_of, ledger_name, ledger_parts, terminals_of};
 ghost use Rattle.script.specs.Session.{state_of};
 ghost use Rattle.script.specs.Turns.{Turn, IsLineTurn};
-ghost use Rattle.script.specs.Written.{verdicts_of, IsWhole, IsBeginning};
+ghost use Rattle.script.specs.Written.{verdicts_of, HasTooManyLines, IsWhole, IsBeginning};
 ghost use Rattle.script.specs.Answered.{standing_of, HasAnswered, HasAnsweredAll, HasTooMany};
 
 use crate::answering::answer_line;
@@ -34,12 +34,17 @@ const MAX_LINES: u32 = 4_000_000_000;
 /// line is its number, from 1. A line in none of the forms, or of more than 1,024 bytes, is answered by
 /// `14 line N`.
 ///
+/// Runs over the one terminal of an engine that it opens, and has its book until the end. May wait, at the
+/// book's lock and at record cells, and executes a Payment again after `Stale` or `Conflict`: what is promised
+/// holds if it returns.
+///
 /// What is written is the text of a whole script of the bytes that the reader has, in whatever pieces they
 /// come, and what is returned is that script's report and its commits in order (`specs/Written.antt`).
 ///
 /// What was answered is written before each read, so it is out before a read can wait. Memory beside the
-/// tables is that of one piece and its answers, of a [`Done`] for each commit, up to the commit cap, and, at
-/// the end, of the report's sums by customer.
+/// population is the engine's (a copy of its tables, a cell a record, and a history entry with its writes for
+/// each commit), one piece and its answers, a [`Done`] for each commit, and, at the end, the report's sums by
+/// customer.
 ///
 /// Refuses by `Device` where the reader or the writer fails, or comes to no end in 2^64 - 1 calls, by `BadInput`
 /// only where there are more than 4,000,000,000 lines, and else for memory. What was written by then is a
@@ -56,8 +61,7 @@ pub fn script<R: Read, W: Write, T: Wait>(
         × IsWhole (initial population) bytes text closed.0 closed.1.items) }
     ensures beginning { OnErr result ((bytes : List ℕ) → R.remaining reader.old ≡ Some bytes → (front : List ℕ)
         × Appends (W.contents writer.old) (W.contents writer.new) front × IsBeginning (initial population) bytes front) }
-    ensures too_many { IsErrOf result BadInput → (bytes : List ℕ) → R.remaining reader.old ≡ Some bytes
-        → 4000000000 < length (lines_of bytes) }
+    ensures too_many { IsErrOf result BadInput → (bytes : List ℕ) → R.remaining reader.old ≡ Some bytes → HasTooManyLines bytes }
     ensures refusals { IfErr result (λ refusal. (refusal ≡ OutOfMemory) ⊎ (refusal ≡ BadInput) ⊎ (refusal ≡ Device)) }
 {
     let parts = Parts::new(rt, alloc, population, 1)?;
@@ -81,8 +85,7 @@ fn run<K: Run, R: Read, W: Write, T: Wait>(
         × IsWhole K.first bytes text closed.0 closed.1.items) }
     ensures beginning { OnErr result ((bytes : List ℕ) → R.remaining reader.old ≡ Some bytes → (front : List ℕ)
         × Appends (W.contents writer.old) (W.contents writer.new) front × IsBeginning K.first bytes front) }
-    ensures too_many { IsErrOf result BadInput → (bytes : List ℕ) → R.remaining reader.old ≡ Some bytes
-        → 4000000000 < length (lines_of bytes) }
+    ensures too_many { IsErrOf result BadInput → (bytes : List ℕ) → R.remaining reader.old ≡ Some bytes → HasTooManyLines bytes }
     ensures refusals { IfErr result (λ refusal. (refusal ≡ OutOfMemory) ⊎ (refusal ≡ BadInput) ⊎ (refusal ≡ Device)) }
 {
     let (engine, mut seats) = Engine::<K>::open(parts);
@@ -138,8 +141,7 @@ impl<'e, K: Run> Desk<'e, K> {
             × IsWhole K.first bytes text closed.0 closed.1.items) }
         ensures beginning { OnErr result ((bytes : List ℕ) → R.remaining reader.old ≡ Some bytes → (front : List ℕ)
             × Appends (W.contents writer.old) (W.contents writer.new) front × IsBeginning K.first bytes front) }
-        ensures too_many { IsErrOf result BadInput → (bytes : List ℕ) → R.remaining reader.old ≡ Some bytes
-            → 4000000000 < length (lines_of bytes) }
+        ensures too_many { IsErrOf result BadInput → (bytes : List ℕ) → R.remaining reader.old ≡ Some bytes → HasTooManyLines bytes }
         ensures refusals { IfErr result (λ refusal. (refusal ≡ OutOfMemory) ⊎ (refusal ≡ BadInput) ⊎ (refusal ≡ Device)) }
     {
         let mut desk = self;
@@ -165,7 +167,7 @@ impl<'e, K: Run> Desk<'e, K> {
             → HasAnswered K.first [] [] (standing_of self.old) → (front : List ℕ)
             × Appends (W.contents writer.old) (W.contents writer.new) front × IsBeginning K.first bytes front) }
         ensures too_many { IsErrOf result BadInput → (bytes : List ℕ) → R.remaining reader.old ≡ Some bytes
-            → HasAnswered K.first [] [] (standing_of self.old) → 4000000000 < length (lines_of bytes) }
+            → HasAnswered K.first [] [] (standing_of self.old) → HasTooManyLines bytes }
         ensures refusals { IfErr result (λ refusal. (refusal ≡ OutOfMemory) ⊎ (refusal ≡ BadInput) ⊎ (refusal ≡ Device)) }
     {
         for _ in 0..u64::MAX {
@@ -201,7 +203,7 @@ impl<'e, K: Run> Desk<'e, K> {
         ensures ok { OnOk result ((text written : List ℕ) → HasAnswered K.first text written (standing_of self.old)
             → HasAnsweredAll K.first text written (standing_of self.new)) }
         ensures too_many { IsErrOf result BadInput → (text written : List ℕ)
-            → HasAnswered K.first text written (standing_of self.old) → 4000000000 < length (lines_of text) }
+            → HasAnswered K.first text written (standing_of self.old) → HasTooManyLines text }
         ensures refusals { IfErr result (λ refusal. (refusal ≡ OutOfMemory) ⊎ (refusal ≡ BadInput)) }
     {
         if self.line.is_empty() {

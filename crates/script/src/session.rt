@@ -1,9 +1,8 @@
 //! The one terminal of an engine.
 
-ghost use Rattle.std.specs.Prelude.{◌≡◌, ◌⊎◌, ◌+◌, ◌<◌, ◌≤◌, [], ◌∷◌, ◌++◌, length, IfOk, IfErr, OnErr, IsErrOf};
+ghost use Rattle.std.specs.Prelude.{◌≡◌, ◌⊎◌, ◌≤◌, [], length, IfOk, IfErr, OnErr, IsErrOf};
 ghost use Rattle.tables.specs.Database.{database};
 ghost use Rattle.tables.specs.Inputs.{IsInput};
-ghost use Rattle.tables.specs.Apply.{after, reply_to};
 ghost use Rattle.plain.specs.Check.{IsReportOf};
 ghost use Rattle.book.specs.History.{replay};
 ghost use Rattle.script.specs.Session.{state_of, IsCommitOf, IsNext};
@@ -31,9 +30,9 @@ pub struct Session<'e, K: Run> {
 
 impl<'e, K: Run> Model for Session<'e, K> {
     ghost use Rattle.std.specs.Prelude.{◌≡◌, length};
-    ghost use Rattle.script.specs.Session.{Committed};
+    ghost use Rattle.script.specs.Session.{Transcript};
 
-    ghost Value = { Committed };
+    ghost Value = { Transcript };
 
     ghost view = { λ s. record { history = s.book.value.history; dones = s.dones.items } };
 
@@ -78,7 +77,7 @@ impl<'e, K: Run> Session<'e, K> {
         requires { IsInput (replay K.first self.old.history).scale input.now }
         ensures next { IfOk result (λ done. IsNext (state_of K.first self.old) input.now done (state_of K.first self.new)) }
         ensures refusals { IfErr result (λ refusal. (refusal ≡ CommitsFull) ⊎ (refusal ≡ OutOfMemory)) }
-        ensures full { IsErrOf result CommitsFull → length self.old.dones ≡ (replay K.first self.old.history).scale.commits }
+        ensures full { IsErrOf result CommitsFull → (replay K.first self.old.history).scale.commits ≤ length self.old.dones }
         ensures err { OnErr result (self.new ≡ self.old) }
     {
         self.dones.reserve(1)?;
@@ -121,7 +120,7 @@ fn persist<K: Run, R: Wait>(
     ensures reader { seat.new.reader.cells ≡ K.cells }
     ensures commits { IfOk result (IsCommitOf K.first book.old.history book.new.history input.now) }
     ensures refusals { IfErr result (λ refusal. (refusal ≡ CommitsFull) ⊎ (refusal ≡ OutOfMemory)) }
-    ensures full { IsErrOf result CommitsFull → length book.old.history ≡ (replay K.first book.old.history).scale.commits }
+    ensures full { IsErrOf result CommitsFull → (replay K.first book.old.history).scale.commits ≤ length book.old.history }
     ensures err { OnErr result (book.new ≡ book.old) }
 {
     for _ in rt.forever() {
@@ -147,7 +146,7 @@ fn attempt<K: Run, R: Wait>(
     ensures reader { seat.new.reader.cells ≡ K.cells }
     ensures commits { IfOk result (IsCommitOf K.first book.old.history book.new.history input.now) }
     ensures refusals { IfErr result (λ refusal. (refusal ≡ Stale) ⊎ (refusal ≡ Conflict) ⊎ (refusal ≡ CommitsFull) ⊎ (refusal ≡ OutOfMemory)) }
-    ensures full { IsErrOf result CommitsFull → length book.old.history ≡ (replay K.first book.old.history).scale.commits }
+    ensures full { IsErrOf result CommitsFull → (replay K.first book.old.history).scale.commits ≤ length book.old.history }
     ensures err { OnErr result (book.new ≡ book.old) }
 {
     let cells = engine.cells();

@@ -1,6 +1,6 @@
-use Rattle.std.proofs.Common.{◌≡◌, ◌++◌, ◌+◌, ◌-◌, [], ◌∷◌, length, refl, sym, ap, ◌∙◌, arith, rules}
+use Rattle.std.proofs.Common.{◌+◌, ◌-◌, [], ◌∷◌, length, refl, sym, ap, ◌∙◌, arith}
 use Rattle.tables.specs.Database.{database}
-use Rattle.cells.specs.First.{first_version, firsts}
+use Rattle.cells.specs.First.{firsts}
 use Rattle.cells.specs.Opening.{Opened}
 use Rattle.cells.proofs.Firsts.{firsts-with, grows, unchanged, grown, none_left}
 use Rattle.cells.proofs.populate.add_records.Goals as goal

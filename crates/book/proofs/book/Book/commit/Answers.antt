@@ -4,7 +4,7 @@ use Rattle.tables.specs.Database.{Database, database}
 use Rattle.cells.specs.Records.{Written, at}
 use Rattle.cells.proofs.Grown.{grown_twice}
 use Rattle.book.specs.Book.{Kept, AreLatest, IsSound, IsReadBy, Commits, HasSeen, entry_of}
-use Rattle.book.specs.History.{commit_word, versions_for}
+use Rattle.book.specs.History.{commit_tid, versions_for}
 use Rattle.book.specs.Share.{Holding}
 use Rattle.book.proofs.Sound.{sound_after}
 use Rattle.book.proofs.Committed.{read_by_more}
@@ -90,7 +90,7 @@ invariant_of-self-2 g c =
     c.args.reader.now c.args.work c.requires.work c.if-not-validate.ensures.latest c.share.inside.terminal c.store.new.pen small cells
     (λ n. c.store.ensures.versions n ∙ (λ i. at (c.validate.ensures.pen i).all n ++ versions_for (next i) c.args.work.writes.values n)) in
     let history : c.push_reserved.new.self.items ≡ c.self.inside.history.items ++ entry_of (length c.self.inside.history.items + 1) c.share.inside.terminal c.args.work ∷ [] =
-    c.push_reserved.ensures.items ∙ (λ i. c.reserve.ensures.items i ++ record { number = next i; tid = (c.commit_tid.ensures ∙ ap commit_word next) i; terminal = c.share.inside.terminal; input = c.args.work.input; reply = c.args.work.reply; writes = c.in-Ok-list.ensures.same i } ∷ []) in (
+    c.push_reserved.ensures.items ∙ (λ i. c.reserve.ensures.items i ++ record { number = next i; tid = (c.tid_for.ensures ∙ ap commit_tid next) i; terminal = c.share.inside.terminal; input = c.args.work.input; reply = c.args.work.reply; writes = c.in-Ok-list.ensures.same i } ∷ []) in (
       subst (λ (q : List Entry × Database). IsSound g.K.Run.first g.K.Run.cells (record { written = c.store.new.pen; history = q.0 }) q.1) (λ i. (sym history i, sym c.in-Ok-apply.ensures.tables i)) made,
       c.add.ensures.total ∙ ap (λ n. n + 1) c.self.invariant.1 ∙ sym (ap length history ∙ length-append c.self.inside.history.items (entry_of (length c.self.inside.history.items + 1) c.share.inside.terminal c.args.work ∷ [])),
     )
@@ -102,12 +102,12 @@ returns-clause-answer g c =
     let len : c.len-commits.result ≡ length c.self.inside.history.items = search rules in
     let small : length c.self.inside.history.items < g.K.Run.first.scale.commits = omega (arith, c.if-commits.false, cap, len, c.commits.ensures.value) in
     let next : c.len-commits.result + 1 ≡ length c.self.inside.history.items + 1 = ap (λ n. n + 1) len in
-    let tid = c.commit_tid.ensures ∙ ap commit_word next in
+    let tid = c.tid_for.ensures ∙ ap commit_tid next in
     let history : c.push_reserved.new.self.items ≡ c.self.inside.history.items ++ entry_of (length c.self.inside.history.items + 1) c.share.inside.terminal c.args.work ∷ [] =
     c.push_reserved.ensures.items ∙ (λ i. c.reserve.ensures.items i ++ record { number = next i; tid = tid i; terminal = c.share.inside.terminal; input = c.args.work.input; reply = c.args.work.reply; writes = c.in-Ok-list.ensures.same i } ∷ []) in
     subst (λ (q : Kept × Holding). AreLatest q.0.written.all c.args.work.reads × (length q.0.history < g.K.Run.first.scale.commits)
     × Commits q.0 (record { written = c.store.new.pen; history = c.push_reserved.new.self.items }) (entry_of (length q.0.history + 1) q.1.terminal c.args.work)
-    × (c.of.result ≡ record { number = length q.0.history + 1; tid = commit_word (length q.0.history + 1); reply = c.args.work.reply })
+    × (c.of.result ≡ record { number = length q.0.history + 1; tid = commit_tid (length q.0.history + 1); reply = c.args.work.reply })
     × (◌≡◌ {A = Holding} (record { terminal = c.share.inside.terminal; parts = c.add.new.share.parts; commits = c.add.new.share.amount }) (record { terminal = q.1.terminal; parts = q.1.parts; commits = q.1.commits + 1 }))
     × HasSeen c.store.new.reader c.store.new.pen c.args.work.writes) (λ i. (c.self.view_is i, c.share.view_is i)) (
       c.if-not-validate.ensures.latest,

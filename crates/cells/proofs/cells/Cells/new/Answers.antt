@@ -1,8 +1,7 @@
-use Rattle.std.proofs.Common.{◌≡◌, ℕ, ◌+◌, ◌*◌, ◌++◌, zero-add, sym, ap, ◌∙◌, arith}
+use Rattle.std.proofs.Common.{◌≡◌, ◌+◌, ◌*◌, zero-add, sym, ap, ◌∙◌, arith}
 use Rattle.tables.specs.Database.{Database, database}
 use Rattle.population.specs.Initial.{initial}
 use Rattle.cells.specs.Opening.{Opened}
-use Rattle.cells.specs.Records.{Written}
 use Rattle.cells.specs.First.{cell_count, firsts}
 use Rattle.cells.proofs.Firsts.{tables-joined}
 use Rattle.cells.proofs.cells.Cells.new.Goals as goal
