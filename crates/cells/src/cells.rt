@@ -169,7 +169,8 @@ impl Cells {
     /// Whether a version that the reader has read is still the latest of its record (the second phase of Silo's
     /// commit, section 4.4): true exactly where its TID is the latest's, and then it is the latest.
     ///
-    /// The reader has then seen all versions of the record. Takes no memory. May wait at this record's cell; else constant time.
+    /// The reader has then seen all versions of the record. Takes no memory. May wait at this record's cell; else
+    /// constant time.
     pub fn meet<R: Wait>(
         &self,
         rt: &R,

@@ -84,7 +84,7 @@ impl ReadSet {
         self.versions.get(&number)
     }
 
-    /// The versions held, by record number.
+    /// The versions held, by record number and in the order of the numbers.
     pub fn versions(&self) -> Iter<'_, u32, Version>
         ensures versions { result ≡ self.now }
         ensures found { All (λ e. held self.now e.0 ≡ Some e.1) self.now }
