@@ -9,8 +9,8 @@ use Rattle.tables.specs.WellFormed.{IsWellFormed, HasRoom}
 use Rattle.cells.specs.First.{cell_count, first_version, firsts}
 use Rattle.cells.specs.TidWord.{tid_of}
 use Rattle.cells.specs.Versions.{tid, last_tid, value_in}
-use Rattle.cells.specs.Records.{Written, at}
-use Rattle.payment.specs.Explains.{IsOf}
+use Rattle.cells.specs.Records.{PenView, at}
+use Rattle.tables.specs.Constant.{IsOf}
 use Rattle.book.specs.History.{commit_word}
 use Rattle.book.specs.Book.{IsSound}
 use Rattle.book.proofs.Sound.{last_one}
@@ -26,18 +26,18 @@ first_tid : (w : Option (List ℕ)) → tid (first_version w) < tid_of (commit_w
 first_tid (Some words) = omega arith
 first_tid None = omega arith
 
-pub sound_first : (t0 : Database) (run_cells : List TableId) (pen : Written) → IsWellFormed t0 → IsConsistent t0 → HasRoom 600000 t0 → t0.scale.commits ≤ 600000
+pub sound_first : (t0 : Database) (run_cells : List TableId) (pen : PenView) → IsWellFormed t0 → IsConsistent t0 → HasRoom 600000 t0 → t0.scale.commits ≤ 600000
     → length run_cells ≡ cell_count t0.scale → pen ≡ record { cells = run_cells; all = firsts t0 0 (cell_count t0.scale) }
     → IsSound t0 run_cells (record { written = pen; history = [] }) t0
 sound_first t0 run_cells pen well_formed consistent room few count fresh =
     let first : (n : ℕ) → n < length run_cells → at pen.all n ≡ first_version (rows t0 n) ∷ [] = λ n h.
-    ap (λ (w : Written). at w.all n) fresh ∙ get_or-map-range_with_len (λ number. first_version (rows t0 number) ∷ []) 0 (cell_count t0.scale) n n [] (subst (λ m. n < m) count h) (zero-add n) in
+    ap (λ (w : PenView). at w.all n) fresh ∙ get_or-map-range_with_len (λ number. first_version (rows t0 number) ∷ []) 0 (cell_count t0.scale) n n [] (subst (λ m. n < m) count h) (zero-add n) in
     record {
       legal = record { replays = tt; end = refl };
       well_formed = well_formed;
       consistent = consistent;
       of_population = same_population t0;
-      cells = ap (λ (w : Written). w.cells) fresh;
+      cells = ap (λ (w : PenView). w.cells) fresh;
       count = count;
       versions = first;
       latest = λ n h v e. ap value_in (last_one e.0 [] v (first_version (rows t0 n)) (sym e.1 ∙ first n h)) ∙ first_value (rows t0 n);

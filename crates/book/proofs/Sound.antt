@@ -14,13 +14,13 @@ use Rattle.laws.proofs.Kept.{after-IsWellFormed, after-HasRoom, after-IsConsiste
 use Rattle.cells.specs.TidWord.{tid_of}
 use Rattle.cells.specs.First.{cell_count, first_version}
 use Rattle.cells.specs.Versions.{EndsWith, tid, last_tid, value_in}
-use Rattle.cells.specs.Records.{Written, Sights, at, words_of}
+use Rattle.cells.specs.Records.{PenView, ReaderView, at, words_of}
 use Rattle.cells.proofs.Rising.{last_tid-push}
 use Rattle.payment.specs.Writes.{written, value_for}
 use Rattle.payment.specs.Explains.{Agrees, MayBe}
 use Rattle.payment.specs.declared.work.Work.{Work}
-use Rattle.book.specs.History.{replay, commit_tid, commit_word, absent_word, IsDone, Replays, IsLegal, version_of, versions_for, versions_by, later_versions}
-use Rattle.book.specs.Book.{Kept, IsSound, IsWorkOf, AreLatest, entry_of}
+use Rattle.book.specs.History.{replay, commit_tid, commit_word, absent_word, IsDone, Replays, IsLegal, version_of, new_versions, entry_versions, later_versions}
+use Rattle.book.specs.Book.{BookView, IsSound, IsWorkOf, AreLatest, entry_of}
 use Rattle.book.specs.declared.entry.Entry.{Entry}
 use Rattle.book.proofs.Replaying.{replay_push}
 use Rattle.book.proofs.Same.{after-IsOf}
@@ -34,9 +34,9 @@ replays_push n t (f ∷ es) e h number tid done =
     shifted : (n m : ℕ) → n + Rattle.std.proofs.Common.suc m ≡ n + 1 + m
     shifted n m = omega arith
 
-later_push : (es : List Entry) (e : Entry) (n : ℕ) → later_versions (es ++ e ∷ []) n ≡ later_versions es n ++ versions_by e n
-later_push [] e n = append-nil (versions_by e n)
-later_push (f ∷ es) e n = ap (λ l. versions_by f n ++ l) (later_push es e n) ∙ sym (append_assoc (versions_by f n) (later_versions es n) (versions_by e n))
+later_push : (es : List Entry) (e : Entry) (n : ℕ) → later_versions (es ++ e ∷ []) n ≡ later_versions es n ++ entry_versions e n
+later_push [] e n = append-nil (entry_versions e n)
+later_push (f ∷ es) e n = ap (λ l. entry_versions f n ++ l) (later_push es e n) ∙ sym (append_assoc (entry_versions f n) (later_versions es n) (entry_versions e n))
 
 -- TID words of commits
 tid_commit : (n : ℕ) → tid_of (commit_word n) ≡ 536870912 + n
@@ -78,7 +78,7 @@ counted s = omega arith
 rest_of : (n : ℕ) → n < 600000 → 600000 - n ≡ 600000 - (n + 1) + 1
 rest_of n h = omega arith
 
-module _ (t0 : Database) (run_cells : List TableId) (k : Kept) (t : Database) (sound : IsSound t0 run_cells k t) (reader : Sights) (work : Work) (is_work : IsWorkOf t0 (length run_cells) reader work) (latest : AreLatest k.written.all work.reads) where
+module _ (t0 : Database) (run_cells : List TableId) (k : BookView) (t : Database) (sound : IsSound t0 run_cells k t) (reader : ReaderView) (work : Work) (is_work : IsWorkOf t0 (length run_cells) reader work) (latest : AreLatest k.written.all work.reads) where
   agrees : Agrees t work.reads
   agrees n v e = sound.latest n (is_work.read.within n v e) (words_of v) (latest n v e)
 
@@ -88,8 +88,8 @@ module _ (t0 : Database) (run_cells : List TableId) (k : Kept) (t : Database) (s
   pub input_of : IsInput t.scale work.input
   input_of = subst (λ s. IsInput s work.input) (sym sound.of_population.scale) is_work.input
 
-  module _ (terminal : ℕ) (new : Written) (below_cap : length k.history < t0.scale.commits) (cells : new.cells ≡ k.written.cells)
-      (stores : (n : ℕ) → at new.all n ≡ at k.written.all n ++ versions_for (length k.history + 1) work.writes.values n) where
+  module _ (terminal : ℕ) (new : PenView) (below_cap : length k.history < t0.scale.commits) (cells : new.cells ≡ k.written.cells)
+      (stores : (n : ℕ) → at new.all n ≡ at k.written.all n ++ new_versions (length k.history + 1) work.writes.values n) where
     number : ℕ
     number = length k.history + 1
 
@@ -127,7 +127,7 @@ module _ (t0 : Database) (run_cells : List TableId) (k : Kept) (t : Database) (s
       of_population = after-IsOf t0 t work.input sound.of_population;
       cells = cells ∙ sound.cells;
       count = sound.count;
-      versions = λ n h. stores n ∙ ap (λ (l : List (List ℕ)). l ++ versions_for (length k.history + 1) work.writes.values n) (sound.versions n h)
+      versions = λ n h. stores n ∙ ap (λ (l : List (List ℕ)). l ++ new_versions (length k.history + 1) work.writes.values n) (sound.versions n h)
           ∙ ap (λ l. first_version (rows t0 n) ∷ l) (sym (later_push k.history (entry_of (length k.history + 1) terminal work) n));
       latest = last_values;
       smaller = last_tids;

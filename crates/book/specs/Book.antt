@@ -9,22 +9,23 @@ use Rattle.tables.specs.WellFormed.{IsWellFormed, HasRoom}
 use Rattle.cells.specs.TidWord.{tid_of}
 use Rattle.cells.specs.First.{cell_count}
 use Rattle.cells.specs.Versions.{EndsWith, Has, last_tid, value_in}
-use Rattle.cells.specs.Records.{Written, Sights, at, words_of}
+use Rattle.cells.specs.Records.{PenView, ReaderView, at, words_of}
 use Rattle.cells.specs.declared.cells.Version.{Version}
-use Rattle.payment.specs.Reads.{Readings, held}
-use Rattle.payment.specs.Writes.{Writings, value_for}
-use Rattle.payment.specs.Explains.{IsOf, Explains, IsWithinLimits}
+use Rattle.payment.specs.Reads.{ReadSetView, held}
+use Rattle.payment.specs.Writes.{WriteSetView, value_for}
+use Rattle.tables.specs.Constant.{IsOf}
+use Rattle.payment.specs.Explains.{Explains, IsWithinLimits}
 use Rattle.payment.specs.declared.work.Work.{Work}
-use Rattle.book.specs.History.{IsLegal, commit_tid, commit_word, versions_by, versions_of}
+use Rattle.book.specs.History.{IsLegal, commit_tid, commit_word, entry_versions, all_versions}
 use Rattle.book.specs.declared.entry.Entry.{Entry}
 
 -- what contracts see of the book: all versions of the records, and the history. The committed tables are the history's replay
-pub record Kept : Type 0 where
-  pub written : Written
+pub record BookView : Type 0 where
+  pub written : PenView
   pub history : List Entry
 
 -- what is so whenever the book's lock is free, t0 being the tables that the run began with and t the committed ones
-pub record IsSound (t0 : Database) (run_cells : List TableId) (k : Kept) (t : Database) : Type 0 where
+pub record IsSound (t0 : Database) (run_cells : List TableId) (k : BookView) (t : Database) : Type 0 where
   -- the committed tables are the history's serial replay, with every reply the same
   pub legal : IsLegal t0 k.history t
   pub well_formed : IsWellFormed t
@@ -33,7 +34,7 @@ pub record IsSound (t0 : Database) (run_cells : List TableId) (k : Kept) (t : Da
   -- each record's versions are the values that it had along the history, and the last is what the tables have
   pub cells : k.written.cells ≡ run_cells
   pub count : length run_cells ≡ cell_count t0.scale
-  pub versions : (n : ℕ) → n < length run_cells → at k.written.all n ≡ versions_of t0 k.history n
+  pub versions : (n : ℕ) → n < length run_cells → at k.written.all n ≡ all_versions t0 k.history n
   pub latest : (n : ℕ) → n < length run_cells → (v : List ℕ) → EndsWith (at k.written.all n) v → value_in v ≡ rows t n
   -- the next commit's TID is larger than all of theirs
   pub smaller : (n : ℕ) → n < length run_cells → last_tid (at k.written.all n) < tid_of (commit_word (length k.history + 1))
@@ -43,28 +44,28 @@ pub record IsSound (t0 : Database) (run_cells : List TableId) (k : Kept) (t : Da
   pub room : HasRoom (600000 - length k.history) t
 
 -- each version is of its record, which has a cell, and is one that the reader has seen
-pub record IsReadBy (cells : ℕ) (reader : Sights) (reads : Readings) : Type 0 where
+pub record IsReadBy (cells : ℕ) (reader : ReaderView) (reads : ReadSetView) : Type 0 where
   pub within : (n : ℕ) (v : Version) → held reads n ≡ Some v → n < cells
   pub records : (n : ℕ) (v : Version) → held reads n ≡ Some v → v.record ≡ n
   pub seen : (n : ℕ) (v : Version) → held reads n ≡ Some v → Has (at reader.seen n) (words_of v)
 
 -- a transaction that this reader has executed, explained by what it read
-pub record IsWorkOf (t0 : Database) (cells : ℕ) (reader : Sights) (work : Work) : Type 0 where
+pub record IsWorkOf (t0 : Database) (cells : ℕ) (reader : ReaderView) (work : Work) : Type 0 where
   pub input : IsInput t0.scale work.input
   pub explained : Explains t0 work.input work.reads work.writes work.reply
   pub limits : IsWithinLimits cells work.reads work.writes
   pub read : IsReadBy cells reader work.reads
 
 -- each version read is its record's last
-abbrev pub AreLatest : List (List (List ℕ)) → Readings → Type 0
+abbrev pub AreLatest : List (List (List ℕ)) → ReadSetView → Type 0
 AreLatest all reads = (n : ℕ) (v : Version) → held reads n ≡ Some v → EndsWith (at all n) (words_of v)
 
 -- some version read has another TID than its record's last
-abbrev pub HasConflict : List (List (List ℕ)) → Readings → Type 0
+abbrev pub HasConflict : List (List (List ℕ)) → ReadSetView → Type 0
 HasConflict all reads = (n : ℕ) × (v : Version) × (held reads n ≡ Some v) × (tid_of v.word ≢ last_tid (at all n))
 
 -- a reader has seen all versions of the records of these writes
-abbrev pub HasSeen : Sights → Written → Writings → Type 0
+abbrev pub HasSeen : ReaderView → PenView → WriteSetView → Type 0
 HasSeen reader pen writes = (n : ℕ) (value : Option (List ℕ)) → value_for writes n ≡ Some value → at reader.seen n ≡ at pen.all n
 
 -- the entry of a work that commits
@@ -72,7 +73,7 @@ abbrev pub entry_of : ℕ → ℕ → Work → Entry
 entry_of number terminal work = record { number = number; tid = commit_tid number; terminal = terminal; input = work.input; reply = work.reply; writes = work.writes }
 
 -- a work has committed as this entry: the history has it at its end, and each record that it writes has one version more
-pub record Commits (old new : Kept) (entry : Entry) : Type 0 where
+pub record Commits (old new : BookView) (entry : Entry) : Type 0 where
   pub history : new.history ≡ old.history ++ entry ∷ []
   pub cells : new.written.cells ≡ old.written.cells
-  pub versions : (n : ℕ) → n < length old.written.cells → at new.written.all n ≡ at old.written.all n ++ versions_by entry n
+  pub versions : (n : ℕ) → n < length old.written.cells → at new.written.all n ≡ at old.written.all n ++ entry_versions entry n

@@ -53,16 +53,16 @@ version_of commit (Some words) = commit_word commit ∷ words
 version_of commit None = absent_word commit ∷ replicate 7 0
 
 -- the versions that these writes of a commit add to record n, and those of an entry: one or none
-abbrev pub versions_for : ℕ → List (ℕ × Option (List ℕ)) → ℕ → List (List ℕ)
-versions_for commit values n = option_map_or (λ value. version_of commit value ∷ []) (lookup (is_at (nat_cmp n)) values) []
+abbrev pub new_versions : ℕ → List (ℕ × Option (List ℕ)) → ℕ → List (List ℕ)
+new_versions commit values n = option_map_or (λ value. version_of commit value ∷ []) (lookup (is_at (nat_cmp n)) values) []
 
-abbrev pub versions_by : Entry → ℕ → List (List ℕ)
-versions_by e n = versions_for e.number e.writes.values n
+abbrev pub entry_versions : Entry → ℕ → List (List ℕ)
+entry_versions e n = new_versions e.number e.writes.values n
 
 -- the versions that entries add to record n, and all its versions: the one of the first tables, then those
 abbrev pub later_versions : List Entry → ℕ → List (List ℕ)
 later_versions [] n = []
-later_versions (e ∷ es) n = versions_by e n ++ later_versions es n
+later_versions (e ∷ es) n = entry_versions e n ++ later_versions es n
 
-abbrev pub versions_of : Database → List Entry → ℕ → List (List ℕ)
-versions_of t0 history n = first_version (rows t0 n) ∷ later_versions history n
+abbrev pub all_versions : Database → List Entry → ℕ → List (List ℕ)
+all_versions t0 history n = first_version (rows t0 n) ∷ later_versions history n

@@ -2,6 +2,6 @@
 use Rattle.std.specs.Prelude.{ℕ}
 
 -- how many are left, and how many were given
-pub record Remaining : Type 0 where
+pub record SeatsView : Type 0 where
   pub left : ℕ
   pub given : ℕ

@@ -2,7 +2,7 @@
 use Rattle.std.specs.Prelude.{ℕ}
 
 -- the terminal's number, how many parts of the ledger it has, and how many of the commits are its own
-pub record Holding : Type 0 where
+pub record ShareView : Type 0 where
   pub terminal : ℕ
   pub parts : ℕ
   pub commits : ℕ

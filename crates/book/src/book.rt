@@ -25,9 +25,9 @@ pub struct Book<K: Run> {
 impl<K: Run> Model for Book<K> {
     ghost use Rattle.std.specs.Prelude.{◌≡◌, length};
     ghost use Rattle.tables.specs.Database.{database};
-    ghost use Rattle.book.specs.Book.{Kept, IsSound};
+    ghost use Rattle.book.specs.Book.{BookView, IsSound};
 
-    ghost Value = { Kept };
+    ghost Value = { BookView };
 
     ghost view = { λ b. record { written = b.pen; history = b.history.items } };
 

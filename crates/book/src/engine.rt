@@ -154,9 +154,9 @@ pub struct Seats<K: Run> {
 
 impl<K: Run> Model for Seats<K> {
     ghost use Rattle.std.specs.Prelude.{◌≡◌, ◌+◌, ◌<◌, ◌^◌, length, All};
-    ghost use Rattle.book.specs.Seats.{Remaining};
+    ghost use Rattle.book.specs.Seats.{SeatsView};
 
-    ghost Value = { Remaining };
+    ghost Value = { SeatsView };
 
     ghost view = { λ s. record { left = length s.readers.items; given = s.given } };
 

@@ -15,9 +15,9 @@ pub struct Share<K: Run> {
 
 impl<K: Run> Model for Share<K> {
     ghost use Rattle.std.specs.Prelude.{◌<◌};
-    ghost use Rattle.book.specs.Share.{Holding};
+    ghost use Rattle.book.specs.Share.{ShareView};
 
-    ghost Value = { Holding };
+    ghost Value = { ShareView };
 
     ghost view = { λ s. record { terminal = s.terminal; parts = s.part.parts; commits = s.part.amount } };
 

@@ -4,7 +4,7 @@ ghost use Rattle.cells.specs.TidWord.{tid_of};
 ghost use Rattle.cells.specs.Versions.{last_tid};
 ghost use Rattle.cells.specs.Records.{at, HasGrown};
 ghost use Rattle.payment.specs.Explains.{WritesAreRead};
-ghost use Rattle.book.specs.History.{commit_tid, commit_word, version_of, versions_for};
+ghost use Rattle.book.specs.History.{commit_tid, commit_word, version_of, new_versions};
 ghost use Rattle.book.specs.Book.{AreLatest, HasConflict, HasSeen, IsReadBy};
 
 use cells::{Cells, Pen, Reader, Status, TidWord};
@@ -50,7 +50,7 @@ pub(crate) fn store<R: Wait>(
     requires number { number < 2 ^ 29 }
     requires smaller { (n : ℕ) → n < length cells.now → last_tid (at pen.old.all n) < tid_of (commit_word number) }
     ensures cells { pen.new.cells ≡ pen.old.cells }
-    ensures versions { (n : ℕ) → at pen.new.all n ≡ at pen.old.all n ++ versions_for number writes.now.values n }
+    ensures versions { (n : ℕ) → at pen.new.all n ≡ at pen.old.all n ++ new_versions number writes.now.values n }
     ensures reader { HasGrown reader.old reader.new }
     ensures seen { HasSeen reader.new pen.new writes.now }
 {

@@ -5,7 +5,7 @@ use Rattle.std.proofs.lemmas.List.FromFn.{map-range_with_len_more}
 use Rattle.tables.specs.Database.{Database}
 use Rattle.tables.specs.Rows.{rows}
 use Rattle.atomic_table.specs.Seated.{TableId}
-use Rattle.cells.specs.Records.{Written}
+use Rattle.cells.specs.Records.{PenView}
 use Rattle.cells.specs.First.{first_version, firsts}
 
 after : (m n : ℕ) → m ≤ n → m + (n - m) ≡ n
@@ -49,15 +49,15 @@ firsts-next : (t : Database) (m n : ℕ) → m ≤ n → firsts t 0 m ++ firsts 
 firsts-next t m n h = ap (λ k. firsts t 0 m ++ firsts t k (n - m)) (sym (zero-add m)) ∙ firsts-join t 0 m (n - m) ∙ ap (firsts t 0) (after m n h)
 
 -- three tables, one after another
-pub tables-joined : (t : Database) (x y z : ℕ) (w v u s : Written) (a b c : List TableId) → x ≤ y → y ≤ z
+pub tables-joined : (t : Database) (x y z : ℕ) (w v u s : PenView) (a b c : List TableId) → x ≤ y → y ≤ z
     → w ≡ record { cells = []; all = [] }
     → v.cells ≡ w.cells ++ a → v.all ≡ w.all ++ firsts t 0 (x - 0)
     → u.cells ≡ v.cells ++ b → u.all ≡ v.all ++ firsts t x (y - x)
     → s.cells ≡ u.cells ++ c → s.all ≡ u.all ++ firsts t y (z - y)
     → s ≡ record { cells = a ++ (b ++ c); all = firsts t 0 z }
 tables-joined t x y z w v u s a b c h k e vc va uc ua sc sa =
-    let v_cells : v.cells ≡ a = vc ∙ ap (λ (q : Written). q.cells ++ a) e in
-    let v_all : v.all ≡ firsts t 0 x = va ∙ ap (λ (q : Written). q.all ++ firsts t 0 (x - 0)) e ∙ ap (firsts t 0) (whole x) in
+    let v_cells : v.cells ≡ a = vc ∙ ap (λ (q : PenView). q.cells ++ a) e in
+    let v_all : v.all ≡ firsts t 0 x = va ∙ ap (λ (q : PenView). q.all ++ firsts t 0 (x - 0)) e ∙ ap (firsts t 0) (whole x) in
     let u_cells : u.cells ≡ a ++ b = uc ∙ ap (λ l. l ++ b) v_cells in
     let u_all : u.all ≡ firsts t 0 y = ua ∙ ap (λ l. l ++ firsts t x (y - x)) v_all ∙ firsts-next t x y h in
     let s_cells : s.cells ≡ a ++ (b ++ c) = sc ∙ ap (λ l. l ++ c) u_cells ∙ append_assoc a b c in

@@ -1,16 +1,16 @@
 -- What follows for a caller from the clauses of `read`, `store` and `meet`.
 use Rattle.std.proofs.Common.{◌≡◌, ℕ, List, sym, ap, ◌∙◌, subst}
 use Rattle.cells.specs.Versions.{tid, last_tid, Has}
-use Rattle.cells.specs.Records.{Written, Sights, at, Writes, Reads, Learns}
+use Rattle.cells.specs.Records.{PenView, ReaderView, at, StoresVersion, LoadsRecord, LearnsRecord}
 use Rattle.cells.proofs.Rising.{last_tid-push, ends_has, has_more}
 
-pub last_tid-writes : {old new : Written} {n : ℕ} {version : List ℕ} → Writes old new n version → last_tid (at new.all n) ≡ tid version
+pub last_tid-writes : {old new : PenView} {n : ℕ} {version : List ℕ} → StoresVersion old new n version → last_tid (at new.all n) ≡ tid version
 last_tid-writes {old} {new} {n} {version} w = ap last_tid w.last ∙ last_tid-push (at old.all n) version
 
 -- what was read has been seen
-pub reads_has : {old new : Sights} {n : ℕ} {version : List ℕ} → Reads old new n version → Has (at new.seen n) version
+pub reads_has : {old new : ReaderView} {n : ℕ} {version : List ℕ} → LoadsRecord old new n version → Has (at new.seen n) version
 reads_has {old} {new} {n} {version} r = ends_has (at new.seen n) version r.last
 
 -- and stays seen
-pub learns_has : {pen : Written} {old new : Sights} {n : ℕ} → Learns pen old new n → (version : List ℕ) → Has (at old.seen n) version → Has (at new.seen n) version
+pub learns_has : {pen : PenView} {old new : ReaderView} {n : ℕ} → LearnsRecord pen old new n → (version : List ℕ) → Has (at old.seen n) version → Has (at new.seen n) version
 learns_has {pen} {old} {new} {n} l version h = subst (λ (all : List (List ℕ)). Has all version) (sym l.learnt) (has_more (at pen.all n) (at old.seen n) version l.grows h)

@@ -1,15 +1,15 @@
 -- While cells are made.
 use Rattle.std.specs.Prelude.{ℕ, List, [], ◌∷◌, ◌++◌, map}
 use Rattle.atomic_table.specs.Seated.{TableId}
-use Rattle.cells.specs.Records.{Written, Sights}
+use Rattle.cells.specs.Records.{PenView, ReaderView}
 
 -- what the pen knows, and how many readers there are
 pub record Opened : Type 0 where
-  pub written : Written
+  pub written : PenView
   pub readers : ℕ
 
 -- a reader that has seen all that the pen knows, and has loaded nothing
-abbrev pub seen_all : Written → Sights
+abbrev pub seen_all : PenView → ReaderView
 seen_all w = record { cells = w.cells; seen = w.all; loads = map (λ _. 0) w.all }
 
 -- no record yet

@@ -2,21 +2,21 @@
 use Rattle.std.specs.Prelude.{ℕ, List, [], ◌∷◌, ◌++◌, map}
 use Rattle.atomic_table.specs.Seated.{TableId}
 use Rattle.cells.specs.Views.{Place, known}
-use Rattle.cells.specs.Records.{Written, Sights}
+use Rattle.cells.specs.Records.{PenView, ReaderView}
 
-abbrev pub written_of : List Place → Written
+abbrev pub written_of : List Place → PenView
 written_of places = record { cells = map (λ p. p.table_id) places; all = map (λ p. (known p).seen) places }
 
-abbrev pub sights_of : List Place → Sights
+abbrev pub sights_of : List Place → ReaderView
 sights_of places = record { cells = map (λ p. p.table_id) places; seen = map (λ p. (known p).seen) places; loads = map (λ p. (known p).loads) places }
 
 -- and the pass of one more record
-abbrev pub written_and : Written → Place → Written
+abbrev pub written_and : PenView → Place → PenView
 written_and w p = record { cells = w.cells ++ p.table_id ∷ []; all = w.all ++ (known p).seen ∷ [] }
 
-abbrev pub sights_and : Sights → Place → Sights
+abbrev pub sights_and : ReaderView → Place → ReaderView
 sights_and s p = record { cells = s.cells ++ p.table_id ∷ []; seen = s.seen ++ (known p).seen ∷ []; loads = s.loads ++ (known p).loads ∷ [] }
 
 -- and one more record, of which a reader has seen these versions and loaded none
-abbrev pub sights_with : Sights → TableId → List (List ℕ) → Sights
+abbrev pub sights_with : ReaderView → TableId → List (List ℕ) → ReaderView
 sights_with s cell versions = record { cells = s.cells ++ cell ∷ []; seen = s.seen ++ versions ∷ []; loads = s.loads ++ 0 ∷ [] }

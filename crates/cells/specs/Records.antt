@@ -5,12 +5,12 @@ use Rattle.cells.specs.declared.cells.Version.{Version}
 use Rattle.cells.specs.Versions.{StartsWith, EndsWith, IsRising}
 
 -- the pen's: which cell a record has, and all its versions
-pub record Written : Type 0 where
+pub record PenView : Type 0 where
   pub cells : List TableId
   pub all : List (List (List ℕ))
 
 -- a reader's: which cell a record has, which first ones of its versions the reader has seen, and how often it has loaded
-pub record Sights : Type 0 where
+pub record ReaderView : Type 0 where
   pub cells : List TableId
   pub seen : List (List (List ℕ))
   pub loads : List ℕ
@@ -24,13 +24,13 @@ abbrev pub at : List (List (List ℕ)) → ℕ → List (List ℕ)
 at versions n = slice_index_or versions n []
 
 -- a version is stored in record n
-pub record Writes (old new : Written) (n : ℕ) (version : List ℕ) : Type 0 where
+pub record StoresVersion (old new : PenView) (n : ℕ) (version : List ℕ) : Type 0 where
   pub cells : new.cells ≡ old.cells
   pub others : new.all ≡ slice_set old.all n (at new.all n)
   pub last : at new.all n ≡ at old.all n ++ version ∷ []
 
 -- a reader loads record n once, and this version is the last that it has then seen
-pub record Reads (old new : Sights) (n : ℕ) (version : List ℕ) : Type 0 where
+pub record LoadsRecord (old new : ReaderView) (n : ℕ) (version : List ℕ) : Type 0 where
   pub cells : new.cells ≡ old.cells
   pub others : new.seen ≡ slice_set old.seen n (at new.seen n)
   pub other_loads : new.loads ≡ slice_set old.loads n (slice_index new.loads n)
@@ -40,7 +40,7 @@ pub record Reads (old new : Sights) (n : ℕ) (version : List ℕ) : Type 0 wher
   pub last : EndsWith (at new.seen n) version
 
 -- a reader has then seen all versions of record n, of which it had seen the first
-pub record Learns (pen : Written) (old new : Sights) (n : ℕ) : Type 0 where
+pub record LearnsRecord (pen : PenView) (old new : ReaderView) (n : ℕ) : Type 0 where
   pub cells : new.cells ≡ old.cells
   pub others : new.seen ≡ slice_set old.seen n (at new.seen n)
   pub loads : new.loads ≡ old.loads
@@ -49,6 +49,6 @@ pub record Learns (pen : Written) (old new : Sights) (n : ℕ) : Type 0 where
   pub rising : IsRising (at pen.all n)
 
 -- a reader has seen what it had seen, and perhaps more
-pub record HasGrown (old new : Sights) : Type 0 where
+pub record HasGrown (old new : ReaderView) : Type 0 where
   pub cells : new.cells ≡ old.cells
   pub grows : (n : ℕ) → StartsWith (at new.seen n) (at old.seen n)

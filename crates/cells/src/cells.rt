@@ -4,7 +4,7 @@ ghost use Rattle.money.specs.declared.refusal.Refusal.TheVariants.{OutOfMemory};
 ghost use Rattle.atomic_table.specs.Seated.{TableId};
 ghost use Rattle.cells.specs.TidWord.{tid_of};
 ghost use Rattle.cells.specs.Versions.{EndsWith, Has, last_tid};
-ghost use Rattle.cells.specs.Records.{at, Writes, Reads, Learns};
+ghost use Rattle.cells.specs.Records.{at, StoresVersion, LoadsRecord, LearnsRecord};
 
 use crate::holders::{PenOf, ReaderOf};
 use crate::rule::Cell;
@@ -15,11 +15,11 @@ use std::marker::Model;
 use std::sync::Wait;
 
 /// The right to store versions, of which there is one. Contracts see what it knows of each record, by record
-/// number: its cell, and all its versions (`Written`). It has no bytes of its own a record.
+/// number: its cell, and all its versions (`PenView`). It has no bytes of its own a record.
 pub type Pen = PenOf<8>;
 
 /// The right to read. Contracts see what it knows of each record, by record number: its cell, which first ones of
-/// its versions this reader has seen, and how often it has loaded (`Sights`). It has no bytes of its own a record.
+/// its versions this reader has seen, and how often it has loaded (`ReaderView`). It has no bytes of its own a record.
 pub type Reader = ReaderOf<8>;
 
 /// A version of a record: its record number, its TID word, and its data.
@@ -135,7 +135,7 @@ impl Cells {
     pub fn read<R: Wait>(&self, rt: &R, reader: &mut Reader, number: u32) -> Version
         requires own { reader.old.cells ≡ self.now }
         requires is_record { number < length self.now }
-        ensures reads { Reads reader.old reader.new number (words_of result) }
+        ensures reads { LoadsRecord reader.old reader.new number (words_of result) }
         ensures record { result.record ≡ number }
     {
         let cell = self.cell(number);
@@ -160,7 +160,7 @@ impl Cells {
         requires own { pen.old.cells ≡ self.now }
         requires is_record { number < length self.now }
         requires larger { last_tid (at pen.old.all number) < tid_of word }
-        ensures { Writes pen.old pen.new number (word ∷ payload) }
+        ensures { StoresVersion pen.old pen.new number (word ∷ payload) }
     {
         let version = words(word, payload);
         pen.store(rt, self.cell(number), number as usize, version);
@@ -182,7 +182,7 @@ impl Cells {
         requires is_record { version.now.record < length self.now }
         requires seen { Has (at reader.old.seen version.now.record) (words_of version.now) }
         ensures pen { pen.new ≡ pen.old }
-        ensures reader { Learns pen.old reader.old reader.new version.now.record }
+        ensures reader { LearnsRecord pen.old reader.old reader.new version.now.record }
         ensures latest { MatchBool result (EndsWith (at pen.old.all version.now.record) (words_of version.now)) (tid_of version.now.word ≢ last_tid (at pen.old.all version.now.record)) }
     {
         let cell = self.cell(version.record);

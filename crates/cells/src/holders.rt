@@ -3,7 +3,7 @@
 ghost use Rattle.std.specs.Prelude.{◌≡◌, ◌<◌, Some, [], slice_get, OnOk, OnErr, IfErr};
 ghost use Rattle.money.specs.declared.refusal.Refusal.TheVariants.{OutOfMemory};
 ghost use Rattle.cells.specs.Versions.{EndsWith, last_tid, tid};
-ghost use Rattle.cells.specs.Records.{at, Writes, Reads, Learns};
+ghost use Rattle.cells.specs.Records.{at, StoresVersion, LoadsRecord, LearnsRecord};
 ghost use Rattle.cells.specs.Places.{written_of, written_and, sights_of, sights_and};
 ghost use Rattle.cells.specs.Views.{IsPen, IsReader, known};
 
@@ -14,7 +14,7 @@ use std::alloc::Global;
 use std::marker::Model;
 use std::sync::Wait;
 
-/// The right to store versions in cells of `N` words, of which there is one. Contracts see it as `Written`.
+/// The right to store versions in cells of `N` words, of which there is one. Contracts see it as `PenView`.
 #[derive(Drop)]
 pub struct PenOf<const N: usize> {
     pub(crate) places: Vec<Place<N>>,
@@ -22,18 +22,18 @@ pub struct PenOf<const N: usize> {
 
 impl<const N: usize> Model for PenOf<N> {
     ghost use Rattle.std.specs.Prelude.{All};
-    ghost use Rattle.cells.specs.Records.{Written};
+    ghost use Rattle.cells.specs.Records.{PenView};
     ghost use Rattle.cells.specs.Places.{written_of};
     ghost use Rattle.cells.specs.Views.{IsPen, known};
 
-    ghost Value = { Written };
+    ghost Value = { PenView };
 
     ghost view = { λ p. written_of p.places.items };
 
     ghost invariant = { λ p. All (λ place. IsPen (known place)) p.places.items };
 }
 
-/// The right to read cells of `N` words. Contracts see it as `Sights`.
+/// The right to read cells of `N` words. Contracts see it as `ReaderView`.
 #[derive(Drop)]
 pub struct ReaderOf<const N: usize> {
     pub(crate) places: Vec<Place<N>>,
@@ -41,11 +41,11 @@ pub struct ReaderOf<const N: usize> {
 
 impl<const N: usize> Model for ReaderOf<N> {
     ghost use Rattle.std.specs.Prelude.{All};
-    ghost use Rattle.cells.specs.Records.{Sights};
+    ghost use Rattle.cells.specs.Records.{ReaderView};
     ghost use Rattle.cells.specs.Places.{sights_of};
     ghost use Rattle.cells.specs.Views.{IsReader, known};
 
-    ghost Value = { Sights };
+    ghost Value = { ReaderView };
 
     ghost view = { λ r. sights_of r.places.items };
 
@@ -76,7 +76,7 @@ impl<const N: usize> ReaderOf<N> {
     // Loads the last version of record n, whose cell this is.
     pub(crate) fn read<R: Wait>(&mut self, rt: &R, cell: &Cell<N>, n: usize) -> [u64; N]
         requires { slice_get self.old.cells n ≡ Some cell.now.table.shared.table_id }
-        ensures { Reads self.old self.new n result }
+        ensures { LoadsRecord self.old self.new n result }
     {
         load(rt, cell, &mut self.places[n])
     }
@@ -107,7 +107,7 @@ impl<const N: usize> PenOf<N> {
     pub(crate) fn store<R: Wait>(&mut self, rt: &R, cell: &Cell<N>, n: usize, version: [u64; N])
         requires own { slice_get self.old.cells n ≡ Some cell.now.table.shared.table_id }
         requires larger { last_tid (at self.old.all n) < tid version }
-        ensures { Writes self.old self.new n version.entry }
+        ensures { StoresVersion self.old self.new n version.entry }
     {
         store(rt, cell, &mut self.places[n], version);
     }
@@ -123,7 +123,7 @@ impl<const N: usize> PenOf<N> {
         requires own { slice_get self.old.cells n ≡ Some cell.now.table.shared.table_id }
         requires reader { slice_get reader.old.cells n ≡ Some cell.now.table.shared.table_id }
         ensures same { self.new ≡ self.old }
-        ensures reader { Learns self.old reader.old reader.new n }
+        ensures reader { LearnsRecord self.old reader.old reader.new n }
         ensures last { EndsWith (at self.old.all n) result }
     {
         meet(rt, cell, &mut self.places[n], &mut reader.places[n])

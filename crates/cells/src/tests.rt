@@ -1,4 +1,4 @@
-//! Reads, stores and meets by one thread, and reads while another thread stores.
+//! LoadsRecord, stores and meets by one thread, and reads while another thread stores.
 
 ghost use Rattle.std.specs.Prelude.{◌≡◌, ◌<◌, All, length, IfOk};
 ghost use Rattle.cells.specs.TidWord.{tid_of};

@@ -9,9 +9,9 @@ use Rattle.std.specs.Option.{option_map_or}
 use Rattle.tables.specs.Keys.{is_district, is_customer, IsWarehouseKey, IsDistrictKey, IsCustomerKey}
 use Rattle.tables.specs.Maps.{total, map_rows, RowsAt, EachRow}
 use Rattle.tables.specs.Database.{Database}
-use Rattle.tables.specs.Inputs.{IsPayment, number_of}
-use Rattle.tables.specs.Apply.{after_payment, history_row}
-use Rattle.tables.specs.Conditions.{IsConsistent, Condition1At, Condition8At, Condition9At, Condition10At, Condition12At, warehouse_history, district_history, customer_history, delivered_amount}
+use Rattle.tables.specs.Payment.{IsPayment, after_payment, history_row}
+use Rattle.tables.specs.Customer.{customer_number}
+use Rattle.tables.specs.Conditions.{IsConsistent, Condition1At, Condition8At, Condition9At, Condition10At, Condition12At, paid_at_warehouse, paid_at_district, paid_by_customer, delivered_amount}
 use Rattle.tables.specs.WellFormed.{IsWellFormed, HasRoom, IsMoneyFor, IsCountFor, IsDistrictRow, IsCustomerRow, IsHistoryRow, orderer}
 use Rattle.tables.specs.declared.keys.DistrictKey.{DistrictKey}
 use Rattle.tables.specs.declared.keys.CustomerKey.{CustomerKey}
@@ -19,7 +19,7 @@ use Rattle.tables.specs.declared.rows.Warehouse.{Warehouse}
 use Rattle.tables.specs.declared.rows.District.{District}
 use Rattle.tables.specs.declared.rows.Customer.{Customer}
 use Rattle.tables.specs.declared.rows.History.{History}
-use Rattle.tables.specs.declared.input.Payment.{Payment}
+use Rattle.tables.specs.declared.payment.PaymentInput.{PaymentInput}
 use Rattle.tables.proofs.Orders.{IsExact, exact_number, exact_district, exact_customer}
 use Rattle.tables.proofs.KeyTests.{is_district-key}
 use Rattle.laws.proofs.Updates.{column-update_where, total-update_where, is_some-map_rows, row_before}
@@ -42,7 +42,7 @@ raised_district a r = record r { year_to_date = r.year_to_date +ℤ a }
 abbrev charged : ℤ → Customer → Customer
 charged a r = record r { balance = r.balance -ℤ a; paid = r.paid +ℤ a; payments = r.payments + 1 }
 
-module _ (t : Database) (x : Payment) (ok : IsPayment t.scale x) (wf : IsWellFormed t) (con : IsConsistent t) where
+module _ (t : Database) (x : PaymentInput) (ok : IsPayment t.scale x) (wf : IsWellFormed t) (con : IsConsistent t) where
   abbrev in_district : ℕ → DistrictKey → District → ℤ
   in_district w k r = cond (k.warehouse == w) r.year_to_date (pos 0)
 
@@ -65,9 +65,9 @@ module _ (t : Database) (x : Payment) (ok : IsPayment t.scale x) (wf : IsWellFor
   condition_8 w is =
       let warehouse = there (IsWarehouseKey t.scale) t.warehouses wf.warehouses w is in
       let r = warehouse.0 in
-      let was : r.year_to_date ≡ warehouse_history t w = ap (λ (o : Option Warehouse). option_map_or (λ q. q.year_to_date) o (pos 0)) (sym warehouse.1) ∙ con.condition_8 w is in
+      let was : r.year_to_date ≡ paid_at_warehouse t w = ap (λ (o : Option Warehouse). option_map_or (λ q. q.year_to_date) o (pos 0)) (sym warehouse.1) ∙ con.condition_8 w is in
       column-update_where exact_number (λ q. q.year_to_date) (λ v. x.warehouse == v) (raised_warehouse x.amount) t.warehouses w r warehouse.1
-      ∙ (elim (x.warehouse == w) as (λ b. (cond b (raised_warehouse x.amount r) r).year_to_date ≡ warehouse_history t w +ℤ cond b x.amount (pos 0)) [
+      ∙ (elim (x.warehouse == w) as (λ b. (cond b (raised_warehouse x.amount r) r).year_to_date ≡ paid_at_warehouse t w +ℤ cond b x.amount (pos 0)) [
         | true ↦ omega (arith, ints)
         | false ↦ omega (arith, ints)
       ])
@@ -77,24 +77,24 @@ module _ (t : Database) (x : Payment) (ok : IsPayment t.scale x) (wf : IsWellFor
   condition_9 k is =
       let district = there (IsDistrictKey t.scale) t.districts wf.districts k is in
       let r = district.0 in
-      let was : r.year_to_date ≡ district_history t k = ap (λ (o : Option District). option_map_or (λ q. q.year_to_date) o (pos 0)) (sym district.1) ∙ con.condition_9 k is in
+      let was : r.year_to_date ≡ paid_at_district t k = ap (λ (o : Option District). option_map_or (λ q. q.year_to_date) o (pos 0)) (sym district.1) ∙ con.condition_9 k is in
       column-update_where exact_district (λ q. q.year_to_date) (is_district x.warehouse x.district) (raised_district x.amount) t.districts k r district.1
-      ∙ (elim (is_district x.warehouse x.district k) as (λ b. (cond b (raised_district x.amount r) r).year_to_date ≡ district_history t k +ℤ cond b x.amount (pos 0)) [
+      ∙ (elim (is_district x.warehouse x.district k) as (λ b. (cond b (raised_district x.amount r) r).year_to_date ≡ paid_at_district t k +ℤ cond b x.amount (pos 0)) [
         | true ↦ omega (arith, ints)
         | false ↦ omega (arith, ints)
       ])
       ∙ sym (fold_push (λ (a : ℤ) (h : History). a +ℤ cond (is_district h.warehouse h.district k) h.amount (pos 0)) (pos 0) t.history (history_row x))
 
   abbrev is_payer : CustomerKey → Bool
-  is_payer k = is_customer x.customer_warehouse x.customer_district (number_of x.who) k
+  is_payer k = is_customer x.customer_warehouse x.customer_district (customer_number x.who) k
 
   condition_10 : (k : CustomerKey) → IsCustomerKey t.scale k → Condition10At (after_payment t x) k
   condition_10 k is =
       let customer = there (IsCustomerKey t.scale) t.customers wf.customers k is in
       let r = customer.0 in
-      let was : r.balance ≡ delivered_amount t k -ℤ customer_history t k = ap (λ (o : Option Customer). option_map_or (λ q. q.balance) o (pos 0)) (sym customer.1) ∙ con.condition_10 k is in
+      let was : r.balance ≡ delivered_amount t k -ℤ paid_by_customer t k = ap (λ (o : Option Customer). option_map_or (λ q. q.balance) o (pos 0)) (sym customer.1) ∙ con.condition_10 k is in
       column-update_where exact_customer (λ q. q.balance) is_payer (charged x.amount) t.customers k r customer.1
-      ∙ (elim (is_payer k) as (λ b. (cond b (charged x.amount r) r).balance ≡ delivered_amount t k -ℤ (customer_history t k +ℤ cond b x.amount (pos 0))) [
+      ∙ (elim (is_payer k) as (λ b. (cond b (charged x.amount r) r).balance ≡ delivered_amount t k -ℤ (paid_by_customer t k +ℤ cond b x.amount (pos 0))) [
         | true ↦ omega (arith, ints)
         | false ↦ omega (arith, ints)
       ])
@@ -132,7 +132,7 @@ each_updated o P Q g m each kept k s found =
     let before = row_before o g m k s found in
     subst (Q k) (sym before.2) (kept k before.0 (each k before.0 before.1))
 
-module _ (t : Database) (x : Payment) (n : ℕ) (ok : IsPayment t.scale x) (wf : IsWellFormed t) (room : HasRoom (n + 1) t) where
+module _ (t : Database) (x : PaymentInput) (n : ℕ) (ok : IsPayment t.scale x) (wf : IsWellFormed t) (room : HasRoom (n + 1) t) where
   rises : (z : ℤ) → IsMoneyFor (n + 1) z → IsMoneyFor n (z +ℤ x.amount)
   rises z h = (omega (arith, ints, ok.at_least, ok.at_most, h.0, h.1), omega (arith, ints, ok.at_least, ok.at_most, h.0, h.1))
 
@@ -157,12 +157,12 @@ module _ (t : Database) (x : Payment) (n : ℕ) (ok : IsPayment t.scale x) (wf :
       (λ k r h. elim (is_district x.warehouse x.district k) as (λ b. IsMoneyFor n (cond b (raised_district x.amount r) r).year_to_date) [ true ↦ rises r.year_to_date h | false ↦ stays r.year_to_date h ])
 
   abbrev pays : CustomerKey → Customer → Customer
-  pays k r = cond (is_customer x.customer_warehouse x.customer_district (number_of x.who) k) (charged x.amount r) r
+  pays k r = cond (is_customer x.customer_warehouse x.customer_district (customer_number x.who) k) (charged x.amount r) r
 
   -- what holds of a customer's row that didn't pay and of one that did
   each_customer : (P Q : Customer → Type 0) → EachRow (λ k r. P r) t.customers → ((r : Customer) → P r → Q r) → ((r : Customer) → P r → Q (charged x.amount r)) → EachRow (λ k r. Q r) (after_payment t x).customers
   each_customer P Q each same paid = each_updated exact_customer (λ k r. P r) (λ k r. Q r) pays t.customers each
-      (λ k r h. elim (is_customer x.customer_warehouse x.customer_district (number_of x.who) k) as (λ b. Q (cond b (charged x.amount r) r)) [ true ↦ paid r h | false ↦ same r h ])
+      (λ k r h. elim (is_customer x.customer_warehouse x.customer_district (customer_number x.who) k) as (λ b. Q (cond b (charged x.amount r) r)) [ true ↦ paid r h | false ↦ same r h ])
 
   pub payment_keeps_room : HasRoom n (after_payment t x)
   payment_keeps_room = record {

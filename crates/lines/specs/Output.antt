@@ -3,7 +3,7 @@ use Rattle.std.specs.Prelude.{ℕ, Option, Some, None, List, [], ◌∷◌, code
 use Rattle.std.specs.Fmt.{decimal}
 use Rattle.std.specs.List.{join_with_byte}
 use Rattle.money.specs.Money.{money_text}
-use Rattle.money.specs.Refusal.{number_of}
+use Rattle.money.specs.Refusal.{refusal_number}
 use Rattle.money.specs.declared.refusal.Refusal.{Refusal}
 use Rattle.money.specs.declared.refusal.Refusal.TheVariants.{ItemNotValid}
 use Rattle.tables.specs.declared.keys.CustomerKey.{CustomerKey}
@@ -23,7 +23,7 @@ item_words None = []
 
 -- the words of a refused line
 abbrev pub refused_words : Refusal → ℕ → List (List ℕ)
-refused_words refusal line = decimal (number_of refusal) ∷ codes "line" ∷ decimal line ∷ item_words (refused_item refusal)
+refused_words refusal line = decimal (refusal_number refusal) ∷ codes "line" ∷ decimal line ∷ item_words (refused_item refusal)
 
 -- the words of a row of CUSTOMER
 abbrev pub customer_words : CustomerKey → CustomerRow → List (List ℕ)

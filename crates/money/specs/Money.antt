@@ -1,5 +1,6 @@
 use Rattle.std.specs.Prelude.{◌≡◌, ℕ, suc, ◌+◌, ◌/◌, ◌%◌, ◌≤◌, ℤ, pos, negsuc, unsigned_abs, List, [], ◌∷◌, ◌++◌, codes}
 use Rattle.std.specs.Fmt.{decimal}
+use Rattle.money.specs.declared.cents.TheConstants.{MAX_MONEY}
 
 -- the two decimal digits of a number below a hundred
 abbrev pub two_digits : ℕ → List ℕ
@@ -16,7 +17,7 @@ money_text (negsuc n) = codes "-" ++ unsigned_money_text (suc n)
 
 -- at most 10,000,000,000,000 cents from zero
 abbrev pub IsWithinLimit : ℤ → Type 0
-IsWithinLimit z = unsigned_abs z ≤ 10000000000000
+IsWithinLimit z = unsigned_abs z ≤ unsigned_abs MAX_MONEY
 
 -- the text is the money text of an amount within the limit
 abbrev pub IsMoneyText : List ℕ → ℤ → Type 0

@@ -4,21 +4,21 @@ use Rattle.money.specs.declared.refusal.Refusal.{Refusal}
 use Rattle.money.specs.declared.refusal.Refusal.TheVariants.{OutOfMemory, BadInput, Stale, Conflict, ItemNotValid, OrdersFull, CommitsFull, EpochFull, Device, Damaged, Gap, GaveUp, BadScale, BadLine}
 
 -- the number by which a refusal is printed
-abbrev pub number_of : Refusal → ℕ
-number_of OutOfMemory = 1
-number_of BadInput = 2
-number_of Stale = 3
-number_of Conflict = 4
-number_of (ItemNotValid item) = 5
-number_of OrdersFull = 6
-number_of CommitsFull = 7
-number_of EpochFull = 8
-number_of Device = 9
-number_of Damaged = 10
-number_of Gap = 11
-number_of GaveUp = 12
-number_of BadScale = 13
-number_of BadLine = 14
+abbrev pub refusal_number : Refusal → ℕ
+refusal_number OutOfMemory = 1
+refusal_number BadInput = 2
+refusal_number Stale = 3
+refusal_number Conflict = 4
+refusal_number (ItemNotValid item) = 5
+refusal_number OrdersFull = 6
+refusal_number CommitsFull = 7
+refusal_number EpochFull = 8
+refusal_number Device = 9
+refusal_number Damaged = 10
+refusal_number Gap = 11
+refusal_number GaveUp = 12
+refusal_number BadScale = 13
+refusal_number BadLine = 14
 
 -- the name by which a refusal is printed
 abbrev pub name_of : Refusal → List ℕ
@@ -39,4 +39,4 @@ name_of BadLine = codes "BadLine"
 
 -- what a refusal prints: its number, a space and its name
 abbrev pub refusal_text : Refusal → List ℕ
-refusal_text r = decimal (number_of r) ++ codes " " ++ name_of r
+refusal_text r = decimal (refusal_number r) ++ codes " " ++ name_of r

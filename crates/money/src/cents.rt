@@ -5,6 +5,9 @@ ghost use Rattle.std.specs.Int.{w64};
 use std::marker::Model;
 use std::ops::{Add, Sub};
 
+/// How far from zero an amount that is read or kept may be, in cents.
+pub const MAX_MONEY: i64 = 10_000_000_000_000;
+
 /// An amount of money in whole cents, from -2^63 to 2^63 - 1. Contracts see it as that number.
 #[derive(Clone, Copy, Debug, PartialEq, Eq, PartialOrd, Ord)]
 pub struct Cents {

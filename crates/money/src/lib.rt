@@ -9,7 +9,7 @@ mod rate;
 mod refusal;
 mod text;
 
-pub use cents::Cents;
+pub use cents::{Cents, MAX_MONEY};
 pub use order::total;
 pub use rate::Rate;
 pub use refusal::Refusal;

@@ -43,11 +43,11 @@ pub enum Refusal {
 }
 
 impl Refusal {
-    ghost use Rattle.money.specs.Refusal.{number_of, name_of};
+    ghost use Rattle.money.specs.Refusal.{refusal_number, name_of};
 
     /// The number of this refusal, from 1 to 14.
     pub fn number(self) -> u8
-        ensures { result ≡ number_of self }
+        ensures { result ≡ refusal_number self }
     {
         match self {
             Refusal::OutOfMemory => 1,

@@ -5,11 +5,11 @@ ghost use Rattle.std.specs.Prelude.{string_bytes, decimal, length, FitsSigned, �
 ghost use Rattle.std.specs.Int.{w64};
 ghost use Rattle.money.specs.Money.{money_text, unsigned_money_text, IsMoneyText};
 
-use crate::{Cents, Refusal};
+use crate::{Cents, MAX_MONEY, Refusal};
 use std::fmt;
 
 /// The largest amount that is read, on either side of zero.
-const LIMIT: u64 = 10_000_000_000_000;
+const LIMIT: u64 = MAX_MONEY as u64;
 
 /// The digits of the largest number of units that is read.
 const MAX_DIGITS: usize = 12;
@@ -72,8 +72,8 @@ pub fn one_text_one_value()
 
 // The number of cents up to the limit that has this text without a sign.
 fn read_unsigned(text: &[u8]) -> Option<u64>
-    ensures some { IfSome result (λ n. (text.now ≡ unsigned_money_text n) × (n ≤ 10000000000000)) }
-    ensures none { IfNone result ((n : ℕ) → n ≤ 10000000000000 → text.now ≢ unsigned_money_text n) }
+    ensures some { IfSome result (λ n. (text.now ≡ unsigned_money_text n) × (n ≤ LIMIT)) }
+    ensures none { IfNone result ((n : ℕ) → n ≤ LIMIT → text.now ≢ unsigned_money_text n) }
 {
     if text.len() < 3 {
         return None;

@@ -6,8 +6,8 @@ use Rattle.std.specs.FinMap.{FinMap, get}
 use Rattle.tables.specs.Database.{Database}
 use Rattle.tables.specs.Keys.{is_district, is_customer}
 use Rattle.tables.specs.Maps.{update_where, column}
-use Rattle.tables.specs.Inputs.{number_of, payer}
-use Rattle.tables.specs.Apply.{after_payment}
+use Rattle.tables.specs.Customer.{customer_number}
+use Rattle.tables.specs.Payment.{payer, after_payment}
 use Rattle.tables.specs.Rows.{row_at, least, order_numbers, number_words, warehouse_words, district_words, customer_words}
 use Rattle.tables.proofs.Orders.{IsExact, exact_number, exact_district, exact_customer}
 use Rattle.laws.proofs.Updates.{get-map_rows, column-update_where, kept-update_where}
@@ -18,7 +18,7 @@ use Rattle.tables.specs.declared.records.RecordKey.TheVariants as key
 use Rattle.tables.specs.declared.rows.Warehouse.{Warehouse}
 use Rattle.tables.specs.declared.rows.District.{District}
 use Rattle.tables.specs.declared.rows.Customer.{Customer}
-use Rattle.tables.specs.declared.input.Payment.{Payment}
+use Rattle.tables.specs.declared.payment.PaymentInput.{PaymentInput}
 use Rattle.payment.specs.Paid.{raised_warehouse, raised_district, charged_customer}
 
 both : (a b : Bool) → (a && b) ≡ true → (a ≡ true) × (b ≡ true)
@@ -49,7 +49,7 @@ module _ {K X : Type 0} {R : K → K → Rattle.std.specs.declared.cmp.Ordering.
       ap (option_map words) (get-map_rows o (λ j s. cond (p j) (g s) s) m k)
       ∙ (λ i. option_map words (option_map (λ s. cond (h i) (g s) s) (found i)))
 
-module _ (t : Database) (x : Payment) where
+module _ (t : Database) (x : PaymentInput) where
   -- the records of all keys but three are as before
   pub others : (k : RecordKey) → k ≢ key.Warehouse x.warehouse → k ≢ key.District (record { warehouse = x.warehouse; district = x.district }) → k ≢ key.Customer (payer x)
       → row_at (after_payment t x) k ≡ row_at t k
@@ -57,9 +57,9 @@ module _ (t : Database) (x : Payment) where
       (λ h. a (ap key.Warehouse (sym (eqb-true x.warehouse w h))))
   others (key.District k) a b c = untouched exact_district (is_district x.warehouse x.district) (λ r. record r { year_to_date = r.year_to_date +ℤ x.amount }) district_words t.districts k
       (λ h. b (ap key.District (sym (district_named x.warehouse x.district k h))))
-  others (key.Customer k) a b c = untouched exact_customer (is_customer x.customer_warehouse x.customer_district (number_of x.who))
+  others (key.Customer k) a b c = untouched exact_customer (is_customer x.customer_warehouse x.customer_district (customer_number x.who))
       (λ r. record r { balance = r.balance -ℤ x.amount; paid = r.paid +ℤ x.amount; payments = r.payments + 1 }) customer_words t.customers k
-      (λ h. c (ap key.Customer (sym (customer_named x.customer_warehouse x.customer_district (number_of x.who) k h))))
+      (λ h. c (ap key.Customer (sym (customer_named x.customer_warehouse x.customer_district (customer_number x.who) k h))))
   others (key.NewOrder k) a b c = refl
   others (key.Order k) a b c = refl
   others (key.OrderLine k) a b c = refl
@@ -77,12 +77,12 @@ module _ (t : Database) (x : Payment) where
       (record { warehouse = x.warehouse; district = x.district }) r (λ i. self x.warehouse i && self x.district i) found
 
   pub customer_changed : (r : Customer) → get t.customers (payer x) ≡ Some r → row_at (after_payment t x) (key.Customer (payer x)) ≡ Some (customer_words (charged_customer x.amount r))
-  customer_changed r found = touched exact_customer (is_customer x.customer_warehouse x.customer_district (number_of x.who))
+  customer_changed r found = touched exact_customer (is_customer x.customer_warehouse x.customer_district (customer_number x.who))
       (λ r. record r { balance = r.balance -ℤ x.amount; paid = r.paid +ℤ x.amount; payments = r.payments + 1 }) customer_words t.customers (payer x) r
-      (λ i. (self x.customer_warehouse i && self x.customer_district i) && self (number_of x.who) i) found
+      (λ i. (self x.customer_warehouse i && self x.customer_district i) && self (customer_number x.who) i) found
 
   pub balance_changed : (r : Customer) → get t.customers (payer x) ≡ Some r → column (λ c. c.balance) (after_payment t x).customers (payer x) ≡ r.balance -ℤ x.amount
   balance_changed r found =
-      column-update_where exact_customer (λ c. c.balance) (is_customer x.customer_warehouse x.customer_district (number_of x.who))
+      column-update_where exact_customer (λ c. c.balance) (is_customer x.customer_warehouse x.customer_district (customer_number x.who))
       (λ c. record c { balance = c.balance -ℤ x.amount; paid = c.paid +ℤ x.amount; payments = c.payments + 1 }) t.customers (payer x) r found
-      ∙ (λ i. (cond ((self x.customer_warehouse i && self x.customer_district i) && self (number_of x.who) i) (charged_customer x.amount r) r).balance)
+      ∙ (λ i. (cond ((self x.customer_warehouse i && self x.customer_district i) && self (customer_number x.who) i) (charged_customer x.amount r) r).balance)

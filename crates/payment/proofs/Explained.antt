@@ -5,8 +5,7 @@ use Rattle.std.specs.FinMap.{get}
 use Rattle.std.specs.Ordering.{nat_cmp, is_eq}
 use Rattle.tables.specs.Database.{Database}
 use Rattle.tables.specs.Sizes.{Sizes}
-use Rattle.tables.specs.Inputs.{IsPayment, payer}
-use Rattle.tables.specs.Apply.{after_payment, payment_reply}
+use Rattle.tables.specs.Payment.{IsPayment, payer, after_payment, payment_reply}
 use Rattle.tables.specs.Records.{record_count, number_of_key, key_of, IsRecordKey}
 use Rattle.tables.specs.Rows.{rows, row_at, warehouse_words, district_words, customer_words}
 use Rattle.tables.proofs.Numbers.{named, numbered}
@@ -15,10 +14,10 @@ use Rattle.tables.specs.declared.records.RecordKey.TheVariants as key
 use Rattle.tables.specs.declared.rows.Warehouse.{Warehouse}
 use Rattle.tables.specs.declared.rows.District.{District}
 use Rattle.tables.specs.declared.rows.Customer.{Customer}
-use Rattle.tables.specs.declared.input.Payment.{Payment}
+use Rattle.tables.specs.declared.payment.PaymentInput.{PaymentInput}
 use Rattle.tables.specs.declared.input.Input.TheVariants as input
 use Rattle.tables.specs.declared.reply.Reply.TheVariants as reply
-use Rattle.payment.specs.Reads.{Readings, held}
+use Rattle.payment.specs.Reads.{ReadSetView, held}
 use Rattle.payment.specs.Writes.{value_for, written}
 use Rattle.payment.specs.Explains.{MayBe, Explains}
 use Rattle.payment.specs.Paid.{warehouse_record, district_record, customer_record, AreRows, IsPaid, writings_of, reply_of}
@@ -41,7 +40,7 @@ pub same_Paid : (a b : Paid) → Some a ≡ Some b → a ≡ b
 same_Paid a b e = cc
 
 -- what is so of the three records is so of each that is written
-pub each_written : (P : ℕ → Type 0) (x : Payment) (records : Records) (paid : Paid) → P records.warehouse → P records.district → P records.customer → (n : ℕ) (value : Option (List ℕ)) → value_for (writings_of records paid x) n ≡ Some value → P n
+pub each_written : (P : ℕ → Type 0) (x : PaymentInput) (records : Records) (paid : Paid) → P records.warehouse → P records.district → P records.customer → (n : ℕ) (value : Option (List ℕ)) → value_for (writings_of records paid x) n ≡ Some value → P n
 each_written P x records paid w d c n value e =
     elim (is_eq (nat_cmp n records.warehouse)) as (λ b. is_eq (nat_cmp n records.warehouse) ≡ b →
     cond b (Some (Some paid.warehouse)) (cond (is_eq (nat_cmp n records.district)) (Some (Some paid.district)) (cond (is_eq (nat_cmp n records.customer)) (Some (Some paid.customer.words)) None)) ≡ Some value → P n) [
@@ -59,7 +58,7 @@ each_written P x records paid w d c n value e =
           ] refl
     ] refl e
 
-module _ (t0 : Database) (x : Payment) (reads : Readings) (records : Records) (found : Found)
+module _ (t0 : Database) (x : PaymentInput) (reads : ReadSetView) (records : Records) (found : Found)
     (valid : IsPayment t0.scale x)
     (at_warehouse : records.warehouse ≡ warehouse_record t0.scale x) (at_district : records.district ≡ district_record t0.scale x) (at_customer : records.customer ≡ customer_record t0.scale x)
     (warehouse : held reads records.warehouse ≡ Some found.warehouse) (district : held reads records.district ≡ Some found.district) (customer : held reads records.customer ≡ Some found.customer)

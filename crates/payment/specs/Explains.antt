@@ -7,53 +7,43 @@ use Rattle.tables.specs.Apply.{after, reply_to}
 use Rattle.tables.specs.Records.{record_count}
 use Rattle.tables.specs.Rows.{rows}
 use Rattle.tables.specs.Conditions.{IsConsistent}
+use Rattle.tables.specs.Constant.{IsOf}
 use Rattle.tables.specs.WellFormed.{IsWellFormed}
 use Rattle.tables.specs.declared.keys.DistrictKey.{DistrictKey}
 use Rattle.tables.specs.declared.keys.CustomerKey.{CustomerKey}
 use Rattle.tables.specs.declared.input.Input.{Input}
 use Rattle.tables.specs.declared.reply.Reply.{Reply}
 use Rattle.cells.specs.declared.cells.Version.{Version}
-use Rattle.payment.specs.Reads.{Readings, held, value_of}
-use Rattle.payment.specs.Writes.{Writings, value_for, written, added}
-
--- tables that a population's may become: the scale and the columns that never change are the population's
-pub record IsOf (t0 t : Database) : Type 0 where
-  pub scale : t.scale ≡ t0.scale
-  pub warehouse_taxes : (w : ℕ) → option_map (λ r. r.tax) (get t.warehouses w) ≡ option_map (λ r. r.tax) (get t0.warehouses w)
-  pub district_taxes : (k : DistrictKey) → option_map (λ r. r.tax) (get t.districts k) ≡ option_map (λ r. r.tax) (get t0.districts k)
-  pub first_names : (k : CustomerKey) → option_map (λ r. r.first_name) (get t.customers k) ≡ option_map (λ r. r.first_name) (get t0.customers k)
-  pub last_names : (k : CustomerKey) → option_map (λ r. r.last_name) (get t.customers k) ≡ option_map (λ r. r.last_name) (get t0.customers k)
-  pub credit : (k : CustomerKey) → option_map (λ r. r.credit) (get t.customers k) ≡ option_map (λ r. r.credit) (get t0.customers k)
-  pub discounts : (k : CustomerKey) → option_map (λ r. r.discount) (get t.customers k) ≡ option_map (λ r. r.discount) (get t0.customers k)
-  pub items : t.items ≡ t0.items
+use Rattle.payment.specs.Reads.{ReadSetView, held, value_of}
+use Rattle.payment.specs.Writes.{WriteSetView, value_for, written, added}
 
 -- each value read is the one that the tables have
-abbrev pub Agrees : Database → Readings → Type 0
+abbrev pub Agrees : Database → ReadSetView → Type 0
 Agrees t reads = (n : ℕ) (v : Version) → held reads n ≡ Some v → value_of v ≡ rows t n
 
 -- the tables at which a transaction may have read: the population's, well-formed, consistent, and as read
-pub record MayBe (t0 : Database) (reads : Readings) (t : Database) : Type 0 where
+pub record MayBe (t0 : Database) (reads : ReadSetView) (t : Database) : Type 0 where
   pub of_population : IsOf t0 t
   pub well_formed : IsWellFormed t
   pub consistent : IsConsistent t
   pub agrees : Agrees t reads
 
 -- at all such tables, the transaction has this reply and these writes
-pub record Explains (t0 : Database) (x : Input) (reads : Readings) (writes : Writings) (reply : Reply) : Type 0 where
+pub record Explains (t0 : Database) (x : Input) (reads : ReadSetView) (writes : WriteSetView) (reply : Reply) : Type 0 where
   pub replies : (t : Database) → MayBe t0 reads t → reply_to t x ≡ reply
   pub rows : (t : Database) → MayBe t0 reads t → (n : ℕ) → n < record_count t.scale → rows (after t x) n ≡ written writes (rows t) n
   pub history : (t : Database) → MayBe t0 reads t → (after t x).history ≡ t.history ++ added writes.history
 
 -- no such tables
-abbrev pub NoneMayBe : Database → Readings → Type 0
+abbrev pub NoneMayBe : Database → ReadSetView → Type 0
 NoneMayBe t0 reads = (t : Database) → ¬ MayBe t0 reads t
 
 -- no write of a record that wasn't read
-abbrev pub WritesAreRead : Writings → Readings → Type 0
+abbrev pub WritesAreRead : WriteSetView → ReadSetView → Type 0
 WritesAreRead writes reads = (n : ℕ) (value : Option (List ℕ)) → value_for writes n ≡ Some value → IsSome (held reads n)
 
 -- at most 1,024 reads and 200 writes, each of a record that has a cell, and no write of a record that wasn't read
-pub record IsWithinLimits (cells : ℕ) (reads : Readings) (writes : Writings) : Type 0 where
+pub record IsWithinLimits (cells : ℕ) (reads : ReadSetView) (writes : WriteSetView) : Type 0 where
   pub reads_limit : length reads ≤ 1024
   pub writes_limit : length writes.values ≤ 200
   pub reads_cells : (n : ℕ) (v : Version) → held reads n ≡ Some v → n < cells

@@ -1,8 +1,8 @@
 -- The three records of a Payment, and what it makes of their rows (TPC-C 2.5.2.2).
 use Rattle.std.specs.Prelude.{◌≡◌, ℕ, ℤ, ◌+◌, ◌+ℤ◌, ◌-ℤ◌, Some, [], ◌∷◌}
 use Rattle.tables.specs.Sizes.{Sizes}
-use Rattle.tables.specs.Inputs.{number_of, payer}
-use Rattle.tables.specs.Apply.{history_row}
+use Rattle.tables.specs.Customer.{customer_number}
+use Rattle.tables.specs.Payment.{payer, history_row}
 use Rattle.tables.specs.Rows.{warehouse_words, district_words, customer_words}
 use Rattle.tables.specs.WellFormed.{IsMoney, IsCustomerRow}
 use Rattle.tables.specs.Records.{number_of_key}
@@ -10,10 +10,10 @@ use Rattle.tables.specs.declared.records.RecordKey.TheVariants as key
 use Rattle.tables.specs.declared.rows.Warehouse.{Warehouse}
 use Rattle.tables.specs.declared.rows.District.{District}
 use Rattle.tables.specs.declared.rows.Customer.{Customer}
-use Rattle.tables.specs.declared.input.Payment.{Payment}
-use Rattle.tables.specs.declared.reply.PaymentReply.{PaymentReply}
+use Rattle.tables.specs.declared.payment.PaymentInput.{PaymentInput}
+use Rattle.tables.specs.declared.payment.PaymentReply.{PaymentReply}
 use Rattle.payment.specs.Reads.{value_of}
-use Rattle.payment.specs.Writes.{Writings}
+use Rattle.payment.specs.Writes.{WriteSetView}
 use Rattle.payment.specs.declared.transaction.Records.{Records}
 use Rattle.payment.specs.declared.transaction.Found.{Found}
 use Rattle.payment.specs.declared.transaction.Paid.{Paid}
@@ -28,13 +28,13 @@ abbrev pub charged_customer : ℤ → Customer → Customer
 charged_customer amount r = record r { balance = r.balance -ℤ amount; paid = r.paid +ℤ amount; payments = r.payments + 1 }
 
 -- the numbers of the paying warehouse, the paying district and the customer
-abbrev pub warehouse_record : Sizes → Payment → ℕ
+abbrev pub warehouse_record : Sizes → PaymentInput → ℕ
 warehouse_record s x = number_of_key s (key.Warehouse x.warehouse)
 
-abbrev pub district_record : Sizes → Payment → ℕ
+abbrev pub district_record : Sizes → PaymentInput → ℕ
 district_record s x = number_of_key s (key.District (record { warehouse = x.warehouse; district = x.district }))
 
-abbrev pub customer_record : Sizes → Payment → ℕ
+abbrev pub customer_record : Sizes → PaymentInput → ℕ
 customer_record s x = number_of_key s (key.Customer (payer x))
 
 -- the rows of the three records, as the versions found have them, within their ranges
@@ -54,18 +54,18 @@ pub record IsPaid (amount : ℤ) (w : Warehouse) (d : District) (c : Customer) (
   pub balance : paid.customer.balance ≡ c.balance -ℤ amount
 
 -- the writes and the reply
-abbrev pub writings_of : Records → Paid → Payment → Writings
+abbrev pub writings_of : Records → Paid → PaymentInput → WriteSetView
 writings_of records paid x = record {
   values = (records.warehouse, Some paid.warehouse) ∷ (records.district, Some paid.district) ∷ (records.customer, Some paid.customer.words) ∷ [];
   history = Some (history_row x);
 }
 
-abbrev pub reply_of : Paid → Payment → PaymentReply
+abbrev pub reply_of : Paid → PaymentInput → PaymentReply
 reply_of paid x = record {
   warehouse = x.warehouse;
   district = x.district;
   customer_warehouse = x.customer_warehouse;
   customer_district = x.customer_district;
-  customer = number_of x.who;
+  customer = customer_number x.who;
   balance = paid.customer.balance;
 }

@@ -4,15 +4,15 @@ use Rattle.std.specs.Ordering.{nat_cmp}
 use Rattle.std.specs.Map.{lookup}
 use Rattle.std.specs.BTreeMap.{is_at}
 use Rattle.cells.specs.Versions.{StartsWith, EndsWith, value_in}
-use Rattle.cells.specs.Records.{Sights, words_of, at}
+use Rattle.cells.specs.Records.{ReaderView, words_of, at}
 use Rattle.cells.specs.declared.cells.Version.{Version}
 
 -- the version read of each record, by record number, in the order of the numbers
-abbrev pub Readings : Type 0
-Readings = List (ℕ × Version)
+abbrev pub ReadSetView : Type 0
+ReadSetView = List (ℕ × Version)
 
 -- the version read of this record
-abbrev pub held : Readings → ℕ → Option Version
+abbrev pub held : ReadSetView → ℕ → Option Version
 held reads n = lookup (is_at (nat_cmp n)) reads
 
 -- what a version says that its record holds
@@ -20,7 +20,7 @@ abbrev pub value_of : Version → Option (List ℕ)
 value_of version = value_in (words_of version)
 
 -- between these two states, a reader has loaded exactly the records of these versions, each once, and each version is what that load gave
-pub record AreRead (old new : Sights) (reads : Readings) : Type 0 where
+pub record AreRead (old new : ReaderView) (reads : ReadSetView) : Type 0 where
   pub cells : new.cells ≡ old.cells
   pub records : (n : ℕ) (v : Version) → held reads n ≡ Some v → v.record ≡ n
   pub loads : (n : ℕ) (v : Version) → held reads n ≡ Some v → slice_index new.loads n ≡ slice_index old.loads n + 1

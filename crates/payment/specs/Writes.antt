@@ -7,16 +7,16 @@ use Rattle.std.specs.BTreeMap.{is_at}
 use Rattle.tables.specs.declared.rows.History.{History}
 
 -- what each record written is to hold, by record number in the order of the numbers, and the HISTORY row, if there is one
-pub record Writings : Type 0 where
+pub record WriteSetView : Type 0 where
   pub values : List (ℕ × Option (List ℕ))
   pub history : Option History
 
 -- what this record is to hold
-abbrev pub value_for : Writings → ℕ → Option (Option (List ℕ))
+abbrev pub value_for : WriteSetView → ℕ → Option (Option (List ℕ))
 value_for writes n = lookup (is_at (nat_cmp n)) writes.values
 
 -- what the records hold once these values are written
-abbrev pub written : Writings → (ℕ → Option (List ℕ)) → ℕ → Option (List ℕ)
+abbrev pub written : WriteSetView → (ℕ → Option (List ℕ)) → ℕ → Option (List ℕ)
 written writes rows n = unwrap_or (value_for writes n) (rows n)
 
 -- the rows that HISTORY gets

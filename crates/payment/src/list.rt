@@ -9,7 +9,7 @@ use std::marker::Model;
 use tables::History;
 
 /// The writes of a transaction that has committed, by record number and in the order of the numbers. Contracts see
-/// it as `Writings`, as they see a `WriteSet`.
+/// it as `WriteSetView`, as they see a `WriteSet`.
 #[derive(Drop)]
 pub struct WriteList {
     values: Vec<(u32, Option<[u64; 7]>)>,
@@ -20,9 +20,9 @@ impl Model for WriteList {
     ghost use Rattle.std.specs.Ordering.{nat_cmp};
     ghost use Rattle.std.specs.Map.{keys_of};
     ghost use Rattle.std.specs.List.Sorted.{IsStrictlySortedBy};
-    ghost use Rattle.payment.specs.Writes.{Writings};
+    ghost use Rattle.payment.specs.Writes.{WriteSetView};
 
-    ghost Value = { Writings };
+    ghost Value = { WriteSetView };
 
     ghost view = { λ w. record { values = w.values.items; history = w.history } };
 

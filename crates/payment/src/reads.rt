@@ -5,7 +5,7 @@ ghost use Rattle.std.specs.Ordering.{nat_cmp};
 ghost use Rattle.std.specs.Map.{keys_of};
 ghost use Rattle.std.specs.List.Sorted.{IsStrictlySortedBy};
 ghost use Rattle.payment.specs.Reads.{held};
-ghost use Rattle.cells.specs.Records.{Reads, HasGrown, words_of};
+ghost use Rattle.cells.specs.Records.{LoadsRecord, HasGrown, words_of};
 ghost use Rattle.cells.specs.declared.cells.Version.{Version};
 
 use cells::{Cells, Reader, Version};
@@ -24,9 +24,9 @@ pub struct ReadSet {
 }
 
 impl Model for ReadSet {
-    ghost use Rattle.payment.specs.Reads.{Readings};
+    ghost use Rattle.payment.specs.Reads.{ReadSetView};
 
-    ghost Value = { Readings };
+    ghost Value = { ReadSetView };
 
     ghost view = { λ r. r.versions.entries };
 }
@@ -59,7 +59,7 @@ impl ReadSet {
         requires own { reader.old.cells ≡ cells.now }
         requires is_record { number < length cells.now }
         ensures held { (v : Version) → held self.old number ≡ Some v → (result ≡ Ok v) × (self.new ≡ self.old) × (reader.new ≡ reader.old) }
-        ensures read { held self.old number ≡ None → IfOk result (λ v. Reads reader.old reader.new number (words_of v) × (v.record ≡ number)) }
+        ensures read { held self.old number ≡ None → IfOk result (λ v. LoadsRecord reader.old reader.new number (words_of v) × (v.record ≡ number)) }
         ensures holds { IfOk result (λ v. held self.new number ≡ Some v) }
         ensures others { (n : ℕ) → n ≢ number → held self.new n ≡ held self.old n }
         ensures limit { length self.new ≤ length self.old + 1 }

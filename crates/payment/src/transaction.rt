@@ -1,8 +1,8 @@
 //! A Payment on record cells.
 ghost use Rattle.std.specs.Prelude.{◌≡◌, ◌+◌, ◌<◌, ◌≤◌, ◌⊎◌, ◌≤ℤ◌, pos, ℕ, [], ◌∷◌, length, Some, IfOk, IfErr, OnOk};
 ghost use Rattle.tables.specs.Database.{Database};
-ghost use Rattle.tables.specs.Inputs.{IsInput, IsPayment};
-ghost use Rattle.tables.specs.Apply.{history_row};
+ghost use Rattle.tables.specs.Inputs.{IsInput};
+ghost use Rattle.tables.specs.Payment.{IsPayment, history_row};
 ghost use Rattle.tables.specs.declared.input.Input.TheVariants as input_variants;
 ghost use Rattle.tables.specs.declared.rows.Warehouse.{Warehouse};
 ghost use Rattle.tables.specs.declared.rows.District.{District};
@@ -12,7 +12,7 @@ ghost use Rattle.cells.specs.First.{cell_count};
 ghost use Rattle.cells.specs.Records.{HasGrown};
 ghost use Rattle.cells.specs.declared.cells.Version.{Version};
 ghost use Rattle.population.specs.Initial.{initial};
-ghost use Rattle.payment.specs.Reads.{Readings, AreRead, held};
+ghost use Rattle.payment.specs.Reads.{ReadSetView, AreRead, held};
 ghost use Rattle.payment.specs.Explains.{Explains, NoneMayBe, IsWithinLimits};
 ghost use Rattle.payment.specs.declared.transaction.Paid.{Paid as Made};
 ghost use Rattle.payment.specs.Paid.{warehouse_record, district_record, customer_record, writings_of, reply_of, AreRows, IsPaid};
@@ -28,7 +28,7 @@ use std::alloc::Global;
 use std::sync::Wait;
 use tables::{
     CustomerKey, DistrictKey, History, Input, Payment, PaymentReply, RecordKey, Reply, Scale, Who,
-    number_of,
+    number_of_key,
 };
 
 /// The numbers of the records that a Payment reads and writes.
@@ -80,7 +80,7 @@ pub fn execute<R: Wait>(
     ensures limits { IfOk result (λ work. IsWithinLimits (length cells.now) work.reads work.writes) }
     ensures grown { HasGrown reader.old reader.new }
     ensures refused { IfErr result (λ refusal. (refusal ≡ OutOfMemory) ⊎
-        ((refusal ≡ Stale) × ((reads : Readings) × AreRead reader.old reader.new reads × NoneMayBe (initial population.now) reads))) }
+        ((refusal ≡ Stale) × ((reads : ReadSetView) × AreRead reader.old reader.new reads × NoneMayBe (initial population.now) reads))) }
 {
     match input {
         Input::Payment(payment) => pay(rt, alloc, cells, reader, population, payment),
@@ -105,7 +105,7 @@ fn pay<R: Wait>(
     ensures limits { IfOk result (λ work. IsWithinLimits (length cells.now) work.reads work.writes) }
     ensures grown { HasGrown reader.old reader.new }
     ensures refused { IfErr result (λ refusal. (refusal ≡ OutOfMemory) ⊎
-        ((refusal ≡ Stale) × ((reads : Readings) × AreRead reader.old reader.new reads × NoneMayBe (initial population.now) reads))) }
+        ((refusal ≡ Stale) × ((reads : ReadSetView) × AreRead reader.old reader.new reads × NoneMayBe (initial population.now) reads))) }
 {
     let records = records_of(&population.scale(), payment);
     let mut reads = ReadSet::new(alloc);
@@ -141,9 +141,9 @@ fn records_of(scale: &Scale, payment: &Payment) -> Records
         customer,
     };
     Records {
-        warehouse: number_of(scale, RecordKey::Warehouse(payment.warehouse)),
-        district: number_of(scale, RecordKey::District(district)),
-        customer: number_of(scale, RecordKey::Customer(payer)),
+        warehouse: number_of_key(scale, RecordKey::Warehouse(payment.warehouse)),
+        district: number_of_key(scale, RecordKey::District(district)),
+        customer: number_of_key(scale, RecordKey::Customer(payer)),
     }
 }
 

@@ -5,7 +5,7 @@ ghost use Rattle.std.specs.BTreeMap.{insert_entry};
 ghost use Rattle.std.specs.Map.{keys_of};
 ghost use Rattle.std.specs.List.Sorted.{IsStrictlySortedBy};
 ghost use Rattle.payment.specs.Writes.{value_for};
-ghost use Rattle.payment.specs.Writes.{Writings};
+ghost use Rattle.payment.specs.Writes.{WriteSetView};
 
 use crate::list::WriteList;
 use money::Refusal;
@@ -17,7 +17,7 @@ use tables::History;
 
 /// What a transaction is to write: for each record written the seven words that it is to hold, or nothing
 /// where it is to be absent, and at most one HISTORY row (Silo, section 4.4: the write set). Contracts see it
-/// as `Writings`.
+/// as `WriteSetView`.
 #[derive(Drop)]
 pub struct WriteSet {
     values: BTreeMap<u32, Option<[u64; 7]>>,
@@ -25,9 +25,9 @@ pub struct WriteSet {
 }
 
 impl Model for WriteSet {
-    ghost use Rattle.payment.specs.Writes.{Writings};
+    ghost use Rattle.payment.specs.Writes.{WriteSetView};
 
-    ghost Value = { Writings };
+    ghost Value = { WriteSetView };
 
     ghost view = { λ w. record { values = w.values.entries; history = w.history } };
 }

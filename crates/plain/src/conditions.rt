@@ -5,7 +5,7 @@ ghost use Rattle.std.specs.Ordering.{nat_cmp};
 ghost use Rattle.tables.specs.Keys.{district_cmp, customer_cmp, IsWarehouseKey, IsDistrictKey, IsCustomerKey};
 ghost use Rattle.tables.specs.Maps.{column};
 ghost use Rattle.tables.specs.Database.{Database, database};
-ghost use Rattle.tables.specs.Conditions.{Condition1At, Condition8At, Condition9At, Condition10At, Condition12At, delivered_amount, customer_history};
+ghost use Rattle.tables.specs.Conditions.{Condition1At, Condition8At, Condition9At, Condition10At, Condition12At, delivered_amount, paid_by_customer};
 ghost use Rattle.tables.specs.declared.keys.DistrictKey.{DistrictKey as KeyOfDistrict};
 ghost use Rattle.tables.specs.declared.keys.CustomerKey.{CustomerKey as KeyOfCustomer};
 ghost use Rattle.money.specs.declared.refusal.Refusal.TheVariants.{OutOfMemory};
@@ -14,8 +14,8 @@ ghost use Rattle.plain.specs.Check.{Finds, FindsDistrictOf, FindsCustomerOf, IsR
 
 use crate::report::Report;
 use crate::sums::{
-    CustomerSums, amount_of, customer_sums, difference, district_history_total, district_total,
-    warehouse_history_total,
+    CustomerSums, amount_of, customer_sums, difference, paid_at_district_total, district_total,
+    paid_at_warehouse_total,
 };
 use money::{Cents, Refusal};
 use std::alloc::Global;
@@ -83,7 +83,7 @@ impl WarehouseCondition for Condition8 {
 
     fn holds(tables: &Tables, warehouse: u32) -> bool {
         i128::from(warehouse_year_to_date(tables, warehouse).amount())
-            == warehouse_history_total(tables, warehouse)
+            == paid_at_warehouse_total(tables, warehouse)
     }
 }
 
@@ -95,7 +95,7 @@ impl DistrictCondition for Condition9 {
 
     fn holds(tables: &Tables, key: &DistrictKey) -> bool {
         i128::from(district_year_to_date(tables, key).amount())
-            == district_history_total(tables, key)
+            == paid_at_district_total(tables, key)
     }
 }
 
@@ -164,7 +164,7 @@ fn paid(tables: &Tables, key: &CustomerKey) -> Cents
 /// What was delivered to a customer minus what it paid.
 fn owed(tables: &Tables, sums: &CustomerSums, key: &CustomerKey) -> i128
     requires { AreSumsOf (database tables.now) sums.now }
-    ensures { result ≡ delivered_amount (database tables.now) key.now -ℤ customer_history (database tables.now) key.now }
+    ensures { result ≡ delivered_amount (database tables.now) key.now -ℤ paid_by_customer (database tables.now) key.now }
 {
     let delivered = amount_of(&sums.delivered, key);
     let paid = amount_of(&sums.history, key);

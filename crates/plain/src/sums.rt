@@ -5,7 +5,7 @@ ghost use Rattle.std.specs.FinMap.{from_entries};
 ghost use Rattle.tables.specs.Keys.{district_cmp, order_cmp, is_district, is_customer};
 ghost use Rattle.tables.specs.Maps.{total};
 ghost use Rattle.tables.specs.Database.{database};
-ghost use Rattle.tables.specs.Conditions.{is_line_of, delivered_amount, warehouse_history, district_history, customer_history};
+ghost use Rattle.tables.specs.Conditions.{is_line_of, delivered_amount, paid_at_warehouse, paid_at_district, paid_by_customer};
 ghost use Rattle.tables.specs.declared.keys.CustomerKey.{CustomerKey as KeyOfCustomer};
 ghost use Rattle.plain.specs.Amounts.{amount_at, AreBounded};
 ghost use Rattle.plain.specs.Sums.{AreSumsOf};
@@ -52,8 +52,8 @@ fn plus(sum: i128, amount: Cents) -> i128
 }
 
 /// The sum of H_AMOUNT by H_W_ID.
-pub fn warehouse_history_total(tables: &Tables, warehouse: u32) -> i128
-    ensures { result ≡ warehouse_history (database tables.now) warehouse }
+pub fn paid_at_warehouse_total(tables: &Tables, warehouse: u32) -> i128
+    ensures { result ≡ paid_at_warehouse (database tables.now) warehouse }
 {
     let mut sum = 0i128;
     for row in &tables.history {
@@ -63,8 +63,8 @@ pub fn warehouse_history_total(tables: &Tables, warehouse: u32) -> i128
 }
 
 /// The sum of H_AMOUNT by H_W_ID and H_D_ID.
-pub fn district_history_total(tables: &Tables, key: &DistrictKey) -> i128
-    ensures { result ≡ district_history (database tables.now) key.now }
+pub fn paid_at_district_total(tables: &Tables, key: &DistrictKey) -> i128
+    ensures { result ≡ paid_at_district (database tables.now) key.now }
 {
     let mut sum = 0i128;
     for row in &tables.history {
@@ -119,7 +119,7 @@ fn history_by_customer(
     alloc: Global,
     tables: &Tables,
 ) -> Result<BTreeMap<CustomerKey, i128>, AllocError>
-    ensures sums { IfOk result (λ sums. (k : KeyOfCustomer) → amount_at sums k ≡ customer_history (database tables.now) k) }
+    ensures sums { IfOk result (λ sums. (k : KeyOfCustomer) → amount_at sums k ≡ paid_by_customer (database tables.now) k) }
     ensures bound { IfOk result AreBounded }
 {
     let mut sums = BTreeMap::new(alloc);

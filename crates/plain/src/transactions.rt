@@ -4,8 +4,9 @@ ghost use Rattle.std.specs.Prelude.{◌≡◌, ℤ, ◌+◌, ◌+ℤ◌, ◌-ℤ
 ghost use Rattle.std.specs.FinMap.{from_entries, get};
 ghost use Rattle.std.specs.Ordering.{nat_cmp};
 ghost use Rattle.tables.specs.Database.{database};
-ghost use Rattle.tables.specs.Inputs.{IsInput, IsPayment};
-ghost use Rattle.tables.specs.Apply.{after, reply_to, after_payment, payment_reply};
+ghost use Rattle.tables.specs.Inputs.{IsInput};
+ghost use Rattle.tables.specs.Payment.{IsPayment, after_payment, payment_reply};
+ghost use Rattle.tables.specs.Apply.{after, reply_to};
 ghost use Rattle.tables.specs.Keys.{district_cmp, customer_cmp, is_district, is_customer};
 ghost use Rattle.tables.specs.Maps.{update_where, column};
 ghost use Rattle.tables.specs.WellFormed.{IsWellFormed, IsMoney, IsCustomerRow};

@@ -8,7 +8,7 @@ use Rattle.tables.specs.Sizes.{Sizes}
 use Rattle.tables.specs.Keys.{IsWarehouseKey, IsDistrictKey, IsCustomerKey, is_district, is_customer}
 use Rattle.tables.specs.Maps.{sum_of, total, column}
 use Rattle.tables.specs.Database.{Database}
-use Rattle.tables.specs.Conditions.{delivered_amount, customer_history, Condition1At, Condition8At, Condition9At, Condition10At, Condition12At, IsConsistent}
+use Rattle.tables.specs.Conditions.{delivered_amount, paid_by_customer, Condition1At, Condition8At, Condition9At, Condition10At, Condition12At, IsConsistent}
 use Rattle.tables.specs.declared.keys.DistrictKey.{DistrictKey}
 use Rattle.tables.specs.declared.keys.CustomerKey.{CustomerKey}
 use Rattle.tables.specs.declared.rows.History.{History}
@@ -61,7 +61,7 @@ module _ (t : Database) (plain : IsPlain t.scale t) where
   nothing_delivered : (k : CustomerKey) → delivered_amount t k ≡ pos 0
   nothing_delivered k = total_none exact_line _ t.lines (each plain.lines _ (λ j _. delivered_free (is_delivered t.scale j.order) _ _ _ _))
 
-  customer_paid : (k : CustomerKey) → IsCustomerKey t.scale k → customer_history t k ≡ pos 1000
+  customer_paid : (k : CustomerKey) → IsCustomerKey t.scale k → paid_by_customer t k ≡ pos 1000
   customer_paid k is = ap (sum_of _) plain.history ∙ customer_payments_sum t.scale k is
 
   condition_8 : (w : ℕ) → IsWarehouseKey t.scale w → Condition8At t w

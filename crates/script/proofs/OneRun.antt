@@ -2,7 +2,7 @@
 use Rattle.std.proofs.Common.{◌≡◌, ℕ, ◌+◌, List, [], ◌∷◌, refl, sym, ap, ◌∙◌, subst, arith}
 use Rattle.money.specs.declared.refusal.Refusal.{Refusal}
 use Rattle.money.specs.declared.refusal.Refusal.TheVariants.{BadInput, BadLine}
-use Rattle.tables.specs.declared.input.Payment.{Payment}
+use Rattle.tables.specs.declared.payment.PaymentInput.{PaymentInput}
 use Rattle.lines.specs.Requests.{HasNumbers, IsWithinReach, IsRefused, request_text}
 use Rattle.lines.specs.declared.request.Request.{Request}
 use Rattle.lines.specs.declared.request.Request.TheVariants as request
@@ -10,7 +10,7 @@ use Rattle.lines.specs.declared.answer.Answer.{Answer}
 use Rattle.lines.proofs.OneText.{one_line_one_request}
 use Rattle.script.specs.Turns.{State, Turn, IsPaymentTurn, bad, full, done, IsRequestTurn, IsLineTurn, long, unread, read, AreTurns, refused}
 
-one_payment : (s : State) (x : Payment) (a b : Turn) → IsPaymentTurn s x a → IsPaymentTurn s x b → a ≡ b
+one_payment : (s : State) (x : PaymentInput) (a b : Turn) → IsPaymentTurn s x a → IsPaymentTurn s x b → a ≡ b
 one_payment s x a b (bad not e) (bad isnt f) = e ∙ sym f
 one_payment s x a b (bad not e) (full is at_cap f) = absurd (not is)
 one_payment s x a b (bad not e) (done is room f) = absurd (not is)

@@ -5,7 +5,7 @@ use Rattle.money.specs.declared.refusal.Refusal.{Refusal}
 use Rattle.tables.specs.Apply.{reply_to}
 use Rattle.tables.specs.declared.input.Input.{Input}
 use Rattle.tables.specs.declared.input.Input.TheVariants as input
-use Rattle.tables.specs.declared.input.Payment.{Payment}
+use Rattle.tables.specs.declared.payment.PaymentInput.{PaymentInput}
 use Rattle.lines.specs.Lines.{held}
 use Rattle.lines.specs.Requests.{HasNumbers, IsWithinReach, IsRefused, request_text}
 use Rattle.lines.specs.declared.request.Request.{Request}
@@ -16,7 +16,7 @@ use Rattle.script.specs.Session.{IsNext}
 use Rattle.script.specs.Turns.{State, IsRequestTurn, IsLineTurn, unread, read, answer_of, committed}
 
 -- what a commit leaves
-pub committed_turn : (s last : State) (x : Payment) (asked : Input) (d : Done) (told : Answer) → asked ≡ input.Payment x → told ≡ answer_of d.reply → IsNext s asked d last → record { answer = told; state = last } ≡ committed s (input.Payment x)
+pub committed_turn : (s last : State) (x : PaymentInput) (asked : Input) (d : Done) (told : Answer) → asked ≡ input.Payment x → told ≡ answer_of d.reply → IsNext s asked d last → record { answer = told; state = last } ≡ committed s (input.Payment x)
 committed_turn s last x asked d told is says next =
     let answered : told ≡ answer_of (reply_to s.tables asked) = says ∙ ap (λ (y : Done). answer_of y.reply) next.told in
     let turn : record { answer = told; state = last } ≡ committed s asked = λ i. record { answer = answered i; state = next.state i } in

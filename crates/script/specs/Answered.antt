@@ -4,13 +4,13 @@ use Rattle.tables.specs.Database.{Database}
 use Rattle.lines.specs.Lines.{IsCut, held, lines_of}
 use Rattle.lines.specs.declared.answer.Answer.{Answer}
 use Rattle.script.specs.declared.running.Desk.{Desk}
-use Rattle.script.specs.Session.{Transcript, state_of}
+use Rattle.script.specs.Session.{SessionView, state_of}
 use Rattle.script.specs.Turns.{AreTurns}
 use Rattle.script.specs.Written.{start, answers_text, HasTooManyLines}
 
 -- what a desk has: what has committed, the line that is coming in, how many lines were answered, and the answers that aren't written yet
 pub record Standing : Type 0 where
-  pub session : Transcript
+  pub session : SessionView
   pub line : Option (List ℕ)
   pub answered : ℕ
   pub output : List ℕ

@@ -9,12 +9,12 @@ use Rattle.book.specs.declared.entry.Done.{Done}
 use Rattle.script.specs.Turns.{State, done_of, committed}
 
 -- the book's history, and what the terminal was told, both in order
-pub record Transcript : Type 0 where
+pub record SessionView : Type 0 where
   pub history : List Entry
   pub dones : List Done
 
 -- the state that this makes of the tables that the run began with
-abbrev pub state_of : Database → Transcript → State
+abbrev pub state_of : Database → SessionView → State
 state_of t0 c = record { tables = replay t0 c.history; dones = c.dones }
 
 -- an input is committed, below the cap, as the next: this is what its terminal is told

@@ -5,14 +5,14 @@ use Rattle.std.specs.FinMap.{get}
 use Rattle.money.specs.declared.refusal.Refusal.{Refusal}
 use Rattle.money.specs.declared.refusal.Refusal.TheVariants.{BadInput, BadLine, CommitsFull}
 use Rattle.tables.specs.Database.{Database}
-use Rattle.tables.specs.Inputs.{IsPayment}
+use Rattle.tables.specs.Payment.{IsPayment}
 use Rattle.tables.specs.Apply.{after, reply_to}
 use Rattle.tables.specs.declared.keys.DistrictKey.{DistrictKey}
 use Rattle.tables.specs.declared.keys.CustomerKey.{CustomerKey}
 use Rattle.tables.specs.declared.input.Input.{Input}
 use Rattle.tables.specs.declared.input.Input.TheVariants as input
-use Rattle.tables.specs.declared.input.Payment.{Payment}
-use Rattle.tables.specs.declared.input.Who.TheVariants.{Id}
+use Rattle.tables.specs.declared.payment.PaymentInput.{PaymentInput}
+use Rattle.tables.specs.declared.customer.Who.TheVariants.{Id}
 use Rattle.tables.specs.declared.reply.Reply.{Reply}
 use Rattle.tables.specs.declared.reply.Reply.TheVariants as reply
 use Rattle.lines.specs.Requests.{HasNumbers, IsWithinReach, IsRefused, request_text}
@@ -58,7 +58,7 @@ committed s x = record {
 }
 
 -- the turn of a Payment, whose date is the number of its line: refused outside the ranges of the input, then at the commit cap, and else committed
-pub data IsPaymentTurn (s : State) (x : Payment) (turn : Turn) : Type 0 where
+pub data IsPaymentTurn (s : State) (x : PaymentInput) (turn : Turn) : Type 0 where
   bad : ¬ IsPayment s.tables.scale x → turn ≡ refused s BadInput x.date → IsPaymentTurn s x turn
   full : IsPayment s.tables.scale x → s.tables.scale.commits ≤ length s.dones → turn ≡ refused s CommitsFull x.date → IsPaymentTurn s x turn
   done : IsPayment s.tables.scale x → length s.dones < s.tables.scale.commits → turn ≡ committed s (input.Payment x) → IsPaymentTurn s x turn

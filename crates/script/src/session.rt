@@ -30,9 +30,9 @@ pub struct Session<'e, K: Run> {
 
 impl<'e, K: Run> Model for Session<'e, K> {
     ghost use Rattle.std.specs.Prelude.{◌≡◌, length};
-    ghost use Rattle.script.specs.Session.{Transcript};
+    ghost use Rattle.script.specs.Session.{SessionView};
 
-    ghost Value = { Transcript };
+    ghost Value = { SessionView };
 
     ghost view = { λ s. record { history = s.book.value.history; dones = s.dones.items } };
 

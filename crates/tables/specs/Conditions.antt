@@ -20,14 +20,14 @@ abbrev pub delivered_amount : Database → CustomerKey → ℤ
 delivered_amount t k = total (λ j line. cond (is_line_of t.orders k j line) line.amount (pos 0)) t.lines
 
 -- the sums of H_AMOUNT by H_W_ID; by H_W_ID and H_D_ID; by H_C_W_ID, H_C_D_ID and H_C_ID
-abbrev pub warehouse_history : Database → ℕ → ℤ
-warehouse_history t w = sum_of (λ h. cond (h.warehouse == w) h.amount (pos 0)) t.history
+abbrev pub paid_at_warehouse : Database → ℕ → ℤ
+paid_at_warehouse t w = sum_of (λ h. cond (h.warehouse == w) h.amount (pos 0)) t.history
 
-abbrev pub district_history : Database → DistrictKey → ℤ
-district_history t k = sum_of (λ h. cond (is_district h.warehouse h.district k) h.amount (pos 0)) t.history
+abbrev pub paid_at_district : Database → DistrictKey → ℤ
+paid_at_district t k = sum_of (λ h. cond (is_district h.warehouse h.district k) h.amount (pos 0)) t.history
 
-abbrev pub customer_history : Database → CustomerKey → ℤ
-customer_history t k = sum_of (λ h. cond (is_customer h.customer_warehouse h.customer_district h.customer k) h.amount (pos 0)) t.history
+abbrev pub paid_by_customer : Database → CustomerKey → ℤ
+paid_by_customer t k = sum_of (λ h. cond (is_customer h.customer_warehouse h.customer_district h.customer k) h.amount (pos 0)) t.history
 
 -- 3.3.2.1: W_YTD is the sum of the warehouse's D_YTD
 abbrev pub Condition1At : Database → ℕ → Type 0
@@ -35,15 +35,15 @@ Condition1At t w = column (λ r. r.year_to_date) t.warehouses w ≡ total (λ k 
 
 -- 3.3.2.8: W_YTD is the sum of H_AMOUNT by H_W_ID
 abbrev pub Condition8At : Database → ℕ → Type 0
-Condition8At t w = column (λ r. r.year_to_date) t.warehouses w ≡ warehouse_history t w
+Condition8At t w = column (λ r. r.year_to_date) t.warehouses w ≡ paid_at_warehouse t w
 
 -- 3.3.2.9: D_YTD is the sum of H_AMOUNT by H_W_ID and H_D_ID
 abbrev pub Condition9At : Database → DistrictKey → Type 0
-Condition9At t k = column (λ r. r.year_to_date) t.districts k ≡ district_history t k
+Condition9At t k = column (λ r. r.year_to_date) t.districts k ≡ paid_at_district t k
 
 -- 3.3.2.10: C_BALANCE is the sum of OL_AMOUNT over the customer's delivered lines minus the customer's sum of H_AMOUNT
 abbrev pub Condition10At : Database → CustomerKey → Type 0
-Condition10At t k = column (λ r. r.balance) t.customers k ≡ delivered_amount t k -ℤ customer_history t k
+Condition10At t k = column (λ r. r.balance) t.customers k ≡ delivered_amount t k -ℤ paid_by_customer t k
 
 -- 3.3.2.12: C_BALANCE + C_YTD_PAYMENT is the sum of OL_AMOUNT over the customer's delivered lines
 abbrev pub Condition12At : Database → CustomerKey → Type 0

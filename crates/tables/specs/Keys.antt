@@ -3,6 +3,7 @@ use Rattle.std.specs.Prelude.{ℕ, Bool, ◌==◌, ◌&&◌}
 use Rattle.std.specs.Ordering.{nat_cmp, ordering_then}
 use Rattle.std.specs.declared.cmp.Ordering.{Ordering}
 use Rattle.tables.specs.Sizes.{Sizes, IsNumber}
+use Rattle.tables.specs.declared.limits.TheConstants.{MAX_ORDER_LINES}
 use Rattle.tables.specs.declared.keys.DistrictKey.{DistrictKey}
 use Rattle.tables.specs.declared.keys.CustomerKey.{CustomerKey}
 use Rattle.tables.specs.declared.keys.OrderKey.{OrderKey}
@@ -39,7 +40,7 @@ abbrev pub IsOrderKey : Sizes → OrderKey → Type 0
 IsOrderKey s k = IsNumber s.warehouses k.warehouse × IsNumber s.districts k.district × IsNumber s.orders k.order
 
 abbrev pub IsLineKey : Sizes → LineKey → Type 0
-IsLineKey s k = IsNumber s.warehouses k.warehouse × IsNumber s.districts k.district × IsNumber s.orders k.order × IsNumber 15 k.line
+IsLineKey s k = IsNumber s.warehouses k.warehouse × IsNumber s.districts k.district × IsNumber s.orders k.order × IsNumber MAX_ORDER_LINES k.line
 
 abbrev pub IsItemKey : Sizes → ℕ → Type 0
 IsItemKey s i = IsNumber s.items i

@@ -4,7 +4,10 @@ pub mod Maps
 pub mod Database
 pub mod Records
 pub mod Rows
+pub mod Customer
+pub mod Payment
 pub mod Inputs
 pub mod Apply
 pub mod Conditions
 pub mod WellFormed
+pub mod Constant

@@ -1,5 +1,6 @@
 -- How large a database is (TPC-C 1.2), and within which limits.
 use Rattle.std.specs.Prelude.{ℕ, ◌≤◌}
+use Rattle.tables.specs.declared.limits.TheConstants.{MAX_WAREHOUSES, MAX_DISTRICTS, MIN_CUSTOMERS, MAX_CUSTOMERS, MIN_ITEMS, MAX_ITEMS, MAX_ORDERS, MAX_COMMITS}
 
 -- the numbers of warehouses, districts a warehouse, customers a district and items, the greatest order number of a district, and the greatest number of commits
 pub record Sizes : Type 0 where
@@ -22,9 +23,9 @@ IsNumber n k = IsBetween 1 n k
 
 -- the limits of this engine
 pub record IsLawful (s : Sizes) : Type 0 where
-  pub warehouses : IsBetween 1 8 s.warehouses
-  pub districts : IsBetween 1 10 s.districts
-  pub customers : IsBetween 10 3000 s.customers
-  pub items : IsBetween 20 100000 s.items
-  pub orders : IsBetween s.customers 100000 s.orders
-  pub commits : IsBetween 1 600000 s.commits
+  pub warehouses : IsBetween 1 MAX_WAREHOUSES s.warehouses
+  pub districts : IsBetween 1 MAX_DISTRICTS s.districts
+  pub customers : IsBetween MIN_CUSTOMERS MAX_CUSTOMERS s.customers
+  pub items : IsBetween MIN_ITEMS MAX_ITEMS s.items
+  pub orders : IsBetween s.customers MAX_ORDERS s.orders
+  pub commits : IsBetween 1 MAX_COMMITS s.commits

@@ -6,6 +6,8 @@ use Rattle.tables.specs.Sizes.{Sizes, IsBetween, IsNumber}
 use Rattle.tables.specs.Keys.{IsWarehouseKey, IsDistrictKey, IsCustomerKey, IsOrderKey, IsLineKey, IsItemKey, IsStockKey, order_of}
 use Rattle.tables.specs.Maps.{RowsAt, RowsWithin, EachRow}
 use Rattle.tables.specs.Database.{Database}
+use Rattle.money.specs.declared.cents.TheConstants.{MAX_MONEY}
+use Rattle.tables.specs.declared.limits.TheConstants.{MAX_DATE, MAX_COUNT, MAX_MONEY_STEP, MAX_COUNT_STEP, MIN_PAYMENT, MAX_PAYMENT, MIN_ORDER_LINES, MAX_ORDER_LINES, MAX_QUANTITY, MAX_LINE_AMOUNT, MAX_CARRIER, MIN_STOCK, MAX_STOCK}
 use Rattle.tables.specs.declared.keys.OrderKey.{OrderKey}
 use Rattle.tables.specs.declared.keys.CustomerKey.{CustomerKey}
 use Rattle.tables.specs.declared.rows.District.{District}
@@ -15,23 +17,17 @@ use Rattle.tables.specs.declared.rows.Order.{Order}
 use Rattle.tables.specs.declared.rows.OrderLine.{OrderLine}
 use Rattle.tables.specs.declared.rows.Stock.{Stock}
 
--- within 10,000,000,000,000 cents of zero, also after n more commits, of which each moves a column by at most 15,000,000 cents
-abbrev pub IsMoneyFor : ℕ → ℤ → Type 0
-IsMoneyFor n z = ((z +ℤ pos (15000000 * n)) ≤ℤ pos 10000000000000) × (neg_ℤ (pos 10000000000000) ≤ℤ (z -ℤ pos (15000000 * n)))
-
--- at most 1,000,000,000, also after n more commits, of which each raises a count by at most 150
-abbrev pub IsCountFor : ℕ → ℕ → Type 0
-IsCountFor n c = c + 150 * n ≤ 1000000000
-
+-- within 10,000,000,000,000 cents of zero
 abbrev pub IsMoney : ℤ → Type 0
-IsMoney z = IsMoneyFor 0 z
+IsMoney z = (neg_ℤ MAX_MONEY ≤ℤ z) × (z ≤ℤ MAX_MONEY)
 
+-- at most 1,000,000,000
 abbrev pub IsCount : ℕ → Type 0
-IsCount c = IsCountFor 0 c
+IsCount c = c ≤ MAX_COUNT
 
 -- a date that isn't null
 abbrev pub IsDate : ℕ → Type 0
-IsDate n = IsBetween 1 4000000000 n
+IsDate n = IsBetween 1 MAX_DATE n
 
 pub record IsDistrictRow (s : Sizes) (r : District) : Type 0 where
   pub year_to_date : IsMoney r.year_to_date
@@ -50,24 +46,24 @@ pub record IsHistoryRow (s : Sizes) (r : History) : Type 0 where
   pub district : IsNumber s.districts r.district
   pub warehouse : IsNumber s.warehouses r.warehouse
   pub date : IsDate r.date
-  pub at_least : pos 100 ≤ℤ r.amount
-  pub at_most : r.amount ≤ℤ pos 500000
+  pub at_least : MIN_PAYMENT ≤ℤ r.amount
+  pub at_most : r.amount ≤ℤ MAX_PAYMENT
 
 pub record IsOrderRow (r : Order) : Type 0 where
   pub entry_date : IsDate r.entry_date
-  pub carrier : ForSome r.carrier (λ n. IsNumber 10 n)
-  pub line_count : IsBetween 5 15 r.line_count
+  pub carrier : ForSome r.carrier (λ n. IsNumber MAX_CARRIER n)
+  pub line_count : IsBetween MIN_ORDER_LINES MAX_ORDER_LINES r.line_count
 
 pub record IsLineRow (s : Sizes) (r : OrderLine) : Type 0 where
   pub item : IsItemKey s r.item
   pub supply_warehouse : IsWarehouseKey s r.supply_warehouse
   pub delivery_date : ForSome r.delivery_date (λ n. IsDate n)
-  pub quantity : IsNumber 10 r.quantity
+  pub quantity : IsNumber MAX_QUANTITY r.quantity
   pub at_least : pos 0 ≤ℤ r.amount
-  pub at_most : r.amount ≤ℤ pos 999999
+  pub at_most : r.amount ≤ℤ MAX_LINE_AMOUNT
 
 pub record IsStockRow (r : Stock) : Type 0 where
-  pub quantity : IsBetween 10 100 r.quantity
+  pub quantity : IsBetween MIN_STOCK MAX_STOCK r.quantity
   pub year_to_date : IsCount r.year_to_date
   pub orders : IsCount r.orders
   pub remote_orders : IsCount r.remote_orders
@@ -99,6 +95,13 @@ pub record IsWellFormed (t : Database) : Type 0 where
   pub order_customers : EachRow (λ k r. IsSome (get t.customers (orderer k r))) t.orders
   pub new_order_orders : (k : OrderKey) → IsSome (get t.new_orders k) → IsSome (get t.orders k)
   pub line_orders : EachRow (λ k r. (order : Order) × (get t.orders (order_of k) ≡ Some order) × (k.line ≤ order.line_count)) t.lines
+
+-- a column that stays within its range for n more commits, of which each moves money by at most 15,000,000 cents and raises a count by at most 150
+abbrev pub IsMoneyFor : ℕ → ℤ → Type 0
+IsMoneyFor n z = (neg_ℤ MAX_MONEY ≤ℤ (z -ℤ pos (MAX_MONEY_STEP * n))) × ((z +ℤ pos (MAX_MONEY_STEP * n)) ≤ℤ MAX_MONEY)
+
+abbrev pub IsCountFor : ℕ → ℕ → Type 0
+IsCountFor n c = c + MAX_COUNT_STEP * n ≤ MAX_COUNT
 
 -- the columns that commits move stay within their ranges for n more commits
 pub record HasRoom (n : ℕ) (t : Database) : Type 0 where

@@ -3,8 +3,11 @@
 //! the tables, when tables are well-formed, and the consistency conditions (TPC-C 3.3.2).
 #![tactic(auto)]
 
+mod customer;
 mod input;
 mod keys;
+pub mod limits;
+mod payment;
 mod records;
 mod reply;
 mod rows;
@@ -13,10 +16,12 @@ mod scale;
 mod tests;
 mod words;
 
-pub use input::{Input, Payment, Who};
+pub use customer::Who;
+pub use input::Input;
 pub use keys::{CustomerKey, DistrictKey, LineKey, OrderKey, StockKey};
-pub use records::{RecordKey, Table, number_of, rec, records_have_one_number_each};
-pub use reply::{PaymentReply, Reply};
+pub use payment::{PaymentInput, PaymentReply};
+pub use records::{RecordKey, Table, number_of_key, rec, records_have_one_number_each};
+pub use reply::Reply;
 pub use rows::{
     Credit, Customer, District, History, Item, NewOrder, Order, OrderLine, Stock, Warehouse,
 };

@@ -75,7 +75,7 @@ pub fn rec(scale: &Scale, table: Table, place: u32) -> u32
 }
 
 /// The number of the record of a key. Constant time.
-pub fn number_of(scale: &Scale, key: RecordKey) -> u32
+pub fn number_of_key(scale: &Scale, key: RecordKey) -> u32
     requires { IsRecordKey scale.now key }
     ensures value { result ≡ number_of_key scale.now key }
     ensures limit { result < record_count scale.now }

@@ -1,17 +1,6 @@
-//! What a terminal is told.
+//! What a terminal is told, one module a transaction: here is only which there are.
 
-use money::Cents;
-
-/// A Payment's reply (TPC-C 2.5.3.3): the paying district, the customer, and C_BALANCE after the payment.
-#[derive(Clone, Copy, Debug, PartialEq, Eq)]
-pub struct PaymentReply {
-    pub warehouse: u32,
-    pub district: u32,
-    pub customer_warehouse: u32,
-    pub customer_district: u32,
-    pub customer: u32,
-    pub balance: Cents,
-}
+use crate::payment::PaymentReply;
 
 /// The reply to a committed transaction.
 #[derive(Clone, Copy, Debug, PartialEq, Eq)]

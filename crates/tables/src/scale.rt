@@ -2,6 +2,10 @@
 
 ghost use Rattle.std.specs.Prelude.{◌≡◌, ◌≤◌, ◌↔◌, IsTrue, MatchResult};
 
+use crate::limits::{
+    MAX_COMMITS, MAX_CUSTOMERS, MAX_DISTRICTS, MAX_ITEMS, MAX_ORDERS, MAX_WAREHOUSES,
+    MIN_CUSTOMERS, MIN_ITEMS,
+};
 use money::Refusal;
 use std::marker::Model;
 
@@ -54,12 +58,12 @@ impl Scale {
         ensures limits { let asked = sizes warehouses districts customers items orders commits in
             MatchResult result (λ scale. (scale ≡ asked) × IsLawful asked) (λ refusal. (refusal ≡ BadScale) × ¬ IsLawful asked) }
     {
-        let is_lawful = is_between(1, 8, warehouses)
-            && is_between(1, 10, districts)
-            && is_between(10, 3_000, customers)
-            && is_between(20, 100_000, items)
-            && is_between(customers, 100_000, orders)
-            && is_between(1, 600_000, commits);
+        let is_lawful = is_between(1, MAX_WAREHOUSES, warehouses)
+            && is_between(1, MAX_DISTRICTS, districts)
+            && is_between(MIN_CUSTOMERS, MAX_CUSTOMERS, customers)
+            && is_between(MIN_ITEMS, MAX_ITEMS, items)
+            && is_between(customers, MAX_ORDERS, orders)
+            && is_between(1, MAX_COMMITS, commits);
         if !is_lawful {
             return Err(Refusal::BadScale);
         }
@@ -76,7 +80,7 @@ impl Scale {
     /// The number of warehouses.
     pub fn warehouses(&self) -> u32
         ensures value { result ≡ self.now.warehouses }
-        ensures limits { IsBetween 1 8 result }
+        ensures limits { IsBetween 1 MAX_WAREHOUSES result }
     {
         self.warehouses
     }
@@ -84,7 +88,7 @@ impl Scale {
     /// The number of districts of each warehouse.
     pub fn districts(&self) -> u32
         ensures value { result ≡ self.now.districts }
-        ensures limits { IsBetween 1 10 result }
+        ensures limits { IsBetween 1 MAX_DISTRICTS result }
     {
         self.districts
     }
@@ -92,7 +96,7 @@ impl Scale {
     /// The number of customers of each district.
     pub fn customers(&self) -> u32
         ensures value { result ≡ self.now.customers }
-        ensures limits { IsBetween 10 3000 result }
+        ensures limits { IsBetween MIN_CUSTOMERS MAX_CUSTOMERS result }
     {
         self.customers
     }
@@ -100,7 +104,7 @@ impl Scale {
     /// The number of items.
     pub fn items(&self) -> u32
         ensures value { result ≡ self.now.items }
-        ensures limits { IsBetween 20 100000 result }
+        ensures limits { IsBetween MIN_ITEMS MAX_ITEMS result }
     {
         self.items
     }
@@ -108,7 +112,7 @@ impl Scale {
     /// The greatest order number of a district.
     pub fn orders(&self) -> u32
         ensures value { result ≡ self.now.orders }
-        ensures limits { IsBetween self.now.customers 100000 result }
+        ensures limits { IsBetween self.now.customers MAX_ORDERS result }
     {
         self.orders
     }
@@ -116,7 +120,7 @@ impl Scale {
     /// The greatest number of commits.
     pub fn commits(&self) -> u32
         ensures value { result ≡ self.now.commits }
-        ensures limits { IsBetween 1 600000 result }
+        ensures limits { IsBetween 1 MAX_COMMITS result }
     {
         self.commits
     }

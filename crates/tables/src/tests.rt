@@ -1,8 +1,8 @@
 //! Which numbers make a scale, which fields a Payment's input, and how records are numbered and kept.
 
 use crate::{
-    Credit, Customer, CustomerKey, District, Input, Payment, RecordKey, Scale, Table, Tables,
-    Warehouse, Who, money_from_word, money_to_word, number_of, rec,
+    Credit, Customer, CustomerKey, District, Input, PaymentInput, RecordKey, Scale, Table, Tables,
+    Warehouse, Who, money_from_word, money_to_word, number_of_key, rec,
 };
 use money::{Cents, Rate, Refusal};
 use std::test::Fail;
@@ -26,8 +26,8 @@ fn scales(rt: HostRuntime) -> Result<(), Fail> {
 }
 
 /// A payment in the small scale's only warehouse, of a customer of district 2.
-fn payment(date: u32, district: u32, customer: u32, amount: i64) -> Payment {
-    Payment {
+fn payment(date: u32, district: u32, customer: u32, amount: i64) -> PaymentInput {
+    PaymentInput {
         date,
         warehouse: 1,
         district,
@@ -96,8 +96,8 @@ fn record_numbers(rt: HostRuntime) -> Result<(), Fail> {
         district: 2,
         customer: 3,
     };
-    assert_eq!(rt; number_of(&scale, RecordKey::Customer(customer)), 15);
-    assert_eq!(rt; number_of(&scale, RecordKey::Last(customer)), 1_077);
+    assert_eq!(rt; number_of_key(&scale, RecordKey::Customer(customer)), 15);
+    assert_eq!(rt; number_of_key(&scale, RecordKey::Last(customer)), 1_077);
     Ok(())
 }
 

@@ -1,5 +1,5 @@
 use Rattle.std.proofs.Common.{ap, ◌∙◌, length}
-use Rattle.cells.specs.Records.{Written}
+use Rattle.cells.specs.Records.{PenView}
 use Rattle.book.proofs.Checks.{begins, within, seen, grown, conflict, goes_on, all_latest}
 use Rattle.book.proofs.steps.validate.Goals as goal
 
@@ -7,7 +7,7 @@ pub loop-version-init : goal.loop-version-init
 loop-version-init g c = begins c.args.pen.now c.args.reader.now c.args.work.now.reads c.into_iter-version-iterator.result (c.into_iter-version-iterator.ensures.into_iter_gives ∙ c.versions-version-items.ensures.versions) c.versions-version-items.ensures.found
 
 pub meet-requires-clause-own : goal.meet-requires-clause-own
-meet-requires-clause-own g c = (ap (λ (w : Written). w.cells) c.loop-version.invariant.same ∙ c.requires.own.0, c.loop-version.invariant.grown.cells ∙ c.requires.own.1)
+meet-requires-clause-own g c = (ap (λ (w : PenView). w.cells) c.loop-version.invariant.same ∙ c.requires.own.0, c.loop-version.invariant.grown.cells ∙ c.requires.own.1)
 
 pub meet-requires-clause-is_record : goal.meet-requires-clause-is_record
 meet-requires-clause-is_record g c = within (length c.args.cells.now) c.args.pen.now c.args.reader.now c.args.work.now.reads c.requires.read c.loop-version.pen c.loop-version.reader c.loop-version.version-iterator c.loop-version.invariant c.in-Some.field-0-0.now c.in-Some.version.now c.next.new.self c.in-Some.ensures.steps

@@ -2,7 +2,7 @@ use Rattle.std.proofs.Common.{rules, set, sym, ap, ◌∙◌, subst, arith}
 use Rattle.std.proofs.lemmas.List.Edits.{map_over_more}
 use Rattle.cells.specs.declared.rule.View.{View}
 use Rattle.cells.specs.Views.{IsPen, known, sight}
-use Rattle.cells.specs.Records.{Sights}
+use Rattle.cells.specs.Records.{ReaderView}
 use Rattle.cells.specs.Places.{sights_and, sights_with}
 use Rattle.cells.proofs.Known.{told_reader}
 use Rattle.cells.proofs.Places.{sights_and-told}
@@ -36,6 +36,6 @@ loop-reader-preserved g c =
       cell = kept.0 ∙ i.cell;
       view = kept.1 ∙ i.view;
       readers =
-          ap (set items n) (c.in_ok-push.ensures.ok ∙ ap (λ (s : Sights). sights_and s c.told.result) (sym c.reader-item.is) ∙ told)
-          ∙ map_over_more (λ (s : Sights). sights_with s place.table_id (known place).seen) c.args.readers.now items n item (omega arith) i.readers c.reader-item.is;
+          ap (set items n) (c.in_ok-push.ensures.ok ∙ ap (λ (s : ReaderView). sights_and s c.told.result) (sym c.reader-item.is) ∙ told)
+          ∙ map_over_more (λ (s : ReaderView). sights_with s place.table_id (known place).seen) c.args.readers.now items n item (omega arith) i.readers c.reader-item.is;
     }

@@ -1,7 +1,7 @@
 use Rattle.std.proofs.Common.{◌≡◌, ℕ, ◌+◌, List, [], ◌∷◌, Option, Some, None, zero, suc, refl, ap, ◌∙◌}
 use Rattle.tables.specs.Database.{Database}
 use Rattle.population.specs.Initial.{initial}
-use Rattle.cells.specs.Records.{Written, at}
+use Rattle.cells.specs.Records.{PenView, at}
 use Rattle.cells.specs.Versions.{last_tid}
 use Rattle.cells.specs.First.{first_version, firsts, cell_count}
 use Rattle.payment.proofs.tests.open.Goals as goal
@@ -19,4 +19,4 @@ first_tids t m (suc n) (suc k) = first_tids t (m + 1) n k
 pub returns-clause-first : goal.returns-clause-first
 returns-clause-first g c n =
     let t = initial c.in_ok-population.population in
-    ap (λ (w : Written). last_tid (at w.all n)) c.in_ok-cells.ensures.pen ∙ first_tids t 0 (cell_count t.scale) n
+    ap (λ (w : PenView). last_tid (at w.all n)) c.in_ok-cells.ensures.pen ∙ first_tids t 0 (cell_count t.scale) n

@@ -6,7 +6,7 @@ use Rattle.population.specs.Initial.{initial}
 use Rattle.payment.specs.Explains.{Explains, IsWithinLimits}
 use Rattle.payment.specs.Paid.{IsPaid, warehouse_record, district_record, customer_record, writings_of}
 use Rattle.payment.specs.Reads.{held}
-use Rattle.payment.specs.Writes.{Writings}
+use Rattle.payment.specs.Writes.{WriteSetView}
 use Rattle.payment.proofs.Explained.{rows_of, explains, each_written, same_Paid}
 use Rattle.payment.proofs.Numbered.{in_order_as}
 use Rattle.payment.proofs.transaction.pay.Goals as goal
@@ -61,7 +61,7 @@ returns-clause-explains g c =
     (records.ensures.customer ∙ ap (λ (q : Sizes). customer_record q x) s)
     found.warehouse found.district found.customer paid
     (λ w d k rows. let made = c.make.ensures w d k rows in subst (IsPaid x.amount w d k) (same_Paid made.0 paid (sym made.1 ∙ c.in-Some.is)) made.2) in
-    subst (λ (q : Writings). Explains t0 (input.Payment x) c.read.new.reads q (reply.Payment c.reply.result)) (sym c.in_ok-writes.ensures.ok)
+    subst (λ (q : WriteSetView). Explains t0 (input.Payment x) c.read.new.reads q (reply.Payment c.reply.result)) (sym c.in_ok-writes.ensures.ok)
     (subst (λ r. Explains t0 (input.Payment x) c.read.new.reads (writings_of records.result paid x) (reply.Payment r)) (sym c.reply.ensures) whole)
 
 pub returns-clause-limits : goal.returns-clause-limits
@@ -76,7 +76,7 @@ returns-clause-limits g c =
     (records.ensures.customer ∙ ap (λ (q : Sizes). customer_record q x) s) in
     let last = subst (λ n. records.result.customer < n) (sym c.requires.cells) o.2 in
     let found = c.in_ok-found.ensures in
-    subst (λ (q : Writings). IsWithinLimits cells c.read.new.reads q) (sym c.in_ok-writes.ensures.ok) (record {
+    subst (λ (q : WriteSetView). IsWithinLimits cells c.read.new.reads q) (sym c.in_ok-writes.ensures.ok) (record {
       reads_limit = omega (arith, found.limit);
       writes_limit = omega arith;
       reads_cells = found.cells;

@@ -1,13 +1,13 @@
 use Rattle.std.proofs.Common.{◌≡◌, ◌-ℤ◌, ◌∙◌, ℤ, arith}
 use Rattle.std.proofs.lemmas.Int.{ints}
 use Rattle.tables.specs.Database.{database}
-use Rattle.tables.specs.Conditions.{delivered_amount, customer_history}
+use Rattle.tables.specs.Conditions.{delivered_amount, paid_by_customer}
 use Rattle.plain.proofs.conditions.owed.Goals as goal
 
 pub returns : goal.returns
 returns c =
     let delivered : c.amount_of-delivered.result ≡ delivered_amount (database c.args.tables.now) c.args.key.now = c.amount_of-delivered.ensures ∙ c.requires.delivered c.args.key.now in
-    let paid : c.amount_of-paid.result ≡ customer_history (database c.args.tables.now) c.args.key.now = c.amount_of-paid.ensures ∙ c.requires.history c.args.key.now in
+    let paid : c.amount_of-paid.result ≡ paid_by_customer (database c.args.tables.now) c.args.key.now = c.amount_of-paid.ensures ∙ c.requires.history c.args.key.now in
     joined _ _ _ _ _ delivered paid (omega (arith, ints, c.difference.ensures))
   where
     joined : (r d h u v : ℤ) → d ≡ u → h ≡ v → r ≡ d -ℤ h → r ≡ u -ℤ v

@@ -3,7 +3,7 @@ use Rattle.std.proofs.lemmas.Int.{ints}
 use Rattle.tables.specs.Keys.{is_district}
 use Rattle.tables.specs.declared.rows.History.{History}
 use Rattle.plain.proofs.Steps.{sum_of_more}
-use Rattle.plain.proofs.sums.district_history_total.Goals as goal
+use Rattle.plain.proofs.sums.paid_at_district_total.Goals as goal
 
 pub loop-row-preserved : goal.loop-row-preserved
 loop-row-preserved c = record {

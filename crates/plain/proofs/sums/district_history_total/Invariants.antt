@@ -1,7 +1,7 @@
 use Rattle.std.proofs.Common.{◌≡◌, ◌*◌, ◌^◌, ◌≤ℤ◌, pos, neg_ℤ, cond, take}
 use Rattle.tables.specs.Keys.{is_district}
 use Rattle.tables.specs.Maps.{sum_of}
-use Rattle.plain.proofs.sums.district_history_total.Given as goal
+use Rattle.plain.proofs.sums.paid_at_district_total.Given as goal
 
 abbrev pub invariant-loop-row : goal.invariant-loop-row
 invariant-loop-row l = record {

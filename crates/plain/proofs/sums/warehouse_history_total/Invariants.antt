@@ -1,6 +1,6 @@
 use Rattle.std.proofs.Common.{◌≡◌, ◌*◌, ◌^◌, ◌==◌, ◌≤ℤ◌, pos, neg_ℤ, cond, take}
 use Rattle.tables.specs.Maps.{sum_of}
-use Rattle.plain.proofs.sums.warehouse_history_total.Given as goal
+use Rattle.plain.proofs.sums.paid_at_warehouse_total.Given as goal
 
 abbrev pub invariant-loop-row : goal.invariant-loop-row
 invariant-loop-row l = record {

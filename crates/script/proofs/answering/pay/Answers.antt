@@ -1,5 +1,5 @@
 use Rattle.std.proofs.Common.{ap, ◌∙◌, subst}
-use Rattle.tables.specs.Inputs.{IsPayment}
+use Rattle.tables.specs.Payment.{IsPayment}
 use Rattle.script.specs.Session.{state_of}
 use Rattle.script.specs.Turns.{done, answer_of}
 use Rattle.script.proofs.TurnLemmas.{committed_turn}

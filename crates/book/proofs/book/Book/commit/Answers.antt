@@ -1,11 +1,11 @@
 use Rattle.std.proofs.Common.{◌≡◌, ◌+◌, ◌<◌, ◌≤◌, List, [], ◌∷◌, ◌++◌, inl, inr, refl, sym, ap, ◌∙◌, subst, length, arith, rules, length-append}
 use Rattle.tables.specs.Sizes.{Sizes}
 use Rattle.tables.specs.Database.{Database, database}
-use Rattle.cells.specs.Records.{Written, at}
+use Rattle.cells.specs.Records.{PenView, at}
 use Rattle.cells.proofs.Grown.{grown_twice}
-use Rattle.book.specs.Book.{Kept, AreLatest, IsSound, IsReadBy, Commits, HasSeen, entry_of}
-use Rattle.book.specs.History.{commit_tid, versions_for}
-use Rattle.book.specs.Share.{Holding}
+use Rattle.book.specs.Book.{BookView, AreLatest, IsSound, IsReadBy, Commits, HasSeen, entry_of}
+use Rattle.book.specs.History.{commit_tid, new_versions}
+use Rattle.book.specs.Share.{ShareView}
 use Rattle.book.proofs.Sound.{sound_after}
 use Rattle.book.proofs.Committed.{read_by_more}
 use Rattle.book.specs.declared.entry.Entry.{Entry}
@@ -22,8 +22,8 @@ returns-then-commits-clause-answer g c =
       (λ i. record { written = c.validate.ensures.pen i; history = c.self.inside.history.items }) ∙ view,
       refl,
       inr (
-        subst (λ (k : Kept). AreLatest k.written.all c.args.work.reads) view c.if-not-validate.ensures.latest,
-        inl (refl, subst (λ (k : Kept). g.K.Run.first.scale.commits ≤ length k.history) view (omega (arith, full, cap, len, c.commits.ensures.value))),
+        subst (λ (k : BookView). AreLatest k.written.all c.args.work.reads) view c.if-not-validate.ensures.latest,
+        inl (refl, subst (λ (k : BookView). g.K.Run.first.scale.commits ≤ length k.history) view (omega (arith, full, cap, len, c.commits.ensures.value))),
       ),
     )
 
@@ -44,8 +44,8 @@ returns-in_default-clause-answer g c =
       (λ i. record { written = c.validate.ensures.pen i; history = c.reserve.ensures.items i }) ∙ view,
       refl,
       inr (
-        subst (λ (k : Kept). AreLatest k.written.all c.args.work.reads) view c.if-not-validate.ensures.latest,
-        inr (refl, subst (λ (k : Kept). length k.history < g.K.Run.first.scale.commits) view (omega (arith, c.if-commits.false, cap, len, c.commits.ensures.value))),
+        subst (λ (k : BookView). AreLatest k.written.all c.args.work.reads) view c.if-not-validate.ensures.latest,
+        inr (refl, subst (λ (k : BookView). length k.history < g.K.Run.first.scale.commits) view (omega (arith, c.if-commits.false, cap, len, c.commits.ensures.value))),
       ),
     )
 
@@ -58,8 +58,8 @@ returns-in_default-list-clause-answer g c =
       (λ i. record { written = c.validate.ensures.pen i; history = c.reserve.ensures.items i }) ∙ view,
       refl,
       inr (
-        subst (λ (k : Kept). AreLatest k.written.all c.args.work.reads) view c.if-not-validate.ensures.latest,
-        inr (refl, subst (λ (k : Kept). length k.history < g.K.Run.first.scale.commits) view (omega (arith, c.if-commits.false, cap, len, c.commits.ensures.value))),
+        subst (λ (k : BookView). AreLatest k.written.all c.args.work.reads) view c.if-not-validate.ensures.latest,
+        inr (refl, subst (λ (k : BookView). length k.history < g.K.Run.first.scale.commits) view (omega (arith, c.if-commits.false, cap, len, c.commits.ensures.value))),
       ),
     )
 
@@ -72,8 +72,8 @@ returns-in_default-apply-clause-answer g c =
       (λ i. record { written = c.validate.ensures.pen i; history = c.reserve.ensures.items i }) ∙ view,
       refl,
       inr (
-        subst (λ (k : Kept). AreLatest k.written.all c.args.work.reads) view c.if-not-validate.ensures.latest,
-        inr (refl, subst (λ (k : Kept). length k.history < g.K.Run.first.scale.commits) view (omega (arith, c.if-commits.false, cap, len, c.commits.ensures.value))),
+        subst (λ (k : BookView). AreLatest k.written.all c.args.work.reads) view c.if-not-validate.ensures.latest,
+        inr (refl, subst (λ (k : BookView). length k.history < g.K.Run.first.scale.commits) view (omega (arith, c.if-commits.false, cap, len, c.commits.ensures.value))),
       ),
     )
 
@@ -85,10 +85,10 @@ invariant_of-self-2 g c =
     let len : c.len-commits.result ≡ length c.self.inside.history.items = search rules in
     let small : length c.self.inside.history.items < g.K.Run.first.scale.commits = omega (arith, c.if-commits.false, cap, len, c.commits.ensures.value) in
     let next : c.len-commits.result + 1 ≡ length c.self.inside.history.items + 1 = ap (λ n. n + 1) len in
-    let cells : c.store.new.pen.cells ≡ c.self.inside.pen.cells = c.store.ensures.cells ∙ ap (λ (w : Written). w.cells) c.validate.ensures.pen in
+    let cells : c.store.new.pen.cells ≡ c.self.inside.pen.cells = c.store.ensures.cells ∙ ap (λ (w : PenView). w.cells) c.validate.ensures.pen in
     let made = sound_after g.K.Run.first g.K.Run.cells (record { written = c.self.inside.pen; history = c.self.inside.history.items }) (database c.self.inside.tables) sound
     c.args.reader.now c.args.work c.requires.work c.if-not-validate.ensures.latest c.share.inside.terminal c.store.new.pen small cells
-    (λ n. c.store.ensures.versions n ∙ (λ i. at (c.validate.ensures.pen i).all n ++ versions_for (next i) c.args.work.writes.values n)) in
+    (λ n. c.store.ensures.versions n ∙ (λ i. at (c.validate.ensures.pen i).all n ++ new_versions (next i) c.args.work.writes.values n)) in
     let history : c.push_reserved.new.self.items ≡ c.self.inside.history.items ++ entry_of (length c.self.inside.history.items + 1) c.share.inside.terminal c.args.work ∷ [] =
     c.push_reserved.ensures.items ∙ (λ i. c.reserve.ensures.items i ++ record { number = next i; tid = (c.tid_for.ensures ∙ ap commit_tid next) i; terminal = c.share.inside.terminal; input = c.args.work.input; reply = c.args.work.reply; writes = c.in-Ok-list.ensures.same i } ∷ []) in (
       subst (λ (q : List Entry × Database). IsSound g.K.Run.first g.K.Run.cells (record { written = c.store.new.pen; history = q.0 }) q.1) (λ i. (sym history i, sym c.in-Ok-apply.ensures.tables i)) made,
@@ -105,17 +105,17 @@ returns-clause-answer g c =
     let tid = c.tid_for.ensures ∙ ap commit_tid next in
     let history : c.push_reserved.new.self.items ≡ c.self.inside.history.items ++ entry_of (length c.self.inside.history.items + 1) c.share.inside.terminal c.args.work ∷ [] =
     c.push_reserved.ensures.items ∙ (λ i. c.reserve.ensures.items i ++ record { number = next i; tid = tid i; terminal = c.share.inside.terminal; input = c.args.work.input; reply = c.args.work.reply; writes = c.in-Ok-list.ensures.same i } ∷ []) in
-    subst (λ (q : Kept × Holding). AreLatest q.0.written.all c.args.work.reads × (length q.0.history < g.K.Run.first.scale.commits)
+    subst (λ (q : BookView × ShareView). AreLatest q.0.written.all c.args.work.reads × (length q.0.history < g.K.Run.first.scale.commits)
     × Commits q.0 (record { written = c.store.new.pen; history = c.push_reserved.new.self.items }) (entry_of (length q.0.history + 1) q.1.terminal c.args.work)
     × (c.of.result ≡ record { number = length q.0.history + 1; tid = commit_tid (length q.0.history + 1); reply = c.args.work.reply })
-    × (◌≡◌ {A = Holding} (record { terminal = c.share.inside.terminal; parts = c.add.new.share.parts; commits = c.add.new.share.amount }) (record { terminal = q.1.terminal; parts = q.1.parts; commits = q.1.commits + 1 }))
+    × (◌≡◌ {A = ShareView} (record { terminal = c.share.inside.terminal; parts = c.add.new.share.parts; commits = c.add.new.share.amount }) (record { terminal = q.1.terminal; parts = q.1.parts; commits = q.1.commits + 1 }))
     × HasSeen c.store.new.reader c.store.new.pen c.args.work.writes) (λ i. (c.self.view_is i, c.share.view_is i)) (
       c.if-not-validate.ensures.latest,
       small,
       record {
         history = history;
-        cells = c.store.ensures.cells ∙ ap (λ (w : Written). w.cells) c.validate.ensures.pen;
-        versions = λ n _. c.store.ensures.versions n ∙ (λ i. at (c.validate.ensures.pen i).all n ++ versions_for (next i) c.args.work.writes.values n);
+        cells = c.store.ensures.cells ∙ ap (λ (w : PenView). w.cells) c.validate.ensures.pen;
+        versions = λ n _. c.store.ensures.versions n ∙ (λ i. at (c.validate.ensures.pen i).all n ++ new_versions (next i) c.args.work.writes.values n);
       },
       c.of.ensures ∙ (λ i. record { number = next i; tid = tid i; reply = c.args.work.reply }),
       (λ i. record { terminal = c.share.inside.terminal; parts = c.add.ensures.parts i; commits = c.add.ensures.amount i }),

@@ -1,6 +1,6 @@
 use Rattle.std.proofs.Common.{ap, ◌∙◌, subst, set}
 use Rattle.std.specs.Prelude.{slice_get}
-use Rattle.cells.specs.Records.{Written, Writes}
+use Rattle.cells.specs.Records.{PenView, StoresVersion}
 use Rattle.cells.specs.Places.{written_of}
 use Rattle.cells.proofs.Places.{has_place, written_writes}
 use Rattle.cells.proofs.holders.PenOf.store.Goals as goal
@@ -8,6 +8,6 @@ use Rattle.cells.proofs.holders.PenOf.store.Goals as goal
 pub returns : goal.returns
 returns g c =
     let ps = c.self.inside.places.items in
-    let within = has_place ps c.args.n _ (ap (λ (w : Written). slice_get w.cells c.args.n) c.self.view_is ∙ c.requires.own) in
-    subst (λ (w : Written). Writes w (written_of (set ps c.args.n c.store.new.place)) c.args.n c.args.version) c.self.view_is
+    let within = has_place ps c.args.n _ (ap (λ (w : PenView). slice_get w.cells c.args.n) c.self.view_is ∙ c.requires.own) in
+    subst (λ (w : PenView). StoresVersion w (written_of (set ps c.args.n c.store.new.place)) c.args.n c.args.version) c.self.view_is
     (written_writes ps c.args.n _ _ within c.index_mut.ensures.value c.args.version c.store.ensures.own c.store.ensures.stored)

@@ -3,7 +3,7 @@ use Rattle.std.specs.Prelude.{All}
 use Rattle.std.proofs.lemmas.List.{length-map, with_items_is}
 use Rattle.cells.specs.declared.rule.View.{View}
 use Rattle.cells.specs.Views.{known}
-use Rattle.cells.specs.Records.{Sights}
+use Rattle.cells.specs.Records.{ReaderView}
 use Rattle.cells.specs.Places.{sights_with}
 use Rattle.cells.specs.Opening.{Opened, seen_all, opened_with}
 use Rattle.cells.proofs.Places.{all_seen-told, opened_with-written}
@@ -14,9 +14,9 @@ invariant_of-result g c =
     let t = c.in_ok-tell.ensures in
     let old = c.self.inside.readers in
     let first = c.in_ok-cell.place in
-    let told : c.tell.new.readers ≡ map (λ s. sights_with s first.table_id (known first).seen) old.items = t.ok ∙ ap (λ (l : List Sights). map (λ s. sights_with s first.table_id (known first).seen) l) c.deref_mut.ensures.value in
+    let told : c.tell.new.readers ≡ map (λ s. sights_with s first.table_id (known first).seen) old.items = t.ok ∙ ap (λ (l : List ReaderView). map (λ s. sights_with s first.table_id (known first).seen) l) c.deref_mut.ensures.value in
     let count : length c.tell.new.readers ≡ old.len = ap length told ∙ length-map old.items (λ s. sights_with s first.table_id (known first).seen) ∙ sym old.ok.0 in
-    subst (λ (l : List Sights). All (λ s. s ≡ seen_all c.push.new.self) l) (sym (with_items_is old c.tell.new.readers count))
+    subst (λ (l : List ReaderView). All (λ s. s ≡ seen_all c.push.new.self) l) (sym (with_items_is old c.tell.new.readers count))
     (all_seen-told c.self.inside.pen c.push.new.self first c.tell.new.place old.items c.tell.new.readers t.kept.0 t.kept.1 told c.in_ok-push.ensures.ok c.self.invariant)
 
 pub returns-clause-ok : goal.returns-clause-ok
@@ -25,7 +25,7 @@ returns-clause-ok g c =
     let o = c.in_ok-cell.ensures in
     let old = c.self.inside.readers in
     let first = c.in_ok-cell.place in
-    let told : c.tell.new.readers ≡ map (λ s. sights_with s first.table_id (known first).seen) old.items = t.ok ∙ ap (λ (l : List Sights). map (λ s. sights_with s first.table_id (known first).seen) l) c.deref_mut.ensures.value in
+    let told : c.tell.new.readers ≡ map (λ s. sights_with s first.table_id (known first).seen) old.items = t.ok ∙ ap (λ (l : List ReaderView). map (λ s. sights_with s first.table_id (known first).seen) l) c.deref_mut.ensures.value in
     let count : length c.tell.new.readers ≡ length old.items = ap length told ∙ length-map old.items (λ s. sights_with s first.table_id (known first).seen) in
     let cell = c.in_ok-cell.cell.table.shared.table_id in (
       cell,

@@ -1,0 +1,64 @@
+//! The limits of this engine, each with its one name, for code and for definitions. Amounts are in cents.
+
+/// The most warehouses.
+pub const MAX_WAREHOUSES: u32 = 8;
+
+/// The most districts of a warehouse.
+pub const MAX_DISTRICTS: u32 = 10;
+
+/// The fewest customers of a district.
+pub const MIN_CUSTOMERS: u32 = 10;
+
+/// The most customers of a district.
+pub const MAX_CUSTOMERS: u32 = 3_000;
+
+/// The fewest items.
+pub const MIN_ITEMS: u32 = 20;
+
+/// The most items.
+pub const MAX_ITEMS: u32 = 100_000;
+
+/// The largest order cap of a district.
+pub const MAX_ORDERS: u32 = 100_000;
+
+/// The largest commit cap.
+pub const MAX_COMMITS: u32 = 600_000;
+
+/// The last date. The first is 1.
+pub const MAX_DATE: u32 = 4_000_000_000;
+
+/// The smallest H_AMOUNT (TPC-C 2.5.1.3).
+pub const MIN_PAYMENT: i64 = 100;
+
+/// The largest H_AMOUNT (TPC-C 2.5.1.3).
+pub const MAX_PAYMENT: i64 = 500_000;
+
+/// The fewest lines of an order (TPC-C 2.4.1.3).
+pub const MIN_ORDER_LINES: u32 = 5;
+
+/// The most lines of an order (TPC-C 2.4.1.3).
+pub const MAX_ORDER_LINES: u32 = 15;
+
+/// The largest OL_QUANTITY (TPC-C 2.4.1.5). The smallest is 1.
+pub const MAX_QUANTITY: u32 = 10;
+
+/// The largest OL_AMOUNT. The smallest is 0.
+pub const MAX_LINE_AMOUNT: i64 = 999_999;
+
+/// The largest O_CARRIER_ID (TPC-C 2.7.1.3). The smallest is 1.
+pub const MAX_CARRIER: u32 = 10;
+
+/// The smallest S_QUANTITY.
+pub const MIN_STOCK: u32 = 10;
+
+/// The largest S_QUANTITY.
+pub const MAX_STOCK: u32 = 100;
+
+/// The largest count, as C_PAYMENT_CNT or S_ORDER_CNT.
+pub const MAX_COUNT: u32 = 1_000_000_000;
+
+/// By how much one commit moves a money column at most.
+pub const MAX_MONEY_STEP: u32 = 15_000_000;
+
+/// By how much one commit raises a count at most.
+pub const MAX_COUNT_STEP: u32 = 150;
