@@ -10,8 +10,8 @@ use Rattle.cells.specs.Records.{PenView, ReaderView, at, words_of, LearnsRecord,
 use Rattle.cells.proofs.Rising.{has_more}
 use Rattle.cells.proofs.Grown.{grown_itself, learns_grown}
 use Rattle.cells.specs.declared.cells.Version.{Version}
-use Rattle.payment.specs.Reads.{ReadSetView, held}
-use Rattle.payment.proofs.Numbers.{same_number}
+use Rattle.readset.specs.Reads.{ReadSetView, held}
+use Rattle.readset.proofs.Numbers.{same_number}
 use Rattle.book.specs.Book.{AreLatest, HasConflict, IsReadBy}
 
 abbrev IsFound : ReadSetView → ℕ × Version → Type 0

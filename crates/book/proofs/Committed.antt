@@ -2,7 +2,7 @@
 use Rattle.std.proofs.Common.{ℕ}
 use Rattle.cells.proofs.Rising.{has_more}
 use Rattle.cells.specs.Records.{ReaderView, at, HasGrown}
-use Rattle.payment.specs.Reads.{ReadSetView}
+use Rattle.readset.specs.Reads.{ReadSetView}
 use Rattle.book.specs.Book.{IsReadBy}
 
 -- what a reader had seen, it has seen once it has grown

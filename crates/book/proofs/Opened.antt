@@ -6,17 +6,16 @@ use Rattle.tables.specs.Database.{Database}
 use Rattle.tables.specs.Rows.{rows}
 use Rattle.tables.specs.Conditions.{IsConsistent}
 use Rattle.tables.specs.WellFormed.{IsWellFormed, HasRoom}
+use Rattle.tables.specs.declared.limits.TheConstants.{MAX_COMMITS}
 use Rattle.cells.specs.First.{cell_count, first_version, firsts}
 use Rattle.cells.specs.TidWord.{tid_of}
 use Rattle.cells.specs.Versions.{tid, last_tid, value_in}
 use Rattle.cells.specs.Records.{PenView, at}
-use Rattle.tables.specs.Constant.{IsOf}
+use Rattle.laws.proofs.Kept.{IsOf-itself}
 use Rattle.book.specs.History.{commit_word}
 use Rattle.book.specs.Book.{IsSound}
+use Rattle.book.specs.Ready.{IsReady}
 use Rattle.book.proofs.Sound.{last_one}
-
-same_population : (t : Database) → IsOf t t
-same_population t = record { scale = refl; warehouse_taxes = λ w. refl; district_taxes = λ k. refl; first_names = λ k. refl; last_names = λ k. refl; credit = λ k. refl; discounts = λ k. refl; items = refl }
 
 first_value : (w : Option (List ℕ)) → value_in (first_version w) ≡ w
 first_value (Some words) = refl
@@ -26,21 +25,27 @@ first_tid : (w : Option (List ℕ)) → tid (first_version w) < tid_of (commit_w
 first_tid (Some words) = omega arith
 first_tid None = omega arith
 
-pub sound_first : (t0 : Database) (run_cells : List TableId) (pen : PenView) → IsWellFormed t0 → IsConsistent t0 → HasRoom 600000 t0 → t0.scale.commits ≤ 600000
-    → length run_cells ≡ cell_count t0.scale → pen ≡ record { cells = run_cells; all = firsts t0 0 (cell_count t0.scale) }
-    → IsSound t0 run_cells (record { written = pen; history = [] }) t0
-sound_first t0 run_cells pen well_formed consistent room few count fresh =
-    let first : (n : ℕ) → n < length run_cells → at pen.all n ≡ first_version (rows t0 n) ∷ [] = λ n h.
-    ap (λ (w : PenView). at w.all n) fresh ∙ get_or-map-range_with_len (λ number. first_version (rows t0 number) ∷ []) 0 (cell_count t0.scale) n n [] (subst (λ m. n < m) count h) (zero-add n) in
-    record {
+module _ (t0 : Database) (run_cells : List TableId) (pen : PenView) (count : length run_cells ≡ cell_count t0.scale)
+    (fresh : pen ≡ record { cells = run_cells; all = firsts t0 0 (cell_count t0.scale) })
+  where
+    first : (n : ℕ) → n < length run_cells → at pen.all n ≡ first_version (rows t0 n) ∷ []
+    first n h =
+        ap (λ (w : PenView). at w.all n) fresh ∙ get_or-map-range_with_len (λ number. first_version (rows t0 number) ∷ []) 0 (cell_count t0.scale) n n [] (subst (λ m. n < m) count h) (zero-add n)
+
+    pub first_sound : IsWellFormed t0 → IsConsistent t0 → IsSound t0 run_cells (record { written = pen; history = [] }) t0
+    first_sound well_formed consistent = record {
       legal = record { replays = tt; end = refl };
       well_formed = well_formed;
       consistent = consistent;
-      of_population = same_population t0;
-      cells = ap (λ (w : PenView). w.cells) fresh;
-      count = count;
       versions = first;
       latest = λ n h v e. ap value_in (last_one e.0 [] v (first_version (rows t0 n)) (sym e.1 ∙ first n h)) ∙ first_value (rows t0 n);
+    }
+
+    pub first_ready : HasRoom MAX_COMMITS t0 → t0.scale.commits ≤ MAX_COMMITS → IsReady t0 run_cells (record { written = pen; history = [] }) t0
+    first_ready room few = record {
+      of_population = IsOf-itself t0;
+      cells = ap (λ (w : PenView). w.cells) fresh;
+      count = count;
       smaller = λ n h. subst (λ (l : List (List ℕ)). last_tid l < tid_of (commit_word 1)) (sym (first n h)) (first_tid (rows t0 n));
       cap = omega arith;
       few = few;

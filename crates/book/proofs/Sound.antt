@@ -10,20 +10,21 @@ use Rattle.tables.specs.Apply.{after}
 use Rattle.tables.specs.Records.{record_count}
 use Rattle.tables.specs.Rows.{rows}
 use Rattle.tables.specs.WellFormed.{HasRoom}
-use Rattle.laws.proofs.Kept.{after-IsWellFormed, after-HasRoom, after-IsConsistent}
+use Rattle.tables.specs.declared.limits.TheConstants.{MAX_COMMITS}
+use Rattle.laws.proofs.Kept.{after-IsWellFormed, after-HasRoom, after-IsConsistent, after-IsOf}
 use Rattle.cells.specs.TidWord.{tid_of}
 use Rattle.cells.specs.First.{cell_count, first_version}
 use Rattle.cells.specs.Versions.{EndsWith, tid, last_tid, value_in}
 use Rattle.cells.specs.Records.{PenView, ReaderView, at, words_of}
 use Rattle.cells.proofs.Rising.{last_tid-push}
-use Rattle.payment.specs.Writes.{written, value_for}
-use Rattle.payment.specs.Explains.{Agrees, MayBe}
-use Rattle.payment.specs.declared.work.Work.{Work}
+use Rattle.readset.specs.Writes.{rows_with, value_for}
+use Rattle.readset.specs.Explains.{Agrees, MayBe}
+use Rattle.readset.specs.declared.work.Work.{Work}
 use Rattle.book.specs.History.{replay, commit_tid, commit_word, absent_word, IsDone, Replays, IsLegal, version_of, new_versions, entry_versions, later_versions}
 use Rattle.book.specs.Book.{BookView, IsSound, IsWorkOf, AreLatest, entry_of}
+use Rattle.book.specs.Ready.{IsReady}
 use Rattle.book.specs.declared.entry.Entry.{Entry}
 use Rattle.book.proofs.Replaying.{replay_push}
-use Rattle.book.proofs.Same.{after-IsOf}
 
 -- one entry more
 replays_push : (n : ℕ) (t : Database) (es : List Entry) (e : Entry) → Replays n t es → e.number ≡ n + length es → e.tid ≡ commit_tid (n + length es) → IsDone (replay t es) e → Replays n t (es ++ e ∷ [])
@@ -39,13 +40,13 @@ later_push [] e n = append-nil (entry_versions e n)
 later_push (f ∷ es) e n = ap (λ l. entry_versions f n ++ l) (later_push es e n) ∙ sym (append_assoc (entry_versions f n) (later_versions es n) (entry_versions e n))
 
 -- TID words of commits
-tid_commit : (n : ℕ) → tid_of (commit_word n) ≡ 536870912 + n
+tid_commit : (n : ℕ) → tid_of (commit_word n) ≡ (536870912 + n) * 8
 tid_commit n = omega arith
 
-tid_absent : (n : ℕ) → tid_of (absent_word n) ≡ 536870912 + n
+tid_absent : (n : ℕ) → tid_of (absent_word n) ≡ (536870912 + n) * 8
 tid_absent n = omega arith
 
-tid_version : (n : ℕ) (value : Option (List ℕ)) → tid (version_of n value) ≡ 536870912 + n
+tid_version : (n : ℕ) (value : Option (List ℕ)) → tid (version_of n value) ≡ (536870912 + n) * 8
 tid_version n (Some words) = tid_commit n
 tid_version n None = tid_absent n
 
@@ -75,18 +76,18 @@ last_one xs ys a b e = sym (end xs a) ∙ ap last_of e ∙ end ys b
 counted : (s : Sizes) → cell_count s ≤ record_count s
 counted s = omega arith
 
-rest_of : (n : ℕ) → n < 600000 → 600000 - n ≡ 600000 - (n + 1) + 1
+rest_of : (n : ℕ) → n < MAX_COMMITS → MAX_COMMITS - n ≡ MAX_COMMITS - (n + 1) + 1
 rest_of n h = omega arith
 
-module _ (t0 : Database) (run_cells : List TableId) (k : BookView) (t : Database) (sound : IsSound t0 run_cells k t) (reader : ReaderView) (work : Work) (is_work : IsWorkOf t0 (length run_cells) reader work) (latest : AreLatest k.written.all work.reads) where
+module _ (t0 : Database) (run_cells : List TableId) (k : BookView) (t : Database) (sound : IsSound t0 run_cells k t) (ready : IsReady t0 run_cells k t) (reader : ReaderView) (work : Work) (is_work : IsWorkOf t0 (length run_cells) reader work) (latest : AreLatest k.written.all work.reads) where
   agrees : Agrees t work.reads
   agrees n v e = sound.latest n (is_work.read.within n v e) (words_of v) (latest n v e)
 
   pub may_be : MayBe t0 work.reads t
-  may_be = record { of_population = sound.of_population; well_formed = sound.well_formed; consistent = sound.consistent; agrees = agrees }
+  may_be = record { of_population = ready.of_population; well_formed = sound.well_formed; consistent = sound.consistent; agrees = agrees }
 
   pub input_of : IsInput t.scale work.input
-  input_of = subst (λ s. IsInput s work.input) (sym sound.of_population.scale) is_work.input
+  input_of = subst (λ s. IsInput s work.input) (sym ready.of_population.scale) is_work.input
 
   module _ (terminal : ℕ) (new : PenView) (below_cap : length k.history < t0.scale.commits) (cells : new.cells ≡ k.written.cells)
       (stores : (n : ℕ) → at new.all n ≡ at k.written.all n ++ new_versions (length k.history + 1) work.writes.values n) where
@@ -100,71 +101,80 @@ module _ (t0 : Database) (run_cells : List TableId) (k : BookView) (t : Database
     longer = length-append k.history (entry_of (length k.history + 1) terminal work ∷ [])
 
     done : IsDone t (entry_of (length k.history + 1) terminal work)
-    done = record {
-      input = input_of;
-      reply = sym (is_work.explained.replies t may_be);
-      writes = is_work.explained.rows t may_be;
-      history = is_work.explained.history t may_be;
-    }
+    done = record { input = input_of; commit = is_work.explained t may_be }
+
+    -- the same at the tables that the history leads to
+    pub done_there : IsDone (replay t0 k.history) (entry_of (length k.history + 1) terminal work)
+    done_there = subst (λ s. IsDone s (entry_of (length k.history + 1) terminal work)) (sym sound.legal.end) done
 
     legal : IsLegal t0 (k.history ++ entry_of (length k.history + 1) terminal work ∷ []) (after t work.input)
     legal = record {
-      replays = replays_push 1 t0 k.history (entry_of (length k.history + 1) terminal work) sound.legal.replays (turned (length k.history)) (ap commit_tid (turned (length k.history))) (subst (λ s. IsDone s (entry_of (length k.history + 1) terminal work)) (sym sound.legal.end) done);
+      replays = replays_push 1 t0 k.history (entry_of (length k.history + 1) terminal work) sound.legal.replays (turned (length k.history)) (ap commit_tid (turned (length k.history))) done_there;
       end = replay_push t0 k.history (entry_of (length k.history + 1) terminal work) ∙ ap (λ s. after s work.input) sound.legal.end;
     }
       where
         turned : (n : ℕ) → n + 1 ≡ 1 + n
         turned n = omega arith
 
-    roomy : HasRoom (600000 - (length k.history + 1) + 1) t
-    roomy = subst (λ n. HasRoom n t) (rest_of (length k.history) (omega (arith, below_cap, sound.few))) sound.room
+    roomy : HasRoom (MAX_COMMITS - (length k.history + 1) + 1) t
+    roomy = subst (λ n. HasRoom n t) (rest_of (length k.history) (omega (arith, below_cap, ready.few))) ready.room
 
-    pub sound_after : IsSound t0 run_cells (record { written = new; history = k.history ++ entry_of (length k.history + 1) terminal work ∷ [] }) (after t work.input)
-    sound_after = record {
+    last_values : (n : ℕ) → n < length run_cells → (v : List ℕ) → EndsWith (at new.all n) v → value_in v ≡ rows (after t work.input) n
+    last_values n h v e =
+        let small : n < record_count t.scale = subst (λ (s : Sizes). n < record_count s) (sym ready.of_population.scale) (omega (arith, subst (λ m. n < m) ready.count h, counted t0.scale)) in
+        let changed : rows (after t work.input) n ≡ rows_with work.writes (rows t) n = (is_work.explained t may_be).rows n small in
+        elim (value_for work.writes n) as (λ w. value_for work.writes n ≡ w → value_in v ≡ rows (after t work.input) n) [
+          | None ↦ λ none.
+              let same : at new.all n ≡ at k.written.all n = stores n ∙ ap (λ w. at k.written.all n ++ option_map_or (λ value. version_of (length k.history + 1) value ∷ []) w []) none ∙ append-nil (at k.written.all n) in
+              sound.latest n h v (subst (λ (l : List (List ℕ)). EndsWith l v) same e) ∙ sym (changed ∙ ap (λ w. unwrap_or w (rows t n)) none)
+          | Some value ↦ λ some.
+              let more : at new.all n ≡ at k.written.all n ++ version_of (length k.history + 1) value ∷ [] = stores n ∙ ap (λ w. at k.written.all n ++ option_map_or (λ x. version_of (length k.history + 1) x ∷ []) w []) some in
+              ap value_in (last_one e.0 (at k.written.all n) v (version_of (length k.history + 1) value) (sym e.1 ∙ more)) ∙ value_in_version (length k.history + 1) value
+              ∙ sym (changed ∙ ap (λ w. unwrap_or w (rows t n)) some)
+        ] refl
+
+    last_tids : (n : ℕ) → n < length run_cells → last_tid (at new.all n) < tid_of (commit_word (length (k.history ++ entry_of (length k.history + 1) terminal work ∷ []) + 1))
+    last_tids n h =
+        let next : tid_of (commit_word (length (k.history ++ entry_of (length k.history + 1) terminal work ∷ []) + 1)) ≡ (536870912 + (length k.history + 1 + 1)) * 8 = tid_commit _ ∙ ap (λ m. (536870912 + (m + 1)) * 8) longer in
+        elim (value_for work.writes n) as (λ w. value_for work.writes n ≡ w → last_tid (at new.all n) < tid_of (commit_word (length (k.history ++ entry_of (length k.history + 1) terminal work ∷ []) + 1))) [
+          | None ↦ λ none.
+              let same : at new.all n ≡ at k.written.all n = stores n ∙ ap (λ w. at k.written.all n ++ option_map_or (λ value. version_of (length k.history + 1) value ∷ []) w []) none ∙ append-nil (at k.written.all n) in
+              let old : last_tid (at k.written.all n) < tid_of (commit_word (length k.history + 1)) = ready.smaller n h in
+              grows (last_tid (at new.all n)) (last_tid (at k.written.all n)) (tid_of (commit_word (length k.history + 1))) _ (length k.history) (ap last_tid same) old (tid_commit (length k.history + 1)) next
+          | Some value ↦ λ some.
+              let more : at new.all n ≡ at k.written.all n ++ version_of (length k.history + 1) value ∷ [] = stores n ∙ ap (λ w. at k.written.all n ++ option_map_or (λ x. version_of (length k.history + 1) x ∷ []) w []) some in
+              above (last_tid (at new.all n)) _ (length k.history) (ap last_tid more ∙ last_tid-push (at k.written.all n) (version_of (length k.history + 1) value) ∙ tid_version (length k.history + 1) value) next
+        ] refl
+      where
+        grows : (a b c d m : ℕ) → a ≡ b → b < c → c ≡ (536870912 + (m + 1)) * 8 → d ≡ (536870912 + (m + 1 + 1)) * 8 → a < d
+        grows a b c d m p q r s = omega arith
+
+        above : (a d m : ℕ) → a ≡ (536870912 + (m + 1)) * 8 → d ≡ (536870912 + (m + 1 + 1)) * 8 → a < d
+        above a d m p q = omega arith
+
+    abbrev kept : BookView
+    kept = record { written = new; history = k.history ++ entry_of (length k.history + 1) terminal work ∷ [] }
+
+    sound_next : IsSound t0 run_cells kept (after t work.input)
+    sound_next = record {
       legal = legal;
-      well_formed = after-IsWellFormed t work.input (600000 - (length k.history + 1)) input_of sound.well_formed roomy;
+      well_formed = after-IsWellFormed t work.input (MAX_COMMITS - (length k.history + 1)) input_of sound.well_formed roomy;
       consistent = after-IsConsistent t work.input input_of sound.well_formed sound.consistent;
-      of_population = after-IsOf t0 t work.input sound.of_population;
-      cells = cells ∙ sound.cells;
-      count = sound.count;
       versions = λ n h. stores n ∙ ap (λ (l : List (List ℕ)). l ++ new_versions (length k.history + 1) work.writes.values n) (sound.versions n h)
           ∙ ap (λ l. first_version (rows t0 n) ∷ l) (sym (later_push k.history (entry_of (length k.history + 1) terminal work) n));
       latest = last_values;
+    }
+
+    ready_next : IsReady t0 run_cells kept (after t work.input)
+    ready_next = record {
+      of_population = after-IsOf t0 t work.input ready.of_population;
+      cells = cells ∙ ready.cells;
+      count = ready.count;
       smaller = last_tids;
       cap = subst (λ n. n ≤ t0.scale.commits) (sym longer) (omega (arith, below_cap));
-      few = sound.few;
-      room = subst (λ n. HasRoom (600000 - n) (after t work.input)) (sym longer) (after-HasRoom t work.input (600000 - (length k.history + 1)) input_of sound.well_formed roomy);
+      few = ready.few;
+      room = subst (λ n. HasRoom (MAX_COMMITS - n) (after t work.input)) (sym longer) (after-HasRoom t work.input (MAX_COMMITS - (length k.history + 1)) input_of sound.well_formed roomy);
     }
-      where
-        last_values : (n : ℕ) → n < length run_cells → (v : List ℕ) → EndsWith (at new.all n) v → value_in v ≡ rows (after t work.input) n
-        last_values n h v e =
-            let small : n < record_count t.scale = subst (λ (s : Sizes). n < record_count s) (sym sound.of_population.scale) (omega (arith, subst (λ m. n < m) sound.count h, counted t0.scale)) in
-            let changed : rows (after t work.input) n ≡ written work.writes (rows t) n = is_work.explained.rows t may_be n small in
-            elim (value_for work.writes n) as (λ w. value_for work.writes n ≡ w → value_in v ≡ rows (after t work.input) n) [
-              | None ↦ λ none.
-                  let same : at new.all n ≡ at k.written.all n = stores n ∙ ap (λ w. at k.written.all n ++ option_map_or (λ value. version_of (length k.history + 1) value ∷ []) w []) none ∙ append-nil (at k.written.all n) in
-                  sound.latest n h v (subst (λ (l : List (List ℕ)). EndsWith l v) same e) ∙ sym (changed ∙ ap (λ w. unwrap_or w (rows t n)) none)
-              | Some value ↦ λ some.
-                  let more : at new.all n ≡ at k.written.all n ++ version_of (length k.history + 1) value ∷ [] = stores n ∙ ap (λ w. at k.written.all n ++ option_map_or (λ x. version_of (length k.history + 1) x ∷ []) w []) some in
-                  ap value_in (last_one e.0 (at k.written.all n) v (version_of (length k.history + 1) value) (sym e.1 ∙ more)) ∙ value_in_version (length k.history + 1) value
-                  ∙ sym (changed ∙ ap (λ w. unwrap_or w (rows t n)) some)
-            ] refl
 
-        last_tids : (n : ℕ) → n < length run_cells → last_tid (at new.all n) < tid_of (commit_word (length (k.history ++ entry_of (length k.history + 1) terminal work ∷ []) + 1))
-        last_tids n h =
-            let next : tid_of (commit_word (length (k.history ++ entry_of (length k.history + 1) terminal work ∷ []) + 1)) ≡ 536870912 + (length k.history + 1 + 1) = tid_commit _ ∙ ap (λ m. 536870912 + (m + 1)) longer in
-            elim (value_for work.writes n) as (λ w. value_for work.writes n ≡ w → last_tid (at new.all n) < tid_of (commit_word (length (k.history ++ entry_of (length k.history + 1) terminal work ∷ []) + 1))) [
-              | None ↦ λ none.
-                  let same : at new.all n ≡ at k.written.all n = stores n ∙ ap (λ w. at k.written.all n ++ option_map_or (λ value. version_of (length k.history + 1) value ∷ []) w []) none ∙ append-nil (at k.written.all n) in
-                  let old : last_tid (at k.written.all n) < tid_of (commit_word (length k.history + 1)) = sound.smaller n h in
-                  grows (last_tid (at new.all n)) (last_tid (at k.written.all n)) (tid_of (commit_word (length k.history + 1))) _ (length k.history) (ap last_tid same) old (tid_commit (length k.history + 1)) next
-              | Some value ↦ λ some.
-                  let more : at new.all n ≡ at k.written.all n ++ version_of (length k.history + 1) value ∷ [] = stores n ∙ ap (λ w. at k.written.all n ++ option_map_or (λ x. version_of (length k.history + 1) x ∷ []) w []) some in
-                  above (last_tid (at new.all n)) _ (length k.history) (ap last_tid more ∙ last_tid-push (at k.written.all n) (version_of (length k.history + 1) value) ∙ tid_version (length k.history + 1) value) next
-            ] refl
-          where
-            grows : (a b c d m : ℕ) → a ≡ b → b < c → c ≡ 536870912 + (m + 1) → d ≡ 536870912 + (m + 1 + 1) → a < d
-            grows a b c d m p q r s = omega arith
-
-            above : (a d m : ℕ) → a ≡ 536870912 + (m + 1) → d ≡ 536870912 + (m + 1 + 1) → a < d
-            above a d m p q = omega arith
+    pub next_sound : IsSound t0 run_cells kept (after t work.input) × IsReady t0 run_cells kept (after t work.input)
+    next_sound = (sound_next, ready_next)

@@ -17,10 +17,10 @@ use Rattle.cells.specs.Records.{PenView, ReaderView, at, words_of, StoresVersion
 use Rattle.cells.specs.declared.cells.Version.{Version}
 use Rattle.cells.proofs.Rising.{has_more}
 use Rattle.cells.proofs.Grown.{grown_itself, learns_grown}
-use Rattle.payment.specs.Reads.{ReadSetView, held}
-use Rattle.payment.specs.Writes.{WriteSetView, value_for}
-use Rattle.payment.specs.Explains.{WritesAreRead}
-use Rattle.payment.proofs.Numbers.{same_test, other_test}
+use Rattle.readset.specs.Reads.{ReadSetView, held}
+use Rattle.readset.specs.Writes.{WriteSetView, value_for}
+use Rattle.readset.specs.Explains.{WritesAreRead}
+use Rattle.readset.proofs.Numbers.{same_test, other_test}
 use Rattle.book.specs.History.{commit_word, version_of, new_versions}
 use Rattle.book.specs.Book.{HasSeen, IsReadBy}
 

@@ -11,11 +11,11 @@ use Rattle.cells.specs.First.{cell_count}
 use Rattle.cells.specs.Versions.{EndsWith, Has, last_tid, value_in}
 use Rattle.cells.specs.Records.{PenView, ReaderView, at, words_of}
 use Rattle.cells.specs.declared.cells.Version.{Version}
-use Rattle.payment.specs.Reads.{ReadSetView, held}
-use Rattle.payment.specs.Writes.{WriteSetView, value_for}
+use Rattle.readset.specs.Reads.{ReadSetView, held}
+use Rattle.readset.specs.Writes.{WriteSetView, value_for}
 use Rattle.tables.specs.Constant.{IsOf}
-use Rattle.payment.specs.Explains.{Explains, IsWithinLimits}
-use Rattle.payment.specs.declared.work.Work.{Work}
+use Rattle.readset.specs.Explains.{Explains, IsWithinLimits}
+use Rattle.readset.specs.declared.work.Work.{Work}
 use Rattle.book.specs.History.{IsLegal, commit_tid, commit_word, entry_versions, all_versions}
 use Rattle.book.specs.declared.entry.Entry.{Entry}
 
@@ -30,18 +30,9 @@ pub record IsSound (t0 : Database) (run_cells : List TableId) (k : BookView) (t 
   pub legal : IsLegal t0 k.history t
   pub well_formed : IsWellFormed t
   pub consistent : IsConsistent t
-  pub of_population : IsOf t0 t
   -- each record's versions are the values that it had along the history, and the last is what the tables have
-  pub cells : k.written.cells ≡ run_cells
-  pub count : length run_cells ≡ cell_count t0.scale
   pub versions : (n : ℕ) → n < length run_cells → at k.written.all n ≡ all_versions t0 k.history n
   pub latest : (n : ℕ) → n < length run_cells → (v : List ℕ) → EndsWith (at k.written.all n) v → value_in v ≡ rows t n
-  -- the next commit's TID is larger than all of theirs
-  pub smaller : (n : ℕ) → n < length run_cells → last_tid (at k.written.all n) < tid_of (commit_word (length k.history + 1))
-  -- the commit cap isn't passed, and there is room for the commits that are left
-  pub cap : length k.history ≤ t0.scale.commits
-  pub few : t0.scale.commits ≤ 600000
-  pub room : HasRoom (600000 - length k.history) t
 
 -- each version is of its record, which has a cell, and is one that the reader has seen
 pub record IsReadBy (cells : ℕ) (reader : ReaderView) (reads : ReadSetView) : Type 0 where

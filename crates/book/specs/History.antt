@@ -6,12 +6,11 @@ use Rattle.std.specs.Map.{lookup}
 use Rattle.std.specs.BTreeMap.{is_at}
 use Rattle.tables.specs.Database.{Database}
 use Rattle.tables.specs.Inputs.{IsInput}
-use Rattle.tables.specs.Apply.{after, reply_to}
-use Rattle.tables.specs.Records.{record_count}
+use Rattle.tables.specs.Apply.{after}
 use Rattle.tables.specs.Rows.{rows}
 use Rattle.cells.specs.TidWord.{tid_word}
 use Rattle.cells.specs.First.{first_version}
-use Rattle.payment.specs.Writes.{written, added}
+use Rattle.readset.specs.Commit.{IsCommitOf}
 use Rattle.book.specs.declared.entry.Entry.{Entry}
 
 -- the tables after these entries: their inputs applied one after another
@@ -30,12 +29,10 @@ commit_word n = tid_word 1 n (record { latest = true; absent = false; locked = f
 abbrev pub absent_word : ℕ → ℕ
 absent_word n = tid_word 1 n (record { latest = true; absent = true; locked = false })
 
--- an entry as it is done at these tables: its reply is the transaction's, its writes put into the rows before give the rows after, and its HISTORY row is the row added
+-- an entry as it is done at these tables: its transaction commits with its reply and its writes
 pub record IsDone (t : Database) (e : Entry) : Type 0 where
   pub input : IsInput t.scale e.input
-  pub reply : e.reply ≡ reply_to t e.input
-  pub writes : (n : ℕ) → n < record_count t.scale → rows (after t e.input) n ≡ written e.writes (rows t) n
-  pub history : (after t e.input).history ≡ t.history ++ added e.writes.history
+  pub commit : IsCommitOf t e.input e.writes e.reply
 
 -- the entries have the commit numbers from n on, and each is done at the tables that the entries before it leave
 abbrev pub Replays : ℕ → Database → List Entry → Type 0

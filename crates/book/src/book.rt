@@ -6,14 +6,14 @@ use crate::run::Run;
 use crate::share::Share;
 use cells::Pen;
 use money::Refusal;
-use plain::{Report, check};
+use conditions::{Report, check};
 use std::alloc::Global;
 use std::marker::Model;
 use std::sync::ledger;
 use tables::Tables;
 
 /// The committed state, which stands under the engine's lock. Its type keeps `IsSound` of what contracts see of
-/// it, and that the terminals' shares sum to the length of the history.
+/// it, that it is ready for the next commit, and that the terminals' shares sum to the length of the history.
 #[derive(Drop)]
 pub struct Book<K: Run> {
     pub(crate) pen: Pen,
@@ -26,20 +26,23 @@ impl<K: Run> Model for Book<K> {
     ghost use Rattle.std.specs.Prelude.{◌≡◌, length};
     ghost use Rattle.tables.specs.Database.{database};
     ghost use Rattle.book.specs.Book.{BookView, IsSound};
+    ghost use Rattle.book.specs.Ready.{IsReady};
 
     ghost Value = { BookView };
 
     ghost view = { λ b. record { written = b.pen; history = b.history.items } };
 
-    ghost invariant = { λ b. IsSound K.first K.cells (record { written = b.pen; history = b.history.items }) (database b.tables) × (b.shares.total ≡ length b.history.items) };
+    ghost invariant = { λ b. let kept : BookView = record { written = b.pen; history = b.history.items } in
+        IsSound K.first K.cells kept (database b.tables) × IsReady K.first K.cells kept (database b.tables)
+        × (b.shares.total ≡ length b.history.items) };
 }
 
 impl<K: Run> Book<K> {
     ghost use Rattle.std.specs.Prelude.{◌≡◌, ◌+◌, length, IfOk, IfErr};
     ghost use Rattle.money.specs.declared.refusal.Refusal.TheVariants.{OutOfMemory};
     ghost use Rattle.tables.specs.Database.{database};
-    ghost use Rattle.plain.specs.Check.{IsReportOf};
-    ghost use Rattle.plain.specs.Report.{IsGood};
+    ghost use Rattle.conditions.specs.Check.{IsReportOf};
+    ghost use Rattle.conditions.specs.Report.{IsGood};
     ghost use Rattle.book.specs.History.{replay};
     ghost use Rattle.book.specs.Book.{IsSound};
 

@@ -2,18 +2,18 @@
 ghost use Rattle.std.specs.Prelude.{◌≡◌, ◌+◌, ◌<◌, ◌≤◌, ◌⊎◌, length, MatchResult, IsErr};
 ghost use Rattle.money.specs.declared.refusal.Refusal.TheVariants.{OutOfMemory, Conflict, CommitsFull};
 ghost use Rattle.cells.specs.Records.{HasGrown};
-ghost use Rattle.book.specs.History.{commit_tid};
+ghost use Rattle.book.specs.History.{replay, commit_tid, IsDone};
 ghost use Rattle.book.specs.Book.{AreLatest, HasConflict, HasSeen, IsWorkOf, Commits, entry_of};
 
 use crate::book::Book;
 use crate::entry::{Done, Entry};
+use crate::prepare::prepare;
 use crate::run::Run;
 use crate::share::Share;
 use crate::steps::{store, tid_for, validate};
 use cells::{Cells, Reader};
 use money::Refusal;
-use payment::Work;
-use plain::apply;
+use readset::Work;
 use std::sync::Wait;
 
 impl<K: Run> Book<K> {
@@ -21,7 +21,7 @@ impl<K: Run> Book<K> {
     /// comparison a record read; a store, a comparison and a copy a record written; the look-ups of the transaction
     /// on the tables; and constant time, amortized, for the history. May wait, at a record's cell alone.
     ///
-    /// After Ok the reader has seen the versions stored.
+    /// After Ok the reader has seen the versions stored, and the reply is the transaction's at the tables before it.
     ///
     /// # Errors
     ///
@@ -45,7 +45,8 @@ impl<K: Run> Book<K> {
             × Commits self.old self.new (entry_of (length self.old.history + 1) share.old.terminal work)
             × (done ≡ record { number = length self.old.history + 1; tid = commit_tid (length self.old.history + 1); reply = work.reply })
             × (share.new ≡ record { terminal = share.old.terminal; parts = share.old.parts; commits = share.old.commits + 1 })
-            × HasSeen reader.new self.new.written work.writes)
+            × HasSeen reader.new self.new.written work.writes
+            × IsDone (replay K.first self.old.history) (entry_of (length self.old.history + 1) share.old.terminal work))
             (λ refusal. (self.new ≡ self.old) × (share.new ≡ share.old)
             × (((refusal ≡ Conflict) × HasConflict self.old.written.all work.reads)
             ⊎ (AreLatest self.old.written.all work.reads
@@ -55,38 +56,31 @@ impl<K: Run> Book<K> {
         if !validate(rt, cells, &mut self.pen, reader, &work) {
             return Err(Refusal::Conflict);
         }
-        let Work {
-            input,
-            reads,
-            writes,
-            reply,
-        } = work;
-        let commits = self.history.len();
-        if commits >= self.tables.scale.commits() as usize {
-            return Err(Refusal::CommitsFull);
-        }
-        // What is refused for want of memory is refused here, before the first store.
-        let Ok(()) = self.history.reserve(1) else {
-            return Err(Refusal::OutOfMemory);
+        // What is refused from here on is refused before the first store.
+        let written = match prepare(&mut self.tables, &mut self.history, &work) {
+            Ok(written) => written,
+            Err(refusal) => return Err(refusal),
         };
-        let Ok(written) = writes.list(*self.history.allocator()) else {
-            return Err(Refusal::OutOfMemory);
-        };
-        let Ok(_) = apply(&mut self.tables, &input) else {
-            return Err(Refusal::OutOfMemory);
-        };
-        let number = commits as u32 + 1;
-        store(rt, cells, &mut self.pen, reader, &reads, &writes, number);
-        let (tid, reply) = (&tid_for(number), &reply);
+        let number = self.history.len() as u32 + 1;
+        store(
+            rt,
+            cells,
+            &mut self.pen,
+            reader,
+            &work.reads,
+            &work.writes,
+            number,
+        );
+        let tid = tid_for(number);
         self.history.push_reserved(Entry {
             number,
-            tid: *tid,
+            tid,
             terminal: share.terminal,
-            input,
-            reply: *reply,
+            input: work.input,
+            reply: work.reply,
             writes: written,
         });
         self.shares.add(&mut share.part, 1);
-        Ok(Done::of(number, *tid, *reply))
+        Ok(Done::of(number, tid, work.reply))
     }
 }

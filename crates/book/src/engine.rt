@@ -1,7 +1,8 @@
 //! The engine: the cells, which anyone reads, and the book under its lock.
-ghost use Rattle.std.specs.Prelude.{◌≡◌, ◌+◌, IfOk, IfErr, IfSome, IfNone};
+ghost use Rattle.std.specs.Prelude.{◌≡◌, ◌+◌, length, IfOk, IfErr, IfSome, IfNone};
 ghost use Rattle.money.specs.declared.refusal.Refusal.TheVariants.{OutOfMemory};
 ghost use Rattle.population.specs.Initial.{initial};
+ghost use Rattle.cells.specs.First.{cell_count};
 ghost use Rattle.book.specs.Parts.{IsFresh, first_of, cells_of, ledger_name, ledger_parts, terminals_of};
 
 use crate::book::Book;
@@ -72,14 +73,16 @@ pub struct Engine<K: Run> {
 }
 
 impl<K: Run> Model for Engine<K> {
-    ghost use Rattle.std.specs.Prelude.{◌≡◌};
+    ghost use Rattle.std.specs.Prelude.{◌≡◌, length};
     ghost use Rattle.population.specs.Initial.{initial};
+    ghost use Rattle.cells.specs.First.{cell_count};
 
     ghost Value = { Unit {0} };
 
     ghost view = { λ e. tt };
 
-    ghost invariant = { λ e. (initial e.population ≡ K.first) × (e.cells ≡ K.cells) };
+    ghost invariant = { λ e. (initial e.population ≡ K.first) × (e.cells ≡ K.cells)
+        × (length K.cells ≡ cell_count K.first.scale) };
 }
 
 impl<K: Run> Engine<K> {
@@ -130,9 +133,10 @@ impl<K: Run> Engine<K> {
         &self.population
     }
 
-    /// The record cells.
+    /// The record cells: one for each record that has one.
     pub fn cells(&self) -> &Cells
-        ensures { result.now ≡ K.cells }
+        ensures value { result.now ≡ K.cells }
+        ensures count { length result.now ≡ cell_count K.first.scale }
     {
         &self.cells
     }

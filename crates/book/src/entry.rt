@@ -2,7 +2,7 @@
 ghost use Rattle.std.specs.Prelude.{◌≡◌};
 
 use cells::TidWord;
-use payment::WriteList;
+use readset::WriteList;
 use tables::{Input, Reply};
 
 /// A committed transaction as the history has it.

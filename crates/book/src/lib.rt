@@ -9,6 +9,7 @@ mod committing;
 mod copy;
 mod engine;
 mod entry;
+mod prepare;
 mod run;
 mod share;
 mod steps;

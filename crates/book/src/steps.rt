@@ -3,12 +3,12 @@ ghost use Rattle.std.specs.Prelude.{◌≡◌, ℕ, ◌<◌, ◌^◌, ◌∷◌,
 ghost use Rattle.cells.specs.TidWord.{tid_of};
 ghost use Rattle.cells.specs.Versions.{last_tid};
 ghost use Rattle.cells.specs.Records.{at, HasGrown};
-ghost use Rattle.payment.specs.Explains.{WritesAreRead};
+ghost use Rattle.readset.specs.Explains.{WritesAreRead};
 ghost use Rattle.book.specs.History.{commit_tid, commit_word, version_of, new_versions};
 ghost use Rattle.book.specs.Book.{AreLatest, HasConflict, HasSeen, IsReadBy};
 
 use cells::{Cells, Pen, Reader, Status, TidWord};
-use payment::{ReadSet, Work, WriteSet};
+use readset::{ReadSet, Work, WriteSet};
 use std::sync::Wait;
 
 /// Whether each version read is still its record's latest (phase 2). The reader may have seen more by then.

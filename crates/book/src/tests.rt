@@ -1,13 +1,14 @@
 //! Two Payments to one district, both executed before either commits, by threads that take no lock.
-ghost use Rattle.std.specs.Prelude.{◌≡◌, length, IfOk, IfErr};
+ghost use Rattle.std.specs.Prelude.{◌≡◌, length, IfOk, IfSome};
 ghost use Rattle.cells.specs.First.{cell_count};
 ghost use Rattle.book.specs.Book.{IsWorkOf};
 ghost use Rattle.book.specs.Parts.{IsFresh, first_of, cells_of, ledger_name, ledger_parts};
 
-use crate::{Engine, Parts, Run, Seat};
+use crate::{Engine, Parts, Run, Seat, Seats};
 use cells::Reader;
 use money::{Cents, Refusal};
-use payment::{Work, execute};
+use payment::execute;
+use readset::Work;
 use population::Population;
 use std::alloc::Global;
 use std::marker::{Brand, Model};
@@ -181,21 +182,21 @@ fn pay_both_meanwhile<K: Run + Send + Sync, R: Threads + Wait + Clock + Sync>(
 /// A commit's number, its TID's word, and the reply.
 type Told = (u32, u64, Reply);
 
-/// Commits a Payment, and tells of it. A refusal leaves the share as it was.
-fn commit<K: Run, R: Wait>(
+/// Commits a Payment that a terminal has executed, and tells of it.
+fn commit_executed<K: Run, R: Wait>(
     rt: &R,
     engine: &Engine<K>,
-    seat: &mut Seat<K>,
-    work: Work,
-) -> Result<Told, Refusal>
-    requires reader { seat.old.reader.cells ≡ K.cells }
-    requires work { IsWorkOf K.first (length K.cells) seat.old.reader work }
-    ensures reader { seat.new.reader.cells ≡ K.cells }
-    ensures share { IfErr result (λ refusal. seat.new.share ≡ seat.old.share) }
+    executed: Executed<K>,
+) -> (Seat<K>, Result<Told, Refusal>)
+    ensures { result.0.reader.cells ≡ K.cells }
 {
+    let Executed { mut seat, work } = executed;
     let mut book = engine.lock(rt);
-    let done = book.commit(rt, engine.cells(), &mut seat.reader, &mut seat.share, work)?;
-    Ok((done.number(), done.tid().word(), done.reply()))
+    let told = book
+        .commit(rt, engine.cells(), &mut seat.reader, &mut seat.share, work)
+        .map(|done| (done.number(), done.tid().word(), done.reply()));
+    drop(book);
+    (seat, told)
 }
 
 /// How many have committed, W_YTD and the length of HISTORY in the committed tables, and the TID words and first
@@ -267,15 +268,98 @@ fn account_of<K: Run, R: Wait>(
     })
 }
 
-/// What came of the Payments, and the states before, between and after them.
+/// What came of the commits, and the states after each of the first two and at the end.
 #[derive(Clone, Copy, Debug, PartialEq, Eq)]
-struct Outcome {
-    terminals: [u16; 2],
-    account: Account,
+struct Commits {
     first: Result<Told, Refusal>,
     second: Result<Told, Refusal>,
     again: Result<Told, Refusal>,
-    states: [Standing; 4],
+    states: [Standing; 3],
+}
+
+/// Commits both Payments, of which the second is a conflict, and then executes that one again.
+fn commit_both<K: Run, R: Wait>(
+    rt: &R,
+    alloc: Global,
+    engine: &Engine<K>,
+    third: Executed<K>,
+    fourth: Executed<K>,
+) -> Result<Commits, Refusal>
+    requires count { length K.cells ≡ 23 }
+    requires scale { length K.cells ≡ cell_count K.first.scale }
+{
+    let (mut left, first) = commit_executed(rt, engine, third);
+    let before = standing_of(rt, engine, &mut left.reader);
+    let (right, second) = commit_executed(rt, engine, fourth);
+    let after = standing_of(rt, engine, &mut left.reader);
+    let again = pay_again(rt, alloc, engine, right)?;
+    let end = standing_of(rt, engine, &mut left.reader);
+    Ok(Commits {
+        first,
+        second,
+        again,
+        states: [before, after, end],
+    })
+}
+
+/// Executes the Payment of customer 4 and commits it.
+fn pay_again<K: Run, R: Wait>(
+    rt: &R,
+    alloc: Global,
+    engine: &Engine<K>,
+    seat: Seat<K>,
+) -> Result<Result<Told, Refusal>, Refusal>
+    requires reader { seat.reader.cells ≡ K.cells }
+    requires count { length K.cells ≡ cell_count K.first.scale }
+{
+    let mut seat = seat;
+    let work = pay(rt, alloc, engine, &mut seat, 4)?;
+    let (_, told) = commit_executed(rt, engine, Executed { seat, work });
+    Ok(told)
+}
+
+/// What came of the Payments, the terminals that made them, the state before them, and the book after them.
+#[derive(Clone, Copy, Debug, PartialEq, Eq)]
+struct Outcome {
+    terminals: [u16; 2],
+    opened: Standing,
+    commits: Commits,
+    account: Account,
+}
+
+fn outcome_of<K: Run + Send + Sync, R: Threads + Wait + Clock + Sync>(
+    rt: &R,
+    alloc: Global,
+    engine: &Engine<K>,
+    left: Seat<K>,
+    right: Seat<K>,
+) -> Result<Outcome, Fail>
+    requires count { length K.cells ≡ 23 }
+    requires scale { length K.cells ≡ cell_count K.first.scale }
+    requires left { left.reader.cells ≡ K.cells }
+    requires right { right.reader.cells ≡ K.cells }
+{
+    let mut left = left;
+    let terminals = [left.share.terminal(), right.share.terminal()];
+    let opened = standing_of(rt, engine, &mut left.reader);
+    let paid = pay_both_meanwhile(rt, alloc, engine, left, right).ok_or("hold")?;
+    let commits = commit_both(rt, alloc, engine, paid.0, paid.1)?;
+    Ok(Outcome {
+        terminals,
+        opened,
+        commits,
+        account: account_of(rt, alloc, engine)?,
+    })
+}
+
+/// The seats of the two terminals.
+fn both_of<K: Run>(seats: &mut Seats<K>) -> Option<(Seat<K>, Seat<K>)>
+    ensures left { IfSome result (λ both. both.0.reader.cells ≡ K.cells) }
+    ensures right { IfSome result (λ both. both.1.reader.cells ≡ K.cells) }
+{
+    let left = seats.next()?;
+    let right = seats.next()?;
+    Some((left, right))
 }
 
 fn pay_twice<K: Run + Send + Sync, R: Threads + Wait + Clock + Sync>(
@@ -289,35 +373,8 @@ fn pay_twice<K: Run + Send + Sync, R: Threads + Wait + Clock + Sync>(
     requires ledger { (ledger_name parts ≡ K.name) × (ledger_parts parts ≡ K.parts) }
 {
     let (engine, mut seats) = Engine::<K>::open(parts);
-    let mut left = seats.next().ok_or("seat")?;
-    let right = seats.next().ok_or("seat")?;
-    let terminals = [left.share.terminal(), right.share.terminal()];
-    let opened = standing_of(rt, &engine, &mut left.reader);
-    let paid = pay_both_meanwhile(rt, alloc, &engine, left, right).ok_or("hold")?;
-    let (third, fourth) = paid;
-    let Executed {
-        seat: mut left,
-        work: third,
-    } = third;
-    let Executed {
-        seat: mut right,
-        work: fourth,
-    } = fourth;
-    let first = commit(rt, &engine, &mut left, third);
-    let before = standing_of(rt, &engine, &mut left.reader);
-    let second = commit(rt, &engine, &mut right, fourth);
-    let after = standing_of(rt, &engine, &mut left.reader);
-    let fourth = pay(rt, alloc, &engine, &mut right, 4)?;
-    let again = commit(rt, &engine, &mut right, fourth);
-    let end = standing_of(rt, &engine, &mut left.reader);
-    Ok(Outcome {
-        terminals,
-        account: account_of(rt, alloc, &engine)?,
-        first,
-        second,
-        again,
-        states: [opened, before, after, end],
-    })
+    let (left, right) = both_of(&mut seats).ok_or("seats")?;
+    outcome_of(rt, alloc, &engine, left, right)
 }
 
 fn reply(customer: u32) -> Reply {
@@ -334,20 +391,17 @@ fn reply(customer: u32) -> Reply {
 #[test]
 fn the_second_of_two_conflicts(rt: HostRuntime) -> Result<(), Fail> {
     let parts = parts(&rt, rt.alloc())?;
-    let outcome = pay_twice::<Brand, _>(&rt, rt.alloc(), parts)?;
     let Outcome {
         terminals,
+        opened,
+        commits,
         account,
-        first,
-        second,
-        again,
-        states,
-    } = outcome;
+    } = pay_twice::<Brand, _>(&rt, rt.alloc(), parts)?;
     assert_eq!(rt; terminals, [0, 1]);
-    assert_eq!(rt; first, Ok((1, 4_294_967_304, reply(3))));
-    assert_eq!(rt; second, Err(Refusal::Conflict));
-    assert_eq!(rt; again, Ok((2, 4_294_967_312, reply(4))));
-    let [opened, before, after, end] = states;
+    assert_eq!(rt; commits.first, Ok((1, 4_294_967_304, reply(3))));
+    assert_eq!(rt; commits.second, Err(Refusal::Conflict));
+    assert_eq!(rt; commits.again, Ok((2, 4_294_967_312, reply(4))));
+    let [before, after, end] = commits.states;
     assert_eq!(rt; opened.commits, 0);
     assert_eq!(rt; opened.tids, [2; 4]);
     assert_eq!(rt; before.commits, 1);

@@ -1,13 +1,14 @@
 -- What each transaction keeps, by its kind.
-use Rattle.std.proofs.Common.{ℕ, ◌+◌}
+use Rattle.std.proofs.Common.{◌≡◌, ℕ, ◌+◌, refl}
 use Rattle.tables.specs.Inputs.{IsInput}
 use Rattle.tables.specs.Apply.{after}
 use Rattle.tables.specs.WellFormed.{IsWellFormed, HasRoom}
 use Rattle.tables.specs.Conditions.{IsConsistent}
+use Rattle.tables.specs.Constant.{IsOf}
 use Rattle.tables.specs.Database.{Database}
 use Rattle.tables.specs.declared.input.Input.{Input}
 use Rattle.tables.specs.declared.input.Input.TheVariants.{Payment}
-use Rattle.laws.proofs.PaymentKeeps.{payment_keeps_well_formed, payment_keeps_room, payment_keeps_consistent}
+use Rattle.laws.proofs.PaymentKeeps.{payment_keeps_well_formed, payment_keeps_room, payment_keeps_consistent, payment_keeps_constants}
 
 pub after-IsWellFormed : (t : Database) (x : Input) (n : ℕ) → IsInput t.scale x → IsWellFormed t → HasRoom (n + 1) t → IsWellFormed (after t x)
 after-IsWellFormed t (Payment x) n ok wf room = payment_keeps_well_formed t x n ok wf room
@@ -17,3 +18,12 @@ after-HasRoom t (Payment x) n ok wf room = payment_keeps_room t x n ok wf room
 
 pub after-IsConsistent : (t : Database) (x : Input) → IsInput t.scale x → IsWellFormed t → IsConsistent t → IsConsistent (after t x)
 after-IsConsistent t (Payment x) ok wf con = payment_keeps_consistent t x ok wf con
+
+pub after-IsOf : (t0 t : Database) (x : Input) → IsOf t0 t → IsOf t0 (after t x)
+after-IsOf t0 t (Payment x) h = payment_keeps_constants t0 t x h
+
+pub IsOf-itself : (t : Database) → IsOf t t
+IsOf-itself t = record { scale = refl; warehouse_taxes = λ w. refl; district_taxes = λ k. refl; first_names = λ k. refl; last_names = λ k. refl; credit = λ k. refl; discounts = λ k. refl; items = refl }
+
+pub after-scale : (t : Database) (x : Input) → (after t x).scale ≡ t.scale
+after-scale t x = (after-IsOf t t x (IsOf-itself t)).scale

@@ -5,14 +5,15 @@ use Rattle.std.proofs.lemmas.List.Sums.{fold_push}
 use Rattle.std.proofs.lemmas.List.Elements.{All-push}
 use Rattle.std.specs.FinMap.{FinMap, get}
 use Rattle.std.specs.declared.cmp.Ordering.{Ordering}
-use Rattle.std.specs.Option.{option_map_or}
+use Rattle.std.specs.Option.{option_map, option_map_or}
 use Rattle.tables.specs.Keys.{is_district, is_customer, IsWarehouseKey, IsDistrictKey, IsCustomerKey}
 use Rattle.tables.specs.Maps.{total, map_rows, RowsAt, EachRow}
 use Rattle.tables.specs.Database.{Database}
-use Rattle.tables.specs.Payment.{IsPayment, after_payment, history_row}
+use Rattle.tables.specs.Payment.{IsPayment, raised_warehouse, raised_district, charged_customer, after_payment, history_row}
 use Rattle.tables.specs.Customer.{customer_number}
+use Rattle.tables.specs.Constant.{IsOf}
 use Rattle.tables.specs.Conditions.{IsConsistent, Condition1At, Condition8At, Condition9At, Condition10At, Condition12At, paid_at_warehouse, paid_at_district, paid_by_customer, delivered_amount}
-use Rattle.tables.specs.WellFormed.{IsWellFormed, HasRoom, IsMoneyFor, IsCountFor, IsDistrictRow, IsCustomerRow, IsHistoryRow, orderer}
+use Rattle.tables.specs.WellFormed.{IsWellFormed, HasRoom, IsMoney, IsCount, IsMoneyFor, IsCountFor, IsDistrictRow, IsCustomerRow, IsHistoryRow, orderer}
 use Rattle.tables.specs.declared.keys.DistrictKey.{DistrictKey}
 use Rattle.tables.specs.declared.keys.CustomerKey.{CustomerKey}
 use Rattle.tables.specs.declared.rows.Warehouse.{Warehouse}
@@ -22,7 +23,7 @@ use Rattle.tables.specs.declared.rows.History.{History}
 use Rattle.tables.specs.declared.payment.PaymentInput.{PaymentInput}
 use Rattle.tables.proofs.Orders.{IsExact, exact_number, exact_district, exact_customer}
 use Rattle.tables.proofs.KeyTests.{is_district-key}
-use Rattle.laws.proofs.Updates.{column-update_where, total-update_where, is_some-map_rows, row_before}
+use Rattle.laws.proofs.Updates.{column-update_where, total-update_where, kept-update_where, is_some-map_rows, row_before}
 
 -- the row at a key of the scale
 there : {K X : Type 0} {R : K → K → Ordering} (IsKey : K → Type 0) (m : FinMap R X) → RowsAt IsKey m → (k : K) → IsKey k → (r : X) × (get m k ≡ Some r)
@@ -31,16 +32,6 @@ there {X = X} IsKey m at k is = found (get m k) refl ((at k).1 is)
     found : (w : Option X) → get m k ≡ w → IsSome w → (r : X) × (get m k ≡ Some r)
     found None e some = absurd (true≢false (sym some))
     found (Some r) e some = (r, e)
-
--- ---- the updates of a Payment
-abbrev raised_warehouse : ℤ → Warehouse → Warehouse
-raised_warehouse a r = record r { year_to_date = r.year_to_date +ℤ a }
-
-abbrev raised_district : ℤ → District → District
-raised_district a r = record r { year_to_date = r.year_to_date +ℤ a }
-
-abbrev charged : ℤ → Customer → Customer
-charged a r = record r { balance = r.balance -ℤ a; paid = r.paid +ℤ a; payments = r.payments + 1 }
 
 module _ (t : Database) (x : PaymentInput) (ok : IsPayment t.scale x) (wf : IsWellFormed t) (con : IsConsistent t) where
   abbrev in_district : ℕ → DistrictKey → District → ℤ
@@ -93,8 +84,8 @@ module _ (t : Database) (x : PaymentInput) (ok : IsPayment t.scale x) (wf : IsWe
       let customer = there (IsCustomerKey t.scale) t.customers wf.customers k is in
       let r = customer.0 in
       let was : r.balance ≡ delivered_amount t k -ℤ paid_by_customer t k = ap (λ (o : Option Customer). option_map_or (λ q. q.balance) o (pos 0)) (sym customer.1) ∙ con.condition_10 k is in
-      column-update_where exact_customer (λ q. q.balance) is_payer (charged x.amount) t.customers k r customer.1
-      ∙ (elim (is_payer k) as (λ b. (cond b (charged x.amount r) r).balance ≡ delivered_amount t k -ℤ (paid_by_customer t k +ℤ cond b x.amount (pos 0))) [
+      column-update_where exact_customer (λ q. q.balance) is_payer (charged_customer x.amount) t.customers k r customer.1
+      ∙ (elim (is_payer k) as (λ b. (cond b (charged_customer x.amount r) r).balance ≡ delivered_amount t k -ℤ (paid_by_customer t k +ℤ cond b x.amount (pos 0))) [
         | true ↦ omega (arith, ints)
         | false ↦ omega (arith, ints)
       ])
@@ -105,8 +96,8 @@ module _ (t : Database) (x : PaymentInput) (ok : IsPayment t.scale x) (wf : IsWe
       let customer = there (IsCustomerKey t.scale) t.customers wf.customers k is in
       let r = customer.0 in
       let was : r.balance +ℤ r.paid ≡ delivered_amount t k = ap (λ (o : Option Customer). option_map_or (λ q. q.balance) o (pos 0) +ℤ option_map_or (λ q. q.paid) o (pos 0)) (sym customer.1) ∙ con.condition_12 k is in
-      (λ i. column-update_where exact_customer (λ q. q.balance) is_payer (charged x.amount) t.customers k r customer.1 i +ℤ column-update_where exact_customer (λ q. q.paid) is_payer (charged x.amount) t.customers k r customer.1 i)
-      ∙ (elim (is_payer k) as (λ b. (cond b (charged x.amount r) r).balance +ℤ (cond b (charged x.amount r) r).paid ≡ delivered_amount t k) [
+      (λ i. column-update_where exact_customer (λ q. q.balance) is_payer (charged_customer x.amount) t.customers k r customer.1 i +ℤ column-update_where exact_customer (λ q. q.paid) is_payer (charged_customer x.amount) t.customers k r customer.1 i)
+      ∙ (elim (is_payer k) as (λ b. (cond b (charged_customer x.amount r) r).balance +ℤ (cond b (charged_customer x.amount r) r).paid ≡ delivered_amount t k) [
         | true ↦ omega (arith, ints)
         | false ↦ omega (arith, ints)
       ])
@@ -157,12 +148,12 @@ module _ (t : Database) (x : PaymentInput) (n : ℕ) (ok : IsPayment t.scale x) 
       (λ k r h. elim (is_district x.warehouse x.district k) as (λ b. IsMoneyFor n (cond b (raised_district x.amount r) r).year_to_date) [ true ↦ rises r.year_to_date h | false ↦ stays r.year_to_date h ])
 
   abbrev pays : CustomerKey → Customer → Customer
-  pays k r = cond (is_customer x.customer_warehouse x.customer_district (customer_number x.who) k) (charged x.amount r) r
+  pays k r = cond (is_customer x.customer_warehouse x.customer_district (customer_number x.who) k) (charged_customer x.amount r) r
 
   -- what holds of a customer's row that didn't pay and of one that did
-  each_customer : (P Q : Customer → Type 0) → EachRow (λ k r. P r) t.customers → ((r : Customer) → P r → Q r) → ((r : Customer) → P r → Q (charged x.amount r)) → EachRow (λ k r. Q r) (after_payment t x).customers
+  each_customer : (P Q : Customer → Type 0) → EachRow (λ k r. P r) t.customers → ((r : Customer) → P r → Q r) → ((r : Customer) → P r → Q (charged_customer x.amount r)) → EachRow (λ k r. Q r) (after_payment t x).customers
   each_customer P Q each same paid = each_updated exact_customer (λ k r. P r) (λ k r. Q r) pays t.customers each
-      (λ k r h. elim (is_customer x.customer_warehouse x.customer_district (customer_number x.who) k) as (λ b. Q (cond b (charged x.amount r) r)) [ true ↦ paid r h | false ↦ same r h ])
+      (λ k r h. elim (is_customer x.customer_warehouse x.customer_district (customer_number x.who) k) as (λ b. Q (cond b (charged_customer x.amount r) r)) [ true ↦ paid r h | false ↦ same r h ])
 
   pub payment_keeps_room : HasRoom n (after_payment t x)
   payment_keeps_room = record {
@@ -174,10 +165,10 @@ module _ (t : Database) (x : PaymentInput) (n : ℕ) (ok : IsPayment t.scale x) 
     deliveries = each_customer (λ r. IsCountFor (n + 1) r.deliveries) (λ r. IsCountFor n r.deliveries) room.deliveries (λ r h. count_stays r.deliveries h) (λ r h. count_stays r.deliveries h);
   }
 
-  money : (z : ℤ) → IsMoneyFor n z → IsMoneyFor 0 z
+  money : (z : ℤ) → IsMoneyFor n z → IsMoney z
   money z h = (omega (arith, ints, h.0, h.1), omega (arith, ints, h.0, h.1))
 
-  count : (c : ℕ) → IsCountFor n c → IsCountFor 0 c
+  count : (c : ℕ) → IsCountFor n c → IsCount c
   count c h = omega (arith, h)
 
   district_rows : EachRow (λ k r. IsDistrictRow t.scale r) (after_payment t x).districts
@@ -233,3 +224,16 @@ module _ (t : Database) (x : PaymentInput) (n : ℕ) (ok : IsPayment t.scale x) 
     new_order_orders = wf.new_order_orders;
     line_orders = wf.line_orders;
   }
+
+-- ---- the columns that never change
+pub payment_keeps_constants : (t0 t : Database) (x : PaymentInput) → IsOf t0 t → IsOf t0 (after_payment t x)
+payment_keeps_constants t0 t x h = record {
+  scale = h.scale;
+  warehouse_taxes = λ w. kept-update_where exact_number (λ k. x.warehouse == k) (raised_warehouse x.amount) (option_map (λ r. r.tax)) t.warehouses w (λ _ r. refl) ∙ h.warehouse_taxes w;
+  district_taxes = λ k. kept-update_where exact_district (is_district x.warehouse x.district) (raised_district x.amount) (option_map (λ r. r.tax)) t.districts k (λ _ r. refl) ∙ h.district_taxes k;
+  first_names = λ k. kept-update_where exact_customer (is_customer x.customer_warehouse x.customer_district (customer_number x.who)) (charged_customer x.amount) (option_map (λ r. r.first_name)) t.customers k (λ _ r. refl) ∙ h.first_names k;
+  last_names = λ k. kept-update_where exact_customer (is_customer x.customer_warehouse x.customer_district (customer_number x.who)) (charged_customer x.amount) (option_map (λ r. r.last_name)) t.customers k (λ _ r. refl) ∙ h.last_names k;
+  credit = λ k. kept-update_where exact_customer (is_customer x.customer_warehouse x.customer_district (customer_number x.who)) (charged_customer x.amount) (option_map (λ r. r.credit)) t.customers k (λ _ r. refl) ∙ h.credit k;
+  discounts = λ k. kept-update_where exact_customer (is_customer x.customer_warehouse x.customer_district (customer_number x.who)) (charged_customer x.amount) (option_map (λ r. r.discount)) t.customers k (λ _ r. refl) ∙ h.discounts k;
+  items = h.items;
+}

@@ -8,6 +8,7 @@ ghost use Rattle.tables.specs.Inputs.{IsInput};
 ghost use Rattle.tables.specs.Apply.{after};
 ghost use Rattle.tables.specs.WellFormed.{IsWellFormed, HasRoom};
 ghost use Rattle.tables.specs.Conditions.{IsConsistent};
+ghost use Rattle.tables.specs.Constant.{IsOf};
 ghost use Rattle.tables.specs.Database.{Database};
 ghost use Rattle.tables.specs.declared.input.Input.{Input};
 
@@ -20,4 +21,9 @@ pub fn transactions_keep_tables_well_formed()
 /// Each transaction keeps the consistency conditions (TPC-C 3.3.2) of well-formed tables.
 pub fn transactions_keep_tables_consistent()
     ensures { (t : Database) (x : Input) → IsInput t.scale x → IsWellFormed t → IsConsistent t → IsConsistent (after t x) }
+{}
+
+/// No transaction changes the scale, ITEM, or a column that never changes: what is of a population stays so.
+pub fn transactions_keep_constants()
+    ensures { (t0 t : Database) (x : Input) → IsOf t0 t → IsOf t0 (after t x) }
 {}

@@ -12,10 +12,9 @@ use Rattle.lines.specs.Lines.{HasNoLineFeed, IsCut, held, held_after, last_line,
 use Rattle.lines.specs.Output.{answer_text}
 use Rattle.lines.specs.declared.answer.Answer.{Answer}
 use Rattle.lines.proofs.Cutting.{lines_first, lines_of_cut, cut_line, cut_more, held_more}
-use Rattle.script.specs.Session.{state_of}
 use Rattle.script.specs.Turns.{State, Turn, IsLineTurn, AreTurns}
 use Rattle.script.specs.Written.{start, answers_text, HasTooManyLines}
-use Rattle.script.specs.Answered.{Standing, HasAnswered, HasAnsweredAll, HasTooMany}
+use Rattle.script.specs.Answered.{state_of, Standing, HasAnswered, HasAnsweredAll, HasTooMany}
 use Rattle.script.proofs.TurnLemmas.{held_some}
 
 -- one more line
@@ -118,7 +117,7 @@ last_answered tables text written d e h some t =
     }
 
 -- a line that ends beyond the last number
-pub too_many : (tables : Database) (text written end : List ℕ) (d : Standing) → HasAnswered tables text written d → HasNoLineFeed end → 4000000000 ≤ d.answered → HasTooMany (text ++ (end ++ 10 ∷ []))
+pub too_many : (tables : Database) (text written end : List ℕ) (d : Standing) → HasAnswered tables text written d → HasNoLineFeed end → MAX_LINES ≤ d.answered → HasTooMany (text ++ (end ++ 10 ∷ []))
 too_many tables text written end d h feeds full later =
     let cut = cut_line text h.lines h.rest end h.cut feeds in
     let all = ap length (lines_of_more (text ++ (end ++ 10 ∷ [])) (h.lines ++ (h.rest ++ end) ∷ []) [] later cut) in
@@ -132,7 +131,7 @@ pub too_many_more : (text more : List ℕ) → HasTooMany text → HasTooMany (t
 too_many_more text more many later = subst HasTooManyLines (sym (append_assoc text more later)) (many (more ++ later))
 
 -- a last line beyond the last number
-pub last_too_many : (tables : Database) (text written : List ℕ) (d : Standing) → HasAnswered tables text written d → (d.line ≡ Some [] → ⊥) → 4000000000 ≤ d.answered → HasTooManyLines text
+pub last_too_many : (tables : Database) (text written : List ℕ) (d : Standing) → HasAnswered tables text written d → (d.line ≡ Some [] → ⊥) → MAX_LINES ≤ d.answered → HasTooManyLines text
 last_too_many tables text written d h some full =
     let all = ap length (all_lines tables text written d h some) ∙ length_push _ _ in
     let answered = h.count in
@@ -158,7 +157,7 @@ line_taken tables text written piece rest after d e line before ended turn count
 pub line_too_many : (tables : Database) (text written piece rest after : List ℕ) (d : Standing) (line : Option (List ℕ))
     → (taken : List ℕ) × (piece ≡ taken ++ rest) × HasAnswered tables (text ++ taken) written d
     → (end : List ℕ) × (rest ≡ end ++ 10 ∷ after) × HasNoLineFeed end × (line ≡ held_after d.line end)
-    → 4000000000 ≤ d.answered → HasTooMany (text ++ piece)
+    → MAX_LINES ≤ d.answered → HasTooMany (text ++ piece)
 line_too_many tables text written piece rest after d line before ended full =
     let end = ended.0 in
     let many = too_many_more ((text ++ before.0) ++ (end ++ 10 ∷ [])) after (too_many tables (text ++ before.0) written end d before.2 ended.2 full) in

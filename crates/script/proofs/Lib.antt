@@ -1,6 +1,5 @@
-pub mod Commits
-pub mod TurnLemmas
-pub mod DeskLemmas
-pub mod Progress
-pub mod OneRun
-pub mod OneText
+mod TurnLemmas
+mod DeskLemmas
+mod Progress
+mod OneRun
+mod OneText

@@ -1,31 +1,49 @@
 -- Lines have one run.
-use Rattle.std.proofs.Common.{◌≡◌, ℕ, ◌+◌, List, [], ◌∷◌, refl, sym, ap, ◌∙◌, subst, arith}
+use Rattle.std.proofs.Common.{◌≡◌, ℕ, ◌+◌, Some, List, [], ◌∷◌, refl, sym, ap, ◌∙◌, subst, arith}
 use Rattle.money.specs.declared.refusal.Refusal.{Refusal}
 use Rattle.money.specs.declared.refusal.Refusal.TheVariants.{BadInput, BadLine}
-use Rattle.tables.specs.declared.payment.PaymentInput.{PaymentInput}
+use Rattle.tables.specs.Apply.{Outcome, Committed, RolledBack, left_by}
+use Rattle.tables.specs.declared.input.Input.{Input}
+use Rattle.tables.specs.declared.reply.Reply.{Reply}
 use Rattle.lines.specs.Requests.{HasNumbers, IsWithinReach, IsRefused, request_text}
 use Rattle.lines.specs.declared.request.Request.{Request}
 use Rattle.lines.specs.declared.request.Request.TheVariants as request
 use Rattle.lines.specs.declared.answer.Answer.{Answer}
 use Rattle.lines.proofs.OneText.{one_line_one_request}
-use Rattle.script.specs.Turns.{State, Turn, IsPaymentTurn, bad, full, done, IsRequestTurn, IsLineTurn, long, unread, read, AreTurns, refused}
+use Rattle.script.specs.Turns.{State, Turn, committed, IsInputTurn, bad, full, done, IsShowTurn, beyond, row, IsRequestTurn, IsLineTurn, long, unread, read, AreTurns, refused}
 
-one_payment : (s : State) (x : PaymentInput) (a b : Turn) → IsPaymentTurn s x a → IsPaymentTurn s x b → a ≡ b
-one_payment s x a b (bad not e) (bad isnt f) = e ∙ sym f
-one_payment s x a b (bad not e) (full is at_cap f) = absurd (not is)
-one_payment s x a b (bad not e) (done is room f) = absurd (not is)
-one_payment s x a b (full is at_cap e) (bad isnt f) = absurd (isnt is)
-one_payment s x a b (full is at_cap e) (full ok top f) = e ∙ sym f
-one_payment s x a b (full is at_cap e) (done ok room f) = absurd (omega arith)
-one_payment s x a b (done is room e) (bad isnt f) = absurd (isnt is)
-one_payment s x a b (done is room e) (full ok at_cap f) = absurd (omega arith)
-one_payment s x a b (done is room e) (done ok free f) = e ∙ sym f
+told_by : Reply → Outcome → Reply
+told_by other (Committed tables told) = told
+told_by other (RolledBack item) = other
+
+one_input : (s : State) (n : ℕ) (x : Input) (a b : Turn) → IsInputTurn s n x a → IsInputTurn s n x b → a ≡ b
+one_input s n x a b (bad not e) (bad isnt f) = e ∙ sym f
+one_input s n x a b (bad not e) (full is at_cap f) = absurd (not is)
+one_input s n x a b (bad not e) (done t r is room out f) = absurd (not is)
+one_input s n x a b (full is at_cap e) (bad isnt f) = absurd (isnt is)
+one_input s n x a b (full is at_cap e) (full ok top f) = e ∙ sym f
+one_input s n x a b (full is at_cap e) (done t r ok room out f) = absurd (omega arith)
+one_input s n x a b (done t r is room out e) (bad isnt f) = absurd (isnt is)
+one_input s n x a b (done t r is room out e) (full ok at_cap f) = absurd (omega arith)
+one_input s n x a b (done t r is room out e) (done u q ok free comes f) =
+    let same : Committed t r ≡ Committed u q = sym out ∙ comes in
+    e ∙ (λ i. committed s (ap (left_by s.tables) same i) (ap (told_by r) same i)) ∙ sym f
+
+one_answer : (a b : Answer) → Some a ≡ Some b → a ≡ b
+one_answer a b e = cc
+
+one_show : (s : State) (n : ℕ) (show : Request) (a b : Turn) → IsShowTurn s n show a → IsShowTurn s n show b → a ≡ b
+one_show s n show a b (beyond not e) (beyond isnt f) = e ∙ sym f
+one_show s n show a b (beyond not e) (row found is at f) = absurd (not is)
+one_show s n show a b (row found is at e) (beyond isnt f) = absurd (isnt is)
+one_show s n show a b (row found is at e) (row other ok there f) =
+    e ∙ (λ i. record { answer = one_answer found other (sym at ∙ there) i; state = s }) ∙ sym f
 
 one_request : (s : State) (n : ℕ) (asked : Request) (a b : Turn) → IsRequestTurn s n asked a → IsRequestTurn s n asked b → a ≡ b
-one_request s n (request.Payment w d cw cd c z) a b e f = one_payment s _ a b e f
-one_request s n (request.ShowWarehouse w) a b e f = e ∙ sym f
-one_request s n (request.ShowDistrict w d) a b e f = e ∙ sym f
-one_request s n (request.ShowCustomer w d c) a b e f = e ∙ sym f
+one_request s n (request.Payment w d cw cd c z) a b e f = one_input s n _ a b e f
+one_request s n (request.ShowWarehouse w) a b e f = one_show s n _ a b e f
+one_request s n (request.ShowDistrict w d) a b e f = one_show s n _ a b e f
+one_request s n (request.ShowCustomer w d c) a b e f = one_show s n _ a b e f
 
 one_refusal : (line : List ℕ) (a b : Refusal) → IsRefused line a → IsRefused line b → a ≡ b
 one_refusal line BadInput BadInput h k = refl

@@ -7,10 +7,10 @@ use Rattle.tables.specs.Database.{Database}
 use Rattle.tables.proofs.Orders.{IsExact, exact_number, exact_district, exact_customer}
 use Rattle.lines.specs.Lines.{lines_of}
 use Rattle.lines.specs.Report.{report_text}
-use Rattle.plain.specs.Check.{Finds, IsReportOf}
-use Rattle.plain.specs.declared.report.Report.{Report}
+use Rattle.conditions.specs.Check.{Finds, IsReportOf}
+use Rattle.conditions.specs.declared.report.Report.{Report}
 use Rattle.book.specs.declared.entry.Done.{Done}
-use Rattle.script.specs.Written.{start, answers_text, verdicts_of, IsWhole}
+use Rattle.script.specs.Written.{start, answers_text, IsWhole}
 use Rattle.script.proofs.OneRun.{one_run}
 
 -- there is one least key
@@ -40,6 +40,6 @@ one_text tables bytes text other report found dones told w v =
     let run = one_run (start tables) 1 (lines_of bytes) w.answers v.answers w.last v.last w.turns v.turns in
     let commits : dones ≡ told = w.dones_are ∙ ap (λ s. s.dones) run.1 ∙ sym v.dones_are in
     let reports : report ≡ found = one_report v.last.tables report found (subst (λ s. IsReportOf s.tables report) run.1 w.report_is) v.report_is in
-    let texts : answers_text w.answers ++ report_text (length dones) (verdicts_of report) ≡ answers_text v.answers ++ report_text (length told) (verdicts_of found) =
-    λ i. answers_text (run.0 i) ++ report_text (length (commits i)) (verdicts_of (reports i)) in
+    let texts : answers_text w.answers ++ report_text (length dones) report ≡ answers_text v.answers ++ report_text (length told) found =
+    λ i. answers_text (run.0 i) ++ report_text (length (commits i)) (reports i) in
     (w.text_is ∙ texts ∙ sym v.text_is, reports, commits)

@@ -5,20 +5,18 @@ use Rattle.std.specs.Prelude.{Result, Ok, Err, OnOk, OnErr, IfOk, IfErr, IsErrOf
 use Rattle.std.proofs.Common.{inl, inr}
 use Rattle.money.specs.declared.refusal.Refusal.{Refusal}
 use Rattle.money.specs.declared.refusal.Refusal.TheVariants.{OutOfMemory, BadInput, Device}
-use Rattle.lines.specs.declared.report.Verdict.{Verdict}
 use Rattle.std.specs.Io.KnownBytes.{Appends, Consumes, IsAtEnd}
 use Rattle.std.proofs.lemmas.List.{take-append-drop}
 use Rattle.std.proofs.KnownBytes.{Appends-nil, Appends-trans}
 use Rattle.tables.specs.Database.{Database}
-use Rattle.plain.specs.Check.{IsReportOf}
-use Rattle.plain.specs.declared.report.Report.{Report}
+use Rattle.conditions.specs.Check.{IsReportOf}
+use Rattle.conditions.specs.declared.report.Report.{Report}
 use Rattle.lines.specs.Lines.{lines_of}
 use Rattle.lines.specs.Report.{report_text}
 use Rattle.book.specs.declared.entry.Done.{Done}
-use Rattle.script.specs.Session.{state_of}
 use Rattle.script.specs.Turns.{AreTurns}
-use Rattle.script.specs.Written.{start, verdicts_of, HasTooManyLines, IsWhole, IsBeginning, of_answers, of_whole}
-use Rattle.script.specs.Answered.{Standing, HasAnswered, HasAnsweredAll, HasTooMany}
+use Rattle.script.specs.Written.{start, HasTooManyLines, IsWhole, IsBeginning, of_answers, of_whole}
+use Rattle.script.specs.Answered.{state_of, Standing, HasAnswered, HasAnsweredAll, HasTooMany}
 use Rattle.script.proofs.DeskLemmas.{lines_of_more}
 
 -- a front of the bytes is read and answered, and its answers are written but for what the desk holds
@@ -60,14 +58,14 @@ begun_all tables bytes written d h =
     of_answers (lines_of bytes) [] h.answers (state_of tables d.session) (d.output) (sym (append-nil _)) h.turns (h.output_is ∙ ap (λ w. w ++ d.output) (sym (append-nil written)))
 
 -- the report stands behind the answers
-pub whole : (tables : Database) (bytes written output : List ℕ) (d : Standing) (report : Report) (dones : List Done) → HasAnsweredAll tables bytes written d → IsReportOf (state_of tables d.session).tables report → dones ≡ (state_of tables d.session).dones → output ≡ d.output ++ report_text (length dones) (verdicts_of report) → IsWhole tables bytes (written ++ output) report dones
+pub whole : (tables : Database) (bytes written output : List ℕ) (d : Standing) (report : Report) (dones : List Done) → HasAnsweredAll tables bytes written d → IsReportOf (state_of tables d.session).tables report → dones ≡ (state_of tables d.session).dones → output ≡ d.output ++ report_text (length dones) report → IsWhole tables bytes (written ++ output) report dones
 whole tables bytes written output d report dones h is_report dones_are output_is = record {
   answers = h.answers;
   last = (state_of tables d.session);
   turns = h.turns;
   report_is = is_report;
   dones_are = dones_are;
-  text_is = ap (λ o. written ++ o) output_is ∙ sym (append_assoc written _ _) ∙ ap (λ t. t ++ report_text (length dones) (verdicts_of report)) (sym h.output_is);
+  text_is = ap (λ o. written ++ o) output_is ∙ sym (append_assoc written _ _) ∙ ap (λ t. t ++ report_text (length dones) report) (sym h.output_is);
 }
 
 -- the report wasn't written as a whole
@@ -120,9 +118,9 @@ pub on_err : {A E : Type 0} (P : Type 0) (result : Result A E) → P → OnErr r
 on_err P (Ok value) p = tt
 on_err P (Err refusal) p = p
 
--- a report on as many commits, with these verdicts
-pub report_of : (out before : List ℕ) (n m : ℕ) (v w : List Verdict) → out ≡ before ++ report_text n v → n ≡ m → v ≡ w → out ≡ before ++ report_text m w
-report_of out before n m v w is commits verdicts = is ∙ ap (λ k. before ++ report_text k v) commits ∙ ap (λ u. before ++ report_text m u) verdicts
+-- a report on as many commits
+pub report_of : (out before : List ℕ) (n m : ℕ) (report : Report) → out ≡ before ++ report_text n report → n ≡ m → out ≡ before ++ report_text m report
+report_of out before n m report is commits = is ∙ ap (λ k. before ++ report_text k report) commits
 
 -- a beginning between two writes
 pub begun_here : (tables : Database) (bytes : List ℕ) (left old mid : Option (List ℕ)) (c : Standing) → HasReached tables bytes left old mid c → Begun tables bytes old mid

@@ -1,40 +1,80 @@
 -- What the calls of a turn make.
-use Rattle.std.proofs.Common.{◌≡◌, ℕ, ◌<◌, ◌≤◌, Bool, true, false, leb, cond, Option, Some, None, Result, Ok, Err, IfOk, List, length, refl, sym, ap, ◌∙◌, subst, arith}
+use Rattle.std.proofs.Common.{◌≡◌, ℕ, ◌<◌, ◌≤◌, Bool, true, false, leb, cond, Option, Some, None, Result, Ok, Err, IfOk, List, [], ◌∷◌, ◌++◌, ◌+◌, length, is_some, true≢false, refl, sym, ap, ◌∙◌, subst, arith}
 use Rattle.std.proofs.lemmas.Bool.Decides.{nat_tests}
 use Rattle.money.specs.declared.refusal.Refusal.{Refusal}
-use Rattle.tables.specs.Apply.{reply_to}
+use Rattle.money.specs.declared.refusal.Refusal.TheVariants.{BadInput, CommitsFull}
+use Rattle.std.specs.FinMap.{FinMap, get}
+use Rattle.std.specs.declared.cmp.Ordering.{Ordering}
+use Rattle.tables.specs.Sizes.{Sizes}
+use Rattle.tables.specs.Maps.{RowsAt}
+use Rattle.tables.specs.Database.{Database}
+use Rattle.tables.specs.Inputs.{IsInput}
 use Rattle.tables.specs.declared.input.Input.{Input}
-use Rattle.tables.specs.declared.input.Input.TheVariants as input
-use Rattle.tables.specs.declared.payment.PaymentInput.{PaymentInput}
+use Rattle.lines.specs.declared.line_buffer.TheConstants.{MAX_LINE}
 use Rattle.lines.specs.Lines.{held}
 use Rattle.lines.specs.Requests.{HasNumbers, IsWithinReach, IsRefused, request_text}
 use Rattle.lines.specs.declared.request.Request.{Request}
 use Rattle.lines.specs.declared.answer.Answer.{Answer}
 use Rattle.lines.specs.declared.answer.Answer.TheVariants as answer
 use Rattle.book.specs.declared.entry.Done.{Done}
-use Rattle.script.specs.Session.{IsNext}
-use Rattle.script.specs.Turns.{State, IsRequestTurn, IsLineTurn, unread, read, answer_of, committed}
+use Rattle.book.specs.History.{replay, commit_tid}
+use Rattle.book.proofs.Replaying.{replay-scale}
+use Rattle.session.specs.Session.{SessionView, IsNext}
+use Rattle.script.specs.Answered.{state_of}
+use Rattle.script.specs.Turns.{State, IsInputTurn, bad, full, done, IsRequestTurn, IsLineTurn, unread, read, answer_of}
 
 -- what a commit leaves
-pub committed_turn : (s last : State) (x : PaymentInput) (asked : Input) (d : Done) (told : Answer) → asked ≡ input.Payment x → told ≡ answer_of d.reply → IsNext s asked d last → record { answer = told; state = last } ≡ committed s (input.Payment x)
-committed_turn s last x asked d told is says next =
-    let answered : told ≡ answer_of (reply_to s.tables asked) = says ∙ ap (λ (y : Done). answer_of y.reply) next.told in
-    let turn : record { answer = told; state = last } ≡ committed s asked = λ i. record { answer = answered i; state = next.state i } in
-    turn ∙ ap (committed s) is
+pub committed_turn : (t0 : Database) (old new : SessionView) (n : ℕ) (x : Input) (d : Done) (told : Answer) → told ≡ answer_of d.reply → length old.dones ≡ length old.history → new.dones ≡ old.dones ++ d ∷ []
+    → IsInput t0.scale x → IsNext t0 old.history new.history x d → IsInputTurn (state_of t0 old) n x (record { answer = told; state = state_of t0 new })
+committed_turn t0 old new n x d told says count dones is next =
+    let scale : (replay t0 old.history).scale ≡ t0.scale = replay-scale t0 old.history in
+    let number : d.number ≡ length old.dones + 1 = next.number ∙ next.longer ∙ ap (λ m. m + 1) (sym count) in
+    let one : ◌≡◌ {A = Done} d (record { number = length old.dones + 1; tid = commit_tid (length old.dones + 1); reply = d.reply }) = λ i. record {
+      number = number i;
+      tid = (next.tid ∙ ap commit_tid (sym next.number ∙ number)) i;
+      reply = d.reply;
+    } in
+    done (replay t0 new.history) d.reply (subst (λ (s : Sizes). IsInput s x) (sym scale) is)
+        (subst (λ (s : Sizes). length old.dones < s.commits) (sym scale) (subst (λ m. m < t0.scale.commits) (sym count) next.below))
+        next.commits
+        (λ i. record { answer = says i; state = record { tables = replay t0 new.history; dones = (dones ∙ ap (λ e. old.dones ++ e ∷ []) one) i } })
+
+-- an input outside its ranges
+pub bad_turn : (t0 : Database) (session : SessionView) (n : ℕ) (x : Input) (refusal : Refusal) (told : Answer) → told ≡ answer.Refused refusal n → (refusal ≡ BadInput) × ¬ IsInput t0.scale x
+    → IsInputTurn (state_of t0 session) n x (record { answer = told; state = state_of t0 session })
+bad_turn t0 session n x refusal told says is =
+    bad (subst (λ (s : Sizes). ¬ IsInput s x) (sym (replay-scale t0 session.history)) is.1)
+        (λ i. record { answer = (says ∙ ap (λ r. answer.Refused r n) is.0) i; state = state_of t0 session })
+
+-- the commit cap
+pub full_turn : (t0 : Database) (old new : SessionView) (n : ℕ) (x : Input) (told : Answer) → told ≡ answer.Refused CommitsFull n → new ≡ old → length old.dones ≡ length old.history
+    → IsInput t0.scale x → t0.scale.commits ≤ length old.history → IsInputTurn (state_of t0 old) n x (record { answer = told; state = state_of t0 new })
+full_turn t0 old new n x told says same count is cap =
+    let scale : (replay t0 old.history).scale ≡ t0.scale = replay-scale t0 old.history in
+    full (subst (λ (s : Sizes). IsInput s x) (sym scale) is)
+        (subst (λ (s : Sizes). s.commits ≤ length old.dones) (sym scale) (subst (λ m. t0.scale.commits ≤ m) (sym count) cap))
+        (λ i. record { answer = says i; state = state_of t0 (same i) })
+
+-- a row stands exactly at the keys of the scale
+pub row_there : {K X : Type 0} {R : K → K → Ordering} (IsKey : K → Type 0) (m : FinMap R X) (k : K) (r : X) → RowsAt IsKey m → get m k ≡ Some r → IsKey k
+row_there IsKey m k r at found = (at k).0 (ap is_some found)
+
+pub no_row : {K X : Type 0} {R : K → K → Ordering} (IsKey : K → Type 0) (m : FinMap R X) (k : K) → RowsAt IsKey m → get m k ≡ None → ¬ IsKey k
+no_row IsKey m k at none is = true≢false (sym ((at k).1 is) ∙ ap is_some none)
 
 -- the bytes of a line that is held
-pub held_some : (bytes text : List ℕ) → Some text ≡ held bytes → (length bytes ≤ 1024) × (bytes ≡ text)
-held_some bytes text = go (leb (length bytes) 1024) refl
+pub held_some : (bytes text : List ℕ) → Some text ≡ held bytes → (length bytes ≤ MAX_LINE) × (bytes ≡ text)
+held_some bytes text = go (leb (length bytes) MAX_LINE) refl
   where
-    go : (b : Bool) → leb (length bytes) 1024 ≡ b → Some text ≡ cond b (Some bytes) None → (length bytes ≤ 1024) × (bytes ≡ text)
+    go : (b : Bool) → leb (length bytes) MAX_LINE ≡ b → Some text ≡ cond b (Some bytes) None → (length bytes ≤ MAX_LINE) × (bytes ≡ text)
     go true e h = (grind (arith, nat_tests), cc)
     go false e h = absurd cc
 
 -- a line that isn't held
-pub held_none : (bytes : List ℕ) → None ≡ held bytes → 1024 < length bytes
-held_none bytes = go (leb (length bytes) 1024) refl
+pub held_none : (bytes : List ℕ) → None ≡ held bytes → MAX_LINE < length bytes
+held_none bytes = go (leb (length bytes) MAX_LINE) refl
   where
-    go : (b : Bool) → leb (length bytes) 1024 ≡ b → ◌≡◌ {A = Option (List ℕ)} None (cond b (Some bytes) None) → 1024 < length bytes
+    go : (b : Bool) → leb (length bytes) MAX_LINE ≡ b → ◌≡◌ {A = Option (List ℕ)} None (cond b (Some bytes) None) → MAX_LINE < length bytes
     go true e h = absurd cc
     go false e h = grind (arith, nat_tests)
 

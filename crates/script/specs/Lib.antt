@@ -1,4 +1,3 @@
 pub mod Turns
 pub mod Written
-pub mod Session
 pub mod Answered

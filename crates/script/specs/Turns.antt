@@ -5,16 +5,18 @@ use Rattle.std.specs.FinMap.{get}
 use Rattle.money.specs.declared.refusal.Refusal.{Refusal}
 use Rattle.money.specs.declared.refusal.Refusal.TheVariants.{BadInput, BadLine, CommitsFull}
 use Rattle.tables.specs.Database.{Database}
-use Rattle.tables.specs.Payment.{IsPayment}
-use Rattle.tables.specs.Apply.{after, reply_to}
+use Rattle.tables.specs.Sizes.{Sizes}
+use Rattle.tables.specs.Keys.{IsWarehouseKey, IsDistrictKey, IsCustomerKey}
+use Rattle.tables.specs.Inputs.{IsInput}
+use Rattle.tables.specs.Apply.{Committed, apply}
 use Rattle.tables.specs.declared.keys.DistrictKey.{DistrictKey}
 use Rattle.tables.specs.declared.keys.CustomerKey.{CustomerKey}
 use Rattle.tables.specs.declared.input.Input.{Input}
 use Rattle.tables.specs.declared.input.Input.TheVariants as input
-use Rattle.tables.specs.declared.payment.PaymentInput.{PaymentInput}
 use Rattle.tables.specs.declared.customer.Who.TheVariants.{Id}
 use Rattle.tables.specs.declared.reply.Reply.{Reply}
 use Rattle.tables.specs.declared.reply.Reply.TheVariants as reply
+use Rattle.lines.specs.declared.line_buffer.TheConstants.{MAX_LINE}
 use Rattle.lines.specs.Requests.{HasNumbers, IsWithinReach, IsRefused, request_text}
 use Rattle.lines.specs.declared.request.Request.{Request}
 use Rattle.lines.specs.declared.request.Request.TheVariants as request
@@ -37,31 +39,32 @@ pub record Turn : Type 0 where
 abbrev pub refused : State → Refusal → ℕ → Turn
 refused s refusal n = record { answer = answer.Refused refusal n; state = s }
 
--- line n shows a row, if there is one, and nothing changes
-abbrev pub shown : State → ℕ → Option Answer → Turn
-shown s n None = refused s BadInput n
-shown s n (Some row) = record { answer = row; state = s }
-
 -- what a terminal is told of a reply
 abbrev pub answer_of : Reply → Answer
 answer_of (reply.Payment r) = answer.Payment r
 
--- what its terminal is told of an input that commits after n others, at these tables
-abbrev pub done_of : Database → ℕ → Input → Done
-done_of t n x = record { number = n + 1; tid = commit_tid (n + 1); reply = reply_to t x }
-
--- an input is the next commit
-abbrev pub committed : State → Input → Turn
-committed s x = record {
-  answer = answer_of (reply_to s.tables x);
-  state = record { tables = after s.tables x; dones = s.dones ++ done_of s.tables (length s.dones) x ∷ [] };
+-- an input commits with these tables and this reply, as the next
+abbrev pub committed : State → Database → Reply → Turn
+committed s tables told = record {
+  answer = answer_of told;
+  state = record {
+    tables = tables;
+    dones = s.dones ++ record { number = length s.dones + 1; tid = commit_tid (length s.dones + 1); reply = told } ∷ [];
+  };
 }
 
--- the turn of a Payment, whose date is the number of its line: refused outside the ranges of the input, then at the commit cap, and else committed
-pub data IsPaymentTurn (s : State) (x : PaymentInput) (turn : Turn) : Type 0 where
-  bad : ¬ IsPayment s.tables.scale x → turn ≡ refused s BadInput x.date → IsPaymentTurn s x turn
-  full : IsPayment s.tables.scale x → s.tables.scale.commits ≤ length s.dones → turn ≡ refused s CommitsFull x.date → IsPaymentTurn s x turn
-  done : IsPayment s.tables.scale x → length s.dones < s.tables.scale.commits → turn ≡ committed s (input.Payment x) → IsPaymentTurn s x turn
+-- the turn of an input that line n asks for: refused outside its ranges, then at the commit cap, and else committed
+pub data IsInputTurn (s : State) (n : ℕ) (x : Input) (turn : Turn) : Type 0 where
+  bad : ¬ IsInput s.tables.scale x → turn ≡ refused s BadInput n → IsInputTurn s n x turn
+  full : IsInput s.tables.scale x → s.tables.scale.commits ≤ length s.dones → turn ≡ refused s CommitsFull n → IsInputTurn s n x turn
+  done : (tables : Database) (told : Reply) → IsInput s.tables.scale x → length s.dones < s.tables.scale.commits → apply s.tables x ≡ Committed tables told → turn ≡ committed s tables told → IsInputTurn s n x turn
+
+-- a request asks for a row, and its key is one of the scale
+abbrev pub IsShown : Sizes → Request → Type 0
+IsShown s (request.ShowWarehouse w) = IsWarehouseKey s w
+IsShown s (request.ShowDistrict w d) = IsDistrictKey s (record { warehouse = w; district = d })
+IsShown s (request.ShowCustomer w d c) = IsCustomerKey s (record { warehouse = w; district = d; customer = c })
+IsShown s (request.Payment w d cw cd c z) = ⊥
 
 -- the row that a request asks for, if there is one
 abbrev pub row_of : Database → Request → Option Answer
@@ -74,17 +77,22 @@ row_of t (request.ShowCustomer w d c) =
     option_map (λ row. answer.Customer key row) (get t.customers key)
 row_of t (request.Payment w d cw cd c z) = None
 
--- the turn of a request at line n
+-- the turn of a request for a row at line n: refused where its key isn't of the scale. Nothing changes
+pub data IsShowTurn (s : State) (n : ℕ) (show : Request) (turn : Turn) : Type 0 where
+  beyond : ¬ IsShown s.tables.scale show → turn ≡ refused s BadInput n → IsShowTurn s n show turn
+  row : (answer : Answer) → IsShown s.tables.scale show → row_of s.tables show ≡ Some answer → turn ≡ record { answer = answer; state = s } → IsShowTurn s n show turn
+
+-- the turn of a request at line n, which is the date of a transaction
 abbrev pub IsRequestTurn : State → ℕ → Request → Turn → Type 0
 IsRequestTurn s n (request.Payment w d cw cd c z) turn =
-    IsPaymentTurn s (record { date = n; warehouse = w; district = d; customer_warehouse = cw; customer_district = cd; who = Id c; amount = z }) turn
-IsRequestTurn s n show turn = turn ≡ shown s n (row_of s.tables show)
+    IsInputTurn s n (input.Payment (record { date = n; warehouse = w; district = d; customer_warehouse = cw; customer_district = cd; who = Id c; amount = z })) turn
+IsRequestTurn s n show turn = IsShowTurn s n show turn
 
 -- the turn of line n: a line of more than 1,024 bytes, or of none of the forms, or of an amount beyond the reach, is refused
 pub data IsLineTurn (s : State) (n : ℕ) (line : List ℕ) (turn : Turn) : Type 0 where
-  long : 1024 < length line → turn ≡ refused s BadLine n → IsLineTurn s n line turn
-  unread : (refusal : Refusal) → length line ≤ 1024 → IsRefused line refusal → turn ≡ refused s refusal n → IsLineTurn s n line turn
-  read : (request : Request) → length line ≤ 1024 → HasNumbers request → IsWithinReach request → line ≡ request_text request → IsRequestTurn s n request turn → IsLineTurn s n line turn
+  long : MAX_LINE < length line → turn ≡ refused s BadLine n → IsLineTurn s n line turn
+  unread : (refusal : Refusal) → length line ≤ MAX_LINE → IsRefused line refusal → turn ≡ refused s refusal n → IsLineTurn s n line turn
+  read : (request : Request) → length line ≤ MAX_LINE → HasNumbers request → IsWithinReach request → line ≡ request_text request → IsRequestTurn s n request turn → IsLineTurn s n line turn
 
 -- lines from number n on, their answers, and the state after them
 abbrev pub AreTurns : State → ℕ → List (List ℕ) → List Answer → State → Type 0

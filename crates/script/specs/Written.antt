@@ -1,17 +1,15 @@
 -- What a script writes.
 use Rattle.std.specs.Prelude.{◌≡◌, ℕ, ◌<◌, List, [], ◌∷◌, ◌++◌, length, codes}
 use Rattle.std.specs.List.{flat_map}
-use Rattle.std.specs.Option.{option_map}
 use Rattle.tables.specs.Database.{Database}
 use Rattle.lines.specs.Lines.{lines_of}
 use Rattle.lines.specs.Output.{answer_text}
 use Rattle.lines.specs.Report.{report_text}
 use Rattle.lines.specs.declared.answer.Answer.{Answer}
-use Rattle.lines.specs.declared.report.Key.TheVariants.{Warehouse, District, Customer}
-use Rattle.lines.specs.declared.report.Verdict.{Verdict}
-use Rattle.plain.specs.Check.{IsReportOf}
-use Rattle.plain.specs.declared.report.Report.{Report}
+use Rattle.conditions.specs.Check.{IsReportOf}
+use Rattle.conditions.specs.declared.report.Report.{Report}
 use Rattle.book.specs.declared.entry.Done.{Done}
+use Rattle.script.specs.declared.running.TheConstants.{MAX_LINES}
 use Rattle.script.specs.Turns.{State, AreTurns}
 
 -- the state in which nothing is committed
@@ -24,17 +22,7 @@ answers_text answers = flat_map (λ answer. answer_text answer ++ codes "\n") an
 
 -- more lines than a script may have
 abbrev pub HasTooManyLines : List ℕ → Type 0
-HasTooManyLines bytes = 4000000000 < length (lines_of bytes)
-
--- what a report says of the consistency conditions 1, 8, 9, 10 and 12
-abbrev pub verdicts_of : Report → List Verdict
-verdicts_of r =
-    record { condition = 1; broken = option_map Warehouse r.condition_1 }
-    ∷ record { condition = 8; broken = option_map Warehouse r.condition_8 }
-    ∷ record { condition = 9; broken = option_map District r.condition_9 }
-    ∷ record { condition = 10; broken = option_map Customer r.condition_10 }
-    ∷ record { condition = 12; broken = option_map Customer r.condition_12 }
-    ∷ []
+HasTooManyLines bytes = MAX_LINES < length (lines_of bytes)
 
 -- the text of a whole script of these bytes: the answers to its lines, from number 1 on, and then the report on the last tables
 pub record IsWhole (tables : Database) (bytes text : List ℕ) (report : Report) (dones : List Done) : Type 0 where
@@ -43,7 +31,7 @@ pub record IsWhole (tables : Database) (bytes text : List ℕ) (report : Report)
   pub turns : AreTurns (start tables) 1 (lines_of bytes) answers last
   pub report_is : IsReportOf last.tables report
   pub dones_are : dones ≡ last.dones
-  pub text_is : text ≡ answers_text answers ++ report_text (length dones) (verdicts_of report)
+  pub text_is : text ≡ answers_text answers ++ report_text (length dones) report
 
 -- a beginning of that text: of the answers to the first of its lines, or of the whole
 pub data IsBeginning (tables : Database) (bytes front : List ℕ) : Type 0 where

@@ -1,22 +1,27 @@
 //! How a session answers a line.
 
-ghost use Rattle.std.specs.Prelude.{◌≡◌, ℕ, List, Some, IfErr, IfOk, OnErr};
-ghost use Rattle.std.specs.Option.{option_copied, option_map};
-ghost use Rattle.std.specs.FinMap.{get};
+ghost use Rattle.std.specs.Prelude.{◌≡◌, ℕ, List, IfErr, IfOk, OnErr};
+ghost use Rattle.std.specs.Option.{option_copied};
+ghost use Rattle.std.specs.Result.{ForOk};
 ghost use Rattle.money.specs.declared.refusal.Refusal.TheVariants.{OutOfMemory};
 ghost use Rattle.lines.specs.Lines.{held};
 ghost use Rattle.lines.specs.Requests.{HasNumbers};
 ghost use Rattle.lines.specs.declared.answer.Answer.TheVariants as answer;
+ghost use Rattle.lines.specs.declared.request.Request.{Request as RequestValue};
+ghost use Rattle.lines.specs.declared.request.Request.TheVariants as request;
 ghost use Rattle.tables.specs.Database.{database};
-ghost use Rattle.script.specs.Session.{state_of};
-ghost use Rattle.script.specs.Turns.{State, IsPaymentTurn, IsRequestTurn, IsLineTurn, shown, answer_of};
+ghost use Rattle.tables.specs.Inputs.{IsInput};
+ghost use Rattle.tables.specs.WellFormed.{IsWellFormed};
+ghost use Rattle.tables.specs.declared.input.Input.{Input as InputValue};
+ghost use Rattle.script.specs.Answered.{state_of, IsMade, Shows};
+ghost use Rattle.script.specs.Turns.{State, IsInputTurn, IsShowTurn, IsRequestTurn, IsLineTurn, answer_of};
 
-use crate::session::Session;
 use book::Run;
 use lines::{Answer, Request, read_request};
 use money::Refusal;
+use session::Session;
 use std::sync::Wait;
-use tables::{CustomerKey, DistrictKey, Input, Payment, Reply, Tables, Who};
+use tables::{CustomerKey, DistrictKey, Input, PaymentInput, Reply, Tables, Who};
 
 /// Answers the line of a script that has this number, which is its date too. `None` is a line that is too
 /// long. What the line asks is done or refused, and the answer tells which; only want of memory is a
@@ -63,7 +68,7 @@ fn answer_request<K: Run, R: Wait>(
             customer,
             amount,
         } => {
-            let payment = Payment {
+            let payment = PaymentInput {
                 date: number,
                 warehouse,
                 district,
@@ -72,7 +77,8 @@ fn answer_request<K: Run, R: Wait>(
                 who: Who::Id(customer),
                 amount,
             };
-            pay(rt, session, payment)
+            let made = Input::payment(&session.tables().scale, payment);
+            commit(rt, session, made, number)
         }
         Request::ShowWarehouse { warehouse } => {
             let row = show_warehouse(session.tables(), warehouse);
@@ -109,19 +115,20 @@ fn answer_request<K: Run, R: Wait>(
     }
 }
 
-/// Commits a Payment.
-fn pay<K: Run, R: Wait>(
+/// Commits an input, which was made of a request's fields, or refuses the line.
+fn commit<K: Run, R: Wait>(
     rt: &R,
     session: &mut Session<'_, K>,
-    payment: Payment,
+    made: Result<Input, Refusal>,
+    number: u32,
 ) -> Result<Answer, Refusal>
+    requires { ForOk made (λ input. IsInput K.first.scale input) }
     ensures memory { IfErr result (λ refusal. refusal ≡ OutOfMemory) }
-    ensures turn { IfOk result (λ answer.
-        IsPaymentTurn (state_of K.first session.old) payment (record { answer = answer; state = state_of K.first session.new })) }
+    ensures turn { IfOk result (λ answer. (x : InputValue) → IsMade K.first.scale x made
+        → IsInputTurn (state_of K.first session.old) number x (record { answer = answer; state = state_of K.first session.new })) }
     ensures err { OnErr result (session.new ≡ session.old) }
 {
-    let number = payment.date;
-    let input = match Input::payment(&session.tables().scale, payment) {
+    let input = match made {
         Ok(input) => input,
         Err(refusal) => return Ok(refused(refusal, number)),
     };
@@ -141,22 +148,28 @@ fn told(reply: Reply) -> Answer
     }
 }
 
+/// The row of WAREHOUSE, which well-formed tables have exactly where its key is of the scale.
 fn show_warehouse(tables: &Tables, warehouse: u32) -> Option<Answer>
-    ensures { result ≡ option_map (λ row. answer.Warehouse warehouse row) (get (database tables.now).warehouses warehouse) }
+    requires { IsWellFormed (database tables.now) }
+    ensures { Shows (database tables.now) (request.ShowWarehouse warehouse) result }
 {
     let row = *tables.warehouses.get(&warehouse)?;
     Some(Answer::Warehouse { warehouse, row })
 }
 
+/// The row of DISTRICT, which well-formed tables have exactly where its key is of the scale.
 fn show_district(tables: &Tables, key: DistrictKey) -> Option<Answer>
-    ensures { result ≡ option_map (λ row. answer.District key row) (get (database tables.now).districts key) }
+    requires { IsWellFormed (database tables.now) }
+    ensures { Shows (database tables.now) (request.ShowDistrict key.warehouse key.district) result }
 {
     let row = *tables.districts.get(&key)?;
     Some(Answer::District { key, row })
 }
 
+/// The row of CUSTOMER, which well-formed tables have exactly where its key is of the scale.
 fn show_customer(tables: &Tables, key: CustomerKey) -> Option<Answer>
-    ensures { result ≡ option_map (λ row. answer.Customer key row) (get (database tables.now).customers key) }
+    requires { IsWellFormed (database tables.now) }
+    ensures { Shows (database tables.now) (request.ShowCustomer key.warehouse key.district key.customer) result }
 {
     let row = *tables.customers.get(&key)?;
     Some(Answer::Customer { key, row })
@@ -172,7 +185,8 @@ fn refused(refusal: Refusal, number: u32) -> Answer
 }
 
 fn row_or_refused(row: Option<Answer>, number: u32) -> Answer
-    ensures { (s : State) → record { answer = result; state = s } ≡ shown s number row }
+    ensures { (s : State) (show : RequestValue) → Shows s.tables show row
+        → IsShowTurn s number show (record { answer = result; state = s }) }
 {
     row.unwrap_or(refused(Refusal::BadInput, number))
 }

@@ -3,7 +3,6 @@
 
 mod answering;
 mod running;
-mod session;
 #[cfg(test)]
 mod tests;
 mod turns;

@@ -7,18 +7,17 @@ ghost use Rattle.population.specs.Initial.{initial};
 ghost use Rattle.lines.specs.Lines.{held};
 ghost use Rattle.lines.specs.Output.{answer_text};
 ghost use Rattle.book.specs.Parts.{IsFresh, first_of, cells_of, ledger_name, ledger_parts, terminals_of};
-ghost use Rattle.script.specs.Session.{state_of};
 ghost use Rattle.script.specs.Turns.{Turn, IsLineTurn};
-ghost use Rattle.script.specs.Written.{verdicts_of, HasTooManyLines, IsWhole, IsBeginning};
-ghost use Rattle.script.specs.Answered.{standing_of, HasAnswered, HasAnsweredAll, HasTooMany};
+ghost use Rattle.script.specs.Written.{HasTooManyLines, IsWhole, IsBeginning};
+ghost use Rattle.script.specs.Answered.{state_of, standing_of, HasAnswered, HasAnsweredAll, HasTooMany};
 
 use crate::answering::answer_line;
-use crate::session::Session;
 use book::{Done, Engine, Parts, Run, Seat};
-use lines::{Key, LineBuffer, Verdict, print_report};
+use conditions::Report;
+use lines::{LineBuffer, print_report};
 use money::Refusal;
-use plain::Report;
 use population::Population;
+use session::Session;
 use std::alloc::Global;
 use std::io::{ErrorKind, Read, Write};
 use std::marker::Brand;
@@ -28,7 +27,7 @@ use std::sync::Wait;
 const PIECE: usize = 65_536;
 
 /// The most lines that a script may have.
-const MAX_LINES: u32 = 4_000_000_000;
+pub const MAX_LINES: u32 = 4_000_000_000;
 
 /// Answers the lines that a reader gives, in order, and then reports on the committed tables. The date of a
 /// line is its number, from 1. A line in none of the forms, or of more than 1,024 bytes, is answered by
@@ -222,7 +221,7 @@ impl<'e, K: Run> Desk<'e, K> {
         ensures count { OnOk result (self.new.answered ≡ self.old.answered + 1) }
         ensures line { OnOk result (self.new.line ≡ Some []) }
         ensures refusals { IfErr result (λ refusal. (refusal ≡ OutOfMemory)
-            ⊎ ((refusal ≡ BadInput) × (4000000000 ≤ self.old.answered))) }
+            ⊎ ((refusal ≡ BadInput) × (MAX_LINES ≤ self.old.answered))) }
     {
         if self.answered >= MAX_LINES {
             return Err(Refusal::BadInput);
@@ -270,7 +269,7 @@ impl<'e, K: Run> Desk<'e, K> {
             mut output,
         } = self;
         let (report, dones) = session.close()?;
-        print_report(dones.len() as u64, &verdicts(&report), &mut output)?;
+        print_report(dones.len() as u64, &report, &mut output)?;
         write_text(writer, output.as_bytes())?;
         Ok((report, dones))
     }
@@ -324,32 +323,4 @@ fn write_whole<W: Write>(writer: &mut W, text: &[u8]) -> Result<(), Refusal>
         }
     }
     Err(Refusal::Device)
-}
-
-/// The lines of a report, in order.
-fn verdicts(report: &Report) -> [Verdict; 5]
-    ensures { result ≡ verdicts_of report.now }
-{
-    [
-        Verdict {
-            condition: 1,
-            broken: report.condition_1.map(Key::Warehouse),
-        },
-        Verdict {
-            condition: 8,
-            broken: report.condition_8.map(Key::Warehouse),
-        },
-        Verdict {
-            condition: 9,
-            broken: report.condition_9.map(Key::District),
-        },
-        Verdict {
-            condition: 10,
-            broken: report.condition_10.map(Key::Customer),
-        },
-        Verdict {
-            condition: 12,
-            broken: report.condition_12.map(Key::Customer),
-        },
-    ]
 }

@@ -3,7 +3,7 @@
 use crate::script;
 use book::Done;
 use money::{Cents, Refusal};
-use plain::Report;
+use conditions::Report;
 use population::Population;
 use std::alloc::Global;
 use std::io::{self, ErrorKind, Read, Write};

@@ -2,7 +2,7 @@
 ghost use Rattle.std.specs.Prelude.{◌≡◌, ℕ, List};
 ghost use Rattle.tables.specs.Database.{Database};
 ghost use Rattle.lines.specs.declared.answer.Answer.{Answer};
-ghost use Rattle.plain.specs.declared.report.Report.{Report};
+ghost use Rattle.conditions.specs.declared.report.Report.{Report};
 ghost use Rattle.book.specs.declared.entry.Done.{Done};
 ghost use Rattle.script.specs.Turns.{State, AreTurns};
 ghost use Rattle.script.specs.Written.{IsWhole};

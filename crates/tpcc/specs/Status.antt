@@ -3,8 +3,8 @@ use Rattle.std.specs.Prelude.{◌≡◌, ◌++◌, ℕ, List, [], Option, Result
 use Rattle.std.specs.Borrow.{Bor}
 use Rattle.money.specs.declared.refusal.Refusal.{Refusal}
 use Rattle.money.specs.declared.refusal.Refusal.TheVariants.{BadScale}
-use Rattle.plain.specs.Report.{IsGood}
-use Rattle.plain.specs.declared.report.Report.{Report}
+use Rattle.conditions.specs.Report.{IsGood}
+use Rattle.conditions.specs.declared.report.Report.{Report}
 use Rattle.std.specs.Io.KnownBytes.{Appends}
 use Rattle.money.specs.Refusal.{refusal_text}
 

@@ -6,7 +6,7 @@ ghost use Rattle.tpcc.specs.Status.{IsStatusOf, line_of, refusal_line, WritesBeg
 
 use itoa::Buffer;
 use money::Refusal;
-use plain::Report;
+use conditions::Report;
 use script::write_text;
 use std::io::Write;
 

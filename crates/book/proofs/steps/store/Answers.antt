@@ -1,5 +1,5 @@
 use Rattle.std.proofs.Common.{◌∷◌, sym, ◌∙◌, length}
-use Rattle.payment.specs.Reads.{held}
+use Rattle.readset.specs.Reads.{held}
 use Rattle.book.proofs.Stores.{begins, never_none, within, larger, is_held, has, goes_on}
 use Rattle.book.proofs.steps.store.Goals as goal
 

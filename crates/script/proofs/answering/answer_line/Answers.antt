@@ -1,4 +1,4 @@
-use Rattle.script.specs.Session.{state_of}
+use Rattle.script.specs.Answered.{state_of}
 use Rattle.script.proofs.TurnLemmas.{read_turn, unread_turn}
 use Rattle.script.proofs.answering.answer_line.Goals as goal
 

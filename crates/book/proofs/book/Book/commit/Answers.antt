@@ -1,29 +1,28 @@
-use Rattle.std.proofs.Common.{◌≡◌, ◌+◌, ◌<◌, ◌≤◌, List, [], ◌∷◌, ◌++◌, inl, inr, refl, sym, ap, ◌∙◌, subst, length, arith, rules, length-append}
+use Rattle.std.proofs.Common.{◌≡◌, ℕ, ◌+◌, ◌<◌, ◌≤◌, ◌⊎◌, List, [], ◌∷◌, ◌++◌, inr, refl, sym, ap, ◌∙◌, subst, length, arith, rules, length-append}
+use Rattle.money.specs.declared.refusal.Refusal.TheVariants.{OutOfMemory, CommitsFull}
 use Rattle.tables.specs.Sizes.{Sizes}
 use Rattle.tables.specs.Database.{Database, database}
 use Rattle.cells.specs.Records.{PenView, at}
 use Rattle.cells.proofs.Grown.{grown_twice}
 use Rattle.book.specs.Book.{BookView, AreLatest, IsSound, IsReadBy, Commits, HasSeen, entry_of}
-use Rattle.book.specs.History.{commit_tid, new_versions}
+use Rattle.book.specs.Ready.{IsReady}
+use Rattle.book.specs.History.{replay, commit_tid, IsDone, new_versions}
 use Rattle.book.specs.Share.{ShareView}
-use Rattle.book.proofs.Sound.{sound_after}
+use Rattle.book.proofs.Sound.{next_sound, done_there}
 use Rattle.book.proofs.Committed.{read_by_more}
 use Rattle.book.specs.declared.entry.Entry.{Entry}
 use Rattle.book.proofs.book.Book.commit.Goals as goal
 
-pub returns-then-commits-clause-answer : goal.returns-then-commits-clause-answer
-returns-then-commits-clause-answer g c =
+pub returns-in-Err-clause-answer : goal.returns-in-Err-clause-answer
+returns-in-Err-clause-answer g c =
     let view = c.self.view_is in
-    let sound = c.self.invariant.0 in
-    let full : c.commits.result ≤ c.len-commits.result = c.if-commits.true in
-    let cap = ap (λ (s : Sizes). s.commits) sound.of_population.scale in
-    let history : List Entry = c.self.inside.history.items in
-    let len : c.len-commits.result ≡ length c.self.inside.history.items = search rules in (
-      (λ i. record { written = c.validate.ensures.pen i; history = c.self.inside.history.items }) ∙ view,
+    let cap = ap (λ (s : Sizes). s.commits) c.self.invariant.1.of_population.scale in (
+      (λ i. record { written = c.validate.ensures.pen i; history = c.prepare.ensures.history i }) ∙ view,
       refl,
       inr (
         subst (λ (k : BookView). AreLatest k.written.all c.args.work.reads) view c.if-not-validate.ensures.latest,
-        inl (refl, subst (λ (k : BookView). g.K.Run.first.scale.commits ≤ length k.history) view (omega (arith, full, cap, len, c.commits.ensures.value))),
+        subst (λ (q : ℕ × BookView). ((c.in-Err.refusal ≡ CommitsFull) × (q.0 ≤ length q.1.history)) ⊎ ((c.in-Err.refusal ≡ OutOfMemory) × (length q.1.history < q.0)))
+            (λ i. (cap i, view i)) c.in-Err.ensures.refused,
       ),
     )
 
@@ -35,89 +34,54 @@ store-requires-clause-read g c =
 pub returns-clause-reader : goal.returns-clause-reader
 returns-clause-reader g c = grown_twice c.args.reader.now c.validate.new.reader c.store.new.reader c.validate.ensures.reader c.store.ensures.reader
 
-pub returns-in_default-clause-answer : goal.returns-in_default-clause-answer
-returns-in_default-clause-answer g c =
-    let view = c.self.view_is in
-    let sound = c.self.invariant.0 in
-    let cap = ap (λ (s : Sizes). s.commits) sound.of_population.scale in
-    let len : c.len-commits.result ≡ length c.self.inside.history.items = search rules in (
-      (λ i. record { written = c.validate.ensures.pen i; history = c.reserve.ensures.items i }) ∙ view,
-      refl,
-      inr (
-        subst (λ (k : BookView). AreLatest k.written.all c.args.work.reads) view c.if-not-validate.ensures.latest,
-        inr (refl, subst (λ (k : BookView). length k.history < g.K.Run.first.scale.commits) view (omega (arith, c.if-commits.false, cap, len, c.commits.ensures.value))),
-      ),
-    )
-
-pub returns-in_default-list-clause-answer : goal.returns-in_default-list-clause-answer
-returns-in_default-list-clause-answer g c =
-    let view = c.self.view_is in
-    let sound = c.self.invariant.0 in
-    let cap = ap (λ (s : Sizes). s.commits) sound.of_population.scale in
-    let len : c.len-commits.result ≡ length c.self.inside.history.items = search rules in (
-      (λ i. record { written = c.validate.ensures.pen i; history = c.reserve.ensures.items i }) ∙ view,
-      refl,
-      inr (
-        subst (λ (k : BookView). AreLatest k.written.all c.args.work.reads) view c.if-not-validate.ensures.latest,
-        inr (refl, subst (λ (k : BookView). length k.history < g.K.Run.first.scale.commits) view (omega (arith, c.if-commits.false, cap, len, c.commits.ensures.value))),
-      ),
-    )
-
-pub returns-in_default-apply-clause-answer : goal.returns-in_default-apply-clause-answer
-returns-in_default-apply-clause-answer g c =
-    let view = c.self.view_is in
-    let sound = c.self.invariant.0 in
-    let cap = ap (λ (s : Sizes). s.commits) sound.of_population.scale in
-    let len : c.len-commits.result ≡ length c.self.inside.history.items = search rules in (
-      (λ i. record { written = c.validate.ensures.pen i; history = c.reserve.ensures.items i }) ∙ view,
-      refl,
-      inr (
-        subst (λ (k : BookView). AreLatest k.written.all c.args.work.reads) view c.if-not-validate.ensures.latest,
-        inr (refl, subst (λ (k : BookView). length k.history < g.K.Run.first.scale.commits) view (omega (arith, c.if-commits.false, cap, len, c.commits.ensures.value))),
-      ),
-    )
-
 pub invariant_of-self-2 : goal.invariant_of-self-2
 invariant_of-self-2 g c =
     let sound = c.self.invariant.0 in
     let items : List Entry = c.self.inside.history.items in
-    let cap = ap (λ (s : Sizes). s.commits) sound.of_population.scale in
-    let len : c.len-commits.result ≡ length c.self.inside.history.items = search rules in
-    let small : length c.self.inside.history.items < g.K.Run.first.scale.commits = omega (arith, c.if-commits.false, cap, len, c.commits.ensures.value) in
-    let next : c.len-commits.result + 1 ≡ length c.self.inside.history.items + 1 = ap (λ n. n + 1) len in
+    let cap = ap (λ (s : Sizes). s.commits) c.self.invariant.1.of_population.scale in
+    let len : c.len.result ≡ length c.prepare.new.history.items = search rules in
+    let small : length c.self.inside.history.items < g.K.Run.first.scale.commits = omega (arith, c.in-Ok.ensures.below, cap) in
+    let next : c.len.result + 1 ≡ length c.self.inside.history.items + 1 = ap (λ n. n + 1) (len ∙ ap length c.prepare.ensures.history) in
     let cells : c.store.new.pen.cells ≡ c.self.inside.pen.cells = c.store.ensures.cells ∙ ap (λ (w : PenView). w.cells) c.validate.ensures.pen in
-    let made = sound_after g.K.Run.first g.K.Run.cells (record { written = c.self.inside.pen; history = c.self.inside.history.items }) (database c.self.inside.tables) sound
+    let made = next_sound g.K.Run.first g.K.Run.cells (record { written = c.self.inside.pen; history = c.self.inside.history.items }) (database c.self.inside.tables) sound c.self.invariant.1
     c.args.reader.now c.args.work c.requires.work c.if-not-validate.ensures.latest c.share.inside.terminal c.store.new.pen small cells
     (λ n. c.store.ensures.versions n ∙ (λ i. at (c.validate.ensures.pen i).all n ++ new_versions (next i) c.args.work.writes.values n)) in
     let history : c.push_reserved.new.self.items ≡ c.self.inside.history.items ++ entry_of (length c.self.inside.history.items + 1) c.share.inside.terminal c.args.work ∷ [] =
-    c.push_reserved.ensures.items ∙ (λ i. c.reserve.ensures.items i ++ record { number = next i; tid = (c.tid_for.ensures ∙ ap commit_tid next) i; terminal = c.share.inside.terminal; input = c.args.work.input; reply = c.args.work.reply; writes = c.in-Ok-list.ensures.same i } ∷ []) in (
-      subst (λ (q : List Entry × Database). IsSound g.K.Run.first g.K.Run.cells (record { written = c.store.new.pen; history = q.0 }) q.1) (λ i. (sym history i, sym c.in-Ok-apply.ensures.tables i)) made,
-      c.add.ensures.total ∙ ap (λ n. n + 1) c.self.invariant.1 ∙ sym (ap length history ∙ length-append c.self.inside.history.items (entry_of (length c.self.inside.history.items + 1) c.share.inside.terminal c.args.work ∷ [])),
+    c.push_reserved.ensures.items ∙ (λ i. c.prepare.ensures.history i ++ record { number = next i; tid = (c.tid_for-tid.ensures ∙ ap commit_tid next) i; terminal = c.share.inside.terminal; input = c.args.work.input; reply = c.args.work.reply; writes = c.in-Ok.ensures.writes i } ∷ []) in
+    let tables = c.in-Ok.ensures.tables in (
+      subst (λ (q : List Entry × Database). IsSound g.K.Run.first g.K.Run.cells (record { written = c.store.new.pen; history = q.0 }) q.1) (λ i. (sym history i, sym tables i)) made.0,
+      subst (λ (q : List Entry × Database). IsReady g.K.Run.first g.K.Run.cells (record { written = c.store.new.pen; history = q.0 }) q.1) (λ i. (sym history i, sym tables i)) made.1,
+      c.add.ensures.total ∙ ap (λ n. n + 1) c.self.invariant.2 ∙ sym (ap length history ∙ length-append c.self.inside.history.items (entry_of (length c.self.inside.history.items + 1) c.share.inside.terminal c.args.work ∷ [])),
     )
 
 pub returns-clause-answer : goal.returns-clause-answer
 returns-clause-answer g c =
     let sound = c.self.invariant.0 in
-    let cap = ap (λ (s : Sizes). s.commits) sound.of_population.scale in
-    let len : c.len-commits.result ≡ length c.self.inside.history.items = search rules in
-    let small : length c.self.inside.history.items < g.K.Run.first.scale.commits = omega (arith, c.if-commits.false, cap, len, c.commits.ensures.value) in
-    let next : c.len-commits.result + 1 ≡ length c.self.inside.history.items + 1 = ap (λ n. n + 1) len in
-    let tid = c.tid_for.ensures ∙ ap commit_tid next in
+    let cap = ap (λ (s : Sizes). s.commits) c.self.invariant.1.of_population.scale in
+    let len : c.len.result ≡ length c.prepare.new.history.items = search rules in
+    let small : length c.self.inside.history.items < g.K.Run.first.scale.commits = omega (arith, c.in-Ok.ensures.below, cap) in
+    let next : c.len.result + 1 ≡ length c.self.inside.history.items + 1 = ap (λ n. n + 1) (len ∙ ap length c.prepare.ensures.history) in
+    let cells : c.store.new.pen.cells ≡ c.self.inside.pen.cells = c.store.ensures.cells ∙ ap (λ (w : PenView). w.cells) c.validate.ensures.pen in
+    let stores : (n : ℕ) → at c.store.new.pen.all n ≡ at c.self.inside.pen.all n ++ new_versions (length c.self.inside.history.items + 1) c.args.work.writes.values n = λ n. c.store.ensures.versions n ∙ (λ i. at (c.validate.ensures.pen i).all n ++ new_versions (next i) c.args.work.writes.values n) in
+    let tid = c.tid_for-tid.ensures ∙ ap commit_tid next in
     let history : c.push_reserved.new.self.items ≡ c.self.inside.history.items ++ entry_of (length c.self.inside.history.items + 1) c.share.inside.terminal c.args.work ∷ [] =
-    c.push_reserved.ensures.items ∙ (λ i. c.reserve.ensures.items i ++ record { number = next i; tid = tid i; terminal = c.share.inside.terminal; input = c.args.work.input; reply = c.args.work.reply; writes = c.in-Ok-list.ensures.same i } ∷ []) in
+    c.push_reserved.ensures.items ∙ (λ i. c.prepare.ensures.history i ++ record { number = next i; tid = tid i; terminal = c.share.inside.terminal; input = c.args.work.input; reply = c.args.work.reply; writes = c.in-Ok.ensures.writes i } ∷ []) in
     subst (λ (q : BookView × ShareView). AreLatest q.0.written.all c.args.work.reads × (length q.0.history < g.K.Run.first.scale.commits)
     × Commits q.0 (record { written = c.store.new.pen; history = c.push_reserved.new.self.items }) (entry_of (length q.0.history + 1) q.1.terminal c.args.work)
     × (c.of.result ≡ record { number = length q.0.history + 1; tid = commit_tid (length q.0.history + 1); reply = c.args.work.reply })
     × (◌≡◌ {A = ShareView} (record { terminal = c.share.inside.terminal; parts = c.add.new.share.parts; commits = c.add.new.share.amount }) (record { terminal = q.1.terminal; parts = q.1.parts; commits = q.1.commits + 1 }))
-    × HasSeen c.store.new.reader c.store.new.pen c.args.work.writes) (λ i. (c.self.view_is i, c.share.view_is i)) (
+    × HasSeen c.store.new.reader c.store.new.pen c.args.work.writes
+    × IsDone (replay g.K.Run.first q.0.history) (entry_of (length q.0.history + 1) q.1.terminal c.args.work)) (λ i. (c.self.view_is i, c.share.view_is i)) (
       c.if-not-validate.ensures.latest,
       small,
       record {
         history = history;
-        cells = c.store.ensures.cells ∙ ap (λ (w : PenView). w.cells) c.validate.ensures.pen;
-        versions = λ n _. c.store.ensures.versions n ∙ (λ i. at (c.validate.ensures.pen i).all n ++ new_versions (next i) c.args.work.writes.values n);
+        cells = cells;
+        versions = λ n _. stores n;
       },
       c.of.ensures ∙ (λ i. record { number = next i; tid = tid i; reply = c.args.work.reply }),
       (λ i. record { terminal = c.share.inside.terminal; parts = c.add.ensures.parts i; commits = c.add.ensures.amount i }),
       c.store.ensures.seen,
+      done_there g.K.Run.first g.K.Run.cells (record { written = c.self.inside.pen; history = c.self.inside.history.items }) (database c.self.inside.tables) sound c.self.invariant.1
+          c.args.reader.now c.args.work c.requires.work c.if-not-validate.ensures.latest c.share.inside.terminal c.store.new.pen small cells stores,
     )

@@ -1,4 +1,4 @@
-use Rattle.script.specs.Session.{state_of}
+use Rattle.script.specs.Answered.{state_of}
 use Rattle.std.proofs.Common.{◌∙◌, refl}
 use Rattle.script.proofs.running.Desk.answer_held.Goals as goal
 

@@ -1,5 +1,5 @@
 use Rattle.std.proofs.Common.{◌≡◌}
-use Rattle.script.proofs.session.persist.Given as goal
+use Rattle.session.proofs.session.persist.Given as goal
 
 -- nothing has committed, and the reader is of these cells
 abbrev pub invariant-loop : goal.invariant-loop

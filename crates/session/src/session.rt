@@ -1,17 +1,21 @@
-//! The one terminal of an engine.
+//! A terminal that has the book to itself.
 
-ghost use Rattle.std.specs.Prelude.{◌≡◌, ◌⊎◌, ◌≤◌, [], length, IfOk, IfErr, OnErr, IsErrOf};
+ghost use Rattle.std.specs.Prelude.{◌≡◌, ◌⊎◌, ◌≤◌, [], ◌∷◌, ◌++◌, length, IfOk, IfErr, OnErr, IsErrOf};
 ghost use Rattle.tables.specs.Database.{database};
 ghost use Rattle.tables.specs.Inputs.{IsInput};
-ghost use Rattle.plain.specs.Check.{IsReportOf};
+ghost use Rattle.tables.specs.WellFormed.{IsWellFormed};
+ghost use Rattle.conditions.specs.Check.{IsReportOf};
 ghost use Rattle.book.specs.History.{replay};
-ghost use Rattle.script.specs.Session.{state_of, IsCommitOf, IsNext};
-ghost use Rattle.money.specs.declared.refusal.Refusal.TheVariants.{OutOfMemory, CommitsFull, Conflict, Stale};
+ghost use Rattle.std.specs.Option.{ForSome};
+ghost use Rattle.book.specs.Book.{IsWorkOf};
+ghost use Rattle.session.specs.Session.{IsNext};
+ghost use Rattle.money.specs.declared.refusal.Refusal.TheVariants.{OutOfMemory, CommitsFull};
 
+use crate::attempt::{attempt, commit_work};
 use book::{Book, Done, Engine, Run, Seat};
+use conditions::Report;
 use money::Refusal;
-use payment::execute;
-use plain::Report;
+use readset::Work;
 use std::alloc::Global;
 use std::marker::Model;
 use std::sync::{MutexGuard, Wait};
@@ -30,7 +34,7 @@ pub struct Session<'e, K: Run> {
 
 impl<'e, K: Run> Model for Session<'e, K> {
     ghost use Rattle.std.specs.Prelude.{◌≡◌, length};
-    ghost use Rattle.script.specs.Session.{SessionView};
+    ghost use Rattle.session.specs.Session.{SessionView};
 
     ghost Value = { SessionView };
 
@@ -64,9 +68,11 @@ impl<'e, K: Run> Session<'e, K> {
         }
     }
 
-    /// The committed tables.
+    /// The committed tables, which are well-formed.
     pub fn tables(&self) -> &Tables
-        ensures { database result.now ≡ replay K.first self.now.history }
+        ensures tables { database result.now ≡ replay K.first self.now.history }
+        ensures scale { (database result.now).scale ≡ K.first.scale }
+        ensures well_formed { IsWellFormed (database result.now) }
     {
         self.book.committed()
     }
@@ -74,15 +80,17 @@ impl<'e, K: Run> Session<'e, K> {
     /// Commits a transaction, and tries again for as long as what it read isn't the latest. A refusal leaves all
     /// as it was: `CommitsFull` comes only at the commit cap, and else only `OutOfMemory`.
     pub fn commit<R: Wait>(&mut self, rt: &R, input: &Input) -> Result<Done, Refusal>
-        requires { IsInput (replay K.first self.old.history).scale input.now }
-        ensures next { IfOk result (λ done. IsNext (state_of K.first self.old) input.now done (state_of K.first self.new)) }
+        requires { IsInput K.first.scale input.now }
+        ensures next { IfOk result (IsNext K.first self.old.history self.new.history input.now) }
+        ensures told { IfOk result (λ done. self.new.dones ≡ self.old.dones ++ done ∷ []) }
+        ensures count { length self.new.dones ≡ length self.new.history }
         ensures refusals { IfErr result (λ refusal. (refusal ≡ CommitsFull) ⊎ (refusal ≡ OutOfMemory)) }
-        ensures full { IsErrOf result CommitsFull → (replay K.first self.old.history).scale.commits ≤ length self.old.dones }
+        ensures full { IsErrOf result CommitsFull → K.first.scale.commits ≤ length self.old.history }
         ensures err { OnErr result (self.new ≡ self.old) }
     {
         self.dones.reserve(1)?;
         let (alloc, engine) = (self.alloc, self.engine);
-        let done = &persist(rt, alloc, engine, &mut self.book, &mut self.seat, input)?;
+        let done = &persist(rt, alloc, engine, &mut self.book, &mut self.seat, input, None)?;
         self.dones.push_reserved(*done);
         Ok(*done)
     }
@@ -105,24 +113,33 @@ impl<'e, K: Run> Session<'e, K> {
     }
 }
 
-/// Executes a transaction and commits it, again and again for as long as what it read isn't the latest. A refusal
-/// leaves the history as it was.
-fn persist<K: Run, R: Wait>(
+/// Executes a transaction and commits it, again and again for as long as what it read isn't the latest. It begins with
+/// what was executed before, if anything was. A refusal leaves the history as it was.
+pub(crate) fn persist<K: Run, R: Wait>(
     rt: &R,
     alloc: Global,
     engine: &Engine<K>,
     book: &mut Book<K>,
     seat: &mut Seat<K>,
     input: &Input,
+    executed: Option<Work>,
 ) -> Result<Done, Refusal>
-    requires input { IsInput (replay K.first book.old.history).scale input.now }
+    requires input { IsInput K.first.scale input.now }
     requires reader { seat.old.reader.cells ≡ K.cells }
+    requires executed { ForSome executed (λ work.
+        IsWorkOf K.first (length K.cells) seat.old.reader work × (work.input ≡ input.now)) }
     ensures reader { seat.new.reader.cells ≡ K.cells }
-    ensures commits { IfOk result (IsCommitOf K.first book.old.history book.new.history input.now) }
+    ensures commits { IfOk result (IsNext K.first book.old.history book.new.history input.now) }
     ensures refusals { IfErr result (λ refusal. (refusal ≡ CommitsFull) ⊎ (refusal ≡ OutOfMemory)) }
-    ensures full { IsErrOf result CommitsFull → (replay K.first book.old.history).scale.commits ≤ length book.old.history }
+    ensures full { IsErrOf result CommitsFull → K.first.scale.commits ≤ length book.old.history }
     ensures err { OnErr result (book.new ≡ book.old) }
 {
+    if let Some(work) = executed {
+        match commit_work(rt, engine, book, seat, work) {
+            Err(Refusal::Conflict) => {}
+            outcome => return outcome,
+        }
+    }
     for _ in rt.forever() {
         match attempt(rt, alloc, engine, book, seat, input) {
             Err(Refusal::Stale | Refusal::Conflict) => continue,
@@ -130,31 +147,4 @@ fn persist<K: Run, R: Wait>(
         }
     }
     unreachable!()
-}
-
-/// Executes a transaction and commits it, if what it read is still the latest. A refusal leaves the history as it was.
-fn attempt<K: Run, R: Wait>(
-    rt: &R,
-    alloc: Global,
-    engine: &Engine<K>,
-    book: &mut Book<K>,
-    seat: &mut Seat<K>,
-    input: &Input,
-) -> Result<Done, Refusal>
-    requires input { IsInput (replay K.first book.old.history).scale input.now }
-    requires reader { seat.old.reader.cells ≡ K.cells }
-    ensures reader { seat.new.reader.cells ≡ K.cells }
-    ensures commits { IfOk result (IsCommitOf K.first book.old.history book.new.history input.now) }
-    ensures refusals { IfErr result (λ refusal. (refusal ≡ Stale) ⊎ (refusal ≡ Conflict) ⊎ (refusal ≡ CommitsFull) ⊎ (refusal ≡ OutOfMemory)) }
-    ensures full { IsErrOf result CommitsFull → (replay K.first book.old.history).scale.commits ≤ length book.old.history }
-    ensures err { OnErr result (book.new ≡ book.old) }
-{
-    let cells = engine.cells();
-    let population = engine.population();
-    // The book is sound, now and once this has committed: a call of it says so.
-    let _ = book.history();
-    let work = execute(rt, alloc, cells, &mut seat.reader, population, input)?;
-    let done = book.commit(rt, cells, &mut seat.reader, &mut seat.share, work)?;
-    let _ = book.history();
-    Ok(done)
 }

@@ -1,0 +1,42 @@
+-- What a run of the program comes to: from its words and its input to its output, its errors and its exit status.
+use Rattle.std.specs.Prelude.{◌≡◌, ◌⊎◌, ℕ, List, [], Option, Err}
+use Rattle.std.specs.Io.KnownBytes.{Appends}
+use Rattle.clap.specs.declared.error.Error.{Error}
+use Rattle.money.specs.declared.refusal.Refusal.{Refusal}
+use Rattle.money.specs.declared.refusal.Refusal.TheVariants.{OutOfMemory, BadInput, Device, BadScale}
+use Rattle.tables.specs.Sizes.{Sizes, IsLawful, sizes}
+use Rattle.tables.specs.Database.{Database}
+use Rattle.population.specs.Plain.{IsPlain}
+use Rattle.conditions.specs.Report.{IsGood}
+use Rattle.conditions.specs.declared.report.Report.{Report}
+use Rattle.book.specs.declared.entry.Done.{Done}
+use Rattle.script.specs.Written.{IsWhole, IsBeginning}
+use Rattle.command_line.specs.CommandLine.{IsAskedBy, IsRefusalOf}
+use Rattle.command_line.specs.declared.asked.Options.{Options}
+use Rattle.tpcc.specs.Status.{IsStatusOf, refusal_line, WritesBeginning}
+
+-- the scale that options ask for
+abbrev pub scale_of : Options → Sizes
+scale_of o = sizes o.warehouses o.districts o.customers o.items o.orders o.commits
+
+-- the script of these bytes was answered to its end, over the plain population of the scale that was asked for, and this is its report
+pub record IsWholeRun (o : Options) (bytes : List ℕ) (old new : Option (List ℕ)) (report : Report) : Type 0 where
+  pub lawful : IsLawful (scale_of o)
+  pub tables : Database
+  pub plain : IsPlain (scale_of o) tables
+  pub text : List ℕ
+  pub dones : List Done
+  pub wrote : Appends old new text
+  pub whole : IsWhole tables bytes text report dones
+
+-- it was refused: for its scale; for want of memory before the first line; or later, when a beginning of its text was written
+pub data IsRefusedRun (o : Options) (bytes : List ℕ) (old new : Option (List ℕ)) (refusal : Refusal) : Type 0 where
+  scale : ¬ IsLawful (scale_of o) → refusal ≡ BadScale → Appends old new [] → IsRefusedRun o bytes old new refusal
+  memory : refusal ≡ OutOfMemory → Appends old new [] → IsRefusedRun o bytes old new refusal
+  begun : IsLawful (scale_of o) → (tables : Database) (front : List ℕ) → IsPlain (scale_of o) tables → (refusal ≡ OutOfMemory) ⊎ (refusal ≡ BadInput) ⊎ (refusal ≡ Device) → Appends old new front → IsBeginning tables bytes front → IsRefusedRun o bytes old new refusal
+
+-- a run of the program: its words' fault, or the help that they ask for, goes to the errors alone; a script's text goes to the output, and a refusal's line to the errors
+pub data IsRun (words : List (List ℕ)) (bytes : List ℕ) (output written errors told : Option (List ℕ)) (status : ℕ) : Type 0 where
+  fault : (error : Error) (text : List ℕ) → IsRefusalOf words error → Appends output written [] → Appends errors told text → status ≡ 2 → IsRun words bytes output written errors told status
+  answered : (o : Options) (report : Report) → IsAskedBy words o → IsWholeRun o bytes output written report → Appends errors told [] → (IsGood report → status ≡ 0) → ((IsGood report → ⊥) → status ≡ 1) → IsRun words bytes output written errors told status
+  refused : (o : Options) (refusal : Refusal) → IsAskedBy words o → IsRefusedRun o bytes output written refusal → WritesBeginning (refusal_line refusal) errors told → IsStatusOf (Err refusal) status → IsRun words bytes output written errors told status

@@ -1,0 +1,81 @@
+//! What the program does, from its words and its input to its output, its errors and its exit status.
+ghost use Rattle.std.specs.Prelude.{◌≡◌, ℕ, List, Some, [], IfOk, IfErr, map, string_bytes};
+ghost use Rattle.std.specs.Io.KnownBytes.{Appends};
+ghost use Rattle.tpcc.specs.Run.{IsRun, IsWholeRun, IsRefusedRun};
+
+use crate::finish::{USAGE_FAULT, finish};
+use command_line::{Options, Subcommand, options};
+use clap::Error;
+use conditions::Report;
+use money::Refusal;
+use population::Population;
+use script::{script, write_text};
+use std::alloc::Global;
+use std::io::{Read, Write};
+use std::sync::Wait;
+
+/// Does what the words of a command line ask for, the first of which is the program's own name, from `input` to
+/// `output`, and answers the exit status. A fault of the words, or the help that they ask for, goes to `errors`, and
+/// so does a refusal's line. May wait, as `script` does.
+pub fn run<T: Wait, R: Read, O: Write, E: Write>(
+    rt: &T,
+    alloc: Global,
+    words: &[String],
+    input: &mut R,
+    output: &mut O,
+    errors: &mut E,
+) -> u8
+    ensures { (bytes : List ℕ) → R.remaining input.old ≡ Some bytes
+        → IsRun (map string_bytes words.now) bytes (O.contents output.old) (O.contents output.new)
+        (E.contents errors.old) (E.contents errors.new) result }
+{
+    let asked = match options(alloc, words) {
+        Ok(asked) => asked,
+        Err(error) => {
+            tell_fault(alloc, &error, errors);
+            return USAGE_FAULT;
+        }
+    };
+    match answer(rt, alloc, &asked, input, output) {
+        Ok(report) => finish(Ok(&report), errors),
+        Err(refusal) => finish(Err(refusal), errors),
+    }
+}
+
+/// Does what options ask for, from input to output.
+fn answer<T: Wait, R: Read, W: Write>(
+    rt: &T,
+    alloc: Global,
+    options: &Options,
+    input: &mut R,
+    output: &mut W,
+) -> Result<Report, Refusal>
+    ensures whole { IfOk result (λ report. (bytes : List ℕ) → R.remaining input.old ≡ Some bytes
+        → IsWholeRun options.now bytes (W.contents output.old) (W.contents output.new) report) }
+    ensures refused { IfErr result (λ refusal. (bytes : List ℕ) → R.remaining input.old ≡ Some bytes
+        → IsRefusedRun options.now bytes (W.contents output.old) (W.contents output.new) refusal) }
+{
+    let scale = match options.scale() {
+        Ok(scale) => scale,
+        Err(refusal) => return Err(refusal),
+    };
+    let population = match Population::plain(alloc, scale) {
+        Ok(population) => population,
+        Err(refusal) => return Err(refusal),
+    };
+    match options.subcommand {
+        Subcommand::Script => match script(rt, alloc, population, input, output) {
+            Ok((report, _)) => Ok(report),
+            Err(refusal) => Err(refusal),
+        },
+    }
+}
+
+/// Writes the text of a command line's fault, or of help. What can't be written is left aside.
+fn tell_fault<E: Write>(alloc: Global, error: &Error, errors: &mut E)
+    ensures { (text : List ℕ) × Appends (E.contents errors.old) (E.contents errors.new) text }
+{
+    if let Ok(text) = format!(in alloc; "{error}") {
+        let _ = write_text(errors, text.as_bytes());
+    }
+}
