@@ -1,0 +1,3 @@
+pub mod SumSteps
+pub mod Added
+pub mod Good
