@@ -1,3 +1,2 @@
 pub mod SumSteps
 pub mod Added
-pub mod Good

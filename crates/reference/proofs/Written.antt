@@ -27,3 +27,7 @@ module _ {K X : Type 0} {R : K → K → Ordering} (o : IsExact R) where
   -- a column of the row that was written
   pub column-written : (f : X → ℤ) (m n : BTreeMap K X) (k : K) (s : X) → tree.Updates R m n k (Some s) → column f (from_entries {R = R} n.entries) k ≡ f s
   column-written f m n k s h = ap (λ (w : Option X). option_map_or f w (pos 0)) (get-view o n k ∙ h.1)
+
+  -- a fact of a row that was put
+  pub fact_of_put : (P : X → Type 0) (m n : BTreeMap K X) (k : K) (r : X) → tree.Updates R m n k (Some r) → P r → IsSomeAnd (get (from_entries {R = R} n.entries) k) P
+  fact_of_put P m n k r h fact = subst (λ (w : Option X). IsSomeAnd w P) (sym (get-view o n k ∙ h.1)) fact

@@ -4,11 +4,11 @@ ghost use Rattle.std.specs.Prelude.{◌≡◌, ◌≤ℤ◌, ◌==◌, pos, Some
 ghost use Rattle.std.specs.FinMap.{from_entries, get};
 ghost use Rattle.std.specs.Ordering.{nat_cmp};
 ghost use Rattle.tables.specs.Database.{database};
-ghost use Rattle.tables.specs.Payment.{IsPayment, raised_warehouse, raised_district, charged_customer, after_payment, payment_reply};
+ghost use Rattle.tables.specs.Payment.{payer, raised_warehouse, raised_district, charged_customer, after_payment, payment_reply};
 ghost use Rattle.tables.specs.declared.limits.TheConstants.{MAX_PAYMENT};
 ghost use Rattle.tables.specs.Keys.{district_cmp, customer_cmp, is_district, is_customer};
 ghost use Rattle.tables.specs.Maps.{update_where, column};
-ghost use Rattle.tables.specs.WellFormed.{IsWellFormed, IsMoney, IsCustomerRow};
+ghost use Rattle.tables.specs.WellFormed.{IsMoney, IsCustomerRow};
 ghost use Rattle.money.specs.declared.refusal.Refusal.TheVariants.{OutOfMemory};
 
 use money::{Cents, Refusal};
@@ -23,8 +23,11 @@ pub(crate) fn apply_payment(
     tables: &mut Tables,
     payment: &PaymentInput,
 ) -> Result<PaymentReply, Refusal>
-    requires input { IsPayment tables.old.scale payment.now }
-    requires well_formed { IsWellFormed (database tables.old) }
+    requires warehouse { IsSomeAnd (get (database tables.old).warehouses payment.now.warehouse) (λ r. IsMoney r.year_to_date) }
+    requires district { IsSomeAnd (get (database tables.old).districts (record { warehouse = payment.now.warehouse; district = payment.now.district })) (λ r. IsMoney r.year_to_date) }
+    requires customer { IsSomeAnd (get (database tables.old).customers (payer payment.now)) IsCustomerRow }
+    requires low { pos 0 ≤ℤ payment.now.amount }
+    requires high { payment.now.amount ≤ℤ MAX_PAYMENT }
     ensures tables { OnOk result (database tables.new ≡ after_payment (database tables.old) payment.now) }
     ensures reply { IfOk result (λ reply. reply ≡ payment_reply (database tables.old) payment.now) }
     ensures err { IfErr result (λ refusal. (refusal ≡ OutOfMemory) × (database tables.new ≡ database tables.old)) }
