@@ -15,7 +15,7 @@ ghost use Rattle.conditions.specs.Steps.{AreSumsOf, FindsDistrictOf, FindsCustom
 
 use crate::report::Report;
 use crate::sums::{
-    CustomerSums, amount_of, customer_sums, difference, paid_at_district_total, district_total,
+    CustomerSums, amount_of, customer_sums, difference, district_total, paid_at_district_total,
     paid_at_warehouse_total,
 };
 use money::{Cents, Refusal};

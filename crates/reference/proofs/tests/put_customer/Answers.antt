@@ -5,4 +5,4 @@ use Rattle.reference.proofs.Written.{fact_of_put}
 use Rattle.reference.proofs.tests.put_customer.Goals as goal
 
 pub returns : goal.returns
-returns c = fact_of_put exact_customer IsCustomerRow _ _ _ _ c.in_ok-insert.ensures.updates (search rules)
+returns c = fact_of_put exact_customer IsCustomerRow c.args.rows.now c.insert.new.self _ _ c.in_ok-insert.ensures.updates (search rules)

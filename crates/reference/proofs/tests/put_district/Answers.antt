@@ -6,4 +6,4 @@ use Rattle.reference.proofs.Written.{fact_of_put}
 use Rattle.reference.proofs.tests.put_district.Goals as goal
 
 pub returns : goal.returns
-returns c = fact_of_put exact_district (λ (r : District). IsMoney r.year_to_date) _ _ _ _ c.in_ok-insert.ensures.updates (search rules)
+returns c = fact_of_put exact_district (λ (r : District). IsMoney r.year_to_date) c.args.rows.now c.insert.new.self _ _ c.in_ok-insert.ensures.updates (search rules)
