@@ -1,4 +1,3 @@
 pub mod Updates
-pub mod Totals
 pub mod PaymentKeeps
 pub mod Kept

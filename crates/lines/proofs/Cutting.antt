@@ -5,6 +5,7 @@ use Rattle.std.proofs.lemmas.Bool.{false_from_ne_true}
 use Rattle.std.proofs.lemmas.Bool.Decides.{Decides-eqb, nat_tests}
 use Rattle.std.proofs.lemmas.List.Elements.{All-nil, All-append}
 use Rattle.std.proofs.lemmas.List.Splits.{slice_split_at, slice_split_none, length-slice_split}
+use Rattle.lines.specs.declared.line_buffer.TheConstants.{MAX_LINE}
 use Rattle.lines.specs.Lines.{HasNoLineFeed, IsCut, held, held_after, last_line, lines_of, without_empty_last}
 
 no_feed_test : (bytes : List ℕ) → HasNoLineFeed bytes → All (λ b. eqb b 10 ≡ false) bytes
@@ -66,13 +67,13 @@ cut_more text lines rest more cut h = record {
   last = All-append (λ b. b ≢ 10) rest more cut.last h;
 }
 
-longer : (m n : ℕ) → m ≤ n → leb m 1024 ≡ false → leb n 1024 ≡ false
+longer : (m n : ℕ) → m ≤ n → leb m MAX_LINE ≡ false → leb n MAX_LINE ≡ false
 longer m n le e = grind (arith, nat_tests)
 
 -- what is held of a line, and of more of it
 pub held_more : (rest more : List ℕ) → held_after (held rest) more ≡ held (rest ++ more)
-held_more rest more = go (leb (length rest) 1024) refl
+held_more rest more = go (leb (length rest) MAX_LINE) refl
   where
-    go : (b : Bool) → leb (length rest) 1024 ≡ b → held_after (cond b (Some rest) None) more ≡ held (rest ++ more)
+    go : (b : Bool) → leb (length rest) MAX_LINE ≡ b → held_after (cond b (Some rest) None) more ≡ held (rest ++ more)
     go true e = refl
     go false e = sym (ap (λ b. cond b (Some (rest ++ more)) None) (longer (length rest) (length (rest ++ more)) (omega (arith, length-append rest more)) e))

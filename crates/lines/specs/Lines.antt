@@ -1,6 +1,7 @@
 -- The lines of a text, and how much of one is held.
 use Rattle.std.specs.Prelude.{◌≡◌, ◌≢◌, ℕ, ◌==◌, nat_le, if◌then◌else◌, Option, Some, None, List, [], ◌∷◌, ◌++◌, length}
 use Rattle.std.specs.List.{All, AllByRecursion, slice_split, flat_map}
+use Rattle.lines.specs.declared.line_buffer.TheConstants.{MAX_LINE}
 
 -- the line in bytes behind the last line feed, if there are any
 abbrev pub last_line : List ℕ → List (List ℕ)
@@ -16,9 +17,9 @@ without_empty_last (part ∷ next ∷ parts) = part ∷ without_empty_last (next
 abbrev pub lines_of : List ℕ → List (List ℕ)
 lines_of text = without_empty_last (slice_split (λ b. b == 10) text)
 
--- the bytes of a line as far as they are held: none of them once they are more than 1,024
+-- the bytes of a line as far as they are held: none of them once they are more than 1,024 (MAX_LINE)
 abbrev pub held : List ℕ → Option (List ℕ)
-held bytes = if nat_le (length bytes) 1024 then Some bytes else None
+held bytes = if nat_le (length bytes) MAX_LINE then Some bytes else None
 
 -- what is held after more bytes of the same line
 abbrev pub held_after : Option (List ℕ) → List ℕ → Option (List ℕ)

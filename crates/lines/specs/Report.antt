@@ -1,33 +1,20 @@
 -- The text of the report at the end of a script.
-use Rattle.std.specs.Prelude.{ℕ, Option, Some, None, List, [], ◌∷◌, ◌++◌, codes, map}
+use Rattle.std.specs.Prelude.{ℕ, Option, Some, None, List, ◌++◌, codes}
 use Rattle.std.specs.Fmt.{decimal}
-use Rattle.std.specs.List.{join_with_byte, flat_map}
-use Rattle.lines.specs.declared.report.Key.{Key}
-use Rattle.lines.specs.declared.report.Key.TheVariants.{Warehouse, District, Customer, Order, Line}
-use Rattle.lines.specs.declared.report.Verdict.{Verdict}
+use Rattle.tables.specs.KeyTexts.{district_text, customer_text}
+use Rattle.conditions.specs.declared.report.Report.{Report}
 
--- the numbers of a key
-abbrev pub key_numbers : Key → List ℕ
-key_numbers (Warehouse warehouse) = warehouse ∷ []
-key_numbers (District key) = key.warehouse ∷ key.district ∷ []
-key_numbers (Customer key) = key.warehouse ∷ key.district ∷ key.customer ∷ []
-key_numbers (Order key) = key.warehouse ∷ key.district ∷ key.order ∷ []
-key_numbers (Line key) = key.warehouse ∷ key.district ∷ key.order ∷ key.line ∷ []
-
--- a key's numbers, parted by spaces
-abbrev pub key_text : Key → List ℕ
-key_text key = join_with_byte 32 (map decimal (key_numbers key))
-
--- what was found of a condition
-abbrev pub finding_text : Option Key → List ℕ
-finding_text None = codes " ok"
-finding_text (Some key) = codes " broken " ++ key_text key
-
--- the text of a verdict, without its line feed
-abbrev pub verdict_text : Verdict → List ℕ
-verdict_text verdict = codes "C" ++ (decimal verdict.condition ++ finding_text verdict.broken)
+-- the line of one condition, as "C9 ok" or "C9 broken 1 1", with its line feed
+abbrev pub verdict_text : {K : Type 0} → (K → List ℕ) → ℕ → Option K → List ℕ
+verdict_text key_text condition None = codes "C" ++ (decimal condition ++ codes " ok\n")
+verdict_text key_text condition (Some key) = codes "C" ++ (decimal condition ++ (codes " broken " ++ (key_text key ++ codes "\n")))
 
 -- the text of a report
-abbrev pub report_text : ℕ → List Verdict → List ℕ
-report_text commits verdicts =
-    codes "commits " ++ (decimal commits ++ (codes "\n" ++ flat_map (λ verdict. verdict_text verdict ++ codes "\n") verdicts))
+abbrev pub report_text : ℕ → Report → List ℕ
+report_text commits report =
+    codes "commits " ++ (decimal commits ++ (codes "\n"
+    ++ (verdict_text decimal 1 report.condition_1
+    ++ (verdict_text decimal 8 report.condition_8
+    ++ (verdict_text district_text 9 report.condition_9
+    ++ (verdict_text customer_text 10 report.condition_10
+    ++ verdict_text customer_text 12 report.condition_12))))))

@@ -15,7 +15,7 @@ pub use amount::amounts_read_as_printed;
 pub use answer::Answer;
 pub use line_buffer::{LineBuffer, MAX_LINE, cutting_laws};
 pub use read::{one_line_one_request, read_request};
-pub use report::{Key, Verdict, print_report};
+pub use report::print_report;
 pub use request::Request;
 
 #[cfg(test)]

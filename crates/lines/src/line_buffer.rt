@@ -2,6 +2,7 @@
 ghost use Rattle.std.specs.Prelude.{◌≡◌, ◌≤◌, ◌↔◌, ℕ, Option, Some, None, List, [], ◌∷◌, ◌++◌, if◌then◌else◌, IsTrue, IfOk, IfErr, IfSome, IfNone};
 ghost use Rattle.std.specs.Option.{option_copied};
 ghost use Rattle.std.specs.Vec.{vec_len, vec_capacity};
+ghost use Rattle.lines.specs.declared.line_buffer.TheConstants.{MAX_LINE};
 ghost use Rattle.lines.specs.Lines.{HasNoLineFeed, IsCut, held, held_after, last_line, lines_of};
 
 use crate::cut::split_once;
@@ -28,7 +29,7 @@ impl Model for LineBuffer {
 
     ghost view = { λ b. if b.is_too_long then None else Some b.bytes.items };
 
-    ghost invariant = { λ b. (vec_len b.bytes ≤ 1024) × (1024 ≤ vec_capacity b.bytes) };
+    ghost invariant = { λ b. (vec_len b.bytes ≤ MAX_LINE) × (MAX_LINE ≤ vec_capacity b.bytes) };
 }
 
 impl LineBuffer {

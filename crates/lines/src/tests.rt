@@ -1,13 +1,12 @@
 ghost use Rattle.std.specs.Prelude.{◌<◌};
 
-use crate::{Answer, Key, LineBuffer, Request, Verdict, print_report, read_request};
+use crate::{Answer, LineBuffer, MAX_LINE, Request, print_report, read_request};
+use conditions::Report;
 use money::{Cents, Rate, Refusal};
 use std::alloc::Global;
 use std::process::Abort;
 use std::test::Fail;
-use tables::{
-    Credit, Customer, CustomerKey, District, DistrictKey, LineKey, PaymentReply, Warehouse,
-};
+use tables::{Credit, Customer, CustomerKey, District, DistrictKey, PaymentReply, Warehouse};
 
 #[test]
 fn requests_are_read(rt: HostRuntime) {
@@ -146,24 +145,27 @@ fn rows_are_printed(rt: HostRuntime) {
 
 #[test]
 fn a_report_is_printed(rt: HostRuntime) {
-    let verdicts = [
-        Verdict {
-            condition: 1,
-            broken: None,
-        },
-        Verdict {
-            condition: 7,
-            broken: Some(Key::Line(LineKey {
-                warehouse: 1,
-                district: 1,
-                order: 8,
-                line: 5,
-            })),
-        },
-    ];
+    let customer = CustomerKey {
+        warehouse: 1,
+        district: 1,
+        customer: 3,
+    };
+    let report = Report {
+        condition_1: None,
+        condition_8: Some(1),
+        condition_9: Some(DistrictKey {
+            warehouse: 1,
+            district: 2,
+        }),
+        condition_10: Some(customer),
+        condition_12: None,
+    };
     let mut text = String::new(rt.alloc());
-    print_report(1, &verdicts, &mut text).expect(&rt, "memory");
-    assert_eq!(rt; text.as_str(), "commits 1\nC1 ok\nC7 broken 1 1 8 5\n");
+    print_report(1, &report, &mut text).expect(&rt, "memory");
+    assert_eq!(rt;
+        text.as_str(),
+        "commits 1\nC1 ok\nC8 broken 1\nC9 broken 1 2\nC10 broken 1 1 3\nC12 ok\n"
+    );
 }
 
 // The lengths of the lines of a text that comes in pieces of this size; 9999 for one that is too long.
@@ -197,10 +199,10 @@ fn lines_are_cut(rt: HostRuntime) -> Result<(), Fail> {
         let empty = line_lengths(rt.alloc(), b"\n\na\n", piece_size)?;
         assert_eq!(rt; empty.as_slice(), [0, 0, 1].as_slice());
     }
-    let longest = vec![in rt.alloc(); b'a'; 1024]?;
+    let longest = vec![in rt.alloc(); b'a'; MAX_LINE]?;
     let lengths = line_lengths(rt.alloc(), &longest, 100)?;
-    assert_eq!(rt; lengths.as_slice(), [1024].as_slice());
-    let longer = vec![in rt.alloc(); b'a'; 1025]?;
+    assert_eq!(rt; lengths.as_slice(), [MAX_LINE].as_slice());
+    let longer = vec![in rt.alloc(); b'a'; MAX_LINE + 1]?;
     let lengths = line_lengths(rt.alloc(), &longer, 100)?;
     assert_eq!(rt; lengths.as_slice(), [9999].as_slice());
     Ok(())

@@ -2,3 +2,5 @@ pub mod Orders
 pub mod KeyTests
 pub mod Views
 pub mod Numbers
+pub mod LookUps
+pub mod Totals

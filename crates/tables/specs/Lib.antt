@@ -1,5 +1,6 @@
 pub mod Sizes
 pub mod Keys
+pub mod KeyTexts
 pub mod Maps
 pub mod Database
 pub mod Records

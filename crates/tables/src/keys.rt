@@ -1,5 +1,7 @@
 //! The primary keys of the tables that have one of several columns (TPC-C 1.3). The order of keys is that
-//! of their columns as they stand here.
+//! of their columns as they stand here, and each prints as its numbers in that order, as `1 1 8 5`.
+
+use std::fmt::{self, Display};
 
 /// The key of DISTRICT: D_W_ID, D_ID.
 #[derive(Clone, Copy, Debug, PartialEq, Eq, PartialOrd, Ord)]
@@ -38,4 +40,63 @@ pub struct LineKey {
 pub struct StockKey {
     pub warehouse: u32,
     pub item: u32,
+}
+
+impl Display for DistrictKey {
+    ghost use Rattle.std.specs.Prelude.{Some};
+    ghost use Rattle.tables.specs.KeyTexts.{district_text};
+
+    ghost output = { λ key. Some (district_text key) };
+
+    fn fmt<W: fmt::Write>(&self, f: &mut fmt::Formatter<W>) -> fmt::Result {
+        write!(f, "{} {}", self.warehouse, self.district)
+    }
+}
+
+impl Display for CustomerKey {
+    ghost use Rattle.std.specs.Prelude.{Some};
+    ghost use Rattle.tables.specs.KeyTexts.{customer_text};
+
+    ghost output = { λ key. Some (customer_text key) };
+
+    fn fmt<W: fmt::Write>(&self, f: &mut fmt::Formatter<W>) -> fmt::Result {
+        write!(f, "{} {} {}", self.warehouse, self.district, self.customer)
+    }
+}
+
+impl Display for OrderKey {
+    ghost use Rattle.std.specs.Prelude.{Some};
+    ghost use Rattle.tables.specs.KeyTexts.{order_text};
+
+    ghost output = { λ key. Some (order_text key) };
+
+    fn fmt<W: fmt::Write>(&self, f: &mut fmt::Formatter<W>) -> fmt::Result {
+        write!(f, "{} {} {}", self.warehouse, self.district, self.order)
+    }
+}
+
+impl Display for LineKey {
+    ghost use Rattle.std.specs.Prelude.{Some};
+    ghost use Rattle.tables.specs.KeyTexts.{line_text};
+
+    ghost output = { λ key. Some (line_text key) };
+
+    fn fmt<W: fmt::Write>(&self, f: &mut fmt::Formatter<W>) -> fmt::Result {
+        write!(
+            f,
+            "{} {} {} {}",
+            self.warehouse, self.district, self.order, self.line
+        )
+    }
+}
+
+impl Display for StockKey {
+    ghost use Rattle.std.specs.Prelude.{Some};
+    ghost use Rattle.tables.specs.KeyTexts.{stock_text};
+
+    ghost output = { λ key. Some (stock_text key) };
+
+    fn fmt<W: fmt::Write>(&self, f: &mut fmt::Formatter<W>) -> fmt::Result {
+        write!(f, "{} {}", self.warehouse, self.item)
+    }
 }

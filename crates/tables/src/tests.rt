@@ -1,8 +1,9 @@
 //! Which numbers make a scale, which fields a Payment's input, and how records are numbered and kept.
 
 use crate::{
-    Credit, Customer, CustomerKey, District, Input, PaymentInput, RecordKey, Scale, Table, Tables,
-    Warehouse, Who, money_from_word, money_to_word, number_of_key, rec,
+    Credit, Customer, CustomerKey, District, DistrictKey, Input, LineKey, OrderKey, PaymentInput,
+    RecordKey, Scale, StockKey, Table, Tables, Warehouse, Who, money_from_word, money_to_word,
+    number_of_key, rec,
 };
 use money::{Cents, Rate, Refusal};
 use std::test::Fail;
@@ -130,5 +131,38 @@ fn words_of_rows(rt: HostRuntime) -> Result<(), Fail> {
         customer.words(),
         [0xffff_ffff_ffff_f746, 0x8ba, 2, 0, 0, 0, 0]
     );
+    Ok(())
+}
+
+#[test]
+fn keys_are_printed(rt: HostRuntime) -> Result<(), Fail> {
+    let district = DistrictKey {
+        warehouse: 1,
+        district: 2,
+    };
+    let customer = CustomerKey {
+        warehouse: 1,
+        district: 2,
+        customer: 3,
+    };
+    let text = format!(in rt.alloc(); "{district}, {customer}")?;
+    assert_eq!(rt; text.as_str(), "1 2, 1 2 3");
+    let order = OrderKey {
+        warehouse: 1,
+        district: 1,
+        order: 8,
+    };
+    let line = LineKey {
+        warehouse: 1,
+        district: 1,
+        order: 8,
+        line: 5,
+    };
+    let stock = StockKey {
+        warehouse: 1,
+        item: 20,
+    };
+    let text = format!(in rt.alloc(); "{order}, {line}, {stock}")?;
+    assert_eq!(rt; text.as_str(), "1 1 8, 1 1 8 5, 1 20");
     Ok(())
 }

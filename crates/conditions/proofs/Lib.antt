@@ -1,0 +1,2 @@
+pub mod SumSteps
+pub mod Added

@@ -1,0 +1,10 @@
+use Rattle.std.proofs.Common.{◌≡◌, ◌*◌, ◌^◌, ◌==◌, ◌≤ℤ◌, pos, neg_ℤ, cond, take}
+use Rattle.tables.specs.Maps.{sum_of}
+use Rattle.conditions.proofs.sums.paid_at_warehouse_total.Given as goal
+
+abbrev pub invariant-loop-row : goal.invariant-loop-row
+invariant-loop-row l = record {
+  sum : l.sum ≡ sum_of (λ h. cond (h.warehouse == l.warehouse) h.amount (pos 0)) (take l.row-index l.row-items);
+  low : neg_ℤ (pos (2 ^ 63 * l.row-index)) ≤ℤ l.sum;
+  high : l.sum ≤ℤ pos (2 ^ 63 * l.row-index);
+}

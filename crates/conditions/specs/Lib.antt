@@ -1,0 +1,3 @@
+pub mod Finds
+pub mod Report
+pub mod Steps

@@ -1,0 +1,20 @@
+-- What a report tells of tables, and when it finds nothing.
+use Rattle.std.specs.Prelude.{IsNone}
+use Rattle.std.specs.Ordering.{nat_cmp}
+use Rattle.tables.specs.Keys.{district_cmp, customer_cmp, IsWarehouseKey, IsDistrictKey, IsCustomerKey}
+use Rattle.tables.specs.Database.{Database}
+use Rattle.tables.specs.Conditions.{Condition1At, Condition8At, Condition9At, Condition10At, Condition12At}
+use Rattle.conditions.specs.Finds.{Finds}
+use Rattle.conditions.specs.declared.report.Report.{Report}
+
+-- the report finds what there is to find for each condition (TPC-C 3.3.2)
+pub record IsReportOf (t : Database) (r : Report) : Type 0 where
+  pub condition_1 : Finds nat_cmp (IsWarehouseKey t.scale) (Condition1At t) r.condition_1
+  pub condition_8 : Finds nat_cmp (IsWarehouseKey t.scale) (Condition8At t) r.condition_8
+  pub condition_9 : Finds district_cmp (IsDistrictKey t.scale) (Condition9At t) r.condition_9
+  pub condition_10 : Finds customer_cmp (IsCustomerKey t.scale) (Condition10At t) r.condition_10
+  pub condition_12 : Finds customer_cmp (IsCustomerKey t.scale) (Condition12At t) r.condition_12
+
+-- nothing was found
+abbrev pub IsGood : Report → Type 0
+IsGood r = IsNone r.condition_1 × IsNone r.condition_8 × IsNone r.condition_9 × IsNone r.condition_10 × IsNone r.condition_12

@@ -1,4 +1,0 @@
-pub mod Amounts
-pub mod Sums
-pub mod Report
-pub mod Check
