@@ -12,7 +12,7 @@ use Rattle.tables.specs.Database.{Database}
 use Rattle.tables.specs.Payment.{IsPayment, after_payment, history_row}
 use Rattle.tables.specs.Customer.{customer_number}
 use Rattle.tables.specs.Conditions.{IsConsistent, Condition1At, Condition8At, Condition9At, Condition10At, Condition12At, paid_at_warehouse, paid_at_district, paid_by_customer, delivered_amount}
-use Rattle.tables.specs.WellFormed.{IsWellFormed, HasRoom, IsMoneyFor, IsCountFor, IsDistrictRow, IsCustomerRow, IsHistoryRow, orderer}
+use Rattle.tables.specs.WellFormed.{IsWellFormed, HasRoom, IsMoney, IsCount, IsMoneyFor, IsCountFor, IsDistrictRow, IsCustomerRow, IsHistoryRow, orderer}
 use Rattle.tables.specs.declared.keys.DistrictKey.{DistrictKey}
 use Rattle.tables.specs.declared.keys.CustomerKey.{CustomerKey}
 use Rattle.tables.specs.declared.rows.Warehouse.{Warehouse}
@@ -174,10 +174,10 @@ module _ (t : Database) (x : PaymentInput) (n : ℕ) (ok : IsPayment t.scale x) 
     deliveries = each_customer (λ r. IsCountFor (n + 1) r.deliveries) (λ r. IsCountFor n r.deliveries) room.deliveries (λ r h. count_stays r.deliveries h) (λ r h. count_stays r.deliveries h);
   }
 
-  money : (z : ℤ) → IsMoneyFor n z → IsMoneyFor 0 z
+  money : (z : ℤ) → IsMoneyFor n z → IsMoney z
   money z h = (omega (arith, ints, h.0, h.1), omega (arith, ints, h.0, h.1))
 
-  count : (c : ℕ) → IsCountFor n c → IsCountFor 0 c
+  count : (c : ℕ) → IsCountFor n c → IsCount c
   count c h = omega (arith, h)
 
   district_rows : EachRow (λ k r. IsDistrictRow t.scale r) (after_payment t x).districts
