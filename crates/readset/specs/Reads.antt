@@ -19,6 +19,10 @@ held reads n = lookup (is_at (nat_cmp n)) reads
 abbrev pub value_of : Version → Option (List ℕ)
 value_of version = value_in (words_of version)
 
+-- these reads, and perhaps more
+abbrev pub Keeps : ReadSetView → ReadSetView → Type 0
+Keeps reads more = (n : ℕ) (v : Version) → held reads n ≡ Some v → held more n ≡ Some v
+
 -- between these two states, a reader has loaded exactly the records of these versions, each once, and each version is what that load gave
 pub record AreRead (old new : ReaderView) (reads : ReadSetView) : Type 0 where
   pub cells : new.cells ≡ old.cells

@@ -3,7 +3,7 @@ ghost use Rattle.std.specs.Prelude.{◌≡◌, Some, All};
 ghost use Rattle.std.specs.Ordering.{nat_cmp};
 ghost use Rattle.std.specs.Map.{keys_of};
 ghost use Rattle.std.specs.List.Sorted.{IsStrictlySortedBy};
-ghost use Rattle.payment.specs.Writes.{value_for};
+ghost use Rattle.readset.specs.Writes.{value_for};
 
 use std::marker::Model;
 use tables::History;
@@ -13,29 +13,29 @@ use tables::History;
 #[derive(Drop)]
 pub struct WriteList {
     values: Vec<(u32, Option<[u64; 7]>)>,
-    history: Option<History>,
+    history_row: Option<History>,
 }
 
 impl Model for WriteList {
     ghost use Rattle.std.specs.Ordering.{nat_cmp};
     ghost use Rattle.std.specs.Map.{keys_of};
     ghost use Rattle.std.specs.List.Sorted.{IsStrictlySortedBy};
-    ghost use Rattle.payment.specs.Writes.{WriteSetView};
+    ghost use Rattle.readset.specs.Writes.{WriteSetView};
 
     ghost Value = { WriteSetView };
 
-    ghost view = { λ w. record { values = w.values.items; history = w.history } };
+    ghost view = { λ w. record { values = w.values.items; history_row = w.history_row } };
 
     ghost invariant = { λ w. IsStrictlySortedBy nat_cmp (keys_of w.values.items) };
 }
 
 impl WriteList {
     /// Of values by record number, in the order of the numbers.
-    pub(crate) fn new(values: Vec<(u32, Option<[u64; 7]>)>, history: Option<History>) -> WriteList
+    pub(crate) fn new(values: Vec<(u32, Option<[u64; 7]>)>, history_row: Option<History>) -> WriteList
         requires { IsStrictlySortedBy nat_cmp (keys_of values.items) }
-        ensures { result ≡ record { values = values.items; history = history } }
+        ensures { result ≡ record { values = values.items; history_row = history_row } }
     {
-        WriteList { values, history }
+        WriteList { values, history_row }
     }
 
     /// What each record written holds after the commit, in the order of the record numbers.
@@ -48,9 +48,9 @@ impl WriteList {
     }
 
     /// The row that HISTORY got, if there is one.
-    pub fn history(&self) -> Option<History>
-        ensures { result ≡ self.now.history }
+    pub fn history_row(&self) -> Option<History>
+        ensures { result ≡ self.now.history_row }
     {
-        self.history
+        self.history_row
     }
 }

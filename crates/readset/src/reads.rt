@@ -4,8 +4,8 @@ ghost use Rattle.std.specs.Option.{option_copied};
 ghost use Rattle.std.specs.Ordering.{nat_cmp};
 ghost use Rattle.std.specs.Map.{keys_of};
 ghost use Rattle.std.specs.List.Sorted.{IsStrictlySortedBy};
-ghost use Rattle.payment.specs.Reads.{held};
-ghost use Rattle.cells.specs.Records.{LoadsRecord, HasGrown, words_of};
+ghost use Rattle.readset.specs.Reads.{held, value_of, Keeps, AreRead};
+ghost use Rattle.cells.specs.Records.{ReaderView, LoadsRecord, HasGrown, words_of};
 ghost use Rattle.cells.specs.declared.cells.Version.{Version};
 
 use cells::{Cells, Reader, Version};
@@ -17,14 +17,14 @@ use std::marker::Model;
 use std::sync::Wait;
 
 /// The versions that a transaction has read, one a record (Silo, section 4.4: the read set). Contracts see
-/// them by record number.
+/// them by record number. A map, so that a transaction that reads some 400 records spends a few steps on each look-up.
 #[derive(Drop)]
 pub struct ReadSet {
     versions: BTreeMap<u32, Version>,
 }
 
 impl Model for ReadSet {
-    ghost use Rattle.payment.specs.Reads.{ReadSetView};
+    ghost use Rattle.readset.specs.Reads.{ReadSetView};
 
     ghost Value = { ReadSetView };
 
@@ -63,8 +63,11 @@ impl ReadSet {
         ensures holds { IfOk result (λ v. held self.new number ≡ Some v) }
         ensures others { (n : ℕ) → n ≢ number → held self.new n ≡ held self.old n }
         ensures limit { length self.new ≤ length self.old + 1 }
+        ensures keeps { Keeps self.old self.new }
         ensures kept { OnErr result (self.new ≡ self.old) }
+        ensures chain { (first : ReaderView) → AreRead first reader.old self.old → OnOk result (AreRead first reader.new self.new) }
         ensures grown { HasGrown reader.old reader.new }
+        ensures grown_since { (first : ReaderView) → HasGrown first reader.old → HasGrown first reader.new }
         ensures only_memory { IfErr result (λ refusal. refusal ≡ OutOfMemory) }
     {
         if let Some(version) = self.versions.get(&number) {
@@ -91,5 +94,16 @@ impl ReadSet {
         ensures ordered { IsStrictlySortedBy nat_cmp (keys_of self.now) }
     {
         self.versions.iter()
+    }
+}
+
+/// What a version says that its record holds: its words, or nothing where it is absent. Takes constant time.
+pub fn value_of(version: &Version) -> Option<[u64; 7]>
+    ensures { result ≡ value_of version.now }
+{
+    if version.word.is_absent() {
+        None
+    } else {
+        Some(version.payload)
     }
 }
