@@ -1,7 +1,12 @@
 -- What has been read, after the load of one record more.
-use Rattle.std.proofs.Common.{◌≡◌, ◌≢◌, ℕ, ◌+◌, List, [], Some, None, refl, sym, ap, ◌∙◌, subst, ⊎_elim, slice_index}
+use Rattle.std.proofs.Common.{◌≡◌, ◌≢◌, ℕ, ◌+◌, List, [], Option, Some, None, cond, Bor, refl, sym, ap, ◌∙◌, subst, ⊎_elim, slice_index}
 use Rattle.std.proofs.lemmas.Bool.{cases_eq}
 use Rattle.std.proofs.lemmas.List.{get_or-set_other}
+use Rattle.std.specs.Option.{option_copied}
+use Rattle.std.specs.Ordering.{nat_cmp}
+use Rattle.std.specs.BTreeMap.{insert_entry}
+use Rattle.readset.proofs.Numbers.{same_test, other_test}
+use Rattle.readset.proofs.Lookups.{lookup-insert_entry}
 use Rattle.cells.specs.Versions.{StartsWith, EndsWith}
 use Rattle.cells.specs.Records.{ReaderView, LoadsRecord, words_of, at}
 use Rattle.cells.specs.declared.cells.Version.{Version}
@@ -49,3 +54,16 @@ module _ (first old new : ReaderView) (reads more : ReadSetView) (n : ℕ) (v : 
       other_loads = λ m none. let u = unread m none in other_loads m u.0 ∙ so_far.other_loads m u.1;
       other_seen = λ m none. let u = unread m none in other_seen m u.0 ∙ so_far.other_seen m u.1;
     }
+
+-- the same, of a set into which the version loaded is put
+pub load_put : (first old new : ReaderView) (reads : ReadSetView) (n : ℕ) (v : Version) → AreRead first old reads → LoadsRecord old new n (words_of v) → v.record ≡ n → held reads n ≡ None
+    → AreRead first new (insert_entry nat_cmp reads n v)
+load_put first old new reads n v so_far load named absent =
+    load_read first old new reads (insert_entry nat_cmp reads n v) n v so_far load named absent
+    (lookup-insert_entry n n v reads ∙ ap (λ b. cond b (Some v) (held reads n)) (same_test n n refl))
+    (λ m apart. lookup-insert_entry m n v reads ∙ ap (λ b. cond b (Some v) (held reads m)) (other_test m n apart))
+
+-- a look-up that found nothing
+pub copied_none : {X : Type 0} (o : Option (Bor X)) → ((x : Bor X) → o ≡ Some x → ⊥) → option_copied o ≡ None
+copied_none None never = refl
+copied_none (Some x) never = absurd (never x refl)
