@@ -1,7 +1,7 @@
 pub mod Numbers
 pub mod HoldsChanges
 pub mod LeftIs
-pub mod MayBeBefore
+pub mod MoreReads
 pub mod WrittenRecords
 mod Lookups
 mod Entries

@@ -5,6 +5,8 @@
 pub mod limits;
 mod list;
 mod reads;
+#[cfg(test)]
+mod tests;
 mod work;
 mod writes;
 

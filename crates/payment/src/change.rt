@@ -5,45 +5,42 @@ ghost use Rattle.tables.specs.Rows.{money_of, money_word, warehouse_words, distr
 ghost use Rattle.tables.specs.declared.rows.Warehouse.{Warehouse};
 ghost use Rattle.tables.specs.declared.rows.District.{District};
 ghost use Rattle.tables.specs.declared.rows.Customer.{Customer};
-ghost use Rattle.payment.specs.Reads.{value_of};
-ghost use Rattle.payment.specs.Paid.{raised_warehouse, raised_district, charged_customer};
+ghost use Rattle.tables.specs.Payment.{raised_warehouse, raised_district, charged_customer};
+ghost use Rattle.tables.specs.declared.limits.TheConstants.{MAX_PAYMENT};
+ghost use Rattle.readset.specs.Reads.{value_of};
 
 use cells::Version;
-use money::Cents;
+use money::{Cents, MAX_MONEY};
+use readset::value_of;
+use tables::limits::MAX_COUNT;
 use tables::{money_from_word, money_to_word};
 
 /// A customer's words after a Payment, and C_BALANCE.
-#[derive(Clone, Copy, Debug, PartialEq, Eq)]
+#[derive(Clone, Copy)]
 pub struct Charged {
     pub words: [u64; 7],
     pub balance: Cents,
 }
 
-/// Greatest distance of a money column from zero, in cents.
-const MONEY_LIMIT: i64 = 10_000_000_000_000;
-
-/// Greatest count.
-const COUNT_LIMIT: u64 = 1_000_000_000;
-
 /// W_YTD raised. None only where no warehouse of well-formed tables has this version.
 pub fn raise_warehouse(version: &Version, amount: Cents) -> Option<[u64; 7]>
     requires low { pos 0 ≤ℤ amount }
-    requires high { amount ≤ℤ pos 500000 }
+    requires high { amount ≤ℤ MAX_PAYMENT }
     ensures { (r : Warehouse) → IsMoney r.year_to_date → value_of version.now ≡ Some (warehouse_words r)
         → result ≡ Some (warehouse_words (raised_warehouse amount r)) }
 {
-    let words = words_of(version)?;
+    let words = value_of(version)?;
     Some([raise(words[0], amount)?, 0, 0, 0, 0, 0, 0])
 }
 
 /// D_YTD raised. None only where no district of well-formed tables has this version.
 pub fn raise_district(version: &Version, amount: Cents) -> Option<[u64; 7]>
     requires low { pos 0 ≤ℤ amount }
-    requires high { amount ≤ℤ pos 500000 }
+    requires high { amount ≤ℤ MAX_PAYMENT }
     ensures { (r : District) → IsMoney r.year_to_date → value_of version.now ≡ Some (district_words r)
         → result ≡ Some (district_words (raised_district amount r)) }
 {
-    let words = words_of(version)?;
+    let words = value_of(version)?;
     Some([raise(words[0], amount)?, words[1], 0, 0, 0, 0, 0])
 }
 
@@ -51,14 +48,14 @@ pub fn raise_district(version: &Version, amount: Cents) -> Option<[u64; 7]>
 /// tables has this version.
 pub fn charge_customer(version: &Version, amount: Cents) -> Option<Charged>
     requires low { pos 0 ≤ℤ amount }
-    requires high { amount ≤ℤ pos 500000 }
+    requires high { amount ≤ℤ MAX_PAYMENT }
     ensures { (r : Customer) → IsCustomerRow r → value_of version.now ≡ Some (customer_words r)
         → result ≡ Some (record { words = customer_words (charged_customer amount r); balance = r.balance -ℤ amount }) }
 {
-    let words = words_of(version)?;
+    let words = value_of(version)?;
     let balance = column(words[0])? - amount;
     let paid = raise(words[1], amount)?;
-    if words[2] > COUNT_LIMIT {
+    if words[2] > u64::from(MAX_COUNT) {
         return None;
     }
     let words = [
@@ -73,21 +70,10 @@ pub fn charge_customer(version: &Version, amount: Cents) -> Option<Charged>
     Some(Charged { words, balance })
 }
 
-/// What the version says that its record holds.
-fn words_of(version: &Version) -> Option<[u64; 7]>
-    ensures { result ≡ value_of version.now }
-{
-    if version.word.is_absent() {
-        None
-    } else {
-        Some(version.payload)
-    }
-}
-
 /// A money column raised.
 fn raise(word: u64, amount: Cents) -> Option<u64>
     requires low { pos 0 ≤ℤ amount }
-    requires high { amount ≤ℤ pos 500000 }
+    requires high { amount ≤ℤ MAX_PAYMENT }
     ensures { IsMoney (money_of word) → result ≡ Some (money_word (money_of word +ℤ amount)) }
 {
     Some(money_to_word(column(word)? + amount))
@@ -99,7 +85,7 @@ fn column(word: u64) -> Option<Cents>
     ensures none { IfNone result (¬ IsMoney (money_of word)) }
 {
     let amount = money_from_word(word);
-    if Cents::new(-MONEY_LIMIT) <= amount && amount <= Cents::new(MONEY_LIMIT) {
+    if Cents::new(-MAX_MONEY) <= amount && amount <= Cents::new(MAX_MONEY) {
         Some(amount)
     } else {
         None

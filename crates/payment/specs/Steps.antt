@@ -1,8 +1,8 @@
--- The three records of a Payment, and what it makes of their rows (TPC-C 2.5.2.2).
-use Rattle.std.specs.Prelude.{◌≡◌, ℕ, ℤ, ◌+◌, ◌+ℤ◌, ◌-ℤ◌, Some, [], ◌∷◌}
+-- The steps of a Payment (TPC-C 2.5.2.2): its three records, their new values, its writes and its reply.
+use Rattle.std.specs.Prelude.{◌≡◌, ℕ, ℤ, ◌-ℤ◌, Some}
 use Rattle.tables.specs.Sizes.{Sizes}
 use Rattle.tables.specs.Customer.{customer_number}
-use Rattle.tables.specs.Payment.{payer, history_row}
+use Rattle.tables.specs.Payment.{payer, raised_warehouse, raised_district, charged_customer, history_row}
 use Rattle.tables.specs.Rows.{warehouse_words, district_words, customer_words}
 use Rattle.tables.specs.WellFormed.{IsMoney, IsCustomerRow}
 use Rattle.tables.specs.Records.{number_of_key}
@@ -12,20 +12,11 @@ use Rattle.tables.specs.declared.rows.District.{District}
 use Rattle.tables.specs.declared.rows.Customer.{Customer}
 use Rattle.tables.specs.declared.payment.PaymentInput.{PaymentInput}
 use Rattle.tables.specs.declared.payment.PaymentReply.{PaymentReply}
-use Rattle.payment.specs.Reads.{value_of}
-use Rattle.payment.specs.Writes.{WriteSetView}
+use Rattle.readset.specs.Reads.{value_of}
+use Rattle.readset.specs.Writes.{WriteSetView, no_writes, puts}
 use Rattle.payment.specs.declared.transaction.Records.{Records}
 use Rattle.payment.specs.declared.transaction.Found.{Found}
-use Rattle.payment.specs.declared.transaction.Paid.{Paid}
-
-abbrev pub raised_warehouse : ℤ → Warehouse → Warehouse
-raised_warehouse amount r = record r { year_to_date = r.year_to_date +ℤ amount }
-
-abbrev pub raised_district : ℤ → District → District
-raised_district amount r = record r { year_to_date = r.year_to_date +ℤ amount }
-
-abbrev pub charged_customer : ℤ → Customer → Customer
-charged_customer amount r = record r { balance = r.balance -ℤ amount; paid = r.paid +ℤ amount; payments = r.payments + 1 }
+use Rattle.payment.specs.declared.transaction.NewValues.{NewValues}
 
 -- the numbers of the paying warehouse, the paying district and the customer
 abbrev pub warehouse_record : Sizes → PaymentInput → ℕ
@@ -47,25 +38,27 @@ pub record AreRows (found : Found) (w : Warehouse) (d : District) (c : Customer)
   pub customer_range : IsCustomerRow c
 
 -- what these rows become
-pub record IsPaid (amount : ℤ) (w : Warehouse) (d : District) (c : Customer) (paid : Paid) : Type 0 where
-  pub warehouse : paid.warehouse ≡ warehouse_words (raised_warehouse amount w)
-  pub district : paid.district ≡ district_words (raised_district amount d)
-  pub customer : paid.customer.words ≡ customer_words (charged_customer amount c)
-  pub balance : paid.customer.balance ≡ c.balance -ℤ amount
+pub record AreNewValues (amount : ℤ) (w : Warehouse) (d : District) (c : Customer) (values : NewValues) : Type 0 where
+  pub warehouse : values.warehouse ≡ warehouse_words (raised_warehouse amount w)
+  pub district : values.district ≡ district_words (raised_district amount d)
+  pub customer : values.customer.words ≡ customer_words (charged_customer amount c)
+  pub balance : values.customer.balance ≡ c.balance -ℤ amount
+
+-- the three values, each put in
+abbrev pub values_put : Records → NewValues → WriteSetView
+values_put records values =
+    puts (puts (puts no_writes records.warehouse (Some values.warehouse)) records.district (Some values.district)) records.customer (Some values.customer.words)
 
 -- the writes and the reply
-abbrev pub writings_of : Records → Paid → PaymentInput → WriteSetView
-writings_of records paid x = record {
-  values = (records.warehouse, Some paid.warehouse) ∷ (records.district, Some paid.district) ∷ (records.customer, Some paid.customer.words) ∷ [];
-  history = Some (history_row x);
-}
+abbrev pub writes_of : Records → NewValues → PaymentInput → WriteSetView
+writes_of records values x = record { values = (values_put records values).values; history_row = Some (history_row x) }
 
-abbrev pub reply_of : Paid → PaymentInput → PaymentReply
-reply_of paid x = record {
+abbrev pub reply_of : NewValues → PaymentInput → PaymentReply
+reply_of values x = record {
   warehouse = x.warehouse;
   district = x.district;
   customer_warehouse = x.customer_warehouse;
   customer_district = x.customer_district;
   customer = customer_number x.who;
-  balance = paid.customer.balance;
+  balance = values.customer.balance;
 }
