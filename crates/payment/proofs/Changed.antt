@@ -7,7 +7,7 @@ use Rattle.tables.specs.Database.{Database}
 use Rattle.tables.specs.Keys.{is_district, is_customer}
 use Rattle.tables.specs.Maps.{update_where, column}
 use Rattle.tables.specs.Customer.{customer_number}
-use Rattle.tables.specs.Payment.{payer, after_payment}
+use Rattle.tables.specs.Payment.{payer, after_payment, raised_warehouse, raised_district, charged_customer}
 use Rattle.tables.specs.Rows.{row_at, least, order_numbers, number_words, warehouse_words, district_words, customer_words}
 use Rattle.tables.proofs.Orders.{IsExact, exact_number, exact_district, exact_customer}
 use Rattle.laws.proofs.Updates.{get-map_rows, column-update_where, kept-update_where}
@@ -19,7 +19,6 @@ use Rattle.tables.specs.declared.rows.Warehouse.{Warehouse}
 use Rattle.tables.specs.declared.rows.District.{District}
 use Rattle.tables.specs.declared.rows.Customer.{Customer}
 use Rattle.tables.specs.declared.payment.PaymentInput.{PaymentInput}
-use Rattle.payment.specs.Paid.{raised_warehouse, raised_district, charged_customer}
 
 both : (a b : Bool) → (a && b) ≡ true → (a ≡ true) × (b ≡ true)
 both true b h = (refl, h)
@@ -53,36 +52,36 @@ module _ (t : Database) (x : PaymentInput) where
   -- the records of all keys but three are as before
   pub others : (k : RecordKey) → k ≢ key.Warehouse x.warehouse → k ≢ key.District (record { warehouse = x.warehouse; district = x.district }) → k ≢ key.Customer (payer x)
       → row_at (after_payment t x) k ≡ row_at t k
-  others (key.Warehouse w) a b c = untouched exact_number (λ w. x.warehouse == w) (λ r. record r { year_to_date = r.year_to_date +ℤ x.amount }) warehouse_words t.warehouses w
+  others (key.Warehouse w) a b c = untouched exact_number (λ w. x.warehouse == w) (raised_warehouse x.amount) warehouse_words t.warehouses w
       (λ h. a (ap key.Warehouse (sym (eqb-true x.warehouse w h))))
-  others (key.District k) a b c = untouched exact_district (is_district x.warehouse x.district) (λ r. record r { year_to_date = r.year_to_date +ℤ x.amount }) district_words t.districts k
+  others (key.District k) a b c = untouched exact_district (is_district x.warehouse x.district) (raised_district x.amount) district_words t.districts k
       (λ h. b (ap key.District (sym (district_named x.warehouse x.district k h))))
   others (key.Customer k) a b c = untouched exact_customer (is_customer x.customer_warehouse x.customer_district (customer_number x.who))
-      (λ r. record r { balance = r.balance -ℤ x.amount; paid = r.paid +ℤ x.amount; payments = r.payments + 1 }) customer_words t.customers k
+      (charged_customer x.amount) customer_words t.customers k
       (λ h. c (ap key.Customer (sym (customer_named x.customer_warehouse x.customer_district (customer_number x.who) k h))))
   others (key.NewOrder k) a b c = refl
   others (key.Order k) a b c = refl
   others (key.OrderLine k) a b c = refl
   others (key.Stock k) a b c = refl
   others (key.Oldest k) a b c = ap (λ n. Some (number_words n)) (ap (unwrap_or (least (order_numbers (λ e. (e.0.warehouse == k.warehouse) && (e.0.district == k.district)) t.new_orders)))
-      (kept-update_where exact_district (is_district x.warehouse x.district) (λ r. record r { year_to_date = r.year_to_date +ℤ x.amount }) (λ (w : Option District). option_map_or (λ r. r.next_order) w 0) t.districts k (λ _ r. refl)))
+      (kept-update_where exact_district (is_district x.warehouse x.district) (raised_district x.amount) (λ (w : Option District). option_map_or (λ r. r.next_order) w 0) t.districts k (λ _ r. refl)))
   others (key.Last k) a b c = refl
 
   pub warehouse_changed : (r : Warehouse) → get t.warehouses x.warehouse ≡ Some r → row_at (after_payment t x) (key.Warehouse x.warehouse) ≡ Some (warehouse_words (raised_warehouse x.amount r))
-  warehouse_changed r found = touched exact_number (λ w. x.warehouse == w) (λ r. record r { year_to_date = r.year_to_date +ℤ x.amount }) warehouse_words t.warehouses x.warehouse r (self x.warehouse) found
+  warehouse_changed r found = touched exact_number (λ w. x.warehouse == w) (raised_warehouse x.amount) warehouse_words t.warehouses x.warehouse r (self x.warehouse) found
 
   pub district_changed : (r : District) → get t.districts (record { warehouse = x.warehouse; district = x.district }) ≡ Some r
       → row_at (after_payment t x) (key.District (record { warehouse = x.warehouse; district = x.district })) ≡ Some (district_words (raised_district x.amount r))
-  district_changed r found = touched exact_district (is_district x.warehouse x.district) (λ r. record r { year_to_date = r.year_to_date +ℤ x.amount }) district_words t.districts
+  district_changed r found = touched exact_district (is_district x.warehouse x.district) (raised_district x.amount) district_words t.districts
       (record { warehouse = x.warehouse; district = x.district }) r (λ i. self x.warehouse i && self x.district i) found
 
   pub customer_changed : (r : Customer) → get t.customers (payer x) ≡ Some r → row_at (after_payment t x) (key.Customer (payer x)) ≡ Some (customer_words (charged_customer x.amount r))
   customer_changed r found = touched exact_customer (is_customer x.customer_warehouse x.customer_district (customer_number x.who))
-      (λ r. record r { balance = r.balance -ℤ x.amount; paid = r.paid +ℤ x.amount; payments = r.payments + 1 }) customer_words t.customers (payer x) r
+      (charged_customer x.amount) customer_words t.customers (payer x) r
       (λ i. (self x.customer_warehouse i && self x.customer_district i) && self (customer_number x.who) i) found
 
   pub balance_changed : (r : Customer) → get t.customers (payer x) ≡ Some r → column (λ c. c.balance) (after_payment t x).customers (payer x) ≡ r.balance -ℤ x.amount
   balance_changed r found =
       column-update_where exact_customer (λ c. c.balance) (is_customer x.customer_warehouse x.customer_district (customer_number x.who))
-      (λ c. record c { balance = c.balance -ℤ x.amount; paid = c.paid +ℤ x.amount; payments = c.payments + 1 }) t.customers (payer x) r found
+      (charged_customer x.amount) t.customers (payer x) r found
       ∙ (λ i. (cond ((self x.customer_warehouse i && self x.customer_district i) && self (customer_number x.who) i) (charged_customer x.amount r) r).balance)

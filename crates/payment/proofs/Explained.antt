@@ -1,14 +1,14 @@
 -- What a Payment reads explains what it writes and replies.
-use Rattle.std.proofs.Common.{◌≡◌, ℕ, ◌<◌, true, false, cond, List, Option, Some, None, IsSome, refl, sym, ap, ◌∙◌, subst, true≢false}
-use Rattle.std.specs.Option.{option_map, unwrap_or}
+use Rattle.std.proofs.Common.{◌≡◌, ℕ, ◌+◌, ◌<◌, ◌≤◌, length, arith, [], ◌∷◌, List, Option, Some, None, IsSome, refl, sym, ap, ◌∙◌, subst, true≢false}
+use Rattle.std.specs.Option.{option_map}
 use Rattle.std.specs.FinMap.{get}
-use Rattle.std.specs.Ordering.{nat_cmp, is_eq}
 use Rattle.tables.specs.Database.{Database}
 use Rattle.tables.specs.Sizes.{Sizes}
 use Rattle.tables.specs.Payment.{IsPayment, payer, after_payment, payment_reply}
-use Rattle.tables.specs.Records.{record_count, number_of_key, key_of, IsRecordKey}
+use Rattle.tables.specs.Apply.{Committed}
+use Rattle.tables.specs.Records.{number_of_key, IsRecordKey}
 use Rattle.tables.specs.Rows.{rows, row_at, warehouse_words, district_words, customer_words}
-use Rattle.tables.proofs.Numbers.{named, numbered}
+use Rattle.tables.proofs.Numbers.{named}
 use Rattle.tables.specs.declared.records.RecordKey.{RecordKey}
 use Rattle.tables.specs.declared.records.RecordKey.TheVariants as key
 use Rattle.tables.specs.declared.rows.Warehouse.{Warehouse}
@@ -17,14 +17,16 @@ use Rattle.tables.specs.declared.rows.Customer.{Customer}
 use Rattle.tables.specs.declared.payment.PaymentInput.{PaymentInput}
 use Rattle.tables.specs.declared.input.Input.TheVariants as input
 use Rattle.tables.specs.declared.reply.Reply.TheVariants as reply
-use Rattle.payment.specs.Reads.{ReadSetView, held}
-use Rattle.payment.specs.Writes.{value_for, written}
-use Rattle.payment.specs.Explains.{MayBe, Explains}
-use Rattle.payment.specs.Paid.{warehouse_record, district_record, customer_record, AreRows, IsPaid, writings_of, reply_of}
+use Rattle.readset.specs.Reads.{ReadSetView, held}
+use Rattle.readset.specs.Writes.{WriteSetView, value_for, no_writes, puts, rows_with}
+use Rattle.readset.specs.Explains.{MayBe, Explains}
+use Rattle.readset.specs.Changes.{Holds, Changes, puts_all}
+use Rattle.readset.proofs.HoldsChanges.{holds-changes, holds_first}
+use Rattle.readset.proofs.WrittenRecords.{each_put, length-insert_entry}
+use Rattle.payment.specs.Steps.{warehouse_record, district_record, customer_record, AreRows, AreNewValues, values_put, writes_of, reply_of}
 use Rattle.payment.specs.declared.transaction.Records.{Records}
 use Rattle.payment.specs.declared.transaction.Found.{Found}
-use Rattle.payment.specs.declared.transaction.Paid.{Paid}
-use Rattle.payment.proofs.Numbers.{same_number, other_number}
+use Rattle.payment.specs.declared.transaction.NewValues.{NewValues}
 use Rattle.payment.proofs.Changed.{others, warehouse_changed, district_changed, customer_changed, balance_changed}
 
 -- the record of a key holds what the key's row has
@@ -36,27 +38,25 @@ is_row : {X : Type 0} (w : Option X) → IsSome w → (r : X) × (w ≡ Some r)
 is_row None h = absurd (true≢false (sym h))
 is_row (Some r) h = (r, refl)
 
-pub same_Paid : (a b : Paid) → Some a ≡ Some b → a ≡ b
-same_Paid a b e = cc
+pub same_values : (a b : NewValues) → Some a ≡ Some b → a ≡ b
+same_values a b e = cc
 
 -- what is so of the three records is so of each that is written
-pub each_written : (P : ℕ → Type 0) (x : PaymentInput) (records : Records) (paid : Paid) → P records.warehouse → P records.district → P records.customer → (n : ℕ) (value : Option (List ℕ)) → value_for (writings_of records paid x) n ≡ Some value → P n
-each_written P x records paid w d c n value e =
-    elim (is_eq (nat_cmp n records.warehouse)) as (λ b. is_eq (nat_cmp n records.warehouse) ≡ b →
-    cond b (Some (Some paid.warehouse)) (cond (is_eq (nat_cmp n records.district)) (Some (Some paid.district)) (cond (is_eq (nat_cmp n records.customer)) (Some (Some paid.customer.words)) None)) ≡ Some value → P n) [
-      | true ↦ λ q _. subst P (sym (same_number n records.warehouse q)) w
-      | false ↦ λ _.
-          elim (is_eq (nat_cmp n records.district)) as (λ b. is_eq (nat_cmp n records.district) ≡ b →
-          cond b (Some (Some paid.district)) (cond (is_eq (nat_cmp n records.customer)) (Some (Some paid.customer.words)) None) ≡ Some value → P n) [
-            | true ↦ λ q _. subst P (sym (same_number n records.district q)) d
-            | false ↦ λ _.
-                elim (is_eq (nat_cmp n records.customer)) as (λ b. is_eq (nat_cmp n records.customer) ≡ b →
-                cond b (Some (Some paid.customer.words)) None ≡ Some value → P n) [
-                  | true ↦ λ q _. subst P (sym (same_number n records.customer q)) c
-                  | false ↦ λ _ f. cc
-                ] refl
-          ] refl
-    ] refl e
+pub each_written : (P : ℕ → Type 0) (records : Records) (values : NewValues) → P records.warehouse → P records.district → P records.customer
+    → (n : ℕ) (value : Option (List ℕ)) → value_for (values_put records values) n ≡ Some value → P n
+each_written P records values w d c =
+    let one = puts no_writes records.warehouse (Some values.warehouse) in
+    each_put P (puts one records.district (Some values.district)) records.customer (Some values.customer.words)
+    (each_put P one records.district (Some values.district) (each_put P no_writes records.warehouse (Some values.warehouse) (λ n value e. cc) w) d) c
+
+-- they are three at most
+pub three_written : (records : Records) (values : NewValues) → length (values_put records values).values ≤ 3
+three_written records values =
+    let one = puts no_writes records.warehouse (Some values.warehouse) in
+    let two = puts one records.district (Some values.district) in
+    let b : length two.values ≤ length one.values + 1 = length-insert_entry records.district (Some values.district) one.values in
+    let c : length (values_put records values).values ≤ length two.values + 1 = length-insert_entry records.customer (Some values.customer.words) two.values in
+    omega (arith, b, c)
 
 module _ (t0 : Database) (x : PaymentInput) (reads : ReadSetView) (records : Records) (found : Found)
     (valid : IsPayment t0.scale x)
@@ -105,8 +105,8 @@ module _ (t0 : Database) (x : PaymentInput) (reads : ReadSetView) (records : Rec
         }
 
     -- the writes and the reply, where they are made of these rows
-    module _ (paid : Paid) (made : (w : Warehouse) (d : District) (c : Customer) → AreRows found w d c → IsPaid x.amount w d c paid) where
-      replies : (t : Database) → MayBe t0 reads t → payment_reply t x ≡ reply_of paid x
+    module _ (values : NewValues) (made : (w : Warehouse) (d : District) (c : Customer) → AreRows found w d c → AreNewValues x.amount w d c values) where
+      replies : (t : Database) → MayBe t0 reads t → payment_reply t x ≡ reply_of values x
       replies t h =
           let r = rows_of t h in
           let balance = balance_changed t x r.c r.at_c ∙ sym (made r.w r.d r.c r.are).balance in
@@ -119,37 +119,33 @@ module _ (t0 : Database) (x : PaymentInput) (reads : ReadSetView) (records : Rec
             balance = balance i;
           }
 
-      changes : (t : Database) → MayBe t0 reads t → (n : ℕ) → n < record_count t.scale → rows (after_payment t x) n ≡ written (writings_of records paid x) (rows t) n
-      changes t h n small =
+      -- three records change
+      abbrev changes : Changes
+      changes = (key.Warehouse x.warehouse, Some values.warehouse)
+          ∷ (key.District (record { warehouse = x.warehouse; district = x.district }), Some values.district)
+          ∷ (key.Customer (payer x), Some values.customer.words) ∷ []
+
+      changed : (t : Database) → MayBe t0 reads t → Holds t (puts_all t.scale no_writes changes) (row_at (after_payment t x))
+      changed t h =
           let r = rows_of t h in
           let p = made r.w r.d r.c r.are in
-          let s : t.scale ≡ t0.scale = h.of_population.scale in
-          let v : IsPayment t.scale x = subst (λ (q : Sizes). IsPayment q x) (sym s) valid in
-          let kw : RecordKey = key.Warehouse x.warehouse in
-          let kd : RecordKey = key.District (record { warehouse = x.warehouse; district = x.district }) in
-          let kc : RecordKey = key.Customer (payer x) in
-          let nw : records.warehouse ≡ number_of_key t.scale kw = at_warehouse ∙ ap (λ (q : Sizes). number_of_key q kw) (sym s) in
-          let nd : records.district ≡ number_of_key t.scale kd = at_district ∙ ap (λ (q : Sizes). number_of_key q kd) (sym s) in
-          let nc : records.customer ≡ number_of_key t.scale kc = at_customer ∙ ap (λ (q : Sizes). number_of_key q kc) (sym s) in
-          let here = numbered t.scale n small in
-          elim (is_eq (nat_cmp n records.warehouse)) as (λ b. is_eq (nat_cmp n records.warehouse) ≡ b →
-          rows (after_payment t x) n ≡ unwrap_or (cond b (Some (Some paid.warehouse)) (cond (is_eq (nat_cmp n records.district)) (Some (Some paid.district)) (cond (is_eq (nat_cmp n records.customer)) (Some (Some paid.customer.words)) None))) (rows t n)) [
-            | true ↦ λ e. ap (rows (after_payment t x)) (same_number n records.warehouse e ∙ nw) ∙ at_key (after_payment t x) kw v.warehouse ∙ warehouse_changed t x r.w r.at_w ∙ ap Some (sym p.warehouse)
-            | false ↦ λ no_w.
-                elim (is_eq (nat_cmp n records.district)) as (λ b. is_eq (nat_cmp n records.district) ≡ b →
-                rows (after_payment t x) n ≡ unwrap_or (cond b (Some (Some paid.district)) (cond (is_eq (nat_cmp n records.customer)) (Some (Some paid.customer.words)) None)) (rows t n)) [
-                  | true ↦ λ e. ap (rows (after_payment t x)) (same_number n records.district e ∙ nd) ∙ at_key (after_payment t x) kd (v.warehouse, v.district) ∙ district_changed t x r.d r.at_d ∙ ap Some (sym p.district)
-                  | false ↦ λ no_d.
-                      elim (is_eq (nat_cmp n records.customer)) as (λ b. is_eq (nat_cmp n records.customer) ≡ b →
-                      rows (after_payment t x) n ≡ unwrap_or (cond b (Some (Some paid.customer.words)) None) (rows t n)) [
-                        | true ↦ λ e. ap (rows (after_payment t x)) (same_number n records.customer e ∙ nc) ∙ at_key (after_payment t x) kc (v.customer_warehouse, v.customer_district, v.customer) ∙ customer_changed t x r.c r.at_c ∙ ap Some (sym p.customer)
-                        | false ↦ λ no_c. others t x (key_of t.scale n)
-                            (λ e. other_number n records.warehouse no_w (sym here.1 ∙ ap (number_of_key t.scale) e ∙ sym nw))
-                            (λ e. other_number n records.district no_d (sym here.1 ∙ ap (number_of_key t.scale) e ∙ sym nd))
-                            (λ e. other_number n records.customer no_c (sym here.1 ∙ ap (number_of_key t.scale) e ∙ sym nc))
-                      ] refl
-                ] refl
-          ] refl
+          let v : IsPayment t.scale x = subst (λ (q : Sizes). IsPayment q x) (sym h.of_population.scale) valid in
+          holds-changes t changes no_writes (row_at t) (row_at (after_payment t x)) (holds_first t no_writes (λ n. refl))
+          (v.warehouse, ((v.warehouse, v.district), ((v.customer_warehouse, v.customer_district, v.customer), tt)))
+          (warehouse_changed t x r.w r.at_w ∙ ap Some (sym p.warehouse), (district_changed t x r.d r.at_d ∙ ap Some (sym p.district), (customer_changed t x r.c r.at_c ∙ ap Some (sym p.customer), tt)))
+          (λ j _ apart. others t x j apart.0 apart.1.0 apart.1.1.0)
 
-      pub explains : Explains t0 (input.Payment x) reads (writings_of records paid x) (reply.Payment (reply_of paid x))
-      explains = record { replies = λ t h. ap reply.Payment (replies t h); rows = changes; history = λ t h. refl }
+      -- the records' numbers are those of the changes
+      same_puts : (s : Sizes) → s ≡ t0.scale → puts_all s no_writes changes ≡ values_put records values
+      same_puts s e =
+          let w : number_of_key s (key.Warehouse x.warehouse) ≡ records.warehouse = ap (λ (q : Sizes). warehouse_record q x) e ∙ sym at_warehouse in
+          let d : number_of_key s (key.District (record { warehouse = x.warehouse; district = x.district })) ≡ records.district = ap (λ (q : Sizes). district_record q x) e ∙ sym at_district in
+          let c : number_of_key s (key.Customer (payer x)) ≡ records.customer = ap (λ (q : Sizes). customer_record q x) e ∙ sym at_customer in
+          λ i. puts (puts (puts no_writes (w i) (Some values.warehouse)) (d i) (Some values.district)) (c i) (Some values.customer.words)
+
+      pub explains : Explains t0 (input.Payment x) reads (writes_of records values x) (reply.Payment (reply_of values x))
+      explains t h = record {
+        commits = ap (λ told. Committed (after_payment t x) (reply.Payment told)) (replies t h);
+        rows = λ n small. (changed t h).put_in n small ∙ ap (λ (w : WriteSetView). rows_with w (rows t) n) (same_puts t.scale h.of_population.scale);
+        history = refl;
+      }

@@ -1,5 +1,3 @@
-pub mod Numbers
-mod Entries
 mod Numbered
 mod Changed
 mod Explained

@@ -1,21 +1,21 @@
 //! Payments on the cells of one warehouse, two districts and ten customers a district: record 0 is the warehouse,
 //! 1 and 2 are the districts, and from 3 on there are the customers of the first district.
 ghost use Rattle.std.specs.Prelude.{◌≡◌, ◌≢◌, ℕ, ◌<◌, length, IfOk};
-ghost use Rattle.tables.specs.Sizes.{Sizes};
-ghost use Rattle.tables.specs.Inputs.{IsInput};
+ghost use Rattle.tables.specs.Payment.{IsPayment};
 ghost use Rattle.cells.specs.Records.{at};
 ghost use Rattle.cells.specs.Versions.{last_tid};
 ghost use Rattle.cells.specs.First.{cell_count};
 ghost use Rattle.population.specs.Initial.{initial};
 
-use crate::{Work, execute};
+use crate::execute;
 use cells::{Cells, Pen, Reader, Status, TidWord};
-use money::{Cents, Refusal};
+use money::{Cents, MAX_MONEY, Refusal};
 use population::Population;
+use readset::{ReadSet, Work};
 use std::alloc::Global;
 use std::sync::Wait;
 use std::test::Fail;
-use tables::{History, Input, Payment, PaymentReply, Reply, Scale, Who};
+use tables::{History, Input, PaymentInput, PaymentReply, Reply, Scale, Who};
 
 /// A population on cells.
 #[derive(Drop)]
@@ -24,6 +24,41 @@ struct Stage {
     cells: Cells,
     pen: Pen,
     reader: Reader,
+}
+
+/// The TID word and the data of a version.
+#[derive(Clone, Copy, Debug, PartialEq, Eq)]
+struct Held {
+    word: u64,
+    payload: [u64; 7],
+}
+
+/// What was seen of a payment that was executed: of its three records, the version read and what each is to hold.
+#[derive(Clone, Copy)]
+struct Seen {
+    input: Input,
+    reply: Reply,
+    reads: usize,
+    writes: usize,
+    read: Read,
+    written: Written,
+    history_row: Option<History>,
+}
+
+/// The versions read.
+#[derive(Clone, Copy)]
+struct Read {
+    warehouse: Option<Held>,
+    district: Option<Held>,
+    customer: Option<Held>,
+}
+
+/// What the records are to hold.
+#[derive(Clone, Copy)]
+struct Written {
+    warehouse: Option<[u64; 7]>,
+    district: Option<[u64; 7]>,
+    customer: Option<[u64; 7]>,
 }
 
 fn open<R: Wait>(rt: &R, alloc: Global) -> Result<Stage, Fail>
@@ -45,12 +80,15 @@ fn open<R: Wait>(rt: &R, alloc: Global) -> Result<Stage, Fail>
 }
 
 /// Stores the version 1 of epoch 1 of a record: these words, or that it is absent.
-fn store<R: Wait>(rt: &R, cells: &Cells, pen: &mut Pen, number: u32, value: Option<[u64; 7]>)
-    requires own { pen.old.cells ≡ cells.now }
-    requires is_record { number < length cells.now }
-    requires first { last_tid (at pen.old.all number) ≡ 0 }
-    ensures own { pen.new.cells ≡ pen.old.cells }
-    ensures others { (n : ℕ) → n ≢ number → at pen.new.all n ≡ at pen.old.all n }
+fn store<R: Wait>(rt: &R, stage: &mut Stage, number: u32, value: Option<[u64; 7]>)
+    requires own { stage.old.pen.cells ≡ stage.old.cells }
+    requires is_record { number < length stage.old.cells }
+    requires first { last_tid (at stage.old.pen.all number) ≡ 0 }
+    ensures own { stage.new.pen.cells ≡ stage.new.cells }
+    ensures others { (n : ℕ) → n ≢ number → at stage.new.pen.all n ≡ at stage.old.pen.all n }
+    ensures population { stage.new.population ≡ stage.old.population }
+    ensures cells { stage.new.cells ≡ stage.old.cells }
+    ensures reader { stage.new.reader ≡ stage.old.reader }
 {
     let status = Status {
         latest: true,
@@ -58,25 +96,27 @@ fn store<R: Wait>(rt: &R, cells: &Cells, pen: &mut Pen, number: u32, value: Opti
         locked: false,
     };
     let word = TidWord::pack(1, 1, status);
-    cells.store(rt, pen, number, word, value.unwrap_or([0; 7]));
+    stage.cells.store(rt, &mut stage.pen, number, word, value.unwrap_or([0; 7]));
 }
 
 /// A payment of customer 3 of district 1 to that district.
-fn payment(scale: &Scale, amount: i64) -> Result<Input, Refusal>
-    ensures { IfOk result (λ input. IsInput scale.now input) }
+fn asked(amount: i64) -> PaymentInput {
+    PaymentInput {
+        date: 1,
+        warehouse: 1,
+        district: 1,
+        customer_warehouse: 1,
+        customer_district: 1,
+        who: Who::Id(3),
+        amount: Cents::new(amount),
+    }
+}
+
+fn payment(scale: &Scale, amount: i64) -> Result<PaymentInput, Refusal>
+    ensures { IfOk result (λ payment. IsPayment scale.now payment) }
 {
-    Input::payment(
-        scale,
-        Payment {
-            date: 1,
-            warehouse: 1,
-            district: 1,
-            customer_warehouse: 1,
-            customer_district: 1,
-            who: Who::Id(3),
-            amount: Cents::new(amount),
-        },
-    )
+    let Input::Payment(payment) = Input::payment(scale, asked(amount))?;
+    Ok(payment)
 }
 
 fn reply(balance: i64) -> Reply {
@@ -90,46 +130,68 @@ fn reply(balance: i64) -> Reply {
     })
 }
 
-/// What a record is to hold.
-fn value(work: &Work, number: u32) -> Option<[u64; 7]> {
-    let mut found = None;
-    for (record, value) in work.writes.values() {
-        if *record == number {
-            found = *value;
-        }
-    }
-    found
+/// The version read of a record.
+fn held(reads: &ReadSet, number: u32) -> Option<Held> {
+    let version = reads.held(number)?;
+    Some(Held {
+        word: version.word.word(),
+        payload: version.payload,
+    })
 }
 
-/// The TID word and the data of the version read of a record.
-fn version(work: &Work, number: u32) -> Option<(u64, [u64; 7])> {
-    let mut found = None;
-    for (record, version) in work.reads.versions() {
-        if *record == number {
-            found = Some((version.word.word(), version.payload));
-        }
+fn seen_of(work: &Work) -> Seen {
+    Seen {
+        input: work.input,
+        reply: work.reply,
+        reads: work.reads.versions().count(),
+        writes: work.writes.values().count(),
+        read: Read {
+            warehouse: held(&work.reads, 0),
+            district: held(&work.reads, 1),
+            customer: held(&work.reads, 5),
+        },
+        written: Written {
+            warehouse: work.writes.value(0).flatten(),
+            district: work.writes.value(1).flatten(),
+            customer: work.writes.value(5).flatten(),
+        },
+        history_row: work.writes.history_row(),
     }
-    found
+}
+
+/// Executes a payment.
+fn pay<R: Wait>(rt: &R, alloc: Global, stage: &mut Stage, amount: i64) -> Result<Seen, Refusal>
+    requires scale { length stage.old.cells ≡ cell_count (initial stage.old.population).scale }
+    requires reader { stage.old.reader.cells ≡ stage.old.cells }
+    ensures population { stage.new.population ≡ stage.old.population }
+    ensures cells { stage.new.cells ≡ stage.old.cells }
+    ensures pen { stage.new.pen ≡ stage.old.pen }
+    ensures reader { stage.new.reader.cells ≡ stage.old.reader.cells }
+{
+    let payment = payment(&stage.population.scale(), amount)?;
+    let work = execute(
+        rt,
+        alloc,
+        &stage.cells,
+        &mut stage.reader,
+        &stage.population,
+        &payment,
+    )?;
+    Ok(seen_of(&work))
 }
 
 #[test]
 fn a_payment(rt: HostRuntime) -> Result<(), Fail> {
-    let Stage {
-        population,
-        cells,
-        mut reader,
-        ..
-    } = open(&rt, rt.alloc())?;
-    let input = payment(&population.scale(), 1_234)?;
-    let work = execute(&rt, rt.alloc(), &cells, &mut reader, &population, &input)?;
-    assert_eq!(rt; work.input, input);
-    assert_eq!(rt; work.reply, reply(-2_234));
-    assert_eq!(rt; work.reads.versions().count(), 3);
-    assert_eq!(rt; work.writes.values().count(), 3);
-    assert_eq!(rt; value(&work, 0), Some([21_234, 0, 0, 0, 0, 0, 0]));
-    assert_eq!(rt; value(&work, 1), Some([11_234, 11, 0, 0, 0, 0, 0]));
+    let mut stage = open(&rt, rt.alloc())?;
+    let seen = pay(&rt, rt.alloc(), &mut stage, 1_234)?;
+    assert_eq!(rt; seen.input, Input::Payment(asked(1_234)));
+    assert_eq!(rt; seen.reply, reply(-2_234));
+    assert_eq!(rt; seen.reads, 3);
+    assert_eq!(rt; seen.writes, 3);
+    assert_eq!(rt; seen.written.warehouse, Some([21_234, 0, 0, 0, 0, 0, 0]));
+    assert_eq!(rt; seen.written.district, Some([11_234, 11, 0, 0, 0, 0, 0]));
     let customer = [(-2_234_i64).cast_unsigned(), 2_234, 2, 0, 0, 0, 0];
-    assert_eq!(rt; value(&work, 5), Some(customer));
+    assert_eq!(rt; seen.written.customer, Some(customer));
     let row = History {
         customer: 3,
         customer_district: 1,
@@ -139,31 +201,43 @@ fn a_payment(rt: HostRuntime) -> Result<(), Fail> {
         date: 1,
         amount: Cents::new(1_234),
     };
-    assert_eq!(rt; work.writes.history(), Some(row));
+    assert_eq!(rt; seen.history_row, Some(row));
     Ok(())
+}
+
+/// Executes a payment and stores what it is to write.
+fn pay_and_store<R: Wait>(
+    rt: &R,
+    alloc: Global,
+    stage: &mut Stage,
+    amount: i64,
+) -> Result<Seen, Refusal>
+    requires count { length stage.old.cells ≡ 23 }
+    requires scale { length stage.old.cells ≡ cell_count (initial stage.old.population).scale }
+    requires pen { stage.old.pen.cells ≡ stage.old.cells }
+    requires reader { stage.old.reader.cells ≡ stage.old.cells }
+    requires first { (n : ℕ) → last_tid (at stage.old.pen.all n) ≡ 0 }
+    ensures scale { length stage.new.cells ≡ cell_count (initial stage.new.population).scale }
+    ensures reader { stage.new.reader.cells ≡ stage.new.cells }
+{
+    let seen = pay(rt, alloc, stage, amount)?;
+    store(rt, stage, 0, seen.written.warehouse);
+    store(rt, stage, 1, seen.written.district);
+    store(rt, stage, 5, seen.written.customer);
+    Ok(seen)
 }
 
 #[test]
 fn a_payment_after_another(rt: HostRuntime) -> Result<(), Fail> {
-    let Stage {
-        population,
-        cells,
-        mut pen,
-        mut reader,
-    } = open(&rt, rt.alloc())?;
-    let input = payment(&population.scale(), 100)?;
-    let first = execute(&rt, rt.alloc(), &cells, &mut reader, &population, &input)?;
+    let mut stage = open(&rt, rt.alloc())?;
+    let first = pay_and_store(&rt, rt.alloc(), &mut stage, 100)?;
     assert_eq!(rt; first.reply, reply(-1_100));
-    store(&rt, &cells, &mut pen, 0, value(&first, 0));
-    store(&rt, &cells, &mut pen, 1, value(&first, 1));
-    store(&rt, &cells, &mut pen, 5, value(&first, 5));
-    let input = payment(&population.scale(), 500_000)?;
-    let second = execute(&rt, rt.alloc(), &cells, &mut reader, &population, &input)?;
+    let second = pay(&rt, rt.alloc(), &mut stage, 500_000)?;
     assert_eq!(rt; second.reply, reply(-501_100));
-    assert_eq!(rt; value(&second, 0), Some([520_100, 0, 0, 0, 0, 0, 0]));
-    assert_eq!(rt; value(&second, 1), Some([510_100, 11, 0, 0, 0, 0, 0]));
+    assert_eq!(rt; second.written.warehouse, Some([520_100, 0, 0, 0, 0, 0, 0]));
+    assert_eq!(rt; second.written.district, Some([510_100, 11, 0, 0, 0, 0, 0]));
     let customer = [(-501_100_i64).cast_unsigned(), 501_100, 3, 0, 0, 0, 0];
-    assert_eq!(rt; value(&second, 5), Some(customer));
+    assert_eq!(rt; second.written.customer, Some(customer));
     Ok(())
 }
 
@@ -173,49 +247,57 @@ fn outcome<R: Wait>(
     alloc: Global,
     number: u32,
     value: Option<[u64; 7]>,
-) -> Result<Result<Work, Refusal>, Fail>
+) -> Result<Result<Seen, Refusal>, Fail>
     requires { number < 23 }
 {
-    let Stage {
-        population,
-        cells,
-        mut pen,
-        mut reader,
-    } = open(rt, alloc)?;
-    store(rt, &cells, &mut pen, number, value);
-    let input = payment(&population.scale(), 1_234)?;
-    Ok(execute(rt, alloc, &cells, &mut reader, &population, &input))
+    let mut stage = open(rt, alloc)?;
+    store(rt, &mut stage, number, value);
+    Ok(pay(rt, alloc, &mut stage, 1_234))
 }
 
 #[test]
 fn reads_between_the_stores_of_another(rt: HostRuntime) -> Result<(), Fail> {
     // Another payment of 1.00 has stored its warehouse and not yet its district.
     let warehouse = [20_100, 0, 0, 0, 0, 0, 0];
-    let work = outcome(&rt, rt.alloc(), 0, Some(warehouse))??;
-    assert_eq!(rt; work.reads.versions().count(), 3);
-    assert_eq!(rt; version(&work, 0), Some((4_294_967_306, warehouse)));
-    let district = [10_000, 11, 0, 0, 0, 0, 0];
-    assert_eq!(rt; version(&work, 1), Some((2, district)));
-    let customer = [(-1_000_i64).cast_unsigned(), 1_000, 1, 0, 0, 0, 0];
-    assert_eq!(rt; version(&work, 5), Some((2, customer)));
-    assert_eq!(rt; value(&work, 0), Some([21_334, 0, 0, 0, 0, 0, 0]));
-    assert_eq!(rt; value(&work, 1), Some([11_234, 11, 0, 0, 0, 0, 0]));
-    assert_eq!(rt; work.reply, reply(-2_234));
+    let seen = outcome(&rt, rt.alloc(), 0, Some(warehouse))??;
+    assert_eq!(rt; seen.reads, 3);
+    let stored = Held { word: 4_294_967_306, payload: warehouse };
+    assert_eq!(rt; seen.read.warehouse, Some(stored));
+    let district = Held { word: 2, payload: [10_000, 11, 0, 0, 0, 0, 0] };
+    assert_eq!(rt; seen.read.district, Some(district));
+    let payload = [(-1_000_i64).cast_unsigned(), 1_000, 1, 0, 0, 0, 0];
+    assert_eq!(rt; seen.read.customer, Some(Held { word: 2, payload }));
+    assert_eq!(rt; seen.written.warehouse, Some([21_334, 0, 0, 0, 0, 0, 0]));
+    assert_eq!(rt; seen.written.district, Some([11_234, 11, 0, 0, 0, 0, 0]));
+    assert_eq!(rt; seen.reply, reply(-2_234));
     Ok(())
 }
 
-fn is_stale(outcome: Result<Work, Refusal>) -> bool {
-    matches!(outcome, Err(Refusal::Stale))
+fn is_stale<R: Wait>(
+    rt: &R,
+    alloc: Global,
+    number: u32,
+    value: Option<[u64; 7]>,
+) -> Result<bool, Fail>
+    requires { number < 23 }
+{
+    let outcome = outcome(rt, alloc, number, value)?;
+    Ok(matches!(outcome, Err(Refusal::Stale)))
+}
+
+#[test]
+fn records_that_no_tables_miss(rt: HostRuntime) -> Result<(), Fail> {
+    assert!(rt; is_stale(&rt, rt.alloc(), 0, None)?);
+    assert!(rt; is_stale(&rt, rt.alloc(), 1, None)?);
+    assert!(rt; is_stale(&rt, rt.alloc(), 5, None)?);
+    Ok(())
 }
 
 #[test]
 fn versions_that_no_tables_have(rt: HostRuntime) -> Result<(), Fail> {
-    let limit = 10_000_000_000_000;
-    assert!(rt; is_stale(outcome(&rt, rt.alloc(), 0, None)?));
-    assert!(rt; is_stale(outcome(&rt, rt.alloc(), 1, None)?));
-    assert!(rt; is_stale(outcome(&rt, rt.alloc(), 5, None)?));
-    assert!(rt; is_stale(outcome(&rt, rt.alloc(), 0, Some([limit + 1, 0, 0, 0, 0, 0, 0]))?));
-    assert!(rt; !is_stale(outcome(&rt, rt.alloc(), 0, Some([limit, 0, 0, 0, 0, 0, 0]))?));
-    assert!(rt; !is_stale(outcome(&rt, rt.alloc(), 6, None)?));
+    let limit = MAX_MONEY.cast_unsigned();
+    assert!(rt; is_stale(&rt, rt.alloc(), 0, Some([limit + 1, 0, 0, 0, 0, 0, 0]))?);
+    assert!(rt; !is_stale(&rt, rt.alloc(), 0, Some([limit, 0, 0, 0, 0, 0, 0]))?);
+    assert!(rt; !is_stale(&rt, rt.alloc(), 6, None)?);
     Ok(())
 }

@@ -1,8 +1,7 @@
 //! A Payment on record cells.
-ghost use Rattle.std.specs.Prelude.{◌≡◌, ◌+◌, ◌<◌, ◌≤◌, ◌⊎◌, ◌≤ℤ◌, pos, ℕ, [], ◌∷◌, length, Some, IfOk, IfErr, OnOk};
-ghost use Rattle.tables.specs.Database.{Database};
-ghost use Rattle.tables.specs.Inputs.{IsInput};
-ghost use Rattle.tables.specs.Payment.{IsPayment, history_row};
+ghost use Rattle.std.specs.Prelude.{◌≡◌, ◌<◌, ◌≤◌, ◌⊎◌, ◌≤ℤ◌, pos, ℕ, [], length, Some, IfOk, IfErr, OnOk};
+ghost use Rattle.tables.specs.Payment.{IsPayment};
+ghost use Rattle.tables.specs.declared.limits.TheConstants.{MAX_PAYMENT};
 ghost use Rattle.tables.specs.declared.input.Input.TheVariants as input_variants;
 ghost use Rattle.tables.specs.declared.rows.Warehouse.{Warehouse};
 ghost use Rattle.tables.specs.declared.rows.District.{District};
@@ -12,27 +11,25 @@ ghost use Rattle.cells.specs.First.{cell_count};
 ghost use Rattle.cells.specs.Records.{HasGrown};
 ghost use Rattle.cells.specs.declared.cells.Version.{Version};
 ghost use Rattle.population.specs.Initial.{initial};
-ghost use Rattle.payment.specs.Reads.{ReadSetView, AreRead, held};
-ghost use Rattle.payment.specs.Explains.{Explains, NoneMayBe, IsWithinLimits};
-ghost use Rattle.payment.specs.declared.transaction.Paid.{Paid as Made};
-ghost use Rattle.payment.specs.Paid.{warehouse_record, district_record, customer_record, writings_of, reply_of, AreRows, IsPaid};
+ghost use Rattle.readset.specs.Reads.{ReadSetView, AreRead, held};
+ghost use Rattle.readset.specs.Explains.{Explains, NoneMayBe, IsWithinLimits};
+ghost use Rattle.payment.specs.declared.transaction.NewValues.{NewValues as Values};
+ghost use Rattle.payment.specs.Steps.{warehouse_record, district_record, customer_record, writes_of, reply_of, AreRows, AreNewValues};
 
-use crate::pay::{Charged, charge_customer, raise_district, raise_warehouse};
-use crate::reads::ReadSet;
-use crate::work::Work;
-use crate::writes::WriteSet;
+use crate::change::{Charged, charge_customer, raise_district, raise_warehouse};
 use cells::{Cells, Reader, Version};
 use money::{Cents, Refusal};
 use population::Population;
+use readset::{ReadSet, Work, WriteSet};
 use std::alloc::Global;
 use std::sync::Wait;
 use tables::{
-    CustomerKey, DistrictKey, History, Input, Payment, PaymentReply, RecordKey, Reply, Scale, Who,
+    CustomerKey, DistrictKey, History, Input, PaymentInput, PaymentReply, RecordKey, Reply, Scale, Who,
     number_of_key,
 };
 
 /// The numbers of the records that a Payment reads and writes.
-#[derive(Clone, Copy, Debug, PartialEq, Eq)]
+#[derive(Clone, Copy)]
 struct Records {
     warehouse: u32,
     district: u32,
@@ -40,7 +37,7 @@ struct Records {
 }
 
 /// The versions of those records.
-#[derive(Clone, Copy, Debug, PartialEq, Eq)]
+#[derive(Clone, Copy)]
 struct Found {
     warehouse: Version,
     district: Version,
@@ -48,14 +45,14 @@ struct Found {
 }
 
 /// What they are to hold.
-#[derive(Clone, Copy, Debug, PartialEq, Eq)]
-struct Paid {
+#[derive(Clone, Copy)]
+struct NewValues {
     warehouse: [u64; 7],
     district: [u64; 7],
     customer: Charged,
 }
 
-/// Executes a transaction: reads its records once each, and says what it is to write and to reply if it
+/// Executes a Payment (TPC-C 2.5.2.2): reads its records once each, and says what it is to write and to reply if it
 /// commits. No cell changes. Costs three loads and a few look-ups, whatever the tables' size.
 ///
 /// # Errors
@@ -69,32 +66,7 @@ pub fn execute<R: Wait>(
     cells: &Cells,
     reader: &mut Reader,
     population: &Population,
-    input: &Input,
-) -> Result<Work, Refusal>
-    requires input { IsInput (initial population.now).scale input.now }
-    requires own { reader.old.cells ≡ cells.now }
-    requires cells { length cells.now ≡ cell_count (initial population.now).scale }
-    ensures input { IfOk result (λ work. work.input ≡ input.now) }
-    ensures read { IfOk result (λ work. AreRead reader.old reader.new work.reads) }
-    ensures explains { IfOk result (λ work. Explains (initial population.now) input.now work.reads work.writes work.reply) }
-    ensures limits { IfOk result (λ work. IsWithinLimits (length cells.now) work.reads work.writes) }
-    ensures grown { HasGrown reader.old reader.new }
-    ensures refused { IfErr result (λ refusal. (refusal ≡ OutOfMemory) ⊎
-        ((refusal ≡ Stale) × ((reads : ReadSetView) × AreRead reader.old reader.new reads × NoneMayBe (initial population.now) reads))) }
-{
-    match input {
-        Input::Payment(payment) => pay(rt, alloc, cells, reader, population, payment),
-    }
-}
-
-/// A Payment (TPC-C 2.5.2.2).
-fn pay<R: Wait>(
-    rt: &R,
-    alloc: Global,
-    cells: &Cells,
-    reader: &mut Reader,
-    population: &Population,
-    payment: &Payment,
+    payment: &PaymentInput,
 ) -> Result<Work, Refusal>
     requires input { IsPayment (initial population.now).scale payment.now }
     requires own { reader.old.cells ≡ cells.now }
@@ -110,11 +82,11 @@ fn pay<R: Wait>(
     let records = records_of(&population.scale(), payment);
     let mut reads = ReadSet::new(alloc);
     let found = read(rt, cells, reader, &mut reads, records)?;
-    let Some(paid) = make(&found, payment.amount) else {
+    let Some(values) = new_values(&found, payment.amount) else {
         return Err(Refusal::Stale);
     };
-    let writes = write(alloc, records, &paid, payment)?;
-    let reply = Reply::Payment(reply(payment, &paid));
+    let writes = write(alloc, records, &values, payment)?;
+    let reply = Reply::Payment(reply(payment, &values));
     Ok(Work {
         input: Input::Payment(*payment),
         reads,
@@ -124,7 +96,7 @@ fn pay<R: Wait>(
 }
 
 /// The numbers of the records that a Payment reads and writes.
-fn records_of(scale: &Scale, payment: &Payment) -> Records
+fn records_of(scale: &Scale, payment: &PaymentInput) -> Records
     requires { IsPayment scale.now payment.now }
     ensures warehouse { result.warehouse ≡ warehouse_record scale.now payment.now }
     ensures district { result.district ≡ district_record scale.now payment.now }
@@ -157,7 +129,7 @@ fn read<R: Wait>(
 ) -> Result<Found, Refusal>
     requires own { reader.old.cells ≡ cells.now }
     requires none { reads.old ≡ [] }
-    requires order { (records.warehouse < records.district) × (records.district < records.customer) × (records.customer < length cells.now) }
+    requires are_records { (records.warehouse < length cells.now) × (records.district < length cells.now) × (records.customer < length cells.now) }
     ensures read { OnOk result (AreRead reader.old reader.new reads.new) }
     ensures warehouse { IfOk result (λ found. held reads.new records.warehouse ≡ Some found.warehouse) }
     ensures district { IfOk result (λ found. held reads.new records.district ≡ Some found.district) }
@@ -178,12 +150,12 @@ fn read<R: Wait>(
 }
 
 /// What the three records are to hold. None only where no well-formed tables have these versions.
-fn make(found: &Found, amount: Cents) -> Option<Paid>
+fn new_values(found: &Found, amount: Cents) -> Option<NewValues>
     requires low { pos 0 ≤ℤ amount }
-    requires high { amount ≤ℤ pos 500000 }
-    ensures { (w : Warehouse) (d : District) (c : Customer) → AreRows found.now w d c → (paid : Made) × (result ≡ Some paid) × IsPaid amount w d c paid }
+    requires high { amount ≤ℤ MAX_PAYMENT }
+    ensures { (w : Warehouse) (d : District) (c : Customer) → AreRows found.now w d c → (values : Values) × (result ≡ Some values) × AreNewValues amount w d c values }
 {
-    Some(Paid {
+    Some(NewValues {
         warehouse: raise_warehouse(&found.warehouse, amount)?,
         district: raise_district(&found.district, amount)?,
         customer: charge_customer(&found.customer, amount)?,
@@ -194,19 +166,18 @@ fn make(found: &Found, amount: Cents) -> Option<Paid>
 fn write(
     alloc: Global,
     records: Records,
-    paid: &Paid,
-    payment: &Payment,
+    values: &NewValues,
+    payment: &PaymentInput,
 ) -> Result<WriteSet, Refusal>
-    requires { (records.warehouse < records.district) × (records.district < records.customer) }
-    ensures ok { IfOk result (λ writes. writes ≡ writings_of records paid.now payment.now) }
+    ensures ok { IfOk result (λ writes. writes ≡ writes_of records values.now payment.now) }
     ensures only_memory { IfErr result (λ refusal. refusal ≡ OutOfMemory) }
 {
     let Who::Id(customer) = payment.who;
     let mut writes = WriteSet::new(alloc);
-    writes.put(records.warehouse, Some(paid.warehouse))?;
-    writes.put(records.district, Some(paid.district))?;
-    writes.put(records.customer, Some(paid.customer.words))?;
-    writes.add_history(History {
+    writes.put(records.warehouse, Some(values.warehouse))?;
+    writes.put(records.district, Some(values.district))?;
+    writes.put(records.customer, Some(values.customer.words))?;
+    writes.put_history_row(History {
         customer,
         customer_district: payment.customer_district,
         customer_warehouse: payment.customer_warehouse,
@@ -219,8 +190,8 @@ fn write(
 }
 
 /// The reply of a Payment (TPC-C 2.5.3.3).
-fn reply(payment: &Payment, paid: &Paid) -> PaymentReply
-    ensures { result ≡ reply_of paid.now payment.now }
+fn reply(payment: &PaymentInput, values: &NewValues) -> PaymentReply
+    ensures { result ≡ reply_of values.now payment.now }
 {
     let Who::Id(customer) = payment.who;
     PaymentReply {
@@ -229,6 +200,6 @@ fn reply(payment: &Payment, paid: &Paid) -> PaymentReply
         customer_warehouse: payment.customer_warehouse,
         customer_district: payment.customer_district,
         customer,
-        balance: paid.customer.balance,
+        balance: values.customer.balance,
     }
 }

@@ -11,7 +11,7 @@ use Rattle.std.proofs.lemmas.Nat.{mul-le}
 use Rattle.tables.specs.Sizes.{Sizes, IsNumber}
 use Rattle.tables.specs.Maps.{RowsAt, RowsWithin, EachRow}
 use Rattle.tables.specs.Database.{Database}
-use Rattle.tables.specs.WellFormed.{IsMoneyFor, IsHistoryRow, IsWellFormed, HasRoom}
+use Rattle.tables.specs.WellFormed.{IsMoney, IsMoneyFor, IsHistoryRow, IsWellFormed, HasRoom}
 use Rattle.population.specs.Plain.{numbers, plain_history_row, plain_order, IsTable, IsPlain}
 use Rattle.population.proofs.Lists.{map_more, flat_map_more}
 
@@ -57,6 +57,9 @@ money n amount fits = (omega (arith, ints), omega (arith, ints))
 
 debt : (n : ℕ) → 1000 + 15000000 * n ≤ 10000000000000 → IsMoneyFor n (neg_ℤ (pos 1000))
 debt n fits = (omega (arith, ints), omega (arith, ints))
+
+plain_money : (amount : ℕ) → amount ≤ 10000000000000 → IsMoney (pos amount)
+plain_money amount fits = (omega (arith, ints), omega (arith, ints))
 
 is_history_row : (s : Sizes) (w d c : ℕ) → IsNumber s.warehouses w → IsNumber s.districts d → IsNumber s.customers c → IsHistoryRow s (plain_history_row w d c)
 is_history_row s w d c in_warehouse in_district in_customer = record {
@@ -107,14 +110,14 @@ module _ (t : Database) (fit : IsFit t.scale) (plain : IsPlain t.scale t) where
     orders = within plain.orders _ (λ k h. (h.0, h.1, (h.2.0, omega (arith, h.2, fit.orders))));
     lines = within plain.lines _ (λ k h. (h.0, h.1, (h.2.0, omega (arith, h.2, fit.orders)), (h.3.0, omega (arith, h.3))));
     items = within plain.items _ (λ k h. h);
-    warehouse_rows = each plain.warehouses _ (λ k h. money 0 (t.scale.districts * (t.scale.customers * 1000)) (omega (arith, total)));
+    warehouse_rows = each plain.warehouses _ (λ k h. plain_money (t.scale.districts * (t.scale.customers * 1000)) (omega (arith, total)));
     district_rows = each plain.districts _ (λ k h. record {
-      year_to_date = money 0 (t.scale.customers * 1000) (omega (arith, fit.customers));
+      year_to_date = plain_money (t.scale.customers * 1000) (omega (arith, fit.customers));
       next_order = (omega arith, omega (arith, fit.orders));
     });
     customer_rows = each plain.customers _ (λ k h. record {
-      balance = debt 0 (omega arith);
-      paid = money 0 1000 (omega arith);
+      balance = (omega (arith, ints), omega (arith, ints));
+      paid = plain_money 1000 (omega arith);
       payments = omega arith;
       deliveries = omega arith;
     });

@@ -1,7 +1,0 @@
-use Rattle.std.proofs.Common.{◌≡◌, Some, All, subst}
-use Rattle.payment.specs.Writes.{WriteSetView, value_for}
-use Rattle.payment.proofs.Entries.{each_found}
-use Rattle.payment.proofs.list.WriteList.values.Goals as goal
-
-pub returns-clause-found : goal.returns-clause-found
-returns-clause-found c = subst (λ (w : WriteSetView). All (λ e. value_for w e.0 ≡ Some e.1) w.values) c.self.view_is (each_found c.self.inside.values.items c.self.invariant)

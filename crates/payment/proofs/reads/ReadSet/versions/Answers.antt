@@ -1,6 +1,0 @@
-use Rattle.std.proofs.Common.{◌≡◌, Some, All, subst}
-use Rattle.payment.specs.Reads.{ReadSetView, held}
-use Rattle.payment.proofs.reads.ReadSet.versions.Goals as goal
-
-pub returns-clause-found : goal.returns-clause-found
-returns-clause-found c = subst (λ (r : ReadSetView). All (λ e. held r e.0 ≡ Some e.1) r) c.self.view_is c.iter.ensures.found

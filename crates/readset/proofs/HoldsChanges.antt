@@ -1,0 +1,58 @@
+-- A step that changes these records, by key, is those changes put in, at every record number.
+use Rattle.std.proofs.Common.{◌≡◌, ◌≢◌, ℕ, ◌<◌, Bool, true, false, cond, List, [], ◌∷◌, Option, Some, refl, sym, ap, ◌∙◌}
+use Rattle.std.specs.Option.{unwrap_or}
+use Rattle.std.specs.Ordering.{nat_cmp, is_eq}
+use Rattle.tables.specs.Database.{Database}
+use Rattle.tables.specs.Records.{record_count, number_of_key, key_of, IsRecordKey}
+use Rattle.tables.specs.Rows.{rows}
+use Rattle.tables.proofs.Numbers.{named, numbered}
+use Rattle.tables.specs.declared.records.RecordKey.{RecordKey}
+use Rattle.readset.specs.Writes.{WriteSetView, puts, value_for, rows_with}
+use Rattle.readset.specs.Changes.{Holds, Changes, Says, Apart, AreKeys, puts_all}
+use Rattle.readset.proofs.Numbers.{same_number, other_number}
+use Rattle.readset.proofs.Lookups.{lookup-insert_entry}
+
+-- a default under a test
+or_cond : {X : Type 0} (b : Bool) (x : X) (o : Option X) (d : X) → unwrap_or (cond b (Some x) o) d ≡ cond b x (unwrap_or o d)
+or_cond true x o d = refl
+or_cond false x o d = refl
+
+-- a record that is put in holds the value put, and the others what they held
+pub rows_with-puts : (writes : WriteSetView) (n : ℕ) (value : Option (List ℕ)) (row : ℕ → Option (List ℕ)) (m : ℕ)
+    → rows_with (puts writes n value) row m ≡ cond (is_eq (nat_cmp m n)) value (rows_with writes row m)
+rows_with-puts writes n value row m =
+    ap (λ (o : Option (Option (List ℕ))). unwrap_or o (row m)) (lookup-insert_entry m n value writes.values)
+    ∙ or_cond (is_eq (nat_cmp m n)) value (value_for writes m) (row m)
+
+module _ (t : Database) where
+  -- the rows by key, with one of them changed
+  abbrev with_row : RecordKey → Option (List ℕ) → (RecordKey → Option (List ℕ)) → RecordKey → Option (List ℕ)
+  with_row k value row j = cond (is_eq (nat_cmp (number_of_key t.scale j) (number_of_key t.scale k))) value (row j)
+
+  holds_put : (k : RecordKey) (value : Option (List ℕ)) (writes : WriteSetView) (row : RecordKey → Option (List ℕ)) → Holds t writes row
+      → Holds t (puts writes (number_of_key t.scale k) value) (with_row k value row)
+  holds_put k value writes row h = record {
+    put_in = λ n small. let m = number_of_key t.scale k in
+        (λ i. cond (is_eq (nat_cmp ((numbered t.scale n small).1 i) m)) value (h.put_in n small i))
+        ∙ sym (rows_with-puts writes m value (rows t) n);
+  }
+
+  -- two keys of one number are one
+  one_key : (j k : RecordKey) → IsRecordKey t.scale j → IsRecordKey t.scale k → number_of_key t.scale j ≡ number_of_key t.scale k → j ≡ k
+  one_key j k a b same = sym (named t.scale j a).1 ∙ ap (key_of t.scale) same ∙ (named t.scale k b).1
+
+  pub holds-changes : (changes : Changes) (writes : WriteSetView) (old new : RecordKey → Option (List ℕ)) → Holds t writes old
+      → AreKeys t.scale changes → Says new changes → ((j : RecordKey) → IsRecordKey t.scale j → Apart j changes → new j ≡ old j)
+      → Holds t (puts_all t.scale writes changes) new
+  holds-changes [] writes old new h keys says others = record { put_in = λ n small. others (key_of t.scale n) (numbered t.scale n small).0 tt ∙ h.put_in n small }
+  holds-changes (c ∷ cs) writes old new h keys says others =
+      holds-changes cs (puts writes (number_of_key t.scale c.0) c.1) (with_row c.0 c.1 old) new (holds_put c.0 c.1 writes old h) keys.1 says.1
+      (λ j is_key apart. let same = is_eq (nat_cmp (number_of_key t.scale j) (number_of_key t.scale c.0)) in
+      elim same as (λ b. same ≡ b → new j ≡ cond b c.1 (old j)) [
+        | true ↦ λ q. ap new (one_key j c.0 is_key keys.0 (same_number (number_of_key t.scale j) (number_of_key t.scale c.0) q)) ∙ says.0
+        | false ↦ λ q. others j is_key ((λ e. other_number (number_of_key t.scale j) (number_of_key t.scale c.0) q (ap (number_of_key t.scale) e)), apart)
+      ] refl)
+
+  -- before the first change, the rows are those of the tables
+  pub holds_first : (writes : WriteSetView) → ((n : ℕ) → rows_with writes (rows t) n ≡ rows t n) → Holds t writes (Rattle.tables.specs.Rows.row_at t)
+  holds_first writes same = record { put_in = λ n small. sym (same n) }

@@ -1,0 +1,8 @@
+pub mod Numbers
+pub mod HoldsChanges
+pub mod LeftIs
+pub mod MoreReads
+pub mod WrittenRecords
+mod Lookups
+mod Entries
+mod Loaded

@@ -1,0 +1,33 @@
+-- More reads: what is so at all tables that agree with some reads is so at all that agree with more.
+use Rattle.std.proofs.Common.{◌≡◌, Some, None, [], refl}
+use Rattle.tables.specs.Database.{Database}
+use Rattle.cells.specs.Records.{ReaderView}
+use Rattle.cells.specs.declared.cells.Version.{Version}
+use Rattle.readset.specs.Reads.{ReadSetView, AreRead, Keeps}
+use Rattle.readset.specs.Explains.{MayBe}
+
+none_some : (v : Version) → None ≡ Some v → ⊥
+none_some v e = cc
+
+-- nothing is read at first
+pub nothing_read : (reader : ReaderView) → AreRead reader reader []
+nothing_read reader = record {
+  cells = refl;
+  records = λ n v e. absurd (none_some v e);
+  loads = λ n v e. absurd (none_some v e);
+  grows = λ n v e. absurd (none_some v e);
+  last = λ n v e. absurd (none_some v e);
+  other_loads = λ n e. refl;
+  other_seen = λ n e. refl;
+}
+
+pub keeps_twice : (a b c : ReadSetView) → Keeps a b → Keeps b c → Keeps a c
+keeps_twice a b c first then n v found = then n v (first n v found)
+
+pub may_be_before : (t0 : Database) (reads more : ReadSetView) (t : Database) → Keeps reads more → MayBe t0 more t → MayBe t0 reads t
+may_be_before t0 reads more t keeps h = record {
+  of_population = h.of_population;
+  well_formed = h.well_formed;
+  consistent = h.consistent;
+  agrees = λ n v found. h.agrees n v (keeps n v found);
+}

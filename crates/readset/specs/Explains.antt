@@ -1,0 +1,45 @@
+-- When what a transaction read explains what it is to write and reply.
+use Rattle.std.specs.Prelude.{◌≡◌, ℕ, ◌<◌, ◌≤◌, Option, Some, IsSome, List, length}
+use Rattle.tables.specs.Database.{Database}
+use Rattle.tables.specs.Rows.{rows}
+use Rattle.tables.specs.Conditions.{IsConsistent}
+use Rattle.tables.specs.Constant.{IsOf}
+use Rattle.tables.specs.WellFormed.{IsWellFormed}
+use Rattle.tables.specs.declared.input.Input.{Input}
+use Rattle.tables.specs.declared.reply.Reply.{Reply}
+use Rattle.cells.specs.declared.cells.Version.{Version}
+use Rattle.readset.specs.declared.limits.TheConstants.{MAX_READS, MAX_WRITES}
+use Rattle.readset.specs.Reads.{ReadSetView, held, value_of}
+use Rattle.readset.specs.Writes.{WriteSetView, value_for}
+use Rattle.readset.specs.Commit.{IsCommitOf}
+
+-- each value read is the one that the tables have
+abbrev pub Agrees : Database → ReadSetView → Type 0
+Agrees t reads = (n : ℕ) (v : Version) → held reads n ≡ Some v → value_of v ≡ rows t n
+
+-- the tables at which a transaction may have read: the population's, well-formed, consistent, and as read
+pub record MayBe (t0 : Database) (reads : ReadSetView) (t : Database) : Type 0 where
+  pub of_population : IsOf t0 t
+  pub well_formed : IsWellFormed t
+  pub consistent : IsConsistent t
+  pub agrees : Agrees t reads
+
+-- at all such tables, the transaction has this reply and these writes
+abbrev pub Explains : Database → Input → ReadSetView → WriteSetView → Reply → Type 0
+Explains t0 x reads writes reply = (t : Database) → MayBe t0 reads t → IsCommitOf t x writes reply
+
+-- no such tables
+abbrev pub NoneMayBe : Database → ReadSetView → Type 0
+NoneMayBe t0 reads = (t : Database) → ¬ MayBe t0 reads t
+
+-- no write of a record that wasn't read
+abbrev pub WritesAreRead : WriteSetView → ReadSetView → Type 0
+WritesAreRead writes reads = (n : ℕ) (value : Option (List ℕ)) → value_for writes n ≡ Some value → IsSome (held reads n)
+
+-- at most so many reads and writes, each of a record that has a cell, and no write of a record that wasn't read
+pub record IsWithinLimits (cells : ℕ) (reads : ReadSetView) (writes : WriteSetView) : Type 0 where
+  pub reads_limit : length reads ≤ MAX_READS
+  pub writes_limit : length writes.values ≤ MAX_WRITES
+  pub reads_cells : (n : ℕ) (v : Version) → held reads n ≡ Some v → n < cells
+  pub writes_cells : (n : ℕ) (value : Option (List ℕ)) → value_for writes n ≡ Some value → n < cells
+  pub writes_read : WritesAreRead writes reads

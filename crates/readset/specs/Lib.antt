@@ -1,0 +1,5 @@
+pub mod Reads
+pub mod Writes
+pub mod Commit
+pub mod Explains
+pub mod Changes

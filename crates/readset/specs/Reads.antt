@@ -1,0 +1,34 @@
+-- What a transaction has read (Silo, section 4.4: the read set).
+use Rattle.std.specs.Prelude.{◌≡◌, ℕ, ◌+◌, Option, Some, None, List, slice_index}
+use Rattle.std.specs.Ordering.{nat_cmp}
+use Rattle.std.specs.Map.{lookup}
+use Rattle.std.specs.BTreeMap.{is_at}
+use Rattle.cells.specs.Versions.{StartsWith, EndsWith, value_in}
+use Rattle.cells.specs.Records.{ReaderView, words_of, at}
+use Rattle.cells.specs.declared.cells.Version.{Version}
+
+-- the version read of each record, by record number, in the order of the numbers
+abbrev pub ReadSetView : Type 0
+ReadSetView = List (ℕ × Version)
+
+-- the version read of this record
+abbrev pub held : ReadSetView → ℕ → Option Version
+held reads n = lookup (is_at (nat_cmp n)) reads
+
+-- what a version says that its record holds
+abbrev pub value_of : Version → Option (List ℕ)
+value_of version = value_in (words_of version)
+
+-- these reads, and perhaps more
+abbrev pub Keeps : ReadSetView → ReadSetView → Type 0
+Keeps reads more = (n : ℕ) (v : Version) → held reads n ≡ Some v → held more n ≡ Some v
+
+-- between these two states, a reader has loaded exactly the records of these versions, each once, and each version is what that load gave
+pub record AreRead (old new : ReaderView) (reads : ReadSetView) : Type 0 where
+  pub cells : new.cells ≡ old.cells
+  pub records : (n : ℕ) (v : Version) → held reads n ≡ Some v → v.record ≡ n
+  pub loads : (n : ℕ) (v : Version) → held reads n ≡ Some v → slice_index new.loads n ≡ slice_index old.loads n + 1
+  pub grows : (n : ℕ) (v : Version) → held reads n ≡ Some v → StartsWith (at new.seen n) (at old.seen n)
+  pub last : (n : ℕ) (v : Version) → held reads n ≡ Some v → EndsWith (at new.seen n) (words_of v)
+  pub other_loads : (n : ℕ) → held reads n ≡ None → slice_index new.loads n ≡ slice_index old.loads n
+  pub other_seen : (n : ℕ) → held reads n ≡ None → at new.seen n ≡ at old.seen n

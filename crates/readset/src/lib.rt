@@ -1,0 +1,16 @@
+//! What a transaction reads and what it is to write, on record cells. Nothing is written before the commit (Silo,
+//! SOSP 2013, section 4.4).
+#![tactic(auto)]
+
+pub mod limits;
+mod list;
+mod reads;
+#[cfg(test)]
+mod tests;
+mod work;
+mod writes;
+
+pub use list::WriteList;
+pub use reads::{ReadSet, value_of};
+pub use work::Work;
+pub use writes::WriteSet;

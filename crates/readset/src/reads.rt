@@ -1,0 +1,109 @@
+//! What a transaction has read.
+ghost use Rattle.std.specs.Prelude.{◌≡◌, ◌≢◌, ℕ, ◌+◌, ◌<◌, ◌≤◌, Some, None, Ok, IfOk, IfErr, OnOk, OnErr, [], length, All};
+ghost use Rattle.std.specs.Option.{option_copied};
+ghost use Rattle.std.specs.Ordering.{nat_cmp};
+ghost use Rattle.std.specs.Map.{keys_of};
+ghost use Rattle.std.specs.List.Sorted.{IsStrictlySortedBy};
+ghost use Rattle.readset.specs.Reads.{held, value_of, Keeps, AreRead};
+ghost use Rattle.cells.specs.Records.{ReaderView, LoadsRecord, HasGrown, words_of};
+ghost use Rattle.cells.specs.declared.cells.Version.{Version};
+
+use cells::{Cells, Reader, Version};
+use money::Refusal;
+use std::alloc::Global;
+use std::collections::BTreeMap;
+use std::collections::btree_map::Iter;
+use std::marker::Model;
+use std::sync::Wait;
+
+/// The versions that a transaction has read, one a record (Silo, section 4.4: the read set). Contracts see
+/// them by record number. A map, so that a transaction that reads some 400 records spends a few steps on each look-up.
+#[derive(Drop)]
+pub struct ReadSet {
+    versions: BTreeMap<u32, Version>,
+}
+
+impl Model for ReadSet {
+    ghost use Rattle.readset.specs.Reads.{ReadSetView};
+
+    ghost Value = { ReadSetView };
+
+    ghost view = { λ r. r.versions.entries };
+}
+
+impl ReadSet {
+    ghost use Rattle.money.specs.declared.refusal.Refusal.TheVariants.{OutOfMemory};
+
+    /// Nothing read. Takes no memory.
+    pub fn new(alloc: Global) -> ReadSet
+        ensures { result ≡ [] }
+    {
+        ReadSet {
+            versions: BTreeMap::new(alloc),
+        }
+    }
+
+    /// The version of a record: the one held, or else what a load of its cell gives, which is held from then
+    /// on. Costs the logarithm of the number of records held.
+    ///
+    /// # Errors
+    ///
+    /// `OutOfMemory`, and no other. The versions held are then as before; the reader may have loaded.
+    pub fn get<R: Wait>(
+        &mut self,
+        rt: &R,
+        cells: &Cells,
+        reader: &mut Reader,
+        number: u32,
+    ) -> Result<Version, Refusal>
+        requires own { reader.old.cells ≡ cells.now }
+        requires is_record { number < length cells.now }
+        ensures held { (v : Version) → held self.old number ≡ Some v → (result ≡ Ok v) × (self.new ≡ self.old) × (reader.new ≡ reader.old) }
+        ensures read { held self.old number ≡ None → IfOk result (λ v. LoadsRecord reader.old reader.new number (words_of v) × (v.record ≡ number)) }
+        ensures holds { IfOk result (λ v. held self.new number ≡ Some v) }
+        ensures others { (n : ℕ) → n ≢ number → held self.new n ≡ held self.old n }
+        ensures limit { length self.new ≤ length self.old + 1 }
+        ensures keeps { Keeps self.old self.new }
+        ensures kept { OnErr result (self.new ≡ self.old) }
+        ensures chain { (first : ReaderView) → AreRead first reader.old self.old → OnOk result (AreRead first reader.new self.new) }
+        ensures grown { HasGrown reader.old reader.new }
+        ensures grown_since { (first : ReaderView) → HasGrown first reader.old → HasGrown first reader.new }
+        ensures only_memory { IfErr result (λ refusal. refusal ≡ OutOfMemory) }
+    {
+        if let Some(version) = self.versions.get(&number) {
+            return Ok(*version);
+        }
+        let version = &cells.read(rt, reader, number);
+        match self.versions.insert(number, *version) {
+            Ok(_) => Ok(*version),
+            Err(_) => Err(Refusal::OutOfMemory),
+        }
+    }
+
+    /// The version held of a record. Costs the logarithm of the number of records held.
+    pub fn held(&self, number: u32) -> Option<&Version>
+        ensures { option_copied result ≡ held self.now number }
+    {
+        self.versions.get(&number)
+    }
+
+    /// The versions held, by record number and in the order of the numbers.
+    pub fn versions(&self) -> Iter<'_, u32, Version>
+        ensures versions { result ≡ self.now }
+        ensures found { All (λ e. held self.now e.0 ≡ Some e.1) self.now }
+        ensures ordered { IsStrictlySortedBy nat_cmp (keys_of self.now) }
+    {
+        self.versions.iter()
+    }
+}
+
+/// What a version says that its record holds: its words, or nothing where it is absent. Takes constant time.
+pub fn value_of(version: &Version) -> Option<[u64; 7]>
+    ensures { result ≡ value_of version.now }
+{
+    if version.word.is_absent() {
+        None
+    } else {
+        Some(version.payload)
+    }
+}

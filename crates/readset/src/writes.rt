@@ -1,0 +1,117 @@
+//! What a transaction is to write.
+ghost use Rattle.std.specs.Prelude.{◌≡◌, Some, All, OnOk, OnErr, IfOk, IfErr};
+ghost use Rattle.std.specs.Ordering.{nat_cmp};
+ghost use Rattle.std.specs.Map.{keys_of};
+ghost use Rattle.std.specs.List.Sorted.{IsStrictlySortedBy};
+ghost use Rattle.readset.specs.Writes.{no_writes, value_for, puts, left_at};
+
+use crate::list::WriteList;
+use crate::reads::{ReadSet, value_of};
+use money::Refusal;
+use std::alloc::Global;
+use std::collections::BTreeMap;
+use std::collections::btree_map::Iter;
+use std::marker::Model;
+use tables::History;
+
+/// What a transaction is to write: for each record written the seven words that it is to hold, or nothing
+/// where it is to be absent, and at most one HISTORY row (Silo, section 4.4: the write set). Contracts see it
+/// as `WriteSetView`. A map, so that a transaction that writes some 200 records spends a few steps on each look-up.
+#[derive(Drop)]
+pub struct WriteSet {
+    values: BTreeMap<u32, Option<[u64; 7]>>,
+    history_row: Option<History>,
+}
+
+impl Model for WriteSet {
+    ghost use Rattle.readset.specs.Writes.{WriteSetView};
+
+    ghost Value = { WriteSetView };
+
+    ghost view = { λ w. record { values = w.values.entries; history_row = w.history_row } };
+}
+
+impl WriteSet {
+    ghost use Rattle.money.specs.declared.refusal.Refusal.TheVariants.{OutOfMemory};
+
+    /// Nothing to write. Takes no memory.
+    pub fn new(alloc: Global) -> WriteSet
+        ensures { result ≡ no_writes }
+    {
+        WriteSet {
+            values: BTreeMap::new(alloc),
+            history_row: None,
+        }
+    }
+
+    /// Says what a record is to hold, in the place of what was said of it before. Costs the logarithm of the
+    /// number of records written.
+    ///
+    /// # Errors
+    ///
+    /// `OutOfMemory`, and no other. What was said is then as before.
+    pub fn put(&mut self, number: u32, value: Option<[u64; 7]>) -> Result<(), Refusal>
+        ensures puts { OnOk result (self.new ≡ puts self.old number value) }
+        ensures kept { OnErr result (self.new ≡ self.old) }
+        ensures only_memory { IfErr result (λ refusal. refusal ≡ OutOfMemory) }
+    {
+        match self.values.insert(number, value) {
+            Ok(_) => Ok(()),
+            Err(_) => Err(Refusal::OutOfMemory),
+        }
+    }
+
+    /// Says which row HISTORY is to get, in the place of the row said before.
+    pub fn put_history_row(&mut self, row: History)
+        ensures { self.new ≡ record { values = self.old.values; history_row = Some row } }
+    {
+        self.history_row = Some(row);
+    }
+
+    /// What a record is to hold, if it is written. Costs the logarithm of the number of records written.
+    pub fn value(&self, number: u32) -> Option<Option<[u64; 7]>>
+        ensures { result ≡ value_for self.now number }
+    {
+        self.values.get(&number).copied()
+    }
+
+    /// What the transaction leaves of a record: what it is to write there, or else what it has read there. Nothing where
+    /// it did neither. Costs the logarithms of the numbers of records written and read.
+    pub fn left(&self, reads: &ReadSet, number: u32) -> Option<[u64; 7]>
+        ensures { result ≡ left_at self.now reads.now number }
+    {
+        match self.values.get(&number) {
+            Some(value) => *value,
+            None => value_of(reads.held(number)?),
+        }
+    }
+
+    /// What each record written is to hold, by record number and in the order of the numbers.
+    pub fn values(&self) -> Iter<'_, u32, Option<[u64; 7]>>
+        ensures values { result ≡ self.now.values }
+        ensures found { All (λ e. value_for self.now e.0 ≡ Some e.1) self.now.values }
+        ensures ordered { IsStrictlySortedBy nat_cmp (keys_of self.now.values) }
+    {
+        self.values.iter()
+    }
+
+    /// The row that HISTORY is to get, if there is one.
+    pub fn history_row(&self) -> Option<History>
+        ensures { result ≡ self.now.history_row }
+    {
+        self.history_row
+    }
+
+    /// The same writes as a list, which takes less memory. Costs a pass over them.
+    ///
+    /// # Errors
+    ///
+    /// `OutOfMemory`, and no other.
+    pub fn list(&self, alloc: Global) -> Result<WriteList, Refusal>
+        ensures same { IfOk result (λ list. list ≡ self.now) }
+        ensures only_memory { IfErr result (λ refusal. refusal ≡ OutOfMemory) }
+    {
+        let values = self.values.iter().map(|(number, value)| (*number, *value));
+        Ok(WriteList::new(values.collect(alloc)?, self.history_row))
+    }
+}
