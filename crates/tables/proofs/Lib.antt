@@ -1,4 +1,5 @@
 pub mod Orders
 pub mod KeyTests
 pub mod Views
+pub mod InTurn
 pub mod Numbers
