@@ -1,7 +1,7 @@
 pub mod Rising
 pub mod Moves
 pub mod Known
-pub mod Places
+pub mod Passes
 pub mod Records
 pub mod Grown
 pub mod Firsts

@@ -72,7 +72,7 @@ is_last true all seen v w rising starts has ends same other =
     last_by_tid 0 all h.0 h.1 v rising h.2 (sym (same refl) ∙ sym (last_tid-last all w ends))
 is_last false all seen v w rising starts has ends same other = λ e. other refl (sym (e ∙ last_tid-last all w ends))
 
-pub is_last_by_tid : (b : Bool) (all seen : List (List ℕ)) (v w : List ℕ) → IsRising all → StartsWith all seen → Has seen v → EndsWith all w → b ≡ eqb (tid w * 8) (tid v * 8) → MatchBool b (EndsWith all v) (tid v ≢ last_tid all)
+pub is_last_by_tid : (b : Bool) (all seen : List (List ℕ)) (v w : List ℕ) → IsRising all → StartsWith all seen → Has seen v → EndsWith all w → b ≡ eqb (tid w) (tid v) → MatchBool b (EndsWith all v) (tid v ≢ last_tid all)
 is_last_by_tid b all seen v w rising starts has ends e = is_last b all seen v w rising starts has ends
-    (λ is. let h : tid w * 8 ≡ tid v * 8 = eqb-true _ _ (sym e ∙ is) in omega arith)
-    (λ not same. eqb-false _ _ (sym e ∙ not) (ap (λ n. n * 8) same))
+    (λ is. eqb-true _ _ (sym e ∙ is))
+    (λ not. eqb-false _ _ (sym e ∙ not))

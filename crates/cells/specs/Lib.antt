@@ -2,6 +2,6 @@ pub mod TidWord
 pub mod Versions
 pub mod Views
 pub mod Records
-pub mod Places
+pub mod Passes
 pub mod Opening
 pub mod First

@@ -2,17 +2,17 @@
 use Rattle.std.specs.Prelude.{◌≡◌, ℕ, ◌+◌, List, [], ◌∷◌, ◌++◌, slice_index, slice_index_or, slice_set}
 use Rattle.atomic_table.specs.Seated.{TableId}
 use Rattle.cells.specs.declared.cells.Version.{Version}
-use Rattle.cells.specs.Versions.{StartsWith, EndsWith, IsRising}
+use Rattle.cells.specs.Versions.{Versions, AllVersions, StartsWith, EndsWith, IsRising}
 
 -- the pen's: which cell a record has, and all its versions
 pub record PenView : Type 0 where
   pub cells : List TableId
-  pub all : List (List (List ℕ))
+  pub all : AllVersions
 
 -- a reader's: which cell a record has, which first ones of its versions the reader has seen, and how often it has loaded
 pub record ReaderView : Type 0 where
   pub cells : List TableId
-  pub seen : List (List (List ℕ))
+  pub seen : AllVersions
   pub loads : List ℕ
 
 -- the words of a version
@@ -20,7 +20,7 @@ abbrev pub words_of : Version → List ℕ
 words_of version = version.word ∷ version.payload
 
 -- the versions of record n
-abbrev pub at : List (List (List ℕ)) → ℕ → List (List ℕ)
+abbrev pub at : AllVersions → ℕ → Versions
 at versions n = slice_index_or versions n []
 
 -- a version is stored in record n

@@ -1,5 +1,5 @@
 -- The TID word of a version (after Silo, section 4.2): the epoch in bits 63 to 32, the sequence in bits 31 to 3, the absent bit 2, the latest-version bit 1 and the lock bit 0.
-use Rattle.std.specs.Prelude.{ℕ, ◌+◌, ◌*◌, ◌/◌, ◌^◌, Bool, true, false}
+use Rattle.std.specs.Prelude.{ℕ, ◌+◌, ◌-◌, ◌*◌, ◌%◌, ◌^◌, Bool, true, false}
 use Rattle.cells.specs.declared.tid.Status.{Status}
 
 abbrev pub bit : Bool → ℕ
@@ -9,6 +9,6 @@ bit false = 0
 abbrev pub tid_word : ℕ → ℕ → Status → ℕ
 tid_word epoch sequence status = epoch * 2 ^ 32 + sequence * 8 + bit status.absent * 4 + bit status.latest * 2 + bit status.locked
 
--- the TID as a number: the word without its three status bits
+-- the TID: the word with its three status bits 0
 abbrev pub tid_of : ℕ → ℕ
-tid_of word = word / 8
+tid_of word = word - word % 8

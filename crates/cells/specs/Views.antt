@@ -6,14 +6,14 @@ use Rattle.atomic_table.specs.declared.shared.Seat.{Seat}
 use Rattle.crossbeam_utils.specs.declared.atomic.seq_cell.Doing.{Doing}
 use Rattle.crossbeam_utils.specs.Seq.{cell_view}
 use Rattle.cells.specs.declared.rule.View.{View}
-use Rattle.cells.specs.Versions.{StartsWith, EndsWith, IsRising}
+use Rattle.cells.specs.Versions.{Versions, StartsWith, EndsWith, IsRising}
 
 -- the pen, which knows these versions
-abbrev pub pen_view : List (List ℕ) → View
+abbrev pub pen_view : Versions → View
 pen_view all = record { pen = true; seen = all; told = []; loads = 0 }
 
 -- a reader that has seen these versions
-abbrev pub sight : List (List ℕ) → ℕ → View
+abbrev pub sight : Versions → ℕ → View
 sight seen loads = record { pen = false; seen = seen; told = []; loads = loads }
 
 -- a pass that is told what another has seen
@@ -25,13 +25,13 @@ abbrev pub learnt : View → View → View
 learnt v w = record { pen = v.pen; seen = w.seen; told = v.told; loads = v.loads }
 
 -- a pass has seen the first versions of all, and the pen, of which there is one, has seen all
-abbrev pub Fits : ℕ → List (List ℕ) → ℕ → View → Type 0
+abbrev pub Fits : ℕ → Versions → ℕ → View → Type 0
 Fits seat all by v = StartsWith all v.seen × StartsWith all v.told × (v.pen ≡ true → (by ≡ seat) × (v.seen ≡ all))
 
 -- the cell has the last of its versions, which rise
 abbrev pub IsKept : List ℕ → List View → Type 0
 IsKept now views =
-    (seat : ℕ) × (all : List (List ℕ)) × IsRising all × ((all ≡ []) ⊎ EndsWith all now)
+    (seat : ℕ) × (all : Versions) × IsRising all × ((all ≡ []) ⊎ EndsWith all now)
     × ((by : ℕ) (v : View) → get_elem? views by ≡ some v → Fits seat all by v)
 
 -- the pen stores a version
@@ -56,8 +56,8 @@ abbrev pub IsReader : View → Type 0
 IsReader v = (v ≡ sight v.seen v.loads) × (v.seen ≢ []) × IsRising v.seen
 
 -- a pass of one cell
-abbrev pub Place : Type 0
-Place = Seat (List ℕ) (Doing (List ℕ) View)
+abbrev pub CellPass : Type 0
+CellPass = Seat (List ℕ) (Doing (List ℕ) View)
 
-abbrev pub known : Place → View
-known place = cell_view place
+abbrev pub known : CellPass → View
+known pass = cell_view pass

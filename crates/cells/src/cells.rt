@@ -1,4 +1,4 @@
-//! The cells of all records, by table.
+//! The cells of all records.
 ghost use Rattle.std.specs.Prelude.{◌≡◌, ◌≢◌, ◌<◌, Some, List, [], ◌∷◌, ◌++◌, length, slice_get, MatchBool, OnOk, OnErr, IfErr};
 ghost use Rattle.money.specs.declared.refusal.Refusal.TheVariants.{OutOfMemory};
 ghost use Rattle.atomic_table.specs.Seated.{TableId};
@@ -30,7 +30,7 @@ pub struct Version {
     pub payload: [u64; 7],
 }
 
-/// The cells of one table's records. Contracts see which cells they are.
+/// Cells, one after another. Contracts see which cells they are.
 #[derive(Drop)]
 pub(crate) struct CellList<const N: usize> {
     pub(crate) cells: Vec<Cell<N>>,
@@ -65,13 +65,7 @@ impl<const N: usize> CellList<N> {
         Ok(())
     }
 
-    fn len(&self) -> usize
-        ensures { result ≡ length self.now }
-    {
-        self.cells.len()
-    }
-
-    // The cell of the n-th record of this table.
+    // The n-th cell.
     fn cell(&self, n: usize) -> &Cell<N>
         requires { n < length self.now }
         ensures { slice_get self.now n ≡ Some result.now.table.shared.table_id }
@@ -80,37 +74,26 @@ impl<const N: usize> CellList<N> {
     }
 }
 
-/// The cells of all records: those of WAREHOUSE, then of DISTRICT, then of CUSTOMER. Contracts see which cells they
-/// are, by record number.
+/// The cells of all records. Contracts see which cells they are, by record number.
 #[derive(Drop)]
 pub struct Cells {
-    warehouses: CellList<8>,
-    districts: CellList<8>,
-    customers: CellList<8>,
+    list: CellList<8>,
 }
 
 impl Model for Cells {
     ghost Value = { List TableId };
 
-    ghost view = { λ c. c.warehouses ++ (c.districts ++ c.customers) };
+    ghost view = { λ c. c.list };
 }
 
 impl Cells {
     ghost use Rattle.cells.specs.Records.{words_of};
 
-    // The cells of these tables.
-    pub(crate) fn of_tables(
-        warehouses: CellList<8>,
-        districts: CellList<8>,
-        customers: CellList<8>,
-    ) -> Cells
-        ensures { result ≡ warehouses ++ (districts ++ customers) }
+    // The cells of a list, by record number.
+    pub(crate) fn of_list(list: CellList<8>) -> Cells
+        ensures { result ≡ list }
     {
-        Cells {
-            warehouses,
-            districts,
-            customers,
-        }
+        Cells { list }
     }
 
     // The cell of a record.
@@ -118,14 +101,7 @@ impl Cells {
         requires { number < length self.now }
         ensures { slice_get self.now number ≡ Some result.now.table.shared.table_id }
     {
-        let number = number as usize;
-        let Some(number) = number.checked_sub(self.warehouses.len()) else {
-            return self.warehouses.cell(number);
-        };
-        match number.checked_sub(self.districts.len()) {
-            None => self.districts.cell(number),
-            Some(number) => self.customers.cell(number),
-        }
+        self.list.cell(number as usize)
     }
 
     /// The latest version of a record, whose words are all of one version: never a mix of two (Silo, section 4.5).
@@ -191,7 +167,8 @@ impl Cells {
     }
 }
 
-fn words(word: TidWord, payload: [u64; 7]) -> [u64; 8]
+// The words of a version.
+pub(crate) fn words(word: TidWord, payload: [u64; 7]) -> [u64; 8]
     ensures { result ≡ word ∷ payload }
 {
     let [a, b, c, d, e, f, g] = payload;

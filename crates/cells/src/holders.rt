@@ -4,11 +4,11 @@ ghost use Rattle.std.specs.Prelude.{◌≡◌, ◌<◌, Some, [], slice_get, OnO
 ghost use Rattle.money.specs.declared.refusal.Refusal.TheVariants.{OutOfMemory};
 ghost use Rattle.cells.specs.Versions.{EndsWith, last_tid, tid};
 ghost use Rattle.cells.specs.Records.{at, StoresVersion, LoadsRecord, LearnsRecord};
-ghost use Rattle.cells.specs.Places.{written_of, written_and, sights_of, sights_and};
+ghost use Rattle.cells.specs.Passes.{written_of, written_and, sights_of, sights_and};
 ghost use Rattle.cells.specs.Views.{IsPen, IsReader, known};
 
-use crate::place::{load, meet, store};
-use crate::rule::{Cell, Place};
+use crate::pass::{load, meet, store};
+use crate::rule::{Cell, CellPass};
 use money::Refusal;
 use std::alloc::Global;
 use std::marker::Model;
@@ -17,39 +17,39 @@ use std::sync::Wait;
 /// The right to store versions in cells of `N` words, of which there is one. Contracts see it as `PenView`.
 #[derive(Drop)]
 pub struct PenOf<const N: usize> {
-    pub(crate) places: Vec<Place<N>>,
+    pub(crate) passes: Vec<CellPass<N>>,
 }
 
 impl<const N: usize> Model for PenOf<N> {
     ghost use Rattle.std.specs.Prelude.{All};
     ghost use Rattle.cells.specs.Records.{PenView};
-    ghost use Rattle.cells.specs.Places.{written_of};
+    ghost use Rattle.cells.specs.Passes.{written_of};
     ghost use Rattle.cells.specs.Views.{IsPen, known};
 
     ghost Value = { PenView };
 
-    ghost view = { λ p. written_of p.places.items };
+    ghost view = { λ p. written_of p.passes.items };
 
-    ghost invariant = { λ p. All (λ place. IsPen (known place)) p.places.items };
+    ghost invariant = { λ p. All (λ pass. IsPen (known pass)) p.passes.items };
 }
 
 /// The right to read cells of `N` words. Contracts see it as `ReaderView`.
 #[derive(Drop)]
 pub struct ReaderOf<const N: usize> {
-    pub(crate) places: Vec<Place<N>>,
+    pub(crate) passes: Vec<CellPass<N>>,
 }
 
 impl<const N: usize> Model for ReaderOf<N> {
     ghost use Rattle.std.specs.Prelude.{All};
     ghost use Rattle.cells.specs.Records.{ReaderView};
-    ghost use Rattle.cells.specs.Places.{sights_of};
+    ghost use Rattle.cells.specs.Passes.{sights_of};
     ghost use Rattle.cells.specs.Views.{IsReader, known};
 
     ghost Value = { ReaderView };
 
-    ghost view = { λ r. sights_of r.places.items };
+    ghost view = { λ r. sights_of r.passes.items };
 
-    ghost invariant = { λ r. All (λ place. IsReader (known place)) r.places.items };
+    ghost invariant = { λ r. All (λ pass. IsReader (known pass)) r.passes.items };
 }
 
 impl<const N: usize> ReaderOf<N> {
@@ -58,18 +58,18 @@ impl<const N: usize> ReaderOf<N> {
         ensures { result ≡ sights_of [] }
     {
         ReaderOf {
-            places: Vec::new(alloc),
+            passes: Vec::new(alloc),
         }
     }
 
     // Adds a record.
-    pub(crate) fn push(&mut self, place: Place<N>) -> Result<(), Refusal>
-        requires { IsReader (known place) }
-        ensures ok { OnOk result (self.new ≡ sights_and self.old place.entry) }
+    pub(crate) fn push(&mut self, pass: CellPass<N>) -> Result<(), Refusal>
+        requires { IsReader (known pass) }
+        ensures ok { OnOk result (self.new ≡ sights_and self.old pass.entry) }
         ensures err { OnErr result (self.new ≡ self.old) }
         ensures memory { IfErr result (λ e. e ≡ OutOfMemory) }
     {
-        self.places.push(place)?;
+        self.passes.push(pass)?;
         Ok(())
     }
 
@@ -78,7 +78,7 @@ impl<const N: usize> ReaderOf<N> {
         requires { slice_get self.old.cells n ≡ Some cell.now.table.shared.table_id }
         ensures { LoadsRecord self.old self.new n result }
     {
-        load(rt, cell, &mut self.places[n])
+        load(rt, cell, &mut self.passes[n])
     }
 }
 
@@ -88,18 +88,18 @@ impl<const N: usize> PenOf<N> {
         ensures { result ≡ written_of [] }
     {
         PenOf {
-            places: Vec::new(alloc),
+            passes: Vec::new(alloc),
         }
     }
 
     // Adds a record.
-    pub(crate) fn push(&mut self, place: Place<N>) -> Result<(), Refusal>
-        requires { IsPen (known place) }
-        ensures ok { OnOk result (self.new ≡ written_and self.old place.entry) }
+    pub(crate) fn push(&mut self, pass: CellPass<N>) -> Result<(), Refusal>
+        requires { IsPen (known pass) }
+        ensures ok { OnOk result (self.new ≡ written_and self.old pass.entry) }
         ensures err { OnErr result (self.new ≡ self.old) }
         ensures memory { IfErr result (λ e. e ≡ OutOfMemory) }
     {
-        self.places.push(place)?;
+        self.passes.push(pass)?;
         Ok(())
     }
 
@@ -109,7 +109,7 @@ impl<const N: usize> PenOf<N> {
         requires larger { last_tid (at self.old.all n) < tid version }
         ensures { StoresVersion self.old self.new n version.entry }
     {
-        store(rt, cell, &mut self.places[n], version);
+        store(rt, cell, &mut self.passes[n], version);
     }
 
     // Lets a reader see all versions of record n, whose cell this is, and gives the last.
@@ -126,6 +126,6 @@ impl<const N: usize> PenOf<N> {
         ensures reader { LearnsRecord self.old reader.old reader.new n }
         ensures last { EndsWith (at self.old.all n) result }
     {
-        meet(rt, cell, &mut self.places[n], &mut reader.places[n])
+        meet(rt, cell, &mut self.passes[n], &mut reader.passes[n])
     }
 }

@@ -5,7 +5,7 @@
 mod cells;
 mod holders;
 mod opening;
-mod place;
+mod pass;
 mod populate;
 mod rule;
 #[cfg(test)]

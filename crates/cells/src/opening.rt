@@ -3,13 +3,13 @@ ghost use Rattle.std.specs.Prelude.{◌≡◌, All, List, [], ◌∷◌, ◌++�
 ghost use Rattle.money.specs.declared.refusal.Refusal.TheVariants.{OutOfMemory};
 ghost use Rattle.atomic_table.specs.Seated.{TableId};
 ghost use Rattle.cells.specs.Views.{IsPen, known};
-ghost use Rattle.cells.specs.Places.{sights_with};
+ghost use Rattle.cells.specs.Passes.{sights_with};
 ghost use Rattle.cells.specs.Opening.{seen_all, opened, opened_with};
 
 use crate::cells::CellList;
 use crate::holders::{PenOf, ReaderOf};
-use crate::place::{open, told};
-use crate::rule::{Cell, Place};
+use crate::pass::{open, told};
+use crate::rule::{Cell, CellPass};
 use money::Refusal;
 use std::alloc::Global;
 use std::marker::Model;
@@ -60,13 +60,13 @@ impl<const N: usize> OpeningOf<N> {
         ensures ok { IfOk result (λ o. (cell : TableId) × (o ≡ opened_with self.entry cell first.entry) × (list.new ≡ list.old ++ cell ∷ [])) }
         ensures memory { IfErr result (λ e. e ≡ OutOfMemory) }
     {
-        let (cell, mut place) = open(rt, alloc, first)?;
+        let (cell, mut pass) = open(rt, alloc, first)?;
         let OpeningOf {
             mut pen,
             mut readers,
         } = self;
-        tell(&cell, &mut place, &mut readers)?;
-        pen.push(place)?;
+        tell(&cell, &mut pass, &mut readers)?;
+        pen.push(pass)?;
         list.push(cell)?;
         Ok(OpeningOf { pen, readers })
     }
@@ -84,17 +84,17 @@ impl<const N: usize> OpeningOf<N> {
 // Adds a record to each reader, which has then seen what the pen has.
 fn tell<const N: usize>(
     cell: &Cell<N>,
-    place: &mut Place<N>,
+    pass: &mut CellPass<N>,
     readers: &mut [ReaderOf<N>],
 ) -> Result<(), Refusal>
-    requires own { place.old.table_id ≡ cell.now.table.shared.table_id }
-    requires pen { IsPen (known place.old) }
-    ensures kept { (place.new.table_id ≡ place.old.table_id) × (known place.new ≡ known place.old) }
-    ensures ok { OnOk result (readers.new ≡ map (λ s. sights_with s place.old.table_id (known place.old).seen) readers.old) }
+    requires own { pass.old.table_id ≡ cell.now.table.shared.table_id }
+    requires pen { IsPen (known pass.old) }
+    ensures kept { (pass.new.table_id ≡ pass.old.table_id) × (known pass.new ≡ known pass.old) }
+    ensures ok { OnOk result (readers.new ≡ map (λ s. sights_with s pass.old.table_id (known pass.old).seen) readers.old) }
     ensures memory { IfErr result (λ e. e ≡ OutOfMemory) }
 {
     for reader in readers {
-        reader.push(told(cell, place))?;
+        reader.push(told(cell, pass))?;
     }
     Ok(())
 }

@@ -1,20 +1,21 @@
 //! The cells of a population.
-ghost use Rattle.std.specs.Prelude.{◌≡◌, ℕ, ◌+◌, ◌-◌, ◌/◌, ◌%◌, ◌^◌, ◌<◌, ◌≤◌, ◌++◌, All, length, IfOk, IfErr};
+ghost use Rattle.std.specs.Prelude.{◌≡◌, ◌<◌, ◌≤◌, All, length, IfOk, IfErr};
 ghost use Rattle.money.specs.declared.refusal.Refusal.TheVariants.{OutOfMemory};
 ghost use Rattle.tables.specs.Database.{database};
-ghost use Rattle.tables.specs.Rows.{rows, row_at};
-ghost use Rattle.tables.specs.declared.records.RecordKey.TheVariants as record_key;
+ghost use Rattle.tables.specs.Records.{record_count};
+ghost use Rattle.tables.specs.Rows.{rows};
 ghost use Rattle.population.specs.Initial.{initial};
-ghost use Rattle.cells.specs.Opening.{Opened, seen_all};
+ghost use Rattle.cells.specs.Opening.{seen_all};
 ghost use Rattle.cells.specs.First.{cell_count, first_version, firsts};
 
-use crate::cells::{CellList, Cells, Pen, Reader};
+use crate::cells::{CellList, Cells, Pen, Reader, words};
 use crate::opening::OpeningOf;
+use crate::tid::TidWord;
 use money::Refusal;
 use population::Population;
 use std::alloc::Global;
 use std::sync::Wait;
-use tables::{CustomerKey, DistrictKey, Tables};
+use tables::{Scale, Table, Tables, key_of};
 
 impl Cells {
     /// The cells of a population's records, each with its first version, with the pen and this many readers.
@@ -36,42 +37,38 @@ impl Cells {
         ensures readers { IfOk result (λ made. (length made.2.items ≡ readers) × All (λ reader. reader ≡ seen_all made.1) made.2.items) }
         ensures only_memory { IfErr result (λ refusal. refusal ≡ OutOfMemory) }
     {
-        let tables = population.tables();
-        let scale = tables.scale;
-        let districts = scale.warehouses();
-        let customers = districts + scale.warehouses() * scale.districts();
-        let end = customers + scale.warehouses() * scale.districts() * scale.customers();
-        let opening = OpeningOf::new(alloc, readers)?;
-        let (opening, warehouses) = add_records(rt, alloc, opening, tables, 0, districts)?;
-        let (opening, districts) = add_records(rt, alloc, opening, tables, districts, customers)?;
-        let (opening, customers) = add_records(rt, alloc, opening, tables, customers, end)?;
+        let (opening, list) = open_all(rt, alloc, population.tables(), readers)?;
         let (pen, readers) = opening.finish();
-        let cells = Cells::of_tables(warehouses, districts, customers);
-        Ok((cells, pen, readers))
+        Ok((Cells::of_list(list), pen, readers))
     }
 }
 
-// Adds the records of the numbers from start on and below end, whose cells are a list of their own.
-fn add_records<R: Wait>(
+// The cells of all records, in the order of their numbers.
+fn open_all<R: Wait>(
     rt: &R,
     alloc: Global,
-    mut opening: OpeningOf<8>,
     tables: &Tables,
-    start: u32,
-    end: u32,
+    readers: usize,
 ) -> Result<(OpeningOf<8>, CellList<8>), Refusal>
-    requires { (start ≤ end) × (end ≤ cell_count (database tables.now).scale) }
-    ensures cells { IfOk result (λ made. made.0.written.cells ≡ opening.written.cells ++ made.1) }
-    ensures all { IfOk result (λ made. made.0.written.all ≡ opening.written.all ++ firsts (database tables.now) start (end - start)) }
-    ensures readers { IfOk result (λ made. made.0.readers ≡ opening.readers) }
-    ensures count { IfOk result (λ made. length made.1 ≡ end - start) }
+    ensures count { IfOk result (λ made. length made.1 ≡ cell_count (database tables.now).scale) }
+    ensures pen { IfOk result (λ made. made.0.written ≡ record { cells = made.1; all = firsts (database tables.now) 0 (cell_count (database tables.now).scale) }) }
+    ensures readers { IfOk result (λ made. made.0.readers ≡ readers) }
     ensures only_memory { IfErr result (λ refusal. refusal ≡ OutOfMemory) }
 {
     let mut list = CellList::new(alloc);
-    for number in start..end {
+    let mut opening = OpeningOf::new(alloc, readers)?;
+    for number in 0..cell_count(&tables.scale) {
         opening = opening.add(rt, alloc, &mut list, first(tables, number))?;
     }
     Ok((opening, list))
+}
+
+// How many records have cells.
+fn cell_count(scale: &Scale) -> u32
+    ensures value { result ≡ cell_count scale.now }
+    ensures limit { result ≤ record_count scale.now }
+{
+    Table::Warehouse.size(scale) + Table::District.size(scale) + Table::Customer.size(scale)
 }
 
 // The first version of a record.
@@ -79,76 +76,8 @@ fn first(tables: &Tables, number: u32) -> [u64; 8]
     requires { number < cell_count (database tables.now).scale }
     ensures { result ≡ first_version (rows (database tables.now) number) }
 {
-    let Some(words) = words(tables, number) else {
-        return [6, 0, 0, 0, 0, 0, 0, 0];
-    };
-    let [a, b, c, d, e, f, g] = words;
-    [2, a, b, c, d, e, f, g]
-}
-
-// What the population has in a record.
-fn words(tables: &Tables, number: u32) -> Option<[u64; 7]>
-    requires { number < cell_count (database tables.now).scale }
-    ensures { result ≡ rows (database tables.now) number }
-{
-    let scale = tables.scale;
-    let districts = scale.warehouses();
-    let customers = districts + scale.warehouses() * scale.districts();
-    if number < districts {
-        return warehouse(tables, number + 1);
-    }
-    if number < customers {
-        let key = district_at(number - districts, scale.districts());
-        return district(tables, key);
-    }
-    let place = number - customers;
-    let of = district_at(place / scale.customers(), scale.districts());
-    let key = CustomerKey {
-        warehouse: of.warehouse,
-        district: of.district,
-        customer: place % scale.customers() + 1,
-    };
-    customer(tables, key)
-}
-
-// What the population has of a warehouse.
-fn warehouse(tables: &Tables, number: u32) -> Option<[u64; 7]>
-    ensures { result ≡ row_at (database tables.now) (record_key.Warehouse number) }
-{
-    match tables.warehouses.get(&number) {
-        None => None,
-        Some(row) => Some(row.words()),
-    }
-}
-
-// What the population has of a district.
-fn district(tables: &Tables, key: DistrictKey) -> Option<[u64; 7]>
-    ensures { result ≡ row_at (database tables.now) (record_key.District key) }
-{
-    match tables.districts.get(&key) {
-        None => None,
-        Some(row) => Some(row.words()),
-    }
-}
-
-// What the population has of a customer.
-fn customer(tables: &Tables, key: CustomerKey) -> Option<[u64; 7]>
-    ensures { result ≡ row_at (database tables.now) (record_key.Customer key) }
-{
-    match tables.customers.get(&key) {
-        None => None,
-        Some(row) => Some(row.words()),
-    }
-}
-
-// The district at a place.
-fn district_at(place: u32, districts: u32) -> DistrictKey
-    requires some { 0 < districts }
-    requires fits { place < 2 ^ 31 }
-    ensures { result ≡ record { warehouse = place / districts + 1; district = place % districts + 1 } }
-{
-    DistrictKey {
-        warehouse: place / districts + 1,
-        district: place % districts + 1,
+    match tables.words(key_of(&tables.scale, number)) {
+        None => words(TidWord::ABSENT, [0; 7]),
+        Some(row) => words(TidWord::POPULATED, row),
     }
 }

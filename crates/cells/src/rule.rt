@@ -93,4 +93,4 @@ impl Join<View> for Learns {
 pub type Cell<const N: usize> = RuledSeqCell<[u64; N], View, Rises, N>;
 
 /// What one holder knows of one cell. It has no bytes.
-pub type Place<const N: usize> = Pass<[u64; N], View>;
+pub type CellPass<const N: usize> = Pass<[u64; N], View>;

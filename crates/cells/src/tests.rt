@@ -22,16 +22,13 @@ fn three<R: Wait>(rt: &R, alloc: Global) -> Result<(Cells, Pen, Vec<Reader>), Re
     ensures { IfOk result (λ made. (made.1.cells ≡ made.0) × (length made.0 ≡ 3) × All (λ reader. reader ≡ seen_all made.1) made.2.items
         × (last_tid (at made.1.all 0) ≡ 0) × (last_tid (at made.1.all 1) ≡ 0)) }
 {
-    let mut warehouses = CellList::new(alloc);
-    let mut districts = CellList::new(alloc);
-    let mut customers = CellList::new(alloc);
+    let mut list = CellList::new(alloc);
     let opening = OpeningOf::<8>::new(alloc, 1)?;
-    let opening = opening.add(rt, alloc, &mut warehouses, [2, 0, 0, 0, 0, 0, 0, 0])?;
-    let opening = opening.add(rt, alloc, &mut districts, [2, 1, 1, 1, 1, 1, 1, 1])?;
-    let opening = opening.add(rt, alloc, &mut customers, [2, 2, 2, 2, 2, 2, 2, 2])?;
+    let opening = opening.add(rt, alloc, &mut list, [2, 0, 0, 0, 0, 0, 0, 0])?;
+    let opening = opening.add(rt, alloc, &mut list, [2, 1, 1, 1, 1, 1, 1, 1])?;
+    let opening = opening.add(rt, alloc, &mut list, [2, 2, 2, 2, 2, 2, 2, 2])?;
     let (pen, readers) = opening.finish();
-    let cells = Cells::of_tables(warehouses, districts, customers);
-    Ok((cells, pen, readers))
+    Ok((Cells::of_list(list), pen, readers))
 }
 
 /// The answers of `meet` for a version that is the latest, for that version once another is stored, and for the

@@ -101,7 +101,7 @@ impl TidWord {
 
     /// The TID: the word with the three status bits 0.
     pub fn tid(self) -> TidWord
-        ensures { result ≡ tid_of self * 8 }
+        ensures { result ≡ tid_of self }
     {
         TidWord {
             word: self.word - self.word % 8,

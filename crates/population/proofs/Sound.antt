@@ -12,6 +12,7 @@ use Rattle.tables.specs.Sizes.{Sizes, IsNumber}
 use Rattle.tables.specs.Maps.{RowsAt, RowsWithin, EachRow}
 use Rattle.tables.specs.Database.{Database}
 use Rattle.tables.specs.WellFormed.{IsMoney, IsMoneyFor, IsHistoryRow, IsWellFormed, HasRoom}
+use Rattle.tables.specs.declared.limits.TheConstants.{MAX_COMMITS, MAX_MONEY_STEP}
 use Rattle.population.specs.Plain.{numbers, plain_history_row, plain_order, IsTable, IsPlain}
 use Rattle.population.proofs.Lists.{map_more, flat_map_more}
 
@@ -52,14 +53,17 @@ module _ {X : Type 0} (P : X → Type 0) where
       subst (All P) (sym (flat_map_more f (numbers n) (suc n)))
       (All-append P _ _ (all_joined f n (λ k h. holds k (h.0, omega arith))) (holds (suc n) (omega arith, omega arith)))
 
-money : (n amount : ℕ) → amount + 15000000 * n ≤ 10000000000000 → IsMoneyFor n (pos amount)
-money n amount fits = (omega (arith, ints), omega (arith, ints))
+money : (amount : ℕ) → amount ≤ 10000000000000 → IsMoney (pos amount)
+money amount fits = (omega (arith, ints), omega (arith, ints))
 
-debt : (n : ℕ) → 1000 + 15000000 * n ≤ 10000000000000 → IsMoneyFor n (neg_ℤ (pos 1000))
-debt n fits = (omega (arith, ints), omega (arith, ints))
+debt : IsMoney (neg_ℤ (pos 1000))
+debt = (omega (arith, ints), omega (arith, ints))
 
-plain_money : (amount : ℕ) → amount ≤ 10000000000000 → IsMoney (pos amount)
-plain_money amount fits = (omega (arith, ints), omega (arith, ints))
+money_for : (n amount : ℕ) → amount + MAX_MONEY_STEP * n ≤ 10000000000000 → IsMoneyFor n (pos amount)
+money_for n amount fits = (omega (arith, ints), omega (arith, ints))
+
+debt_for : (n : ℕ) → 1000 + MAX_MONEY_STEP * n ≤ 10000000000000 → IsMoneyFor n (neg_ℤ (pos 1000))
+debt_for n fits = (omega (arith, ints), omega (arith, ints))
 
 is_history_row : (s : Sizes) (w d c : ℕ) → IsNumber s.warehouses w → IsNumber s.districts d → IsNumber s.customers c → IsHistoryRow s (plain_history_row w d c)
 is_history_row s w d c in_warehouse in_district in_customer = record {
@@ -90,12 +94,12 @@ module _ (t : Database) (fit : IsFit t.scale) (plain : IsPlain t.scale t) where
   total : t.scale.districts * (t.scale.customers * 1000) ≤ 30000000
   total = mul-le t.scale.districts (t.scale.customers * 1000) 10 3000000 fit.districts (omega (arith, fit.customers))
 
-  room : HasRoom 600000 t
+  room : HasRoom MAX_COMMITS t
   room = record {
-    warehouses = each plain.warehouses _ (λ k h. money 600000 (t.scale.districts * (t.scale.customers * 1000)) (omega (arith, total)));
-    districts = each plain.districts _ (λ k h. money 600000 (t.scale.customers * 1000) (omega (arith, fit.customers)));
-    balances = each plain.customers _ (λ k h. debt 600000 (omega arith));
-    paid = each plain.customers _ (λ k h. money 600000 1000 (omega arith));
+    warehouses = each plain.warehouses _ (λ k h. money_for MAX_COMMITS (t.scale.districts * (t.scale.customers * 1000)) (omega (arith, total)));
+    districts = each plain.districts _ (λ k h. money_for MAX_COMMITS (t.scale.customers * 1000) (omega (arith, fit.customers)));
+    balances = each plain.customers _ (λ k h. debt_for MAX_COMMITS (omega arith));
+    paid = each plain.customers _ (λ k h. money_for MAX_COMMITS 1000 (omega arith));
     payments = each plain.customers _ (λ k h. omega arith);
     deliveries = each plain.customers _ (λ k h. omega arith);
   }
@@ -110,14 +114,14 @@ module _ (t : Database) (fit : IsFit t.scale) (plain : IsPlain t.scale t) where
     orders = within plain.orders _ (λ k h. (h.0, h.1, (h.2.0, omega (arith, h.2, fit.orders))));
     lines = within plain.lines _ (λ k h. (h.0, h.1, (h.2.0, omega (arith, h.2, fit.orders)), (h.3.0, omega (arith, h.3))));
     items = within plain.items _ (λ k h. h);
-    warehouse_rows = each plain.warehouses _ (λ k h. plain_money (t.scale.districts * (t.scale.customers * 1000)) (omega (arith, total)));
+    warehouse_rows = each plain.warehouses _ (λ k h. money (t.scale.districts * (t.scale.customers * 1000)) (omega (arith, total)));
     district_rows = each plain.districts _ (λ k h. record {
-      year_to_date = plain_money (t.scale.customers * 1000) (omega (arith, fit.customers));
+      year_to_date = money (t.scale.customers * 1000) (omega (arith, fit.customers));
       next_order = (omega arith, omega (arith, fit.orders));
     });
     customer_rows = each plain.customers _ (λ k h. record {
-      balance = (omega (arith, ints), omega (arith, ints));
-      paid = plain_money 1000 (omega arith);
+      balance = debt;
+      paid = money 1000 (omega arith);
       payments = omega arith;
       deliveries = omega arith;
     });
@@ -154,7 +158,7 @@ module _ (s : Sizes) (t : Database) (fit : IsFit s) (plain : IsPlain s t) where
   plain_here : IsPlain t.scale t
   plain_here = subst (λ (x : Sizes). IsPlain x t) (sym plain.scale) plain
 
-  pub has_room : HasRoom 600000 t
+  pub has_room : HasRoom MAX_COMMITS t
   has_room = room t fit_here plain_here
 
   pub is_well_formed : IsWellFormed t

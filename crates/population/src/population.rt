@@ -5,6 +5,7 @@ ghost use Rattle.population.specs.Unique.{line_order-prop};
 ghost use Rattle.tables.specs.Conditions.{IsConsistent};
 ghost use Rattle.tables.specs.Database.{database};
 ghost use Rattle.tables.specs.WellFormed.{IsWellFormed, HasRoom};
+ghost use Rattle.tables.specs.declared.limits.TheConstants.{MAX_COMMITS};
 
 use crate::plain::plain_tables;
 use money::Refusal;
@@ -17,7 +18,7 @@ use tables::{Scale, Tables};
 pub struct Population {
     tables: Tables,
     seed: u64,
-    pub ghost room: { HasRoom 600000 (database tables) } by { Prim.hlevel props },
+    pub ghost room: { HasRoom MAX_COMMITS (database tables) } by { Prim.hlevel props },
     pub ghost well_formed: { IsWellFormed (database tables) } by { Prim.hlevel (props, line_order-prop) },
     pub ghost consistent: { IsConsistent (database tables) } by { Prim.hlevel props },
 }

@@ -3,7 +3,9 @@ use Rattle.std.proofs.Common.{◌≡◌, ℕ, ◌+◌, ◌-◌, ◌*◌, ◌/◌
 use Rattle.std.proofs.lemmas.Nat.{div-mul-add, mod-mul-add, mul-add-lt, div-add-mod', div_below, mod_below}
 use Rattle.tables.specs.Sizes.{Sizes, IsNumber}
 use Rattle.tables.specs.Keys.{IsWarehouseKey, IsDistrictKey, IsCustomerKey, IsOrderKey, IsLineKey, IsStockKey, order_of}
-use Rattle.tables.specs.Records.{size, start, record_number, record_count, table_of, place_of, district_place, customer_place, order_place, number_of_key, IsRecordKey, district_at, customer_at, order_at, line_at, stock_at, key_of, NumbersNameKeys, NumbersNamePlaces}
+use Rattle.tables.specs.Records.{size, start, table_number, IsRowKey, record_number, record_count, table_of, place_of, district_place, customer_place, order_place, number_of_key, IsRecordKey, district_at, customer_at, order_at, line_at, stock_at, key_at, table_at, place_at, key_of, NumbersNameKeys, NumbersNamePlaces}
+use Rattle.tables.specs.declared.limits.TheConstants.{MAX_ORDER_LINES}
+use Rattle.tables.proofs.InTurn.{located, found_among, earlier}
 use Rattle.tables.specs.declared.keys.DistrictKey.{DistrictKey}
 use Rattle.tables.specs.declared.keys.CustomerKey.{CustomerKey}
 use Rattle.tables.specs.declared.keys.OrderKey.{OrderKey}
@@ -98,18 +100,18 @@ module _ (s : Sizes) where
       ((d.0.0, d.0.1, f.column), ap (λ q. q * s.orders + (p % s.orders + 1 - 1)) d.1 ∙ f.same)
 
   -- a line of an order
-  pub line_there : (k : LineKey) → IsLineKey s k → (order_place s (order_of k) * 15 + (k.line - 1) < s.warehouses * s.districts * s.orders * 15) × (line_at s (order_place s (order_of k) * 15 + (k.line - 1)) ≡ k)
+  pub line_there : (k : LineKey) → IsLineKey s k → (order_place s (order_of k) * MAX_ORDER_LINES + (k.line - 1) < s.warehouses * s.districts * s.orders * MAX_ORDER_LINES) × (line_at s (order_place s (order_of k) * MAX_ORDER_LINES + (k.line - 1)) ≡ k)
   line_there k h =
       let o = order_there (order_of k) (h.0, h.1, h.2) in
-      let p = placed (s.warehouses * s.districts * s.orders) 15 (order_place s (order_of k)) k.line o.0 h.3 in
-      let there : order_at s ((order_place s (order_of k) * 15 + (k.line - 1)) / 15) ≡ order_of k = ap (order_at s) p.row ∙ o.1 in
+      let p = placed (s.warehouses * s.districts * s.orders) MAX_ORDER_LINES (order_place s (order_of k)) k.line o.0 h.3 in
+      let there : order_at s ((order_place s (order_of k) * MAX_ORDER_LINES + (k.line - 1)) / MAX_ORDER_LINES) ≡ order_of k = ap (order_at s) p.row ∙ o.1 in
       (p.below, λ i. record { warehouse = (there i).warehouse; district = (there i).district; order = (there i).order; line = p.column i })
 
-  line_back : (p : ℕ) → p < s.warehouses * s.districts * s.orders * 15 → IsLineKey s (line_at s p) × (order_place s (order_of (line_at s p)) * 15 + ((line_at s p).line - 1) ≡ p)
+  line_back : (p : ℕ) → p < s.warehouses * s.districts * s.orders * MAX_ORDER_LINES → IsLineKey s (line_at s p) × (order_place s (order_of (line_at s p)) * MAX_ORDER_LINES + ((line_at s p).line - 1) ≡ p)
   line_back p h =
-      let f = filled (s.warehouses * s.districts * s.orders) 15 p h in
-      let o = order_back (p / 15) f.row in
-      ((o.0.0, o.0.1, o.0.2, f.column), ap (λ q. q * 15 + (p % 15 + 1 - 1)) o.1 ∙ f.same)
+      let f = filled (s.warehouses * s.districts * s.orders) MAX_ORDER_LINES p h in
+      let o = order_back (p / MAX_ORDER_LINES) f.row in
+      ((o.0.0, o.0.1, o.0.2, f.column), ap (λ q. q * MAX_ORDER_LINES + (p % MAX_ORDER_LINES + 1 - 1)) o.1 ∙ f.same)
 
   -- an item of a warehouse
   pub stock_there : (k : StockKey) → IsStockKey s k → ((k.warehouse - 1) * s.items + (k.item - 1) < s.warehouses * s.items) × (stock_at s ((k.warehouse - 1) * s.items + (k.item - 1)) ≡ k)
@@ -124,230 +126,72 @@ module _ (s : Sizes) where
   pub warehouse_there : (w : ℕ) → IsWarehouseKey s w → (w - 1 < s.warehouses) × (w - 1 + 1 ≡ w)
   warehouse_there w h = (under w s.warehouses h.0 h.1, up w h.0)
 
-below : (n b : ℕ) → n < b → nat_lt n b ≡ true
-below n b h = grind arith
-
-not_below : (n b : ℕ) → b ≤ n → nat_lt n b ≡ false
-not_below n b h = grind arith
-
-taken : {X : Type 0} (x y : X) (n b : ℕ) → n < b → cond (nat_lt n b) x y ≡ x
-taken x y n b h = ap (λ q. cond q x y) (below n b h)
-
-passed : {X : Type 0} (x y : X) (n b : ℕ) → b ≤ n → cond (nat_lt n b) x y ≡ y
-passed x y n b h = ap (λ q. cond q x y) (not_below n b h)
-
--- a choice by a bound
-chosen : {X : Type 0} (P : X → Type 0) (x y : X) (n b : ℕ) → (n < b → P x) → (b ≤ n → P y) → P (cond (nat_lt n b) x y)
-chosen P x y n b first rest = go (nat_lt n b) refl
-  where
-    go : (q : Bool) → nat_lt n b ≡ q → P (cond q x y)
-    go true e = first (grind arith)
-    go false e = rest (grind arith)
-
-there : (m p : ℕ) → m + p - m ≡ p
-there m p = omega arith
-
-back : (m n : ℕ) → m ≤ n → m + (n - m) ≡ n
-back m n h = omega arith
-
-inside : (m n width end : ℕ) → m ≤ n → n < end → end ≡ m + width → n - m < width
-inside m n width end h k e = omega arith
-
 module _ (s : Sizes) where
-  -- the choices of `key_of`, from each table on
-  abbrev from_Oldest : ℕ → RecordKey
-  from_Oldest n = cond (nat_lt n (start s table.Last)) (key.Oldest (district_at s (n - start s table.Oldest))) (key.Last (customer_at s (n - start s table.Last)))
+  -- a key has its place, and that place has the key
+  key_there : (k : RecordKey) → IsRecordKey s k → (place_of s k < size s (table_of k)) × (key_at s (table_of k) (place_of s k) ≡ k)
+  key_there (key.Warehouse w) h = let c = warehouse_there s w h in (c.0, ap key.Warehouse c.1)
+  key_there (key.District k) h = let c = district_there s k h in (c.0, ap key.District c.1)
+  key_there (key.Customer k) h = let c = customer_there s k h in (c.0, ap key.Customer c.1)
+  key_there (key.NewOrder k) h = let c = order_there s k h in (c.0, ap key.NewOrder c.1)
+  key_there (key.Order k) h = let c = order_there s k h in (c.0, ap key.Order c.1)
+  key_there (key.OrderLine k) h = let c = line_there s k h in (c.0, ap key.OrderLine c.1)
+  key_there (key.Stock k) h = let c = stock_there s k h in (c.0, ap key.Stock c.1)
+  key_there (key.Oldest k) h = let c = district_there s k h in (c.0, ap key.Oldest c.1)
+  key_there (key.Last k) h = let c = customer_there s k h in (c.0, ap key.Last c.1)
 
-  abbrev from_Stock : ℕ → RecordKey
-  from_Stock n = cond (nat_lt n (start s table.Oldest)) (key.Stock (stock_at s (n - start s table.Stock))) (from_Oldest n)
-
-  abbrev from_OrderLine : ℕ → RecordKey
-  from_OrderLine n = cond (nat_lt n (start s table.Item)) (key.OrderLine (line_at s (n - start s table.OrderLine))) (from_Stock n)
-
-  abbrev from_Order : ℕ → RecordKey
-  from_Order n = cond (nat_lt n (start s table.OrderLine)) (key.Order (order_at s (n - start s table.Order))) (from_OrderLine n)
-
-  abbrev from_NewOrder : ℕ → RecordKey
-  from_NewOrder n = cond (nat_lt n (start s table.Order)) (key.NewOrder (order_at s (n - start s table.NewOrder))) (from_Order n)
-
-  abbrev from_Customer : ℕ → RecordKey
-  from_Customer n = cond (nat_lt n (start s table.History)) (key.Customer (customer_at s (n - start s table.Customer))) (from_NewOrder n)
-
-  abbrev from_District : ℕ → RecordKey
-  from_District n = cond (nat_lt n (start s table.Customer)) (key.District (district_at s (n - start s table.District))) (from_Customer n)
+  -- a place has its key, and that key has the place
+  key_back : (t : Table) (p : ℕ) → p < size s t → IsRecordKey s (key_at s t p) × (table_of (key_at s t p) ≡ t) × (place_of s (key_at s t p) ≡ p)
+  key_back table.Warehouse p h = (over p s.warehouses h, refl, down p)
+  key_back table.District p h = let r = district_back s p h in (r.0, refl, r.1)
+  key_back table.Customer p h = let r = customer_back s p h in (r.0, refl, r.1)
+  key_back table.History p h = absurd (not-suc-le-zero h)
+  key_back table.NewOrder p h = let r = order_back s p h in (r.0, refl, r.1)
+  key_back table.Order p h = let r = order_back s p h in (r.0, refl, r.1)
+  key_back table.OrderLine p h = let r = line_back s p h in (r.0, refl, r.1)
+  key_back table.Item p h = absurd (not-suc-le-zero h)
+  key_back table.Stock p h = let r = stock_back s p h in (r.0, refl, r.1)
+  key_back table.Oldest p h = let r = district_back s p h in (r.0, refl, r.1)
+  key_back table.Last p h = let r = customer_back s p h in (r.0, refl, r.1)
 
   -- what a number names
   pub named : (k : RecordKey) → IsRecordKey s k → (number_of_key s k < record_count s) × (key_of s (number_of_key s k) ≡ k)
-  named (key.Warehouse w) h =
-      let c = warehouse_there s w h in
-      let n = number_of_key s (key.Warehouse w) in (
-        omega (arith, c.0),
-        taken (key.Warehouse (n + 1)) (from_District n) n (start s table.District) (omega (arith, c.0))
-            ∙ ap key.Warehouse (ap (λ q. q + 1) (zero-add (w - 1)) ∙ c.1),
-      )
-  named (key.District k) h =
-      let c = district_there s k h in
-      let n = number_of_key s (key.District k) in (
-        omega (arith, c.0),
-        passed (key.Warehouse (n + 1)) (from_District n) n (start s table.District) (omega arith)
-            ∙ taken (key.District (district_at s (n - start s table.District))) (from_Customer n) n (start s table.Customer) (omega (arith, c.0))
-            ∙ ap (λ p. key.District (district_at s p)) (there (start s table.District) (place_of s (key.District k))) ∙ ap key.District c.1,
-      )
-  named (key.Customer k) h =
-      let c = customer_there s k h in
-      let n = number_of_key s (key.Customer k) in (
-        omega (arith, c.0),
-        passed (key.Warehouse (n + 1)) (from_District n) n (start s table.District) (omega arith)
-            ∙ passed (key.District (district_at s (n - start s table.District))) (from_Customer n) n (start s table.Customer) (omega arith)
-            ∙ taken (key.Customer (customer_at s (n - start s table.Customer))) (from_NewOrder n) n (start s table.History) (omega (arith, c.0))
-            ∙ ap (λ p. key.Customer (customer_at s p)) (there (start s table.Customer) (place_of s (key.Customer k))) ∙ ap key.Customer c.1,
-      )
-  named (key.NewOrder k) h =
-      let c = order_there s k h in
-      let n = number_of_key s (key.NewOrder k) in (
-        omega (arith, c.0),
-        passed (key.Warehouse (n + 1)) (from_District n) n (start s table.District) (omega arith)
-            ∙ passed (key.District (district_at s (n - start s table.District))) (from_Customer n) n (start s table.Customer) (omega arith)
-            ∙ passed (key.Customer (customer_at s (n - start s table.Customer))) (from_NewOrder n) n (start s table.History) (omega arith)
-            ∙ taken (key.NewOrder (order_at s (n - start s table.NewOrder))) (from_Order n) n (start s table.Order) (omega (arith, c.0))
-            ∙ ap (λ p. key.NewOrder (order_at s p)) (there (start s table.NewOrder) (place_of s (key.NewOrder k))) ∙ ap key.NewOrder c.1,
-      )
-  named (key.Order k) h =
-      let c = order_there s k h in
-      let n = number_of_key s (key.Order k) in (
-        omega (arith, c.0),
-        passed (key.Warehouse (n + 1)) (from_District n) n (start s table.District) (omega arith)
-            ∙ passed (key.District (district_at s (n - start s table.District))) (from_Customer n) n (start s table.Customer) (omega arith)
-            ∙ passed (key.Customer (customer_at s (n - start s table.Customer))) (from_NewOrder n) n (start s table.History) (omega arith)
-            ∙ passed (key.NewOrder (order_at s (n - start s table.NewOrder))) (from_Order n) n (start s table.Order) (omega arith)
-            ∙ taken (key.Order (order_at s (n - start s table.Order))) (from_OrderLine n) n (start s table.OrderLine) (omega (arith, c.0))
-            ∙ ap (λ p. key.Order (order_at s p)) (there (start s table.Order) (place_of s (key.Order k))) ∙ ap key.Order c.1,
-      )
-  named (key.OrderLine k) h =
-      let c = line_there s k h in
-      let n = number_of_key s (key.OrderLine k) in (
-        omega (arith, c.0),
-        passed (key.Warehouse (n + 1)) (from_District n) n (start s table.District) (omega arith)
-            ∙ passed (key.District (district_at s (n - start s table.District))) (from_Customer n) n (start s table.Customer) (omega arith)
-            ∙ passed (key.Customer (customer_at s (n - start s table.Customer))) (from_NewOrder n) n (start s table.History) (omega arith)
-            ∙ passed (key.NewOrder (order_at s (n - start s table.NewOrder))) (from_Order n) n (start s table.Order) (omega arith)
-            ∙ passed (key.Order (order_at s (n - start s table.Order))) (from_OrderLine n) n (start s table.OrderLine) (omega arith)
-            ∙ taken (key.OrderLine (line_at s (n - start s table.OrderLine))) (from_Stock n) n (start s table.Item) (omega (arith, c.0))
-            ∙ ap (λ p. key.OrderLine (line_at s p)) (there (start s table.OrderLine) (place_of s (key.OrderLine k))) ∙ ap key.OrderLine c.1,
-      )
-  named (key.Stock k) h =
-      let c = stock_there s k h in
-      let n = number_of_key s (key.Stock k) in (
-        omega (arith, c.0),
-        passed (key.Warehouse (n + 1)) (from_District n) n (start s table.District) (omega arith)
-            ∙ passed (key.District (district_at s (n - start s table.District))) (from_Customer n) n (start s table.Customer) (omega arith)
-            ∙ passed (key.Customer (customer_at s (n - start s table.Customer))) (from_NewOrder n) n (start s table.History) (omega arith)
-            ∙ passed (key.NewOrder (order_at s (n - start s table.NewOrder))) (from_Order n) n (start s table.Order) (omega arith)
-            ∙ passed (key.Order (order_at s (n - start s table.Order))) (from_OrderLine n) n (start s table.OrderLine) (omega arith)
-            ∙ passed (key.OrderLine (line_at s (n - start s table.OrderLine))) (from_Stock n) n (start s table.Item) (omega arith)
-            ∙ taken (key.Stock (stock_at s (n - start s table.Stock))) (from_Oldest n) n (start s table.Oldest) (omega (arith, c.0))
-            ∙ ap (λ p. key.Stock (stock_at s p)) (there (start s table.Stock) (place_of s (key.Stock k))) ∙ ap key.Stock c.1,
-      )
-  named (key.Oldest k) h =
-      let c = district_there s k h in
-      let n = number_of_key s (key.Oldest k) in (
-        omega (arith, c.0),
-        passed (key.Warehouse (n + 1)) (from_District n) n (start s table.District) (omega arith)
-            ∙ passed (key.District (district_at s (n - start s table.District))) (from_Customer n) n (start s table.Customer) (omega arith)
-            ∙ passed (key.Customer (customer_at s (n - start s table.Customer))) (from_NewOrder n) n (start s table.History) (omega arith)
-            ∙ passed (key.NewOrder (order_at s (n - start s table.NewOrder))) (from_Order n) n (start s table.Order) (omega arith)
-            ∙ passed (key.Order (order_at s (n - start s table.Order))) (from_OrderLine n) n (start s table.OrderLine) (omega arith)
-            ∙ passed (key.OrderLine (line_at s (n - start s table.OrderLine))) (from_Stock n) n (start s table.Item) (omega arith)
-            ∙ passed (key.Stock (stock_at s (n - start s table.Stock))) (from_Oldest n) n (start s table.Oldest) (omega arith)
-            ∙ taken (key.Oldest (district_at s (n - start s table.Oldest))) (key.Last (customer_at s (n - start s table.Last))) n (start s table.Last) (omega (arith, c.0))
-            ∙ ap (λ p. key.Oldest (district_at s p)) (there (start s table.Oldest) (place_of s (key.Oldest k))) ∙ ap key.Oldest c.1,
-      )
-  named (key.Last k) h =
-      let c = customer_there s k h in
-      let n = number_of_key s (key.Last k) in (
-        omega (arith, c.0),
-        passed (key.Warehouse (n + 1)) (from_District n) n (start s table.District) (omega arith)
-            ∙ passed (key.District (district_at s (n - start s table.District))) (from_Customer n) n (start s table.Customer) (omega arith)
-            ∙ passed (key.Customer (customer_at s (n - start s table.Customer))) (from_NewOrder n) n (start s table.History) (omega arith)
-            ∙ passed (key.NewOrder (order_at s (n - start s table.NewOrder))) (from_Order n) n (start s table.Order) (omega arith)
-            ∙ passed (key.Order (order_at s (n - start s table.Order))) (from_OrderLine n) n (start s table.OrderLine) (omega arith)
-            ∙ passed (key.OrderLine (line_at s (n - start s table.OrderLine))) (from_Stock n) n (start s table.Item) (omega arith)
-            ∙ passed (key.Stock (stock_at s (n - start s table.Stock))) (from_Oldest n) n (start s table.Oldest) (omega arith)
-            ∙ passed (key.Oldest (district_at s (n - start s table.Oldest))) (key.Last (customer_at s (n - start s table.Last))) n (start s table.Last) (omega arith)
-            ∙ ap (λ p. key.Last (customer_at s p)) (there (start s table.Last) (place_of s (key.Last k))) ∙ ap key.Last c.1,
-      )
+  named k h =
+      let c = key_there k h in
+      let l = located s (table_of k) (place_of s k) c.0 in
+      (l.below, (λ i. key_at s (l.at.table i) (l.at.place i)) ∙ c.1)
 
   -- each number names a key
-  abbrev Names : ℕ → RecordKey → Type 0
-  Names n k = IsRecordKey s k × (number_of_key s k ≡ n)
-
-  pub numbered : (n : ℕ) → n < record_count s → Names n (key_of s n)
+  pub numbered : (n : ℕ) → n < record_count s → IsRecordKey s (key_of s n) × (number_of_key s (key_of s n) ≡ n)
   numbered n h =
-      chosen (Names n) (key.Warehouse (n + 1)) (from_District n) n (start s table.District) (λ b. (over n s.warehouses (omega (arith, b)), zero-add (n + 1 - 1) ∙ down n))
-      (λ a1. chosen (Names n) (key.District (district_at s (n - start s table.District))) (from_Customer n) n (start s table.Customer) (λ b.
-      let r = district_back s (n - start s table.District) (inside (start s table.District) n (size s table.District) (start s table.Customer) (omega (arith, a1)) b (omega arith)) in
-      (r.0, ap (λ p. start s table.District + p) r.1 ∙ back (start s table.District) n (omega (arith, a1))))
-      (λ a2. chosen (Names n) (key.Customer (customer_at s (n - start s table.Customer))) (from_NewOrder n) n (start s table.History) (λ b.
-      let r = customer_back s (n - start s table.Customer) (inside (start s table.Customer) n (size s table.Customer) (start s table.History) (omega (arith, a2)) b (omega arith)) in
-      (r.0, ap (λ p. start s table.Customer + p) r.1 ∙ back (start s table.Customer) n (omega (arith, a2))))
-      (λ a3. chosen (Names n) (key.NewOrder (order_at s (n - start s table.NewOrder))) (from_Order n) n (start s table.Order) (λ b.
-      let r = order_back s (n - start s table.NewOrder) (inside (start s table.NewOrder) n (size s table.NewOrder) (start s table.Order) (omega (arith, a3)) b (omega arith)) in
-      (r.0, ap (λ p. start s table.NewOrder + p) r.1 ∙ back (start s table.NewOrder) n (omega (arith, a3))))
-      (λ a4. chosen (Names n) (key.Order (order_at s (n - start s table.Order))) (from_OrderLine n) n (start s table.OrderLine) (λ b.
-      let r = order_back s (n - start s table.Order) (inside (start s table.Order) n (size s table.Order) (start s table.OrderLine) (omega (arith, a4)) b (omega arith)) in
-      (r.0, ap (λ p. start s table.Order + p) r.1 ∙ back (start s table.Order) n (omega (arith, a4))))
-      (λ a5. chosen (Names n) (key.OrderLine (line_at s (n - start s table.OrderLine))) (from_Stock n) n (start s table.Item) (λ b.
-      let r = line_back s (n - start s table.OrderLine) (inside (start s table.OrderLine) n (size s table.OrderLine) (start s table.Item) (omega (arith, a5)) b (omega arith)) in
-      (r.0, ap (λ p. start s table.OrderLine + p) r.1 ∙ back (start s table.OrderLine) n (omega (arith, a5))))
-      (λ a6. chosen (Names n) (key.Stock (stock_at s (n - start s table.Stock))) (from_Oldest n) n (start s table.Oldest) (λ b.
-      let r = stock_back s (n - start s table.Stock) (inside (start s table.Stock) n (size s table.Stock) (start s table.Oldest) (omega (arith, a6)) b (omega arith)) in
-      (r.0, ap (λ p. start s table.Stock + p) r.1 ∙ back (start s table.Stock) n (omega (arith, a6))))
-      (λ a7. chosen (Names n) (key.Oldest (district_at s (n - start s table.Oldest))) (key.Last (customer_at s (n - start s table.Last))) n (start s table.Last) (λ b.
-      let r = district_back s (n - start s table.Oldest) (inside (start s table.Oldest) n (size s table.Oldest) (start s table.Last) (omega (arith, a7)) b (omega arith)) in
-      (r.0, ap (λ p. start s table.Oldest + p) r.1 ∙ back (start s table.Oldest) n (omega (arith, a7))))
-      (λ a8.
-      let r = customer_back s (n - start s table.Last) (inside (start s table.Last) n (size s table.Last) (record_count s) (omega (arith, a8)) h (omega arith)) in
-      (r.0, ap (λ p. start s table.Last + p) r.1 ∙ back (start s table.Last) n (omega (arith, a8)))))))))))
+      let f = found_among s n h in
+      let k = key_back (table_at s n) (place_at s n) f.within in
+      (k.0, (λ i. record_number s (k.1 i) (k.2 i)) ∙ f.same)
 
   pub one_to_one : NumbersNameKeys s
   one_to_one = (named, numbered)
 
-  -- the key at a place
-  key_there : (t : Table) (p : ℕ) → p < size s t → (k : RecordKey) × IsRecordKey s k × (table_of k ≡ t) × (place_of s k ≡ p)
-  key_there table.Warehouse p h = (key.Warehouse (p + 1), over p s.warehouses h, refl, down p)
-  key_there table.District p h = let r = district_back s p h in (key.District (district_at s p), r.0, refl, r.1)
-  key_there table.Customer p h = let r = customer_back s p h in (key.Customer (customer_at s p), r.0, refl, r.1)
-  key_there table.NewOrder p h = let r = order_back s p h in (key.NewOrder (order_at s p), r.0, refl, r.1)
-  key_there table.Order p h = let r = order_back s p h in (key.Order (order_at s p), r.0, refl, r.1)
-  key_there table.OrderLine p h = let r = line_back s p h in (key.OrderLine (line_at s p), r.0, refl, r.1)
-  key_there table.Stock p h = let r = stock_back s p h in (key.Stock (stock_at s p), r.0, refl, r.1)
-  key_there table.Oldest p h = let r = district_back s p h in (key.Oldest (district_at s p), r.0, refl, r.1)
-  key_there table.Last p h = let r = customer_back s p h in (key.Last (customer_at s p), r.0, refl, r.1)
-  key_there table.History p h = absurd (not-suc-le-zero h)
-  key_there table.Item p h = absurd (not-suc-le-zero h)
-
   apart : (t u : Table) (p q : ℕ) → p < size s t → q < size s u → (record_number s t p < record_count s) × (record_number s t p ≡ record_number s u q → (t ≡ u) × (p ≡ q))
   apart t u p q hp hq =
-      let k = key_there t p hp in
-      let l = key_there u q hq in
-      let at_k : number_of_key s k.0 ≡ record_number s t p = λ i. record_number s (k.2 i) (k.3 i) in
-      let at_l : number_of_key s l.0 ≡ record_number s u q = λ i. record_number s (l.2 i) (l.3 i) in (
-        subst (λ n. n < record_count s) at_k (named k.0 k.1).0,
-        λ same.
-            let one : k.0 ≡ l.0 = sym (named k.0 k.1).1 ∙ ap (key_of s) (at_k ∙ same ∙ sym at_l) ∙ (named l.0 l.1).1 in
-            (sym k.2 ∙ ap table_of one ∙ l.2, sym k.3 ∙ ap (place_of s) one ∙ l.3),
-      )
-
-  place_below : (k : RecordKey) → IsRecordKey s k → place_of s k < size s (table_of k)
-  place_below (key.Warehouse w) h = (warehouse_there s w h).0
-  place_below (key.District k) h = (district_there s k h).0
-  place_below (key.Customer k) h = (customer_there s k h).0
-  place_below (key.NewOrder k) h = (order_there s k h).0
-  place_below (key.Order k) h = (order_there s k h).0
-  place_below (key.OrderLine k) h = (line_there s k h).0
-  place_below (key.Stock k) h = (stock_there s k h).0
-  place_below (key.Oldest k) h = (district_there s k h).0
-  place_below (key.Last k) h = (customer_there s k h).0
+      let k = located s t p hp in
+      let l = located s u q hq in
+      (k.below, λ same. (sym k.at.table ∙ ap (table_at s) same ∙ l.at.table, sym k.at.place ∙ ap (place_at s) same ∙ l.at.place))
 
   pub places : NumbersNamePlaces s
-  places = (apart, λ n h. let k = numbered n h in (table_of (key_of s n), place_of s (key_of s n), place_below (key_of s n) k.0, k.1))
+  places = (apart, λ n h. let f = found_among s n h in (table_at s n, place_at s n, f.within, f.same))
+
+  row_at_place : (t : Table) (p : ℕ) → table_number t < table_number table.Oldest → IsRowKey (key_at s t p)
+  row_at_place table.Warehouse p h = tt
+  row_at_place table.District p h = tt
+  row_at_place table.Customer p h = tt
+  row_at_place table.History p h = tt
+  row_at_place table.NewOrder p h = tt
+  row_at_place table.Order p h = tt
+  row_at_place table.OrderLine p h = tt
+  row_at_place table.Item p h = tt
+  row_at_place table.Stock p h = tt
+  row_at_place table.Oldest p h = absurd (omega (arith, h))
+  row_at_place table.Last p h = absurd (omega (arith, h))
+
+  -- the records before those of OLDEST and LAST are rows
+  pub row_numbered : (n : ℕ) → n < record_count s → n < start s table.Oldest → IsRowKey (key_of s n)
+  row_numbered n h k = row_at_place (table_at s n) (place_at s n) (earlier s n table.Oldest h k)

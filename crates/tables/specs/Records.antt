@@ -2,6 +2,7 @@
 use Rattle.std.specs.Prelude.{◌≡◌, ℕ, ◌+◌, ◌-◌, ◌*◌, ◌/◌, ◌%◌, ◌<◌, nat_lt, cond, List, [], ◌∷◌}
 use Rattle.std.specs.List.{filter, sum_by}
 use Rattle.tables.specs.Sizes.{Sizes}
+use Rattle.tables.specs.declared.limits.TheConstants.{MAX_ORDER_LINES}
 use Rattle.tables.specs.Keys.{IsWarehouseKey, IsDistrictKey, IsCustomerKey, IsOrderKey, IsLineKey, IsStockKey, order_of}
 use Rattle.tables.specs.declared.keys.DistrictKey.{DistrictKey}
 use Rattle.tables.specs.declared.keys.CustomerKey.{CustomerKey}
@@ -37,7 +38,7 @@ size s table.Customer = s.warehouses * s.districts * s.customers
 size s table.History = 0
 size s table.NewOrder = s.warehouses * s.districts * s.orders
 size s table.Order = s.warehouses * s.districts * s.orders
-size s table.OrderLine = s.warehouses * s.districts * s.orders * 15
+size s table.OrderLine = s.warehouses * s.districts * s.orders * MAX_ORDER_LINES
 size s table.Item = 0
 size s table.Stock = s.warehouses * s.items
 size s table.Oldest = s.warehouses * s.districts
@@ -81,7 +82,7 @@ place_of s (key.District k) = district_place s k.warehouse k.district
 place_of s (key.Customer k) = customer_place s k
 place_of s (key.NewOrder k) = order_place s k
 place_of s (key.Order k) = order_place s k
-place_of s (key.OrderLine k) = order_place s (order_of k) * 15 + (k.line - 1)
+place_of s (key.OrderLine k) = order_place s (order_of k) * MAX_ORDER_LINES + (k.line - 1)
 place_of s (key.Stock k) = (k.warehouse - 1) * s.items + (k.item - 1)
 place_of s (key.Oldest k) = district_place s k.warehouse k.district
 place_of s (key.Last k) = customer_place s k
@@ -115,24 +116,52 @@ order_at s p = let k : DistrictKey = district_at s (p / s.orders) in
     record { warehouse = k.warehouse; district = k.district; order = p % s.orders + 1 }
 
 abbrev pub line_at : Sizes → ℕ → LineKey
-line_at s p = let k : OrderKey = order_at s (p / 15) in
-    record { warehouse = k.warehouse; district = k.district; order = k.order; line = p % 15 + 1 }
+line_at s p = let k : OrderKey = order_at s (p / MAX_ORDER_LINES) in
+    record { warehouse = k.warehouse; district = k.district; order = k.order; line = p % MAX_ORDER_LINES + 1 }
 
 abbrev pub stock_at : Sizes → ℕ → StockKey
 stock_at s p = record { warehouse = p / s.items + 1; item = p % s.items + 1 }
 
--- the key of a number. No number below `record_count` is in HISTORY or ITEM, whose sizes are 0
+-- the key at a place of a table. HISTORY and ITEM have no places
+abbrev pub key_at : Sizes → Table → ℕ → RecordKey
+key_at s table.Warehouse p = key.Warehouse (p + 1)
+key_at s table.District p = key.District (district_at s p)
+key_at s table.Customer p = key.Customer (customer_at s p)
+key_at s table.History p = key.Warehouse 0
+key_at s table.NewOrder p = key.NewOrder (order_at s p)
+key_at s table.Order p = key.Order (order_at s p)
+key_at s table.OrderLine p = key.OrderLine (line_at s p)
+key_at s table.Item p = key.Warehouse 0
+key_at s table.Stock p = key.Stock (stock_at s p)
+key_at s table.Oldest p = key.Oldest (district_at s p)
+key_at s table.Last p = key.Last (customer_at s p)
+
+-- of these tables, whose records follow one another, the first whose records end behind a number
+unfoldable pub table_among : Sizes → List Table → ℕ → Table
+table_among s [] n = table.Last
+table_among s (t ∷ ts) n = cond (nat_lt n (size s t)) t (table_among s ts (n - size s t))
+
+-- and the number's place in it
+unfoldable pub place_among : Sizes → List Table → ℕ → ℕ
+place_among s [] n = n
+place_among s (t ∷ ts) n = cond (nat_lt n (size s t)) n (place_among s ts (n - size s t))
+
+-- the table of a record number, and its place there
+abbrev pub table_at : Sizes → ℕ → Table
+table_at s n = table_among s tables n
+
+abbrev pub place_at : Sizes → ℕ → ℕ
+place_at s n = place_among s tables n
+
+-- the key of a number
 abbrev pub key_of : Sizes → ℕ → RecordKey
-key_of s n =
-    cond (nat_lt n (start s table.District)) (key.Warehouse (n + 1))
-    (cond (nat_lt n (start s table.Customer)) (key.District (district_at s (n - start s table.District)))
-    (cond (nat_lt n (start s table.History)) (key.Customer (customer_at s (n - start s table.Customer)))
-    (cond (nat_lt n (start s table.Order)) (key.NewOrder (order_at s (n - start s table.NewOrder)))
-    (cond (nat_lt n (start s table.OrderLine)) (key.Order (order_at s (n - start s table.Order)))
-    (cond (nat_lt n (start s table.Item)) (key.OrderLine (line_at s (n - start s table.OrderLine)))
-    (cond (nat_lt n (start s table.Oldest)) (key.Stock (stock_at s (n - start s table.Stock)))
-    (cond (nat_lt n (start s table.Last)) (key.Oldest (district_at s (n - start s table.Oldest)))
-    (key.Last (customer_at s (n - start s table.Last))))))))))
+key_of s n = key_at s (table_at s n) (place_at s n)
+
+-- the key of a row, and of none of the two index records
+abbrev pub IsRowKey : RecordKey → Type 0
+IsRowKey (key.Oldest k) = ⊥
+IsRowKey (key.Last k) = ⊥
+IsRowKey k = Unit {0}
 
 -- the keys of a scale and the numbers below `record_count` are one to one: each key's number has that key, and each number's key has that number
 abbrev pub NumbersNameKeys : Sizes → Type 0

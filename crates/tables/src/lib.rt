@@ -4,9 +4,11 @@
 #![tactic(auto)]
 
 mod customer;
+mod held;
 mod input;
 mod keys;
 pub mod limits;
+mod located;
 mod payment;
 mod records;
 mod reply;
@@ -19,6 +21,7 @@ mod words;
 pub use customer::Who;
 pub use input::Input;
 pub use keys::{CustomerKey, DistrictKey, LineKey, OrderKey, StockKey};
+pub use located::key_of;
 pub use payment::{PaymentInput, PaymentReply};
 pub use records::{RecordKey, Table, number_of_key, rec, records_have_one_number_each};
 pub use reply::Reply;

@@ -10,6 +10,7 @@ ghost use Rattle.tables.specs.declared.records.Table.TheVariants as table;
 ghost use Rattle.tables.specs.declared.records.RecordKey.TheVariants as record_key;
 
 use crate::keys::{CustomerKey, DistrictKey, LineKey, OrderKey, StockKey};
+use crate::limits::MAX_ORDER_LINES;
 use crate::scale::Scale;
 
 /// The tables of records, in the order of their numbers, which begin at 1. HISTORY has no key and ITEM
@@ -57,7 +58,7 @@ impl Table {
             Table::District | Table::Oldest => districts,
             Table::Customer | Table::Last => districts * scale.customers(),
             Table::NewOrder | Table::Order => districts * scale.orders(),
-            Table::OrderLine => districts * scale.orders() * 15,
+            Table::OrderLine => districts * scale.orders() * MAX_ORDER_LINES,
             Table::Stock => scale.warehouses() * scale.items(),
             Table::History | Table::Item => 0,
         }
@@ -145,7 +146,7 @@ fn place_of_line(scale: &Scale, key: LineKey) -> u32
         order: key.order,
     };
     let row = place_of_order(scale, order);
-    place(Table::OrderLine.size(scale), row, 15, key.line)
+    place(Table::OrderLine.size(scale), row, MAX_ORDER_LINES, key.line)
 }
 
 #[tactic(auto, using(crate::proofs::Numbers::stock_there))]

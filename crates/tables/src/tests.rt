@@ -1,9 +1,9 @@
 //! Which numbers make a scale, which fields a Payment's input, and how records are numbered and kept.
 
 use crate::{
-    Credit, Customer, CustomerKey, District, DistrictKey, Input, LineKey, OrderKey, PaymentInput,
-    RecordKey, Scale, StockKey, Table, Tables, Warehouse, Who, money_from_word, money_to_word,
-    number_of_key, rec,
+    Credit, Customer, CustomerKey, District, DistrictKey, Input, LineKey, Order, OrderKey,
+    OrderLine, PaymentInput, RecordKey, Scale, Stock, StockKey, Table, Tables, Warehouse, Who,
+    key_of, money_from_word, money_to_word, number_of_key, rec,
 };
 use money::{Cents, Rate, Refusal};
 use std::test::Fail;
@@ -131,6 +131,71 @@ fn words_of_rows(rt: HostRuntime) -> Result<(), Fail> {
         customer.words(),
         [0xffff_ffff_ffff_f746, 0x8ba, 2, 0, 0, 0, 0]
     );
+    Ok(())
+}
+
+#[test]
+fn keys_of_numbers(rt: HostRuntime) -> Result<(), Fail> {
+    let scale = Scale::new(1, 2, 10, 20, 30, 1_000)?;
+    let customer = CustomerKey {
+        warehouse: 1,
+        district: 2,
+        customer: 3,
+    };
+    let line = LineKey {
+        warehouse: 1,
+        district: 2,
+        order: 1,
+        line: 15,
+    };
+    assert_eq!(rt; key_of(&scale, 0), RecordKey::Warehouse(1));
+    assert_eq!(rt; key_of(&scale, 15), RecordKey::Customer(customer));
+    assert_eq!(rt; key_of(&scale, 607), RecordKey::OrderLine(line));
+    assert_eq!(rt; key_of(&scale, 1_077), RecordKey::Last(customer));
+    Ok(())
+}
+
+#[test]
+fn words_of_orders(rt: HostRuntime) -> Result<(), Fail> {
+    let order = Order {
+        customer: 3,
+        entry_date: 4,
+        carrier: Some(5),
+        line_count: 6,
+        all_local: true,
+    };
+    assert_eq!(rt; order.words(), [3, 4, 5, 6, 1, 0, 0]);
+    let line = OrderLine {
+        item: 7,
+        supply_warehouse: 1,
+        delivery_date: None,
+        quantity: 5,
+        amount: Cents::new(9),
+    };
+    assert_eq!(rt; line.words(), [7, 1, 0, 5, 9, 0, 0]);
+    let stock = Stock {
+        quantity: 40,
+        year_to_date: 3,
+        orders: 2,
+        remote_orders: 1,
+    };
+    assert_eq!(rt; stock.words(), [40, 3, 2, 1, 0, 0, 0]);
+    Ok(())
+}
+
+#[test]
+fn words_of_records(rt: HostRuntime) -> Result<(), Fail> {
+    let mut tables = Tables::new(rt.alloc(), small()?);
+    let warehouse = Warehouse {
+        tax: Rate::new(1_000).ok_or(Refusal::BadInput)?,
+        year_to_date: Cents::new(21_234),
+    };
+    tables.warehouses.insert(1, warehouse)?;
+    assert_eq!(rt;
+        tables.words(RecordKey::Warehouse(1)),
+        Some([21_234, 0, 0, 0, 0, 0, 0])
+    );
+    assert_eq!(rt; tables.words(RecordKey::Warehouse(2)), None);
     Ok(())
 }
 

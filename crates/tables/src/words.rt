@@ -2,9 +2,9 @@
 //! 0.
 
 ghost use Rattle.std.specs.Prelude.{◌≡◌};
-ghost use Rattle.tables.specs.Rows.{money_word, money_of, warehouse_words, district_words, customer_words};
+ghost use Rattle.tables.specs.Rows.{money_word, money_of, warehouse_words, district_words, customer_words, new_order_words, order_words, line_words, stock_words};
 
-use crate::rows::{Customer, District, Warehouse};
+use crate::rows::{Customer, District, NewOrder, Order, OrderLine, Stock, Warehouse};
 use money::Cents;
 
 /// An amount as a word of 64 bits, two's complement.
@@ -50,6 +50,66 @@ impl Customer {
             money_to_word(self.paid),
             u64::from(self.payments),
             u64::from(self.deliveries),
+            0,
+            0,
+            0,
+        ]
+    }
+}
+
+impl NewOrder {
+    /// No column.
+    pub fn words(&self) -> [u64; 7]
+        ensures { result ≡ new_order_words self.now }
+    {
+        [0; 7]
+    }
+}
+
+impl Order {
+    /// O_C_ID, O_ENTRY_D, O_CARRIER_ID (0 where it is null), O_OL_CNT and O_ALL_LOCAL.
+    pub fn words(&self) -> [u64; 7]
+        ensures { result ≡ order_words self.now }
+    {
+        [
+            u64::from(self.customer),
+            u64::from(self.entry_date),
+            u64::from(self.carrier.unwrap_or(0)),
+            u64::from(self.line_count),
+            u64::from(self.all_local),
+            0,
+            0,
+        ]
+    }
+}
+
+impl OrderLine {
+    /// OL_I_ID, OL_SUPPLY_W_ID, OL_DELIVERY_D (0 where it is null), OL_QUANTITY and OL_AMOUNT.
+    pub fn words(&self) -> [u64; 7]
+        ensures { result ≡ line_words self.now }
+    {
+        [
+            u64::from(self.item),
+            u64::from(self.supply_warehouse),
+            u64::from(self.delivery_date.unwrap_or(0)),
+            u64::from(self.quantity),
+            money_to_word(self.amount),
+            0,
+            0,
+        ]
+    }
+}
+
+impl Stock {
+    /// S_QUANTITY, S_YTD, S_ORDER_CNT and S_REMOTE_CNT.
+    pub fn words(&self) -> [u64; 7]
+        ensures { result ≡ stock_words self.now }
+    {
+        [
+            u64::from(self.quantity),
+            u64::from(self.year_to_date),
+            u64::from(self.orders),
+            u64::from(self.remote_orders),
             0,
             0,
             0,

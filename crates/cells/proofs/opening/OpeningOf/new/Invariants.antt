@@ -1,5 +1,5 @@
 use Rattle.std.proofs.Common.{◌≡◌, All, [], length}
-use Rattle.cells.specs.Places.{sights_of}
+use Rattle.cells.specs.Passes.{sights_of}
 use Rattle.cells.proofs.opening.OpeningOf.new.Given as goal
 
 abbrev pub invariant-loop : goal.invariant-loop
