@@ -41,7 +41,7 @@ impl<K: Run> Book<K> {
     ghost use Rattle.std.specs.Prelude.{◌≡◌, ◌+◌, length, IfOk, IfErr};
     ghost use Rattle.money.specs.declared.refusal.Refusal.TheVariants.{OutOfMemory};
     ghost use Rattle.tables.specs.Database.{database};
-    ghost use Rattle.conditions.specs.Finds.{IsReportOf};
+    ghost use Rattle.conditions.specs.Report.{IsReportOf};
     ghost use Rattle.conditions.specs.Report.{IsGood};
     ghost use Rattle.book.specs.History.{replay};
     ghost use Rattle.book.specs.Book.{IsSound};

@@ -7,7 +7,8 @@ use Rattle.tables.specs.Database.{Database}
 use Rattle.tables.proofs.Orders.{IsExact, exact_number, exact_district, exact_customer}
 use Rattle.lines.specs.Lines.{lines_of}
 use Rattle.lines.specs.Report.{report_text}
-use Rattle.conditions.specs.Finds.{Finds, IsReportOf}
+use Rattle.conditions.specs.Finds.{Finds}
+use Rattle.conditions.specs.Report.{IsReportOf}
 use Rattle.conditions.specs.declared.report.Report.{Report}
 use Rattle.book.specs.declared.entry.Done.{Done}
 use Rattle.script.specs.Written.{start, answers_text, IsWhole}

@@ -9,7 +9,7 @@ use Rattle.std.specs.Io.KnownBytes.{Appends, Consumes, IsAtEnd}
 use Rattle.std.proofs.lemmas.List.{take-append-drop}
 use Rattle.std.proofs.KnownBytes.{Appends-nil, Appends-trans}
 use Rattle.tables.specs.Database.{Database}
-use Rattle.conditions.specs.Finds.{IsReportOf}
+use Rattle.conditions.specs.Report.{IsReportOf}
 use Rattle.conditions.specs.declared.report.Report.{Report}
 use Rattle.lines.specs.Lines.{lines_of}
 use Rattle.lines.specs.Report.{report_text}

@@ -6,7 +6,7 @@ use Rattle.lines.specs.Lines.{lines_of}
 use Rattle.lines.specs.Output.{answer_text}
 use Rattle.lines.specs.Report.{report_text}
 use Rattle.lines.specs.declared.answer.Answer.{Answer}
-use Rattle.conditions.specs.Finds.{IsReportOf}
+use Rattle.conditions.specs.Report.{IsReportOf}
 use Rattle.conditions.specs.declared.report.Report.{Report}
 use Rattle.book.specs.declared.entry.Done.{Done}
 use Rattle.script.specs.declared.running.TheConstants.{MAX_LINES}

@@ -2,6 +2,8 @@
 #![tactic(auto)]
 
 mod answering;
+#[cfg(test)]
+mod device_tests;
 mod running;
 #[cfg(test)]
 mod tests;

@@ -4,7 +4,7 @@ ghost use Rattle.std.specs.Prelude.{◌≡◌, ◌⊎◌, ◌≤◌, [], ◌∷�
 ghost use Rattle.tables.specs.Database.{database};
 ghost use Rattle.tables.specs.Inputs.{IsInput};
 ghost use Rattle.tables.specs.WellFormed.{IsWellFormed};
-ghost use Rattle.conditions.specs.Finds.{IsReportOf};
+ghost use Rattle.conditions.specs.Report.{IsReportOf};
 ghost use Rattle.book.specs.History.{replay};
 ghost use Rattle.std.specs.Option.{ForSome};
 ghost use Rattle.book.specs.Book.{IsWorkOf};
