@@ -1,5 +1,5 @@
 -- Payment (TPC-C 2.5): the ranges of its input, what it does to the tables, and its reply.
-use Rattle.std.specs.Prelude.{ℤ, pos, ◌+◌, ◌+ℤ◌, ◌-ℤ◌, ◌≤ℤ◌, ◌==◌, [], ◌∷◌, ◌++◌}
+use Rattle.std.specs.Prelude.{ℤ, ◌+◌, ◌+ℤ◌, ◌-ℤ◌, ◌≤ℤ◌, ◌==◌, [], ◌∷◌, ◌++◌}
 use Rattle.tables.specs.Sizes.{Sizes, IsBetween, IsNumber}
 use Rattle.tables.specs.Keys.{is_district, is_customer}
 use Rattle.tables.specs.Maps.{update_where, column}
