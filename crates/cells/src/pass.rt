@@ -3,7 +3,7 @@ ghost use Rattle.std.specs.Prelude.{◌≡◌, ◌≢◌, ◌+◌, ◌<◌, [], 
 ghost use Rattle.cells.specs.Versions.{StartsWith, EndsWith, last_tid, tid};
 ghost use Rattle.cells.specs.Views.{IsPen, IsReader, known, sight};
 
-use crate::rule::{Cell, Compares, Hears, Learns, Loads, CellPass, Stores, Tells};
+use crate::rule::{Cell, CellPass, Compares, Hears, Learns, Loads, Stores, Tells};
 use std::alloc::{AllocError, Global};
 use std::sync::Wait;
 

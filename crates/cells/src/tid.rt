@@ -32,7 +32,7 @@ impl Model for TidWord {
 impl TidWord {
     ghost use Rattle.cells.specs.TidWord.{tid_word, tid_of};
 
-    /// The word of a record that the population has: epoch 0, sequence 0, the latest version.
+    /// The word of a record that the population has: epoch 0, sequence 0, the latest version (`populated_word`).
     pub const POPULATED: TidWord = TidWord { word: 2 };
 
     /// The word of a record that isn't in its table: epoch 0, sequence 0, the latest version, absent.

@@ -3,7 +3,7 @@
 //! TURNS calls, in nanoseconds. With no words it does nothing.
 #![tactic(auto)]
 
-ghost use Rattle.std.specs.Prelude.{◌≡◌, ◌<◌, ◌≤◌, length, IfOk};
+ghost use Rattle.std.specs.Prelude.{◌≡◌, ◌*◌, ◌<◌, ◌≤◌, length, IfOk};
 ghost use Rattle.cells.specs.Versions.{last_tid};
 ghost use Rattle.cells.specs.Records.{at};
 ghost use Rattle.cells.specs.First.{cell_count};
@@ -11,7 +11,7 @@ ghost use Rattle.cells.specs.First.{cell_count};
 use anyhow::bail;
 use cells::{Cells, Pen, Reader, TidWord};
 use population::Population;
-use std::rt::{Clock, Files};
+use std::rt::{Clock, Env, Files};
 use std::sync::Wait;
 use std::time::Instant;
 use std::{env, fs};
@@ -33,12 +33,12 @@ struct Bench {
     /// The record that is read next, and how far on the one after it is.
     next: u32,
     stride: u32,
-    /// The number of record 0's next TID.
+    /// Record 0's next TID is 8 times this.
     turn: u64,
     ghost counted: { (length cells ≡ count) × (count ≤ 1000000) },
     ghost own: { (pen.cells ≡ cells) × (reader.cells ≡ cells) },
     ghost there: { (next < count) × (stride < count) },
-    ghost larger: { last_tid (at pen.all 0) < turn },
+    ghost larger: { last_tid (at pen.all 0) < turn * 8 },
 }
 
 /// What is measured: a read of the next record, a store in record 0, or a read of record 0 and whether its version is
@@ -109,7 +109,7 @@ fn count_of(scale: &Scale) -> u32
     scale.warehouses() + districts + districts * scale.customers()
 }
 
-/// The number after that of record 0's last TID.
+/// An eighth of the TID after record 0's last one.
 fn next_turn<R: Wait>(
     rt: &R,
     cells: &Cells,
@@ -118,7 +118,7 @@ fn next_turn<R: Wait>(
 ) -> anyhow::Result<u64>
     requires own { (pen.old.cells ≡ cells.now) × (reader.old.cells ≡ cells.now) × (0 < length cells.now) }
     ensures own { (pen.new.cells ≡ cells.now) × (reader.new.cells ≡ cells.now) }
-    ensures larger { IfOk result (λ turn. last_tid (at pen.new.all 0) < turn) }
+    ensures larger { IfOk result (λ turn. last_tid (at pen.new.all 0) < turn * 8) }
 {
     let version = &cells.read(rt, reader, 0);
     if !cells.meet(rt, pen, reader, version) {
@@ -127,12 +127,13 @@ fn next_turn<R: Wait>(
     Ok(version.word.word() / 8 + 1)
 }
 
-/// The cells of this many customers a district, with their holders, and the bytes of a cell.
-fn open<R: Wait + Files + AllocGlobal>(rt: &R, customers: u32) -> anyhow::Result<(Bench, u64)> {
-    let scale = Scale::new(8, 10, customers, 20, customers, 1)?;
-    let population = Population::plain(rt.alloc(), scale)?;
+/// The cells of a population, with their holders, and the bytes of a cell.
+fn bench_of<R: Wait + Files + AllocGlobal>(
+    rt: &R,
+    population: &Population,
+) -> anyhow::Result<(Bench, u64)> {
     let before = resident(rt)?;
-    let (cells, mut pen, mut readers) = Cells::new(rt, rt.alloc(), &population, 1)?;
+    let (cells, mut pen, mut readers) = Cells::new(rt, rt.alloc(), population, 1)?;
     let bytes = resident(rt)?.saturating_sub(before);
     let Some(mut reader) = readers.pop() else {
         bail!("no reader");
@@ -151,14 +152,32 @@ fn open<R: Wait + Files + AllocGlobal>(rt: &R, customers: u32) -> anyhow::Result
     Ok((bench, bytes / u64::from(count)))
 }
 
-fn main(rt: HostRuntime) -> anyhow::Result<()> {
-    let mut words = env::args(&rt)?.skip(1);
+/// The cells of this many customers a district, with their holders. Prints how many they are, the bytes of one, and how
+/// long they took to make.
+fn open<R: Wait + Files + Clock + Print + AllocGlobal>(rt: &R, customers: u32) -> anyhow::Result<Bench> {
+    let scale = Scale::new(8, 10, customers, 20, customers, 1)?;
+    let population = Population::plain(rt.alloc(), scale)?;
+    let start = Instant::now(rt)?;
+    let (bench, bytes) = bench_of(rt, &population)?;
+    let millis = start.elapsed(rt)?.as_millis();
+    println!(rt; "cells {}\nbytes a cell {bytes}\nmade in {millis} ms", bench.count)?;
+    Ok(bench)
+}
+
+/// The numbers of customers a district and of turns that the program's words ask for.
+fn asked<R: Env + AllocGlobal>(rt: &R) -> anyhow::Result<Option<(u32, u32)>> {
+    let mut words = env::args(rt)?.skip(1);
     let (Some(customers), Some(turns)) = (words.next(), words.next()) else {
+        return Ok(None);
+    };
+    Ok(Some((customers.parse()?, turns.parse()?)))
+}
+
+fn main(rt: HostRuntime) -> anyhow::Result<()> {
+    let Some((customers, turns)) = asked(&rt)? else {
         return Ok(());
     };
-    let turns = turns.parse::<u32>()?;
-    let (mut bench, bytes) = open(&rt, customers.parse::<u32>()?)?;
-    println!(rt; "cells {}\nbytes a cell {bytes}", bench.count)?;
+    let mut bench = open(&rt, customers)?;
     for (name, call, stride) in [
         ("hot read", Call::Read, 0),
         ("cold read", Call::Read, SCATTERED),

@@ -1,4 +1,4 @@
-use Rattle.std.proofs.Common.{◌≡◌, sym, ap, ◌∙◌, subst}
+use Rattle.std.proofs.Common.{◌≡◌, sym, ◌∙◌, subst}
 use Rattle.tables.specs.Records.{key_at, key_of, IsRecordKey, IsRowKey}
 use Rattle.tables.proofs.Numbers.{numbered, row_numbered}
 use Rattle.tables.proofs.located.key_of.Goals as goal

@@ -1,6 +1,4 @@
-use Rattle.std.proofs.Common.{◌≡◌, ◌<◌, ◌≤◌, ◌-◌, ◌+◌, ℕ, subst, sym, arith, refl}
-use Rattle.std.specs.Prelude.{slice_index_or}
-use Rattle.tables.specs.Records.{tables, size}
+use Rattle.std.proofs.Common.{◌-◌, ◌+◌, ℕ, subst, sym, arith}
 use Rattle.tables.specs.declared.records.Table.TheVariants as table
 use Rattle.tables.proofs.InTurn.{IsPast, past_none, past_one, past_all, found_here}
 use Rattle.tables.proofs.located.locate.Goals as goal
