@@ -11,7 +11,7 @@ ghost use Rattle.book.specs.Book.{IsWorkOf};
 ghost use Rattle.session.specs.Session.{IsNext};
 ghost use Rattle.money.specs.declared.refusal.Refusal.TheVariants.{OutOfMemory, CommitsFull};
 
-use crate::attempt::{attempt, commit_work};
+use crate::attempting::{attempt, commit_work};
 use book::{Book, Done, Engine, Run, Seat};
 use conditions::Report;
 use money::Refusal;
@@ -90,7 +90,15 @@ impl<'e, K: Run> Session<'e, K> {
     {
         self.dones.reserve(1)?;
         let (alloc, engine) = (self.alloc, self.engine);
-        let done = &persist(rt, alloc, engine, &mut self.book, &mut self.seat, input, None)?;
+        let done = &persist(
+            rt,
+            alloc,
+            engine,
+            &mut self.book,
+            &mut self.seat,
+            input,
+            None,
+        )?;
         self.dones.push_reserved(*done);
         Ok(*done)
     }

@@ -5,7 +5,7 @@ ghost use Rattle.money.specs.declared.refusal.Refusal.TheVariants.{OutOfMemory, 
 ghost use Rattle.book.specs.Book.{IsWorkOf};
 ghost use Rattle.session.specs.Session.{IsNext};
 
-use crate::execute::execute;
+use crate::executing::execute;
 use book::{Book, Done, Engine, Run, Seat};
 use money::Refusal;
 use readset::Work;
