@@ -63,5 +63,8 @@ pub(crate) fn commit_work<K: Run, R: Wait>(
     ensures err { OnErr result (book.new ≡ book.old) }
 {
     let cells = engine.cells();
-    book.commit(rt, cells, &mut seat.reader, &mut seat.share, work)
+    match book.commit(rt, cells, &mut seat.reader, &mut seat.share, work) {
+        Ok(done) => Ok(done),
+        Err(refusal) => Err(refusal),
+    }
 }
