@@ -12,6 +12,7 @@ use Rattle.lines.specs.Lines.{HasNoLineFeed, IsCut, held, held_after, last_line,
 use Rattle.lines.specs.Output.{answer_text}
 use Rattle.lines.specs.declared.answer.Answer.{Answer}
 use Rattle.lines.proofs.Cutting.{lines_first, lines_of_cut, cut_line, cut_more, held_more}
+use Rattle.script.specs.declared.running.TheConstants.{MAX_LINES}
 use Rattle.script.specs.Turns.{State, Turn, IsLineTurn, AreTurns}
 use Rattle.script.specs.Written.{start, answers_text, HasTooManyLines}
 use Rattle.script.specs.Answered.{state_of, Standing, HasAnswered, HasAnsweredAll, HasTooMany}

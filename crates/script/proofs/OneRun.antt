@@ -12,7 +12,7 @@ use Rattle.lines.specs.declared.answer.Answer.{Answer}
 use Rattle.lines.proofs.OneText.{one_line_one_request}
 use Rattle.script.specs.Turns.{State, Turn, committed, IsInputTurn, bad, full, done, IsShowTurn, beyond, row, IsRequestTurn, IsLineTurn, long, unread, read, AreTurns, refused}
 
-told_by : Reply → Outcome → Reply
+abbrev told_by : Reply → Outcome → Reply
 told_by other (Committed tables told) = told
 told_by other (RolledBack item) = other
 

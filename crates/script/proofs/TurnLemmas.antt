@@ -20,7 +20,7 @@ use Rattle.book.specs.declared.entry.Done.{Done}
 use Rattle.book.specs.History.{replay, commit_tid}
 use Rattle.book.proofs.Replaying.{replay-scale}
 use Rattle.session.specs.Session.{SessionView, IsNext}
-use Rattle.script.specs.Answered.{state_of}
+use Rattle.script.specs.Answered.{state_of, IsMade}
 use Rattle.script.specs.Turns.{State, IsInputTurn, bad, full, done, IsRequestTurn, IsLineTurn, unread, read, answer_of}
 
 -- what a commit leaves
@@ -35,16 +35,16 @@ committed_turn t0 old new n x d told says count dones is next =
       reply = d.reply;
     } in
     done (replay t0 new.history) d.reply (subst (λ (s : Sizes). IsInput s x) (sym scale) is)
-        (subst (λ (s : Sizes). length old.dones < s.commits) (sym scale) (subst (λ m. m < t0.scale.commits) (sym count) next.below))
-        next.commits
-        (λ i. record { answer = says i; state = record { tables = replay t0 new.history; dones = (dones ∙ ap (λ e. old.dones ++ e ∷ []) one) i } })
+    (subst (λ (s : Sizes). length old.dones < s.commits) (sym scale) (subst (λ m. m < t0.scale.commits) (sym count) next.below))
+    next.commits
+    (λ i. record { answer = says i; state = record { tables = replay t0 new.history; dones = (dones ∙ ap (λ e. old.dones ++ e ∷ []) one) i } })
 
 -- an input outside its ranges
 pub bad_turn : (t0 : Database) (session : SessionView) (n : ℕ) (x : Input) (refusal : Refusal) (told : Answer) → told ≡ answer.Refused refusal n → (refusal ≡ BadInput) × ¬ IsInput t0.scale x
     → IsInputTurn (state_of t0 session) n x (record { answer = told; state = state_of t0 session })
 bad_turn t0 session n x refusal told says is =
     bad (subst (λ (s : Sizes). ¬ IsInput s x) (sym (replay-scale t0 session.history)) is.1)
-        (λ i. record { answer = (says ∙ ap (λ r. answer.Refused r n) is.0) i; state = state_of t0 session })
+    (λ i. record { answer = (says ∙ ap (λ r. answer.Refused r n) is.0) i; state = state_of t0 session })
 
 -- the commit cap
 pub full_turn : (t0 : Database) (old new : SessionView) (n : ℕ) (x : Input) (told : Answer) → told ≡ answer.Refused CommitsFull n → new ≡ old → length old.dones ≡ length old.history
@@ -52,8 +52,8 @@ pub full_turn : (t0 : Database) (old new : SessionView) (n : ℕ) (x : Input) (t
 full_turn t0 old new n x told says same count is cap =
     let scale : (replay t0 old.history).scale ≡ t0.scale = replay-scale t0 old.history in
     full (subst (λ (s : Sizes). IsInput s x) (sym scale) is)
-        (subst (λ (s : Sizes). s.commits ≤ length old.dones) (sym scale) (subst (λ m. t0.scale.commits ≤ m) (sym count) cap))
-        (λ i. record { answer = says i; state = state_of t0 (same i) })
+    (subst (λ (s : Sizes). s.commits ≤ length old.dones) (sym scale) (subst (λ m. t0.scale.commits ≤ m) (sym count) cap))
+    (λ i. record { answer = says i; state = state_of t0 (same i) })
 
 -- a row stands exactly at the keys of the scale
 pub row_there : {K X : Type 0} {R : K → K → Ordering} (IsKey : K → Type 0) (m : FinMap R X) (k : K) (r : X) → RowsAt IsKey m → get m k ≡ Some r → IsKey k
@@ -61,6 +61,12 @@ row_there IsKey m k r at found = (at k).0 (ap is_some found)
 
 pub no_row : {K X : Type 0} {R : K → K → Ordering} (IsKey : K → Type 0) (m : FinMap R X) (k : K) → RowsAt IsKey m → get m k ≡ None → ¬ IsKey k
 no_row IsKey m k at none is = true≢false (sym ((at k).1 is) ∙ ap is_some none)
+
+-- what holds of each input that was made of these fields, holds of the one
+pub made_turn : (s : State) (n : ℕ) (x : Input) (scale : Sizes) (made : Result Input Refusal) (result : Result Answer Refusal) (last : State) → IsMade scale x made
+    → IfOk result (λ told. (y : Input) → IsMade scale y made → IsInputTurn s n y (record { answer = told; state = last })) → IfOk result (λ told. IsInputTurn s n x (record { answer = told; state = last }))
+made_turn s n x scale made (Ok told) last is turn = turn x is
+made_turn s n x scale made (Err refusal) last is turn = tt
 
 -- the bytes of a line that is held
 pub held_some : (bytes text : List ℕ) → Some text ≡ held bytes → (length bytes ≤ MAX_LINE) × (bytes ≡ text)

@@ -188,5 +188,8 @@ fn row_or_refused(row: Option<Answer>, number: u32) -> Answer
     ensures { (s : State) (show : RequestValue) → Shows s.tables show row
         → IsShowTurn s number show (record { answer = result; state = s }) }
 {
-    row.unwrap_or(refused(Refusal::BadInput, number))
+    match row {
+        Some(answer) => answer,
+        None => refused(Refusal::BadInput, number),
+    }
 }

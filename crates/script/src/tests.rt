@@ -2,8 +2,8 @@
 
 use crate::script;
 use book::Done;
-use money::{Cents, Refusal};
 use conditions::Report;
+use money::{Cents, Refusal};
 use population::Population;
 use std::alloc::Global;
 use std::io::{self, ErrorKind, Read, Write};
