@@ -152,16 +152,30 @@ fn bench_of<R: Wait + Files + AllocGlobal>(
     Ok((bench, bytes / u64::from(count)))
 }
 
-/// The cells of this many customers a district, with their holders. Prints how many they are, the bytes of one, and how
-/// long they took to make.
-fn open<R: Wait + Files + Clock + Print + AllocGlobal>(rt: &R, customers: u32) -> anyhow::Result<Bench> {
+/// The cells of a population, with their holders. Prints how many they are, the bytes of one, and how long they took to
+/// make.
+fn made<R: Wait + Files + Clock + Print + AllocGlobal>(
+    rt: &R,
+    population: &Population,
+) -> anyhow::Result<Bench> {
+    let start = Instant::now(rt)?;
+    let (bench, bytes) = bench_of(rt, population)?;
+    let millis = start.elapsed(rt)?.as_millis();
+    println!(rt;
+        "cells {}\nbytes a cell {bytes}\nmade in {millis} ms",
+        bench.count
+    )?;
+    Ok(bench)
+}
+
+/// The cells of this many customers a district, with their holders.
+fn open<R: Wait + Files + Clock + Print + AllocGlobal>(
+    rt: &R,
+    customers: u32,
+) -> anyhow::Result<Bench> {
     let scale = Scale::new(8, 10, customers, 20, customers, 1)?;
     let population = Population::plain(rt.alloc(), scale)?;
-    let start = Instant::now(rt)?;
-    let (bench, bytes) = bench_of(rt, &population)?;
-    let millis = start.elapsed(rt)?.as_millis();
-    println!(rt; "cells {}\nbytes a cell {bytes}\nmade in {millis} ms", bench.count)?;
-    Ok(bench)
+    made(rt, &population)
 }
 
 /// The numbers of customers a district and of turns that the program's words ask for.

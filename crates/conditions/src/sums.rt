@@ -95,7 +95,7 @@ fn payee_share(row: &History, key: &DistrictKey) -> Cents
 }
 
 /// The sums by customer that two conditions ask for.
-#[derive(Debug, Drop)]
+#[derive(Drop)]
 pub struct CustomerSums {
     /// Of H_AMOUNT, by H_C_W_ID, H_C_D_ID and H_C_ID.
     pub paid: BTreeMap<CustomerKey, i128>,

@@ -12,7 +12,8 @@ use std::fmt::Display;
 /// for each condition (TPC-C 3.3.2) whether it holds, as `C1 ok`, or the least key that breaks it, as
 /// `C9 broken 1 1`. Refuses only where memory runs out, and then `out` is as before.
 pub fn print_report(commits: u64, report: &Report, out: &mut String) -> Result<(), Refusal>
-    ensures ok { OnOk result (string_bytes out.new ≡ string_bytes out.old ++ report_text commits report.now) }
+    ensures ok { OnOk result
+        (string_bytes out.new ≡ string_bytes out.old ++ report_text commits report.now) }
     ensures err { OnErr result (string_bytes out.new ≡ string_bytes out.old) }
     ensures memory { IfErr result (λ refusal. refusal ≡ Refusal.OutOfMemory) }
 {

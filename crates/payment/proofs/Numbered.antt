@@ -1,5 +1,5 @@
 -- The numbers of a Payment's three records: each has a cell.
-use Rattle.std.proofs.Common.{◌≡◌, ℕ, ◌<◌, arith}
+use Rattle.std.proofs.Common.{◌<◌, arith}
 use Rattle.tables.specs.Sizes.{Sizes}
 use Rattle.tables.specs.Payment.{IsPayment, payer}
 use Rattle.tables.proofs.Numbers.{warehouse_there, district_there, customer_there}

@@ -96,7 +96,9 @@ fn store<R: Wait>(rt: &R, stage: &mut Stage, number: u32, value: Option<[u64; 7]
         locked: false,
     };
     let word = TidWord::pack(1, 1, status);
-    stage.cells.store(rt, &mut stage.pen, number, word, value.unwrap_or([0; 7]));
+    stage
+        .cells
+        .store(rt, &mut stage.pen, number, word, value.unwrap_or([0; 7]));
 }
 
 /// A payment of customer 3 of district 1 to that district.
@@ -131,7 +133,7 @@ fn reply(balance: i64) -> Reply {
 }
 
 /// The version read of a record.
-fn held(reads: &ReadSet, number: u32) -> Option<Held> {
+fn version_of(reads: &ReadSet, number: u32) -> Option<Held> {
     let version = reads.held(number)?;
     Some(Held {
         word: version.word.word(),
@@ -146,9 +148,9 @@ fn seen_of(work: &Work) -> Seen {
         reads: work.reads.versions().count(),
         writes: work.writes.values().count(),
         read: Read {
-            warehouse: held(&work.reads, 0),
-            district: held(&work.reads, 1),
-            customer: held(&work.reads, 5),
+            warehouse: version_of(&work.reads, 0),
+            district: version_of(&work.reads, 1),
+            customer: version_of(&work.reads, 5),
         },
         written: Written {
             warehouse: work.writes.value(0).flatten(),
@@ -261,9 +263,15 @@ fn reads_between_the_stores_of_another(rt: HostRuntime) -> Result<(), Fail> {
     let warehouse = [20_100, 0, 0, 0, 0, 0, 0];
     let seen = outcome(&rt, rt.alloc(), 0, Some(warehouse))??;
     assert_eq!(rt; seen.reads, 3);
-    let stored = Held { word: 4_294_967_306, payload: warehouse };
+    let stored = Held {
+        word: 4_294_967_306,
+        payload: warehouse,
+    };
     assert_eq!(rt; seen.read.warehouse, Some(stored));
-    let district = Held { word: 2, payload: [10_000, 11, 0, 0, 0, 0, 0] };
+    let district = Held {
+        word: 2,
+        payload: [10_000, 11, 0, 0, 0, 0, 0],
+    };
     assert_eq!(rt; seen.read.district, Some(district));
     let payload = [(-1_000_i64).cast_unsigned(), 1_000, 1, 0, 0, 0, 0];
     assert_eq!(rt; seen.read.customer, Some(Held { word: 2, payload }));

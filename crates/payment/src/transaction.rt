@@ -24,8 +24,8 @@ use readset::{ReadSet, Work, WriteSet};
 use std::alloc::Global;
 use std::sync::Wait;
 use tables::{
-    CustomerKey, DistrictKey, History, Input, PaymentInput, PaymentReply, RecordKey, Reply, Scale, Who,
-    number_of_key,
+    CustomerKey, DistrictKey, History, Input, PaymentInput, PaymentReply, RecordKey, Reply, Scale,
+    Who, number_of_key,
 };
 
 /// The numbers of the records that a Payment reads and writes.

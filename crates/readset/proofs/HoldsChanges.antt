@@ -1,9 +1,9 @@
 -- A step that changes these records, by key, is those changes put in, at every record number.
-use Rattle.std.proofs.Common.{◌≡◌, ◌≢◌, ℕ, ◌<◌, Bool, true, false, cond, List, [], ◌∷◌, Option, Some, refl, sym, ap, ◌∙◌}
+use Rattle.std.proofs.Common.{◌≡◌, ℕ, Bool, true, false, cond, List, [], ◌∷◌, Option, Some, refl, sym, ap, ◌∙◌}
 use Rattle.std.specs.Option.{unwrap_or}
 use Rattle.std.specs.Ordering.{nat_cmp, is_eq}
 use Rattle.tables.specs.Database.{Database}
-use Rattle.tables.specs.Records.{record_count, number_of_key, key_of, IsRecordKey}
+use Rattle.tables.specs.Records.{number_of_key, key_of, IsRecordKey}
 use Rattle.tables.specs.Rows.{rows}
 use Rattle.tables.proofs.Numbers.{named, numbered}
 use Rattle.tables.specs.declared.records.RecordKey.{RecordKey}

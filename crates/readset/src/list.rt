@@ -31,11 +31,17 @@ impl Model for WriteList {
 
 impl WriteList {
     /// Of values by record number, in the order of the numbers.
-    pub(crate) fn new(values: Vec<(u32, Option<[u64; 7]>)>, history_row: Option<History>) -> WriteList
+    pub(crate) fn new(
+        values: Vec<(u32, Option<[u64; 7]>)>,
+        history_row: Option<History>,
+    ) -> WriteList
         requires { IsStrictlySortedBy nat_cmp (keys_of values.items) }
         ensures { result ≡ record { values = values.items; history_row = history_row } }
     {
-        WriteList { values, history_row }
+        WriteList {
+            values,
+            history_row,
+        }
     }
 
     /// What each record written holds after the commit, in the order of the record numbers.

@@ -78,7 +78,14 @@ fn the_last_value_put_is_left(rt: HostRuntime) -> Result<(), Fail> {
     let first = put(&mut writes, &reads, Some([1, 2, 3, 4, 5, 6, 7]))?;
     assert_eq!(rt; first.left, Some([1, 2, 3, 4, 5, 6, 7]));
     let second = put(&mut writes, &reads, None)?;
-    assert_eq!(rt; second, Seen { count: 1, value: Some(None), left: None });
+    assert_eq!(rt;
+        second,
+        Seen {
+            count: 1,
+            value: Some(None),
+            left: None
+        }
+    );
     Ok(())
 }
 

@@ -16,8 +16,10 @@ use tables::{Input, Reply, Tables};
 pub fn apply(tables: &mut Tables, input: &Input) -> Result<Reply, Refusal>
     requires input { IsInput tables.old.scale input.now }
     requires well_formed { IsWellFormed (database tables.old) }
-    ensures ok { IfOk result (λ reply. apply_of (database tables.old) input.now ≡ Committed (database tables.new) reply) }
-    ensures err { IfErr result (λ refusal. (refusal ≡ OutOfMemory) × (database tables.new ≡ database tables.old)) }
+    ensures ok { IfOk result (λ reply.
+        apply_of (database tables.old) input.now ≡ Committed (database tables.new) reply) }
+    ensures err { IfErr result (λ refusal.
+        (refusal ≡ OutOfMemory) × (database tables.new ≡ database tables.old)) }
 {
     match input {
         Input::Payment(payment) => Ok(Reply::Payment(apply_payment(tables, payment)?)),

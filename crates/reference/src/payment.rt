@@ -18,13 +18,16 @@ use tables::{
     Warehouse, Who,
 };
 
-/// A Payment (TPC-C 2.5.2.2).
+/// A Payment (TPC-C 2.5.2.2), where its three rows stand and are within their ranges.
 pub(crate) fn apply_payment(
     tables: &mut Tables,
     payment: &PaymentInput,
 ) -> Result<PaymentReply, Refusal>
-    requires warehouse { IsSomeAnd (get (database tables.old).warehouses payment.now.warehouse) (λ r. IsMoney r.year_to_date) }
-    requires district { IsSomeAnd (get (database tables.old).districts (record { warehouse = payment.now.warehouse; district = payment.now.district })) (λ r. IsMoney r.year_to_date) }
+    requires warehouse { IsSomeAnd (get (database tables.old).warehouses payment.now.warehouse)
+        (λ r. IsMoney r.year_to_date) }
+    requires district { IsSomeAnd
+        (get (database tables.old).districts (record { warehouse = payment.now.warehouse; district = payment.now.district }))
+        (λ r. IsMoney r.year_to_date) }
     requires customer { IsSomeAnd (get (database tables.old).customers (payer payment.now)) IsCustomerRow }
     requires low { pos 0 ≤ℤ payment.now.amount }
     requires high { payment.now.amount ≤ℤ MAX_PAYMENT }

@@ -2,12 +2,12 @@
 //! terminal that has the book to itself.
 #![tactic(auto)]
 
-mod attempt;
-mod execute;
+mod attempting;
+mod executing;
 mod session;
 #[cfg(test)]
 mod tests;
 
-pub use attempt::attempt;
-pub use execute::execute;
+pub use attempting::attempt;
+pub use executing::execute;
 pub use session::Session;

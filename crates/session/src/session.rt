@@ -11,7 +11,7 @@ ghost use Rattle.book.specs.Book.{IsWorkOf};
 ghost use Rattle.session.specs.Session.{IsNext};
 ghost use Rattle.money.specs.declared.refusal.Refusal.TheVariants.{OutOfMemory, CommitsFull};
 
-use crate::attempt::{attempt, commit_work};
+use crate::attempting::{attempt, commit_work};
 use book::{Book, Done, Engine, Run, Seat};
 use conditions::Report;
 use money::Refusal;
@@ -83,14 +83,22 @@ impl<'e, K: Run> Session<'e, K> {
         requires { IsInput K.first.scale input.now }
         ensures next { IfOk result (IsNext K.first self.old.history self.new.history input.now) }
         ensures told { IfOk result (λ done. self.new.dones ≡ self.old.dones ++ done ∷ []) }
-        ensures count { length self.new.dones ≡ length self.new.history }
+        ensures count { length self.old.dones ≡ length self.old.history }
         ensures refusals { IfErr result (λ refusal. (refusal ≡ CommitsFull) ⊎ (refusal ≡ OutOfMemory)) }
         ensures full { IsErrOf result CommitsFull → K.first.scale.commits ≤ length self.old.history }
         ensures err { OnErr result (self.new ≡ self.old) }
     {
         self.dones.reserve(1)?;
         let (alloc, engine) = (self.alloc, self.engine);
-        let done = &persist(rt, alloc, engine, &mut self.book, &mut self.seat, input, None)?;
+        let done = &persist(
+            rt,
+            alloc,
+            engine,
+            &mut self.book,
+            &mut self.seat,
+            input,
+            None,
+        )?;
         self.dones.push_reserved(*done);
         Ok(*done)
     }

@@ -3,7 +3,7 @@ ghost use Rattle.std.specs.Prelude.{◌≡◌, length, IfOk};
 ghost use Rattle.book.specs.Book.{IsWorkOf};
 ghost use Rattle.book.specs.Parts.{IsFresh, first_of, cells_of, ledger_name, ledger_parts};
 
-use crate::execute::execute;
+use crate::executing::execute;
 use crate::session::persist;
 use book::{Engine, Parts, Run, Seat};
 use money::{Cents, Refusal};

@@ -1,5 +1,4 @@
 use Rattle.std.proofs.Common.{subst, sym}
-use Rattle.cells.specs.Records.{ReaderView}
 use Rattle.readset.specs.Reads.{ReadSetView, AreRead}
 use Rattle.readset.proofs.MoreReads.{nothing_read}
 use Rattle.payment.proofs.transaction.read.Goals as goal

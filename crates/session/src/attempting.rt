@@ -5,7 +5,7 @@ ghost use Rattle.money.specs.declared.refusal.Refusal.TheVariants.{OutOfMemory, 
 ghost use Rattle.book.specs.Book.{IsWorkOf};
 ghost use Rattle.session.specs.Session.{IsNext};
 
-use crate::execute::execute;
+use crate::executing::execute;
 use book::{Book, Done, Engine, Run, Seat};
 use money::Refusal;
 use readset::Work;
@@ -63,5 +63,8 @@ pub(crate) fn commit_work<K: Run, R: Wait>(
     ensures err { OnErr result (book.new ≡ book.old) }
 {
     let cells = engine.cells();
-    book.commit(rt, cells, &mut seat.reader, &mut seat.share, work)
+    match book.commit(rt, cells, &mut seat.reader, &mut seat.share, work) {
+        Ok(done) => Ok(done),
+        Err(refusal) => Err(refusal),
+    }
 }
