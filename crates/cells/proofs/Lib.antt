@@ -1,7 +1,7 @@
 pub mod Rising
-pub mod Moves
-pub mod Known
-pub mod Passes
+mod Moves
+mod Known
+mod Passes
 pub mod Records
 pub mod Grown
-pub mod Firsts
+mod Firsts

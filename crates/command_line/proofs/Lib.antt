@@ -1,3 +1,3 @@
-pub mod Building
-pub mod Defaults
-pub mod Reading
+mod Building
+mod Defaults
+mod Reading

@@ -1,2 +1,2 @@
-pub mod SumSteps
-pub mod Added
+mod SumSteps
+mod Added

@@ -1,3 +1,3 @@
 pub mod Updates
-pub mod PaymentKeeps
+mod PaymentKeeps
 pub mod Kept

@@ -1,8 +1,8 @@
-pub mod Marks
-pub mod Numbers
-pub mod Spaces
-pub mod Numerals
-pub mod Amounts
-pub mod RequestLemmas
+mod Marks
+mod Numbers
+mod Spaces
+mod Numerals
+mod Amounts
+mod RequestLemmas
 pub mod Cutting
 pub mod OneText

@@ -1,2 +1,2 @@
-pub mod MoneyReading
-pub mod MoneyText
+mod MoneyReading
+mod MoneyText

@@ -1,6 +1,6 @@
 pub mod Numbers
 pub mod HoldsChanges
-pub mod LeftIs
+mod LeftIs
 pub mod MoreReads
 pub mod WrittenRecords
 mod Lookups

@@ -1,7 +1,7 @@
 pub mod Orders
 pub mod KeyTests
 pub mod Views
-pub mod InTurn
+mod InTurn
 pub mod Numbers
 pub mod LookUps
 pub mod Totals

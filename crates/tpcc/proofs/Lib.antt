@@ -1,1 +1,1 @@
-pub mod Beginnings
+mod Beginnings
