@@ -8,7 +8,7 @@ use Rattle.tables.specs.Conditions.{IsConsistent}
 use Rattle.tables.specs.WellFormed.{IsWellFormed, HasRoom}
 use Rattle.cells.specs.TidWord.{tid_of}
 use Rattle.cells.specs.First.{cell_count}
-use Rattle.cells.specs.Versions.{EndsWith, Has, last_tid, value_in}
+use Rattle.cells.specs.Versions.{AllVersions, EndsWith, Has, last_tid, value_in}
 use Rattle.cells.specs.Records.{PenView, ReaderView, at, words_of}
 use Rattle.cells.specs.declared.cells.Version.{Version}
 use Rattle.readset.specs.Reads.{ReadSetView, held}
@@ -48,11 +48,11 @@ pub record IsWorkOf (t0 : Database) (cells : ℕ) (reader : ReaderView) (work : 
   pub read : IsReadBy cells reader work.reads
 
 -- each version read is its record's last
-abbrev pub AreLatest : List (List (List ℕ)) → ReadSetView → Type 0
+abbrev pub AreLatest : AllVersions → ReadSetView → Type 0
 AreLatest all reads = (n : ℕ) (v : Version) → held reads n ≡ Some v → EndsWith (at all n) (words_of v)
 
 -- some version read has another TID than its record's last
-abbrev pub HasConflict : List (List (List ℕ)) → ReadSetView → Type 0
+abbrev pub HasConflict : AllVersions → ReadSetView → Type 0
 HasConflict all reads = (n : ℕ) × (v : Version) × (held reads n ≡ Some v) × (tid_of v.word ≢ last_tid (at all n))
 
 -- a reader has seen all versions of the records of these writes

@@ -9,6 +9,7 @@ use Rattle.tables.specs.Inputs.{IsInput}
 use Rattle.tables.specs.Apply.{after}
 use Rattle.tables.specs.Rows.{rows}
 use Rattle.cells.specs.TidWord.{tid_word}
+use Rattle.cells.specs.Versions.{Versions}
 use Rattle.cells.specs.First.{first_version}
 use Rattle.readset.specs.Commit.{IsCommitOf}
 use Rattle.book.specs.declared.entry.Entry.{Entry}
@@ -50,16 +51,16 @@ version_of commit (Some words) = commit_word commit ∷ words
 version_of commit None = absent_word commit ∷ replicate 7 0
 
 -- the versions that these writes of a commit add to record n, and those of an entry: one or none
-abbrev pub new_versions : ℕ → List (ℕ × Option (List ℕ)) → ℕ → List (List ℕ)
+abbrev pub new_versions : ℕ → List (ℕ × Option (List ℕ)) → ℕ → Versions
 new_versions commit values n = option_map_or (λ value. version_of commit value ∷ []) (lookup (is_at (nat_cmp n)) values) []
 
-abbrev pub entry_versions : Entry → ℕ → List (List ℕ)
+abbrev pub entry_versions : Entry → ℕ → Versions
 entry_versions e n = new_versions e.number e.writes.values n
 
 -- the versions that entries add to record n, and all its versions: the one of the first tables, then those
-abbrev pub later_versions : List Entry → ℕ → List (List ℕ)
+abbrev pub later_versions : List Entry → ℕ → Versions
 later_versions [] n = []
 later_versions (e ∷ es) n = entry_versions e n ++ later_versions es n
 
-abbrev pub all_versions : Database → List Entry → ℕ → List (List ℕ)
+abbrev pub all_versions : Database → List Entry → ℕ → Versions
 all_versions t0 history n = first_version (rows t0 n) ∷ later_versions history n

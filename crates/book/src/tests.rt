@@ -17,7 +17,7 @@ use std::sync::atomic::{AtomicU64, Ordering};
 use std::test::Fail;
 use std::thread::{Threads, join, sleep};
 use std::time::{Clock, Duration};
-use tables::{History, Input, Payment, PaymentReply, Reply, Scale, Who};
+use tables::{History, Input, PaymentInput, PaymentReply, Reply, Scale, Who};
 
 /// The parts of an engine with two terminals, over one warehouse with two districts and ten customers in each.
 fn parts<R: Wait>(rt: &R, alloc: Global) -> Result<Parts, Refusal>
@@ -44,7 +44,7 @@ fn pay<K: Run, R: Wait>(
     ensures work { IfOk result (λ work. IsWorkOf K.first (length K.cells) seat.new.reader work) }
 {
     let population = engine.population();
-    let payment = Payment {
+    let payment = PaymentInput {
         date: 1,
         warehouse: 1,
         district: 1,
@@ -53,9 +53,10 @@ fn pay<K: Run, R: Wait>(
         who: Who::Id(customer),
         amount: Cents::new(100),
     };
-    let input = Input::payment(&population.scale(), payment)?;
+    // Its ranges are the scale's.
+    let _input = Input::payment(&population.scale(), payment)?;
     let cells = engine.cells();
-    let work = execute(rt, alloc, cells, &mut seat.reader, population, &input)?;
+    let work = execute(rt, alloc, cells, &mut seat.reader, population, &payment)?;
     Ok(work)
 }
 
@@ -264,7 +265,7 @@ fn account_of<K: Run, R: Wait>(
         is_good: book.report(alloc)?.is_good(),
         terminal: first.map(|entry| entry.terminal),
         writes: first.map(|entry| entry.writes.values().len()),
-        added: first.and_then(|entry| entry.writes.history()),
+        added: first.and_then(|entry| entry.writes.history_row()),
     })
 }
 

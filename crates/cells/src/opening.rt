@@ -49,7 +49,7 @@ impl<const N: usize> OpeningOf<N> {
         })
     }
 
-    // Adds a record with its first version to its table. A refusal spends it all.
+    // Adds a record with its first version to the list. A refusal spends it all.
     pub(crate) fn add<R: Wait>(
         self,
         rt: &R,

@@ -1,4 +1,4 @@
-//! An attempt: a transaction is executed without the lock, and then committed under it.
+//! An attempt: a transaction is executed, and then committed if what it read is still the latest.
 ghost use Rattle.std.specs.Prelude.{◌≡◌, ◌⊎◌, ◌≤◌, ◌+◌, length, IfOk, IfErr, OnErr, IsErrOf};
 ghost use Rattle.tables.specs.Inputs.{IsInput};
 ghost use Rattle.money.specs.declared.refusal.Refusal.TheVariants.{OutOfMemory, CommitsFull, Conflict, Stale};

@@ -1,5 +1,5 @@
 -- What is written when a write of several parts fails.
-use Rattle.std.proofs.Common.{◌≡◌, ℕ, List, ◌++◌, Option, ap, ◌∙◌, append_assoc}
+use Rattle.std.proofs.Common.{◌≡◌, ℕ, List, [], ◌∷◌, ◌++◌, Option, ap, ◌∙◌, append_assoc}
 use Rattle.std.specs.Io.KnownBytes.{Appends}
 use Rattle.std.proofs.KnownBytes.{Appends-trans}
 use Rattle.tpcc.specs.Status.{WritesBeginning}
@@ -16,3 +16,11 @@ broken_off old mid new text before part later whole written failed = (
   where
     regrouped : (a b c d : List ℕ) → (a ++ (b ++ c)) ++ d ≡ (a ++ b) ++ (c ++ d)
     regrouped a b c d = simp append_assoc
+
+-- a beginning of nothing is nothing
+pub nothing_begun : (old new : Option (List ℕ)) → WritesBeginning [] old new → Appends old new []
+nothing_begun old new begun = go begun.0 begun.1 begun.2 begun.3
+  where
+    go : (front rest : List ℕ) → [] ≡ front ++ rest → Appends old new front → Appends old new []
+    go [] rest is wrote = wrote
+    go (b ∷ front) rest is wrote = absurd cc

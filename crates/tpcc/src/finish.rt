@@ -4,9 +4,9 @@ ghost use Rattle.std.specs.Prelude.{OnOk, IsErr};
 ghost use Rattle.std.specs.Io.KnownBytes.{Appends};
 ghost use Rattle.tpcc.specs.Status.{IsStatusOf, line_of, refusal_line, WritesBeginning};
 
+use conditions::Report;
 use itoa::Buffer;
 use money::Refusal;
-use conditions::Report;
 use script::write_text;
 use std::io::Write;
 

@@ -4,8 +4,8 @@ ghost use Rattle.std.specs.Io.KnownBytes.{Appends};
 ghost use Rattle.tpcc.specs.Run.{IsRun, IsWholeRun, IsRefusedRun};
 
 use crate::finish::{USAGE_FAULT, finish};
-use command_line::{Options, Subcommand, options};
 use clap::Error;
+use command_line::{Options, Subcommand, options};
 use conditions::Report;
 use money::Refusal;
 use population::Population;
@@ -63,11 +63,10 @@ fn answer<T: Wait, R: Read, W: Write>(
         Ok(population) => population,
         Err(refusal) => return Err(refusal),
     };
-    match options.subcommand {
-        Subcommand::Script => match script(rt, alloc, population, input, output) {
-            Ok((report, _)) => Ok(report),
-            Err(refusal) => Err(refusal),
-        },
+    let Subcommand::Script = options.subcommand;
+    match script(rt, alloc, population, input, output) {
+        Ok((report, _)) => Ok(report),
+        Err(refusal) => Err(refusal),
     }
 }
 

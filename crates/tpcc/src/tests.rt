@@ -7,7 +7,8 @@ use std::sync::Wait;
 use std::test::Fail;
 
 /// A scale of two warehouses.
-const TWO: &str = "tpcc script --warehouses 2 --districts 3 --customers 12 --items 20 --orders 30 --commits 2";
+const TWO: &str =
+    "tpcc script --warehouses 2 --districts 3 --customers 12 --items 20 --orders 30 --commits 2";
 
 /// The words of a text, which are parted by one space each.
 fn words_of(alloc: Global, text: &str) -> Result<Vec<String>, AllocError> {
@@ -20,22 +21,22 @@ fn words_of(alloc: Global, text: &str) -> Result<Vec<String>, AllocError> {
 
 /// What a run wrote, and its status.
 #[derive(Drop)]
-struct Ran {
+struct Outcome {
     output: Vec<u8>,
     errors: Vec<u8>,
     status: u8,
 }
 
-fn ran<R: Read, T: Wait>(
+fn run_on<R: Read, T: Wait>(
     rt: &T,
     alloc: Global,
     words: &str,
     input: &mut R,
-) -> Result<Ran, AllocError> {
+) -> Result<Outcome, AllocError> {
     let words = words_of(alloc, words)?;
     let (mut output, mut errors) = (Vec::new(alloc), Vec::new(alloc));
     let status = run(rt, alloc, words.as_slice(), input, &mut output, &mut errors);
-    Ok(Ran {
+    Ok(Outcome {
         output,
         errors,
         status,
@@ -47,7 +48,7 @@ fn a_script_at_its_options(rt: HostRuntime) -> Result<(), Fail> {
     let mut input = b"payment 2 3 2 3 12 1.00\nshow warehouse 2\npayment 3 1 1 1 1 1.00\n\
         payment 1 1 1 1 1 1.00\npayment 1 1 1 1 1 1.00\nshow customer 2 3 13\n"
         .as_slice();
-    let ran = ran(&rt, rt.alloc(), TWO, &mut input)?;
+    let ran = run_on(&rt, rt.alloc(), TWO, &mut input)?;
     let expected = "payment 2 3 customer 2 3 12 balance -11.00\nwarehouse 2 ytd 361.00\n2 line 3\n\
         payment 1 1 customer 1 1 1 balance -11.00\n7 line 5\n2 line 6\n\
         commits 2\nC1 ok\nC8 ok\nC9 ok\nC10 ok\nC12 ok\n";
@@ -70,7 +71,7 @@ fn faults_of_the_words(rt: HostRuntime) -> Result<(), Fail> {
     ];
     for words in faulty {
         let mut input = b"show warehouse 1\n".as_slice();
-        let ran = ran(&rt, rt.alloc(), words, &mut input)?;
+        let ran = run_on(&rt, rt.alloc(), words, &mut input)?;
         assert_eq!(rt; ran.status, 2, "on {words}");
         assert!(rt; ran.output.is_empty(), "on {words}");
         assert!(rt; !ran.errors.is_empty(), "on {words}");
@@ -81,7 +82,7 @@ fn faults_of_the_words(rt: HostRuntime) -> Result<(), Fail> {
 #[test]
 fn a_scale_outside_its_limits(rt: HostRuntime) -> Result<(), Fail> {
     let words = "tpcc script --customers 10 --orders 9";
-    let ran = ran(&rt, rt.alloc(), words, &mut b"".as_slice())?;
+    let ran = run_on(&rt, rt.alloc(), words, &mut b"".as_slice())?;
     assert_eq!(rt; ran.status, 2);
     assert!(rt; ran.output.is_empty());
     assert_eq!(rt; ran.errors.as_slice(), b"13 BadScale\n".as_slice());
@@ -100,7 +101,7 @@ impl Read for Broken {
 
 #[test]
 fn an_input_that_fails(rt: HostRuntime) -> Result<(), Fail> {
-    let ran = ran(&rt, rt.alloc(), TWO, &mut Broken)?;
+    let ran = run_on(&rt, rt.alloc(), TWO, &mut Broken)?;
     assert_eq!(rt; ran.status, 1);
     assert!(rt; ran.output.is_empty());
     assert_eq!(rt; ran.errors.as_slice(), b"9 Device\n".as_slice());
