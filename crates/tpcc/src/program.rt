@@ -64,10 +64,11 @@ fn answer<T: Wait, R: Read, W: Write>(
         Err(refusal) => return Err(refusal),
     };
     let Subcommand::Script = options.subcommand;
-    match script(rt, alloc, population, input, output) {
-        Ok((report, _)) => Ok(report),
-        Err(refusal) => Err(refusal),
-    }
+    let closed = match script(rt, alloc, population, input, output) {
+        Ok(closed) => closed,
+        Err(refusal) => return Err(refusal),
+    };
+    Ok(closed.0)
 }
 
 /// Writes the text of a command line's fault, or of help. What can't be written is left aside.

@@ -10,7 +10,7 @@ returns-in-Err g c = λ bytes left. fault c.in-Err.error c.tell_fault.ensures.0 
 pub returns-in-Ok-answer : goal.returns-in-Ok-answer
 returns-in-Ok-answer g c = λ bytes left.
     answered c.in-Ok.asked c.in-Ok-answer.report c.in-Ok.ensures.asked (c.in-Ok-answer.ensures.whole bytes left)
-        (nothing_begun (g.E.Write.contents c.args.errors.now) (g.E.Write.contents c.finish.new.errors) c.finish.ensures.line) c.finish.ensures.status.0 c.finish.ensures.status.1
+    (nothing_begun (g.E.Write.contents c.args.errors.now) (g.E.Write.contents c.finish.new.errors) c.finish.ensures.line) c.finish.ensures.status.0 c.finish.ensures.status.1
 
 pub returns-in-Err-answer : goal.returns-in-Err-answer
 returns-in-Err-answer g c = λ bytes left.
