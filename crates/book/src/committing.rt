@@ -41,7 +41,8 @@ impl<K: Run> Book<K> {
         requires work { IsWorkOf K.first (length K.cells) reader.old work }
         ensures reader { HasGrown reader.old reader.new }
         ensures answer { MatchResult result
-            (λ done. AreLatest self.old.written.all work.reads × (length self.old.history < K.first.scale.commits)
+            (λ done. AreLatest self.old.written.all work.reads
+            × (length self.old.history < K.first.scale.commits)
             × Commits self.old self.new (entry_of (length self.old.history + 1) share.old.terminal work)
             × (done ≡ record { number = length self.old.history + 1; tid = commit_tid (length self.old.history + 1); reply = work.reply })
             × (share.new ≡ record { terminal = share.old.terminal; parts = share.old.parts; commits = share.old.commits + 1 })

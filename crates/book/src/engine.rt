@@ -177,8 +177,10 @@ pub struct Seat<K: Run> {
 impl<K: Run> Seats<K> {
     /// The next terminal's seat, while there is one. Terminals are numbered from 0. Takes no memory.
     pub fn next(&mut self) -> Option<Seat<K>>
-        ensures seat { IfSome result (λ seat. (seat.reader.cells ≡ K.cells) × (seat.share ≡ record { terminal = self.old.given; parts = 1; commits = 0 })) }
-        ensures left { IfSome result (λ seat. (self.old.left ≡ self.new.left + 1) × (self.new.given ≡ self.old.given + 1)) }
+        ensures seat { IfSome result (λ seat. (seat.reader.cells ≡ K.cells)
+            × (seat.share ≡ record { terminal = self.old.given; parts = 1; commits = 0 })) }
+        ensures left { IfSome result (λ seat. (self.old.left ≡ self.new.left + 1)
+            × (self.new.given ≡ self.old.given + 1)) }
         ensures none { IfNone result ((self.old.left ≡ 0) × (self.new ≡ self.old)) }
     {
         let reader = self.readers.pop()?;

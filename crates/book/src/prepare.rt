@@ -25,7 +25,8 @@ pub(crate) fn prepare(
     requires input { IsInput tables.old.scale work.now.input }
     requires well_formed { IsWellFormed (database tables.old) }
     ensures writes { IfOk result (λ list. list ≡ work.now.writes) }
-    ensures tables { OnOk result (database tables.new ≡ after (database tables.old) work.now.input) }
+    ensures tables { OnOk result (database tables.new
+        ≡ after (database tables.old) work.now.input) }
     ensures below { OnOk result (length history.old.items < tables.old.scale.commits) }
     ensures room { OnOk result (vec_len history.new < vec_capacity history.new) }
     ensures history { history.new.items ≡ history.old.items }

@@ -48,9 +48,11 @@ pub(crate) fn store<R: Wait>(
     requires read { IsReadBy (length cells.now) reader.old reads.now }
     requires written_read { WritesAreRead writes.now reads.now }
     requires number { number < 2 ^ 29 }
-    requires smaller { (n : ℕ) → n < length cells.now → last_tid (at pen.old.all n) < tid_of (commit_word number) }
+    requires smaller { (n : ℕ) → n < length cells.now
+        → last_tid (at pen.old.all n) < tid_of (commit_word number) }
     ensures cells { pen.new.cells ≡ pen.old.cells }
-    ensures versions { (n : ℕ) → at pen.new.all n ≡ at pen.old.all n ++ new_versions number writes.now.values n }
+    ensures versions { (n : ℕ)
+        → at pen.new.all n ≡ at pen.old.all n ++ new_versions number writes.now.values n }
     ensures reader { HasGrown reader.old reader.new }
     ensures seen { HasSeen reader.new pen.new writes.now }
 {

@@ -57,7 +57,8 @@ impl<const N: usize> OpeningOf<N> {
         list: &mut CellList<N>,
         first: [u64; N],
     ) -> Result<OpeningOf<N>, Refusal>
-        ensures ok { IfOk result (λ o. (cell : TableId) × (o ≡ opened_with self.entry cell first.entry) × (list.new ≡ list.old ++ cell ∷ [])) }
+        ensures ok { IfOk result (λ o. (cell : TableId)
+            × (o ≡ opened_with self.entry cell first.entry) × (list.new ≡ list.old ++ cell ∷ [])) }
         ensures memory { IfErr result (λ e. e ≡ OutOfMemory) }
     {
         let (cell, mut pass) = open(rt, alloc, first)?;
@@ -74,7 +75,8 @@ impl<const N: usize> OpeningOf<N> {
     // The pen and the readers.
     pub(crate) fn finish(self) -> (PenOf<N>, Vec<ReaderOf<N>>)
         ensures pen { result.0 ≡ self.entry.written }
-        ensures readers { (length result.1.items ≡ self.entry.readers) × All (λ reader. reader ≡ seen_all self.entry.written) result.1.items }
+        ensures readers { (length result.1.items ≡ self.entry.readers)
+            × All (λ reader. reader ≡ seen_all self.entry.written) result.1.items }
     {
         let OpeningOf { pen, readers } = self;
         (pen, readers)
@@ -90,7 +92,8 @@ fn tell<const N: usize>(
     requires own { pass.old.table_id ≡ cell.now.table.shared.table_id }
     requires pen { IsPen (known pass.old) }
     ensures kept { (pass.new.table_id ≡ pass.old.table_id) × (known pass.new ≡ known pass.old) }
-    ensures ok { OnOk result (readers.new ≡ map (λ s. sights_with s pass.old.table_id (known pass.old).seen) readers.old) }
+    ensures ok { OnOk result (readers.new
+        ≡ map (λ s. sights_with s pass.old.table_id (known pass.old).seen) readers.old) }
     ensures memory { IfErr result (λ e. e ≡ OutOfMemory) }
 {
     for reader in readers {

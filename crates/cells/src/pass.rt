@@ -13,7 +13,8 @@ pub(crate) fn open<const N: usize, R: Wait>(
     alloc: Global,
     first: [u64; N],
 ) -> Result<(Cell<N>, CellPass<N>), AllocError>
-    ensures { IfOk result (λ made. (made.1.table_id ≡ made.0.table.shared.table_id) × IsPen (known made.1) × ((known made.1).seen ≡ first.entry ∷ [])) }
+    ensures { IfOk result (λ made. (made.1.table_id ≡ made.0.table.shared.table_id)
+        × IsPen (known made.1) × ((known made.1).seen ≡ first.entry ∷ [])) }
 {
     let (cell, mut pass) = Cell::<N>::ruled(alloc, first)?;
     cell.swap_as::<Stores, R>(rt, &mut pass, first);
@@ -24,7 +25,8 @@ pub(crate) fn open<const N: usize, R: Wait>(
 pub(crate) fn told<const N: usize>(cell: &Cell<N>, pass: &mut CellPass<N>) -> CellPass<N>
     requires { pass.old.table_id ≡ cell.now.table.shared.table_id }
     ensures kept { (pass.new.table_id ≡ pass.old.table_id) × (known pass.new ≡ known pass.old) }
-    ensures given { (result.table_id ≡ pass.old.table_id) × (known result ≡ sight (known pass.old).seen 0) }
+    ensures given { (result.table_id ≡ pass.old.table_id)
+        × (known result ≡ sight (known pass.old).seen 0) }
 {
     cell.split_pass::<Tells>(pass)
 }
@@ -70,10 +72,12 @@ pub(crate) fn meet<const N: usize, R: Wait>(
     pen: &mut CellPass<N>,
     reader: &mut CellPass<N>,
 ) -> [u64; N]
-    requires own { (pen.old.table_id ≡ cell.now.table.shared.table_id) × (reader.old.table_id ≡ cell.now.table.shared.table_id) }
+    requires own { (pen.old.table_id ≡ cell.now.table.shared.table_id)
+        × (reader.old.table_id ≡ cell.now.table.shared.table_id) }
     requires pen { IsPen (known pen.old) }
     requires reader { IsReader (known reader.old) }
-    ensures own { (pen.new.table_id ≡ pen.old.table_id) × (reader.new.table_id ≡ reader.old.table_id) }
+    ensures own { (pen.new.table_id ≡ pen.old.table_id)
+        × (reader.new.table_id ≡ reader.old.table_id) }
     ensures pen { known pen.new ≡ known pen.old }
     ensures reader { known reader.new ≡ sight (known pen.old).seen (known reader.old).loads }
     ensures grows { StartsWith (known pen.old).seen (known reader.old).seen }

@@ -32,9 +32,12 @@ impl Cells {
         population: &Population,
         readers: usize,
     ) -> Result<(Cells, Pen, Vec<Reader>), Refusal>
-        ensures cells { IfOk result (λ made. length made.0 ≡ cell_count (initial population.now).scale) }
-        ensures pen { IfOk result (λ made. made.1 ≡ record { cells = made.0; all = firsts (initial population.now) 0 (cell_count (initial population.now).scale) }) }
-        ensures readers { IfOk result (λ made. (length made.2.items ≡ readers) × All (λ reader. reader ≡ seen_all made.1) made.2.items) }
+        ensures cells { IfOk result (λ made. length made.0
+            ≡ cell_count (initial population.now).scale) }
+        ensures pen { IfOk result (λ made. made.1
+            ≡ record { cells = made.0; all = firsts (initial population.now) 0 (cell_count (initial population.now).scale) }) }
+        ensures readers { IfOk result (λ made. (length made.2.items ≡ readers)
+            × All (λ reader. reader ≡ seen_all made.1) made.2.items) }
         ensures only_memory { IfErr result (λ refusal. refusal ≡ OutOfMemory) }
     {
         let (opening, list) = open_all(rt, alloc, population.tables(), readers)?;
@@ -51,7 +54,8 @@ fn open_all<R: Wait>(
     readers: usize,
 ) -> Result<(OpeningOf<8>, CellList<8>), Refusal>
     ensures count { IfOk result (λ made. length made.1 ≡ cell_count (database tables.now).scale) }
-    ensures pen { IfOk result (λ made. made.0.written ≡ record { cells = made.1; all = firsts (database tables.now) 0 (cell_count (database tables.now).scale) }) }
+    ensures pen { IfOk result (λ made. made.0.written
+        ≡ record { cells = made.1; all = firsts (database tables.now) 0 (cell_count (database tables.now).scale) }) }
     ensures readers { IfOk result (λ made. made.0.readers ≡ readers) }
     ensures only_memory { IfErr result (λ refusal. refusal ≡ OutOfMemory) }
 {

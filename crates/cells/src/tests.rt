@@ -19,7 +19,8 @@ const TURNS: u64 = 200_000;
 
 /// A warehouse, a district and a customer, whose payloads are all 0, all 1 and all 2, with one reader.
 fn three<R: Wait>(rt: &R, alloc: Global) -> Result<(Cells, Pen, Vec<Reader>), Refusal>
-    ensures { IfOk result (λ made. (made.1.cells ≡ made.0) × (length made.0 ≡ 3) × All (λ reader. reader ≡ seen_all made.1) made.2.items
+    ensures { IfOk result (λ made. (made.1.cells ≡ made.0) × (length made.0 ≡ 3)
+        × All (λ reader. reader ≡ seen_all made.1) made.2.items
         × (last_tid (at made.1.all 0) ≡ 0) × (last_tid (at made.1.all 1) ≡ 0)) }
 {
     let mut list = CellList::new(alloc);

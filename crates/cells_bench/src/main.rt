@@ -116,7 +116,8 @@ fn next_turn<R: Wait>(
     pen: &mut Pen,
     reader: &mut Reader,
 ) -> anyhow::Result<u64>
-    requires own { (pen.old.cells ≡ cells.now) × (reader.old.cells ≡ cells.now) × (0 < length cells.now) }
+    requires own { (pen.old.cells ≡ cells.now) × (reader.old.cells ≡ cells.now)
+        × (0 < length cells.now) }
     ensures own { (pen.new.cells ≡ cells.now) × (reader.new.cells ≡ cells.now) }
     ensures larger { IfOk result (λ turn. last_tid (at pen.new.all 0) < turn * 8) }
 {

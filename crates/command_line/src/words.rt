@@ -121,7 +121,8 @@ fn script_options(alloc: Global, script: &ArgMatches<'_>) -> Result<Options, Err
 fn value_of<T: FromStr>(alloc: Global, matches: &ArgMatches<'_>, name: &str) -> Result<T, Error>
 where
     T::Err: Drop,
-    ensures read { IfOk result (λ value. (text : List ℕ) × (one_text (found_of matches.now) name.now ≡ Some text)
+    ensures read { IfOk result (λ value. (text : List ℕ)
+        × (one_text (found_of matches.now) name.now ≡ Some text)
         × T.from_str_gives text (Ok value)) }
     ensures unread { IfErr result (HasKind (InvalidValue ∷ [])) }
 {

@@ -118,7 +118,8 @@ fn paid_by_customers(
     alloc: Global,
     tables: &Tables,
 ) -> Result<BTreeMap<CustomerKey, i128>, AllocError>
-    ensures sums { IfOk result (λ sums. (k : KeyOfCustomer) → amount_at sums k ≡ paid_by_customer (database tables.now) k) }
+    ensures sums { IfOk result (λ sums. (k : KeyOfCustomer)
+        → amount_at sums k ≡ paid_by_customer (database tables.now) k) }
     ensures bound { IfOk result AreBounded }
 {
     let mut sums = BTreeMap::new(alloc);
@@ -138,7 +139,8 @@ fn delivered_to_customers(
     alloc: Global,
     tables: &Tables,
 ) -> Result<BTreeMap<CustomerKey, i128>, AllocError>
-    ensures sums { IfOk result (λ sums. (k : KeyOfCustomer) → amount_at sums k ≡ delivered_amount (database tables.now) k) }
+    ensures sums { IfOk result (λ sums. (k : KeyOfCustomer)
+        → amount_at sums k ≡ delivered_amount (database tables.now) k) }
     ensures bound { IfOk result AreBounded }
 {
     let _few = tables.lines.len();
@@ -159,8 +161,10 @@ fn add_line(
     requires bound { AreBounded sums.old }
     ensures sums { OnOk result ((k : KeyOfCustomer) → amount_at sums.new k
         ≡ amount_at sums.old k +ℤ cond (is_line_of (from_entries {R = order_cmp} orders.now.entries) k line_key.now line.now) line.now.amount (pos 0)) }
-    ensures above { OnOk result ((k : KeyOfCustomer) → (amount_at sums.old k -ℤ pos (2 ^ 63)) ≤ℤ amount_at sums.new k) }
-    ensures below { OnOk result ((k : KeyOfCustomer) → amount_at sums.new k ≤ℤ (amount_at sums.old k +ℤ pos (2 ^ 63))) }
+    ensures above { OnOk result ((k : KeyOfCustomer)
+        → (amount_at sums.old k -ℤ pos (2 ^ 63)) ≤ℤ amount_at sums.new k) }
+    ensures below { OnOk result ((k : KeyOfCustomer)
+        → amount_at sums.new k ≤ℤ (amount_at sums.old k +ℤ pos (2 ^ 63))) }
 {
     if line.delivery_date.is_none() {
         return Ok(());
@@ -189,9 +193,13 @@ fn add(
     amount: Cents,
 ) -> Result<(), AllocError>
     requires bound { AreBounded sums.old }
-    ensures sums { OnOk result ((k : KeyOfCustomer) → amount_at sums.new k ≡ amount_at sums.old k +ℤ cond (is_customer key.warehouse key.district key.customer k) amount (pos 0)) }
-    ensures above { OnOk result ((k : KeyOfCustomer) → (amount_at sums.old k -ℤ pos (2 ^ 63)) ≤ℤ amount_at sums.new k) }
-    ensures below { OnOk result ((k : KeyOfCustomer) → amount_at sums.new k ≤ℤ (amount_at sums.old k +ℤ pos (2 ^ 63))) }
+    ensures sums { OnOk result ((k : KeyOfCustomer)
+        → amount_at sums.new k
+        ≡ amount_at sums.old k +ℤ cond (is_customer key.warehouse key.district key.customer k) amount (pos 0)) }
+    ensures above { OnOk result ((k : KeyOfCustomer)
+        → (amount_at sums.old k -ℤ pos (2 ^ 63)) ≤ℤ amount_at sums.new k) }
+    ensures below { OnOk result ((k : KeyOfCustomer)
+        → amount_at sums.new k ≤ℤ (amount_at sums.old k +ℤ pos (2 ^ 63))) }
 {
     let sum = amount_of(sums, &key);
     sums.insert(key, plus(sum, amount))?;

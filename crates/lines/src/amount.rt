@@ -32,7 +32,8 @@ pub fn amounts_read_as_printed()
 
 // Whether a word is the text of an amount, of any size.
 fn is_amount(word: &[u8]) -> bool
-    ensures { MatchBool result ((z : ℤ) × (word.now ≡ amount_text z)) ((z : ℤ) → word.now ≢ amount_text z) }
+    ensures { MatchBool result ((z : ℤ) × (word.now ≡ amount_text z)) ((z : ℤ)
+        → word.now ≢ amount_text z) }
 {
     match word {
         [b'-', unsigned @ ..] => is_unsigned_amount(unsigned) && unsigned != b"0.00".as_slice(),

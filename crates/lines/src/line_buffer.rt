@@ -109,9 +109,11 @@ impl LineBuffer {
 /// on, of which the buffer has `held`.
 pub fn cutting_laws()
     ensures start { IsCut [] [] [] }
-    ensures line { (text : List ℕ) (lines : List (List ℕ)) (rest end : List ℕ) → IsCut text lines rest → HasNoLineFeed end
+    ensures line { (text : List ℕ) (lines : List (List ℕ)) (rest end : List ℕ)
+        → IsCut text lines rest → HasNoLineFeed end
         → IsCut (text ++ (end ++ 10 ∷ [])) (lines ++ (rest ++ end) ∷ []) [] }
-    ensures more { (text : List ℕ) (lines : List (List ℕ)) (rest more : List ℕ) → IsCut text lines rest → HasNoLineFeed more
+    ensures more { (text : List ℕ) (lines : List (List ℕ)) (rest more : List ℕ)
+        → IsCut text lines rest → HasNoLineFeed more
         → IsCut (text ++ more) lines (rest ++ more) }
     ensures buffer { (rest more : List ℕ) → held_after (held rest) more ≡ held (rest ++ more) }
     ensures lines { (text : List ℕ) (lines : List (List ℕ)) (rest : List ℕ) → IsCut text lines rest

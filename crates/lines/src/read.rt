@@ -27,7 +27,8 @@ pub fn read_request(line: &[u8]) -> Result<Request, Refusal>
 
 /// No two requests have the same line, so the request that is read from a line is the one that asks it.
 pub fn one_line_one_request()
-    ensures { (a b : Request) → HasNumbers a → HasNumbers b → request_text a ≡ request_text b → a ≡ b }
+    ensures { (a b : Request) → HasNumbers a → HasNumbers b → request_text a ≡ request_text b
+        → a ≡ b }
 {}
 
 fn read_payment(text: &[u8]) -> Result<Request, Refusal>

@@ -41,7 +41,8 @@ fn print_verdict<K: Display + Copy>(
     out: &mut String,
 ) -> Result<(), AllocError>
     ensures { (key_text : K → List ℕ) → ForSome broken (λ key. K.output key ≡ Some (key_text key))
-        → OnOk result (string_bytes out.new ≡ string_bytes out.old ++ verdict_text key_text condition broken) }
+        → OnOk result (string_bytes out.new
+        ≡ string_bytes out.old ++ verdict_text key_text condition broken) }
 {
     match broken {
         None => writeln!(out, "C{condition} ok"),

@@ -8,7 +8,8 @@ use money::Refusal;
 
 /// The number that a word is: digits with no leading zero, or 0 alone, up to `u32::MAX`.
 pub(crate) fn read_number(word: &[u8]) -> Option<u32>
-    ensures { MatchOption result ((n : ℕ) → n < 2 ^ 32 → word.now ≢ decimal n) (λ n. word.now ≡ decimal n) }
+    ensures { MatchOption result ((n : ℕ) → n < 2 ^ 32
+        → word.now ≢ decimal n) (λ n. word.now ≡ decimal n) }
 {
     let first = *word.first()?;
     if first == b'+' || first == b'0' && word.len() > 1 {

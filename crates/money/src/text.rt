@@ -67,7 +67,8 @@ impl fmt::Display for Cents {
 /// Two amounts with the same text are the same, so the amount that is read from a printed text is
 /// the one that was printed.
 pub fn one_text_one_value()
-    ensures { (a b : ℤ) → FitsSigned w64 a → FitsSigned w64 b → money_text a ≡ money_text b → a ≡ b }
+    ensures { (a b : ℤ) → FitsSigned w64 a → FitsSigned w64 b → money_text a ≡ money_text b
+        → a ≡ b }
 {}
 
 // The number of cents up to the limit that has this text without a sign.

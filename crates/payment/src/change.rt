@@ -26,7 +26,8 @@ pub struct Charged {
 pub fn raise_warehouse(version: &Version, amount: Cents) -> Option<[u64; 7]>
     requires low { pos 0 ≤ℤ amount }
     requires high { amount ≤ℤ MAX_PAYMENT }
-    ensures { (r : Warehouse) → IsMoney r.year_to_date → value_of version.now ≡ Some (warehouse_words r)
+    ensures { (r : Warehouse) → IsMoney r.year_to_date
+        → value_of version.now ≡ Some (warehouse_words r)
         → result ≡ Some (warehouse_words (raised_warehouse amount r)) }
 {
     let words = value_of(version)?;
@@ -37,7 +38,8 @@ pub fn raise_warehouse(version: &Version, amount: Cents) -> Option<[u64; 7]>
 pub fn raise_district(version: &Version, amount: Cents) -> Option<[u64; 7]>
     requires low { pos 0 ≤ℤ amount }
     requires high { amount ≤ℤ MAX_PAYMENT }
-    ensures { (r : District) → IsMoney r.year_to_date → value_of version.now ≡ Some (district_words r)
+    ensures { (r : District) → IsMoney r.year_to_date
+        → value_of version.now ≡ Some (district_words r)
         → result ≡ Some (district_words (raised_district amount r)) }
 {
     let words = value_of(version)?;

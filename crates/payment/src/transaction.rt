@@ -77,7 +77,8 @@ pub fn execute<R: Wait>(
     ensures limits { IfOk result (λ work. IsWithinLimits (length cells.now) work.reads work.writes) }
     ensures grown { HasGrown reader.old reader.new }
     ensures refused { IfErr result (λ refusal. (refusal ≡ OutOfMemory) ⊎
-        ((refusal ≡ Stale) × ((reads : ReadSetView) × AreRead reader.old reader.new reads × NoneMayBe (initial population.now) reads))) }
+        ((refusal ≡ Stale) × ((reads : ReadSetView) × AreRead reader.old reader.new reads
+        × NoneMayBe (initial population.now) reads))) }
 {
     let records = records_of(&population.scale(), payment);
     let mut reads = ReadSet::new(alloc);
@@ -129,13 +130,18 @@ fn read<R: Wait>(
 ) -> Result<Found, Refusal>
     requires own { reader.old.cells ≡ cells.now }
     requires none { reads.old ≡ [] }
-    requires are_records { (records.warehouse < length cells.now) × (records.district < length cells.now) × (records.customer < length cells.now) }
+    requires are_records { (records.warehouse < length cells.now)
+        × (records.district < length cells.now) × (records.customer < length cells.now) }
     ensures read { OnOk result (AreRead reader.old reader.new reads.new) }
-    ensures warehouse { IfOk result (λ found. held reads.new records.warehouse ≡ Some found.warehouse) }
-    ensures district { IfOk result (λ found. held reads.new records.district ≡ Some found.district) }
-    ensures customer { IfOk result (λ found. held reads.new records.customer ≡ Some found.customer) }
+    ensures warehouse { IfOk result (λ found. held reads.new records.warehouse
+        ≡ Some found.warehouse) }
+    ensures district { IfOk result (λ found. held reads.new records.district
+        ≡ Some found.district) }
+    ensures customer { IfOk result (λ found. held reads.new records.customer
+        ≡ Some found.customer) }
     ensures limit { OnOk result (length reads.new ≤ 3) }
-    ensures cells { OnOk result ((n : ℕ) (v : Version) → held reads.new n ≡ Some v → n < length cells.now) }
+    ensures cells { OnOk result ((n : ℕ) (v : Version) → held reads.new n ≡ Some v
+        → n < length cells.now) }
     ensures grown { HasGrown reader.old reader.new }
     ensures only_memory { IfErr result (λ refusal. refusal ≡ OutOfMemory) }
 {
@@ -153,7 +159,8 @@ fn read<R: Wait>(
 fn new_values(found: &Found, amount: Cents) -> Option<NewValues>
     requires low { pos 0 ≤ℤ amount }
     requires high { amount ≤ℤ MAX_PAYMENT }
-    ensures { (w : Warehouse) (d : District) (c : Customer) → AreRows found.now w d c → (values : Values) × (result ≡ Some values) × AreNewValues amount w d c values }
+    ensures { (w : Warehouse) (d : District) (c : Customer) → AreRows found.now w d c
+        → (values : Values) × (result ≡ Some values) × AreNewValues amount w d c values }
 {
     Some(NewValues {
         warehouse: raise_warehouse(&found.warehouse, amount)?,

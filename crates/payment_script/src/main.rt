@@ -10,10 +10,12 @@ use std::env;
 
 /// The numbers of the default scale.
 const DISTRICTS: u32 = 10;
+
 const CUSTOMERS: u32 = 100;
 
 /// The amounts of a Payment, in cents (TPC-C 2.5.1.3).
 const LEAST: u32 = 100;
+
 const AMOUNTS: u32 = 499_901;
 
 /// A sequence of numbers that looks random: a linear congruential one, after Knuth.

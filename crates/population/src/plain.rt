@@ -152,7 +152,8 @@ fn add_payments(
     warehouse: u32,
     district: u32,
 ) -> Result<(), AllocError>
-    ensures { OnOk result (table.new.items ≡ table.old.items ++ district_payments scale warehouse district) }
+    ensures { OnOk result (table.new.items
+        ≡ table.old.items ++ district_payments scale warehouse district) }
 {
     for payer in 1..=scale.customers() {
         table.push(history_row(warehouse, district, payer))?;

@@ -58,16 +58,21 @@ impl ReadSet {
     ) -> Result<Version, Refusal>
         requires own { reader.old.cells ≡ cells.now }
         requires is_record { number < length cells.now }
-        ensures held { (v : Version) → held self.old number ≡ Some v → (result ≡ Ok v) × (self.new ≡ self.old) × (reader.new ≡ reader.old) }
-        ensures read { held self.old number ≡ None → IfOk result (λ v. LoadsRecord reader.old reader.new number (words_of v) × (v.record ≡ number)) }
+        ensures held { (v : Version) → held self.old number ≡ Some v → (result ≡ Ok v)
+            × (self.new ≡ self.old) × (reader.new ≡ reader.old) }
+        ensures read { held self.old number ≡ None
+            → IfOk result (λ v. LoadsRecord reader.old reader.new number (words_of v)
+            × (v.record ≡ number)) }
         ensures holds { IfOk result (λ v. held self.new number ≡ Some v) }
         ensures others { (n : ℕ) → n ≢ number → held self.new n ≡ held self.old n }
         ensures limit { length self.new ≤ length self.old + 1 }
         ensures keeps { Keeps self.old self.new }
         ensures kept { OnErr result (self.new ≡ self.old) }
-        ensures chain { (first : ReaderView) → AreRead first reader.old self.old → OnOk result (AreRead first reader.new self.new) }
+        ensures chain { (first : ReaderView) → AreRead first reader.old self.old
+            → OnOk result (AreRead first reader.new self.new) }
         ensures grown { HasGrown reader.old reader.new }
-        ensures grown_since { (first : ReaderView) → HasGrown first reader.old → HasGrown first reader.new }
+        ensures grown_since { (first : ReaderView) → HasGrown first reader.old
+            → HasGrown first reader.new }
         ensures only_memory { IfErr result (λ refusal. refusal ≡ OutOfMemory) }
     {
         if let Some(version) = self.versions.get(&number) {

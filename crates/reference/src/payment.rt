@@ -31,9 +31,11 @@ pub(crate) fn apply_payment(
     requires customer { IsSomeAnd (get (database tables.old).customers (payer payment.now)) IsCustomerRow }
     requires low { pos 0 ≤ℤ payment.now.amount }
     requires high { payment.now.amount ≤ℤ MAX_PAYMENT }
-    ensures tables { OnOk result (database tables.new ≡ after_payment (database tables.old) payment.now) }
+    ensures tables { OnOk result (database tables.new
+        ≡ after_payment (database tables.old) payment.now) }
     ensures reply { IfOk result (λ reply. reply ≡ payment_reply (database tables.old) payment.now) }
-    ensures err { IfErr result (λ refusal. (refusal ≡ OutOfMemory) × (database tables.new ≡ database tables.old)) }
+    ensures err { IfErr result (λ refusal. (refusal ≡ OutOfMemory)
+        × (database tables.new ≡ database tables.old)) }
 {
     let Who::Id(customer) = payment.who;
     tables.history.reserve(1)?;
@@ -105,7 +107,8 @@ fn charge_customer(
     requires high { amount ≤ℤ MAX_PAYMENT }
     ensures rows { from_entries {R = customer_cmp} customers.new.entries
         ≡ update_where (is_customer key.warehouse key.district key.customer) (charged_customer amount) (from_entries customers.old.entries) }
-    ensures balance { result ≡ column (λ r. r.balance) (from_entries {R = customer_cmp} customers.new.entries) key }
+    ensures balance { result
+        ≡ column (λ r. r.balance) (from_entries {R = customer_cmp} customers.new.entries) key }
 {
     match customers.get_mut(&key) {
         None => unreachable!(),

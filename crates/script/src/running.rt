@@ -55,13 +55,18 @@ pub fn script<R: Read, W: Write, T: Wait>(
     reader: &mut R,
     writer: &mut W,
 ) -> Result<(Report, Vec<Done>), Refusal>
-    ensures whole { IfOk result (λ closed. (bytes : List ℕ) → R.remaining reader.old ≡ Some bytes → (text : List ℕ)
+    ensures whole { IfOk result (λ closed. (bytes : List ℕ) → R.remaining reader.old ≡ Some bytes
+        → (text : List ℕ)
         × Appends (W.contents writer.old) (W.contents writer.new) text
         × IsWhole (initial population) bytes text closed.0 closed.1.items) }
-    ensures beginning { OnErr result ((bytes : List ℕ) → R.remaining reader.old ≡ Some bytes → (front : List ℕ)
-        × Appends (W.contents writer.old) (W.contents writer.new) front × IsBeginning (initial population) bytes front) }
-    ensures too_many { IsErrOf result BadInput → (bytes : List ℕ) → R.remaining reader.old ≡ Some bytes → HasTooManyLines bytes }
-    ensures refusals { IfErr result (λ refusal. (refusal ≡ OutOfMemory) ⊎ (refusal ≡ BadInput) ⊎ (refusal ≡ Device)) }
+    ensures beginning { OnErr result ((bytes : List ℕ) → R.remaining reader.old ≡ Some bytes
+        → (front : List ℕ)
+        × Appends (W.contents writer.old) (W.contents writer.new) front
+        × IsBeginning (initial population) bytes front) }
+    ensures too_many { IsErrOf result BadInput → (bytes : List ℕ)
+        → R.remaining reader.old ≡ Some bytes → HasTooManyLines bytes }
+    ensures refusals { IfErr result (λ refusal. (refusal ≡ OutOfMemory) ⊎ (refusal ≡ BadInput)
+        ⊎ (refusal ≡ Device)) }
 {
     let parts = Parts::new(rt, alloc, population, 1)?;
     run::<Brand, R, W, T>(rt, alloc, parts, reader, writer)
@@ -79,13 +84,18 @@ fn run<K: Run, R: Read, W: Write, T: Wait>(
     requires one { terminals_of parts ≡ 1 }
     requires run { (first_of parts ≡ K.first) × (cells_of parts ≡ K.cells) }
     requires ledger { (ledger_name parts ≡ K.name) × (ledger_parts parts ≡ K.parts) }
-    ensures whole { IfOk result (λ closed. (bytes : List ℕ) → R.remaining reader.old ≡ Some bytes → (text : List ℕ)
+    ensures whole { IfOk result (λ closed. (bytes : List ℕ) → R.remaining reader.old ≡ Some bytes
+        → (text : List ℕ)
         × Appends (W.contents writer.old) (W.contents writer.new) text
         × IsWhole K.first bytes text closed.0 closed.1.items) }
-    ensures beginning { OnErr result ((bytes : List ℕ) → R.remaining reader.old ≡ Some bytes → (front : List ℕ)
-        × Appends (W.contents writer.old) (W.contents writer.new) front × IsBeginning K.first bytes front) }
-    ensures too_many { IsErrOf result BadInput → (bytes : List ℕ) → R.remaining reader.old ≡ Some bytes → HasTooManyLines bytes }
-    ensures refusals { IfErr result (λ refusal. (refusal ≡ OutOfMemory) ⊎ (refusal ≡ BadInput) ⊎ (refusal ≡ Device)) }
+    ensures beginning { OnErr result ((bytes : List ℕ) → R.remaining reader.old ≡ Some bytes
+        → (front : List ℕ)
+        × Appends (W.contents writer.old) (W.contents writer.new) front
+        × IsBeginning K.first bytes front) }
+    ensures too_many { IsErrOf result BadInput → (bytes : List ℕ)
+        → R.remaining reader.old ≡ Some bytes → HasTooManyLines bytes }
+    ensures refusals { IfErr result (λ refusal. (refusal ≡ OutOfMemory) ⊎ (refusal ≡ BadInput)
+        ⊎ (refusal ≡ Device)) }
 {
     let (engine, mut seats) = Engine::<K>::open(parts);
     let Some(seat) = seats.next() else {
@@ -135,13 +145,18 @@ impl<'e, K: Run> Desk<'e, K> {
         writer: &mut W,
     ) -> Result<(Report, Vec<Done>), Refusal>
         requires start { HasAnswered K.first [] [] (standing_of self) }
-        ensures whole { IfOk result (λ closed. (bytes : List ℕ) → R.remaining reader.old ≡ Some bytes → (text : List ℕ)
+        ensures whole { IfOk result (λ closed. (bytes : List ℕ)
+            → R.remaining reader.old ≡ Some bytes → (text : List ℕ)
             × Appends (W.contents writer.old) (W.contents writer.new) text
             × IsWhole K.first bytes text closed.0 closed.1.items) }
-        ensures beginning { OnErr result ((bytes : List ℕ) → R.remaining reader.old ≡ Some bytes → (front : List ℕ)
-            × Appends (W.contents writer.old) (W.contents writer.new) front × IsBeginning K.first bytes front) }
-        ensures too_many { IsErrOf result BadInput → (bytes : List ℕ) → R.remaining reader.old ≡ Some bytes → HasTooManyLines bytes }
-        ensures refusals { IfErr result (λ refusal. (refusal ≡ OutOfMemory) ⊎ (refusal ≡ BadInput) ⊎ (refusal ≡ Device)) }
+        ensures beginning { OnErr result ((bytes : List ℕ) → R.remaining reader.old ≡ Some bytes
+            → (front : List ℕ)
+            × Appends (W.contents writer.old) (W.contents writer.new) front
+            × IsBeginning K.first bytes front) }
+        ensures too_many { IsErrOf result BadInput → (bytes : List ℕ)
+            → R.remaining reader.old ≡ Some bytes → HasTooManyLines bytes }
+        ensures refusals { IfErr result (λ refusal. (refusal ≡ OutOfMemory) ⊎ (refusal ≡ BadInput)
+            ⊎ (refusal ≡ Device)) }
     {
         let mut desk = self;
         let mut piece = vec![in alloc; 0u8; PIECE]?;
@@ -161,13 +176,17 @@ impl<'e, K: Run> Desk<'e, K> {
         requires { 0 < length piece.old }
         ensures all { OnOk result ((bytes : List ℕ) → R.remaining reader.old ≡ Some bytes
             → HasAnswered K.first [] [] (standing_of self.old) → (written : List ℕ)
-            × Appends (W.contents writer.old) (W.contents writer.new) written × HasAnsweredAll K.first bytes written (standing_of self.new)) }
+            × Appends (W.contents writer.old) (W.contents writer.new) written
+            × HasAnsweredAll K.first bytes written (standing_of self.new)) }
         ensures beginning { OnErr result ((bytes : List ℕ) → R.remaining reader.old ≡ Some bytes
             → HasAnswered K.first [] [] (standing_of self.old) → (front : List ℕ)
-            × Appends (W.contents writer.old) (W.contents writer.new) front × IsBeginning K.first bytes front) }
-        ensures too_many { IsErrOf result BadInput → (bytes : List ℕ) → R.remaining reader.old ≡ Some bytes
+            × Appends (W.contents writer.old) (W.contents writer.new) front
+            × IsBeginning K.first bytes front) }
+        ensures too_many { IsErrOf result BadInput → (bytes : List ℕ)
+            → R.remaining reader.old ≡ Some bytes
             → HasAnswered K.first [] [] (standing_of self.old) → HasTooManyLines bytes }
-        ensures refusals { IfErr result (λ refusal. (refusal ≡ OutOfMemory) ⊎ (refusal ≡ BadInput) ⊎ (refusal ≡ Device)) }
+        ensures refusals { IfErr result (λ refusal. (refusal ≡ OutOfMemory) ⊎ (refusal ≡ BadInput)
+            ⊎ (refusal ≡ Device)) }
     {
         for _ in 0..u64::MAX {
             self.write(writer)?;
@@ -183,11 +202,14 @@ impl<'e, K: Run> Desk<'e, K> {
 
     /// Answers the lines that a piece of the input ends.
     fn answer_lines<T: Wait>(&mut self, rt: &T, piece: &[u8]) -> Result<(), Refusal>
-        ensures ok { OnOk result ((text written : List ℕ) → HasAnswered K.first text written (standing_of self.old)
+        ensures ok { OnOk result ((text written : List ℕ)
+            → HasAnswered K.first text written (standing_of self.old)
             → HasAnswered K.first (text ++ piece.now) written (standing_of self.new)) }
         ensures too_many { IsErrOf result BadInput → (text written : List ℕ)
-            → HasAnswered K.first text written (standing_of self.old) → HasTooMany (text ++ piece.now) }
-        ensures refusals { IfErr result (λ refusal. (refusal ≡ OutOfMemory) ⊎ (refusal ≡ BadInput)) }
+            → HasAnswered K.first text written (standing_of self.old)
+            → HasTooMany (text ++ piece.now) }
+        ensures refusals { IfErr result (λ refusal. (refusal ≡ OutOfMemory)
+            ⊎ (refusal ≡ BadInput)) }
     {
         let mut rest = piece;
         while let Some(after) = self.line.take_line(rest) {
@@ -199,11 +221,13 @@ impl<'e, K: Run> Desk<'e, K> {
 
     /// Answers a last line that no line feed ends.
     fn answer_last<T: Wait>(&mut self, rt: &T) -> Result<(), Refusal>
-        ensures ok { OnOk result ((text written : List ℕ) → HasAnswered K.first text written (standing_of self.old)
+        ensures ok { OnOk result ((text written : List ℕ)
+            → HasAnswered K.first text written (standing_of self.old)
             → HasAnsweredAll K.first text written (standing_of self.new)) }
         ensures too_many { IsErrOf result BadInput → (text written : List ℕ)
             → HasAnswered K.first text written (standing_of self.old) → HasTooManyLines text }
-        ensures refusals { IfErr result (λ refusal. (refusal ≡ OutOfMemory) ⊎ (refusal ≡ BadInput)) }
+        ensures refusals { IfErr result (λ refusal. (refusal ≡ OutOfMemory)
+            ⊎ (refusal ≡ BadInput)) }
     {
         if self.line.is_empty() {
             return Ok(());
@@ -217,7 +241,8 @@ impl<'e, K: Run> Desk<'e, K> {
         ensures turn { OnOk result ((bytes : List ℕ) → self.old.line ≡ held bytes → (turn : Turn)
             × IsLineTurn (state_of K.first self.old.session) (self.old.answered + 1) bytes turn
             × (state_of K.first self.new.session ≡ turn.state)
-            × (string_bytes self.new.output ≡ string_bytes self.old.output ++ (answer_text turn.answer ++ codes "\n"))) }
+            × (string_bytes self.new.output
+            ≡ string_bytes self.old.output ++ (answer_text turn.answer ++ codes "\n"))) }
         ensures count { OnOk result (self.new.answered ≡ self.old.answered + 1) }
         ensures line { OnOk result (self.new.line ≡ Some []) }
         ensures refusals { IfErr result (λ refusal. (refusal ≡ OutOfMemory)
@@ -235,10 +260,12 @@ impl<'e, K: Run> Desk<'e, K> {
 
     /// Writes the answers that aren't written yet.
     fn write<W: Write>(&mut self, writer: &mut W) -> Result<(), Refusal>
-        ensures ok { OnOk result ((text written : List ℕ) → HasAnswered K.first text written (standing_of self.old)
+        ensures ok { OnOk result ((text written : List ℕ)
+            → HasAnswered K.first text written (standing_of self.old)
             → (more : List ℕ) × Appends (W.contents writer.old) (W.contents writer.new) more
             × HasAnswered K.first text (written ++ more) (standing_of self.new)) }
-        ensures err { OnErr result ((front rest : List ℕ) × (string_bytes self.old.output ≡ front ++ rest)
+        ensures err { OnErr result ((front rest : List ℕ)
+            × (string_bytes self.old.output ≡ front ++ rest)
             × Appends (W.contents writer.old) (W.contents writer.new) front) }
         ensures device { IfErr result (λ refusal. refusal ≡ Device) }
     {
@@ -279,7 +306,8 @@ impl<'e, K: Run> Desk<'e, K> {
 fn read_piece<R: Read>(reader: &mut R, piece: &mut [u8]) -> Result<usize, Refusal>
     ensures within { IfOk result (λ count. count ≤ length piece.new) }
     ensures bytes { IfOk result (λ count. Consumes (R.remaining reader.old) (R.remaining reader.new) (take count piece.new)) }
-    ensures end { IfOk result (λ count. count ≡ 0 → 0 < length piece.new → IsAtEnd (R.remaining reader.new)) }
+    ensures end { IfOk result (λ count. count ≡ 0 → 0 < length piece.new
+        → IsAtEnd (R.remaining reader.new)) }
     ensures device { IfErr result (λ refusal. refusal ≡ Device) }
 {
     for _ in 0..u64::MAX {

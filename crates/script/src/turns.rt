@@ -11,7 +11,8 @@ ghost use Rattle.script.specs.Written.{IsWhole};
 /// one state, at one number, are the same.
 pub fn lines_determine_turns()
     ensures { (s : State) (n : ℕ) (lines : List (List ℕ)) (one other : List Answer) (last end : State)
-        → AreTurns s n lines one last → AreTurns s n lines other end → (one ≡ other) × (last ≡ end) }
+        → AreTurns s n lines one last → AreTurns s n lines other end → (one ≡ other)
+        × (last ≡ end) }
 {}
 
 /// The bytes of a script determine its text, its report and its commits: two whole scripts of the same bytes

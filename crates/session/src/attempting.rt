@@ -32,7 +32,8 @@ pub fn attempt<K: Run, R: Wait>(
     ensures reader { seat.new.reader.cells ≡ K.cells }
     ensures commits { IfOk result (IsNext K.first book.old.history book.new.history input.now) }
     ensures refusals { IfErr result (λ refusal.
-        (refusal ≡ Stale) ⊎ (refusal ≡ Conflict) ⊎ (refusal ≡ CommitsFull) ⊎ (refusal ≡ OutOfMemory)) }
+        (refusal ≡ Stale) ⊎ (refusal ≡ Conflict) ⊎ (refusal ≡ CommitsFull)
+        ⊎ (refusal ≡ OutOfMemory)) }
     ensures full { IsErrOf result CommitsFull → K.first.scale.commits ≤ length book.old.history }
     ensures err { OnErr result (book.new ≡ book.old) }
 {

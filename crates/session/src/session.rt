@@ -84,8 +84,10 @@ impl<'e, K: Run> Session<'e, K> {
         ensures next { IfOk result (IsNext K.first self.old.history self.new.history input.now) }
         ensures told { IfOk result (λ done. self.new.dones ≡ self.old.dones ++ done ∷ []) }
         ensures count { length self.old.dones ≡ length self.old.history }
-        ensures refusals { IfErr result (λ refusal. (refusal ≡ CommitsFull) ⊎ (refusal ≡ OutOfMemory)) }
-        ensures full { IsErrOf result CommitsFull → K.first.scale.commits ≤ length self.old.history }
+        ensures refusals { IfErr result (λ refusal. (refusal ≡ CommitsFull)
+            ⊎ (refusal ≡ OutOfMemory)) }
+        ensures full { IsErrOf result CommitsFull
+            → K.first.scale.commits ≤ length self.old.history }
         ensures err { OnErr result (self.new ≡ self.old) }
     {
         self.dones.reserve(1)?;

@@ -56,7 +56,8 @@ impl Scale {
         commits: u32,
     ) -> Result<Scale, Refusal>
         ensures limits { let asked = sizes warehouses districts customers items orders commits in
-            MatchResult result (λ scale. (scale ≡ asked) × IsLawful asked) (λ refusal. (refusal ≡ BadScale) × ¬ IsLawful asked) }
+            MatchResult result (λ scale. (scale ≡ asked)
+            × IsLawful asked) (λ refusal. (refusal ≡ BadScale) × ¬ IsLawful asked) }
     {
         let is_lawful = is_between(1, MAX_WAREHOUSES, warehouses)
             && is_between(1, MAX_DISTRICTS, districts)

@@ -42,7 +42,8 @@ pub fn finish<E: Write>(outcome: Result<&Report, Refusal>, errors: &mut E) -> u8
 /// Writes a refusal's line.
 fn write_refusal<E: Write>(refusal: Refusal, errors: &mut E) -> Result<(), Refusal>
     ensures whole { OnOk result (Appends (E.contents errors.old) (E.contents errors.new) (refusal_line refusal)) }
-    ensures beginning { IsErr result → WritesBeginning (refusal_line refusal) (E.contents errors.old) (E.contents errors.new) }
+    ensures beginning { IsErr result
+        → WritesBeginning (refusal_line refusal) (E.contents errors.old) (E.contents errors.new) }
 {
     let mut digits = Buffer::new();
     write_text(errors, digits.format(refusal.number()).as_bytes())?;

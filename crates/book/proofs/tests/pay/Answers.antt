@@ -13,7 +13,7 @@ returns-clause-work g c =
     let scale = c.scale.ensures ∙ ap (λ (t : Database). t.scale) c.population-population.ensures in
     let same = c.in_ok-work.ensures.input in
     work_of g.K.Run.first (length g.K.Run.cells) c.args.seat.now.reader c.execute.new.reader work
-        (subst (λ (q : Sizes × Input). IsInput q.0 q.1) (λ i. (scale i, sym same i)) c.in_ok-_input.ensures.ranges.1)
-        (subst (λ (q : Database × Input). Explains q.0 q.1 work.reads work.writes work.reply) (λ i. (c.population-population.ensures i, sym same i)) c.in_ok-work.ensures.explains)
-        (subst (λ n. IsWithinLimits n work.reads work.writes) (ap length c.cells-cells.ensures.value) c.in_ok-work.ensures.limits)
-        c.in_ok-work.ensures.read
+    (subst (λ (q : Sizes × Input). IsInput q.0 q.1) (λ i. (scale i, sym same i)) c.in_ok-_input.ensures.ranges.1)
+    (subst (λ (q : Database × Input). Explains q.0 q.1 work.reads work.writes work.reply) (λ i. (c.population-population.ensures i, sym same i)) c.in_ok-work.ensures.explains)
+    (subst (λ n. IsWithinLimits n work.reads work.writes) (ap length c.cells-cells.ensures.value) c.in_ok-work.ensures.limits)
+    c.in_ok-work.ensures.read
