@@ -1,12 +1,14 @@
 -- The consistency conditions (TPC-C 3.3.2) over the rows of the tables.
-use Rattle.std.specs.Prelude.{◌≡◌, ℕ, ℤ, pos, ◌+ℤ◌, ◌-ℤ◌, Bool, false, ◌==◌, ◌&&◌, cond, is_some}
-use Rattle.std.specs.Option.{option_map_or}
+use Rattle.std.specs.Prelude.{◌≡◌, ℕ, ◌+◌, ℤ, pos, ◌+ℤ◌, ◌-ℤ◌, Bool, true, false, ◌==◌, ◌&&◌, cond, is_some, is_none, length}
+use Rattle.std.specs.Option.{ForSome, option_map_or}
 use Rattle.std.specs.FinMap.{FinMap, get}
-use Rattle.tables.specs.Keys.{IsWarehouseKey, IsDistrictKey, IsCustomerKey, order_cmp, is_district, is_customer, order_of}
-use Rattle.tables.specs.Maps.{total, sum_of, column}
+use Rattle.tables.specs.Keys.{IsWarehouseKey, IsDistrictKey, IsCustomerKey, order_cmp, is_district, is_customer, is_order, order_of}
+use Rattle.tables.specs.Maps.{total, count, sum_of, column}
+use Rattle.tables.specs.OrderNumbers.{least, greatest, numbers_in, next_order}
 use Rattle.tables.specs.Database.{Database}
 use Rattle.tables.specs.declared.keys.DistrictKey.{DistrictKey}
 use Rattle.tables.specs.declared.keys.CustomerKey.{CustomerKey}
+use Rattle.tables.specs.declared.keys.OrderKey.{OrderKey}
 use Rattle.tables.specs.declared.keys.LineKey.{LineKey}
 use Rattle.tables.specs.declared.rows.Order.{Order}
 use Rattle.tables.specs.declared.rows.OrderLine.{OrderLine}
@@ -33,6 +35,35 @@ paid_by_customer t k = sum_of (λ h. cond (is_customer h.customer_warehouse h.cu
 abbrev pub Condition1At : Database → ℕ → Type 0
 Condition1At t w = column (λ r. r.year_to_date) t.warehouses w ≡ total (λ k r. cond (k.warehouse == w) r.year_to_date (pos 0)) t.districts
 
+-- 3.3.2.2: D_NEXT_O_ID - 1 is the greatest O_ID, which is 0 where there is no order, and the greatest NO_O_ID where there is one
+abbrev pub Condition2At : Database → DistrictKey → Type 0
+Condition2At t k = (greatest (numbers_in k t.orders) + 1 ≡ next_order t k)
+    × ForSome (least (numbers_in k t.new_orders)) (λ _. greatest (numbers_in k t.new_orders) + 1 ≡ next_order t k)
+
+-- 3.3.2.3: the greatest NO_O_ID minus the least plus 1 is the number of NEW-ORDER rows, where there are any
+abbrev pub Condition3At : Database → DistrictKey → Type 0
+Condition3At t k = ForSome (least (numbers_in k t.new_orders)) (λ first. greatest (numbers_in k t.new_orders) + 1 ≡ first + length (numbers_in k t.new_orders))
+
+-- the sum of O_OL_CNT over a district's orders
+abbrev pub line_counts : Database → DistrictKey → ℤ
+line_counts t k = total (λ j order. cond (is_district j.warehouse j.district k) (pos order.line_count) (pos 0)) t.orders
+
+-- 3.3.2.4: the sum of O_OL_CNT is the number of ORDER-LINE rows
+abbrev pub Condition4At : Database → DistrictKey → Type 0
+Condition4At t k = line_counts t k ≡ count (λ j line. is_district j.warehouse j.district k) t.lines
+
+-- 3.3.2.5: an order's O_CARRIER_ID is null exactly where it has a NEW-ORDER row
+abbrev pub Condition5At : Database → OrderKey → Type 0
+Condition5At t k = ForSome (get t.orders k) (λ order. is_none order.carrier ≡ is_some (get t.new_orders k))
+
+-- 3.3.2.6: an order's O_OL_CNT is the number of its lines
+abbrev pub Condition6At : Database → OrderKey → Type 0
+Condition6At t k = ForSome (get t.orders k) (λ order. pos order.line_count ≡ count (λ j line. is_order j.warehouse j.district j.order k) t.lines)
+
+-- 3.3.2.7: a line's OL_DELIVERY_D is null exactly where its order's O_CARRIER_ID is. The column of a missing order counts as null
+abbrev pub Condition7At : Database → LineKey → Type 0
+Condition7At t k = ForSome (get t.lines k) (λ line. is_none line.delivery_date ≡ option_map_or (λ order. is_none order.carrier) (get t.orders (order_of k)) true)
+
 -- 3.3.2.8: W_YTD is the sum of H_AMOUNT by H_W_ID
 abbrev pub Condition8At : Database → ℕ → Type 0
 Condition8At t w = column (λ r. r.year_to_date) t.warehouses w ≡ paid_at_warehouse t w
@@ -49,9 +80,15 @@ Condition10At t k = column (λ r. r.balance) t.customers k ≡ delivered_amount 
 abbrev pub Condition12At : Database → CustomerKey → Type 0
 Condition12At t k = column (λ r. r.balance) t.customers k +ℤ column (λ r. r.paid) t.customers k ≡ delivered_amount t k
 
--- each condition holds at each key of the scale
+-- each condition holds: 5 and 6 at each ORDER row, 7 at each ORDER-LINE row, the others at each key of the scale
 pub record IsConsistent (t : Database) : Type 0 where
   pub condition_1 : (w : ℕ) → IsWarehouseKey t.scale w → Condition1At t w
+  pub condition_2 : (k : DistrictKey) → IsDistrictKey t.scale k → Condition2At t k
+  pub condition_3 : (k : DistrictKey) → IsDistrictKey t.scale k → Condition3At t k
+  pub condition_4 : (k : DistrictKey) → IsDistrictKey t.scale k → Condition4At t k
+  pub condition_5 : (k : OrderKey) → Condition5At t k
+  pub condition_6 : (k : OrderKey) → Condition6At t k
+  pub condition_7 : (k : LineKey) → Condition7At t k
   pub condition_8 : (w : ℕ) → IsWarehouseKey t.scale w → Condition8At t w
   pub condition_9 : (k : DistrictKey) → IsDistrictKey t.scale k → Condition9At t k
   pub condition_10 : (k : CustomerKey) → IsCustomerKey t.scale k → Condition10At t k

@@ -48,12 +48,18 @@ IsItemKey s i = IsNumber s.items i
 abbrev pub IsStockKey : Sizes → StockKey → Type 0
 IsStockKey s k = IsNumber s.warehouses k.warehouse × IsNumber s.items k.item
 
--- whether a key is the key of this district, or of this customer
+-- whether a key is the key of this district, customer, order or stock
 abbrev pub is_district : ℕ → ℕ → DistrictKey → Bool
 is_district w d k = (w == k.warehouse) && (d == k.district)
 
 abbrev pub is_customer : ℕ → ℕ → ℕ → CustomerKey → Bool
 is_customer w d c k = (w == k.warehouse) && (d == k.district) && (c == k.customer)
+
+abbrev pub is_order : ℕ → ℕ → ℕ → OrderKey → Bool
+is_order w d o k = (w == k.warehouse) && (d == k.district) && (o == k.order)
+
+abbrev pub is_stock : ℕ → ℕ → StockKey → Bool
+is_stock w i k = (w == k.warehouse) && (i == k.item)
 
 -- the order that a line belongs to
 abbrev pub order_of : LineKey → OrderKey

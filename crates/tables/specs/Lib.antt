@@ -3,10 +3,12 @@ pub mod Keys
 pub mod KeyTexts
 pub mod Maps
 pub mod Database
+pub mod OrderNumbers
 pub mod Records
 pub mod Rows
 pub mod Customer
 pub mod Payment
+pub mod NewOrder
 pub mod Inputs
 pub mod Apply
 pub mod Conditions

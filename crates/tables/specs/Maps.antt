@@ -22,6 +22,10 @@ module _ {K X : Type 0} {R : K → K → Ordering} where
   unfoldable pub total : (K → X → ℤ) → FinMap R X → ℤ
   total f m = sum_entries f (entries m)
 
+  -- how many rows pass a test
+  abbrev pub count : (K → X → Bool) → FinMap R X → ℤ
+  count p m = total (λ k r. cond (p k r) (pos 1) (pos 0)) m
+
   -- each row changed by g
   unfoldable pub map_rows : (K → X → X) → FinMap R X → FinMap R X
   map_rows g m = from_sorted (map_entries g (entries m))

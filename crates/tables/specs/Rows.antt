@@ -1,15 +1,13 @@
 -- What records hold: the columns that change, as seven words, or nothing where a record is absent.
-use Rattle.std.specs.Prelude.{ℕ, ◌-◌, ℤ, max, min, Bool, cond, Option, Some, None, List, [], ◌∷◌, ◌++◌, map, length, replicate, ◌==◌, ◌&&◌}
+use Rattle.std.specs.Prelude.{ℕ, ◌-◌, ℤ, cond, Option, Some, List, [], ◌∷◌, ◌++◌, length, replicate, ◌==◌, ◌&&◌}
 use Rattle.std.specs.Int.{w64, cast_unsigned, cast_signed}
-use Rattle.std.specs.List.{filter}
-use Rattle.std.specs.Option.{option_map, option_map_or, unwrap_or}
-use Rattle.std.specs.FinMap.{FinMap, get, entries}
-use Rattle.tables.specs.Keys.{order_cmp}
+use Rattle.std.specs.Option.{option_map, unwrap_or}
+use Rattle.std.specs.FinMap.{get}
 use Rattle.tables.specs.Database.{Database}
+use Rattle.tables.specs.OrderNumbers.{least, greatest, order_numbers, numbers_in, next_order}
 use Rattle.tables.specs.Records.{key_of}
 use Rattle.tables.specs.declared.keys.DistrictKey.{DistrictKey}
 use Rattle.tables.specs.declared.keys.CustomerKey.{CustomerKey}
-use Rattle.tables.specs.declared.keys.OrderKey.{OrderKey}
 use Rattle.tables.specs.declared.rows.Warehouse.{Warehouse}
 use Rattle.tables.specs.declared.rows.District.{District}
 use Rattle.tables.specs.declared.rows.Customer.{Customer}
@@ -56,23 +54,9 @@ stock_words r = seven (r.quantity ∷ r.year_to_date ∷ r.orders ∷ r.remote_o
 abbrev pub number_words : ℕ → List ℕ
 number_words n = seven (n ∷ [])
 
--- the least of some numbers, if there is one; the greatest, or 0
-abbrev pub least : List ℕ → Option ℕ
-least [] = None
-least (n ∷ ns) = Some (option_map_or (min n) (least ns) n)
-
-abbrev pub greatest : List ℕ → ℕ
-greatest [] = 0
-greatest (n ∷ ns) = max n (greatest ns)
-
--- the order numbers of the rows that pass a test
-abbrev pub order_numbers : {X : Type 0} → (OrderKey × X → Bool) → FinMap order_cmp X → List ℕ
-order_numbers {X} p m = map (λ (e : OrderKey × X). e.0.order) (filter p (entries m))
-
 -- the least NO_O_ID of a district, or D_NEXT_O_ID where it has no NEW-ORDER row
 abbrev pub oldest : Database → DistrictKey → ℕ
-oldest t k = unwrap_or (least (order_numbers (λ e. (e.0.warehouse == k.warehouse) && (e.0.district == k.district)) t.new_orders))
-    (option_map_or (λ r. r.next_order) (get t.districts k) 0)
+oldest t k = unwrap_or (least (numbers_in k t.new_orders)) (next_order t k)
 
 -- the greatest O_ID of a customer, or 0
 abbrev pub last : Database → CustomerKey → ℕ

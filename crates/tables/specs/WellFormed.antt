@@ -7,7 +7,7 @@ use Rattle.tables.specs.Keys.{IsWarehouseKey, IsDistrictKey, IsCustomerKey, IsOr
 use Rattle.tables.specs.Maps.{RowsAt, RowsWithin, EachRow}
 use Rattle.tables.specs.Database.{Database}
 use Rattle.money.specs.declared.cents.TheConstants.{MAX_MONEY}
-use Rattle.tables.specs.declared.limits.TheConstants.{MAX_DATE, MAX_COUNT, MAX_MONEY_STEP, MAX_COUNT_STEP, MIN_PAYMENT, MAX_PAYMENT, MIN_ORDER_LINES, MAX_ORDER_LINES, MAX_QUANTITY, MAX_LINE_AMOUNT, MAX_CARRIER, MIN_STOCK, MAX_STOCK}
+use Rattle.tables.specs.declared.limits.TheConstants.{MAX_DATE, MAX_COUNT, MAX_MONEY_STEP, MAX_COUNT_STEP, MIN_PAYMENT, MAX_PAYMENT, MIN_ORDER_LINES, MAX_ORDER_LINES, MAX_QUANTITY, MAX_LINE_AMOUNT, MAX_CARRIER, MIN_STOCK, MAX_STOCK, MAX_PRICE}
 use Rattle.tables.specs.declared.keys.OrderKey.{OrderKey}
 use Rattle.tables.specs.declared.keys.CustomerKey.{CustomerKey}
 use Rattle.tables.specs.declared.rows.District.{District}
@@ -15,6 +15,7 @@ use Rattle.tables.specs.declared.rows.Customer.{Customer}
 use Rattle.tables.specs.declared.rows.History.{History}
 use Rattle.tables.specs.declared.rows.Order.{Order}
 use Rattle.tables.specs.declared.rows.OrderLine.{OrderLine}
+use Rattle.tables.specs.declared.rows.Item.{Item}
 use Rattle.tables.specs.declared.rows.Stock.{Stock}
 
 -- within 10,000,000,000,000 cents of zero
@@ -62,6 +63,10 @@ pub record IsLineRow (s : Sizes) (r : OrderLine) : Type 0 where
   pub at_least : pos 0 ≤ℤ r.amount
   pub at_most : r.amount ≤ℤ MAX_LINE_AMOUNT
 
+pub record IsItemRow (r : Item) : Type 0 where
+  pub at_least : pos 0 ≤ℤ r.price
+  pub at_most : r.price ≤ℤ MAX_PRICE
+
 pub record IsStockRow (r : Stock) : Type 0 where
   pub quantity : IsBetween MIN_STOCK MAX_STOCK r.quantity
   pub year_to_date : IsCount r.year_to_date
@@ -90,6 +95,7 @@ pub record IsWellFormed (t : Database) : Type 0 where
   pub history_rows : All (IsHistoryRow t.scale) t.history
   pub order_rows : EachRow (λ k r. IsOrderRow r) t.orders
   pub line_rows : EachRow (λ k r. IsLineRow t.scale r) t.lines
+  pub item_rows : EachRow (λ k r. IsItemRow r) t.items
   pub stock_rows : EachRow (λ k r. IsStockRow r) t.stock
   -- every order names a customer, every NEW-ORDER row and every line has its order, and a line's number is at most its order's O_OL_CNT
   pub order_customers : EachRow (λ k r. IsSome (get t.customers (orderer k r))) t.orders
@@ -111,3 +117,6 @@ pub record HasRoom (n : ℕ) (t : Database) : Type 0 where
   pub paid : EachRow (λ k r. IsMoneyFor n r.paid) t.customers
   pub payments : EachRow (λ k r. IsCountFor n r.payments) t.customers
   pub deliveries : EachRow (λ k r. IsCountFor n r.deliveries) t.customers
+  pub supplied : EachRow (λ k r. IsCountFor n r.year_to_date) t.stock
+  pub orders : EachRow (λ k r. IsCountFor n r.orders) t.stock
+  pub remote_orders : EachRow (λ k r. IsCountFor n r.remote_orders) t.stock

@@ -2,14 +2,16 @@
 
 ghost use Rattle.std.specs.Prelude.{◌≡◌, MatchResult};
 
+use crate::new_order::NewOrderInput;
 use crate::payment::PaymentInput;
 use crate::scale::Scale;
 use money::Refusal;
 
 /// The input of a transaction.
-#[derive(Clone, Copy, Debug, PartialEq, Eq)]
+#[derive(Debug, Drop, PartialEq)]
 pub enum Input {
     Payment(PaymentInput),
+    NewOrder(NewOrderInput),
 }
 
 impl Input {
@@ -28,5 +30,19 @@ impl Input {
             return Err(Refusal::BadInput);
         }
         Ok(Input::Payment(payment))
+    }
+
+    /// A New-Order's input, or `BadInput` exactly where a field is outside its range: the supplying warehouses, the
+    /// order's own, its district and its customer within the scale, the date from 1 to 4,000,000,000, 5 to 15 lines,
+    /// of an item from 1 to 100,001 at any scale, and a quantity from 1 to 10. Costs a look at each line.
+    pub fn new_order(scale: &Scale, new_order: NewOrderInput) -> Result<Input, Refusal>
+        ensures ranges { let asked = Input.NewOrder new_order in
+            MatchResult result (λ input. (input ≡ asked) × IsInput scale.now asked)
+            (λ refusal. (refusal ≡ BadInput) × ¬ IsInput scale.now asked) }
+    {
+        if !new_order.is_in_range(scale) {
+            return Err(Refusal::BadInput);
+        }
+        Ok(Input::NewOrder(new_order))
     }
 }

@@ -39,6 +39,13 @@ pub const MIN_ORDER_LINES: u32 = 5;
 /// The most lines of an order (TPC-C 2.4.1.3).
 pub const MAX_ORDER_LINES: u32 = 15;
 
+/// The largest item number that a terminal may send, at any scale. The largest item of any scale is less: the number
+/// past the last item is how a terminal asks for an order that is rolled back (TPC-C 2.4.1.5).
+pub const MAX_REQUESTED_ITEM: u32 = 100_001;
+
+/// The largest I_PRICE. The smallest is 0.
+pub const MAX_PRICE: i64 = 10_000;
+
 /// The largest OL_QUANTITY (TPC-C 2.4.1.5). The smallest is 1.
 pub const MAX_QUANTITY: u32 = 10;
 
@@ -53,6 +60,9 @@ pub const MIN_STOCK: u32 = 10;
 
 /// The largest S_QUANTITY.
 pub const MAX_STOCK: u32 = 100;
+
+/// What S_QUANTITY rises by where a line would leave less than `MIN_STOCK` (TPC-C 2.4.2.2).
+pub const RESTOCK: u32 = 91;
 
 /// The largest count, as C_PAYMENT_CNT or S_ORDER_CNT.
 pub const MAX_COUNT: u32 = 1_000_000_000;
