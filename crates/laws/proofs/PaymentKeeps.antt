@@ -8,11 +8,12 @@ use Rattle.std.specs.declared.cmp.Ordering.{Ordering}
 use Rattle.std.specs.Option.{option_map, option_map_or}
 use Rattle.tables.specs.Keys.{is_district, is_customer, IsWarehouseKey, IsDistrictKey, IsCustomerKey}
 use Rattle.tables.specs.Maps.{total, map_rows, RowsAt, EachRow}
+use Rattle.tables.specs.OrderNumbers.{next_order}
 use Rattle.tables.specs.Database.{Database}
 use Rattle.tables.specs.Payment.{IsPayment, raised_warehouse, raised_district, charged_customer, after_payment, history_row}
 use Rattle.tables.specs.Customer.{customer_number}
 use Rattle.tables.specs.Constant.{IsOf}
-use Rattle.tables.specs.Conditions.{IsConsistent, Condition1At, Condition8At, Condition9At, Condition10At, Condition12At, paid_at_warehouse, paid_at_district, paid_by_customer, delivered_amount}
+use Rattle.tables.specs.Conditions.{IsConsistent, Condition1At, Condition2At, Condition8At, Condition9At, Condition10At, Condition12At, paid_at_warehouse, paid_at_district, paid_by_customer, delivered_amount}
 use Rattle.tables.specs.WellFormed.{IsWellFormed, HasRoom, IsMoney, IsCount, IsMoneyFor, IsCountFor, IsDistrictRow, IsCustomerRow, IsHistoryRow, orderer}
 use Rattle.tables.specs.declared.keys.DistrictKey.{DistrictKey}
 use Rattle.tables.specs.declared.keys.CustomerKey.{CustomerKey}
@@ -23,15 +24,8 @@ use Rattle.tables.specs.declared.rows.History.{History}
 use Rattle.tables.specs.declared.payment.PaymentInput.{PaymentInput}
 use Rattle.tables.proofs.Orders.{IsExact, exact_number, exact_district, exact_customer}
 use Rattle.tables.proofs.KeyTests.{is_district-key}
-use Rattle.laws.proofs.Updates.{column-update_where, total-update_where, kept-update_where, is_some-map_rows, row_before}
-
--- the row at a key of the scale
-there : {K X : Type 0} {R : K → K → Ordering} (IsKey : K → Type 0) (m : FinMap R X) → RowsAt IsKey m → (k : K) → IsKey k → (r : X) × (get m k ≡ Some r)
-there {X = X} IsKey m at k is = found (get m k) refl ((at k).1 is)
-  where
-    found : (w : Option X) → get m k ≡ w → IsSome w → (r : X) × (get m k ≡ Some r)
-    found None e some = absurd (true≢false (sym some))
-    found (Some r) e some = (r, e)
+use Rattle.laws.proofs.Updates.{column-update_where, total-update_where, kept-update_where, is_some-map_rows}
+use Rattle.laws.proofs.Rows.{there, updated_rows, each_updated}
 
 module _ (t : Database) (x : PaymentInput) (ok : IsPayment t.scale x) (wf : IsWellFormed t) (con : IsConsistent t) where
   abbrev in_district : ℕ → DistrictKey → District → ℤ
@@ -51,6 +45,15 @@ module _ (t : Database) (x : PaymentInput) (ok : IsPayment t.scale x) (wf : IsWe
         | false ↦ omega (arith, ints)
       ])
       ∙ sym (total-update_where exact_district (in_district w) (is_district x.warehouse x.district) (raised_district x.amount) key d t.districts (is_district-key x.warehouse x.district) district.1)
+
+  -- the order that comes next
+  next_stays : (k : DistrictKey) → next_order t k ≡ next_order (after_payment t x) k
+  next_stays k = sym (kept-update_where exact_district (is_district x.warehouse x.district) (raised_district x.amount) (λ o. option_map_or (λ r. r.next_order) o 0) t.districts k (λ _ r. refl))
+
+  condition_2 : (k : DistrictKey) → IsDistrictKey t.scale k → Condition2At (after_payment t x) k
+  condition_2 k is =
+      let was = con.condition_2 k is in
+      (was.0 ∙ next_stays k, (λ first some. was.1 first some ∙ next_stays k))
 
   condition_8 : (w : ℕ) → IsWarehouseKey t.scale w → Condition8At (after_payment t x) w
   condition_8 w is =
@@ -105,6 +108,12 @@ module _ (t : Database) (x : PaymentInput) (ok : IsPayment t.scale x) (wf : IsWe
   pub payment_keeps_consistent : IsConsistent (after_payment t x)
   payment_keeps_consistent = record {
     condition_1 = condition_1;
+    condition_2 = condition_2;
+    condition_3 = con.condition_3;
+    condition_4 = con.condition_4;
+    condition_5 = con.condition_5;
+    condition_6 = con.condition_6;
+    condition_7 = con.condition_7;
     condition_8 = condition_8;
     condition_9 = condition_9;
     condition_10 = condition_10;
@@ -112,17 +121,6 @@ module _ (t : Database) (x : PaymentInput) (ok : IsPayment t.scale x) (wf : IsWe
   }
 
 -- ---- well-formed
-updated_rows : {K X : Type 0} {R : K → K → Ordering} (o : IsExact R) (IsKey : K → Type 0) (g : K → X → X) (m : FinMap R X) → RowsAt IsKey m → RowsAt IsKey (map_rows g m)
-updated_rows o IsKey g m at k =
-    let same = is_some-map_rows o g m k in
-    ((λ some. (at k).0 (subst (λ b. b ≡ true) same some)), (λ is. subst (λ b. b ≡ true) (sym same) ((at k).1 is)))
-
--- what holds of each row before the update and is kept by it holds of each row after it
-each_updated : {K X : Type 0} {R : K → K → Ordering} (o : IsExact R) (P Q : K → X → Type 0) (g : K → X → X) (m : FinMap R X) → EachRow P m → ((k : K) (r : X) → P k r → Q k (g k r)) → EachRow Q (map_rows g m)
-each_updated o P Q g m each kept k s found =
-    let before = row_before o g m k s found in
-    subst (Q k) (sym before.2) (kept k before.0 (each k before.0 before.1))
-
 module _ (t : Database) (x : PaymentInput) (n : ℕ) (ok : IsPayment t.scale x) (wf : IsWellFormed t) (room : HasRoom (n + 1) t) where
   rises : (z : ℤ) → IsMoneyFor (n + 1) z → IsMoneyFor n (z +ℤ x.amount)
   rises z h = (omega (arith, ints, ok.at_least, ok.at_most, h.0, h.1), omega (arith, ints, ok.at_least, ok.at_most, h.0, h.1))
