@@ -1,13 +1,15 @@
 -- What each transaction keeps, by its kind.
-use Rattle.std.proofs.Common.{◌≡◌, ℕ, ◌+◌, refl}
+use Rattle.std.proofs.Common.{◌≡◌, ℕ, ◌+◌, Some, None, refl}
 use Rattle.tables.specs.Inputs.{IsInput}
-use Rattle.tables.specs.Apply.{after}
+use Rattle.tables.specs.Apply.{after, order_unless, left_by}
+use Rattle.tables.specs.NewOrder.{first_missing}
 use Rattle.tables.specs.WellFormed.{IsWellFormed, HasRoom}
 use Rattle.tables.specs.Conditions.{IsConsistent}
 use Rattle.tables.specs.Constant.{IsOf}
 use Rattle.tables.specs.Database.{Database}
 use Rattle.tables.specs.declared.input.Input.{Input}
-use Rattle.tables.specs.declared.input.Input.TheVariants.{Payment}
+use Rattle.tables.specs.declared.input.Input.TheVariants.{Payment, NewOrder}
+use Rattle.laws.proofs.NewOrderKeepsConsistent.{new_order_keeps_consistent}
 use Rattle.laws.proofs.PaymentKeeps.{payment_keeps_well_formed, payment_keeps_room, payment_keeps_consistent, payment_keeps_constants}
 
 pub after-IsWellFormed : (t : Database) (x : Input) (n : ℕ) → IsInput t.scale x → IsWellFormed t → HasRoom (n + 1) t → IsWellFormed (after t x)
@@ -18,6 +20,10 @@ after-HasRoom t (Payment x) n ok wf room = payment_keeps_room t x n ok wf room
 
 pub after-IsConsistent : (t : Database) (x : Input) → IsInput t.scale x → IsWellFormed t → IsConsistent t → IsConsistent (after t x)
 after-IsConsistent t (Payment x) ok wf con = payment_keeps_consistent t x ok wf con
+after-IsConsistent t (NewOrder x) ok wf con = elim (first_missing t x.lines) as (λ missing. IsConsistent (left_by t (order_unless missing t x))) [
+  | None ↦ new_order_keeps_consistent t x ok wf con
+  | Some item ↦ con
+]
 
 pub after-IsOf : (t0 t : Database) (x : Input) → IsOf t0 t → IsOf t0 (after t x)
 after-IsOf t0 t (Payment x) h = payment_keeps_constants t0 t x h
