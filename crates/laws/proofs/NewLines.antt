@@ -1,5 +1,5 @@
 -- ORDER-LINE with the lines of an order that had none.
-use Rattle.std.proofs.Common.{◌≡◌, ℕ, suc, ◌+◌, ◌<◌, ◌≤◌, ℤ, pos, ◌+ℤ◌, Bool, true, false, cond, List, [], ◌∷◌, length, All, Some, None, refl, sym, ap, ◌∙◌, arith}
+use Rattle.std.proofs.Common.{◌≡◌, ℕ, suc, ◌+◌, ◌<◌, ◌≤◌, ℤ, pos, ◌+ℤ◌, Bool, true, false, cond, List, [], ◌∷◌, length, All, None, refl, ap, ◌∙◌, arith}
 use Rattle.std.proofs.lemmas.Int.{ints}
 use Rattle.std.proofs.lemmas.List.Elements.{All-head, All-tail}
 use Rattle.std.specs.Ordering.{eq_by_cmp}
@@ -24,9 +24,9 @@ module _ (t : Database) (k : OrderKey) where
   each-with_lines P Q n [] m each all new = each
   each-with_lines P Q n (l ∷ ls) m each all new =
       each-with_lines P Q (n + 1) ls (insert m (line_key k n) (line_row t l))
-          (each_inserted exact_line P m (line_key k n) (line_row t l) each (new n l (omega arith) (omega arith) (All-head Q l ls all)))
-          (All-tail Q l ls all)
-          (λ i a low high q. new i a (omega arith) (omega arith) q)
+      (each_inserted exact_line P m (line_key k n) (line_row t l) each (new n l (omega arith) (omega arith) (All-head Q l ls all)))
+      (All-tail Q l ls all)
+      (λ i a low high q. new i a (omega arith) (omega arith) q)
 
   other_number : (i n : ℕ) → n + 1 ≤ i → eq_by_cmp line_cmp (line_key k i) (line_key k n) ≡ false
   other_number i n above =
@@ -43,7 +43,7 @@ module _ (t : Database) (k : OrderKey) where
   total-with_lines f false n [] m adds free = omega (arith, ints)
   total-with_lines f counts n (l ∷ ls) m adds free =
       total-with_lines f counts (n + 1) ls (insert m (line_key k n) (line_row t l)) adds
-          (λ i above. get-insert_other exact_line m (line_key k n) (line_row t l) (line_key k i) (other_number i n above) ∙ free i (omega arith))
+      (λ i above. get-insert_other exact_line m (line_key k n) (line_row t l) (line_key k i) (other_number i n above) ∙ free i (omega arith))
       ∙ ap (λ a. a +ℤ cond counts (pos (length ls)) (pos 0)) (total-insert exact_line f m (line_key k n) (line_row t l) (free n (omega arith)) ∙ ap (λ a. a +ℤ total f m) (adds n l))
       ∙ regrouped counts (total f m) (length ls)
     where

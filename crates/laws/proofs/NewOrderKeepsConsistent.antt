@@ -1,17 +1,17 @@
 -- A New-Order keeps the consistency conditions.
-use Rattle.std.proofs.Common.{◌≡◌, ℕ, suc, ◌+◌, ◌<◌, ◌≤◌, max, min, ℤ, pos, ◌+ℤ◌, ◌-ℤ◌, Bool, true, false, cond, ◌==◌, ◌&&◌, Option, Some, None, IsSome, is_some, is_none, List, [], ◌∷◌, length, true≢false, refl, sym, ap, ◌∙◌, subst, arith}
+use Rattle.std.proofs.Common.{◌≡◌, ℕ, ◌+◌, max, min, ℤ, pos, ◌+ℤ◌, ◌-ℤ◌, Bool, true, false, cond, ◌==◌, ◌&&◌, Option, Some, None, IsSome, is_some, is_none, List, [], ◌∷◌, length, true≢false, refl, sym, ap, ◌∙◌, subst, arith}
 use Rattle.std.proofs.lemmas.Int.{ints}
 use Rattle.std.proofs.lemmas.Option.{same_Some}
 use Rattle.std.specs.Ordering.{eq_by_cmp}
 use Rattle.std.specs.Cmp.{eq_by_cmp_equiv}
-use Rattle.std.specs.FinMap.{FinMap, get, insert}
+use Rattle.std.specs.FinMap.{get}
 use Rattle.std.specs.Option.{ForSome, option_map, option_map_or}
 use Rattle.tables.specs.Keys.{order_cmp, is_district, is_order, order_of, IsWarehouseKey, IsDistrictKey, IsCustomerKey}
-use Rattle.tables.specs.Maps.{total, count, EachRow}
+use Rattle.tables.specs.Maps.{count}
 use Rattle.tables.specs.OrderNumbers.{least, greatest, numbers_in, next_order}
 use Rattle.tables.specs.Database.{Database}
-use Rattle.tables.specs.NewOrder.{IsNewOrder, home, new_key, numbered_district, order_row, line_key, line_row, with_lines, after_new_order}
-use Rattle.tables.specs.Conditions.{IsConsistent, Condition1At, Condition2At, Condition3At, Condition4At, Condition5At, Condition6At, Condition7At, Condition8At, Condition9At, Condition10At, Condition12At, line_counts, is_line_of, delivered_amount, paid_by_customer}
+use Rattle.tables.specs.NewOrder.{IsNewOrder, home, new_key, numbered_district, order_row, after_new_order}
+use Rattle.tables.specs.Conditions.{IsConsistent, Condition1At, Condition2At, Condition3At, Condition4At, Condition5At, Condition6At, Condition7At, Condition9At, Condition10At, Condition12At, line_counts, is_line_of, delivered_amount, paid_by_customer}
 use Rattle.tables.specs.WellFormed.{IsWellFormed}
 use Rattle.tables.specs.declared.keys.DistrictKey.{DistrictKey}
 use Rattle.tables.specs.declared.keys.CustomerKey.{CustomerKey}
@@ -19,18 +19,17 @@ use Rattle.tables.specs.declared.keys.OrderKey.{OrderKey}
 use Rattle.tables.specs.declared.keys.LineKey.{LineKey}
 use Rattle.tables.specs.declared.rows.District.{District}
 use Rattle.tables.specs.declared.rows.Order.{Order}
-use Rattle.tables.specs.declared.rows.OrderLine.{OrderLine}
 use Rattle.tables.specs.declared.rows.NewOrder.{NewOrder}
-use Rattle.tables.specs.declared.new_order.RequestedLine.{RequestedLine}
 use Rattle.tables.specs.declared.new_order.NewOrderInput.{NewOrderInput}
 use Rattle.tables.proofs.Orders.{exact_district, exact_order, exact_line}
 use Rattle.tables.proofs.KeyTests.{is_district-key}
 use Rattle.laws.proofs.Updates.{equal, get-map_rows, kept-update_where}
-use Rattle.laws.proofs.Rows.{there, absent, each_inserted, get-inserted, get-insert_other}
+use Rattle.laws.proofs.Rows.{each_inserted, get-inserted, get-insert_other}
 use Rattle.laws.proofs.Inserts.{total-insert}
 use Rattle.laws.proofs.Sums.{total-alike, total-zero, total-kept}
-use Rattle.laws.proofs.OrderNumbers.{with_greater, with_lesser, with_one, greatest-insert, least-insert, length-insert, none_above}
+use Rattle.laws.proofs.OrderNumbers.{with_greater, with_lesser, with_one, greatest-insert, least-insert, length-insert}
 use Rattle.laws.proofs.OrderKeys.{is_order-key}
+use Rattle.laws.proofs.NewKey.{no_order, no_new_order, other_order, of_other, no_line, order_stays}
 use Rattle.laws.proofs.NewLines.{each-with_lines, total-with_lines}
 
 abbrev no_column : NewOrder
@@ -61,42 +60,14 @@ without_gaps (a ∷ ns) n next was =
     omega arith
 
 module _ (t : Database) (x : NewOrderInput) (ok : IsNewOrder t.scale x) (wf : IsWellFormed t) (con : IsConsistent t) where
+  last : Condition2At t (home x)
+  last = con.condition_2 (home x) (ok.warehouse, ok.district)
+
   abbrev is_home : DistrictKey → Bool
   is_home k = is_district x.warehouse x.district k
 
   at_home : (k : DistrictKey) → is_home k ≡ true → home x ≡ k
   at_home k e = exact_district.same (home x) k (equal _ (sym (is_district-key x.warehouse x.district k) ∙ e))
-
-  -- the new key: no order has it, so no NEW-ORDER row and no line
-  no_order : get t.orders (new_key t x) ≡ None
-  no_order =
-      let next : greatest (numbers_in (home x) t.orders) + 1 ≡ next_order t (home x) = (con.condition_2 (home x) (ok.warehouse, ok.district)).0 in
-      none_above (λ (e : OrderKey × Order). is_district e.0.warehouse e.0.district (home x)) t.orders (new_key t x) (omega arith) (λ r. is_district-key x.warehouse x.district (home x) ∙ (eq_by_cmp_equiv exact_district.total).refl (home x))
-
-  missing : (k : OrderKey) → get t.orders k ≡ None → IsSome (get t.orders k) → ⊥
-  missing k none some = true≢false (sym some ∙ ap is_some none)
-
-  no_new_order : get t.new_orders (new_key t x) ≡ None
-  no_new_order = absent t.new_orders (new_key t x) (λ r found. missing (new_key t x) no_order (wf.new_order_orders (new_key t x) (ap is_some found)))
-
-  -- an order that is there has another key
-  other_order : (k : OrderKey) (order : Order) → get t.orders k ≡ Some order → eq_by_cmp order_cmp k (new_key t x) ≡ false
-  other_order k order found =
-      elim (eq_by_cmp order_cmp k (new_key t x)) as (λ b. eq_by_cmp order_cmp k (new_key t x) ≡ b → b ≡ false) [
-        | true ↦ λ tie. absurd (missing k (ap (get t.orders) (exact_order.same k (new_key t x) (equal _ tie)) ∙ no_order) (ap is_some found))
-        | false ↦ λ tie. refl
-      ] refl
-
-  -- so a line that is there is of another order
-  of_other : (j : LineKey) (line : OrderLine) → get t.lines j ≡ Some line → eq_by_cmp order_cmp (order_of j) (new_key t x) ≡ false
-  of_other j line found = let order = wf.line_orders j line found in other_order (order_of j) order.0 order.1
-
-  no_line : (i : ℕ) → get t.lines (line_key (new_key t x) i) ≡ None
-  no_line i = absent t.lines (line_key (new_key t x) i) (λ line found. true≢false (sym ((eq_by_cmp_equiv exact_order.total).refl (new_key t x)) ∙ of_other (line_key (new_key t x) i) line found))
-
-  -- the order of a line that was there
-  order_stays : (j : LineKey) (line : OrderLine) → get t.lines j ≡ Some line → get (after_new_order t x).orders (order_of j) ≡ get t.orders (order_of j)
-  order_stays j line found = get-insert_other exact_order t.orders (new_key t x) (order_row x) (order_of j) (of_other j line found)
 
   next_after : (k : DistrictKey) → IsDistrictKey t.scale k → next_order (after_new_order t x) k ≡ cond (is_home k) (next_order t k + 1) (next_order t k)
   next_after k is =
@@ -106,7 +77,7 @@ module _ (t : Database) (x : NewOrderInput) (ok : IsNewOrder t.scale x) (wf : Is
   condition_1 : (w : ℕ) → IsWarehouseKey t.scale w → Condition1At (after_new_order t x) w
   condition_1 w is = con.condition_1 w is
       ∙ sym (total-kept exact_district (λ k r. cond (k.warehouse == w) r.year_to_date (pos 0)) (λ j r. cond (is_home j) (numbered_district r) r) t.districts
-          (λ k r. elim (is_home k) as (λ b. cond (k.warehouse == w) (cond b (numbered_district r) r).year_to_date (pos 0) ≡ cond (k.warehouse == w) r.year_to_date (pos 0)) [ true ↦ refl | false ↦ refl ]))
+      (λ k r. elim (is_home k) as (λ b. cond (k.warehouse == w) (cond b (numbered_district r) r).year_to_date (pos 0) ≡ cond (k.warehouse == w) r.year_to_date (pos 0)) [ true ↦ refl | false ↦ refl ]))
 
   -- the numbers of a district's orders, or of its NEW-ORDER rows, with the new one
   abbrev in_district : {X : Type 0} → DistrictKey → OrderKey × X → Bool
@@ -120,34 +91,34 @@ module _ (t : Database) (x : NewOrderInput) (ok : IsNewOrder t.scale x) (wf : Is
       let was = con.condition_2 k is in
       let n : ℕ = next_order t (home x) in
       let orders : List ℕ = numbers_in k t.orders in
-      let waiting : List ℕ = numbers_in k t.new_orders in
-      ( ap (λ g. g + 1) (greatest-insert (in_district k) t.orders (new_key t x) (order_row x) no_order)
-        ∙ elim (is_home k) as (λ b. is_home k ≡ b → cond b (max n (greatest orders)) (greatest orders) + 1 ≡ cond b (next_order t k + 1) (next_order t k)) [
-          | true ↦ λ e. let same : n ≡ next_order t k = same_next k e in let last : greatest orders + 1 ≡ next_order t k = was.0 in omega arith
-          | false ↦ λ e. was.0
-        ] refl
-        ∙ sym (next_after k is)
-      , λ first some.
-          ap (λ g. g + 1) (greatest-insert (in_district k) t.new_orders (new_key t x) no_column no_new_order)
-          ∙ elim (is_home k) as (λ b. is_home k ≡ b → cond b (max n (greatest waiting)) (greatest waiting) + 1 ≡ cond b (next_order t k + 1) (next_order t k)) [
-            | true ↦ λ e. ap (λ a. a + 1) (ap (λ a. max a (greatest waiting)) (same_next k e) ∙ greatest_next waiting (next_order t k) was.1)
-            | false ↦ λ e. was.1 first (sym (ap (λ b. with_lesser b n (least waiting)) e) ∙ sym (least-insert (in_district k) t.new_orders (new_key t x) no_column no_new_order) ∙ some)
-          ] refl
-          ∙ sym (next_after k is)
+      let waiting : List ℕ = numbers_in k t.new_orders in (
+        ap (λ g. g + 1) (greatest-insert (in_district k) t.orders (new_key t x) (order_row x) (no_order t x wf last))
+            ∙ elim (is_home k) as (λ b. is_home k ≡ b → cond b (max n (greatest orders)) (greatest orders) + 1 ≡ cond b (next_order t k + 1) (next_order t k)) [
+              | true ↦ λ e. let same : n ≡ next_order t k = same_next k e in let below : greatest orders + 1 ≡ next_order t k = was.0 in omega arith
+              | false ↦ λ e. was.0
+            ] refl
+            ∙ sym (next_after k is),
+        λ first some.
+            ap (λ g. g + 1) (greatest-insert (in_district k) t.new_orders (new_key t x) no_column (no_new_order t x wf last))
+            ∙ elim (is_home k) as (λ b. is_home k ≡ b → cond b (max n (greatest waiting)) (greatest waiting) + 1 ≡ cond b (next_order t k + 1) (next_order t k)) [
+              | true ↦ λ e. ap (λ a. a + 1) (ap (λ a. max a (greatest waiting)) (same_next k e) ∙ greatest_next waiting (next_order t k) was.1)
+              | false ↦ λ e. was.1 first (sym (ap (λ b. with_lesser b n (least waiting)) e) ∙ sym (least-insert (in_district k) t.new_orders (new_key t x) no_column (no_new_order t x wf last)) ∙ some)
+            ] refl
+            ∙ sym (next_after k is),
       )
 
   condition_3 : (k : DistrictKey) → IsDistrictKey t.scale k → Condition3At (after_new_order t x) k
   condition_3 k is first some =
       let n : ℕ = next_order t (home x) in
       let waiting : List ℕ = numbers_in k t.new_orders in
-      let g = greatest-insert (in_district k) t.new_orders (new_key t x) no_column no_new_order in
-      let l : with_lesser (is_home k) n (least waiting) ≡ Some first = sym (least-insert (in_district k) t.new_orders (new_key t x) no_column no_new_order) ∙ some in
-      let c = length-insert (in_district k) t.new_orders (new_key t x) no_column no_new_order in
+      let g = greatest-insert (in_district k) t.new_orders (new_key t x) no_column (no_new_order t x wf last) in
+      let l : with_lesser (is_home k) n (least waiting) ≡ Some first = sym (least-insert (in_district k) t.new_orders (new_key t x) no_column (no_new_order t x wf last)) ∙ some in
+      let c = length-insert (in_district k) t.new_orders (new_key t x) no_column (no_new_order t x wf last) in
       ap (λ a. a + 1) g
       ∙ elim (is_home k) as (λ b. is_home k ≡ b → with_lesser b n (least waiting) ≡ Some first → with_greater b n (greatest waiting) + 1 ≡ first + with_one b (length waiting)) [
         | true ↦ λ e least_is.
             subst (λ a. max a (greatest waiting) + 1 ≡ option_map_or (min a) (least waiting) a + (length waiting + 1)) (sym (same_next k e))
-                (without_gaps waiting (next_order t k) ((con.condition_2 k is).1) (con.condition_3 k is))
+            (without_gaps waiting (next_order t k) ((con.condition_2 k is).1) (con.condition_3 k is))
             ∙ ap (λ a. a + (length waiting + 1)) (same_Some _ _ least_is)
         | false ↦ λ e least_is. con.condition_3 k is first least_is
       ] refl l
@@ -155,16 +126,16 @@ module _ (t : Database) (x : NewOrderInput) (ok : IsNewOrder t.scale x) (wf : Is
 
   condition_4 : (k : DistrictKey) → IsDistrictKey t.scale k → Condition4At (after_new_order t x) k
   condition_4 k is =
-      total-insert exact_order (λ j order. cond (is_district j.warehouse j.district k) (pos order.line_count) (pos 0)) t.orders (new_key t x) (order_row x) no_order
+      total-insert exact_order (λ j order. cond (is_district j.warehouse j.district k) (pos order.line_count) (pos 0)) t.orders (new_key t x) (order_row x) (no_order t x wf last)
       ∙ turned (cond (is_home k) (pos (length x.lines)) (pos 0)) (line_counts t k) ∙ ap (λ a. a +ℤ cond (is_home k) (pos (length x.lines)) (pos 0)) (con.condition_4 k is)
-      ∙ sym (total-with_lines t (new_key t x) (λ j line. cond (is_district j.warehouse j.district k) (pos 1) (pos 0)) (is_home k) 1 x.lines t.lines (λ _ _. refl) (λ i _. no_line i))
+      ∙ sym (total-with_lines t (new_key t x) (λ j line. cond (is_district j.warehouse j.district k) (pos 1) (pos 0)) (is_home k) 1 x.lines t.lines (λ _ _. refl) (λ i _. no_line t x wf last i))
     where
       turned : (a b : ℤ) → a +ℤ b ≡ b +ℤ a
       turned a b = omega (arith, ints)
 
   condition_5 : (k : OrderKey) → Condition5At (after_new_order t x) k
   condition_5 = each_inserted exact_order (λ k order. is_none order.carrier ≡ is_some (get (after_new_order t x).new_orders k)) t.orders (new_key t x) (order_row x)
-      (λ k order found. con.condition_5 k order found ∙ ap is_some (sym (get-insert_other exact_order t.new_orders (new_key t x) no_column k (other_order k order found))))
+      (λ k order found. con.condition_5 k order found ∙ ap is_some (sym (get-insert_other exact_order t.new_orders (new_key t x) no_column k (other_order t x wf last k order found))))
       (ap is_some (sym (get-inserted exact_order t.new_orders (new_key t x) no_column)))
 
   -- how many lines an order has
@@ -172,23 +143,23 @@ module _ (t : Database) (x : NewOrderInput) (ok : IsNewOrder t.scale x) (wf : Is
       ≡ count (λ j line. is_order j.warehouse j.district j.order k) t.lines +ℤ cond (eq_by_cmp order_cmp (new_key t x) k) (pos (length x.lines)) (pos 0)
   lines_after k =
       total-with_lines t (new_key t x) (λ j line. cond (is_order j.warehouse j.district j.order k) (pos 1) (pos 0)) (eq_by_cmp order_cmp (new_key t x) k) 1 x.lines t.lines
-          (λ _ _. ap (λ b. cond b (pos 1) (pos 0)) (is_order-key x.warehouse x.district (next_order t (home x)) k)) (λ i _. no_line i)
+      (λ _ _. ap (λ b. cond b (pos 1) (pos 0)) (is_order-key x.warehouse x.district (next_order t (home x)) k)) (λ i _. no_line t x wf last i)
 
   condition_6 : (k : OrderKey) → Condition6At (after_new_order t x) k
   condition_6 = each_inserted exact_order (λ k order. pos order.line_count ≡ count (λ j line. is_order j.warehouse j.district j.order k) (after_new_order t x).lines) t.orders (new_key t x) (order_row x)
       (λ k order found. con.condition_6 k order found ∙ sym (nothing _) ∙ ap (λ b. old k +ℤ cond b (pos (length x.lines)) (pos 0)) (sym (other k order found)) ∙ sym (lines_after k))
       (sym (lines_after (new_key t x)
-        ∙ (λ i. none i +ℤ cond ((eq_by_cmp_equiv exact_order.total).refl (new_key t x) i) (pos (length x.lines)) (pos 0)) ∙ all (length x.lines)))
+      ∙ (λ i. none i +ℤ cond ((eq_by_cmp_equiv exact_order.total).refl (new_key t x) i) (pos (length x.lines)) (pos 0)) ∙ all (length x.lines)))
     where
       old : OrderKey → ℤ
       old k = count (λ j line. is_order j.warehouse j.district j.order k) t.lines
 
       other : (k : OrderKey) (order : Order) → get t.orders k ≡ Some order → eq_by_cmp order_cmp (new_key t x) k ≡ false
-      other k order found = (eq_by_cmp_equiv exact_order.total).symm (new_key t x) k ∙ other_order k order found
+      other k order found = (eq_by_cmp_equiv exact_order.total).symm (new_key t x) k ∙ other_order t x wf last k order found
 
       none : count (λ j line. is_order j.warehouse j.district j.order (new_key t x)) t.lines ≡ pos 0
       none = total-zero exact_line (λ j line. cond (is_order j.warehouse j.district j.order (new_key t x)) (pos 1) (pos 0)) t.lines
-          (λ j line found. ap (λ b. cond b (pos 1) (pos 0)) (is_order-key j.warehouse j.district j.order (new_key t x) ∙ of_other j line found))
+          (λ j line found. ap (λ b. cond b (pos 1) (pos 0)) (is_order-key j.warehouse j.district j.order (new_key t x) ∙ of_other t x wf last j line found))
 
       nothing : (a : ℤ) → a +ℤ pos 0 ≡ a
       nothing a = omega (arith, ints)
@@ -198,7 +169,7 @@ module _ (t : Database) (x : NewOrderInput) (ok : IsNewOrder t.scale x) (wf : Is
 
   condition_7 : (k : LineKey) → Condition7At (after_new_order t x) k
   condition_7 = each-with_lines t (new_key t x) (λ j line. is_none line.delivery_date ≡ carrier_null (get (after_new_order t x).orders (order_of j))) (λ _. Unit {0}) 1 x.lines t.lines
-      (λ j line found. con.condition_7 j line found ∙ ap carrier_null (sym (order_stays j line found)))
+      (λ j line found. con.condition_7 j line found ∙ ap carrier_null (sym (order_stays t x wf last j line found)))
       (λ _ _ _. tt)
       (λ i l _ _ _. ap carrier_null (sym (get-inserted exact_order t.orders (new_key t x) (order_row x))))
 
@@ -208,10 +179,10 @@ module _ (t : Database) (x : NewOrderInput) (ok : IsNewOrder t.scale x) (wf : Is
   -- the new lines aren't delivered, and the customers of the old lines' orders stay
   delivered_stays : (k : CustomerKey) → delivered_amount (after_new_order t x) k ≡ delivered_amount t k
   delivered_stays k =
-      total-with_lines t (new_key t x) (λ j line. cond (is_line_of (after_new_order t x).orders k j line) line.amount (pos 0)) false 1 x.lines t.lines (λ _ _. refl) (λ i _. no_line i)
+      total-with_lines t (new_key t x) (λ j line. cond (is_line_of (after_new_order t x).orders k j line) line.amount (pos 0)) false 1 x.lines t.lines (λ _ _. refl) (λ i _. no_line t x wf last i)
       ∙ nothing _
       ∙ total-alike exact_line (λ j line. cond (is_line_of (after_new_order t x).orders k j line) line.amount (pos 0)) (λ j line. cond (is_line_of t.orders k j line) line.amount (pos 0)) t.lines
-          (λ j line found. ap (λ (w : Option Order). cond (is_some line.delivery_date && (j.warehouse == k.warehouse) && (j.district == k.district) && option_map_or (λ order. order.customer == k.customer) w false) line.amount (pos 0)) (order_stays j line found))
+      (λ j line found. ap (λ (w : Option Order). cond (is_some line.delivery_date && (j.warehouse == k.warehouse) && (j.district == k.district) && option_map_or (λ order. order.customer == k.customer) w false) line.amount (pos 0)) (order_stays t x wf last j line found))
     where
       nothing : (a : ℤ) → a +ℤ pos 0 ≡ a
       nothing a = omega (arith, ints)

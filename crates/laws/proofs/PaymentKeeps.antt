@@ -1,20 +1,18 @@
 -- A Payment keeps tables well-formed and consistent.
-use Rattle.std.proofs.Common.{◌≡◌, ℕ, ◌+◌, ℤ, pos, ◌+ℤ◌, ◌-ℤ◌, Bool, true, false, cond, ◌==◌, true≢false, Option, Some, None, IsSome, refl, sym, ap, ◌∙◌, subst, arith}
+use Rattle.std.proofs.Common.{◌≡◌, ℕ, ◌+◌, ℤ, pos, ◌+ℤ◌, ◌-ℤ◌, Bool, true, false, cond, ◌==◌, Option, refl, sym, ap, ◌∙◌, subst, arith}
 use Rattle.std.proofs.lemmas.Int.{ints}
 use Rattle.std.proofs.lemmas.List.Sums.{fold_push}
 use Rattle.std.proofs.lemmas.List.Elements.{All-push}
-use Rattle.std.specs.FinMap.{FinMap, get}
-use Rattle.std.specs.declared.cmp.Ordering.{Ordering}
 use Rattle.std.specs.Option.{option_map, option_map_or}
 use Rattle.tables.specs.Keys.{is_district, is_customer, IsWarehouseKey, IsDistrictKey, IsCustomerKey}
-use Rattle.tables.specs.Maps.{total, map_rows, RowsAt, EachRow}
+use Rattle.tables.specs.Maps.{total, EachRow}
 use Rattle.tables.specs.OrderNumbers.{next_order}
 use Rattle.tables.specs.Database.{Database}
 use Rattle.tables.specs.Payment.{IsPayment, raised_warehouse, raised_district, charged_customer, after_payment, history_row}
 use Rattle.tables.specs.Customer.{customer_number}
 use Rattle.tables.specs.Constant.{IsOf}
 use Rattle.tables.specs.Conditions.{IsConsistent, Condition1At, Condition2At, Condition8At, Condition9At, Condition10At, Condition12At, paid_at_warehouse, paid_at_district, paid_by_customer, delivered_amount}
-use Rattle.tables.specs.WellFormed.{IsWellFormed, HasRoom, IsMoney, IsCount, IsMoneyFor, IsCountFor, IsDistrictRow, IsCustomerRow, IsHistoryRow, orderer}
+use Rattle.tables.specs.WellFormed.{IsWellFormed, HasRoom, IsMoneyFor, IsCountFor, IsDistrictRow, IsCustomerRow, IsHistoryRow, orderer}
 use Rattle.tables.specs.declared.keys.DistrictKey.{DistrictKey}
 use Rattle.tables.specs.declared.keys.CustomerKey.{CustomerKey}
 use Rattle.tables.specs.declared.rows.Warehouse.{Warehouse}
@@ -22,9 +20,10 @@ use Rattle.tables.specs.declared.rows.District.{District}
 use Rattle.tables.specs.declared.rows.Customer.{Customer}
 use Rattle.tables.specs.declared.rows.History.{History}
 use Rattle.tables.specs.declared.payment.PaymentInput.{PaymentInput}
-use Rattle.tables.proofs.Orders.{IsExact, exact_number, exact_district, exact_customer}
+use Rattle.tables.proofs.Orders.{exact_number, exact_district, exact_customer}
 use Rattle.tables.proofs.KeyTests.{is_district-key}
 use Rattle.laws.proofs.Updates.{column-update_where, total-update_where, kept-update_where, is_some-map_rows}
+use Rattle.laws.proofs.Room.{money_stays, count_stays, is_money, is_count}
 use Rattle.laws.proofs.Rows.{there, updated_rows, each_updated}
 
 module _ (t : Database) (x : PaymentInput) (ok : IsPayment t.scale x) (wf : IsWellFormed t) (con : IsConsistent t) where
@@ -128,22 +127,16 @@ module _ (t : Database) (x : PaymentInput) (n : ℕ) (ok : IsPayment t.scale x) 
   falls : (z : ℤ) → IsMoneyFor (n + 1) z → IsMoneyFor n (z -ℤ x.amount)
   falls z h = (omega (arith, ints, ok.at_least, ok.at_most, h.0, h.1), omega (arith, ints, ok.at_least, ok.at_most, h.0, h.1))
 
-  stays : (z : ℤ) → IsMoneyFor (n + 1) z → IsMoneyFor n z
-  stays z h = (omega (arith, ints, h.0, h.1), omega (arith, ints, h.0, h.1))
-
   counts : (c : ℕ) → IsCountFor (n + 1) c → IsCountFor n (c + 1)
   counts c h = omega (arith, h)
 
-  count_stays : (c : ℕ) → IsCountFor (n + 1) c → IsCountFor n c
-  count_stays c h = omega (arith, h)
-
   warehouse_room : EachRow (λ k r. IsMoneyFor n r.year_to_date) (after_payment t x).warehouses
   warehouse_room = each_updated exact_number (λ k r. IsMoneyFor (n + 1) r.year_to_date) (λ k r. IsMoneyFor n r.year_to_date) (λ w r. cond (x.warehouse == w) (raised_warehouse x.amount r) r) t.warehouses room.warehouses
-      (λ w r h. elim (x.warehouse == w) as (λ b. IsMoneyFor n (cond b (raised_warehouse x.amount r) r).year_to_date) [ true ↦ rises r.year_to_date h | false ↦ stays r.year_to_date h ])
+      (λ w r h. elim (x.warehouse == w) as (λ b. IsMoneyFor n (cond b (raised_warehouse x.amount r) r).year_to_date) [ true ↦ rises r.year_to_date h | false ↦ money_stays n r.year_to_date h ])
 
   district_room : EachRow (λ k r. IsMoneyFor n r.year_to_date) (after_payment t x).districts
   district_room = each_updated exact_district (λ k r. IsMoneyFor (n + 1) r.year_to_date) (λ k r. IsMoneyFor n r.year_to_date) (λ k r. cond (is_district x.warehouse x.district k) (raised_district x.amount r) r) t.districts room.districts
-      (λ k r h. elim (is_district x.warehouse x.district k) as (λ b. IsMoneyFor n (cond b (raised_district x.amount r) r).year_to_date) [ true ↦ rises r.year_to_date h | false ↦ stays r.year_to_date h ])
+      (λ k r h. elim (is_district x.warehouse x.district k) as (λ b. IsMoneyFor n (cond b (raised_district x.amount r) r).year_to_date) [ true ↦ rises r.year_to_date h | false ↦ money_stays n r.year_to_date h ])
 
   abbrev pays : CustomerKey → Customer → Customer
   pays k r = cond (is_customer x.customer_warehouse x.customer_district (customer_number x.who) k) (charged_customer x.amount r) r
@@ -157,23 +150,20 @@ module _ (t : Database) (x : PaymentInput) (n : ℕ) (ok : IsPayment t.scale x) 
   payment_keeps_room = record {
     warehouses = warehouse_room;
     districts = district_room;
-    balances = each_customer (λ r. IsMoneyFor (n + 1) r.balance) (λ r. IsMoneyFor n r.balance) room.balances (λ r h. stays r.balance h) (λ r h. falls r.balance h);
-    paid = each_customer (λ r. IsMoneyFor (n + 1) r.paid) (λ r. IsMoneyFor n r.paid) room.paid (λ r h. stays r.paid h) (λ r h. rises r.paid h);
-    payments = each_customer (λ r. IsCountFor (n + 1) r.payments) (λ r. IsCountFor n r.payments) room.payments (λ r h. count_stays r.payments h) (λ r h. counts r.payments h);
-    deliveries = each_customer (λ r. IsCountFor (n + 1) r.deliveries) (λ r. IsCountFor n r.deliveries) room.deliveries (λ r h. count_stays r.deliveries h) (λ r h. count_stays r.deliveries h);
+    balances = each_customer (λ r. IsMoneyFor (n + 1) r.balance) (λ r. IsMoneyFor n r.balance) room.balances (λ r h. money_stays n r.balance h) (λ r h. falls r.balance h);
+    paid = each_customer (λ r. IsMoneyFor (n + 1) r.paid) (λ r. IsMoneyFor n r.paid) room.paid (λ r h. money_stays n r.paid h) (λ r h. rises r.paid h);
+    payments = each_customer (λ r. IsCountFor (n + 1) r.payments) (λ r. IsCountFor n r.payments) room.payments (λ r h. count_stays n r.payments h) (λ r h. counts r.payments h);
+    deliveries = each_customer (λ r. IsCountFor (n + 1) r.deliveries) (λ r. IsCountFor n r.deliveries) room.deliveries (λ r h. count_stays n r.deliveries h) (λ r h. count_stays n r.deliveries h);
+    supplied = λ k r f. count_stays n r.year_to_date (room.supplied k r f);
+    orders = λ k r f. count_stays n r.orders (room.orders k r f);
+    remote_orders = λ k r f. count_stays n r.remote_orders (room.remote_orders k r f);
   }
-
-  money : (z : ℤ) → IsMoneyFor n z → IsMoney z
-  money z h = (omega (arith, ints, h.0, h.1), omega (arith, ints, h.0, h.1))
-
-  count : (c : ℕ) → IsCountFor n c → IsCount c
-  count c h = omega (arith, h)
 
   district_rows : EachRow (λ k r. IsDistrictRow t.scale r) (after_payment t x).districts
   district_rows = each_updated exact_district (λ k r. IsDistrictRow t.scale r × IsMoneyFor (n + 1) r.year_to_date) (λ k r. IsDistrictRow t.scale r) (λ k r. cond (is_district x.warehouse x.district k) (raised_district x.amount r) r) t.districts
       (λ k r f. (wf.district_rows k r f, room.districts k r f))
       (λ k r h. elim (is_district x.warehouse x.district k) as (λ b. IsDistrictRow t.scale (cond b (raised_district x.amount r) r)) [
-        | true ↦ record { year_to_date = money _ (rises r.year_to_date h.1); next_order = h.0.next_order }
+        | true ↦ record { year_to_date = is_money n _ (rises r.year_to_date h.1); next_order = h.0.next_order }
         | false ↦ h.0
       ])
 
@@ -183,9 +173,9 @@ module _ (t : Database) (x : PaymentInput) (n : ℕ) (ok : IsPayment t.scale x) 
       (λ k r f. (wf.customer_rows k r f, room.balances k r f, room.paid k r f, room.payments k r f))
       (λ r h. h.0)
       (λ r h. record {
-        balance = money _ (falls r.balance h.1);
-        paid = money _ (rises r.paid h.2);
-        payments = count _ (counts r.payments h.3);
+        balance = is_money n _ (falls r.balance h.1);
+        paid = is_money n _ (rises r.paid h.2);
+        payments = is_count n _ (counts r.payments h.3);
         deliveries = h.0.deliveries;
       })
 
@@ -211,12 +201,13 @@ module _ (t : Database) (x : PaymentInput) (n : ℕ) (ok : IsPayment t.scale x) 
     orders = wf.orders;
     lines = wf.lines;
     items = wf.items;
-    warehouse_rows = λ w r f. money r.year_to_date (warehouse_room w r f);
+    warehouse_rows = λ w r f. is_money n r.year_to_date (warehouse_room w r f);
     district_rows = district_rows;
     customer_rows = customer_rows;
     history_rows = All-push (IsHistoryRow t.scale) t.history (history_row x) wf.history_rows added;
     order_rows = wf.order_rows;
     line_rows = wf.line_rows;
+    item_rows = wf.item_rows;
     stock_rows = wf.stock_rows;
     order_customers = λ k r f. subst (λ b. b ≡ true) (sym (is_some-map_rows exact_customer pays t.customers (orderer k r))) (wf.order_customers k r f);
     new_order_orders = wf.new_order_orders;

@@ -1,15 +1,13 @@
 -- Rows of tables: which are there, and what holds of each after an insert or an update.
-use Rattle.std.proofs.Common.{◌≡◌, Bool, true, false, cond, ◌&&◌, T, true≢false, List, [], ◌∷◌, Option, Some, None, IsSome, refl, sym, ap, ◌∙◌, subst}
+use Rattle.std.proofs.Common.{◌≡◌, true, false, cond, true≢false, Option, Some, None, IsSome, refl, sym, ap, ◌∙◌, subst}
 use Rattle.std.proofs.lemmas.Option.{same_Some}
-use Rattle.std.specs.Ordering.{eq_by_cmp, is_eq, is_lt}
-use Rattle.std.specs.Cmp.{tied_itself, eq_by_cmp_equiv}
-use Rattle.std.specs.FinMap.{FinMap, entries, entries_sorted, get, get-entries, get-insert, insert, find, is_sorted}
-use Rattle.std.specs.FinMap.Entries.{below_all}
+use Rattle.std.specs.Ordering.{eq_by_cmp, is_eq}
+use Rattle.std.specs.Cmp.{tied_itself}
+use Rattle.std.specs.FinMap.{FinMap, get, get-insert, insert}
 use Rattle.std.specs.declared.cmp.Ordering.{Ordering}
-use Rattle.std.specs.declared.cmp.Ordering.TheVariants.{Less, Equal, Greater}
-use Rattle.tables.specs.Maps.{map_rows, RowsAt, EachRow}
+use Rattle.tables.specs.Maps.{map_rows, RowsAt, RowsWithin, EachRow}
 use Rattle.tables.proofs.Orders.{IsExact}
-use Rattle.laws.proofs.Updates.{first, second, equal, found_above, is_some-map_rows, row_before}
+use Rattle.laws.proofs.Updates.{equal, is_some-map_rows, row_before}
 
 -- the row at a key of the scale
 pub there : {K X : Type 0} {R : K → K → Ordering} (IsKey : K → Type 0) (m : FinMap R X) → RowsAt IsKey m → (k : K) → IsKey k → (r : X) × (get m k ≡ Some r)
@@ -19,6 +17,14 @@ there {X = X} IsKey m at k is = found (get m k) refl ((at k).1 is)
     found None e some = absurd (true≢false (sym some))
     found (Some r) e some = (r, e)
 
+-- rows whose keys are all of this kind
+pub within_each : {K X : Type 0} {R : K → K → Ordering} (IsKey : K → Type 0) (m : FinMap R X) → EachRow (λ k r. IsKey k) m → RowsWithin IsKey m
+within_each {X = X} IsKey m each k = at (get m k) refl
+  where
+    at : (w : Option X) → get m k ≡ w → IsSome w → IsKey k
+    at None e some = absurd (true≢false (sym some))
+    at (Some r) e some = each k r e
+
 -- a row that can't be there isn't
 pub absent : {K X : Type 0} {R : K → K → Ordering} (m : FinMap R X) (k : K) → ((r : X) → get m k ≡ Some r → ⊥) → get m k ≡ None
 absent {X = X} m k never = none (get m k) refl
@@ -26,11 +32,6 @@ absent {X = X} m k never = none (get m k) refl
     none : (w : Option X) → get m k ≡ w → get m k ≡ None
     none None e = e
     none (Some r) e = absurd (never r e)
-
-not_after : (r : Ordering) → T (is_lt r) → is_eq r ≡ false
-not_after Less h = refl
-not_after Equal h = absurd h
-not_after Greater h = absurd h
 
 module _ {K X : Type 0} {R : K → K → Ordering} (o : IsExact R) where
   -- an update keeps at which keys rows stand
@@ -59,3 +60,16 @@ module _ {K X : Type 0} {R : K → K → Ordering} (o : IsExact R) where
 
   pub get-insert_other : (m : FinMap R X) (k : K) (v : X) (q : K) → eq_by_cmp R q k ≡ false → get (insert m k v) q ≡ get m q
   get-insert_other m k v q other = get-insert o.total m k v q ∙ ap (λ b. cond b (Some v) (get m q)) other
+
+  -- an insert adds its key to those at which rows stand
+  pub within_inserted : (IsKey : K → Type 0) (m : FinMap R X) (k : K) (v : X) → RowsWithin IsKey m → IsKey k → RowsWithin IsKey (insert m k v)
+  within_inserted IsKey m k v within new q some =
+      elim (eq_by_cmp R q k) as (λ b. eq_by_cmp R q k ≡ b → IsSome (cond b (Some v) (get m q)) → IsKey q) [
+        | true ↦ λ t _. subst IsKey (sym (o.same q k (equal _ t))) new
+        | false ↦ λ t is. within q is
+      ] refl (subst IsSome (get-insert o.total m k v q) some)
+
+  -- and takes none away
+  pub still_there : (m : FinMap R X) (k : K) (v : X) (q : K) → IsSome (get m q) → IsSome (get (insert m k v) q)
+  still_there m k v q some =
+      subst IsSome (sym (get-insert o.total m k v q)) (elim (eq_by_cmp R q k) as (λ b. IsSome (cond b (Some v) (get m q))) [ true ↦ refl | false ↦ some ])
