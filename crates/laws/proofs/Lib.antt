@@ -1,6 +1,6 @@
 pub mod Updates
 pub mod Rows
-pub mod Inserts
+mod Inserts
 mod Sums
 mod Room
 pub mod OrderKeys
