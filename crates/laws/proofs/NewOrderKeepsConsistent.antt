@@ -19,7 +19,6 @@ use Rattle.tables.specs.declared.keys.OrderKey.{OrderKey}
 use Rattle.tables.specs.declared.keys.LineKey.{LineKey}
 use Rattle.tables.specs.declared.rows.District.{District}
 use Rattle.tables.specs.declared.rows.Order.{Order}
-use Rattle.tables.specs.declared.rows.NewOrder.{NewOrder}
 use Rattle.tables.specs.declared.new_order.NewOrderInput.{NewOrderInput}
 use Rattle.tables.proofs.Orders.{exact_district, exact_order, exact_line}
 use Rattle.tables.proofs.KeyTests.{is_district-key}
@@ -31,9 +30,6 @@ use Rattle.laws.proofs.OrderNumbers.{with_greater, with_lesser, with_one, greate
 use Rattle.laws.proofs.OrderKeys.{is_order-key}
 use Rattle.laws.proofs.NewKey.{no_order, no_new_order, other_order, of_other, no_line, order_stays}
 use Rattle.laws.proofs.NewLines.{each-with_lines, total-with_lines}
-
-abbrev no_column : NewOrder
-no_column = record {}
 
 -- whether the carrier of an order is null, or there is no order
 abbrev carrier_null : Option Order → Bool
@@ -99,10 +95,10 @@ module _ (t : Database) (x : NewOrderInput) (ok : IsNewOrder t.scale x) (wf : Is
             ] refl
             ∙ sym (next_after k is),
         λ first some.
-            ap (λ g. g + 1) (greatest-insert (in_district k) t.new_orders (new_key t x) no_column (no_new_order t x wf last))
+            ap (λ g. g + 1) (greatest-insert (in_district k) t.new_orders (new_key t x) (record {}) (no_new_order t x wf last))
             ∙ elim (is_home k) as (λ b. is_home k ≡ b → cond b (max n (greatest waiting)) (greatest waiting) + 1 ≡ cond b (next_order t k + 1) (next_order t k)) [
               | true ↦ λ e. ap (λ a. a + 1) (ap (λ a. max a (greatest waiting)) (same_next k e) ∙ greatest_next waiting (next_order t k) was.1)
-              | false ↦ λ e. was.1 first (sym (ap (λ b. with_lesser b n (least waiting)) e) ∙ sym (least-insert (in_district k) t.new_orders (new_key t x) no_column (no_new_order t x wf last)) ∙ some)
+              | false ↦ λ e. was.1 first (sym (ap (λ b. with_lesser b n (least waiting)) e) ∙ sym (least-insert (in_district k) t.new_orders (new_key t x) (record {}) (no_new_order t x wf last)) ∙ some)
             ] refl
             ∙ sym (next_after k is),
       )
@@ -111,9 +107,9 @@ module _ (t : Database) (x : NewOrderInput) (ok : IsNewOrder t.scale x) (wf : Is
   condition_3 k is first some =
       let n : ℕ = next_order t (home x) in
       let waiting : List ℕ = numbers_in k t.new_orders in
-      let g = greatest-insert (in_district k) t.new_orders (new_key t x) no_column (no_new_order t x wf last) in
-      let l : with_lesser (is_home k) n (least waiting) ≡ Some first = sym (least-insert (in_district k) t.new_orders (new_key t x) no_column (no_new_order t x wf last)) ∙ some in
-      let c = length-insert (in_district k) t.new_orders (new_key t x) no_column (no_new_order t x wf last) in
+      let g = greatest-insert (in_district k) t.new_orders (new_key t x) (record {}) (no_new_order t x wf last) in
+      let l : with_lesser (is_home k) n (least waiting) ≡ Some first = sym (least-insert (in_district k) t.new_orders (new_key t x) (record {}) (no_new_order t x wf last)) ∙ some in
+      let c = length-insert (in_district k) t.new_orders (new_key t x) (record {}) (no_new_order t x wf last) in
       ap (λ a. a + 1) g
       ∙ elim (is_home k) as (λ b. is_home k ≡ b → with_lesser b n (least waiting) ≡ Some first → with_greater b n (greatest waiting) + 1 ≡ first + with_one b (length waiting)) [
         | true ↦ λ e least_is.
@@ -135,8 +131,8 @@ module _ (t : Database) (x : NewOrderInput) (ok : IsNewOrder t.scale x) (wf : Is
 
   condition_5 : (k : OrderKey) → Condition5At (after_new_order t x) k
   condition_5 = each_inserted exact_order (λ k order. is_none order.carrier ≡ is_some (get (after_new_order t x).new_orders k)) t.orders (new_key t x) (order_row x)
-      (λ k order found. con.condition_5 k order found ∙ ap is_some (sym (get-insert_other exact_order t.new_orders (new_key t x) no_column k (other_order t x wf last k order found))))
-      (ap is_some (sym (get-inserted exact_order t.new_orders (new_key t x) no_column)))
+      (λ k order found. con.condition_5 k order found ∙ ap is_some (sym (get-insert_other exact_order t.new_orders (new_key t x) (record {}) k (other_order t x wf last k order found))))
+      (ap is_some (sym (get-inserted exact_order t.new_orders (new_key t x) (record {}))))
 
   -- how many lines an order has
   lines_after : (k : OrderKey) → count (λ j line. is_order j.warehouse j.district j.order k) (after_new_order t x).lines

@@ -20,7 +20,6 @@ use Rattle.tables.specs.declared.rows.District.{District}
 use Rattle.tables.specs.declared.rows.Order.{Order}
 use Rattle.tables.specs.declared.rows.OrderLine.{OrderLine}
 use Rattle.tables.specs.declared.rows.Item.{Item}
-use Rattle.tables.specs.declared.rows.NewOrder.{NewOrder}
 use Rattle.tables.specs.declared.new_order.RequestedLine.{RequestedLine}
 use Rattle.tables.specs.declared.new_order.NewOrderInput.{NewOrderInput}
 use Rattle.tables.proofs.Orders.{exact_district, exact_order}
@@ -31,9 +30,6 @@ use Rattle.laws.proofs.Rows.{there, updated_rows, each_updated, each_inserted, g
 use Rattle.laws.proofs.NewKey.{order_stays}
 use Rattle.laws.proofs.NewLines.{each-with_lines}
 use Rattle.laws.proofs.Draws.{IsDrawable, draws_rows, draws_range}
-
-abbrev no_column : NewOrder
-no_column = record {}
 
 -- a line whose item is in ITEM
 abbrev IsSuppliable : Database → RequestedLine → Type 0
@@ -139,7 +135,7 @@ module _ (t : Database) (x : NewOrderInput) (n : ℕ) (ok : IsNewOrder t.scale x
       districts = updated_rows exact_district (IsDistrictKey t.scale) (λ k r. cond (is_district x.warehouse x.district k) (numbered_district r) r) t.districts wf.districts;
       customers = wf.customers;
       stock = draws_rows t.scale x.warehouse x.lines t.stock wf.stock;
-      new_orders = within_inserted exact_order (IsOrderKey t.scale) t.new_orders (new_key t x) no_column wf.new_orders (ok.warehouse, ok.district, number_is);
+      new_orders = within_inserted exact_order (IsOrderKey t.scale) t.new_orders (new_key t x) (record {}) wf.new_orders (ok.warehouse, ok.district, number_is);
       orders = within_inserted exact_order (IsOrderKey t.scale) t.orders (new_key t x) (order_row x) wf.orders (ok.warehouse, ok.district, number_is);
       lines = within_each (IsLineKey t.scale) (after_new_order t x).lines
           (new_lines (λ k r. IsLineKey t.scale k) (λ k r f. wf.lines k (ap is_some f)) (λ i l low high s. (ok.warehouse, ok.district, number_is, (low, omega (arith, high, ok.line_count.1)))));
@@ -153,7 +149,7 @@ module _ (t : Database) (x : NewOrderInput) (n : ℕ) (ok : IsNewOrder t.scale x
       item_rows = wf.item_rows;
       stock_rows = stock_rows;
       order_customers = each_inserted exact_order (λ k r. IsSome (get t.customers (orderer k r))) t.orders (new_key t x) (order_row x) wf.order_customers ((wf.customers (buyer x)).1 (ok.warehouse, ok.district, ok.customer));
-      new_order_orders = within_inserted exact_order (λ k. IsSome (get (after_new_order t x).orders k)) t.new_orders (new_key t x) no_column
+      new_order_orders = within_inserted exact_order (λ k. IsSome (get (after_new_order t x).orders k)) t.new_orders (new_key t x) (record {})
           (λ k some. still_there exact_order t.orders (new_key t x) (order_row x) k (wf.new_order_orders k some)) (ap is_some (get-inserted exact_order t.orders (new_key t x) (order_row x)));
       line_orders = new_lines (λ k r. (order : Order) × (get (after_new_order t x).orders (order_of k) ≡ Some order) × (k.line ≤ order.line_count))
           (λ k r f. let was = wf.line_orders k r f in (was.0, order_stays t x wf (con.condition_2 (home x) (ok.warehouse, ok.district)) k r f ∙ was.1, was.2))
