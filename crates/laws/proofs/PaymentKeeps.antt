@@ -1,19 +1,18 @@
 -- A Payment keeps tables well-formed and consistent.
-use Rattle.std.proofs.Common.{◌≡◌, ℕ, ◌+◌, ℤ, pos, ◌+ℤ◌, ◌-ℤ◌, Bool, true, false, cond, ◌==◌, true≢false, Option, Some, None, IsSome, refl, sym, ap, ◌∙◌, subst, arith}
+use Rattle.std.proofs.Common.{◌≡◌, ℕ, ◌+◌, ℤ, pos, ◌+ℤ◌, ◌-ℤ◌, Bool, true, false, cond, ◌==◌, Option, refl, sym, ap, ◌∙◌, subst, arith}
 use Rattle.std.proofs.lemmas.Int.{ints}
 use Rattle.std.proofs.lemmas.List.Sums.{fold_push}
 use Rattle.std.proofs.lemmas.List.Elements.{All-push}
-use Rattle.std.specs.FinMap.{FinMap, get}
-use Rattle.std.specs.declared.cmp.Ordering.{Ordering}
 use Rattle.std.specs.Option.{option_map, option_map_or}
 use Rattle.tables.specs.Keys.{is_district, is_customer, IsWarehouseKey, IsDistrictKey, IsCustomerKey}
-use Rattle.tables.specs.Maps.{total, map_rows, RowsAt, EachRow}
+use Rattle.tables.specs.Maps.{total, EachRow}
+use Rattle.tables.specs.OrderNumbers.{next_order}
 use Rattle.tables.specs.Database.{Database}
 use Rattle.tables.specs.Payment.{IsPayment, raised_warehouse, raised_district, charged_customer, after_payment, history_row}
 use Rattle.tables.specs.Customer.{customer_number}
 use Rattle.tables.specs.Constant.{IsOf}
-use Rattle.tables.specs.Conditions.{IsConsistent, Condition1At, Condition8At, Condition9At, Condition10At, Condition12At, paid_at_warehouse, paid_at_district, paid_by_customer, delivered_amount}
-use Rattle.tables.specs.WellFormed.{IsWellFormed, HasRoom, IsMoney, IsCount, IsMoneyFor, IsCountFor, IsDistrictRow, IsCustomerRow, IsHistoryRow, orderer}
+use Rattle.tables.specs.Conditions.{IsConsistent, Condition1At, Condition2At, Condition8At, Condition9At, Condition10At, Condition12At, paid_at_warehouse, paid_at_district, paid_by_customer, delivered_amount}
+use Rattle.tables.specs.WellFormed.{IsWellFormed, HasRoom, IsMoneyFor, IsCountFor, IsDistrictRow, IsCustomerRow, IsHistoryRow, orderer}
 use Rattle.tables.specs.declared.keys.DistrictKey.{DistrictKey}
 use Rattle.tables.specs.declared.keys.CustomerKey.{CustomerKey}
 use Rattle.tables.specs.declared.rows.Warehouse.{Warehouse}
@@ -21,17 +20,11 @@ use Rattle.tables.specs.declared.rows.District.{District}
 use Rattle.tables.specs.declared.rows.Customer.{Customer}
 use Rattle.tables.specs.declared.rows.History.{History}
 use Rattle.tables.specs.declared.payment.PaymentInput.{PaymentInput}
-use Rattle.tables.proofs.Orders.{IsExact, exact_number, exact_district, exact_customer}
+use Rattle.tables.proofs.Orders.{exact_number, exact_district, exact_customer}
 use Rattle.tables.proofs.KeyTests.{is_district-key}
-use Rattle.laws.proofs.Updates.{column-update_where, total-update_where, kept-update_where, is_some-map_rows, row_before}
-
--- the row at a key of the scale
-there : {K X : Type 0} {R : K → K → Ordering} (IsKey : K → Type 0) (m : FinMap R X) → RowsAt IsKey m → (k : K) → IsKey k → (r : X) × (get m k ≡ Some r)
-there {X = X} IsKey m at k is = found (get m k) refl ((at k).1 is)
-  where
-    found : (w : Option X) → get m k ≡ w → IsSome w → (r : X) × (get m k ≡ Some r)
-    found None e some = absurd (true≢false (sym some))
-    found (Some r) e some = (r, e)
+use Rattle.laws.proofs.Updates.{column-update_where, total-update_where, kept-update_where, is_some-map_rows}
+use Rattle.laws.proofs.Room.{money_stays, count_stays, is_money, is_count}
+use Rattle.laws.proofs.Rows.{there, updated_rows, each_updated}
 
 module _ (t : Database) (x : PaymentInput) (ok : IsPayment t.scale x) (wf : IsWellFormed t) (con : IsConsistent t) where
   abbrev in_district : ℕ → DistrictKey → District → ℤ
@@ -51,6 +44,15 @@ module _ (t : Database) (x : PaymentInput) (ok : IsPayment t.scale x) (wf : IsWe
         | false ↦ omega (arith, ints)
       ])
       ∙ sym (total-update_where exact_district (in_district w) (is_district x.warehouse x.district) (raised_district x.amount) key d t.districts (is_district-key x.warehouse x.district) district.1)
+
+  -- the order that comes next
+  next_stays : (k : DistrictKey) → next_order t k ≡ next_order (after_payment t x) k
+  next_stays k = sym (kept-update_where exact_district (is_district x.warehouse x.district) (raised_district x.amount) (λ o. option_map_or (λ r. r.next_order) o 0) t.districts k (λ _ r. refl))
+
+  condition_2 : (k : DistrictKey) → IsDistrictKey t.scale k → Condition2At (after_payment t x) k
+  condition_2 k is =
+      let was = con.condition_2 k is in
+      (was.0 ∙ next_stays k, (λ first some. was.1 first some ∙ next_stays k))
 
   condition_8 : (w : ℕ) → IsWarehouseKey t.scale w → Condition8At (after_payment t x) w
   condition_8 w is =
@@ -105,6 +107,12 @@ module _ (t : Database) (x : PaymentInput) (ok : IsPayment t.scale x) (wf : IsWe
   pub payment_keeps_consistent : IsConsistent (after_payment t x)
   payment_keeps_consistent = record {
     condition_1 = condition_1;
+    condition_2 = condition_2;
+    condition_3 = con.condition_3;
+    condition_4 = con.condition_4;
+    condition_5 = con.condition_5;
+    condition_6 = con.condition_6;
+    condition_7 = con.condition_7;
     condition_8 = condition_8;
     condition_9 = condition_9;
     condition_10 = condition_10;
@@ -112,17 +120,6 @@ module _ (t : Database) (x : PaymentInput) (ok : IsPayment t.scale x) (wf : IsWe
   }
 
 -- ---- well-formed
-updated_rows : {K X : Type 0} {R : K → K → Ordering} (o : IsExact R) (IsKey : K → Type 0) (g : K → X → X) (m : FinMap R X) → RowsAt IsKey m → RowsAt IsKey (map_rows g m)
-updated_rows o IsKey g m at k =
-    let same = is_some-map_rows o g m k in
-    ((λ some. (at k).0 (subst (λ b. b ≡ true) same some)), (λ is. subst (λ b. b ≡ true) (sym same) ((at k).1 is)))
-
--- what holds of each row before the update and is kept by it holds of each row after it
-each_updated : {K X : Type 0} {R : K → K → Ordering} (o : IsExact R) (P Q : K → X → Type 0) (g : K → X → X) (m : FinMap R X) → EachRow P m → ((k : K) (r : X) → P k r → Q k (g k r)) → EachRow Q (map_rows g m)
-each_updated o P Q g m each kept k s found =
-    let before = row_before o g m k s found in
-    subst (Q k) (sym before.2) (kept k before.0 (each k before.0 before.1))
-
 module _ (t : Database) (x : PaymentInput) (n : ℕ) (ok : IsPayment t.scale x) (wf : IsWellFormed t) (room : HasRoom (n + 1) t) where
   rises : (z : ℤ) → IsMoneyFor (n + 1) z → IsMoneyFor n (z +ℤ x.amount)
   rises z h = (omega (arith, ints, ok.at_least, ok.at_most, h.0, h.1), omega (arith, ints, ok.at_least, ok.at_most, h.0, h.1))
@@ -130,22 +127,16 @@ module _ (t : Database) (x : PaymentInput) (n : ℕ) (ok : IsPayment t.scale x) 
   falls : (z : ℤ) → IsMoneyFor (n + 1) z → IsMoneyFor n (z -ℤ x.amount)
   falls z h = (omega (arith, ints, ok.at_least, ok.at_most, h.0, h.1), omega (arith, ints, ok.at_least, ok.at_most, h.0, h.1))
 
-  stays : (z : ℤ) → IsMoneyFor (n + 1) z → IsMoneyFor n z
-  stays z h = (omega (arith, ints, h.0, h.1), omega (arith, ints, h.0, h.1))
-
   counts : (c : ℕ) → IsCountFor (n + 1) c → IsCountFor n (c + 1)
   counts c h = omega (arith, h)
 
-  count_stays : (c : ℕ) → IsCountFor (n + 1) c → IsCountFor n c
-  count_stays c h = omega (arith, h)
-
   warehouse_room : EachRow (λ k r. IsMoneyFor n r.year_to_date) (after_payment t x).warehouses
   warehouse_room = each_updated exact_number (λ k r. IsMoneyFor (n + 1) r.year_to_date) (λ k r. IsMoneyFor n r.year_to_date) (λ w r. cond (x.warehouse == w) (raised_warehouse x.amount r) r) t.warehouses room.warehouses
-      (λ w r h. elim (x.warehouse == w) as (λ b. IsMoneyFor n (cond b (raised_warehouse x.amount r) r).year_to_date) [ true ↦ rises r.year_to_date h | false ↦ stays r.year_to_date h ])
+      (λ w r h. elim (x.warehouse == w) as (λ b. IsMoneyFor n (cond b (raised_warehouse x.amount r) r).year_to_date) [ true ↦ rises r.year_to_date h | false ↦ money_stays n r.year_to_date h ])
 
   district_room : EachRow (λ k r. IsMoneyFor n r.year_to_date) (after_payment t x).districts
   district_room = each_updated exact_district (λ k r. IsMoneyFor (n + 1) r.year_to_date) (λ k r. IsMoneyFor n r.year_to_date) (λ k r. cond (is_district x.warehouse x.district k) (raised_district x.amount r) r) t.districts room.districts
-      (λ k r h. elim (is_district x.warehouse x.district k) as (λ b. IsMoneyFor n (cond b (raised_district x.amount r) r).year_to_date) [ true ↦ rises r.year_to_date h | false ↦ stays r.year_to_date h ])
+      (λ k r h. elim (is_district x.warehouse x.district k) as (λ b. IsMoneyFor n (cond b (raised_district x.amount r) r).year_to_date) [ true ↦ rises r.year_to_date h | false ↦ money_stays n r.year_to_date h ])
 
   abbrev pays : CustomerKey → Customer → Customer
   pays k r = cond (is_customer x.customer_warehouse x.customer_district (customer_number x.who) k) (charged_customer x.amount r) r
@@ -159,23 +150,20 @@ module _ (t : Database) (x : PaymentInput) (n : ℕ) (ok : IsPayment t.scale x) 
   payment_keeps_room = record {
     warehouses = warehouse_room;
     districts = district_room;
-    balances = each_customer (λ r. IsMoneyFor (n + 1) r.balance) (λ r. IsMoneyFor n r.balance) room.balances (λ r h. stays r.balance h) (λ r h. falls r.balance h);
-    paid = each_customer (λ r. IsMoneyFor (n + 1) r.paid) (λ r. IsMoneyFor n r.paid) room.paid (λ r h. stays r.paid h) (λ r h. rises r.paid h);
-    payments = each_customer (λ r. IsCountFor (n + 1) r.payments) (λ r. IsCountFor n r.payments) room.payments (λ r h. count_stays r.payments h) (λ r h. counts r.payments h);
-    deliveries = each_customer (λ r. IsCountFor (n + 1) r.deliveries) (λ r. IsCountFor n r.deliveries) room.deliveries (λ r h. count_stays r.deliveries h) (λ r h. count_stays r.deliveries h);
+    balances = each_customer (λ r. IsMoneyFor (n + 1) r.balance) (λ r. IsMoneyFor n r.balance) room.balances (λ r h. money_stays n r.balance h) (λ r h. falls r.balance h);
+    paid = each_customer (λ r. IsMoneyFor (n + 1) r.paid) (λ r. IsMoneyFor n r.paid) room.paid (λ r h. money_stays n r.paid h) (λ r h. rises r.paid h);
+    payments = each_customer (λ r. IsCountFor (n + 1) r.payments) (λ r. IsCountFor n r.payments) room.payments (λ r h. count_stays n r.payments h) (λ r h. counts r.payments h);
+    deliveries = each_customer (λ r. IsCountFor (n + 1) r.deliveries) (λ r. IsCountFor n r.deliveries) room.deliveries (λ r h. count_stays n r.deliveries h) (λ r h. count_stays n r.deliveries h);
+    supplied = λ k r f. count_stays n r.year_to_date (room.supplied k r f);
+    orders = λ k r f. count_stays n r.orders (room.orders k r f);
+    remote_orders = λ k r f. count_stays n r.remote_orders (room.remote_orders k r f);
   }
-
-  money : (z : ℤ) → IsMoneyFor n z → IsMoney z
-  money z h = (omega (arith, ints, h.0, h.1), omega (arith, ints, h.0, h.1))
-
-  count : (c : ℕ) → IsCountFor n c → IsCount c
-  count c h = omega (arith, h)
 
   district_rows : EachRow (λ k r. IsDistrictRow t.scale r) (after_payment t x).districts
   district_rows = each_updated exact_district (λ k r. IsDistrictRow t.scale r × IsMoneyFor (n + 1) r.year_to_date) (λ k r. IsDistrictRow t.scale r) (λ k r. cond (is_district x.warehouse x.district k) (raised_district x.amount r) r) t.districts
       (λ k r f. (wf.district_rows k r f, room.districts k r f))
       (λ k r h. elim (is_district x.warehouse x.district k) as (λ b. IsDistrictRow t.scale (cond b (raised_district x.amount r) r)) [
-        | true ↦ record { year_to_date = money _ (rises r.year_to_date h.1); next_order = h.0.next_order }
+        | true ↦ record { year_to_date = is_money n _ (rises r.year_to_date h.1); next_order = h.0.next_order }
         | false ↦ h.0
       ])
 
@@ -185,9 +173,9 @@ module _ (t : Database) (x : PaymentInput) (n : ℕ) (ok : IsPayment t.scale x) 
       (λ k r f. (wf.customer_rows k r f, room.balances k r f, room.paid k r f, room.payments k r f))
       (λ r h. h.0)
       (λ r h. record {
-        balance = money _ (falls r.balance h.1);
-        paid = money _ (rises r.paid h.2);
-        payments = count _ (counts r.payments h.3);
+        balance = is_money n _ (falls r.balance h.1);
+        paid = is_money n _ (rises r.paid h.2);
+        payments = is_count n _ (counts r.payments h.3);
         deliveries = h.0.deliveries;
       })
 
@@ -213,12 +201,13 @@ module _ (t : Database) (x : PaymentInput) (n : ℕ) (ok : IsPayment t.scale x) 
     orders = wf.orders;
     lines = wf.lines;
     items = wf.items;
-    warehouse_rows = λ w r f. money r.year_to_date (warehouse_room w r f);
+    warehouse_rows = λ w r f. is_money n r.year_to_date (warehouse_room w r f);
     district_rows = district_rows;
     customer_rows = customer_rows;
     history_rows = All-push (IsHistoryRow t.scale) t.history (history_row x) wf.history_rows added;
     order_rows = wf.order_rows;
     line_rows = wf.line_rows;
+    item_rows = wf.item_rows;
     stock_rows = wf.stock_rows;
     order_customers = λ k r f. subst (λ b. b ≡ true) (sym (is_some-map_rows exact_customer pays t.customers (orderer k r))) (wf.order_customers k r f);
     new_order_orders = wf.new_order_orders;

@@ -12,11 +12,11 @@ use Rattle.std.specs.declared.cmp.Ordering.TheVariants.{Less, Equal, Greater}
 use Rattle.tables.specs.Maps.{sum_entries, map_entries, total, map_rows, update_where, column}
 use Rattle.tables.proofs.Orders.{IsExact}
 
-first : (a b : Bool) → T (a && b) → T a
+pub first : (a b : Bool) → T (a && b) → T a
 first true b p = tt
 first false b p = p
 
-second : (a b : Bool) → T (a && b) → T b
+pub second : (a b : Bool) → T (a && b) → T b
 second true b p = p
 second false b p = absurd p
 
@@ -54,7 +54,7 @@ module _ {K X : Type 0} {R : K → K → Ordering} (o : IsExact R) where
   get-map_rows g m q = get-entries (map_rows g m) q ∙ ap (find R q) (entries-map_rows g m) ∙ find-map_entries g q (entries m) ∙ sym (ap (option_map (g q)) (get-entries m q))
 
   -- a key below all keys of a list isn't among them
-  found_above : (x k : K) (r : X) (es : List (K × X)) → find R k es ≡ Some r → T (below_all R x es) → T (is_lt (R x k))
+  pub found_above : (x k : K) (r : X) (es : List (K × X)) → find R k es ≡ Some r → T (below_all R x es) → T (is_lt (R x k))
   found_above x k r [] f h = cc
   found_above x k r (e ∷ es) f h =
       elim (eq_by_cmp R k e.0) as (λ b. eq_by_cmp R k e.0 ≡ b → cond b (Some e.1) (find R k es) ≡ Some r → T (is_lt (R x k))) [
