@@ -1,26 +1,23 @@
 -- The plain population is consistent (TPC-C 3.3.2).
-use Rattle.std.proofs.Common.{◌≡◌, ℕ, ◌*◌, ℤ, pos, ◌+ℤ◌, ◌-ℤ◌, Bool, true, false, cond, ◌&&◌, ◌==◌, Option, Some, None, is_some, refl, sym, ap, ◌∙◌, subst, arith}
-use Rattle.std.specs.Option.{option_map_or}
-use Rattle.std.specs.FinMap.{FinMap}
-use Rattle.std.specs.declared.cmp.Ordering.{Ordering}
+use Rattle.std.proofs.Common.{◌≡◌, ℕ, ◌*◌, ℤ, pos, ◌+ℤ◌, ◌-ℤ◌, Bool, true, false, cond, ◌&&◌, ◌==◌, Some, None, is_some, refl, sym, ap, ◌∙◌, arith}
+use Rattle.std.specs.Cmp.{eq_by_cmp_equiv}
 use Rattle.std.proofs.lemmas.Bool.Decides.{nat_tests}
 use Rattle.tables.specs.Sizes.{Sizes}
 use Rattle.tables.specs.Keys.{IsWarehouseKey, IsDistrictKey, IsCustomerKey, is_district, is_customer}
-use Rattle.tables.specs.Maps.{sum_of, total, column}
+use Rattle.tables.specs.Maps.{sum_of, total}
 use Rattle.tables.specs.Database.{Database}
 use Rattle.tables.specs.Conditions.{delivered_amount, paid_by_customer, Condition1At, Condition8At, Condition9At, Condition10At, Condition12At, IsConsistent}
 use Rattle.tables.specs.declared.keys.DistrictKey.{DistrictKey}
 use Rattle.tables.specs.declared.keys.CustomerKey.{CustomerKey}
 use Rattle.tables.specs.declared.rows.History.{History}
 use Rattle.tables.proofs.Orders.{exact_district, exact_line}
-use Rattle.tables.proofs.KeyTests.{is_district-key}
-use Rattle.population.specs.Plain.{numbers, plain_history_row, district_payments, warehouse_payments, plain_history, is_delivered, IsTable, IsPlain}
-use Rattle.population.proofs.Sound.{each}
-use Rattle.population.proofs.Sums.{sum_each, sum_none, sum_one, sum_joined, sum_listed, total_same, total_at, total_sums, total_none}
-
--- ---- columns of the plain population
-column_of : {K X : Type 0} {R : K → K → Ordering} {IsKey : K → Type 0} {row : K → X} {m : FinMap R X} (f : X → ℤ) → IsTable IsKey row m → (k : K) → IsKey k → column f m k ≡ f (row k)
-column_of f table k h = ap (λ (o : Option _). option_map_or f o (pos 0)) (table.rows k h)
+use Rattle.population.specs.Plain.{numbers, plain_history_row, district_payments, warehouse_payments, plain_history, is_delivered, IsPlain}
+use Rattle.population.proofs.Sound.{IsFit, fit_here, plain_here}
+use Rattle.population.proofs.TableRows.{each, column_of}
+use Rattle.population.proofs.OrdersConsistent.{condition_2, condition_3, condition_4, condition_5, condition_6, condition_7}
+use Rattle.population.proofs.Added.{tied_two}
+use Rattle.population.proofs.Parts.{total_parts}
+use Rattle.population.proofs.Sums.{sum_each, sum_none, sum_one, sum_joined, sum_listed, total_at, total_none}
 
 -- a line that is delivered costs 0
 delivered_free : (b p q r : Bool) (n : ℕ) → cond (is_some {T = ℕ} (cond b (Some 1) None) && p && q && r) (cond b (pos 0) (pos n)) (pos 0) ≡ pos 0
@@ -57,7 +54,7 @@ module _ (s : Sizes) where
       ∙ sum_one _ s.customers k.customer is.2 (λ c _ apart. grind (arith, nat_tests))
       ∙ grind (arith, nat_tests)
 
-module _ (t : Database) (plain : IsPlain t.scale t) where
+module _ (t : Database) (fit : IsFit t.scale) (plain : IsPlain t.scale t) where
   nothing_delivered : (k : CustomerKey) → delivered_amount t k ≡ pos 0
   nothing_delivered k = total_none exact_line _ t.lines (each plain.lines _ (λ j _. delivered_free (is_delivered t.scale j.order) _ _ _ _))
 
@@ -66,42 +63,52 @@ module _ (t : Database) (plain : IsPlain t.scale t) where
 
   condition_8 : (w : ℕ) → IsWarehouseKey t.scale w → Condition8At t w
   condition_8 w is =
-      column_of (λ r. r.year_to_date) plain.warehouses w is
+      column_of plain.warehouses (λ r. r.year_to_date) w is
       ∙ sym (ap (sum_of _) plain.history ∙ warehouse_payments_sum t.scale w is)
 
   condition_9 : (k : DistrictKey) → IsDistrictKey t.scale k → Condition9At t k
   condition_9 k is =
-      column_of (λ r. r.year_to_date) plain.districts k is
+      column_of plain.districts (λ r. r.year_to_date) k is
       ∙ sym (ap (sum_of _) plain.history ∙ district_payments_sum t.scale k is)
 
   condition_10 : (k : CustomerKey) → IsCustomerKey t.scale k → Condition10At t k
   condition_10 k is =
-      column_of (λ r. r.balance) plain.customers k is
+      column_of plain.customers (λ r. r.balance) k is
       ∙ sym (λ i. nothing_delivered k i -ℤ customer_paid k is i)
 
   condition_12 : (k : CustomerKey) → IsCustomerKey t.scale k → Condition12At t k
   condition_12 k is =
-      (λ i. column_of (λ r. r.balance) plain.customers k is i +ℤ column_of (λ r. r.paid) plain.customers k is i)
+      (λ i. column_of plain.customers (λ r. r.balance) k is i +ℤ column_of plain.customers (λ r. r.paid) k is i)
       ∙ sym (nothing_delivered k)
 
-  district_sum : (w d : ℕ) → IsDistrictKey t.scale (record { warehouse = w; district = d }) → total (λ k r. cond (is_district w d k) r.year_to_date (pos 0)) t.districts ≡ pos (t.scale.customers * 1000)
+  district_sum : (w d : ℕ) → IsDistrictKey t.scale (record { warehouse = w; district = d }) → total (λ k r. cond ((k.warehouse == w) && (k.district == d)) r.year_to_date (pos 0)) t.districts ≡ pos (t.scale.customers * 1000)
   district_sum w d is =
-      total_at exact_district (λ r. r.year_to_date) (is_district w d) (record { warehouse = w; district = d }) t.districts (is_district-key w d)
-      ∙ column_of (λ r. r.year_to_date) plain.districts _ is
+      total_at exact_district (λ r. r.year_to_date) _ (record { warehouse = w; district = d }) t.districts
+      (λ k. sym (tied_two k.warehouse k.district w d) ∙ (eq_by_cmp_equiv exact_district.total).symm k (record { warehouse = w; district = d }))
+      ∙ column_of plain.districts (λ r. r.year_to_date) _ is
 
-  -- the sum over all rows is the sum over the warehouse's district numbers of the row at each
   districts_sum : (w : ℕ) → IsWarehouseKey t.scale w → total (λ k r. cond (k.warehouse == w) r.year_to_date (pos 0)) t.districts ≡ pos (t.scale.districts * (t.scale.customers * 1000))
   districts_sum w is =
-      total_same exact_district _ (λ k r. sum_of (λ d. cond (is_district w d k) r.year_to_date (pos 0)) (numbers t.scale.districts)) t.districts
-      (each plain.districts _ (λ k h. sym (sum_one _ t.scale.districts k.district h.1 (λ d _ apart. grind (arith, nat_tests)) ∙ grind (arith, nat_tests))))
-      ∙ total_sums (λ d k r. cond (is_district w d k) r.year_to_date (pos 0)) t.scale.districts t.districts
+      total_parts exact_district (λ r. r.year_to_date) (λ k. k.warehouse == w) (λ k. k.district) t.scale.districts t.districts (each plain.districts _ (λ k h. h.1))
       ∙ sum_each _ t.scale.districts (t.scale.customers * 1000) (λ d h. district_sum w d (is, h))
 
   condition_1 : (w : ℕ) → IsWarehouseKey t.scale w → Condition1At t w
-  condition_1 w is = column_of (λ r. r.year_to_date) plain.warehouses w is ∙ sym (districts_sum w is)
+  condition_1 w is = column_of plain.warehouses (λ r. r.year_to_date) w is ∙ sym (districts_sum w is)
 
   consistent : IsConsistent t
-  consistent = record { condition_1 = condition_1; condition_8 = condition_8; condition_9 = condition_9; condition_10 = condition_10; condition_12 = condition_12 }
+  consistent = record {
+    condition_1 = condition_1;
+    condition_2 = condition_2 t fit plain;
+    condition_3 = condition_3 t fit plain;
+    condition_4 = condition_4 t fit plain;
+    condition_5 = condition_5 t fit plain;
+    condition_6 = condition_6 t fit plain;
+    condition_7 = condition_7 t fit plain;
+    condition_8 = condition_8;
+    condition_9 = condition_9;
+    condition_10 = condition_10;
+    condition_12 = condition_12;
+  }
 
-pub plain-consistent : (s : Sizes) (t : Database) → IsPlain s t → IsConsistent t
-plain-consistent s t plain = consistent t (subst (λ (x : Sizes). IsPlain x t) (sym plain.scale) plain)
+pub plain-consistent : (s : Sizes) (t : Database) → IsFit s → IsPlain s t → IsConsistent t
+plain-consistent s t fit plain = consistent t (fit_here s t fit plain) (plain_here s t fit plain)

@@ -1,7 +1,11 @@
 mod Added
 mod Lists
+mod TableRows
 mod Sums
+mod Parts
+mod OrderNumbers
 mod Districts
 mod Whole
 mod Sound
+mod OrdersConsistent
 mod Consistent

@@ -1,44 +1,26 @@
 -- The plain population is well-formed and has room.
-use Rattle.std.proofs.Common.{◌≡◌, ℕ, zero, suc, ◌+◌, ◌*◌, ◌≤◌, pos, neg_ℤ, ◌≤ℤ◌, Bool, true, false, cond, Some, None, IsSome, List, map, refl, sym, ◌∙◌, subst, arith}
+use Rattle.std.proofs.Common.{◌≡◌, ℕ, zero, suc, ◌+◌, ◌*◌, ◌≤◌, pos, neg_ℤ, ◌≤ℤ◌, Bool, true, false, cond, Some, None, List, map, sym, subst, arith}
 use Rattle.std.specs.Prelude.{All}
 use Rattle.std.specs.List.{flat_map}
 use Rattle.std.specs.Option.{ForSome}
-use Rattle.std.specs.FinMap.{FinMap, get}
-use Rattle.std.specs.declared.cmp.Ordering.{Ordering}
 use Rattle.std.proofs.lemmas.Int.{ints}
 use Rattle.std.proofs.lemmas.List.Elements.{All-nil, All-append, All-push}
 use Rattle.std.proofs.lemmas.Nat.{mul-le}
 use Rattle.tables.specs.Sizes.{Sizes, IsNumber}
-use Rattle.tables.specs.Maps.{RowsAt, RowsWithin, EachRow}
 use Rattle.tables.specs.Database.{Database}
-use Rattle.tables.specs.WellFormed.{IsMoney, IsMoneyFor, IsHistoryRow, IsWellFormed, HasRoom}
+use Rattle.tables.specs.WellFormed.{IsMoney, IsMoneyFor, IsHistoryRow, IsItemRow, IsWellFormed, HasRoom}
 use Rattle.tables.specs.declared.limits.TheConstants.{MAX_COMMITS, MAX_MONEY_STEP}
-use Rattle.population.specs.Plain.{numbers, plain_history_row, plain_order, IsTable, IsPlain}
+use Rattle.population.specs.Plain.{numbers, plain_history_row, plain_order, plain_item, IsPlain}
 use Rattle.population.proofs.Lists.{map_more, flat_map_more}
+use Rattle.population.proofs.TableRows.{found, at, within, each}
 
 -- what the proofs need of a scale
 pub record IsFit (s : Sizes) : Type 0 where
   pub districts : s.districts ≤ 10
+  pub some_customers : 1 ≤ s.customers
   pub customers : s.customers ≤ 3000
   pub orders : s.customers ≤ s.orders
   pub items : 5 ≤ s.items
-
-module _ {K X : Type 0} {R : K → K → Ordering} {IsKey : K → Type 0} {row : K → X} {m : FinMap R X} (table : IsTable IsKey row m) where
-  found : (k : K) → IsKey k → IsSome (get m k)
-  found k is_key = subst IsSome (sym (table.rows k is_key)) refl
-
-  at : RowsAt IsKey m
-  at k = (table.only k, found k)
-
-  within : (IsWider : K → Type 0) → ((k : K) → IsKey k → IsWider k) → RowsWithin IsWider m
-  within IsWider wider k some = wider k (table.only k some)
-
-  pub each : (P : K → X → Type 0) → ((k : K) → IsKey k → P k (row k)) → EachRow P m
-  each P holds k r is_row =
-      let is_key : IsKey k = table.only k (subst IsSome (sym is_row) refl) in
-      let some_same : Some (row k) ≡ Some r = sym (table.rows k is_key) ∙ is_row in
-      let same : row k ≡ r = cc some_same in
-      subst (P k) same (holds k is_key)
 
 module _ {X : Type 0} (P : X → Type 0) where
   all_listed : (f : ℕ → X) (n : ℕ) → ((k : ℕ) → IsNumber n k → P (f k)) → All P (map f (numbers n))
@@ -90,6 +72,9 @@ amount_most : (b : Bool) (n : ℕ) → n ≤ 999999 → cond b (pos 0) (pos n) �
 amount_most true n fits = omega (arith, ints)
 amount_most false n fits = omega (arith, ints)
 
+item_row : (i : ℕ) → IsItemRow (plain_item i)
+item_row i = record { at_least = omega (arith, ints); at_most = omega (arith, ints) }
+
 module _ (t : Database) (fit : IsFit t.scale) (plain : IsPlain t.scale t) where
   total : t.scale.districts * (t.scale.customers * 1000) ≤ 30000000
   total = mul-le t.scale.districts (t.scale.customers * 1000) 10 3000000 fit.districts (omega (arith, fit.customers))
@@ -102,6 +87,9 @@ module _ (t : Database) (fit : IsFit t.scale) (plain : IsPlain t.scale t) where
     paid = each plain.customers _ (λ k h. money_for MAX_COMMITS 1000 (omega arith));
     payments = each plain.customers _ (λ k h. omega arith);
     deliveries = each plain.customers _ (λ k h. omega arith);
+    supplied = each plain.stock _ (λ k h. omega arith);
+    orders = each plain.stock _ (λ k h. omega arith);
+    remote_orders = each plain.stock _ (λ k h. omega arith);
   }
 
   well_formed : IsWellFormed t
@@ -140,6 +128,7 @@ module _ (t : Database) (fit : IsFit t.scale) (plain : IsPlain t.scale t) where
       at_least = amount_least _ _;
       at_most = amount_most _ _ (omega (arith, h.3));
     });
+    item_rows = each plain.items _ (λ i h. item_row i);
     stock_rows = each plain.stock _ (λ k h. record {
       quantity = (omega arith, omega arith);
       year_to_date = omega arith;
@@ -152,10 +141,10 @@ module _ (t : Database) (fit : IsFit t.scale) (plain : IsPlain t.scale t) where
   }
 
 module _ (s : Sizes) (t : Database) (fit : IsFit s) (plain : IsPlain s t) where
-  fit_here : IsFit t.scale
+  pub fit_here : IsFit t.scale
   fit_here = subst IsFit (sym plain.scale) fit
 
-  plain_here : IsPlain t.scale t
+  pub plain_here : IsPlain t.scale t
   plain_here = subst (λ (x : Sizes). IsPlain x t) (sym plain.scale) plain
 
   pub has_room : HasRoom MAX_COMMITS t

@@ -20,7 +20,7 @@ use Rattle.population.specs.Plain.{numbers}
 use Rattle.population.proofs.Lists.{flat_map_more}
 
 -- ---- over the numbers from 1 on
-sum_more : (f : ℕ → ℤ) (n : ℕ) → sum_of f (numbers (suc n)) ≡ sum_of f (numbers n) +ℤ f (suc n)
+pub sum_more : (f : ℕ → ℤ) (n : ℕ) → sum_of f (numbers (suc n)) ≡ sum_of f (numbers n) +ℤ f (suc n)
 sum_more f n = fold_push (λ (a : ℤ) (i : ℕ). a +ℤ f i) (pos 0) (numbers n) (suc n)
 
 one_more : (n x : ℕ) (a b : ℤ) → a ≡ pos (n * x) → b ≡ pos x → a +ℤ b ≡ pos (suc n * x)
@@ -78,11 +78,11 @@ module _ {X : Type 0} (f : X → ℤ) where
   sum_listed g n = fold-map (λ (b : ℤ) (x : X). b +ℤ f x) g (pos 0) (numbers n)
 
 -- ---- over the rows of a table
-first : (a b : Bool) → T (a && b) → T a
+pub first : (a b : Bool) → T (a && b) → T a
 first true b p = tt
 first false b p = p
 
-second : (a b : Bool) → T (a && b) → T b
+pub second : (a b : Bool) → T (a && b) → T b
 second true b p = p
 second false b p = absurd p
 
@@ -91,7 +91,7 @@ less Less p = refl
 less Equal p = absurd p
 less Greater p = absurd p
 
-tied : (r : Ordering) → is_eq r ≡ true → r ≡ Equal
+pub tied : (r : Ordering) → is_eq r ≡ true → r ≡ Equal
 tied Less p = cc
 tied Equal p = refl
 tied Greater p = cc
@@ -105,7 +105,7 @@ module _ {K X : Type 0} {R : K → K → Ordering} (o : IsExact R) where
   absent_after : (k : K) (e : K × X) (es : List (K × X)) → T (below_all R e.0 es) → eq_by_cmp R k e.0 ≡ true → find R k es ≡ None
   absent_after k e es h t = sym (find_tied R o.total k e.0 (tied _ t) es) ∙ absent_below e.0 es h
 
-  found_after : (k : K) (r : X) (e : K × X) (es : List (K × X)) → T (below_all R e.0 es) → find R k es ≡ Some r → find R k (e ∷ es) ≡ Some r
+  pub found_after : (k : K) (r : X) (e : K × X) (es : List (K × X)) → T (below_all R e.0 es) → find R k es ≡ Some r → find R k (e ∷ es) ≡ Some r
   found_after k r e es h found =
       elim (eq_by_cmp R k e.0) as (λ b. eq_by_cmp R k e.0 ≡ b → cond b (Some e.1) (find R k es) ≡ Some r) [
         | true ↦ λ t. let none : find R k es ≡ None = absent_after k e es h t in cc

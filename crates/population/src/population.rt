@@ -40,8 +40,9 @@ impl Population {
         ensures only_memory { IfErr result (λ refusal. refusal ≡ OutOfMemory) }
     {
         let tables = plain_tables(alloc, scale)?;
-        // The tables are well-formed and have room by these limits of a scale, and are consistent at any.
+        // The tables are well-formed and consistent and have room by these limits of a scale.
         prove!(scale.districts() <= 10);
+        prove!(scale.customers() >= 1);
         prove!(scale.customers() <= scale.orders());
         prove!(scale.items() >= 5);
         Ok(Population { tables, seed: 0 })
