@@ -5,8 +5,10 @@ use Rattle.std.specs.Option.{option_map_or, unwrap_or}
 use Rattle.atomic_table.specs.Seated.{TableId}
 use Rattle.tables.specs.Sizes.{Sizes}
 use Rattle.tables.specs.Database.{Database}
-use Rattle.tables.specs.Inputs.{IsInput}
-use Rattle.tables.specs.Apply.{after}
+use Rattle.tables.specs.Inputs.{IsInput, IsExecuted}
+use Rattle.tables.specs.Apply.{after, HasOrderNumber}
+use Rattle.tables.specs.declared.input.Input.{Input}
+use Rattle.tables.specs.declared.input.Input.TheVariants.{Payment, NewOrder}
 use Rattle.tables.specs.Records.{record_count}
 use Rattle.tables.specs.Rows.{rows}
 use Rattle.tables.specs.WellFormed.{HasRoom}
@@ -116,6 +118,11 @@ module _ (t0 : Database) (run_cells : List TableId) (k : BookView) (t : Database
         turned : (n : ℕ) → n + 1 ≡ 1 + n
         turned n = omega arith
 
+    -- no input that is executed makes an order
+    numbered : (x : Input) → IsExecuted x → HasOrderNumber t x
+    numbered (Payment x) executed = tt
+    numbered (NewOrder x) executed = absurd executed
+
     roomy : HasRoom (MAX_COMMITS - (length k.history + 1) + 1) t
     roomy = subst (λ n. HasRoom n t) (rest_of (length k.history) (omega (arith, below_cap, ready.few))) ready.room
 
@@ -158,7 +165,7 @@ module _ (t0 : Database) (run_cells : List TableId) (k : BookView) (t : Database
     sound_next : IsSound t0 run_cells kept (after t work.input)
     sound_next = record {
       legal = legal;
-      well_formed = after-IsWellFormed t work.input (MAX_COMMITS - (length k.history + 1)) input_of sound.well_formed roomy;
+      well_formed = after-IsWellFormed t work.input (MAX_COMMITS - (length k.history + 1)) input_of (numbered work.input is_work.executed) sound.well_formed sound.consistent roomy;
       consistent = after-IsConsistent t work.input input_of sound.well_formed sound.consistent;
       versions = λ n h. stores n ∙ ap (λ (l : List (List ℕ)). l ++ new_versions (length k.history + 1) work.writes.values n) (sound.versions n h)
           ∙ ap (λ l. first_version (rows t0 n) ∷ l) (sym (later_push k.history (entry_of (length k.history + 1) terminal work) n));

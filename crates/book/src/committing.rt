@@ -18,8 +18,8 @@ use std::sync::Wait;
 
 impl<K: Run> Book<K> {
     /// Commits a transaction that this reader has executed, as the next in the history (Silo, section 4.4). Costs a
-    /// comparison a record read; a store, a comparison and a copy a record written; the look-ups of the transaction
-    /// on the tables; and constant time, amortized, for the history. May wait, at a record's cell alone.
+    /// comparison a record read; a store, a comparison and a copy a record written; a copy of the reply; the look-ups
+    /// of the transaction on the tables; and constant time, amortized, for the history. May wait, at a record's cell alone.
     ///
     /// After Ok the reader has seen the versions stored, and the reply is the transaction's at the tables before it.
     ///
@@ -58,8 +58,8 @@ impl<K: Run> Book<K> {
             return Err(Refusal::Conflict);
         }
         // What is refused from here on is refused before the first store.
-        let written = match prepare(&mut self.tables, &mut self.history, &work) {
-            Ok(written) => written,
+        let (written, reply) = match prepare(&mut self.tables, &mut self.history, &work) {
+            Ok(prepared) => prepared,
             Err(refusal) => return Err(refusal),
         };
         let number = self.history.len() as u32 + 1;
@@ -82,6 +82,6 @@ impl<K: Run> Book<K> {
             writes: written,
         });
         self.shares.add(&mut share.part, 1);
-        Ok(Done::of(number, tid, work.reply))
+        Ok(Done::of(number, tid, reply))
     }
 }

@@ -20,7 +20,7 @@ pub struct Entry {
 }
 
 /// What a terminal is told of a commit. Only a commit makes one.
-#[derive(Clone, Copy, Debug, PartialEq, Eq)]
+#[derive(Debug, Drop, PartialEq)]
 pub struct Done {
     number: u32,
     tid: TidWord,
@@ -50,9 +50,9 @@ impl Done {
     }
 
     /// The reply to the transaction.
-    pub fn reply(&self) -> Reply
-        ensures { result ≡ self.now.reply }
+    pub fn reply(&self) -> &Reply
+        ensures { result.now ≡ self.now.reply }
     {
-        self.reply
+        &self.reply
     }
 }

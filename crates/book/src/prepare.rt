@@ -2,7 +2,7 @@
 ghost use Rattle.std.specs.Prelude.{◌≡◌, ◌<◌, ◌≤◌, ◌⊎◌, length, vec_len, vec_capacity, IfOk, IfErr, OnOk, OnErr};
 ghost use Rattle.money.specs.declared.refusal.Refusal.TheVariants.{OutOfMemory, CommitsFull};
 ghost use Rattle.tables.specs.Database.{database};
-ghost use Rattle.tables.specs.Inputs.{IsInput};
+ghost use Rattle.tables.specs.Inputs.{IsInput, IsExecuted};
 ghost use Rattle.tables.specs.Apply.{after};
 ghost use Rattle.tables.specs.WellFormed.{IsWellFormed};
 
@@ -10,9 +10,10 @@ use crate::entry::Entry;
 use money::Refusal;
 use readset::{Work, WriteList};
 use reference::apply;
-use tables::Tables;
+use tables::{Reply, Tables};
 
-/// Takes the memory for one entry more and for its writes, and does the transaction on the tables.
+/// Takes the memory for one entry more, for its writes and for a copy of its reply, and does the transaction on the
+/// tables.
 ///
 /// # Errors
 ///
@@ -21,10 +22,12 @@ pub(crate) fn prepare(
     tables: &mut Tables,
     history: &mut Vec<Entry>,
     work: &Work,
-) -> Result<WriteList, Refusal>
+) -> Result<(WriteList, Reply), Refusal>
     requires input { IsInput tables.old.scale work.now.input }
+    requires executed { IsExecuted work.now.input }
     requires well_formed { IsWellFormed (database tables.old) }
-    ensures writes { IfOk result (λ list. list ≡ work.now.writes) }
+    ensures writes { IfOk result (λ made. made.0 ≡ work.now.writes) }
+    ensures reply { IfOk result (λ made. made.1 ≡ work.now.reply) }
     ensures tables { OnOk result (database tables.new
         ≡ after (database tables.old) work.now.input) }
     ensures below { OnOk result (length history.old.items < tables.old.scale.commits) }
@@ -44,8 +47,11 @@ pub(crate) fn prepare(
     let Ok(written) = work.writes.list(*history.allocator()) else {
         return Err(Refusal::OutOfMemory);
     };
+    let Ok(reply) = work.reply.copied() else {
+        return Err(Refusal::OutOfMemory);
+    };
     match apply(tables, &work.input) {
-        Ok(_) => Ok(written),
+        Ok(_) => Ok((written, reply)),
         Err(_) => Err(Refusal::OutOfMemory),
     }
 }

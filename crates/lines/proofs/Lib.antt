@@ -3,6 +3,7 @@ mod Numbers
 mod Spaces
 mod Numerals
 mod Amounts
+mod Supplied
 mod RequestLemmas
 pub mod Cutting
 pub mod OneText

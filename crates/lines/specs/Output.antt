@@ -1,15 +1,17 @@
 -- The text of an answer.
-use Rattle.std.specs.Prelude.{ℕ, Option, Some, None, List, [], ◌∷◌, codes}
+use Rattle.std.specs.Prelude.{ℕ, Option, Some, None, List, [], ◌∷◌, map, codes}
 use Rattle.std.specs.Fmt.{decimal}
-use Rattle.std.specs.List.{join_with_byte}
+use Rattle.std.specs.List.{join_with_byte, flat_map}
 use Rattle.money.specs.Money.{money_text}
 use Rattle.money.specs.Refusal.{refusal_number}
 use Rattle.money.specs.declared.refusal.Refusal.{Refusal}
 use Rattle.money.specs.declared.refusal.Refusal.TheVariants.{ItemNotValid}
 use Rattle.tables.specs.declared.keys.CustomerKey.{CustomerKey}
 use Rattle.tables.specs.declared.rows.Customer.{Customer as CustomerRow}
+use Rattle.tables.specs.declared.new_order.SuppliedLine.{SuppliedLine}
+use Rattle.tables.specs.declared.new_order.NewOrderReply.{NewOrderReply}
 use Rattle.lines.specs.declared.answer.Answer.{Answer}
-use Rattle.lines.specs.declared.answer.Answer.TheVariants.{Payment, Warehouse, District, Customer, Refused}
+use Rattle.lines.specs.declared.answer.Answer.TheVariants.{Payment, NewOrder, Warehouse, District, Customer, Refused}
 
 -- the item that a refusal names
 abbrev pub refused_item : Refusal → Option ℕ
@@ -32,12 +34,28 @@ customer_words key row =
     ∷ codes "balance" ∷ money_text row.balance ∷ codes "paid" ∷ money_text row.paid
     ∷ codes "payments" ∷ decimal row.payments ∷ codes "deliveries" ∷ decimal row.deliveries ∷ []
 
+-- the word of a line of an order: its item, its supplying warehouse, the stock after it, and its amount
+abbrev pub supplied_word : SuppliedLine → List ℕ
+supplied_word l = join_with_byte 58 (decimal l.item ∷ decimal l.supply_warehouse ∷ decimal l.stock ∷ money_text l.amount ∷ [])
+
+-- those words, each behind a space
+abbrev pub supplied_text : List SuppliedLine → List ℕ
+supplied_text ls = flat_map (λ l. 32 ∷ supplied_word l) ls
+
+-- the words of a New-Order's reply
+abbrev pub new_order_words : NewOrderReply → List (List ℕ)
+new_order_words reply =
+    codes "neworder" ∷ decimal reply.warehouse ∷ decimal reply.district ∷ decimal reply.order
+    ∷ codes "customer" ∷ decimal reply.customer ∷ codes "lines" ∷ money_text reply.amount
+    ∷ codes "total" ∷ money_text reply.total ∷ map supplied_word reply.lines
+
 -- the words of an answer
 abbrev pub answer_words : Answer → List (List ℕ)
 answer_words (Payment reply) =
     codes "payment" ∷ decimal reply.warehouse ∷ decimal reply.district
     ∷ codes "customer" ∷ decimal reply.customer_warehouse ∷ decimal reply.customer_district ∷ decimal reply.customer
     ∷ codes "balance" ∷ money_text reply.balance ∷ []
+answer_words (NewOrder reply) = new_order_words reply
 answer_words (Warehouse warehouse row) = codes "warehouse" ∷ decimal warehouse ∷ codes "ytd" ∷ money_text row.year_to_date ∷ []
 answer_words (District key row) =
     codes "district" ∷ decimal key.warehouse ∷ decimal key.district

@@ -4,13 +4,19 @@ ghost use Rattle.lines.specs.Output.{refused_item};
 
 use money::Refusal;
 use std::fmt::{self, Display};
-use tables::{Customer, CustomerKey, District, DistrictKey, PaymentReply, Warehouse};
+use tables::{
+    Customer, CustomerKey, District, DistrictKey, NewOrderReply, PaymentReply, SuppliedLine,
+    Warehouse,
+};
 
 /// What a line of a script is answered with.
-#[derive(Clone, Copy, Debug, PartialEq, Eq)]
+#[derive(Debug, Drop)]
 pub enum Answer {
     /// A committed Payment's reply (TPC-C 2.5.3.3), as `payment 1 1 customer 1 1 3 balance -22.34`.
     Payment(PaymentReply),
+    /// A committed New-Order's reply (TPC-C 2.4.3.3), as `neworder 1 1 11 customer 3 lines 50.00 total 51.75
+    /// 1:1:40:10.00 2:1:40:40.00`: each line with its item, its supplying warehouse, the stock after it and its amount.
+    NewOrder(NewOrderReply),
     /// A row of WAREHOUSE, as `warehouse 1 ytd 212.34`.
     Warehouse { warehouse: u32, row: Warehouse },
     /// A row of DISTRICT, as `district 1 1 ytd 112.34 next 11`.
@@ -44,7 +50,7 @@ impl Display for Answer {
     ghost output = { λ answer. Some (answer_text answer) };
 
     fn fmt<W: fmt::Write>(&self, f: &mut fmt::Formatter<W>) -> fmt::Result {
-        match *self {
+        match self {
             Answer::Payment(reply) => write!(
                 f,
                 "payment {} {} customer {} {} {} balance {}",
@@ -55,6 +61,7 @@ impl Display for Answer {
                 reply.customer,
                 reply.balance
             ),
+            Answer::NewOrder(reply) => OrderAnswer { reply }.fmt(f),
             Answer::Warehouse { warehouse, row } => {
                 let year_to_date = row.year_to_date;
                 write!(f, "warehouse {warehouse} ytd {year_to_date}")
@@ -64,9 +71,68 @@ impl Display for Answer {
                 "district {} {} ytd {} next {}",
                 key.warehouse, key.district, row.year_to_date, row.next_order
             ),
-            Answer::Customer { key, row } => CustomerLine { key, row }.fmt(f),
-            Answer::Refused { refusal, line } => RefusedLine { refusal, line }.fmt(f),
+            Answer::Customer { key, row } => CustomerLine {
+                key: *key,
+                row: *row,
+            }
+            .fmt(f),
+            Answer::Refused { refusal, line } => RefusedLine {
+                refusal: *refusal,
+                line: *line,
+            }
+            .fmt(f),
         }
+    }
+}
+
+/// The answer to a New-Order.
+#[derive(Clone, Copy)]
+struct OrderAnswer<'a> {
+    reply: &'a NewOrderReply,
+}
+
+impl Display for OrderAnswer<'_> {
+    ghost use Rattle.std.specs.Prelude.{Some};
+    ghost use Rattle.std.specs.List.{join_with_byte};
+    ghost use Rattle.lines.specs.Output.{new_order_words};
+
+    ghost output = { λ answer. Some (join_with_byte 32 (new_order_words answer.reply.now)) };
+
+    fn fmt<W: fmt::Write>(&self, f: &mut fmt::Formatter<W>) -> fmt::Result {
+        let reply = self.reply;
+        let lines = reply.lines.as_slice();
+        write!(
+            f,
+            "neworder {} {} {} customer {} lines {} total {}{}",
+            reply.warehouse,
+            reply.district,
+            reply.order,
+            reply.customer,
+            reply.amount,
+            reply.total,
+            SuppliedLines { lines }
+        )
+    }
+}
+
+/// The lines of an order, each behind a space.
+#[derive(Clone, Copy)]
+struct SuppliedLines<'a> {
+    lines: &'a [SuppliedLine],
+}
+
+impl Display for SuppliedLines<'_> {
+    ghost use Rattle.std.specs.Prelude.{Some};
+    ghost use Rattle.lines.specs.Output.{supplied_text};
+
+    ghost output = { λ shown. Some (supplied_text shown.lines.now) };
+
+    fn fmt<W: fmt::Write>(&self, f: &mut fmt::Formatter<W>) -> fmt::Result {
+        for line in self.lines {
+            let (item, amount) = (line.item, line.amount);
+            write!(f, " {}:{}:{}:{}", item, line.supply_warehouse, line.stock, amount)?;
+        }
+        Ok(())
     }
 }
 

@@ -8,7 +8,8 @@ use Rattle.tables.specs.Keys.{is_district, is_customer}
 use Rattle.tables.specs.Maps.{update_where, column}
 use Rattle.tables.specs.Customer.{customer_number}
 use Rattle.tables.specs.Payment.{payer, after_payment, raised_warehouse, raised_district, charged_customer}
-use Rattle.tables.specs.Rows.{row_at, least, order_numbers, number_words, warehouse_words, district_words, customer_words}
+use Rattle.tables.specs.OrderNumbers.{least, numbers_in}
+use Rattle.tables.specs.Rows.{row_at, number_words, warehouse_words, district_words, customer_words}
 use Rattle.tables.proofs.Orders.{IsExact, exact_number, exact_district, exact_customer}
 use Rattle.laws.proofs.Updates.{get-map_rows, column-update_where, kept-update_where}
 use Rattle.tables.specs.declared.keys.DistrictKey.{DistrictKey}
@@ -63,7 +64,7 @@ module _ (t : Database) (x : PaymentInput) where
   others (key.Order k) a b c = refl
   others (key.OrderLine k) a b c = refl
   others (key.Stock k) a b c = refl
-  others (key.Oldest k) a b c = ap (λ n. Some (number_words n)) (ap (unwrap_or (least (order_numbers (λ e. (e.0.warehouse == k.warehouse) && (e.0.district == k.district)) t.new_orders)))
+  others (key.Oldest k) a b c = ap (λ n. Some (number_words n)) (ap (unwrap_or (least (numbers_in k t.new_orders)))
       (kept-update_where exact_district (is_district x.warehouse x.district) (raised_district x.amount) (λ (w : Option District). option_map_or (λ r. r.next_order) w 0) t.districts k (λ _ r. refl)))
   others (key.Last k) a b c = refl
 

@@ -2,7 +2,7 @@
 
 ghost use Rattle.std.specs.Prelude.{◌≡◌, IfOk, IfErr};
 ghost use Rattle.tables.specs.Database.{database};
-ghost use Rattle.tables.specs.Inputs.{IsInput};
+ghost use Rattle.tables.specs.Inputs.{IsInput, IsExecuted};
 ghost use Rattle.tables.specs.Apply.{apply as apply_of, Committed};
 ghost use Rattle.tables.specs.WellFormed.{IsWellFormed};
 ghost use Rattle.money.specs.declared.refusal.Refusal.TheVariants.{OutOfMemory};
@@ -15,6 +15,7 @@ use tables::{Input, Reply, Tables};
 /// After `OutOfMemory`, the only refusal, the tables are as before.
 pub fn apply(tables: &mut Tables, input: &Input) -> Result<Reply, Refusal>
     requires input { IsInput tables.old.scale input.now }
+    requires executed { IsExecuted input.now }
     requires well_formed { IsWellFormed (database tables.old) }
     ensures ok { IfOk result (λ reply.
         apply_of (database tables.old) input.now ≡ Committed (database tables.new) reply) }
@@ -23,5 +24,6 @@ pub fn apply(tables: &mut Tables, input: &Input) -> Result<Reply, Refusal>
 {
     match input {
         Input::Payment(payment) => Ok(Reply::Payment(apply_payment(tables, payment)?)),
+        Input::NewOrder(_) => unreachable!(),
     }
 }

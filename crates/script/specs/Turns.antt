@@ -42,6 +42,7 @@ refused s refusal n = record { answer = answer.Refused refusal n; state = s }
 -- what a terminal is told of a reply
 abbrev pub answer_of : Reply → Answer
 answer_of (reply.Payment r) = answer.Payment r
+answer_of (reply.NewOrder r) = answer.NewOrder r
 
 -- an input commits with these tables and this reply, as the next
 abbrev pub committed : State → Database → Reply → Turn

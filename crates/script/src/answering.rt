@@ -1,6 +1,7 @@
 //! How a session answers a line.
 
-ghost use Rattle.std.specs.Prelude.{◌≡◌, ℕ, List, IfErr, IfOk, OnErr};
+ghost use Rattle.std.specs.Prelude.{◌≡◌, ◌<◌, ℕ, List, [], ◌∷◌, ◌++◌, length, IfErr, IfOk};
+ghost use Rattle.book.specs.declared.entry.Done.{Done as DoneValue};
 ghost use Rattle.std.specs.Option.{option_copied};
 ghost use Rattle.std.specs.Result.{ForOk};
 ghost use Rattle.money.specs.declared.refusal.Refusal.TheVariants.{OutOfMemory};
@@ -10,13 +11,13 @@ ghost use Rattle.lines.specs.declared.answer.Answer.TheVariants as answer;
 ghost use Rattle.lines.specs.declared.request.Request.{Request as RequestValue};
 ghost use Rattle.lines.specs.declared.request.Request.TheVariants as request;
 ghost use Rattle.tables.specs.Database.{database};
-ghost use Rattle.tables.specs.Inputs.{IsInput};
+ghost use Rattle.tables.specs.Inputs.{IsInput, IsExecuted};
 ghost use Rattle.tables.specs.WellFormed.{IsWellFormed};
 ghost use Rattle.tables.specs.declared.input.Input.{Input as InputValue};
 ghost use Rattle.script.specs.Answered.{state_of, IsMade, Shows};
 ghost use Rattle.script.specs.Turns.{State, IsInputTurn, IsShowTurn, IsRequestTurn, IsLineTurn, answer_of};
 
-use book::Run;
+use book::{Done, Run};
 use lines::{Answer, Request, read_request};
 use money::Refusal;
 use session::Session;
@@ -25,7 +26,7 @@ use tables::{CustomerKey, DistrictKey, Input, PaymentInput, Reply, Tables, Who};
 
 /// Answers the line of a script that has this number, which is its date too. `None` is a line that is too
 /// long. What the line asks is done or refused, and the answer tells which; only want of memory is a
-/// refusal of this call, and then nothing is done.
+/// refusal of this call, and then nothing is answered.
 pub fn answer_line<K: Run, R: Wait>(
     rt: &R,
     session: &mut Session<'_, K>,
@@ -35,7 +36,6 @@ pub fn answer_line<K: Run, R: Wait>(
     ensures memory { IfErr result (λ refusal. refusal ≡ OutOfMemory) }
     ensures turn { IfOk result (λ answer. (bytes : List ℕ) → option_copied line.entry ≡ held bytes
         → IsLineTurn (state_of K.first session.old) number bytes (record { answer = answer; state = state_of K.first session.new })) }
-    ensures err { OnErr result (session.new ≡ session.old) }
 {
     let Some(text) = line else {
         return Ok(refused(Refusal::BadLine, number));
@@ -57,7 +57,6 @@ fn answer_request<K: Run, R: Wait>(
     ensures turn { IfOk result (λ answer.
         IsRequestTurn (state_of K.first session.old) number request (record { answer = answer; state = state_of K.first session.new })) }
     ensures numbers { HasNumbers request }
-    ensures err { OnErr result (session.new ≡ session.old) }
 {
     match request {
         Request::Payment {
@@ -115,28 +114,39 @@ fn answer_request<K: Run, R: Wait>(
     }
 }
 
-/// Commits an input, which was made of a request's fields, or refuses the line.
+/// Commits an input, which was made of a request's fields, or refuses the line. Memory for the answer is taken after
+/// the commit.
 fn commit<K: Run, R: Wait>(
     rt: &R,
     session: &mut Session<'_, K>,
     made: Result<Input, Refusal>,
     number: u32,
 ) -> Result<Answer, Refusal>
-    requires { ForOk made (λ input. IsInput K.first.scale input) }
+    requires { ForOk made (λ input. IsInput K.first.scale input × IsExecuted input) }
     ensures memory { IfErr result (λ refusal. refusal ≡ OutOfMemory) }
     ensures turn { IfOk result (λ answer. (x : InputValue) → IsMade K.first.scale x made
         → IsInputTurn (state_of K.first session.old) number x (record { answer = answer; state = state_of K.first session.new })) }
-    ensures err { OnErr result (session.new ≡ session.old) }
 {
     let input = match made {
         Ok(input) => input,
         Err(refusal) => return Ok(refused(refusal, number)),
     };
     match session.commit(rt, &input) {
-        Ok(done) => Ok(told(done.reply())),
+        Ok(()) => answered(session.dones()),
         Err(Refusal::CommitsFull) => Ok(refused(Refusal::CommitsFull, number)),
         Err(refusal) => Err(refusal),
     }
+}
+
+/// The answer to the last of what was committed.
+fn answered(dones: &[Done]) -> Result<Answer, Refusal>
+    requires { 0 < length dones.now }
+    ensures last { (before : List DoneValue) (done : DoneValue) → dones.now ≡ before ++ done ∷ []
+        → IfOk result (λ answer. answer ≡ answer_of done.reply) }
+    ensures memory { IfErr result (λ refusal. refusal ≡ OutOfMemory) }
+{
+    let done = &dones[dones.len() - 1];
+    Ok(told(done.reply().copied()?))
 }
 
 /// What a terminal is told of a reply.
@@ -145,6 +155,7 @@ fn told(reply: Reply) -> Answer
 {
     match reply {
         Reply::Payment(reply) => Answer::Payment(reply),
+        Reply::NewOrder(reply) => Answer::NewOrder(reply),
     }
 }
 

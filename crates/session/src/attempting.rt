@@ -1,6 +1,6 @@
 //! An attempt: a transaction is executed, and then committed if what it read is still the latest.
 ghost use Rattle.std.specs.Prelude.{◌≡◌, ◌⊎◌, ◌≤◌, ◌+◌, length, IfOk, IfErr, OnErr, IsErrOf};
-ghost use Rattle.tables.specs.Inputs.{IsInput};
+ghost use Rattle.tables.specs.Inputs.{IsInput, IsExecuted};
 ghost use Rattle.money.specs.declared.refusal.Refusal.TheVariants.{OutOfMemory, CommitsFull, Conflict, Stale};
 ghost use Rattle.book.specs.Book.{IsWorkOf};
 ghost use Rattle.session.specs.Session.{IsNext};
@@ -28,6 +28,7 @@ pub fn attempt<K: Run, R: Wait>(
     input: &Input,
 ) -> Result<Done, Refusal>
     requires input { IsInput K.first.scale input.now }
+    requires executed { IsExecuted input.now }
     requires reader { seat.old.reader.cells ≡ K.cells }
     ensures reader { seat.new.reader.cells ≡ K.cells }
     ensures commits { IfOk result (IsNext K.first book.old.history book.new.history input.now) }

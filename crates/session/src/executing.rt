@@ -1,6 +1,6 @@
 //! Which crate executes an input: one line a transaction.
 ghost use Rattle.std.specs.Prelude.{◌≡◌, ◌⊎◌, length, IfOk, IfErr};
-ghost use Rattle.tables.specs.Inputs.{IsInput};
+ghost use Rattle.tables.specs.Inputs.{IsInput, IsExecuted};
 ghost use Rattle.money.specs.declared.refusal.Refusal.TheVariants.{OutOfMemory, Stale};
 ghost use Rattle.population.specs.Initial.{initial};
 ghost use Rattle.cells.specs.First.{cell_count};
@@ -32,6 +32,7 @@ pub fn execute<R: Wait>(
     input: &Input,
 ) -> Result<Work, Refusal>
     requires input { IsInput (initial population.now).scale input.now }
+    requires executed { IsExecuted input.now }
     requires own { reader.old.cells ≡ cells.now }
     requires cells { length cells.now ≡ cell_count (initial population.now).scale }
     ensures input { IfOk result (λ work. work.input ≡ input.now) }
@@ -46,5 +47,6 @@ pub fn execute<R: Wait>(
 {
     match input {
         Input::Payment(payment) => payment::execute(rt, alloc, cells, reader, population, payment),
+        Input::NewOrder(_) => unreachable!(),
     }
 }

@@ -1,13 +1,14 @@
 //! A terminal that has the book to itself.
 
-ghost use Rattle.std.specs.Prelude.{◌≡◌, ◌⊎◌, ◌≤◌, [], ◌∷◌, ◌++◌, length, IfOk, IfErr, OnErr, IsErrOf};
+ghost use Rattle.std.specs.Prelude.{◌≡◌, ◌⊎◌, ◌≤◌, [], ◌∷◌, ◌++◌, length, IfOk, IfErr, OnOk, OnErr, IsErrOf};
 ghost use Rattle.tables.specs.Database.{database};
-ghost use Rattle.tables.specs.Inputs.{IsInput};
+ghost use Rattle.tables.specs.Inputs.{IsInput, IsExecuted};
 ghost use Rattle.tables.specs.WellFormed.{IsWellFormed};
 ghost use Rattle.conditions.specs.Report.{IsReportOf};
 ghost use Rattle.book.specs.History.{replay};
 ghost use Rattle.std.specs.Option.{ForSome};
 ghost use Rattle.book.specs.Book.{IsWorkOf};
+ghost use Rattle.book.specs.declared.entry.Done.{Done as DoneValue};
 ghost use Rattle.session.specs.Session.{IsNext};
 ghost use Rattle.money.specs.declared.refusal.Refusal.TheVariants.{OutOfMemory, CommitsFull};
 
@@ -77,12 +78,13 @@ impl<'e, K: Run> Session<'e, K> {
         self.book.committed()
     }
 
-    /// Commits a transaction, and tries again for as long as what it read isn't the latest. A refusal leaves all
-    /// as it was: `CommitsFull` comes only at the commit cap, and else only `OutOfMemory`.
-    pub fn commit<R: Wait>(&mut self, rt: &R, input: &Input) -> Result<Done, Refusal>
-        requires { IsInput K.first.scale input.now }
-        ensures next { IfOk result (IsNext K.first self.old.history self.new.history input.now) }
-        ensures told { IfOk result (λ done. self.new.dones ≡ self.old.dones ++ done ∷ []) }
+    /// Commits a transaction, and tries again for as long as what it read isn't the latest. What the terminal is told
+    /// is then the last of `dones`. A refusal leaves all as it was: `CommitsFull` comes only at the commit cap, and else only `OutOfMemory`.
+    pub fn commit<R: Wait>(&mut self, rt: &R, input: &Input) -> Result<(), Refusal>
+        requires input { IsInput K.first.scale input.now }
+        requires executed { IsExecuted input.now }
+        ensures next { OnOk result ((done : DoneValue) × IsNext K.first self.old.history self.new.history input.now done
+            × (self.new.dones ≡ self.old.dones ++ done ∷ [])) }
         ensures count { length self.old.dones ≡ length self.old.history }
         ensures refusals { IfErr result (λ refusal. (refusal ≡ CommitsFull)
             ⊎ (refusal ≡ OutOfMemory)) }
@@ -92,7 +94,7 @@ impl<'e, K: Run> Session<'e, K> {
     {
         self.dones.reserve(1)?;
         let (alloc, engine) = (self.alloc, self.engine);
-        let done = &persist(
+        let done = persist(
             rt,
             alloc,
             engine,
@@ -101,8 +103,15 @@ impl<'e, K: Run> Session<'e, K> {
             input,
             None,
         )?;
-        self.dones.push_reserved(*done);
-        Ok(*done)
+        self.dones.push_reserved(done);
+        Ok(())
+    }
+
+    /// What the terminal was told of its commits, in order.
+    pub fn dones(&self) -> &[Done]
+        ensures { result.now ≡ self.now.dones }
+    {
+        self.dones.as_slice()
     }
 
     /// The report of the committed tables, and what was committed. Refuses only for memory.
@@ -135,8 +144,9 @@ pub(crate) fn persist<K: Run, R: Wait>(
     executed: Option<Work>,
 ) -> Result<Done, Refusal>
     requires input { IsInput K.first.scale input.now }
+    requires executed { IsExecuted input.now }
     requires reader { seat.old.reader.cells ≡ K.cells }
-    requires executed { ForSome executed (λ work.
+    requires begun { ForSome executed (λ work.
         IsWorkOf K.first (length K.cells) seat.old.reader work × (work.input ≡ input.now)) }
     ensures reader { seat.new.reader.cells ≡ K.cells }
     ensures commits { IfOk result (IsNext K.first book.old.history book.new.history input.now) }

@@ -1,6 +1,7 @@
 //! New-Order (TPC-C 2.4): its input and its reply. What it does to the tables is in `specs/NewOrder.antt`.
 
-ghost use Rattle.std.specs.Prelude.{◌↔◌, IsTrue, All};
+ghost use Rattle.std.specs.Prelude.{◌≡◌, ◌↔◌, IsTrue, IfOk, All};
+ghost use Rattle.tables.specs.NewOrder.{IsRequestedLine};
 
 use crate::limits::{
     MAX_DATE, MAX_ORDER_LINES, MAX_QUANTITY, MAX_REQUESTED_ITEM, MIN_ORDER_LINES,
@@ -8,6 +9,7 @@ use crate::limits::{
 use crate::order_lines::Lines;
 use crate::scale::{Scale, is_between};
 use money::Cents;
+use std::alloc::AllocError;
 
 /// A line that a terminal orders (TPC-C 2.4.1.5).
 #[derive(Clone, Copy, Debug, PartialEq, Eq)]
@@ -55,8 +57,6 @@ pub struct NewOrderReply {
 }
 
 impl RequestedLine {
-    ghost use Rattle.tables.specs.NewOrder.{IsRequestedLine};
-
     /// Whether each field is in its range.
     fn is_in_range(&self, scale: &Scale) -> bool
         ensures { IsTrue result ↔ IsRequestedLine scale.now self.now }
@@ -66,8 +66,6 @@ impl RequestedLine {
             && is_between(1, MAX_QUANTITY, self.quantity)
     }
 }
-
-ghost use Rattle.tables.specs.NewOrder.{IsRequestedLine};
 
 /// Whether each field of each line is in its range.
 fn are_in_range(scale: &Scale, lines: &[RequestedLine]) -> bool
@@ -92,5 +90,23 @@ impl NewOrderInput {
             && MIN_ORDER_LINES as usize <= lines.len()
             && lines.len() <= MAX_ORDER_LINES as usize
             && are_in_range(scale, lines)
+    }
+}
+
+impl NewOrderReply {
+    /// A copy. Costs a pass over the lines, and memory for them.
+    pub(crate) fn copied(&self) -> Result<NewOrderReply, AllocError>
+        ensures { IfOk result (λ copy. copy ≡ self.now) }
+    {
+        let lines = self.lines.copied()?;
+        Ok(NewOrderReply {
+            warehouse: self.warehouse,
+            district: self.district,
+            order: self.order,
+            customer: self.customer,
+            amount: self.amount,
+            total: self.total,
+            lines,
+        })
     }
 }

@@ -1,7 +1,8 @@
 //! The lines of an order, as one value.
 
-ghost use Rattle.std.specs.Prelude.{◌≡◌};
+ghost use Rattle.std.specs.Prelude.{◌≡◌, IfOk};
 
+use std::alloc::AllocError;
 use std::marker::Model;
 
 /// The lines of an order, in their order. Contracts see the list of them.
@@ -24,6 +25,16 @@ impl<T> Lines<T> {
         ensures { result ≡ lines.items }
     {
         Lines { lines }
+    }
+
+    /// A copy. Costs a pass over the lines, and memory for them.
+    pub fn copied(&self) -> Result<Lines<T>, AllocError>
+    where
+        T: Copy,
+        ensures { IfOk result (λ copy. copy ≡ self.now) }
+    {
+        let lines = Vec::from_slice(*self.lines.allocator(), self.lines.as_slice())?;
+        Ok(Lines { lines })
     }
 
     /// The lines.

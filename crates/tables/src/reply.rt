@@ -1,11 +1,26 @@
 //! What a terminal is told, one module a transaction: here is only which there are.
 
+ghost use Rattle.std.specs.Prelude.{◌≡◌, IfOk};
+
 use crate::new_order::NewOrderReply;
 use crate::payment::PaymentReply;
+use std::alloc::AllocError;
 
 /// The reply to a committed transaction.
 #[derive(Debug, Drop, PartialEq)]
 pub enum Reply {
     Payment(PaymentReply),
     NewOrder(NewOrderReply),
+}
+
+impl Reply {
+    /// A copy. Takes memory only for an order's lines, and costs a pass over them.
+    pub fn copied(&self) -> Result<Reply, AllocError>
+        ensures { IfOk result (λ copy. copy ≡ self.now) }
+    {
+        match self {
+            Reply::Payment(reply) => Ok(Reply::Payment(*reply)),
+            Reply::NewOrder(reply) => Ok(Reply::NewOrder(reply.copied()?)),
+        }
+    }
 }

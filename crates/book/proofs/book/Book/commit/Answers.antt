@@ -79,7 +79,7 @@ returns-clause-answer g c =
         cells = cells;
         versions = λ n _. stores n;
       },
-      c.of.ensures ∙ (λ i. record { number = next i; tid = tid i; reply = c.args.work.reply }),
+      c.of.ensures ∙ (λ i. record { number = next i; tid = tid i; reply = c.in-Ok.ensures.reply i }),
       (λ i. record { terminal = c.share.inside.terminal; parts = c.add.ensures.parts i; commits = c.add.ensures.amount i }),
       c.store.ensures.seen,
       done_there g.K.Run.first g.K.Run.cells (record { written = c.self.inside.pen; history = c.self.inside.history.items }) (database c.self.inside.tables) sound c.self.invariant.1
