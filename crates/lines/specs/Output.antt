@@ -1,5 +1,5 @@
 -- The text of an answer.
-use Rattle.std.specs.Prelude.{ℕ, Option, Some, None, List, [], ◌∷◌, map, codes}
+use Rattle.std.specs.Prelude.{ℕ, Option, Some, None, List, [], ◌∷◌, ◌++◌, map, codes}
 use Rattle.std.specs.Fmt.{decimal}
 use Rattle.std.specs.List.{join_with_byte, flat_map}
 use Rattle.money.specs.Money.{money_text}
@@ -42,12 +42,15 @@ supplied_word l = join_with_byte 58 (decimal l.item ∷ decimal l.supply_warehou
 abbrev pub supplied_text : List SuppliedLine → List ℕ
 supplied_text ls = flat_map (λ l. 32 ∷ supplied_word l) ls
 
--- the words of a New-Order's reply
-abbrev pub new_order_words : NewOrderReply → List (List ℕ)
-new_order_words reply =
+-- the words of a New-Order's reply: of the order, and of its lines
+abbrev pub order_words : NewOrderReply → List (List ℕ)
+order_words reply =
     codes "neworder" ∷ decimal reply.warehouse ∷ decimal reply.district ∷ decimal reply.order
     ∷ codes "customer" ∷ decimal reply.customer ∷ codes "lines" ∷ money_text reply.amount
-    ∷ codes "total" ∷ money_text reply.total ∷ map supplied_word reply.lines
+    ∷ codes "total" ∷ money_text reply.total ∷ []
+
+abbrev pub new_order_words : NewOrderReply → List (List ℕ)
+new_order_words reply = order_words reply ++ map supplied_word reply.lines
 
 -- the words of an answer
 abbrev pub answer_words : Answer → List (List ℕ)

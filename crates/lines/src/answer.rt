@@ -101,16 +101,34 @@ impl Display for OrderAnswer<'_> {
     fn fmt<W: fmt::Write>(&self, f: &mut fmt::Formatter<W>) -> fmt::Result {
         let reply = self.reply;
         let lines = reply.lines.as_slice();
+        write!(f, "{}{}", OrderHead { reply }, SuppliedLines { lines })
+    }
+}
+
+/// What is said of the order itself.
+#[derive(Clone, Copy)]
+struct OrderHead<'a> {
+    reply: &'a NewOrderReply,
+}
+
+impl Display for OrderHead<'_> {
+    ghost use Rattle.std.specs.Prelude.{Some};
+    ghost use Rattle.std.specs.List.{join_with_byte};
+    ghost use Rattle.lines.specs.Output.{order_words};
+
+    ghost output = { λ head. Some (join_with_byte 32 (order_words head.reply.now)) };
+
+    fn fmt<W: fmt::Write>(&self, f: &mut fmt::Formatter<W>) -> fmt::Result {
+        let reply = self.reply;
         write!(
             f,
-            "neworder {} {} {} customer {} lines {} total {}{}",
+            "neworder {} {} {} customer {} lines {} total {}",
             reply.warehouse,
             reply.district,
             reply.order,
             reply.customer,
             reply.amount,
-            reply.total,
-            SuppliedLines { lines }
+            reply.total
         )
     }
 }

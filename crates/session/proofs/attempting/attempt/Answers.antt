@@ -1,6 +1,6 @@
 use Rattle.std.proofs.Common.{length, ap, sym, ◌∙◌, subst}
 use Rattle.tables.specs.Database.{Database}
-use Rattle.tables.specs.Inputs.{IsInput}
+use Rattle.tables.specs.Inputs.{IsInput, IsExecuted}
 use Rattle.tables.specs.declared.input.Input.{Input}
 use Rattle.readset.specs.Explains.{Explains, IsWithinLimits}
 use Rattle.std.specs.Prelude.{IfOk}
@@ -17,6 +17,7 @@ commit_work-requires-clause-work g c =
     let same = c.in-Ok.ensures.input in
     work_of g.K.Run.first (length g.K.Run.cells) c.args.seat.now.reader c.execute.new.reader work
     (subst (IsInput g.K.Run.first.scale) (sym same) c.requires.input)
+    (subst IsExecuted (sym same) c.requires.executed)
     (subst (λ (q : Database × Input). Explains q.0 q.1 work.reads work.writes work.reply) (λ i. (c.population-population.ensures i, sym same i)) c.in-Ok.ensures.explains)
     (subst (λ n. IsWithinLimits n work.reads work.writes) (ap length c.cells-cells.ensures.value) c.in-Ok.ensures.limits)
     c.in-Ok.ensures.read
