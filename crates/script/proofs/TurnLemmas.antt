@@ -23,6 +23,11 @@ use Rattle.session.specs.Session.{SessionView, IsNext}
 use Rattle.script.specs.Answered.{state_of, IsMade}
 use Rattle.script.specs.Turns.{State, IsInputTurn, bad, full, done, IsRequestTurn, IsLineTurn, unread, read, answer_of}
 
+-- what holds of each answer by its equation holds of the answer
+pub answered_turn : (P Q : Answer → Type 0) (result : Result Answer Refusal) → IfOk result P → ((told : Answer) → P told → Q told) → IfOk result Q
+answered_turn P Q (Ok told) is leads = leads told is
+answered_turn P Q (Err refusal) is leads = tt
+
 -- what a commit leaves
 pub committed_turn : (t0 : Database) (old new : SessionView) (n : ℕ) (x : Input) (d : Done) (told : Answer) → told ≡ answer_of d.reply → length old.dones ≡ length old.history → new.dones ≡ old.dones ++ d ∷ []
     → IsInput t0.scale x → IsNext t0 old.history new.history x d → IsInputTurn (state_of t0 old) n x (record { answer = told; state = state_of t0 new })
