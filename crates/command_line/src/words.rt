@@ -141,6 +141,3 @@ fn refusal(alloc: Global, text: &str) -> Result<Error, AllocError>
 {
     Command::new(alloc, "tpcc").error(ErrorKind::InvalidValue, text)
 }
-
-#[cfg(test)]
-mod tests;

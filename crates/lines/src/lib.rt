@@ -17,6 +17,3 @@ pub use line_buffer::{LineBuffer, MAX_LINE, cutting_laws};
 pub use read::{one_line_one_request, read_request};
 pub use report::print_report;
 pub use request::Request;
-
-#[cfg(test)]
-mod tests;

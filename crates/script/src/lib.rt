@@ -2,11 +2,7 @@
 #![tactic(auto)]
 
 mod answering;
-#[cfg(test)]
-mod device_tests;
 mod running;
-#[cfg(test)]
-mod tests;
 mod turns;
 
 pub use running::{script, write_text};

@@ -1,14 +1,8 @@
 //! The program `tpcc`.
 #![tactic(auto)]
 
-mod finish;
-mod program;
-#[cfg(test)]
-mod tests;
-
-use finish::{USAGE_FAULT, finish};
 use money::Refusal;
-use program::run;
+use program::{USAGE_FAULT, finish, run};
 use std::env;
 use std::process::ExitCode;
 

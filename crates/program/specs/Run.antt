@@ -13,7 +13,7 @@ use Rattle.book.specs.declared.entry.Done.{Done}
 use Rattle.script.specs.Written.{IsWhole, IsBeginning}
 use Rattle.command_line.specs.CommandLine.{IsAskedBy, IsRefusalOf}
 use Rattle.command_line.specs.declared.asked.Options.{Options}
-use Rattle.tpcc.specs.Status.{IsStatusOf, refusal_line, WritesBeginning}
+use Rattle.program.specs.Status.{IsStatusOf, refusal_line, WritesBeginning}
 
 -- the scale that options ask for
 abbrev pub scale_of : Options → Sizes

@@ -1,8 +1,8 @@
 use Rattle.std.proofs.Common.{refl}
 use Rattle.std.proofs.KnownBytes.{Appends-nil}
-use Rattle.tpcc.specs.Run.{fault, answered, refused}
-use Rattle.tpcc.proofs.Beginnings.{nothing_begun}
-use Rattle.tpcc.proofs.program.run.Goals as goal
+use Rattle.program.specs.Run.{fault, answered, refused}
+use Rattle.program.proofs.Beginnings.{nothing_begun}
+use Rattle.program.proofs.running.run.Goals as goal
 
 pub returns-in-Err : goal.returns-in-Err
 returns-in-Err g c = λ bytes left. fault c.in-Err.error c.tell_fault.ensures.0 c.in-Err.ensures.refused (Appends-nil (g.O.Write.contents c.args.output.now)) c.tell_fault.ensures.1 refl

@@ -2,7 +2,7 @@
 
 ghost use Rattle.std.specs.Prelude.{OnOk, IsErr};
 ghost use Rattle.std.specs.Io.KnownBytes.{Appends};
-ghost use Rattle.tpcc.specs.Status.{IsStatusOf, line_of, refusal_line, WritesBeginning};
+ghost use Rattle.program.specs.Status.{IsStatusOf, line_of, refusal_line, WritesBeginning};
 
 use conditions::Report;
 use itoa::Buffer;
@@ -51,38 +51,4 @@ fn write_refusal<E: Write>(refusal: Refusal, errors: &mut E) -> Result<(), Refus
     write_text(errors, refusal.name().as_bytes())?;
     write_text(errors, b"\n")?;
     Ok(())
-}
-
-#[cfg(test)]
-mod tests {
-    use super::*;
-    use std::test::Fail;
-    use tables::Scale;
-
-    #[test]
-    fn statuses_and_lines(rt: HostRuntime) -> Result<(), Fail> {
-        let good = Report {
-            condition_1: None,
-            condition_8: None,
-            condition_9: None,
-            condition_10: None,
-            condition_12: None,
-        };
-        let mut broken = good;
-        broken.condition_8 = Some(1);
-        let few_orders = Scale::new(1, 2, 10, 20, 9, 1_000).map(|_| &good);
-        let outcomes = [
-            (Ok(&good), 0, ""),
-            (Ok(&broken), 1, ""),
-            (few_orders, 2, "13 BadScale\n"),
-            (Err(Refusal::Device), 1, "9 Device\n"),
-            (Err(Refusal::OutOfMemory), 1, "1 OutOfMemory\n"),
-        ];
-        for (outcome, status, line) in outcomes {
-            let mut errors = Vec::new(rt.alloc());
-            assert_eq!(rt; finish(outcome, &mut errors), status, "on {line:?}");
-            assert_eq!(rt; errors.as_slice(), line.as_bytes());
-        }
-        Ok(())
-    }
 }

@@ -2,7 +2,7 @@
 use Rattle.std.proofs.Common.{◌≡◌, ℕ, List, [], ◌∷◌, ◌++◌, Option, ap, ◌∙◌, append_assoc}
 use Rattle.std.specs.Io.KnownBytes.{Appends}
 use Rattle.std.proofs.KnownBytes.{Appends-trans}
-use Rattle.tpcc.specs.Status.{WritesBeginning}
+use Rattle.program.specs.Status.{WritesBeginning}
 
 -- the parts before were written, and of this part a front
 pub broken_off : (old mid new : Option (List ℕ)) (text before part later : List ℕ) → text ≡ (before ++ part) ++ later → Appends old mid before

@@ -1,6 +1,6 @@
 //! Whole runs of the program over words, an input and two writers.
 
-use crate::program::run;
+use program::run;
 use std::alloc::{AllocError, Global};
 use std::io::{self, ErrorKind, Read};
 use std::sync::Wait;

@@ -1,12 +1,15 @@
 ghost use Rattle.std.specs.Prelude.{◌<◌};
 
-use crate::{Answer, LineBuffer, MAX_LINE, Request, print_report, read_request};
+use lines::{Answer, LineBuffer, MAX_LINE, Request, print_report, read_request};
 use conditions::Report;
 use money::{Cents, Rate, Refusal};
 use std::alloc::Global;
 use std::process::Abort;
 use std::test::Fail;
-use tables::{Credit, Customer, CustomerKey, District, DistrictKey, PaymentReply, Warehouse};
+use tables::{
+    Credit, Customer, CustomerKey, District, DistrictKey, Lines, NewOrderReply, PaymentReply,
+    SuppliedLine, Warehouse,
+};
 
 #[test]
 fn requests_are_read(rt: HostRuntime) {
@@ -91,6 +94,34 @@ fn answers_are_printed(rt: HostRuntime) {
         line: 1,
     };
     assert_eq!(rt; printed(&rt, item).as_str(), "5 line 1 item 21\n");
+}
+
+/// A line that the second warehouse supplies.
+fn supplied(item: u32, stock: u32) -> SuppliedLine {
+    SuppliedLine {
+        item,
+        supply_warehouse: 2,
+        stock,
+        amount: Cents::new(1000),
+    }
+}
+
+#[test]
+fn an_order_is_printed(rt: HostRuntime) -> Result<(), Fail> {
+    let lines = Vec::from_slice(rt.alloc(), &[supplied(1, 40), supplied(7, 91)])?;
+    let order = Answer::NewOrder(NewOrderReply {
+        warehouse: 1,
+        district: 1,
+        order: 11,
+        customer: 3,
+        amount: Cents::new(2000),
+        total: Cents::new(2070),
+        lines: Lines::new(lines),
+    });
+    let expected =
+        "neworder 1 1 11 customer 3 lines 20.00 total 20.70 1:2:40:10.00 7:2:91:10.00\n";
+    assert_eq!(rt; printed(&rt, order).as_str(), expected);
+    Ok(())
 }
 
 #[test]

@@ -2,8 +2,8 @@ use Rattle.std.proofs.Common.{subst}
 use Rattle.tables.specs.Sizes.{Sizes}
 use Rattle.population.specs.Initial.{initial}
 use Rattle.population.specs.Plain.{IsPlain}
-use Rattle.tpcc.specs.Run.{IsWholeRun, begun, scale_of}
-use Rattle.tpcc.proofs.program.answer.Goals as goal
+use Rattle.program.specs.Run.{IsWholeRun, begun, scale_of}
+use Rattle.program.proofs.running.answer.Goals as goal
 
 pub returns-clause-whole : goal.returns-clause-whole
 returns-clause-whole g c = λ bytes left.

@@ -1,10 +1,10 @@
 //! A script on readers and writers that are slow, interrupted, or watched.
 
-use crate::script;
 use book::Done;
 use conditions::Report;
 use money::Refusal;
 use population::Population;
+use script::script;
 use std::alloc::Global;
 use std::cell::Cell;
 use std::io::{self, ErrorKind, Read, Write};

@@ -1,7 +1,7 @@
 //! What the program does, from its words and its input to its output, its errors and its exit status.
 ghost use Rattle.std.specs.Prelude.{◌≡◌, ℕ, List, Some, [], IfOk, IfErr, map, string_bytes};
 ghost use Rattle.std.specs.Io.KnownBytes.{Appends};
-ghost use Rattle.tpcc.specs.Run.{IsRun, IsWholeRun, IsRefusedRun};
+ghost use Rattle.program.specs.Run.{IsRun, IsWholeRun, IsRefusedRun};
 
 use crate::finish::{USAGE_FAULT, finish};
 use clap::Error;

@@ -1,4 +1,8 @@
-use super::*;
+//! Command lines, and what is made of them.
+
+use clap::error::ErrorKind;
+use command_line::{Options, Subcommand, options};
+use std::alloc::{AllocError, Global};
 use std::test::Fail;
 
 /// The words of a command line without quotes.

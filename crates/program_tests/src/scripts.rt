@@ -1,10 +1,10 @@
 //! Whole scripts, by what they write.
 
-use crate::script;
 use book::Done;
 use conditions::Report;
 use money::{Cents, Refusal};
 use population::Population;
+use script::script;
 use std::alloc::Global;
 use std::io::{self, ErrorKind, Read, Write};
 use std::sync::Wait;
@@ -190,9 +190,12 @@ fn dones_are_of_the_lines_that_commit(rt: HostRuntime) -> Result<(), Fail> {
             customer: *customer,
             balance: Cents::new(*balance),
         };
-        let told = dones.get(i).map(|done| (done.number(), done.reply()));
+        let Some(done) = dones.get(i) else {
+            return Err("a commit is missing".into());
+        };
         let number = if i == 0 { 1 } else { 2 };
-        assert_eq!(rt; told, Some((number, Reply::Payment(reply))));
+        assert_eq!(rt; done.number(), number);
+        assert_eq!(rt; *done.reply(), Reply::Payment(reply));
     }
     assert_eq!(rt; dones.len(), 2);
     Ok(())
