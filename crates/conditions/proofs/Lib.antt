@@ -1,2 +1,6 @@
 mod SumSteps
 mod Added
+mod Lines
+mod Numbered
+mod Told
+mod Searched

@@ -2,11 +2,16 @@
 //! key that breaks it.
 #![tactic(auto)]
 
+mod amounts;
 mod checks;
+mod columns;
+mod key_conditions;
+mod numbers;
 mod report;
+mod row_conditions;
+mod search;
+mod shares;
 mod sums;
-#[cfg(test)]
-mod tests;
 
 pub use checks::check;
 pub use report::Report;

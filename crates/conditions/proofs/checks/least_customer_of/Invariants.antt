@@ -1,6 +1,0 @@
-use Rattle.std.proofs.Common.{ℕ, ◌<◌, ◌≤◌}
-use Rattle.tables.specs.Database.{database}
-use Rattle.conditions.proofs.checks.least_customer_of.Given as goal
-
-abbrev pub invariant-loop-customer : goal.invariant-loop-customer
-invariant-loop-customer g l = (c : ℕ) → 1 ≤ c → c < l.customer → g.C.CustomerCondition.holds_at (database l.tables) (record { warehouse = l.warehouse; district = l.district; customer = c })

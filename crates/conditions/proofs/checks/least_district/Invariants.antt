@@ -1,7 +1,0 @@
-use Rattle.std.proofs.Common.{ℕ, ◌<◌, ◌≤◌}
-use Rattle.tables.specs.Sizes.{IsNumber}
-use Rattle.tables.specs.Database.{database}
-use Rattle.conditions.proofs.checks.least_district.Given as goal
-
-abbrev pub invariant-loop-warehouse : goal.invariant-loop-warehouse
-invariant-loop-warehouse g l = (w d : ℕ) → 1 ≤ w → w < l.warehouse → IsNumber l.tables.scale.districts d → g.C.DistrictCondition.holds_at (database l.tables) (record { warehouse = w; district = d })

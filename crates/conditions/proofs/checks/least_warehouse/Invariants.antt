@@ -1,6 +1,0 @@
-use Rattle.std.proofs.Common.{ℕ, ◌<◌, ◌≤◌}
-use Rattle.tables.specs.Database.{database}
-use Rattle.conditions.proofs.checks.least_warehouse.Given as goal
-
-abbrev pub invariant-loop-warehouse : goal.invariant-loop-warehouse
-invariant-loop-warehouse g l = (w : ℕ) → 1 ≤ w → w < l.warehouse → g.C.WarehouseCondition.holds_at (database l.tables) w
