@@ -6,7 +6,9 @@ use money::{Cents, Rate, Refusal};
 use std::alloc::Global;
 use std::process::Abort;
 use std::test::Fail;
-use tables::{Credit, Customer, CustomerKey, District, DistrictKey, PaymentReply, Warehouse};
+use tables::{
+    Credit, Customer, CustomerKey, District, DistrictKey, LineKey, OrderKey, PaymentReply, Warehouse,
+};
 
 #[test]
 fn requests_are_read(rt: HostRuntime) {
@@ -152,6 +154,21 @@ fn a_report_is_printed(rt: HostRuntime) {
     };
     let report = Report {
         condition_1: None,
+        condition_2: None,
+        condition_3: None,
+        condition_4: None,
+        condition_5: Some(OrderKey {
+            warehouse: 1,
+            district: 1,
+            order: 9,
+        }),
+        condition_6: None,
+        condition_7: Some(LineKey {
+            warehouse: 1,
+            district: 1,
+            order: 8,
+            line: 5,
+        }),
         condition_8: Some(1),
         condition_9: Some(DistrictKey {
             warehouse: 1,
@@ -164,7 +181,7 @@ fn a_report_is_printed(rt: HostRuntime) {
     print_report(1, &report, &mut text).expect(&rt, "memory");
     assert_eq!(rt;
         text.as_str(),
-        "commits 1\nC1 ok\nC8 broken 1\nC9 broken 1 2\nC10 broken 1 1 3\nC12 ok\n"
+        "commits 1\nC1 ok\nC2 ok\nC3 ok\nC4 ok\nC5 broken 1 1 9\nC6 ok\nC7 broken 1 1 8 5\nC8 broken 1\nC9 broken 1 2\nC10 broken 1 1 3\nC12 ok\n"
     );
 }
 
