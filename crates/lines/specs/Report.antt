@@ -1,7 +1,7 @@
 -- The text of the report at the end of a script.
 use Rattle.std.specs.Prelude.{ℕ, Option, Some, None, List, ◌++◌, codes}
 use Rattle.std.specs.Fmt.{decimal}
-use Rattle.tables.specs.KeyTexts.{district_text, customer_text}
+use Rattle.tables.specs.KeyTexts.{district_text, customer_text, order_text, line_text}
 use Rattle.conditions.specs.declared.report.Report.{Report}
 
 -- the line of one condition, as "C9 ok" or "C9 broken 1 1", with its line feed
@@ -14,7 +14,13 @@ abbrev pub report_text : ℕ → Report → List ℕ
 report_text commits report =
     codes "commits " ++ (decimal commits ++ (codes "\n"
     ++ (verdict_text decimal 1 report.condition_1
+    ++ (verdict_text district_text 2 report.condition_2
+    ++ (verdict_text district_text 3 report.condition_3
+    ++ (verdict_text district_text 4 report.condition_4
+    ++ (verdict_text order_text 5 report.condition_5
+    ++ (verdict_text order_text 6 report.condition_6
+    ++ (verdict_text line_text 7 report.condition_7
     ++ (verdict_text decimal 8 report.condition_8
     ++ (verdict_text district_text 9 report.condition_9
     ++ (verdict_text customer_text 10 report.condition_10
-    ++ verdict_text customer_text 12 report.condition_12))))))
+    ++ verdict_text customer_text 12 report.condition_12))))))))))))

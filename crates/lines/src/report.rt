@@ -27,6 +27,12 @@ fn format_report(alloc: Global, commits: u64, report: &Report) -> Result<String,
 {
     let mut text = format!(in alloc; "commits {commits}\n")?;
     print_verdict(1, report.condition_1, &mut text)?;
+    print_verdict(2, report.condition_2, &mut text)?;
+    print_verdict(3, report.condition_3, &mut text)?;
+    print_verdict(4, report.condition_4, &mut text)?;
+    print_verdict(5, report.condition_5, &mut text)?;
+    print_verdict(6, report.condition_6, &mut text)?;
+    print_verdict(7, report.condition_7, &mut text)?;
     print_verdict(8, report.condition_8, &mut text)?;
     print_verdict(9, report.condition_9, &mut text)?;
     print_verdict(10, report.condition_10, &mut text)?;

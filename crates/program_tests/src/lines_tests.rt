@@ -7,8 +7,8 @@ use std::alloc::Global;
 use std::process::Abort;
 use std::test::Fail;
 use tables::{
-    Credit, Customer, CustomerKey, District, DistrictKey, Lines, NewOrderReply, PaymentReply,
-    SuppliedLine, Warehouse,
+    Credit, Customer, CustomerKey, District, DistrictKey, LineKey, Lines, NewOrderReply, OrderKey,
+    PaymentReply, SuppliedLine, Warehouse,
 };
 
 #[test]
@@ -183,6 +183,21 @@ fn a_report_is_printed(rt: HostRuntime) {
     };
     let report = Report {
         condition_1: None,
+        condition_2: None,
+        condition_3: None,
+        condition_4: None,
+        condition_5: Some(OrderKey {
+            warehouse: 1,
+            district: 1,
+            order: 9,
+        }),
+        condition_6: None,
+        condition_7: Some(LineKey {
+            warehouse: 1,
+            district: 1,
+            order: 8,
+            line: 5,
+        }),
         condition_8: Some(1),
         condition_9: Some(DistrictKey {
             warehouse: 1,
@@ -195,7 +210,7 @@ fn a_report_is_printed(rt: HostRuntime) {
     print_report(1, &report, &mut text).expect(&rt, "memory");
     assert_eq!(rt;
         text.as_str(),
-        "commits 1\nC1 ok\nC8 broken 1\nC9 broken 1 2\nC10 broken 1 1 3\nC12 ok\n"
+        "commits 1\nC1 ok\nC2 ok\nC3 ok\nC4 ok\nC5 broken 1 1 9\nC6 ok\nC7 broken 1 1 8 5\nC8 broken 1\nC9 broken 1 2\nC10 broken 1 1 3\nC12 ok\n"
     );
 }
 
