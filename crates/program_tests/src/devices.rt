@@ -1,5 +1,6 @@
 //! A script on readers and writers that are slow, interrupted, or watched.
 
+use crate::GOOD;
 use book::Done;
 use conditions::Report;
 use money::Refusal;
@@ -11,8 +12,6 @@ use std::io::{self, ErrorKind, Read, Write};
 use std::sync::Wait;
 use std::test::Fail;
 use tables::Scale;
-
-const GOOD: &str = "C1 ok\nC8 ok\nC9 ok\nC10 ok\nC12 ok\n";
 
 fn small(alloc: Global) -> Result<Population, Refusal> {
     Population::plain(alloc, Scale::new(1, 2, 10, 20, 30, 5_000)?)

@@ -10,6 +10,12 @@ use tables::Scale;
 fn statuses_and_lines(rt: HostRuntime) -> Result<(), Fail> {
     let good = Report {
         condition_1: None,
+        condition_2: None,
+        condition_3: None,
+        condition_4: None,
+        condition_5: None,
+        condition_6: None,
+        condition_7: None,
         condition_8: None,
         condition_9: None,
         condition_10: None,

@@ -13,3 +13,8 @@ mod lines_tests;
 mod runs;
 #[cfg(test)]
 mod scripts;
+
+/// The report's lines where every condition holds.
+#[cfg(test)]
+const GOOD: &str =
+    "C1 ok\nC2 ok\nC3 ok\nC4 ok\nC5 ok\nC6 ok\nC7 ok\nC8 ok\nC9 ok\nC10 ok\nC12 ok\n";

@@ -51,7 +51,7 @@ fn a_script_at_its_options(rt: HostRuntime) -> Result<(), Fail> {
     let ran = run_on(&rt, rt.alloc(), TWO, &mut input)?;
     let expected = "payment 2 3 customer 2 3 12 balance -11.00\nwarehouse 2 ytd 361.00\n2 line 3\n\
         payment 1 1 customer 1 1 1 balance -11.00\n7 line 5\n2 line 6\n\
-        commits 2\nC1 ok\nC8 ok\nC9 ok\nC10 ok\nC12 ok\n";
+        commits 2\nC1 ok\nC2 ok\nC3 ok\nC4 ok\nC5 ok\nC6 ok\nC7 ok\nC8 ok\nC9 ok\nC10 ok\nC12 ok\n";
     assert_eq!(rt; ran.output.as_slice(), expected.as_bytes());
     assert_eq!(rt; ran.errors.as_slice(), b"".as_slice());
     assert_eq!(rt; ran.status, 0);

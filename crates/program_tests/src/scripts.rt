@@ -1,5 +1,6 @@
 //! Whole scripts, by what they write.
 
+use crate::GOOD;
 use book::Done;
 use conditions::Report;
 use money::{Cents, Refusal};
@@ -10,8 +11,6 @@ use std::io::{self, ErrorKind, Read, Write};
 use std::sync::Wait;
 use std::test::Fail;
 use tables::{PaymentReply, Reply, Scale};
-
-const GOOD: &str = "C1 ok\nC8 ok\nC9 ok\nC10 ok\nC12 ok\n";
 
 fn small(alloc: Global, commits: u32) -> Result<Population, Refusal> {
     Population::plain(alloc, Scale::new(1, 2, 10, 20, 30, commits)?)
