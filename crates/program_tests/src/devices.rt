@@ -145,7 +145,8 @@ fn answers_are_flushed_before_the_next_read(rt: HostRuntime) -> Result<(), Fail>
     run(&rt, rt.alloc(), &mut reader, &mut Watched(progress))?;
     // Each answer has 23 bytes.
     assert_eq!(rt; reader.seen.as_slice(), [0, 23, 46, 69].as_slice());
-    assert_eq!(rt; progress.flushed.get(), 69 + 42);
+    let report = "commits 0\n".len() + GOOD.len();
+    assert_eq!(rt; progress.flushed.get(), 69 + report);
     Ok(())
 }
 
