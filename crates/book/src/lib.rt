@@ -13,8 +13,6 @@ mod prepare;
 mod run;
 mod share;
 mod steps;
-#[cfg(test)]
-mod tests;
 
 pub use book::Book;
 pub use engine::{Engine, Parts, Seat, Seats};

@@ -8,8 +8,6 @@ mod opening;
 mod pass;
 mod populate;
 mod rule;
-#[cfg(test)]
-mod tests;
 mod tid;
 
 pub use cells::{Cells, Pen, Reader, Version};

@@ -5,8 +5,6 @@
 pub mod limits;
 mod list;
 mod reads;
-#[cfg(test)]
-mod tests;
 mod work;
 mod writes;
 

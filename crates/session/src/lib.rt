@@ -5,9 +5,7 @@
 mod attempting;
 mod executing;
 mod session;
-#[cfg(test)]
-mod tests;
 
 pub use attempting::attempt;
 pub use executing::execute;
-pub use session::Session;
+pub use session::{Session, persist};

@@ -133,8 +133,13 @@ impl<'e, K: Run> Session<'e, K> {
 }
 
 /// Executes a transaction and commits it, again and again for as long as what it read isn't the latest. It begins with
-/// what was executed before, if anything was. A refusal leaves the history as it was.
-pub(crate) fn persist<K: Run, R: Wait>(
+/// what was executed before, if anything was. For a terminal that shares the book with others: it need not hold the
+/// book while it executes for the first time.
+///
+/// # Errors
+///
+/// `CommitsFull` only at the commit cap, and else only `OutOfMemory`. The history is then as it was.
+pub fn persist<K: Run, R: Wait>(
     rt: &R,
     alloc: Global,
     engine: &Engine<K>,

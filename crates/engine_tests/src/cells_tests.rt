@@ -1,35 +1,36 @@
-//! LoadsRecord, stores and meets by one thread, and reads while another thread stores.
-
-ghost use Rattle.std.specs.Prelude.{◌≡◌, ◌<◌, All, length, IfOk};
+//! Reads, stores and meets by one thread, and reads while another thread stores.
+ghost use Rattle.std.specs.Prelude.{◌≡◌, ◌<◌, length};
 ghost use Rattle.cells.specs.TidWord.{tid_of};
 ghost use Rattle.cells.specs.Versions.{last_tid};
-ghost use Rattle.cells.specs.Opening.{seen_all};
 ghost use Rattle.cells.specs.Records.{at};
 
-use crate::cells::CellList;
-use crate::opening::OpeningOf;
-use crate::{Cells, Pen, Reader, Status, TidWord};
-use money::Refusal;
-use std::alloc::Global;
+use crate::stage::{CUSTOMER, DISTRICT, Stage, WAREHOUSE, open};
+use cells::{Cells, Pen, Reader, Status, TidWord, Version};
 use std::sync::Wait;
 use std::test::Fail;
 use std::thread::{Threads, join};
 
 const TURNS: u64 = 200_000;
 
-/// A warehouse, a district and a customer, whose payloads are all 0, all 1 and all 2, with one reader.
-fn three<R: Wait>(rt: &R, alloc: Global) -> Result<(Cells, Pen, Vec<Reader>), Refusal>
-    ensures { IfOk result (λ made. (made.1.cells ≡ made.0) × (length made.0 ≡ 3)
-        × All (λ reader. reader ≡ seen_all made.1) made.2.items
-        × (last_tid (at made.1.all 0) ≡ 0) × (last_tid (at made.1.all 1) ≡ 0)) }
+/// The first version of a record.
+fn populated(record: u32, payload: [u64; 7]) -> Version {
+    Version {
+        record,
+        word: TidWord::POPULATED,
+        payload,
+    }
+}
+
+/// The versions of the warehouse, the first district and its third customer.
+fn read_three<R: Wait>(rt: &R, cells: &Cells, reader: &mut Reader) -> [Version; 3]
+    requires own { reader.old.cells ≡ cells.now }
+    requires count { length cells.now ≡ 23 }
+    ensures { reader.new.cells ≡ cells.now }
 {
-    let mut list = CellList::new(alloc);
-    let opening = OpeningOf::<8>::new(alloc, 1)?;
-    let opening = opening.add(rt, alloc, &mut list, [2, 0, 0, 0, 0, 0, 0, 0])?;
-    let opening = opening.add(rt, alloc, &mut list, [2, 1, 1, 1, 1, 1, 1, 1])?;
-    let opening = opening.add(rt, alloc, &mut list, [2, 2, 2, 2, 2, 2, 2, 2])?;
-    let (pen, readers) = opening.finish();
-    Ok((Cells::of_list(list), pen, readers))
+    let warehouse = cells.read(rt, reader, 0);
+    let district = cells.read(rt, reader, 1);
+    let customer = cells.read(rt, reader, 5);
+    [warehouse, district, customer]
 }
 
 /// The answers of `meet` for a version that is the latest, for that version once another is stored, and for the
@@ -58,28 +59,25 @@ fn answers<R: Wait>(
 
 #[test]
 fn one_thread(rt: HostRuntime) -> Result<(), Fail> {
-    let (cells, mut pen, mut readers) = three(&rt, rt.alloc())?;
-    let Some(mut reader) = readers.pop() else {
-        return Ok(());
-    };
-    let warehouse = cells.read(&rt, &mut reader, 0);
-    let district = cells.read(&rt, &mut reader, 1);
-    let customer = cells.read(&rt, &mut reader, 2);
+    let mut stage = open(&rt, rt.alloc())?;
+    let [warehouse, district, customer] = read_three(&rt, &stage.cells, &mut stage.reader);
+    assert_eq!(rt; warehouse, populated(0, WAREHOUSE));
+    assert_eq!(rt; district, populated(1, DISTRICT));
+    assert_eq!(rt; customer, populated(5, CUSTOMER));
     let status = Status {
         latest: true,
         absent: false,
         locked: false,
     };
     let word = TidWord::pack(1, 7, status);
-    let met = answers(&rt, &cells, &mut pen, &mut reader, 1, word);
-    for (version, number) in [(warehouse, 0), (district, 1), (customer, 2)] {
-        assert_eq!(rt;
-            (version.record, version.word),
-            (number, TidWord::POPULATED)
-        );
-        let payload = version.payload;
-        assert_eq!(rt; payload, [u64::from(number); 7]);
-    }
+    let met = answers(
+        &rt,
+        &stage.cells,
+        &mut stage.pen,
+        &mut stage.reader,
+        1,
+        word,
+    );
     assert_eq!(rt; met, (true, false, true, [9, 8, 7, 6, 5, 4, 3]));
     Ok(())
 }
@@ -100,9 +98,9 @@ fn tid_words(rt: HostRuntime) {
     assert!(rt; TidWord::ABSENT.is_latest() && TidWord::ABSENT.is_absent());
 }
 
-/// Stores versions of record 0 whose payloads are all their TID's number.
+/// Stores versions of the warehouse whose payloads are all their TID's number.
 fn store_turns<R: Wait>(rt: &R, cells: &Cells, mut pen: Pen)
-    requires own { (pen.cells ≡ cells.now) × (length cells.now ≡ 3) }
+    requires own { (pen.cells ≡ cells.now) × (length cells.now ≡ 23) }
     requires first { last_tid (at pen.all 0) ≡ 0 }
 {
     for turn in 1..TURNS {
@@ -110,23 +108,28 @@ fn store_turns<R: Wait>(rt: &R, cells: &Cells, mut pen: Pen)
     }
 }
 
-/// Whether each version of record 0 that it reads is whole, and none is older than the one before.
+/// The payload of the version of a turn, where turn 0 is the population's.
+fn payload_of(turn: u64) -> [u64; 7] {
+    if turn == 0 { WAREHOUSE } else { [turn; 7] }
+}
+
+/// Whether each version of the warehouse that it reads is whole, and none is older than the one before.
 fn read_turns<R: Wait>(rt: &R, cells: &Cells, mut reader: Reader) -> bool
-    requires { (reader.cells ≡ cells.now) × (length cells.now ≡ 3) }
+    requires { (reader.cells ≡ cells.now) × (length cells.now ≡ 23) }
 {
     let mut last = 0;
     let mut is_well = true;
     for _ in 0..TURNS {
         let version = cells.read(rt, &mut reader, 0);
         let turn = version.word.word() / 8;
-        is_well = is_well && last <= turn && version.payload == [turn; 7];
+        is_well = is_well && last <= turn && version.payload == payload_of(turn);
         last = turn;
     }
     is_well
 }
 
 fn both<R: Threads + Wait + Sync>(rt: &R, cells: &Cells, pen: Pen, reader: Reader) -> bool
-    requires own { (pen.cells ≡ cells.now) × (reader.cells ≡ cells.now) × (length cells.now ≡ 3) }
+    requires own { (pen.cells ≡ cells.now) × (reader.cells ≡ cells.now) × (length cells.now ≡ 23) }
     requires first { last_tid (at pen.all 0) ≡ 0 }
 {
     let (_, is_well) = join(
@@ -139,10 +142,12 @@ fn both<R: Threads + Wait + Sync>(rt: &R, cells: &Cells, pen: Pen, reader: Reade
 
 #[test]
 fn two_threads(rt: HostRuntime) -> Result<(), Fail> {
-    let (cells, pen, mut readers) = three(&rt, rt.alloc())?;
-    let Some(reader) = readers.pop() else {
-        return Ok(());
-    };
+    let Stage {
+        population: _,
+        cells,
+        pen,
+        reader,
+    } = open(&rt, rt.alloc())?;
     assert!(rt; both(&rt, &cells, pen, reader));
     Ok(())
 }

@@ -1,15 +1,13 @@
-//! Reads and writes on the cells of one warehouse, two districts and ten customers a district: record 0 is the
-//! warehouse, 1 and 2 are the districts.
-ghost use Rattle.std.specs.Prelude.{◌≡◌, length, IfOk};
+//! Read sets and write sets on the small population's cells.
+ghost use Rattle.std.specs.Prelude.{◌≡◌, length};
 
-use crate::{ReadSet, WriteSet};
-use cells::{Cells, Reader};
-use money::{Cents, Refusal};
-use population::Population;
+use crate::payments::history_row;
+use crate::stage::{Stage, WAREHOUSE, open};
+use money::Refusal;
+use readset::{ReadSet, WriteSet};
 use std::alloc::Global;
 use std::sync::Wait;
 use std::test::Fail;
-use tables::{History, Scale};
 
 /// What was seen of writes.
 #[derive(Clone, Copy, Debug, PartialEq, Eq)]
@@ -17,23 +15,6 @@ struct Seen {
     count: usize,
     value: Option<Option<[u64; 7]>>,
     left: Option<[u64; 7]>,
-}
-
-/// Cells, and who reads them.
-#[derive(Drop)]
-struct Stage {
-    cells: Cells,
-    reader: Reader,
-}
-
-fn open<R: Wait>(rt: &R, alloc: Global) -> Result<Stage, Fail>
-    ensures count { IfOk result (λ s. length s.cells ≡ 23) }
-    ensures reader { IfOk result (λ s. s.reader.cells ≡ s.cells) }
-{
-    let population = Population::plain(alloc, Scale::new(1, 2, 10, 20, 30, 1_000)?)?;
-    let (cells, _pen, mut readers) = Cells::new(rt, alloc, &population, 1)?;
-    let reader = readers.pop().ok_or("reader")?;
-    Ok(Stage { cells, reader })
 }
 
 /// Reads the warehouse, twice.
@@ -55,9 +36,6 @@ fn seen_of(writes: &WriteSet, reads: &ReadSet, number: u32) -> Seen {
         left: writes.left(reads, number),
     }
 }
-
-/// The words of the population's warehouse.
-const WAREHOUSE: [u64; 7] = [20_000, 0, 0, 0, 0, 0, 0];
 
 #[test]
 fn a_record_that_is_only_read_is_left_as_read(rt: HostRuntime) -> Result<(), Fail> {
@@ -95,25 +73,13 @@ fn put(writes: &mut WriteSet, reads: &ReadSet, value: Option<[u64; 7]>) -> Resul
     Ok(seen_of(writes, reads, 0))
 }
 
-fn row() -> History {
-    History {
-        customer: 3,
-        customer_district: 1,
-        customer_warehouse: 1,
-        district: 1,
-        warehouse: 1,
-        date: 1,
-        amount: Cents::new(1_234),
-    }
-}
-
 #[test]
 fn a_list_has_the_writes_in_order(rt: HostRuntime) -> Result<(), Fail> {
     let mut writes = WriteSet::new(rt.alloc());
     put_three(&mut writes)?;
-    assert_eq!(rt; writes.history_row(), Some(row()));
+    assert_eq!(rt; writes.history_row(), Some(history_row(3, 1_234)));
     let list = writes.list(rt.alloc())?;
-    assert_eq!(rt; list.history_row(), Some(row()));
+    assert_eq!(rt; list.history_row(), Some(history_row(3, 1_234)));
     assert_eq!(rt; list.values().len(), 2);
     assert_eq!(rt; list.values().first().copied(), Some((1, Some(WAREHOUSE))));
     assert_eq!(rt; list.values().last().copied(), Some((2, None)));
@@ -124,6 +90,6 @@ fn a_list_has_the_writes_in_order(rt: HostRuntime) -> Result<(), Fail> {
 fn put_three(writes: &mut WriteSet) -> Result<(), Refusal> {
     writes.put(2, None)?;
     writes.put(1, Some(WAREHOUSE))?;
-    writes.put_history_row(row());
+    writes.put_history_row(history_row(3, 1_234));
     Ok(())
 }

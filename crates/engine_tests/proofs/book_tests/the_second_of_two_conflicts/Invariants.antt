@@ -1,5 +1,5 @@
 use Rattle.book.specs.Parts.{first_of, cells_of, ledger_name, ledger_parts}
-use Rattle.book.proofs.tests.the_second_of_two_conflicts.Given as goal
+use Rattle.engine_tests.proofs.book_tests.the_second_of_two_conflicts.Given as goal
 
 abbrev pub ghosts-pay_twice-K-Run : goal.ghosts-pay_twice-K-Run
 ghosts-pay_twice-K-Run g a = record { first = first_of a.parts; cells = cells_of a.parts }

@@ -5,7 +5,7 @@ use Rattle.tables.specs.Inputs.{IsInput}
 use Rattle.tables.specs.declared.input.Input.{Input}
 use Rattle.readset.specs.Explains.{Explains, IsWithinLimits}
 use Rattle.book.proofs.Executed.{work_of}
-use Rattle.book.proofs.tests.pay.Goals as goal
+use Rattle.engine_tests.proofs.engine.pay.Goals as goal
 
 pub returns-clause-work : goal.returns-clause-work
 returns-clause-work g c =

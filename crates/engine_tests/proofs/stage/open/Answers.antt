@@ -4,7 +4,7 @@ use Rattle.population.specs.Initial.{initial}
 use Rattle.cells.specs.Records.{PenView, at}
 use Rattle.cells.specs.Versions.{last_tid}
 use Rattle.cells.specs.First.{first_version, firsts, cell_count}
-use Rattle.payment.proofs.tests.open.Goals as goal
+use Rattle.engine_tests.proofs.stage.open.Goals as goal
 
 -- the first versions have the TID 0
 first_tid : (w : Option (List ℕ)) → last_tid (first_version w ∷ []) ≡ 0

@@ -3,7 +3,7 @@ use Rattle.cells.specs.TidWord.{tid_of}
 use Rattle.cells.specs.Versions.{last_tid}
 use Rattle.cells.specs.Records.{at}
 use Rattle.cells.proofs.Records.{last_tid-writes}
-use Rattle.cells.proofs.tests.store_turns.Goals as goal
+use Rattle.engine_tests.proofs.cells_tests.store_turns.Goals as goal
 
 pub loop-turn-preserved : goal.loop-turn-preserved
 loop-turn-preserved g c =

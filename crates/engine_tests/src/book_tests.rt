@@ -1,64 +1,20 @@
 //! Two Payments to one district, both executed before either commits, by threads that take no lock.
-ghost use Rattle.std.specs.Prelude.{◌≡◌, length, IfOk, IfSome};
-ghost use Rattle.cells.specs.First.{cell_count};
-ghost use Rattle.book.specs.Book.{IsWorkOf};
+ghost use Rattle.std.specs.Prelude.{◌≡◌, length};
 ghost use Rattle.book.specs.Parts.{IsFresh, first_of, cells_of, ledger_name, ledger_parts};
 
-use crate::{Engine, Parts, Run, Seat, Seats};
+use crate::engine::{Executed, both_of, parts, pay};
+use crate::payments::{history_row, payment_reply, reply};
+use book::{Engine, Parts, Run, Seat};
 use cells::Reader;
 use money::{Cents, Refusal};
-use payment::execute;
-use population::Population;
-use readset::Work;
 use std::alloc::Global;
-use std::marker::{Brand, Model};
+use std::marker::Brand;
 use std::sync::Wait;
 use std::sync::atomic::{AtomicU64, Ordering};
 use std::test::Fail;
 use std::thread::{Threads, join, sleep};
 use std::time::{Clock, Duration};
-use tables::{History, Input, PaymentInput, PaymentReply, Reply, Scale, Who};
-
-/// The parts of an engine with two terminals, over one warehouse with two districts and ten customers in each.
-fn parts<R: Wait>(rt: &R, alloc: Global) -> Result<Parts, Refusal>
-    ensures fresh { IfOk result IsFresh }
-    ensures cells { IfOk result (λ parts. length (cells_of parts) ≡ 23) }
-{
-    let scale = Scale::new(1, 2, 10, 20, 30, 1_000)?;
-    let population = Population::plain(alloc, scale)?;
-    Parts::new(rt, alloc, population, 2)
-}
-
-/// Executes a Payment of 1.00 by a customer of district 1 to that district.
-fn pay<K: Run, R: Wait>(
-    rt: &R,
-    alloc: Global,
-    engine: &Engine<K>,
-    seat: &mut Seat<K>,
-    customer: u32,
-) -> Result<Work, Refusal>
-    requires count { length K.cells ≡ cell_count K.first.scale }
-    requires reader { seat.old.reader.cells ≡ K.cells }
-    ensures reader { IfOk result (λ work. seat.new.reader.cells ≡ K.cells) }
-    ensures share { seat.new.share ≡ seat.old.share }
-    ensures work { IfOk result (λ work. IsWorkOf K.first (length K.cells) seat.new.reader work) }
-{
-    let population = engine.population();
-    let payment = PaymentInput {
-        date: 1,
-        warehouse: 1,
-        district: 1,
-        customer_warehouse: 1,
-        customer_district: 1,
-        who: Who::Id(customer),
-        amount: Cents::new(100),
-    };
-    // Its ranges are the scale's.
-    let _input = Input::payment(&population.scale(), payment)?;
-    let cells = engine.cells();
-    let work = execute(rt, alloc, cells, &mut seat.reader, population, &payment)?;
-    Ok(work)
-}
+use tables::{History, PaymentReply};
 
 /// How often a thread looks for another before it gives up. It sleeps a millisecond between, so that the others run
 /// even on a busy machine.
@@ -89,24 +45,6 @@ fn hold<K: Run, R: Wait + Clock>(
     is_executed
 }
 
-/// A Payment that a terminal has executed.
-#[derive(Drop)]
-struct Executed<K: Run> {
-    seat: Seat<K>,
-    work: Work,
-}
-
-impl<K: Run> Model for Executed<K> {
-    ghost use Rattle.std.specs.Prelude.{◌≡◌, length};
-    ghost use Rattle.book.specs.Book.{IsWorkOf};
-
-    ghost Value = { Unit {0} };
-
-    ghost view = { λ e. tt };
-
-    ghost invariant = { λ e. (e.seat.reader.cells ≡ K.cells) × IsWorkOf K.first (length K.cells) e.seat.reader e.work };
-}
-
 /// Executes a Payment while another thread holds the book.
 fn pay_meanwhile<K: Run, R: Wait + Clock>(
     rt: &R,
@@ -117,16 +55,14 @@ fn pay_meanwhile<K: Run, R: Wait + Clock>(
     held: &AtomicU64,
     executed: &AtomicU64,
 ) -> Option<Executed<K>>
-    requires count { length K.cells ≡ cell_count K.first.scale }
     requires reader { seat.reader.cells ≡ K.cells }
 {
-    let mut seat = seat;
     if !wait_for(rt, held, 1) {
         return None;
     }
-    let work = pay(rt, alloc, engine, &mut seat, customer).ok()?;
+    let paid = pay(rt, alloc, engine, seat, customer).ok()?;
     executed.fetch_add(1, Ordering::AcqRel);
-    Some(Executed { seat, work })
+    Some(paid)
 }
 
 /// Executes a Payment at each of two terminals, in threads of their own.
@@ -139,17 +75,14 @@ fn pay_both<K: Run + Send + Sync, R: Threads + Wait + Clock + Sync>(
     held: &AtomicU64,
     executed: &AtomicU64,
 ) -> (Option<Executed<K>>, Option<Executed<K>>)
-    requires count { length K.cells ≡ cell_count K.first.scale }
     requires left { left.reader.cells ≡ K.cells }
     requires right { right.reader.cells ≡ K.cells }
 {
     let third = move || -> Option<Executed<K>>
-        requires count { length K.cells ≡ cell_count K.first.scale }
-        requires reader { left.reader.cells ≡ K.cells }
+            requires reader { left.reader.cells ≡ K.cells }
     { pay_meanwhile(rt, alloc, engine, left, 3, held, executed) };
     let fourth = move || -> Option<Executed<K>>
-        requires count { length K.cells ≡ cell_count K.first.scale }
-        requires reader { right.reader.cells ≡ K.cells }
+            requires reader { right.reader.cells ≡ K.cells }
     { pay_meanwhile(rt, alloc, engine, right, 4, held, executed) };
     join(rt, third, fourth)
 }
@@ -162,15 +95,13 @@ fn pay_both_meanwhile<K: Run + Send + Sync, R: Threads + Wait + Clock + Sync>(
     left: Seat<K>,
     right: Seat<K>,
 ) -> Option<(Executed<K>, Executed<K>)>
-    requires count { length K.cells ≡ cell_count K.first.scale }
     requires left { left.reader.cells ≡ K.cells }
     requires right { right.reader.cells ≡ K.cells }
 {
     let (held, executed) = (AtomicU64::new(0), AtomicU64::new(0));
     let (held, executed) = (&held, &executed);
     let payers = move || -> (Option<Executed<K>>, Option<Executed<K>>)
-        requires count { length K.cells ≡ cell_count K.first.scale }
-        requires left { left.reader.cells ≡ K.cells }
+            requires left { left.reader.cells ≡ K.cells }
         requires right { right.reader.cells ≡ K.cells }
     { pay_both(rt, alloc, engine, left, right, held, executed) };
     let (is_executed, (third, fourth)) = join(rt, move || hold(rt, engine, held, executed), payers);
@@ -181,7 +112,7 @@ fn pay_both_meanwhile<K: Run + Send + Sync, R: Threads + Wait + Clock + Sync>(
 }
 
 /// A commit's number, its TID's word, and the reply.
-type Told = (u32, u64, Reply);
+type Told = (u32, u64, Option<PaymentReply>);
 
 /// Commits a Payment that a terminal has executed, and tells of it.
 fn commit_executed<K: Run, R: Wait>(
@@ -191,11 +122,15 @@ fn commit_executed<K: Run, R: Wait>(
 ) -> (Seat<K>, Result<Told, Refusal>)
     ensures { result.0.reader.cells ≡ K.cells }
 {
-    let Executed { mut seat, work } = executed;
+    let Executed {
+        mut seat,
+        input: _,
+        work,
+    } = executed;
     let mut book = engine.lock(rt);
     let told = book
         .commit(rt, engine.cells(), &mut seat.reader, &mut seat.share, work)
-        .map(|done| (done.number(), done.tid().word(), done.reply()));
+        .map(|done| (done.number(), done.tid().word(), payment_reply(done.reply())));
     drop(book);
     (seat, told)
 }
@@ -287,7 +222,6 @@ fn commit_both<K: Run, R: Wait>(
     fourth: Executed<K>,
 ) -> Result<Commits, Refusal>
     requires count { length K.cells ≡ 23 }
-    requires scale { length K.cells ≡ cell_count K.first.scale }
 {
     let (mut left, first) = commit_executed(rt, engine, third);
     let before = standing_of(rt, engine, &mut left.reader);
@@ -311,11 +245,9 @@ fn pay_again<K: Run, R: Wait>(
     seat: Seat<K>,
 ) -> Result<Result<Told, Refusal>, Refusal>
     requires reader { seat.reader.cells ≡ K.cells }
-    requires count { length K.cells ≡ cell_count K.first.scale }
 {
-    let mut seat = seat;
-    let work = pay(rt, alloc, engine, &mut seat, 4)?;
-    let (_, told) = commit_executed(rt, engine, Executed { seat, work });
+    let executed = pay(rt, alloc, engine, seat, 4)?;
+    let (_, told) = commit_executed(rt, engine, executed);
     Ok(told)
 }
 
@@ -336,7 +268,6 @@ fn outcome_of<K: Run + Send + Sync, R: Threads + Wait + Clock + Sync>(
     right: Seat<K>,
 ) -> Result<Outcome, Fail>
     requires count { length K.cells ≡ 23 }
-    requires scale { length K.cells ≡ cell_count K.first.scale }
     requires left { left.reader.cells ≡ K.cells }
     requires right { right.reader.cells ≡ K.cells }
 {
@@ -351,16 +282,6 @@ fn outcome_of<K: Run + Send + Sync, R: Threads + Wait + Clock + Sync>(
         commits,
         account: account_of(rt, alloc, engine)?,
     })
-}
-
-/// The seats of the two terminals.
-fn both_of<K: Run>(seats: &mut Seats<K>) -> Option<(Seat<K>, Seat<K>)>
-    ensures left { IfSome result (λ both. both.0.reader.cells ≡ K.cells) }
-    ensures right { IfSome result (λ both. both.1.reader.cells ≡ K.cells) }
-{
-    let left = seats.next()?;
-    let right = seats.next()?;
-    Some((left, right))
 }
 
 fn pay_twice<K: Run + Send + Sync, R: Threads + Wait + Clock + Sync>(
@@ -378,17 +299,6 @@ fn pay_twice<K: Run + Send + Sync, R: Threads + Wait + Clock + Sync>(
     outcome_of(rt, alloc, &engine, left, right)
 }
 
-fn reply(customer: u32) -> Reply {
-    Reply::Payment(PaymentReply {
-        warehouse: 1,
-        district: 1,
-        customer_warehouse: 1,
-        customer_district: 1,
-        customer,
-        balance: Cents::new(-1_100),
-    })
-}
-
 #[test]
 fn the_second_of_two_conflicts(rt: HostRuntime) -> Result<(), Fail> {
     let parts = parts(&rt, rt.alloc())?;
@@ -399,9 +309,9 @@ fn the_second_of_two_conflicts(rt: HostRuntime) -> Result<(), Fail> {
         account,
     } = pay_twice::<Brand, _>(&rt, rt.alloc(), parts)?;
     assert_eq!(rt; terminals, [0, 1]);
-    assert_eq!(rt; commits.first, Ok((1, 4_294_967_304, reply(3))));
+    assert_eq!(rt; commits.first, Ok((1, 4_294_967_304, reply(3, -1_100))));
     assert_eq!(rt; commits.second, Err(Refusal::Conflict));
-    assert_eq!(rt; commits.again, Ok((2, 4_294_967_312, reply(4))));
+    assert_eq!(rt; commits.again, Ok((2, 4_294_967_312, reply(4, -1_100))));
     let [before, after, end] = commits.states;
     assert_eq!(rt; opened.commits, 0);
     assert_eq!(rt; opened.tids, [2; 4]);
@@ -425,21 +335,12 @@ fn the_second_of_two_conflicts(rt: HostRuntime) -> Result<(), Fail> {
     // A C_BALANCE of -11.00, in the 64 bits of a word.
     let balance = u64::MAX - 1_099;
     assert_eq!(rt; end.words, [20_200, 10_200, balance, balance]);
-    let paid = History {
-        customer: 3,
-        customer_district: 1,
-        customer_warehouse: 1,
-        district: 1,
-        warehouse: 1,
-        date: 1,
-        amount: Cents::new(100),
-    };
     let expected = Account {
         payments: 22,
         is_good: true,
         terminal: Some(0),
         writes: Some(3),
-        added: Some(paid),
+        added: Some(history_row(3, 100)),
     };
     assert_eq!(rt; account, expected);
     Ok(())

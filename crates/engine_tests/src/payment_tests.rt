@@ -1,5 +1,4 @@
-//! Payments on the cells of one warehouse, two districts and ten customers a district: record 0 is the warehouse,
-//! 1 and 2 are the districts, and from 3 on there are the customers of the first district.
+//! Payments of the third customer, which is record 5, on the small population's cells.
 ghost use Rattle.std.specs.Prelude.{◌≡◌, ◌≢◌, ℕ, ◌<◌, length, IfOk};
 ghost use Rattle.tables.specs.Payment.{IsPayment};
 ghost use Rattle.cells.specs.Records.{at};
@@ -7,24 +6,16 @@ ghost use Rattle.cells.specs.Versions.{last_tid};
 ghost use Rattle.cells.specs.First.{cell_count};
 ghost use Rattle.population.specs.Initial.{initial};
 
-use crate::execute;
-use cells::{Cells, Pen, Reader, Status, TidWord};
-use money::{Cents, MAX_MONEY, Refusal};
-use population::Population;
+use crate::payments::{history_row, payment, payment_reply, reply};
+use crate::stage::{CUSTOMER, DISTRICT, Stage, open};
+use cells::{Status, TidWord};
+use money::{MAX_MONEY, Refusal};
+use payment::execute;
 use readset::{ReadSet, Work};
 use std::alloc::Global;
 use std::sync::Wait;
 use std::test::Fail;
-use tables::{History, Input, PaymentInput, PaymentReply, Reply, Scale, Who};
-
-/// A population on cells.
-#[derive(Drop)]
-struct Stage {
-    population: Population,
-    cells: Cells,
-    pen: Pen,
-    reader: Reader,
-}
+use tables::{History, Input, PaymentInput, PaymentReply, Scale};
 
 /// The TID word and the data of a version.
 #[derive(Clone, Copy, Debug, PartialEq, Eq)]
@@ -36,8 +27,8 @@ struct Held {
 /// What was seen of a payment that was executed: of its three records, the version read and what each is to hold.
 #[derive(Clone, Copy)]
 struct Seen {
-    input: Input,
-    reply: Reply,
+    input: Option<PaymentInput>,
+    reply: Option<PaymentReply>,
     reads: usize,
     writes: usize,
     read: Read,
@@ -59,24 +50,6 @@ struct Written {
     warehouse: Option<[u64; 7]>,
     district: Option<[u64; 7]>,
     customer: Option<[u64; 7]>,
-}
-
-fn open<R: Wait>(rt: &R, alloc: Global) -> Result<Stage, Fail>
-    ensures count { IfOk result (λ s. length s.cells ≡ 23) }
-    ensures scale { IfOk result (λ s. length s.cells ≡ cell_count (initial s.population).scale) }
-    ensures pen { IfOk result (λ s. s.pen.cells ≡ s.cells) }
-    ensures reader { IfOk result (λ s. s.reader.cells ≡ s.cells) }
-    ensures first { IfOk result (λ s. (n : ℕ) → last_tid (at s.pen.all n) ≡ 0) }
-{
-    let population = Population::plain(alloc, Scale::new(1, 2, 10, 20, 30, 1_000)?)?;
-    let (cells, pen, mut readers) = Cells::new(rt, alloc, &population, 1)?;
-    let reader = readers.pop().ok_or("reader")?;
-    Ok(Stage {
-        population,
-        cells,
-        pen,
-        reader,
-    })
 }
 
 /// Stores the version 1 of epoch 1 of a record: these words, or that it is absent.
@@ -101,35 +74,14 @@ fn store<R: Wait>(rt: &R, stage: &mut Stage, number: u32, value: Option<[u64; 7]
         .store(rt, &mut stage.pen, number, word, value.unwrap_or([0; 7]));
 }
 
-/// A payment of customer 3 of district 1 to that district.
-fn asked(amount: i64) -> PaymentInput {
-    PaymentInput {
-        date: 1,
-        warehouse: 1,
-        district: 1,
-        customer_warehouse: 1,
-        customer_district: 1,
-        who: Who::Id(3),
-        amount: Cents::new(amount),
-    }
-}
-
-fn payment(scale: &Scale, amount: i64) -> Result<PaymentInput, Refusal>
-    ensures { IfOk result (λ payment. IsPayment scale.now payment) }
+/// A Payment of customer 3.
+fn payment_of_third(scale: &Scale, amount: i64) -> Result<PaymentInput, Refusal>
+    ensures { IfOk result (λ asked. IsPayment scale.now asked) }
 {
-    let Input::Payment(payment) = Input::payment(scale, asked(amount))?;
-    Ok(payment)
-}
-
-fn reply(balance: i64) -> Reply {
-    Reply::Payment(PaymentReply {
-        warehouse: 1,
-        district: 1,
-        customer_warehouse: 1,
-        customer_district: 1,
-        customer: 3,
-        balance: Cents::new(balance),
-    })
+    let asked = payment(3, amount);
+    // Its ranges are the scale's.
+    let _input = Input::payment(scale, asked)?;
+    Ok(asked)
 }
 
 /// The version read of a record.
@@ -141,10 +93,18 @@ fn version_of(reads: &ReadSet, number: u32) -> Option<Held> {
     })
 }
 
+/// The input, where it is a Payment's.
+fn payment_input(input: &Input) -> Option<PaymentInput> {
+    match input {
+        Input::Payment(payment) => Some(*payment),
+        Input::NewOrder(_) => None,
+    }
+}
+
 fn seen_of(work: &Work) -> Seen {
     Seen {
-        input: work.input,
-        reply: work.reply,
+        input: payment_input(&work.input),
+        reply: payment_reply(&work.reply),
         reads: work.reads.versions().count(),
         writes: work.writes.values().count(),
         read: Read {
@@ -170,7 +130,7 @@ fn pay<R: Wait>(rt: &R, alloc: Global, stage: &mut Stage, amount: i64) -> Result
     ensures pen { stage.new.pen ≡ stage.old.pen }
     ensures reader { stage.new.reader.cells ≡ stage.old.reader.cells }
 {
-    let payment = payment(&stage.population.scale(), amount)?;
+    let payment = payment_of_third(&stage.population.scale(), amount)?;
     let work = execute(
         rt,
         alloc,
@@ -186,24 +146,15 @@ fn pay<R: Wait>(rt: &R, alloc: Global, stage: &mut Stage, amount: i64) -> Result
 fn a_payment(rt: HostRuntime) -> Result<(), Fail> {
     let mut stage = open(&rt, rt.alloc())?;
     let seen = pay(&rt, rt.alloc(), &mut stage, 1_234)?;
-    assert_eq!(rt; seen.input, Input::Payment(asked(1_234)));
-    assert_eq!(rt; seen.reply, reply(-2_234));
+    assert_eq!(rt; seen.input, Some(payment(3, 1_234)));
+    assert_eq!(rt; seen.reply, reply(3, -2_234));
     assert_eq!(rt; seen.reads, 3);
     assert_eq!(rt; seen.writes, 3);
     assert_eq!(rt; seen.written.warehouse, Some([21_234, 0, 0, 0, 0, 0, 0]));
     assert_eq!(rt; seen.written.district, Some([11_234, 11, 0, 0, 0, 0, 0]));
     let customer = [(-2_234_i64).cast_unsigned(), 2_234, 2, 0, 0, 0, 0];
     assert_eq!(rt; seen.written.customer, Some(customer));
-    let row = History {
-        customer: 3,
-        customer_district: 1,
-        customer_warehouse: 1,
-        district: 1,
-        warehouse: 1,
-        date: 1,
-        amount: Cents::new(1_234),
-    };
-    assert_eq!(rt; seen.history_row, Some(row));
+    assert_eq!(rt; seen.history_row, Some(history_row(3, 1_234)));
     Ok(())
 }
 
@@ -233,9 +184,9 @@ fn pay_and_store<R: Wait>(
 fn a_payment_after_another(rt: HostRuntime) -> Result<(), Fail> {
     let mut stage = open(&rt, rt.alloc())?;
     let first = pay_and_store(&rt, rt.alloc(), &mut stage, 100)?;
-    assert_eq!(rt; first.reply, reply(-1_100));
+    assert_eq!(rt; first.reply, reply(3, -1_100));
     let second = pay(&rt, rt.alloc(), &mut stage, 500_000)?;
-    assert_eq!(rt; second.reply, reply(-501_100));
+    assert_eq!(rt; second.reply, reply(3, -501_100));
     assert_eq!(rt; second.written.warehouse, Some([520_100, 0, 0, 0, 0, 0, 0]));
     assert_eq!(rt; second.written.district, Some([510_100, 11, 0, 0, 0, 0, 0]));
     let customer = [(-501_100_i64).cast_unsigned(), 501_100, 3, 0, 0, 0, 0];
@@ -270,14 +221,17 @@ fn reads_between_the_stores_of_another(rt: HostRuntime) -> Result<(), Fail> {
     assert_eq!(rt; seen.read.warehouse, Some(stored));
     let district = Held {
         word: 2,
-        payload: [10_000, 11, 0, 0, 0, 0, 0],
+        payload: DISTRICT,
     };
     assert_eq!(rt; seen.read.district, Some(district));
-    let payload = [(-1_000_i64).cast_unsigned(), 1_000, 1, 0, 0, 0, 0];
-    assert_eq!(rt; seen.read.customer, Some(Held { word: 2, payload }));
+    let customer = Held {
+        word: 2,
+        payload: CUSTOMER,
+    };
+    assert_eq!(rt; seen.read.customer, Some(customer));
     assert_eq!(rt; seen.written.warehouse, Some([21_334, 0, 0, 0, 0, 0, 0]));
     assert_eq!(rt; seen.written.district, Some([11_234, 11, 0, 0, 0, 0, 0]));
-    assert_eq!(rt; seen.reply, reply(-2_234));
+    assert_eq!(rt; seen.reply, reply(3, -2_234));
     Ok(())
 }
 

@@ -1,0 +1,19 @@
+//! Tests of `cells`, `readset`, `payment`, `book` and `session`, over the plain population of one warehouse.
+#![tactic(auto)]
+
+#[cfg(test)]
+mod book_tests;
+#[cfg(test)]
+mod cells_tests;
+#[cfg(test)]
+mod engine;
+#[cfg(test)]
+mod payment_tests;
+#[cfg(test)]
+mod payments;
+#[cfg(test)]
+mod readset_tests;
+#[cfg(test)]
+mod session_tests;
+#[cfg(test)]
+mod stage;

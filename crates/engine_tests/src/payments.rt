@@ -1,0 +1,50 @@
+//! Payments of customers of district 1 to that district, and what they leave.
+
+use money::Cents;
+use tables::{History, PaymentInput, PaymentReply, Reply, Who};
+
+/// A Payment's input.
+pub fn payment(customer: u32, amount: i64) -> PaymentInput {
+    PaymentInput {
+        date: 1,
+        warehouse: 1,
+        district: 1,
+        customer_warehouse: 1,
+        customer_district: 1,
+        who: Who::Id(customer),
+        amount: Cents::new(amount),
+    }
+}
+
+/// The HISTORY row of that Payment.
+pub fn history_row(customer: u32, amount: i64) -> History {
+    History {
+        customer,
+        customer_district: 1,
+        customer_warehouse: 1,
+        district: 1,
+        warehouse: 1,
+        date: 1,
+        amount: Cents::new(amount),
+    }
+}
+
+/// The reply of one that leaves this balance.
+pub fn reply(customer: u32, balance: i64) -> Option<PaymentReply> {
+    Some(PaymentReply {
+        warehouse: 1,
+        district: 1,
+        customer_warehouse: 1,
+        customer_district: 1,
+        customer,
+        balance: Cents::new(balance),
+    })
+}
+
+/// The reply, where it is a Payment's.
+pub fn payment_reply(reply: &Reply) -> Option<PaymentReply> {
+    match reply {
+        Reply::Payment(reply) => Some(*reply),
+        Reply::NewOrder(_) => None,
+    }
+}

@@ -1,0 +1,57 @@
+//! The plain population of one warehouse, two districts and ten customers a district, on its 23 cells: record 0 is
+//! the warehouse, 1 and 2 are the districts, and from 3 on there are the customers of the first district.
+ghost use Rattle.std.specs.Prelude.{◌≡◌, ℕ, length, IfOk};
+ghost use Rattle.population.specs.Initial.{initial};
+ghost use Rattle.cells.specs.First.{cell_count};
+ghost use Rattle.cells.specs.Records.{at};
+ghost use Rattle.cells.specs.Versions.{last_tid};
+
+use cells::{Cells, Pen, Reader};
+use money::Refusal;
+use population::Population;
+use std::alloc::Global;
+use std::sync::Wait;
+use std::test::Fail;
+use tables::Scale;
+
+/// The words of the warehouse.
+pub const WAREHOUSE: [u64; 7] = [20_000, 0, 0, 0, 0, 0, 0];
+
+/// The words of a district.
+pub const DISTRICT: [u64; 7] = [10_000, 11, 0, 0, 0, 0, 0];
+
+/// The words of a customer, of which the first is a C_BALANCE of -10.00.
+pub const CUSTOMER: [u64; 7] = [u64::MAX - 999, 1_000, 1, 0, 0, 0, 0];
+
+pub fn small(alloc: Global) -> Result<Population, Refusal>
+    ensures { IfOk result (λ population. cell_count (initial population).scale ≡ 23) }
+{
+    Population::plain(alloc, Scale::new(1, 2, 10, 20, 30, 1_000)?)
+}
+
+/// The population on cells, with one reader.
+#[derive(Drop)]
+pub struct Stage {
+    pub population: Population,
+    pub cells: Cells,
+    pub pen: Pen,
+    pub reader: Reader,
+}
+
+pub fn open<R: Wait>(rt: &R, alloc: Global) -> Result<Stage, Fail>
+    ensures count { IfOk result (λ s. length s.cells ≡ 23) }
+    ensures scale { IfOk result (λ s. length s.cells ≡ cell_count (initial s.population).scale) }
+    ensures pen { IfOk result (λ s. s.pen.cells ≡ s.cells) }
+    ensures reader { IfOk result (λ s. s.reader.cells ≡ s.cells) }
+    ensures first { IfOk result (λ s. (n : ℕ) → last_tid (at s.pen.all n) ≡ 0) }
+{
+    let population = small(alloc)?;
+    let (cells, pen, mut readers) = Cells::new(rt, alloc, &population, 1)?;
+    let reader = readers.pop().ok_or("reader")?;
+    Ok(Stage {
+        population,
+        cells,
+        pen,
+        reader,
+    })
+}
