@@ -1,9 +1,7 @@
 pub mod Updates
 pub mod Rows
 mod Inserts
-mod Sums
 mod Room
-pub mod OrderKeys
 pub mod OrderNumbers
 pub mod NewKey
 mod NewLines

@@ -16,7 +16,7 @@ use Rattle.tables.specs.declared.rows.OrderLine.{OrderLine}
 use Rattle.tables.specs.declared.new_order.NewOrderInput.{NewOrderInput}
 use Rattle.tables.proofs.Orders.{exact_district, exact_order}
 use Rattle.tables.proofs.KeyTests.{is_district-key}
-use Rattle.laws.proofs.Updates.{equal}
+use Rattle.tables.proofs.Entries.{tied}
 use Rattle.laws.proofs.Rows.{absent, get-insert_other}
 use Rattle.laws.proofs.OrderNumbers.{none_above}
 
@@ -37,7 +37,7 @@ module _ (t : Database) (x : NewOrderInput) (wf : IsWellFormed t) (last : Condit
   pub other_order : (k : OrderKey) (order : Order) → get t.orders k ≡ Some order → eq_by_cmp order_cmp k (new_key t x) ≡ false
   other_order k order found =
       elim (eq_by_cmp order_cmp k (new_key t x)) as (λ b. eq_by_cmp order_cmp k (new_key t x) ≡ b → b ≡ false) [
-        | true ↦ λ tie. absurd (missing (get t.orders k) (ap (get t.orders) (exact_order.same k (new_key t x) (equal _ tie)) ∙ no_order) (ap is_some found))
+        | true ↦ λ tie. absurd (missing (get t.orders k) (ap (get t.orders) (exact_order.same k (new_key t x) (tied _ tie)) ∙ no_order) (ap is_some found))
         | false ↦ λ tie. refl
       ] refl
 

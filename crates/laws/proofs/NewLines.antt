@@ -13,7 +13,7 @@ use Rattle.tables.specs.declared.keys.LineKey.{LineKey}
 use Rattle.tables.specs.declared.rows.OrderLine.{OrderLine}
 use Rattle.tables.specs.declared.new_order.RequestedLine.{RequestedLine}
 use Rattle.tables.proofs.Orders.{exact_line}
-use Rattle.laws.proofs.Updates.{equal}
+use Rattle.tables.proofs.Entries.{tied}
 use Rattle.laws.proofs.Rows.{each_inserted, get-insert_other}
 use Rattle.laws.proofs.Inserts.{total-insert}
 
@@ -31,7 +31,7 @@ module _ (t : Database) (k : OrderKey) where
   other_number : (i n : ℕ) → n + 1 ≤ i → eq_by_cmp line_cmp (line_key k i) (line_key k n) ≡ false
   other_number i n above =
       elim (eq_by_cmp line_cmp (line_key k i) (line_key k n)) as (λ b. eq_by_cmp line_cmp (line_key k i) (line_key k n) ≡ b → b ≡ false) [
-        | true ↦ λ tie. let same : i ≡ n = ap (λ (j : LineKey). j.line) (exact_line.same (line_key k i) (line_key k n) (equal _ tie)) in absurd (omega arith)
+        | true ↦ λ tie. let same : i ≡ n = ap (λ (j : LineKey). j.line) (exact_line.same (line_key k i) (line_key k n) (tied _ tie)) in absurd (omega arith)
         | false ↦ λ tie. refl
       ] refl
 

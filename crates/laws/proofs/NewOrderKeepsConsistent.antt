@@ -21,13 +21,13 @@ use Rattle.tables.specs.declared.rows.District.{District}
 use Rattle.tables.specs.declared.rows.Order.{Order}
 use Rattle.tables.specs.declared.new_order.NewOrderInput.{NewOrderInput}
 use Rattle.tables.proofs.Orders.{exact_district, exact_order, exact_line}
-use Rattle.tables.proofs.KeyTests.{is_district-key}
-use Rattle.laws.proofs.Updates.{equal, get-map_rows, kept-update_where}
+use Rattle.tables.proofs.KeyTests.{is_district-key, is_order-key}
+use Rattle.tables.proofs.Entries.{tied}
+use Rattle.tables.proofs.Totals.{total-alike, total-zero}
+use Rattle.laws.proofs.Updates.{get-map_rows, total-kept, kept-update_where}
 use Rattle.laws.proofs.Rows.{each_inserted, get-inserted, get-insert_other}
 use Rattle.laws.proofs.Inserts.{total-insert}
-use Rattle.laws.proofs.Sums.{total-alike, total-zero, total-kept}
 use Rattle.laws.proofs.OrderNumbers.{with_greater, with_lesser, with_one, greatest-insert, least-insert, length-insert}
-use Rattle.laws.proofs.OrderKeys.{is_order-key}
 use Rattle.laws.proofs.NewKey.{no_order, no_new_order, other_order, of_other, no_line, order_stays}
 use Rattle.laws.proofs.NewLines.{each-with_lines, total-with_lines}
 
@@ -63,7 +63,7 @@ module _ (t : Database) (x : NewOrderInput) (ok : IsNewOrder t.scale x) (wf : Is
   is_home k = is_district x.warehouse x.district k
 
   at_home : (k : DistrictKey) → is_home k ≡ true → home x ≡ k
-  at_home k e = exact_district.same (home x) k (equal _ (sym (is_district-key x.warehouse x.district k) ∙ e))
+  at_home k e = exact_district.same (home x) k (tied _ (sym (is_district-key x.warehouse x.district k) ∙ e))
 
   next_after : (k : DistrictKey) → IsDistrictKey t.scale k → next_order (after_new_order t x) k ≡ cond (is_home k) (next_order t k + 1) (next_order t k)
   next_after k is =

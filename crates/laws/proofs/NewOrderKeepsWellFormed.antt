@@ -24,7 +24,7 @@ use Rattle.tables.specs.declared.new_order.RequestedLine.{RequestedLine}
 use Rattle.tables.specs.declared.new_order.NewOrderInput.{NewOrderInput}
 use Rattle.tables.proofs.Orders.{exact_district, exact_order}
 use Rattle.tables.proofs.KeyTests.{is_district-key}
-use Rattle.laws.proofs.Updates.{equal}
+use Rattle.tables.proofs.Entries.{tied}
 use Rattle.laws.proofs.Room.{money_stays, is_count, room_stays}
 use Rattle.laws.proofs.Rows.{there, updated_rows, each_updated, each_inserted, get-inserted, within_each, within_inserted, still_there}
 use Rattle.laws.proofs.NewKey.{order_stays}
@@ -92,7 +92,7 @@ module _ (t : Database) (x : NewOrderInput) (n : ℕ) (ok : IsNewOrder t.scale x
 
   module _ (number : HasNumber t x) (con : IsConsistent t) (all_there : first_missing t x.lines ≡ None) where
     district_is : (k : DistrictKey) (r : District) → get t.districts k ≡ Some r → is_district x.warehouse x.district k ≡ true → r.next_order ≡ next_order t (home x)
-    district_is k r f e = ap (λ (w : Option District). option_map_or (λ d. d.next_order) w 0) (sym f ∙ ap (get t.districts) (sym (exact_district.same (home x) k (equal _ (sym (is_district-key x.warehouse x.district k) ∙ e)))))
+    district_is k r f e = ap (λ (w : Option District). option_map_or (λ d. d.next_order) w 0) (sym f ∙ ap (get t.districts) (sym (exact_district.same (home x) k (tied _ (sym (is_district-key x.warehouse x.district k) ∙ e)))))
 
     number_is : IsNumber t.scale.orders (next_order t (home x))
     number_is =

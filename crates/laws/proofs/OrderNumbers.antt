@@ -1,14 +1,12 @@
 -- The numbers of the orders that pass a test: the least, the greatest and how many there are, after an insert at a new key.
-use Rattle.std.proofs.Common.{◌≡◌, ℕ, ◌+◌, ◌<◌, ◌≤◌, max, min, Bool, true, false, cond, List, [], ◌∷◌, map, length, filter, Option, Some, None, refl, sym, ap, ◌∙◌, arith}
-use Rattle.std.proofs.lemmas.Option.{same_Some}
+use Rattle.std.proofs.Common.{◌≡◌, ℕ, ◌+◌, ◌<◌, ◌≤◌, max, min, Bool, true, false, cond, List, ◌∷◌, map, length, filter, Option, Some, None, refl, ap, arith}
 use Rattle.std.specs.Option.{option_map_or}
-use Rattle.std.specs.Ordering.{eq_by_cmp}
-use Rattle.std.specs.FinMap.{FinMap, entries, get, get-entries, insert, find}
+use Rattle.std.specs.FinMap.{FinMap, get, insert}
 use Rattle.tables.specs.Keys.{order_cmp}
 use Rattle.tables.specs.OrderNumbers.{least, greatest, order_numbers}
 use Rattle.tables.specs.declared.keys.OrderKey.{OrderKey}
 use Rattle.tables.proofs.Orders.{exact_order}
-use Rattle.laws.proofs.Updates.{equal}
+use Rattle.tables.proofs.OrderNumbers.{greatest-each}
 use Rattle.laws.proofs.Rows.{absent}
 use Rattle.laws.proofs.Inserts.{collected-insert}
 
@@ -67,29 +65,6 @@ module _ {X : Type 0} (p : OrderKey × X → Bool) where
       → length (order_numbers p (insert m k v)) ≡ with_one (p (k, v)) (length (order_numbers p m))
   length-insert m k v none = collected-insert exact_order (λ es. length (numbers es)) (λ e c. with_one (p e) c) length-cons (λ a b c. with_one-swap (p a) (p b) c) m k v none
 
-  greatest_among : (k : OrderKey) (r : X) → p (k, r) ≡ true → (es : List (OrderKey × X)) → find order_cmp k es ≡ Some r → k.order ≤ greatest (numbers es)
-  greatest_among k r passes [] found = cc
-  greatest_among k r passes (e ∷ es) found =
-      elim (eq_by_cmp order_cmp k e.0) as (λ b. eq_by_cmp order_cmp k e.0 ≡ b → cond b (Some e.1) (find order_cmp k es) ≡ Some r → k.order ≤ greatest (numbers (e ∷ es))) [
-        | true ↦ λ t f. this (exact_order.same k e.0 (equal _ t)) (same_Some _ _ f)
-        | false ↦ λ t f. other (p e) (greatest-cons e es) (greatest_among k r passes es f)
-      ] refl found
-    where
-      other : (b : Bool) → greatest (numbers (e ∷ es)) ≡ with_greater b e.0.order (greatest (numbers es)) → k.order ≤ greatest (numbers es) → k.order ≤ greatest (numbers (e ∷ es))
-      other true g h = omega arith
-      other false g h = omega arith
-
-      this : k ≡ e.0 → e.1 ≡ r → k.order ≤ greatest (numbers (e ∷ es))
-      this key row =
-          let passed : p e ≡ true = (λ i. p (sym key i, row i)) ∙ passes in
-          let g : greatest (numbers (e ∷ es)) ≡ max e.0.order (greatest (numbers es)) = greatest-cons e es ∙ ap (λ b. with_greater b e.0.order (greatest (numbers es))) passed in
-          let n : k.order ≡ e.0.order = ap (λ j. j.order) key in
-          omega arith
-
-  -- the greatest is at least each of them
-  pub greatest-each : (m : FinMap order_cmp X) (k : OrderKey) (r : X) → get m k ≡ Some r → p (k, r) ≡ true → k.order ≤ greatest (order_numbers p m)
-  greatest-each m k r found passes = greatest_among k r passes (entries m) (sym (get-entries m k) ∙ found)
-
-  -- so a number above the greatest is new
+  -- a number above the greatest is new
   pub none_above : (m : FinMap order_cmp X) (k : OrderKey) → greatest (order_numbers p m) < k.order → ((r : X) → p (k, r) ≡ true) → get m k ≡ None
-  none_above m k above passes = absent m k (λ r found. let h : k.order ≤ greatest (order_numbers p m) = greatest-each m k r found (passes r) in absurd (omega arith))
+  none_above m k above passes = absent m k (λ r found. let h : k.order ≤ greatest (order_numbers p m) = greatest-each p m k r found (passes r) in absurd (omega arith))

@@ -7,7 +7,8 @@ use Rattle.std.specs.FinMap.{FinMap, get, get-insert, insert}
 use Rattle.std.specs.declared.cmp.Ordering.{Ordering}
 use Rattle.tables.specs.Maps.{map_rows, RowsAt, RowsWithin, EachRow}
 use Rattle.tables.proofs.Orders.{IsExact}
-use Rattle.laws.proofs.Updates.{equal, is_some-map_rows, row_before}
+use Rattle.tables.proofs.Entries.{tied}
+use Rattle.laws.proofs.Updates.{is_some-map_rows, row_before}
 
 -- the row at a key of the scale
 pub there : {K X : Type 0} {R : K → K → Ordering} (IsKey : K → Type 0) (m : FinMap R X) → RowsAt IsKey m → (k : K) → IsKey k → (r : X) × (get m k ≡ Some r)
@@ -50,7 +51,7 @@ module _ {K X : Type 0} {R : K → K → Ordering} (o : IsExact R) where
   pub each_inserted : (P : K → X → Type 0) (m : FinMap R X) (k : K) (v : X) → EachRow P m → P k v → EachRow P (insert m k v)
   each_inserted P m k v each new q r found =
       elim (eq_by_cmp R q k) as (λ b. eq_by_cmp R q k ≡ b → cond b (Some v) (get m q) ≡ Some r → P q r) [
-        | true ↦ λ t e. subst (λ j. P j r) (sym (o.same q k (equal _ t))) (subst (P k) (same_Some _ _ e) new)
+        | true ↦ λ t e. subst (λ j. P j r) (sym (o.same q k (tied _ t))) (subst (P k) (same_Some _ _ e) new)
         | false ↦ λ t e. each q r e
       ] refl (sym (get-insert o.total m k v q) ∙ found)
 
@@ -65,7 +66,7 @@ module _ {K X : Type 0} {R : K → K → Ordering} (o : IsExact R) where
   pub within_inserted : (IsKey : K → Type 0) (m : FinMap R X) (k : K) (v : X) → RowsWithin IsKey m → IsKey k → RowsWithin IsKey (insert m k v)
   within_inserted IsKey m k v within new q some =
       elim (eq_by_cmp R q k) as (λ b. eq_by_cmp R q k ≡ b → IsSome (cond b (Some v) (get m q)) → IsKey q) [
-        | true ↦ λ t _. subst IsKey (sym (o.same q k (equal _ t))) new
+        | true ↦ λ t _. subst IsKey (sym (o.same q k (tied _ t))) new
         | false ↦ λ t is. within q is
       ] refl (subst IsSome (get-insert o.total m k v q) some)
 

@@ -3,28 +3,15 @@ use Rattle.std.proofs.Common.{◌≡◌, ℤ, pos, ◌+ℤ◌, ◌-ℤ◌, Bool,
 use Rattle.std.proofs.lemmas.Int.{ints}
 use Rattle.std.proofs.lemmas.Option.{same_Some}
 use Rattle.std.specs.Option.{option_map, option_map_or}
-use Rattle.std.specs.Ordering.{eq_by_cmp, is_eq, is_lt}
-use Rattle.std.specs.Cmp.{tied_itself, eq_by_cmp_equiv}
+use Rattle.std.specs.Ordering.{eq_by_cmp, is_lt}
+use Rattle.std.specs.Cmp.{eq_by_cmp_equiv}
 use Rattle.std.specs.FinMap.{FinMap, entries, entries_sorted, entries-from_sorted, get, get-entries, get-insert, insert, same_map, find, is_sorted}
 use Rattle.std.specs.FinMap.Entries.{below_all}
 use Rattle.std.specs.declared.cmp.Ordering.{Ordering}
-use Rattle.std.specs.declared.cmp.Ordering.TheVariants.{Less, Equal, Greater}
 use Rattle.tables.specs.Maps.{sum_entries, map_entries, total, map_rows, update_where, column}
 use Rattle.tables.proofs.Orders.{IsExact}
-
-pub first : (a b : Bool) → T (a && b) → T a
-first true b p = tt
-first false b p = p
-
-pub second : (a b : Bool) → T (a && b) → T b
-second true b p = p
-second false b p = absurd p
-
--- a tie that a test found
-pub equal : (r : Ordering) → is_eq r ≡ true → r ≡ Equal
-equal Less p = cc
-equal Equal p = refl
-equal Greater p = cc
+use Rattle.tables.proofs.Entries.{first, second, tied, absent_below}
+use Rattle.tables.proofs.Totals.{total-alike}
 
 module _ {K X : Type 0} (R : K → K → Ordering) where
   below_all-map_entries : (g : K → X → X) (k : K) (es : List (K × X)) → below_all R k (map_entries g es) ≡ below_all R k es
@@ -40,34 +27,22 @@ module _ {K X : Type 0} {R : K → K → Ordering} where
   unfolding map_rows
   entries-map_rows g m = entries-from_sorted R _ (subst T (sym (is_sorted-map_entries R g (entries m))) (entries_sorted m))
 
+sum_mapped : {K X : Type 0} (f : K → X → ℤ) (g : K → X → X) (es : List (K × X)) → sum_entries f (map_entries g es) ≡ sum_entries (λ k r. f k (g k r)) es
+sum_mapped f g [] = refl
+sum_mapped f g (e ∷ es) = ap (λ a. f e.0 (g e.0 e.1) +ℤ a) (sum_mapped f g es)
+
 module _ {K X : Type 0} {R : K → K → Ordering} (o : IsExact R) where
   find-map_entries : (g : K → X → X) (q : K) (es : List (K × X)) → find R q (map_entries g es) ≡ option_map (g q) (find R q es)
   find-map_entries g q [] = refl
   find-map_entries g q (e ∷ es) =
       elim (eq_by_cmp R q e.0) as (λ b. eq_by_cmp R q e.0 ≡ b → cond b (Some (g e.0 e.1)) (find R q (map_entries g es)) ≡ option_map (g q) (cond b (Some e.1) (find R q es))) [
-        | true ↦ λ t. ap (λ k. Some (g k e.1)) (sym (o.same q e.0 (equal _ t)))
+        | true ↦ λ t. ap (λ k. Some (g k e.1)) (sym (o.same q e.0 (tied _ t)))
         | false ↦ λ t. find-map_entries g q es
       ] refl
 
   -- the row at a key
   pub get-map_rows : (g : K → X → X) (m : FinMap R X) (q : K) → get (map_rows g m) q ≡ option_map (g q) (get m q)
   get-map_rows g m q = get-entries (map_rows g m) q ∙ ap (find R q) (entries-map_rows g m) ∙ find-map_entries g q (entries m) ∙ sym (ap (option_map (g q)) (get-entries m q))
-
-  -- a key below all keys of a list isn't among them
-  pub found_above : (x k : K) (r : X) (es : List (K × X)) → find R k es ≡ Some r → T (below_all R x es) → T (is_lt (R x k))
-  found_above x k r [] f h = cc
-  found_above x k r (e ∷ es) f h =
-      elim (eq_by_cmp R k e.0) as (λ b. eq_by_cmp R k e.0 ≡ b → cond b (Some e.1) (find R k es) ≡ Some r → T (is_lt (R x k))) [
-        | true ↦ λ t _. subst (λ j. T (is_lt (R x j))) (sym (o.same k e.0 (equal _ t))) (first _ _ h)
-        | false ↦ λ t g. found_above x k r es g (second _ _ h)
-      ] refl f
-
-  absent_below : (k : K) (es : List (K × X)) → T (below_all R k es) → find R k es ≡ None
-  absent_below k es h =
-      elim (find R k es) as (λ f. find R k es ≡ f → f ≡ None) [
-        | None ↦ λ _. refl
-        | Some r ↦ λ f. absurd (subst (λ (c : Ordering). T (is_lt c)) (tied_itself o.total k) (found_above k k r es f h))
-      ] refl
 
   -- where no key is k, an update at k changes nothing
   sum_untouched : (f : K → X → ℤ) (p : K → Bool) (g : X → X) (k : K) → ((j : K) → p j ≡ eq_by_cmp R k j) → (es : List (K × X)) → find R k es ≡ None
@@ -86,9 +61,9 @@ module _ {K X : Type 0} {R : K → K → Ordering} (o : IsExact R) where
       elim (eq_by_cmp R k e.0) as (λ b. eq_by_cmp R k e.0 ≡ b → cond b (Some e.1) (find R k es) ≡ Some r
       → f e.0 (cond (p e.0) (g e.1) e.1) +ℤ sum_entries f (map_entries (λ j s. cond (p j) (g s) s) es) ≡ (f e.0 e.1 +ℤ sum_entries f es) +ℤ (f k (g r) -ℤ f k r)) [
         | true ↦ λ t n.
-            let key : k ≡ e.0 = o.same k e.0 (equal _ t) in
+            let key : k ≡ e.0 = o.same k e.0 (tied _ t) in
             let row : e.1 ≡ r = same_Some _ _ n in
-            let rest = sum_untouched f p g k at es (subst (λ j. find R j es ≡ None) (sym key) (absent_below e.0 es (first _ _ h))) in
+            let rest = sum_untouched f p g k at es (subst (λ j. find R j es ≡ None) (sym key) (absent_below o e.0 es (first _ _ h))) in
             let here : f e.0 (cond (p e.0) (g e.1) e.1) ≡ f k (g r) = (λ i. f e.0 (cond ((at e.0 ∙ t) i) (g e.1) e.1)) ∙ (λ i. f (sym key i) (g (row i))) in
             let was : f e.0 e.1 ≡ f k r = (λ i. f (sym key i) (row i)) in
             let a : ℤ = f e.0 e.1 in
@@ -116,6 +91,11 @@ module _ {K X : Type 0} {R : K → K → Ordering} (o : IsExact R) where
   total-update_where f p g k r m at found =
       ap (sum_entries f) (entries-map_rows (λ j s. cond (p j) (g s) s) m)
       ∙ sum_updated f p g k r at (entries m) (entries_sorted m) (sym (get-entries m k) ∙ found)
+
+  -- a sum after an update that changes no summand
+  pub total-kept : (f : K → X → ℤ) (g : K → X → X) (m : FinMap R X) → ((k : K) (r : X) → f k (g k r) ≡ f k r) → total f (map_rows g m) ≡ total f m
+  unfolding total
+  total-kept f g m same = ap (sum_entries f) (entries-map_rows g m) ∙ sum_mapped f g (entries m) ∙ total-alike o (λ k r. f k (g k r)) f m (λ k r _. same k r)
 
   -- a column after an update
   pub column-update_where : (f : X → ℤ) (p : K → Bool) (g : X → X) (m : FinMap R X) (q : K) (r : X) → get m q ≡ Some r → column f (update_where p g m) q ≡ f (cond (p q) (g r) r)
@@ -161,6 +141,6 @@ module _ {K X : Type 0} {R : K → K → Ordering} (o : IsExact R) where
       put q =
           ap (λ b. option_map (λ s. cond b (g s) s) (get m q)) (at q)
           ∙ elim (eq_by_cmp R k q) as (λ b. eq_by_cmp R k q ≡ b → option_map (λ s. cond b (g s) s) (get m q) ≡ cond b (Some (g r)) (get m q)) [
-            | true ↦ λ t. ap (option_map g) (ap (get m) (sym (o.same k q (equal _ t))) ∙ found)
+            | true ↦ λ t. ap (option_map g) (ap (get m) (sym (o.same k q (tied _ t))) ∙ found)
             | false ↦ λ t. unchanged (get m q)
           ] refl

@@ -11,13 +11,14 @@ use Rattle.tables.specs.declared.keys.DistrictKey.{DistrictKey}
 use Rattle.tables.specs.declared.keys.CustomerKey.{CustomerKey}
 use Rattle.tables.specs.declared.rows.History.{History}
 use Rattle.tables.proofs.Orders.{exact_district, exact_line}
+use Rattle.tables.proofs.Totals.{total-zero}
 use Rattle.population.specs.Plain.{numbers, plain_history_row, district_payments, warehouse_payments, plain_history, is_delivered, IsPlain}
 use Rattle.population.proofs.Sound.{IsFit, fit_here, plain_here}
 use Rattle.population.proofs.TableRows.{each, column_of}
 use Rattle.population.proofs.OrdersConsistent.{condition_2, condition_3, condition_4, condition_5, condition_6, condition_7}
 use Rattle.population.proofs.Added.{tied_two}
 use Rattle.population.proofs.Parts.{total_parts}
-use Rattle.population.proofs.Sums.{sum_each, sum_none, sum_one, sum_joined, sum_listed, total_at, total_none}
+use Rattle.population.proofs.Sums.{sum_each, sum_none, sum_one, sum_joined, sum_listed, total_at}
 
 -- a line that is delivered costs 0
 delivered_free : (b p q r : Bool) (n : ℕ) → cond (is_some {T = ℕ} (cond b (Some 1) None) && p && q && r) (cond b (pos 0) (pos n)) (pos 0) ≡ pos 0
@@ -56,7 +57,7 @@ module _ (s : Sizes) where
 
 module _ (t : Database) (fit : IsFit t.scale) (plain : IsPlain t.scale t) where
   nothing_delivered : (k : CustomerKey) → delivered_amount t k ≡ pos 0
-  nothing_delivered k = total_none exact_line _ t.lines (each plain.lines _ (λ j _. delivered_free (is_delivered t.scale j.order) _ _ _ _))
+  nothing_delivered k = total-zero exact_line _ t.lines (each plain.lines _ (λ j _. delivered_free (is_delivered t.scale j.order) _ _ _ _))
 
   customer_paid : (k : CustomerKey) → IsCustomerKey t.scale k → paid_by_customer t k ≡ pos 1000
   customer_paid k is = ap (sum_of _) plain.history ∙ customer_payments_sum t.scale k is

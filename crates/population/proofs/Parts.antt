@@ -11,9 +11,11 @@ use Rattle.tables.specs.NewOrder.{line_key}
 use Rattle.tables.specs.declared.keys.DistrictKey.{DistrictKey}
 use Rattle.tables.specs.declared.keys.OrderKey.{OrderKey}
 use Rattle.tables.proofs.Orders.{IsExact, exact_order, exact_line}
+use Rattle.tables.proofs.KeyTests.{is_order-key}
+use Rattle.tables.proofs.Totals.{total-alike}
 use Rattle.population.specs.Plain.{numbers}
-use Rattle.population.proofs.Added.{tied_three, tied_four}
-use Rattle.population.proofs.Sums.{sum_one, total_same, total_at, total_sums}
+use Rattle.population.proofs.Added.{tied_four}
+use Rattle.population.proofs.Sums.{sum_one, total_at, total_sums}
 
 -- the order of a number in a district
 abbrev pub order_key : DistrictKey → ℕ → OrderKey
@@ -24,14 +26,14 @@ module _ {K X : Type 0} {R : K → K → Ordering} where
   pub total_parts : IsExact R → (f : X → ℤ) (p : K → Bool) (part : K → ℕ) (n : ℕ) (m : FinMap R X) → EachRow (λ j r. IsNumber n (part j)) m
       → total (λ j r. cond (p j) (f r) (pos 0)) m ≡ sum_of (λ i. total (λ j r. cond (p j && (part j == i)) (f r) (pos 0)) m) (numbers n)
   total_parts exact f p part n m within =
-      total_same exact _ (λ j r. sum_of (λ i. cond (p j && (part j == i)) (f r) (pos 0)) (numbers n)) m
+      total-alike exact _ (λ j r. sum_of (λ i. cond (p j && (part j == i)) (f r) (pos 0)) (numbers n)) m
       (λ j r found. sym (sum_one _ n (part j) (within j r found) (λ i _ apart. grind (arith, nat_tests)) ∙ grind (arith, nat_tests)))
       ∙ total_sums (λ i j r. cond (p j && (part j == i)) (f r) (pos 0)) n m
 
 module _ {X : Type 0} (f : X → ℤ) where
   at_order : (k : OrderKey) (m : FinMap order_cmp X) → total (λ j r. cond (is_order j.warehouse j.district j.order k) (f r) (pos 0)) m ≡ column f m k
   at_order k m = total_at exact_order f _ k m (λ j.
-      sym (tied_three j.warehouse j.district j.order k.warehouse k.district k.order) ∙ (eq_by_cmp_equiv exact_order.total).symm j k)
+      is_order-key j.warehouse j.district j.order k ∙ (eq_by_cmp_equiv exact_order.total).symm j k)
 
   at_line : (k : OrderKey) (n : ℕ) (m : FinMap line_cmp X)
       → total (λ j r. cond (is_order j.warehouse j.district j.order k && (j.line == n)) (f r) (pos 0)) m ≡ column f m (line_key k n)

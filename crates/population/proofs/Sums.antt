@@ -1,21 +1,20 @@
 -- Sums over the rows of a table, over a list of rows, and over the numbers from 1 on.
-use Rattle.std.proofs.Common.{◌≡◌, ◌≢◌, ℕ, zero, suc, ◌*◌, ℤ, pos, ◌+ℤ◌, Bool, true, false, cond, T, ◌&&◌, ◌==◌, List, [], ◌∷◌, map, Option, Some, None, refl, sym, ap, ◌∙◌, arith}
+use Rattle.std.proofs.Common.{◌≡◌, ◌≢◌, ℕ, zero, suc, ◌*◌, ℤ, pos, ◌+ℤ◌, Bool, true, false, cond, T, ◌==◌, List, [], ◌∷◌, map, Option, Some, refl, sym, ap, ◌∙◌, arith}
 use Rattle.std.specs.Prelude.{fold}
 use Rattle.std.specs.List.{flat_map}
 use Rattle.std.specs.Option.{option_map_or}
-use Rattle.std.specs.Ordering.{eq_by_cmp, is_eq, is_lt}
-use Rattle.std.specs.Cmp.{tied_itself}
+use Rattle.std.specs.Ordering.{eq_by_cmp}
 use Rattle.std.specs.FinMap.{FinMap, entries, entries_sorted, get-entries, find, is_sorted}
-use Rattle.std.specs.FinMap.Entries.{below_all, find_tied}
 use Rattle.std.specs.declared.cmp.Ordering.{Ordering}
-use Rattle.std.specs.declared.cmp.Ordering.TheVariants.{Less, Equal, Greater}
 use Rattle.std.proofs.lemmas.Int.{ints}
 use Rattle.std.proofs.lemmas.Bool.Decides.{nat_tests}
 use Rattle.std.proofs.lemmas.List.Sums.{fold_push, fold-append}
 use Rattle.std.proofs.lemmas.List.Folds.{fold-map}
 use Rattle.tables.specs.Sizes.{IsNumber}
-use Rattle.tables.specs.Maps.{sum_entries, sum_of, total, column, EachRow}
+use Rattle.tables.specs.Maps.{sum_entries, sum_of, total, column}
 use Rattle.tables.proofs.Orders.{IsExact}
+use Rattle.tables.proofs.Entries.{first, second, absent_after}
+use Rattle.tables.proofs.Totals.{entries_zero}
 use Rattle.population.specs.Plain.{numbers}
 use Rattle.population.proofs.Lists.{flat_map_more}
 
@@ -78,47 +77,7 @@ module _ {X : Type 0} (f : X → ℤ) where
   sum_listed g n = fold-map (λ (b : ℤ) (x : X). b +ℤ f x) g (pos 0) (numbers n)
 
 -- ---- over the rows of a table
-pub first : (a b : Bool) → T (a && b) → T a
-first true b p = tt
-first false b p = p
-
-pub second : (a b : Bool) → T (a && b) → T b
-second true b p = p
-second false b p = absurd p
-
-less : (r : Ordering) → T (is_lt r) → r ≡ Less
-less Less p = refl
-less Equal p = absurd p
-less Greater p = absurd p
-
-pub tied : (r : Ordering) → is_eq r ≡ true → r ≡ Equal
-tied Less p = cc
-tied Equal p = refl
-tied Greater p = cc
-
 module _ {K X : Type 0} {R : K → K → Ordering} (o : IsExact R) where
-  absent_below : (k : K) (es : List (K × X)) → T (below_all R k es) → find R k es ≡ None
-  absent_below k [] h = refl
-  absent_below k (e ∷ es) h = ap (λ r. cond (is_eq r) (Some e.1) (find R k es)) (less _ (first _ _ h)) ∙ absent_below k es (second _ _ h)
-
-  -- the key of the first entry has no other
-  absent_after : (k : K) (e : K × X) (es : List (K × X)) → T (below_all R e.0 es) → eq_by_cmp R k e.0 ≡ true → find R k es ≡ None
-  absent_after k e es h t = sym (find_tied R o.total k e.0 (tied _ t) es) ∙ absent_below e.0 es h
-
-  pub found_after : (k : K) (r : X) (e : K × X) (es : List (K × X)) → T (below_all R e.0 es) → find R k es ≡ Some r → find R k (e ∷ es) ≡ Some r
-  found_after k r e es h found =
-      elim (eq_by_cmp R k e.0) as (λ b. eq_by_cmp R k e.0 ≡ b → cond b (Some e.1) (find R k es) ≡ Some r) [
-        | true ↦ λ t. let none : find R k es ≡ None = absent_after k e es h t in cc
-        | false ↦ λ t. found
-      ] refl
-
-  entries_same : (f g : K → X → ℤ) (es : List (K × X)) → T (is_sorted R es) → ((k : K) (r : X) → find R k es ≡ Some r → f k r ≡ g k r) → sum_entries f es ≡ sum_entries g es
-  entries_same f g [] h same = refl
-  entries_same f g (e ∷ es) h same =
-      let here : f e.0 e.1 ≡ g e.0 e.1 = same e.0 e.1 (ap (λ r. cond (is_eq r) (Some e.1) (find R e.0 es)) (tied_itself o.total e.0)) in
-      let rest : sum_entries f es ≡ sum_entries g es = entries_same f g es (second _ _ h) (λ k r found. same k r (found_after k r e es (first _ _ h) found)) in
-      λ i. here i +ℤ rest i
-
   entry_at : (f : X → ℤ) (p : K → Bool) (k : K) → ((j : K) → p j ≡ eq_by_cmp R k j) → (es : List (K × X)) → T (is_sorted R es)
       → sum_entries (λ j r. cond (p j) (f r) (pos 0)) es ≡ option_map_or f (find R k es) (pos 0)
   entry_at f p k at [] h = refl
@@ -127,7 +86,7 @@ module _ {K X : Type 0} {R : K → K → Ordering} (o : IsExact R) where
       let others : ℤ = sum_entries (λ j r. cond (p j) (f r) (pos 0)) es in
       ap (λ b. cond b (f e.1) (pos 0) +ℤ others) (at e.0)
       ∙ elim (eq_by_cmp R k e.0) as (λ b. eq_by_cmp R k e.0 ≡ b → cond b (f e.1) (pos 0) +ℤ others ≡ option_map_or f (cond b (Some e.1) (find R k es)) (pos 0)) [
-        | true ↦ λ t. no_others (f e.1) others (rest ∙ ap (λ (w : Option X). option_map_or f w (pos 0)) (absent_after k e es (first _ _ h) t))
+        | true ↦ λ t. no_others (f e.1) others (rest ∙ ap (λ (w : Option X). option_map_or f w (pos 0)) (absent_after o k e es (first _ _ h) t))
         | false ↦ λ t. later others _ rest
       ] refl
     where
@@ -137,20 +96,12 @@ module _ {K X : Type 0} {R : K → K → Ordering} (o : IsExact R) where
       later : (a b : ℤ) → a ≡ b → pos 0 +ℤ a ≡ b
       later a b p = omega (arith, ints)
 
-  pub total_same : (f g : K → X → ℤ) (m : FinMap R X) → EachRow (λ k r. f k r ≡ g k r) m → total f m ≡ total g m
-  unfolding total
-  total_same f g m same = entries_same f g (entries m) (entries_sorted m) (λ k r found. same k r (get-entries m k ∙ found))
-
   -- the sum of f over the row at k alone is its column
   pub total_at : (f : X → ℤ) (p : K → Bool) (k : K) (m : FinMap R X) → ((j : K) → p j ≡ eq_by_cmp R k j) → total (λ j r. cond (p j) (f r) (pos 0)) m ≡ column f m k
   unfolding total
   total_at f p k m at = entry_at f p k at (entries m) (entries_sorted m) ∙ ap (λ (w : Option X). option_map_or f w (pos 0)) (sym (get-entries m k))
 
 module _ {K X : Type 0} where
-  entries_none : (es : List (K × X)) → sum_entries (λ k r. pos 0) es ≡ pos 0
-  entries_none [] = refl
-  entries_none (e ∷ es) = ap (λ a. pos 0 +ℤ a) (entries_none es)
-
   entries_both : (f g : K → X → ℤ) (es : List (K × X)) → sum_entries (λ k r. f k r +ℤ g k r) es ≡ sum_entries f es +ℤ sum_entries g es
   entries_both f g [] = refl
   entries_both f g (e ∷ es) = crossed (f e.0 e.1) (g e.0 e.1) (sum_entries f es) (sum_entries g es) _ (entries_both f g es)
@@ -161,14 +112,9 @@ module _ {K X : Type 0} where
 -- a sum of sums, in the other order
 pub total_sums : {K X : Type 0} {R : K → K → Ordering} (f : ℕ → K → X → ℤ) (n : ℕ) (m : FinMap R X) → total (λ k r. sum_of (λ i. f i k r) (numbers n)) m ≡ sum_of (λ i. total (f i) m) (numbers n)
 unfolding total
-total_sums f zero m = entries_none (entries m)
+total_sums f zero m = entries_zero (entries m)
 total_sums f (suc n) m =
     (λ i. sum_entries (λ k r. sum_more (λ j. f j k r) n i) (entries m))
     ∙ entries_both (λ k r. sum_of (λ j. f j k r) (numbers n)) (f (suc n)) (entries m)
     ∙ ap (λ a. a +ℤ sum_entries (f (suc n)) (entries m)) (total_sums f n m)
     ∙ sym (sum_more (λ j. sum_entries (f j) (entries m)) n)
-
--- each row counts 0
-pub total_none : {K X : Type 0} {R : K → K → Ordering} → IsExact R → (f : K → X → ℤ) (m : FinMap R X) → EachRow (λ k r. f k r ≡ pos 0) m → total f m ≡ pos 0
-unfolding total
-total_none o f m none = total_same o f (λ k r. pos 0) m none ∙ entries_none (entries m)

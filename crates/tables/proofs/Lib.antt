@@ -4,4 +4,7 @@ pub mod Views
 mod InTurn
 pub mod Numbers
 pub mod LookUps
+pub mod Entries
 pub mod Totals
+pub mod OrderNumbers
+mod WorkedRows

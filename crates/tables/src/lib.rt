@@ -10,6 +10,8 @@ mod keys;
 pub mod limits;
 mod located;
 mod new_order;
+#[cfg(test)]
+mod new_order_tests;
 mod order_lines;
 mod payment;
 mod records;

@@ -3,9 +3,7 @@
 ghost use Rattle.std.specs.Prelude.{◌≡◌, ◌↔◌, IsTrue, IfOk, All};
 ghost use Rattle.tables.specs.NewOrder.{IsRequestedLine};
 
-use crate::limits::{
-    MAX_DATE, MAX_ORDER_LINES, MAX_QUANTITY, MAX_REQUESTED_ITEM, MIN_ORDER_LINES,
-};
+use crate::limits::{MAX_DATE, MAX_ORDER_LINES, MAX_QUANTITY, MAX_REQUESTED_ITEM, MIN_ORDER_LINES};
 use crate::order_lines::Lines;
 use crate::scale::{Scale, is_between};
 use money::Cents;
