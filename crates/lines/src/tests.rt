@@ -7,7 +7,8 @@ use std::alloc::Global;
 use std::process::Abort;
 use std::test::Fail;
 use tables::{
-    Credit, Customer, CustomerKey, District, DistrictKey, LineKey, OrderKey, PaymentReply, Warehouse,
+    Credit, Customer, CustomerKey, District, DistrictKey, LineKey, OrderKey, PaymentReply,
+    Warehouse,
 };
 
 #[test]
