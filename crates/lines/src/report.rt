@@ -1,7 +1,7 @@
 //! The report that ends a script: what was committed, and which consistency conditions hold.
 ghost use Rattle.std.specs.Prelude.{◌≡◌, ◌++◌, ℕ, Some, List, IfOk, OnOk, OnErr, IfErr, string_bytes};
 ghost use Rattle.std.specs.Option.{ForSome};
-ghost use Rattle.lines.specs.Report.{report_text, verdict_text};
+ghost use Rattle.lines.specs.Report.{report_text, first_verdicts, last_verdicts, verdict_text};
 
 use conditions::Report;
 use money::Refusal;
@@ -26,18 +26,34 @@ fn format_report(alloc: Global, commits: u64, report: &Report) -> Result<String,
     ensures { IfOk result (λ text. string_bytes text ≡ report_text commits report.now) }
 {
     let mut text = format!(in alloc; "commits {commits}\n")?;
-    print_verdict(1, report.condition_1, &mut text)?;
-    print_verdict(2, report.condition_2, &mut text)?;
-    print_verdict(3, report.condition_3, &mut text)?;
-    print_verdict(4, report.condition_4, &mut text)?;
-    print_verdict(5, report.condition_5, &mut text)?;
-    print_verdict(6, report.condition_6, &mut text)?;
-    print_verdict(7, report.condition_7, &mut text)?;
-    print_verdict(8, report.condition_8, &mut text)?;
-    print_verdict(9, report.condition_9, &mut text)?;
-    print_verdict(10, report.condition_10, &mut text)?;
-    print_verdict(12, report.condition_12, &mut text)?;
+    print_first_verdicts(report, &mut text)?;
+    print_last_verdicts(report, &mut text)?;
     Ok(text)
+}
+
+fn print_first_verdicts(report: &Report, out: &mut String) -> Result<(), AllocError>
+    ensures { OnOk result
+        (string_bytes out.new ≡ string_bytes out.old ++ first_verdicts report.now) }
+{
+    print_verdict(1, report.condition_1, out)?;
+    print_verdict(2, report.condition_2, out)?;
+    print_verdict(3, report.condition_3, out)?;
+    print_verdict(4, report.condition_4, out)?;
+    print_verdict(5, report.condition_5, out)?;
+    print_verdict(6, report.condition_6, out)?;
+    Ok(())
+}
+
+fn print_last_verdicts(report: &Report, out: &mut String) -> Result<(), AllocError>
+    ensures { OnOk result
+        (string_bytes out.new ≡ string_bytes out.old ++ last_verdicts report.now) }
+{
+    print_verdict(7, report.condition_7, out)?;
+    print_verdict(8, report.condition_8, out)?;
+    print_verdict(9, report.condition_9, out)?;
+    print_verdict(10, report.condition_10, out)?;
+    print_verdict(12, report.condition_12, out)?;
+    Ok(())
 }
 
 // The line of one condition. A key prints the text that its type states.
