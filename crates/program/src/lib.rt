@@ -1,8 +1,8 @@
 //! What the program `tpcc` does, over words, an input and two writers: its `main` hands over the real ones.
 #![tactic(auto)]
 
-mod finish;
+mod ending;
 mod running;
 
-pub use finish::{USAGE_FAULT, finish};
+pub use ending::{USAGE_FAULT, finish};
 pub use running::run;

@@ -3,7 +3,7 @@ ghost use Rattle.std.specs.Prelude.{◌≡◌, ℕ, List, Some, [], IfOk, IfErr,
 ghost use Rattle.std.specs.Io.KnownBytes.{Appends};
 ghost use Rattle.program.specs.Run.{IsRun, IsWholeRun, IsRefusedRun};
 
-use crate::finish::{USAGE_FAULT, finish};
+use crate::ending::{USAGE_FAULT, finish};
 use clap::Error;
 use command_line::{Options, Subcommand, options};
 use conditions::Report;

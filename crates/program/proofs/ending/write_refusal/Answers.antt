@@ -4,7 +4,7 @@ use Rattle.std.proofs.KnownBytes.{Appends-nil, Appends-trans}
 use Rattle.money.specs.Refusal.{refusal_number, name_of}
 use Rattle.program.specs.Status.{refusal_line}
 use Rattle.program.proofs.Beginnings.{broken_off}
-use Rattle.program.proofs.finish.write_refusal.Goals as goal
+use Rattle.program.proofs.ending.write_refusal.Goals as goal
 
 regrouped : (a s n l : List ℕ) → ((a ++ s) ++ n) ++ l ≡ a ++ ((s ++ n) ++ l)
 regrouped a s n l = simp append_assoc
