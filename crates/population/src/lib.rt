@@ -6,6 +6,3 @@ mod population;
 mod rows;
 
 pub use population::Population;
-
-#[cfg(test)]
-mod tests;

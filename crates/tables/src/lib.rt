@@ -10,16 +10,12 @@ mod keys;
 pub mod limits;
 mod located;
 mod new_order;
-#[cfg(test)]
-mod new_order_tests;
 mod order_lines;
 mod payment;
 mod records;
 mod reply;
 mod rows;
 mod scale;
-#[cfg(test)]
-mod tests;
 mod words;
 
 pub use customer::Who;

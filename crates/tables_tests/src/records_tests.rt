@@ -1,6 +1,6 @@
 //! Which numbers make a scale, which fields a Payment's input, and how records are numbered and kept.
 
-use crate::{
+use tables::{
     Credit, Customer, CustomerKey, District, DistrictKey, Input, LineKey, Order, OrderKey,
     OrderLine, PaymentInput, RecordKey, Scale, Stock, StockKey, Table, Tables, Warehouse, Who,
     key_of, money_from_word, money_to_word, number_of_key, rec,

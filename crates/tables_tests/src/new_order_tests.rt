@@ -1,6 +1,6 @@
 //! Which fields make a New-Order's input, and copies of lines and replies.
 
-use crate::{
+use tables::{
     Input, Lines, NewOrderInput, NewOrderReply, PaymentReply, Reply, RequestedLine, Scale,
     SuppliedLine,
 };

@@ -1,7 +1,7 @@
 //! The plain population of one warehouse, two districts, ten customers a district and twenty items, against
 //! its description.
 
-use crate::Population;
+use population::Population;
 use money::{Cents, Rate};
 use std::test::Fail;
 use tables::{
