@@ -79,10 +79,10 @@ fn pay_both<K: Run + Send + Sync, R: Threads + Wait + Clock + Sync>(
     requires right { right.reader.cells ≡ K.cells }
 {
     let third = move || -> Option<Executed<K>>
-            requires reader { left.reader.cells ≡ K.cells }
+        requires reader { left.reader.cells ≡ K.cells }
     { pay_meanwhile(rt, alloc, engine, left, 3, held, executed) };
     let fourth = move || -> Option<Executed<K>>
-            requires reader { right.reader.cells ≡ K.cells }
+        requires reader { right.reader.cells ≡ K.cells }
     { pay_meanwhile(rt, alloc, engine, right, 4, held, executed) };
     join(rt, third, fourth)
 }
@@ -101,7 +101,7 @@ fn pay_both_meanwhile<K: Run + Send + Sync, R: Threads + Wait + Clock + Sync>(
     let (held, executed) = (AtomicU64::new(0), AtomicU64::new(0));
     let (held, executed) = (&held, &executed);
     let payers = move || -> (Option<Executed<K>>, Option<Executed<K>>)
-            requires left { left.reader.cells ≡ K.cells }
+        requires left { left.reader.cells ≡ K.cells }
         requires right { right.reader.cells ≡ K.cells }
     { pay_both(rt, alloc, engine, left, right, held, executed) };
     let (is_executed, (third, fourth)) = join(rt, move || hold(rt, engine, held, executed), payers);
@@ -130,7 +130,11 @@ fn commit_executed<K: Run, R: Wait>(
     let mut book = engine.lock(rt);
     let told = book
         .commit(rt, engine.cells(), &mut seat.reader, &mut seat.share, work)
-        .map(|done| (done.number(), done.tid().word(), payment_reply(done.reply())));
+        .map(|done| (
+            done.number(),
+            done.tid().word(),
+            payment_reply(done.reply()),
+        ));
     drop(book);
     (seat, told)
 }

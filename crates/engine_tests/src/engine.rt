@@ -58,7 +58,7 @@ pub fn pay<K: Run, R: Wait>(
     seat: Seat<K>,
     customer: u32,
 ) -> Result<Executed<K>, Refusal>
-    requires reader { seat.reader.cells ≡ K.cells }
+    requires { seat.reader.cells ≡ K.cells }
 {
     let mut seat = seat;
     let population = engine.population();

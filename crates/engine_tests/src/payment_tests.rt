@@ -1,5 +1,5 @@
 //! Payments of the third customer, which is record 5, on the small population's cells.
-ghost use Rattle.std.specs.Prelude.{◌≡◌, ◌≢◌, ℕ, ◌<◌, length, IfOk};
+ghost use Rattle.std.specs.Prelude.{◌≡◌, ◌≢◌, ℕ, ◌<◌, length, OnOk};
 ghost use Rattle.tables.specs.Payment.{IsPayment};
 ghost use Rattle.cells.specs.Records.{at};
 ghost use Rattle.cells.specs.Versions.{last_tid};
@@ -74,14 +74,12 @@ fn store<R: Wait>(rt: &R, stage: &mut Stage, number: u32, value: Option<[u64; 7]
         .store(rt, &mut stage.pen, number, word, value.unwrap_or([0; 7]));
 }
 
-/// A Payment of customer 3.
-fn payment_of_third(scale: &Scale, amount: i64) -> Result<PaymentInput, Refusal>
-    ensures { IfOk result (λ asked. IsPayment scale.now asked) }
+/// Refuses a Payment outside the ranges of a scale.
+fn check_ranges(scale: &Scale, asked: &PaymentInput) -> Result<(), Refusal>
+    ensures { OnOk result (IsPayment scale.now asked.now) }
 {
-    let asked = payment(3, amount);
-    // Its ranges are the scale's.
-    let _input = Input::payment(scale, asked)?;
-    Ok(asked)
+    let _input = Input::payment(scale, *asked)?;
+    Ok(())
 }
 
 /// The version read of a record.
@@ -130,14 +128,15 @@ fn pay<R: Wait>(rt: &R, alloc: Global, stage: &mut Stage, amount: i64) -> Result
     ensures pen { stage.new.pen ≡ stage.old.pen }
     ensures reader { stage.new.reader.cells ≡ stage.old.reader.cells }
 {
-    let payment = payment_of_third(&stage.population.scale(), amount)?;
+    let asked = payment(3, amount);
+    check_ranges(&stage.population.scale(), &asked)?;
     let work = execute(
         rt,
         alloc,
         &stage.cells,
         &mut stage.reader,
         &stage.population,
-        &payment,
+        &asked,
     )?;
     Ok(seen_of(&work))
 }
