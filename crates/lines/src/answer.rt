@@ -123,12 +123,7 @@ impl Display for OrderHead<'_> {
         write!(
             f,
             "neworder {} {} {} customer {} lines {} total {}",
-            reply.warehouse,
-            reply.district,
-            reply.order,
-            reply.customer,
-            reply.amount,
-            reply.total
+            reply.warehouse, reply.district, reply.order, reply.customer, reply.amount, reply.total
         )
     }
 }
@@ -148,7 +143,11 @@ impl Display for SuppliedLines<'_> {
     fn fmt<W: fmt::Write>(&self, f: &mut fmt::Formatter<W>) -> fmt::Result {
         for line in self.lines {
             let (item, amount) = (line.item, line.amount);
-            write!(f, " {}:{}:{}:{}", item, line.supply_warehouse, line.stock, amount)?;
+            write!(
+                f,
+                " {}:{}:{}:{}",
+                item, line.supply_warehouse, line.stock, amount
+            )?;
         }
         Ok(())
     }

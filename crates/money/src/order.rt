@@ -4,7 +4,7 @@ ghost use Rattle.money.specs.Total.{total_amount};
 
 use crate::{Cents, Rate};
 
-/// The total amount of an order (TPC-C, clause 2.4.3.5): the sum of its lines, less the customer's
+/// The total amount of an order (TPC-C, clause 2.4.2.2): the sum of its lines, less the customer's
 /// discount, with the taxes of warehouse and district, rounded down to whole cents.
 ///
 /// `lines` is at most 15 lines of 10 items of 100.00 each.

@@ -1,7 +1,7 @@
 ghost use Rattle.std.specs.Prelude.{◌<◌};
 
-use lines::{Answer, LineBuffer, MAX_LINE, Request, print_report, read_request};
 use conditions::Report;
+use lines::{Answer, LineBuffer, MAX_LINE, Request, print_report, read_request};
 use money::{Cents, Rate, Refusal};
 use std::alloc::Global;
 use std::process::Abort;
@@ -118,8 +118,7 @@ fn an_order_is_printed(rt: HostRuntime) -> Result<(), Fail> {
         total: Cents::new(2070),
         lines: Lines::new(lines),
     });
-    let expected =
-        "neworder 1 1 11 customer 3 lines 20.00 total 20.70 1:2:40:10.00 7:2:91:10.00\n";
+    let expected = "neworder 1 1 11 customer 3 lines 20.00 total 20.70 1:2:40:10.00 7:2:91:10.00\n";
     assert_eq!(rt; printed(&rt, order).as_str(), expected);
     Ok(())
 }

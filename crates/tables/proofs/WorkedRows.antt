@@ -47,7 +47,7 @@ home_line = refl
 remote_line : (drawn 1 (line 2 10) (stock_of 50)).remote_orders ≡ 1
 remote_line = refl
 
--- ---- the total amount (TPC-C 2.4.3.5) of 150.00 and of 5.00, at a discount of 0.1 and taxes of 0.1 and 0.05
+-- ---- the total amount (TPC-C 2.4.2.2) of 150.00 and of 5.00, at a discount of 0.1 and taxes of 0.1 and 0.05
 whole_cents : total_amount (pos 15000) 1000 1000 500 ≡ pos 15525
 whole_cents = refl
 

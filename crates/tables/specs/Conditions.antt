@@ -35,7 +35,7 @@ paid_by_customer t k = sum_of (λ h. cond (is_customer h.customer_warehouse h.cu
 abbrev pub Condition1At : Database → ℕ → Type 0
 Condition1At t w = column (λ r. r.year_to_date) t.warehouses w ≡ total (λ k r. cond (k.warehouse == w) r.year_to_date (pos 0)) t.districts
 
--- 3.3.2.2: D_NEXT_O_ID - 1 is the greatest O_ID, which is 0 where there is no order, and the greatest NO_O_ID where there is one
+-- 3.3.2.2: D_NEXT_O_ID - 1 is the greatest O_ID (0 where there is no order), and the greatest NO_O_ID where there is a NEW-ORDER row, and so a least one
 abbrev pub Condition2At : Database → DistrictKey → Type 0
 Condition2At t k = (greatest (numbers_in k t.orders) + 1 ≡ next_order t k)
     × ForSome (least (numbers_in k t.new_orders)) (λ _. greatest (numbers_in k t.new_orders) + 1 ≡ next_order t k)

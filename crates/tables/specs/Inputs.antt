@@ -9,7 +9,7 @@ abbrev pub IsInput : Sizes → Input → Type 0
 IsInput s (input.Payment x) = IsPayment s x
 IsInput s (input.NewOrder x) = IsNewOrder s x
 
--- the inputs that the engine executes: New-Order is defined alone
+-- the inputs that the engine executes. So far New-Order is only defined
 abbrev pub IsExecuted : Input → Type 0
 IsExecuted (input.Payment x) = Unit {0}
 IsExecuted (input.NewOrder x) = ⊥

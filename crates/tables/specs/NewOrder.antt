@@ -1,5 +1,5 @@
 -- New-Order (TPC-C 2.4): the ranges of its input, what it does to the tables, and its reply.
-use Rattle.std.specs.Prelude.{◌≡◌, ℕ, ◌+◌, ◌-◌, ◌≤◌, nat_le, ℤ, pos, ◌+ℤ◌, ◌*ℤ◌, Bool, ◌==◌, cond, Option, None, Some, is_some, List, [], ◌∷◌, length, fold, All}
+use Rattle.std.specs.Prelude.{ℕ, ◌+◌, ◌-◌, ◌≤◌, nat_le, ℤ, pos, ◌+ℤ◌, ◌*ℤ◌, ◌==◌, cond, Option, None, Some, is_some, List, [], ◌∷◌, length, fold, All}
 use Rattle.std.specs.List.{list_all}
 use Rattle.std.specs.Option.{option_map_or}
 use Rattle.std.specs.FinMap.{FinMap, get, insert}
@@ -43,7 +43,7 @@ abbrev pub first_missing : Database → List RequestedLine → Option ℕ
 first_missing t [] = None
 first_missing t (l ∷ ls) = cond (is_some (get t.items l.item)) (first_missing t ls) (Some l.item)
 
--- the district that takes the order, and the customer
+-- the district that takes the order, and the customer that orders
 abbrev pub home : NewOrderInput → DistrictKey
 home x = record { warehouse = x.warehouse; district = x.district }
 
@@ -54,7 +54,7 @@ buyer x = record { warehouse = x.warehouse; district = x.district; customer = x.
 abbrev pub new_key : Database → NewOrderInput → OrderKey
 new_key t x = record { warehouse = x.warehouse; district = x.district; order = next_order t (home x) }
 
--- the number is within the order cap
+-- the order's number is within the order cap
 abbrev pub HasNumber : Database → NewOrderInput → Type 0
 HasNumber t x = next_order t (home x) ≤ t.scale.orders
 
@@ -72,7 +72,7 @@ order_row x = record {
   all_local = list_all (λ l. l.supply_warehouse == x.warehouse) x.lines;
 }
 
--- OL_AMOUNT: the price of an item, times the quantity
+-- I_PRICE, and OL_AMOUNT: the price times the quantity. Here as elsewhere a column of a missing row counts as 0
 abbrev pub price : Database → ℕ → ℤ
 price t i = option_map_or (λ r. r.price) (get t.items i) (pos 0)
 
@@ -149,7 +149,7 @@ warehouse_tax t w = option_map_or (λ r. r.tax) (get t.warehouses w) 0
 abbrev pub district_tax : Database → DistrictKey → ℕ
 district_tax t k = option_map_or (λ r. r.tax) (get t.districts k) 0
 
--- its reply (TPC-C 2.4.3.3), with the total amount of 2.4.3.5
+-- its reply (TPC-C 2.4.3.3), with the total amount of 2.4.2.2
 abbrev pub new_order_reply : Database → NewOrderInput → NewOrderReply
 new_order_reply t x = record {
   warehouse = x.warehouse;

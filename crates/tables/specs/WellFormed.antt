@@ -50,6 +50,7 @@ pub record IsHistoryRow (s : Sizes) (r : History) : Type 0 where
   pub at_least : MIN_PAYMENT ≤ℤ r.amount
   pub at_most : r.amount ≤ℤ MAX_PAYMENT
 
+-- O_C_ID is within the scale since the order names a customer (order_customers, below)
 pub record IsOrderRow (r : Order) : Type 0 where
   pub entry_date : IsDate r.entry_date
   pub carrier : ForSome r.carrier (λ n. IsNumber MAX_CARRIER n)
@@ -63,6 +64,7 @@ pub record IsLineRow (s : Sizes) (r : OrderLine) : Type 0 where
   pub at_least : pos 0 ≤ℤ r.amount
   pub at_most : r.amount ≤ℤ MAX_LINE_AMOUNT
 
+-- a price is a limit of this engine: an order's sum then stays within what its total takes
 pub record IsItemRow (r : Item) : Type 0 where
   pub at_least : pos 0 ≤ℤ r.price
   pub at_most : r.price ≤ℤ MAX_PRICE
@@ -87,6 +89,7 @@ pub record IsWellFormed (t : Database) : Type 0 where
   pub new_orders : RowsWithin (IsOrderKey t.scale) t.new_orders
   pub orders : RowsWithin (IsOrderKey t.scale) t.orders
   pub lines : RowsWithin (IsLineKey t.scale) t.lines
+  -- ITEM may lack an item of the scale: an order of it is rolled back
   pub items : RowsWithin (IsItemKey t.scale) t.items
   -- columns within their ranges
   pub warehouse_rows : EachRow (λ k r. IsMoney r.year_to_date) t.warehouses

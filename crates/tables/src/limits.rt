@@ -52,7 +52,7 @@ pub const MAX_QUANTITY: u32 = 10;
 /// The largest OL_AMOUNT. The smallest is 0.
 pub const MAX_LINE_AMOUNT: i64 = 999_999;
 
-/// The largest O_CARRIER_ID (TPC-C 2.7.1.3). The smallest is 1.
+/// The largest O_CARRIER_ID (TPC-C 2.7.1.2). The smallest is 1.
 pub const MAX_CARRIER: u32 = 10;
 
 /// The smallest S_QUANTITY.

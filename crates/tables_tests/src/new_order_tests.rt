@@ -1,12 +1,12 @@
 //! Which fields make a New-Order's input, and copies of lines and replies.
 
+use money::{Cents, Refusal};
+use std::alloc::{AllocError, Global};
+use std::test::Fail;
 use tables::{
     Input, Lines, NewOrderInput, NewOrderReply, PaymentReply, Reply, RequestedLine, Scale,
     SuppliedLine,
 };
-use money::{Cents, Refusal};
-use std::alloc::{AllocError, Global};
-use std::test::Fail;
 
 /// Two warehouses of three districts with ten customers, and 20 items.
 fn scale() -> Result<Scale, Refusal> {

@@ -1,8 +1,8 @@
 //! The plain population of one warehouse, two districts, ten customers a district and twenty items, against
 //! its description.
 
-use population::Population;
 use money::{Cents, Rate};
+use population::Population;
 use std::test::Fail;
 use tables::{
     Credit, Customer, CustomerKey, District, DistrictKey, History, Item, LineKey, NewOrder, Order,

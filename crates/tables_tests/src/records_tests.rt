@@ -1,12 +1,12 @@
 //! Which numbers make a scale, which fields a Payment's input, and how records are numbered and kept.
 
+use money::{Cents, Rate, Refusal};
+use std::test::Fail;
 use tables::{
     Credit, Customer, CustomerKey, District, DistrictKey, Input, LineKey, Order, OrderKey,
     OrderLine, PaymentInput, RecordKey, Scale, Stock, StockKey, Table, Tables, Warehouse, Who,
     key_of, money_from_word, money_to_word, number_of_key, rec,
 };
-use money::{Cents, Rate, Refusal};
-use std::test::Fail;
 
 fn small() -> Result<Scale, Fail> {
     Ok(Scale::new(1, 2, 10, 20, 30, 1_000)?)

@@ -13,9 +13,9 @@ pub returns-in-Ok-commit-clause-turn : goal.returns-in-Ok-commit-clause-turn
 returns-in-Ok-commit-clause-turn g c =
     let next = c.in-Ok-commit.ensures.next in
     answered_turn _ _ c.answered.result (c.answered.ensures.last c.args.session.now.dones next.0 (c.dones.ensures ∙ next.2)) (λ told says x is_made.
-        let made = subst (IsMade g.K.Run.first.scale x) c.in-Ok.is is_made in
-        subst (λ (y : Input). IsInputTurn (state_of g.K.Run.first c.args.session.now) c.args.number y (record { answer = told; state = state_of g.K.Run.first c.commit.new.self })) made.0
-        (committed_turn g.K.Run.first c.args.session.now c.commit.new.self c.args.number c.in-Ok.input next.0 told says c.in-Ok-commit.ensures.count next.2 (subst (IsInput g.K.Run.first.scale) (sym made.0) made.1) next.1))
+    let made = subst (IsMade g.K.Run.first.scale x) c.in-Ok.is is_made in
+    subst (λ (y : Input). IsInputTurn (state_of g.K.Run.first c.args.session.now) c.args.number y (record { answer = told; state = state_of g.K.Run.first c.commit.new.self })) made.0
+    (committed_turn g.K.Run.first c.args.session.now c.commit.new.self c.args.number c.in-Ok.input next.0 told says c.in-Ok-commit.ensures.count next.2 (subst (IsInput g.K.Run.first.scale) (sym made.0) made.1) next.1))
 
 pub returns-in-Err-CommitsFull-clause-turn : goal.returns-in-Err-CommitsFull-clause-turn
 returns-in-Err-CommitsFull-clause-turn g c = λ x is_made.
