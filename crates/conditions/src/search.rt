@@ -117,8 +117,7 @@ pub fn least_order<C: RowCondition<OrderKey, Order>>(
     ensures { Finds order_cmp (λ k. IsSome (get (database tables.now).orders k))
         (λ k. ForSome (get (database tables.now).orders k) (C.holds_of (database tables.now) k)) result }
 {
-    let least = least_row::<OrderKey, Order, C>(tables, sums, &tables.orders);
-    least
+    least_row::<OrderKey, Order, C>(tables, sums, &tables.orders)
 }
 
 /// The least line whose ORDER-LINE row breaks the condition.
@@ -130,8 +129,7 @@ pub fn least_line<C: RowCondition<LineKey, OrderLine>>(
     ensures { Finds line_cmp (λ k. IsSome (get (database tables.now).lines k))
         (λ k. ForSome (get (database tables.now).lines k) (C.holds_of (database tables.now) k)) result }
 {
-    let least = least_row::<LineKey, OrderLine, C>(tables, sums, &tables.lines);
-    least
+    least_row::<LineKey, OrderLine, C>(tables, sums, &tables.lines)
 }
 
 /// The least key of a table whose row breaks the condition.

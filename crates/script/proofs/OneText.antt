@@ -4,7 +4,7 @@ use Rattle.std.specs.Ordering.{ordering_reverse}
 use Rattle.std.specs.declared.cmp.Ordering.{Ordering}
 use Rattle.std.specs.declared.cmp.Ordering.TheVariants.{Less, Equal, Greater}
 use Rattle.tables.specs.Database.{Database}
-use Rattle.tables.proofs.Orders.{IsExact, exact_number, exact_district, exact_customer}
+use Rattle.tables.proofs.Orders.{IsExact, exact_number, exact_district, exact_customer, exact_order, exact_line}
 use Rattle.lines.specs.Lines.{lines_of}
 use Rattle.lines.specs.Report.{report_text}
 use Rattle.conditions.specs.Finds.{Finds}
@@ -29,11 +29,29 @@ one_finding {K} {R} o IsKey HoldsAt (Some k) (Some j) p q = go (R k j) refl
 one_report : (t : Database) (a b : Report) → IsReportOf t a → IsReportOf t b → a ≡ b
 one_report t a b p q =
     let first = one_finding exact_number _ _ a.condition_1 b.condition_1 p.condition_1 q.condition_1 in
+    let second = one_finding exact_district _ _ a.condition_2 b.condition_2 p.condition_2 q.condition_2 in
+    let third = one_finding exact_district _ _ a.condition_3 b.condition_3 p.condition_3 q.condition_3 in
+    let fourth = one_finding exact_district _ _ a.condition_4 b.condition_4 p.condition_4 q.condition_4 in
+    let fifth = one_finding exact_order _ _ a.condition_5 b.condition_5 p.condition_5 q.condition_5 in
+    let sixth = one_finding exact_order _ _ a.condition_6 b.condition_6 p.condition_6 q.condition_6 in
+    let seventh = one_finding exact_line _ _ a.condition_7 b.condition_7 p.condition_7 q.condition_7 in
     let eighth = one_finding exact_number _ _ a.condition_8 b.condition_8 p.condition_8 q.condition_8 in
     let ninth = one_finding exact_district _ _ a.condition_9 b.condition_9 p.condition_9 q.condition_9 in
     let tenth = one_finding exact_customer _ _ a.condition_10 b.condition_10 p.condition_10 q.condition_10 in
     let twelfth = one_finding exact_customer _ _ a.condition_12 b.condition_12 p.condition_12 q.condition_12 in
-    λ i. record { condition_1 = first i; condition_8 = eighth i; condition_9 = ninth i; condition_10 = tenth i; condition_12 = twelfth i }
+    λ i. record {
+      condition_1 = first i;
+      condition_2 = second i;
+      condition_3 = third i;
+      condition_4 = fourth i;
+      condition_5 = fifth i;
+      condition_6 = sixth i;
+      condition_7 = seventh i;
+      condition_8 = eighth i;
+      condition_9 = ninth i;
+      condition_10 = tenth i;
+      condition_12 = twelfth i;
+    }
 
 -- two whole scripts of the same bytes
 pub one_text : (tables : Database) (bytes text other : List ℕ) (report found : Report) (dones told : List Done) → IsWhole tables bytes text report dones → IsWhole tables bytes other found told → (text ≡ other) × (report ≡ found) × (dones ≡ told)
