@@ -104,10 +104,17 @@ fn pay_both_meanwhile<K: Run + Send + Sync, R: Threads + Wait + Clock + Sync>(
         requires left { left.reader.cells ≡ K.cells }
         requires right { right.reader.cells ≡ K.cells }
     { pay_both(rt, alloc, engine, left, right, held, executed) };
-    let (is_executed, (third, fourth)) = join(rt, move || hold(rt, engine, held, executed), payers);
+    let (is_executed, paid) = join(rt, move || hold(rt, engine, held, executed), payers);
     if !is_executed {
         return None;
     }
+    both_executed(paid)
+}
+
+fn both_executed<K: Run>(
+    paid: (Option<Executed<K>>, Option<Executed<K>>),
+) -> Option<(Executed<K>, Executed<K>)> {
+    let (third, fourth) = paid;
     Some((third?, fourth?))
 }
 

@@ -6,6 +6,7 @@ ghost use Rattle.cells.specs.Records.{at};
 
 use crate::stage::{CUSTOMER, DISTRICT, Stage, WAREHOUSE, open};
 use cells::{Cells, Pen, Reader, Status, TidWord, Version};
+use std::alloc::Global;
 use std::sync::Wait;
 use std::test::Fail;
 use std::thread::{Threads, join};
@@ -33,6 +34,9 @@ fn read_three<R: Wait>(rt: &R, cells: &Cells, reader: &mut Reader) -> [Version; 
     [warehouse, district, customer]
 }
 
+/// The three answers of `meet`, and what is stored.
+type Met = (bool, bool, bool, [u64; 7]);
+
 /// The answers of `meet` for a version that is the latest, for that version once another is stored, and for the
 /// other, and what is stored.
 fn answers<R: Wait>(
@@ -42,7 +46,7 @@ fn answers<R: Wait>(
     reader: &mut Reader,
     number: u32,
     word: TidWord,
-) -> (bool, bool, bool, [u64; 7])
+) -> Met
     requires pen { pen.old.cells ≡ cells.now }
     requires reader { reader.old.cells ≡ cells.now }
     requires record { number < length cells.now }
@@ -57,27 +61,27 @@ fn answers<R: Wait>(
     (before, after, latest, new.payload)
 }
 
-#[test]
-fn one_thread(rt: HostRuntime) -> Result<(), Fail> {
-    let mut stage = open(&rt, rt.alloc())?;
-    let [warehouse, district, customer] = read_three(&rt, &stage.cells, &mut stage.reader);
-    assert_eq!(rt; warehouse, populated(0, WAREHOUSE));
-    assert_eq!(rt; district, populated(1, DISTRICT));
-    assert_eq!(rt; customer, populated(5, CUSTOMER));
+/// The first versions of three records, and what `answers` gives of the second.
+fn seen_by_one<R: Wait>(rt: &R, alloc: Global) -> Result<([Version; 3], Met), Fail> {
+    let mut stage = open(rt, alloc)?;
+    let first = read_three(rt, &stage.cells, &mut stage.reader);
     let status = Status {
         latest: true,
         absent: false,
         locked: false,
     };
     let word = TidWord::pack(1, 7, status);
-    let met = answers(
-        &rt,
-        &stage.cells,
-        &mut stage.pen,
-        &mut stage.reader,
-        1,
-        word,
-    );
+    let met = answers(rt, &stage.cells, &mut stage.pen, &mut stage.reader, 1, word);
+    Ok((first, met))
+}
+
+#[test]
+fn one_thread(rt: HostRuntime) -> Result<(), Fail> {
+    let (first, met) = seen_by_one(&rt, rt.alloc())?;
+    let warehouse = populated(0, WAREHOUSE);
+    let district = populated(1, DISTRICT);
+    let customer = populated(5, CUSTOMER);
+    assert_eq!(rt; first, [warehouse, district, customer]);
     assert_eq!(rt; met, (true, false, true, [9, 8, 7, 6, 5, 4, 3]));
     Ok(())
 }
@@ -90,12 +94,16 @@ fn tid_words(rt: HostRuntime) {
         locked: true,
     };
     let word = TidWord::pack(3, 5, status);
-    assert_eq!(rt; word.word(), (3 << 32) + 45);
-    assert_eq!(rt; (word.epoch(), word.sequence()), (3, 5));
-    assert!(rt; word.is_locked() && word.is_absent() && !word.is_latest());
+    assert_eq!(rt;
+        (word.word(), word.epoch(), word.sequence()),
+        ((3 << 32) + 45, 3, 5)
+    );
     assert_eq!(rt; word.tid(), TidWord::new((3 << 32) + 40));
-    assert!(rt; TidWord::POPULATED.is_latest() && !TidWord::POPULATED.is_absent());
-    assert!(rt; TidWord::ABSENT.is_latest() && TidWord::ABSENT.is_absent());
+    assert!(rt; word.is_locked() && word.is_absent() && !word.is_latest());
+    let (there, absent) = (TidWord::POPULATED, TidWord::ABSENT);
+    assert!(rt;
+        there.is_latest() && !there.is_absent() && absent.is_latest() && absent.is_absent()
+    );
 }
 
 /// Stores versions of the warehouse whose payloads are all their TID's number.

@@ -37,7 +37,7 @@ struct Seen {
 }
 
 /// The versions read.
-#[derive(Clone, Copy)]
+#[derive(Clone, Copy, Debug, PartialEq, Eq)]
 struct Read {
     warehouse: Option<Held>,
     district: Option<Held>,
@@ -45,7 +45,7 @@ struct Read {
 }
 
 /// What the records are to hold.
-#[derive(Clone, Copy)]
+#[derive(Clone, Copy, Debug, PartialEq, Eq)]
 struct Written {
     warehouse: Option<[u64; 7]>,
     district: Option<[u64; 7]>,
@@ -141,18 +141,34 @@ fn pay<R: Wait>(rt: &R, alloc: Global, stage: &mut Stage, amount: i64) -> Result
     Ok(seen_of(&work))
 }
 
+/// What a payment of 12.34 is to write, where it leaves this of the warehouse.
+fn written_of_first(warehouse: [u64; 7]) -> Written {
+    let customer = [(-2_234_i64).cast_unsigned(), 2_234, 2, 0, 0, 0, 0];
+    Written {
+        warehouse: Some(warehouse),
+        district: Some([11_234, 11, 0, 0, 0, 0, 0]),
+        customer: Some(customer),
+    }
+}
+
+/// A version of the population.
+fn populated(payload: [u64; 7]) -> Held {
+    Held { word: 2, payload }
+}
+
+fn seen_of_first<R: Wait>(rt: &R, alloc: Global) -> Result<Seen, Fail> {
+    let mut stage = open(rt, alloc)?;
+    Ok(pay(rt, alloc, &mut stage, 1_234)?)
+}
+
 #[test]
 fn a_payment(rt: HostRuntime) -> Result<(), Fail> {
-    let mut stage = open(&rt, rt.alloc())?;
-    let seen = pay(&rt, rt.alloc(), &mut stage, 1_234)?;
+    let seen = seen_of_first(&rt, rt.alloc())?;
+    let wanted = written_of_first([21_234, 0, 0, 0, 0, 0, 0]);
     assert_eq!(rt; seen.input, Some(payment(3, 1_234)));
     assert_eq!(rt; seen.reply, reply(3, -2_234));
-    assert_eq!(rt; seen.reads, 3);
-    assert_eq!(rt; seen.writes, 3);
-    assert_eq!(rt; seen.written.warehouse, Some([21_234, 0, 0, 0, 0, 0, 0]));
-    assert_eq!(rt; seen.written.district, Some([11_234, 11, 0, 0, 0, 0, 0]));
-    let customer = [(-2_234_i64).cast_unsigned(), 2_234, 2, 0, 0, 0, 0];
-    assert_eq!(rt; seen.written.customer, Some(customer));
+    assert_eq!(rt; (seen.reads, seen.writes), (3, 3));
+    assert_eq!(rt; seen.written, wanted);
     assert_eq!(rt; seen.history_row, Some(history_row(3, 1_234)));
     Ok(())
 }
@@ -179,17 +195,27 @@ fn pay_and_store<R: Wait>(
     Ok(seen)
 }
 
+fn seen_of_two<R: Wait>(rt: &R, alloc: Global) -> Result<(Seen, Seen), Fail> {
+    let mut stage = open(rt, alloc)?;
+    let first = pay_and_store(rt, alloc, &mut stage, 100)?;
+    let second = pay(rt, alloc, &mut stage, 500_000)?;
+    Ok((first, second))
+}
+
 #[test]
 fn a_payment_after_another(rt: HostRuntime) -> Result<(), Fail> {
-    let mut stage = open(&rt, rt.alloc())?;
-    let first = pay_and_store(&rt, rt.alloc(), &mut stage, 100)?;
-    assert_eq!(rt; first.reply, reply(3, -1_100));
-    let second = pay(&rt, rt.alloc(), &mut stage, 500_000)?;
-    assert_eq!(rt; second.reply, reply(3, -501_100));
-    assert_eq!(rt; second.written.warehouse, Some([520_100, 0, 0, 0, 0, 0, 0]));
-    assert_eq!(rt; second.written.district, Some([510_100, 11, 0, 0, 0, 0, 0]));
+    let (first, second) = seen_of_two(&rt, rt.alloc())?;
+    assert_eq!(rt;
+        (first.reply, second.reply),
+        (reply(3, -1_100), reply(3, -501_100))
+    );
     let customer = [(-501_100_i64).cast_unsigned(), 501_100, 3, 0, 0, 0, 0];
-    assert_eq!(rt; second.written.customer, Some(customer));
+    let wanted = Written {
+        warehouse: Some([520_100, 0, 0, 0, 0, 0, 0]),
+        district: Some([510_100, 11, 0, 0, 0, 0, 0]),
+        customer: Some(customer),
+    };
+    assert_eq!(rt; second.written, wanted);
     Ok(())
 }
 
@@ -207,29 +233,30 @@ fn outcome<R: Wait>(
     Ok(pay(rt, alloc, &mut stage, 1_234))
 }
 
+fn seen_where_stored<R: Wait>(rt: &R, alloc: Global, warehouse: [u64; 7]) -> Result<Seen, Fail> {
+    let mut stage = open(rt, alloc)?;
+    store(rt, &mut stage, 0, Some(warehouse));
+    Ok(pay(rt, alloc, &mut stage, 1_234)?)
+}
+
 #[test]
 fn reads_between_the_stores_of_another(rt: HostRuntime) -> Result<(), Fail> {
     // Another payment of 1.00 has stored its warehouse and not yet its district.
     let warehouse = [20_100, 0, 0, 0, 0, 0, 0];
-    let seen = outcome(&rt, rt.alloc(), 0, Some(warehouse))??;
-    assert_eq!(rt; seen.reads, 3);
+    let seen = seen_where_stored(&rt, rt.alloc(), warehouse)?;
     let stored = Held {
         word: 4_294_967_306,
         payload: warehouse,
     };
-    assert_eq!(rt; seen.read.warehouse, Some(stored));
-    let district = Held {
-        word: 2,
-        payload: DISTRICT,
+    let read = Read {
+        warehouse: Some(stored),
+        district: Some(populated(DISTRICT)),
+        customer: Some(populated(CUSTOMER)),
     };
-    assert_eq!(rt; seen.read.district, Some(district));
-    let customer = Held {
-        word: 2,
-        payload: CUSTOMER,
-    };
-    assert_eq!(rt; seen.read.customer, Some(customer));
-    assert_eq!(rt; seen.written.warehouse, Some([21_334, 0, 0, 0, 0, 0, 0]));
-    assert_eq!(rt; seen.written.district, Some([11_234, 11, 0, 0, 0, 0, 0]));
+    let wanted = written_of_first([21_334, 0, 0, 0, 0, 0, 0]);
+    assert_eq!(rt; seen.reads, 3);
+    assert_eq!(rt; seen.read, read);
+    assert_eq!(rt; seen.written, wanted);
     assert_eq!(rt; seen.reply, reply(3, -2_234));
     Ok(())
 }

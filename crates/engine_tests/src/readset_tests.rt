@@ -8,6 +8,7 @@ use readset::{ReadSet, WriteSet};
 use std::alloc::Global;
 use std::sync::Wait;
 use std::test::Fail;
+use tables::History;
 
 /// What was seen of writes.
 #[derive(Clone, Copy, Debug, PartialEq, Eq)]
@@ -37,33 +38,26 @@ fn seen_of(writes: &WriteSet, reads: &ReadSet, number: u32) -> Seen {
     }
 }
 
-#[test]
-fn a_record_that_is_only_read_is_left_as_read(rt: HostRuntime) -> Result<(), Fail> {
-    let mut stage = open(&rt, rt.alloc())?;
-    let reads = read(&rt, rt.alloc(), &mut stage)?;
-    let seen = seen_of(&WriteSet::new(rt.alloc()), &reads, 0);
-    assert_eq!(rt; seen.value, None);
-    assert_eq!(rt; seen.left, Some(WAREHOUSE));
-    assert_eq!(rt; seen.count, 0);
-    Ok(())
+/// A read set that has the warehouse.
+fn reads_of<R: Wait>(rt: &R, alloc: Global) -> Result<ReadSet, Fail> {
+    let mut stage = open(rt, alloc)?;
+    Ok(read(rt, alloc, &mut stage)?)
+}
+
+fn seen_unwritten<R: Wait>(rt: &R, alloc: Global) -> Result<Seen, Fail> {
+    let reads = reads_of(rt, alloc)?;
+    Ok(seen_of(&WriteSet::new(alloc), &reads, 0))
 }
 
 #[test]
-fn the_last_value_put_is_left(rt: HostRuntime) -> Result<(), Fail> {
-    let mut stage = open(&rt, rt.alloc())?;
-    let reads = read(&rt, rt.alloc(), &mut stage)?;
-    let mut writes = WriteSet::new(rt.alloc());
-    let first = put(&mut writes, &reads, Some([1, 2, 3, 4, 5, 6, 7]))?;
-    assert_eq!(rt; first.left, Some([1, 2, 3, 4, 5, 6, 7]));
-    let second = put(&mut writes, &reads, None)?;
-    assert_eq!(rt;
-        second,
-        Seen {
-            count: 1,
-            value: Some(None),
-            left: None
-        }
-    );
+fn a_record_that_is_only_read_is_left_as_read(rt: HostRuntime) -> Result<(), Fail> {
+    let seen = seen_unwritten(&rt, rt.alloc())?;
+    let expected = Seen {
+        count: 0,
+        value: None,
+        left: Some(WAREHOUSE),
+    };
+    assert_eq!(rt; seen, expected);
     Ok(())
 }
 
@@ -73,17 +67,54 @@ fn put(writes: &mut WriteSet, reads: &ReadSet, value: Option<[u64; 7]>) -> Resul
     Ok(seen_of(writes, reads, 0))
 }
 
+fn seen_of_two_puts(alloc: Global, reads: &ReadSet) -> Result<(Seen, Seen), Refusal> {
+    let mut writes = WriteSet::new(alloc);
+    let first = put(&mut writes, reads, Some([1, 2, 3, 4, 5, 6, 7]))?;
+    let second = put(&mut writes, reads, None)?;
+    Ok((first, second))
+}
+
+fn seen_written<R: Wait>(rt: &R, alloc: Global) -> Result<(Seen, Seen), Fail> {
+    let reads = reads_of(rt, alloc)?;
+    Ok(seen_of_two_puts(alloc, &reads)?)
+}
+
 #[test]
-fn a_list_has_the_writes_in_order(rt: HostRuntime) -> Result<(), Fail> {
-    let mut writes = WriteSet::new(rt.alloc());
-    put_three(&mut writes)?;
-    assert_eq!(rt; writes.history_row(), Some(history_row(3, 1_234)));
-    let list = writes.list(rt.alloc())?;
-    assert_eq!(rt; list.history_row(), Some(history_row(3, 1_234)));
-    assert_eq!(rt; list.values().len(), 2);
-    assert_eq!(rt; list.values().first().copied(), Some((1, Some(WAREHOUSE))));
-    assert_eq!(rt; list.values().last().copied(), Some((2, None)));
+fn the_last_value_put_is_left(rt: HostRuntime) -> Result<(), Fail> {
+    let seen = seen_written(&rt, rt.alloc())?;
+    let first = Seen {
+        count: 1,
+        value: Some(Some([1, 2, 3, 4, 5, 6, 7])),
+        left: Some([1, 2, 3, 4, 5, 6, 7]),
+    };
+    let second = Seen {
+        count: 1,
+        value: Some(None),
+        left: None,
+    };
+    assert_eq!(rt; seen, (first, second));
     Ok(())
+}
+
+/// What was seen of a list: the HISTORY row of the writes that it was made of, its own, and its first and last value.
+#[derive(Clone, Copy, Debug, PartialEq, Eq)]
+struct Listed {
+    rows: (Option<History>, Option<History>),
+    count: usize,
+    first: Option<(u32, Option<[u64; 7]>)>,
+    last: Option<(u32, Option<[u64; 7]>)>,
+}
+
+fn seen_of_list(alloc: Global) -> Result<Listed, Refusal> {
+    let mut writes = WriteSet::new(alloc);
+    put_three(&mut writes)?;
+    let list = writes.list(alloc)?;
+    Ok(Listed {
+        rows: (writes.history_row(), list.history_row()),
+        count: list.values().len(),
+        first: list.values().first().copied(),
+        last: list.values().last().copied(),
+    })
 }
 
 /// Says what two records are to hold, the later one first, and which row HISTORY is to get.
@@ -91,5 +122,20 @@ fn put_three(writes: &mut WriteSet) -> Result<(), Refusal> {
     writes.put(2, None)?;
     writes.put(1, Some(WAREHOUSE))?;
     writes.put_history_row(history_row(3, 1_234));
+    Ok(())
+}
+
+#[test]
+fn a_list_has_the_writes_in_order(rt: HostRuntime) -> Result<(), Fail> {
+    let seen = seen_of_list(rt.alloc())?;
+    let put = Some(history_row(3, 1_234));
+    let listed = Some(history_row(3, 1_234));
+    let expected = Listed {
+        rows: (put, listed),
+        count: 2,
+        first: Some((1, Some(WAREHOUSE))),
+        last: Some((2, None)),
+    };
+    assert_eq!(rt; seen, expected);
     Ok(())
 }
