@@ -1,0 +1,4 @@
+mod Backs
+pub mod Numbered
+pub mod Determined
+pub mod Held
