@@ -1,5 +1,5 @@
 -- The rows that seven words stand for. A column that never changes comes from the population's row, every other one from the words.
-use Rattle.std.specs.Prelude.{ℕ, ◌==◌, cond, Option, Some, None, List, slice_index}
+use Rattle.std.specs.Prelude.{ℕ, ◌<◌, ◌^◌, ◌==◌, cond, Option, Some, None, List, slice_index}
 use Rattle.tables.specs.Rows.{money_of}
 use Rattle.tables.specs.declared.rows.Warehouse.{Warehouse}
 use Rattle.tables.specs.declared.rows.District.{District}
@@ -52,3 +52,7 @@ stock_of_words words = record {
   orders = slice_index words 2;
   remote_orders = slice_index words 3;
 }
+
+-- the word at this place fits a column of 32 bits
+abbrev pub Fits : List ℕ → ℕ → Type 0
+Fits words i = slice_index words i < 2 ^ 32

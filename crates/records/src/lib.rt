@@ -21,8 +21,10 @@ ghost use Rattle.records.specs.Words.{warehouse_of, district_of, customer_of, or
 ghost use Rattle.records.specs.Held.{row_count, by_key, AreTables};
 
 mod decode;
+mod putting;
 
 pub use decode::{customer_of, district_of, line_of, order_of, stock_of, warehouse_of};
+pub use putting::put;
 
 /// Two well-formed tables that a population's may become are the same where the records of rows hold the same
 /// and HISTORY is the same. Nothing is asked of the index records.
