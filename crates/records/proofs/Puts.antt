@@ -7,6 +7,7 @@ use Rattle.std.specs.FinMap.{FinMap, get, get-insert, insert}
 use Rattle.std.specs.declared.cmp.Ordering.{Ordering}
 use Rattle.std.proofs.lemmas.Option.{same_Some}
 use Rattle.tables.specs.Database.{Database}
+use Rattle.tables.specs.Records.{IsRecordKey}
 use Rattle.tables.specs.Keys.{IsWarehouseKey, IsDistrictKey, IsCustomerKey, IsOrderKey, IsLineKey, IsStockKey, district_cmp, customer_cmp, order_cmp, line_cmp, stock_cmp}
 use Rattle.tables.specs.Rows.{warehouse_words, district_words, customer_words, new_order_words, order_words, line_words, stock_words}
 use Rattle.tables.specs.WellFormed.{IsLineRow, IsStockRow}
@@ -22,10 +23,11 @@ use Rattle.tables.specs.declared.rows.NewOrder.{NewOrder}
 use Rattle.tables.specs.declared.rows.Order.{Order}
 use Rattle.tables.specs.declared.rows.OrderLine.{OrderLine}
 use Rattle.tables.specs.declared.rows.Stock.{Stock}
+use Rattle.tables.specs.declared.records.RecordKey.{RecordKey}
 use Rattle.tables.specs.declared.records.RecordKey.TheVariants as key
 use Rattle.tables.proofs.Entries.{tied}
 use Rattle.tables.proofs.Orders.{IsExact, exact_number, exact_district, exact_customer, exact_order, exact_line, exact_stock}
-use Rattle.records.specs.Held.{IsTableOf, IsWarehouseOf, IsDistrictOf, IsCustomerOf, IsOrderIn}
+use Rattle.records.specs.Held.{IsTableOf, IsWarehouseOf, IsDistrictOf, IsCustomerOf, IsOrderIn, AreTables}
 use Rattle.records.specs.Puts.{Puts}
 
 module _ {K X : Type 0} {R : K → K → Ordering} (o : IsExact R) (m : FinMap R X) (k : K) (r : X) where
@@ -49,6 +51,29 @@ module _ {K X : Type 0} {R : K → K → Ordering} (o : IsExact R) (m : FinMap R
 same_values : {K X : Type 0} {R : K → K → Ordering} (IsKey : K → Type 0) (IsIn : K → X → Type 0) (words : X → List ℕ) (value more : K → Option (List ℕ)) (m : FinMap R X) → ((q : K) → IsKey q → more q ≡ value q) → IsTableOf IsKey IsIn words value m → IsTableOf IsKey IsIn words more m
 same_values IsKey IsIn words value more m same a = record { within = a.within; each = a.each; rows = λ q is. a.rows q is ∙ sym (same q is) }
 
+module _ (t0 t : Database) (values more : RecordKey → Option (List ℕ)) (k : RecordKey) (others : (j : RecordKey) → IsRecordKey t0.scale j → j ≢ k → more j ≡ values j) (a : AreTables t0 values t) where
+  -- the tables that the key isn't of
+  kept_warehouses : ((q : ℕ) → key.Warehouse q ≢ k) → IsTableOf (IsWarehouseKey t0.scale) (IsWarehouseOf t0) warehouse_words (λ q. more (key.Warehouse q)) t.warehouses
+  kept_warehouses apart = same_values (IsWarehouseKey t0.scale) (IsWarehouseOf t0) warehouse_words _ _ t.warehouses (λ q is. others (key.Warehouse q) is (apart q)) a.warehouses
+
+  kept_districts : ((q : DistrictKey) → key.District q ≢ k) → IsTableOf (IsDistrictKey t0.scale) (IsDistrictOf t0) district_words (λ q. more (key.District q)) t.districts
+  kept_districts apart = same_values (IsDistrictKey t0.scale) (IsDistrictOf t0) district_words _ _ t.districts (λ q is. others (key.District q) is (apart q)) a.districts
+
+  kept_customers : ((q : CustomerKey) → key.Customer q ≢ k) → IsTableOf (IsCustomerKey t0.scale) (IsCustomerOf t0) customer_words (λ q. more (key.Customer q)) t.customers
+  kept_customers apart = same_values (IsCustomerKey t0.scale) (IsCustomerOf t0) customer_words _ _ t.customers (λ q is. others (key.Customer q) is (apart q)) a.customers
+
+  kept_new_orders : ((q : OrderKey) → key.NewOrder q ≢ k) → IsTableOf (IsOrderKey t0.scale) (λ k r. Unit {0}) new_order_words (λ q. more (key.NewOrder q)) t.new_orders
+  kept_new_orders apart = same_values (IsOrderKey t0.scale) (λ k r. Unit {0}) new_order_words _ _ t.new_orders (λ q is. others (key.NewOrder q) is (apart q)) a.new_orders
+
+  kept_orders : ((q : OrderKey) → key.Order q ≢ k) → IsTableOf (IsOrderKey t0.scale) (λ k r. IsOrderIn t0.scale r) order_words (λ q. more (key.Order q)) t.orders
+  kept_orders apart = same_values (IsOrderKey t0.scale) (λ k r. IsOrderIn t0.scale r) order_words _ _ t.orders (λ q is. others (key.Order q) is (apart q)) a.orders
+
+  kept_lines : ((q : LineKey) → key.OrderLine q ≢ k) → IsTableOf (IsLineKey t0.scale) (λ k r. IsLineRow t0.scale r) line_words (λ q. more (key.OrderLine q)) t.lines
+  kept_lines apart = same_values (IsLineKey t0.scale) (λ k r. IsLineRow t0.scale r) line_words _ _ t.lines (λ q is. others (key.OrderLine q) is (apart q)) a.lines
+
+  kept_stock : ((q : StockKey) → key.Stock q ≢ k) → IsTableOf (IsStockKey t0.scale) (λ k r. IsStockRow r) stock_words (λ q. more (key.Stock q)) t.stock
+  kept_stock apart = same_values (IsStockKey t0.scale) (λ k r. IsStockRow r) stock_words _ _ t.stock (λ q is. others (key.Stock q) is (apart q)) a.stock
+
 module _ (t0 : Database) (ws : List ℕ) (t : Database) where
   pub puts_warehouse : (k : ℕ) (r : Warehouse) (rows : FinMap nat_cmp Warehouse) → rows ≡ insert t.warehouses k r → IsWarehouseKey t0.scale k → IsWarehouseOf t0 k r → ws ≡ warehouse_words r → Puts t0 (key.Warehouse k) (Some ws) t (record t { warehouses = rows })
   puts_warehouse k r rows e is is_in same = record {
@@ -56,13 +81,13 @@ module _ (t0 : Database) (ws : List ℕ) (t : Database) where
     tables = λ values more here others a. record {
       scale = a.scale;
       items = a.items;
-      warehouses = subst (λ m. IsTableOf (IsWarehouseKey t0.scale) (IsWarehouseOf t0) warehouse_words (λ q. more (key.Warehouse q)) m) (sym e) (same_insert exact_number t.warehouses k r (IsWarehouseKey t0.scale) (IsWarehouseOf t0) warehouse_words (λ q. values (key.Warehouse q)) (λ q. more (key.Warehouse q)) is is_in (here ∙ ap Some same) (λ q at other. others (key.Warehouse q) at (λ (p : key.Warehouse q ≡ key.Warehouse k). other cc)) a.warehouses);
-      districts = same_values (IsDistrictKey t0.scale) (IsDistrictOf t0) district_words _ _ t.districts (λ q at. others (key.District q) at (λ (p : key.District q ≡ key.Warehouse k). cc)) a.districts;
-      customers = same_values (IsCustomerKey t0.scale) (IsCustomerOf t0) customer_words _ _ t.customers (λ q at. others (key.Customer q) at (λ (p : key.Customer q ≡ key.Warehouse k). cc)) a.customers;
-      new_orders = same_values (IsOrderKey t0.scale) (λ k r. Unit {0}) new_order_words _ _ t.new_orders (λ q at. others (key.NewOrder q) at (λ (p : key.NewOrder q ≡ key.Warehouse k). cc)) a.new_orders;
-      orders = same_values (IsOrderKey t0.scale) (λ k r. IsOrderIn t0.scale r) order_words _ _ t.orders (λ q at. others (key.Order q) at (λ (p : key.Order q ≡ key.Warehouse k). cc)) a.orders;
-      lines = same_values (IsLineKey t0.scale) (λ k r. IsLineRow t0.scale r) line_words _ _ t.lines (λ q at. others (key.OrderLine q) at (λ (p : key.OrderLine q ≡ key.Warehouse k). cc)) a.lines;
-      stock = same_values (IsStockKey t0.scale) (λ k r. IsStockRow r) stock_words _ _ t.stock (λ q at. others (key.Stock q) at (λ (p : key.Stock q ≡ key.Warehouse k). cc)) a.stock;
+      warehouses = subst (IsTableOf (IsWarehouseKey t0.scale) (IsWarehouseOf t0) warehouse_words (λ q. more (key.Warehouse q))) (sym e) (same_insert exact_number t.warehouses k r (IsWarehouseKey t0.scale) (IsWarehouseOf t0) warehouse_words _ _ is is_in (here ∙ ap Some same) (λ q at other. others (key.Warehouse q) at (λ (p : key.Warehouse q ≡ key.Warehouse k). other cc)) a.warehouses);
+      districts = kept_districts t0 t values more (key.Warehouse k) others a (λ q p. cc);
+      customers = kept_customers t0 t values more (key.Warehouse k) others a (λ q p. cc);
+      new_orders = kept_new_orders t0 t values more (key.Warehouse k) others a (λ q p. cc);
+      orders = kept_orders t0 t values more (key.Warehouse k) others a (λ q p. cc);
+      lines = kept_lines t0 t values more (key.Warehouse k) others a (λ q p. cc);
+      stock = kept_stock t0 t values more (key.Warehouse k) others a (λ q p. cc);
     };
   }
 
@@ -72,13 +97,13 @@ module _ (t0 : Database) (ws : List ℕ) (t : Database) where
     tables = λ values more here others a. record {
       scale = a.scale;
       items = a.items;
-      warehouses = same_values (IsWarehouseKey t0.scale) (IsWarehouseOf t0) warehouse_words _ _ t.warehouses (λ q at. others (key.Warehouse q) at (λ (p : key.Warehouse q ≡ key.District k). cc)) a.warehouses;
-      districts = subst (λ m. IsTableOf (IsDistrictKey t0.scale) (IsDistrictOf t0) district_words (λ q. more (key.District q)) m) (sym e) (same_insert exact_district t.districts k r (IsDistrictKey t0.scale) (IsDistrictOf t0) district_words (λ q. values (key.District q)) (λ q. more (key.District q)) is is_in (here ∙ ap Some same) (λ q at other. others (key.District q) at (λ (p : key.District q ≡ key.District k). other cc)) a.districts);
-      customers = same_values (IsCustomerKey t0.scale) (IsCustomerOf t0) customer_words _ _ t.customers (λ q at. others (key.Customer q) at (λ (p : key.Customer q ≡ key.District k). cc)) a.customers;
-      new_orders = same_values (IsOrderKey t0.scale) (λ k r. Unit {0}) new_order_words _ _ t.new_orders (λ q at. others (key.NewOrder q) at (λ (p : key.NewOrder q ≡ key.District k). cc)) a.new_orders;
-      orders = same_values (IsOrderKey t0.scale) (λ k r. IsOrderIn t0.scale r) order_words _ _ t.orders (λ q at. others (key.Order q) at (λ (p : key.Order q ≡ key.District k). cc)) a.orders;
-      lines = same_values (IsLineKey t0.scale) (λ k r. IsLineRow t0.scale r) line_words _ _ t.lines (λ q at. others (key.OrderLine q) at (λ (p : key.OrderLine q ≡ key.District k). cc)) a.lines;
-      stock = same_values (IsStockKey t0.scale) (λ k r. IsStockRow r) stock_words _ _ t.stock (λ q at. others (key.Stock q) at (λ (p : key.Stock q ≡ key.District k). cc)) a.stock;
+      warehouses = kept_warehouses t0 t values more (key.District k) others a (λ q p. cc);
+      districts = subst (IsTableOf (IsDistrictKey t0.scale) (IsDistrictOf t0) district_words (λ q. more (key.District q))) (sym e) (same_insert exact_district t.districts k r (IsDistrictKey t0.scale) (IsDistrictOf t0) district_words _ _ is is_in (here ∙ ap Some same) (λ q at other. others (key.District q) at (λ (p : key.District q ≡ key.District k). other cc)) a.districts);
+      customers = kept_customers t0 t values more (key.District k) others a (λ q p. cc);
+      new_orders = kept_new_orders t0 t values more (key.District k) others a (λ q p. cc);
+      orders = kept_orders t0 t values more (key.District k) others a (λ q p. cc);
+      lines = kept_lines t0 t values more (key.District k) others a (λ q p. cc);
+      stock = kept_stock t0 t values more (key.District k) others a (λ q p. cc);
     };
   }
 
@@ -88,13 +113,13 @@ module _ (t0 : Database) (ws : List ℕ) (t : Database) where
     tables = λ values more here others a. record {
       scale = a.scale;
       items = a.items;
-      warehouses = same_values (IsWarehouseKey t0.scale) (IsWarehouseOf t0) warehouse_words _ _ t.warehouses (λ q at. others (key.Warehouse q) at (λ (p : key.Warehouse q ≡ key.Customer k). cc)) a.warehouses;
-      districts = same_values (IsDistrictKey t0.scale) (IsDistrictOf t0) district_words _ _ t.districts (λ q at. others (key.District q) at (λ (p : key.District q ≡ key.Customer k). cc)) a.districts;
-      customers = subst (λ m. IsTableOf (IsCustomerKey t0.scale) (IsCustomerOf t0) customer_words (λ q. more (key.Customer q)) m) (sym e) (same_insert exact_customer t.customers k r (IsCustomerKey t0.scale) (IsCustomerOf t0) customer_words (λ q. values (key.Customer q)) (λ q. more (key.Customer q)) is is_in (here ∙ ap Some same) (λ q at other. others (key.Customer q) at (λ (p : key.Customer q ≡ key.Customer k). other cc)) a.customers);
-      new_orders = same_values (IsOrderKey t0.scale) (λ k r. Unit {0}) new_order_words _ _ t.new_orders (λ q at. others (key.NewOrder q) at (λ (p : key.NewOrder q ≡ key.Customer k). cc)) a.new_orders;
-      orders = same_values (IsOrderKey t0.scale) (λ k r. IsOrderIn t0.scale r) order_words _ _ t.orders (λ q at. others (key.Order q) at (λ (p : key.Order q ≡ key.Customer k). cc)) a.orders;
-      lines = same_values (IsLineKey t0.scale) (λ k r. IsLineRow t0.scale r) line_words _ _ t.lines (λ q at. others (key.OrderLine q) at (λ (p : key.OrderLine q ≡ key.Customer k). cc)) a.lines;
-      stock = same_values (IsStockKey t0.scale) (λ k r. IsStockRow r) stock_words _ _ t.stock (λ q at. others (key.Stock q) at (λ (p : key.Stock q ≡ key.Customer k). cc)) a.stock;
+      warehouses = kept_warehouses t0 t values more (key.Customer k) others a (λ q p. cc);
+      districts = kept_districts t0 t values more (key.Customer k) others a (λ q p. cc);
+      customers = subst (IsTableOf (IsCustomerKey t0.scale) (IsCustomerOf t0) customer_words (λ q. more (key.Customer q))) (sym e) (same_insert exact_customer t.customers k r (IsCustomerKey t0.scale) (IsCustomerOf t0) customer_words _ _ is is_in (here ∙ ap Some same) (λ q at other. others (key.Customer q) at (λ (p : key.Customer q ≡ key.Customer k). other cc)) a.customers);
+      new_orders = kept_new_orders t0 t values more (key.Customer k) others a (λ q p. cc);
+      orders = kept_orders t0 t values more (key.Customer k) others a (λ q p. cc);
+      lines = kept_lines t0 t values more (key.Customer k) others a (λ q p. cc);
+      stock = kept_stock t0 t values more (key.Customer k) others a (λ q p. cc);
     };
   }
 
@@ -104,13 +129,13 @@ module _ (t0 : Database) (ws : List ℕ) (t : Database) where
     tables = λ values more here others a. record {
       scale = a.scale;
       items = a.items;
-      warehouses = same_values (IsWarehouseKey t0.scale) (IsWarehouseOf t0) warehouse_words _ _ t.warehouses (λ q at. others (key.Warehouse q) at (λ (p : key.Warehouse q ≡ key.NewOrder k). cc)) a.warehouses;
-      districts = same_values (IsDistrictKey t0.scale) (IsDistrictOf t0) district_words _ _ t.districts (λ q at. others (key.District q) at (λ (p : key.District q ≡ key.NewOrder k). cc)) a.districts;
-      customers = same_values (IsCustomerKey t0.scale) (IsCustomerOf t0) customer_words _ _ t.customers (λ q at. others (key.Customer q) at (λ (p : key.Customer q ≡ key.NewOrder k). cc)) a.customers;
-      new_orders = subst (λ m. IsTableOf (IsOrderKey t0.scale) (λ k r. Unit {0}) new_order_words (λ q. more (key.NewOrder q)) m) (sym e) (same_insert exact_order t.new_orders k r (IsOrderKey t0.scale) (λ k r. Unit {0}) new_order_words (λ q. values (key.NewOrder q)) (λ q. more (key.NewOrder q)) is tt (here ∙ ap Some same) (λ q at other. others (key.NewOrder q) at (λ (p : key.NewOrder q ≡ key.NewOrder k). other cc)) a.new_orders);
-      orders = same_values (IsOrderKey t0.scale) (λ k r. IsOrderIn t0.scale r) order_words _ _ t.orders (λ q at. others (key.Order q) at (λ (p : key.Order q ≡ key.NewOrder k). cc)) a.orders;
-      lines = same_values (IsLineKey t0.scale) (λ k r. IsLineRow t0.scale r) line_words _ _ t.lines (λ q at. others (key.OrderLine q) at (λ (p : key.OrderLine q ≡ key.NewOrder k). cc)) a.lines;
-      stock = same_values (IsStockKey t0.scale) (λ k r. IsStockRow r) stock_words _ _ t.stock (λ q at. others (key.Stock q) at (λ (p : key.Stock q ≡ key.NewOrder k). cc)) a.stock;
+      warehouses = kept_warehouses t0 t values more (key.NewOrder k) others a (λ q p. cc);
+      districts = kept_districts t0 t values more (key.NewOrder k) others a (λ q p. cc);
+      customers = kept_customers t0 t values more (key.NewOrder k) others a (λ q p. cc);
+      new_orders = subst (IsTableOf (IsOrderKey t0.scale) (λ k r. Unit {0}) new_order_words (λ q. more (key.NewOrder q))) (sym e) (same_insert exact_order t.new_orders k r (IsOrderKey t0.scale) (λ k r. Unit {0}) new_order_words _ _ is tt (here ∙ ap Some same) (λ q at other. others (key.NewOrder q) at (λ (p : key.NewOrder q ≡ key.NewOrder k). other cc)) a.new_orders);
+      orders = kept_orders t0 t values more (key.NewOrder k) others a (λ q p. cc);
+      lines = kept_lines t0 t values more (key.NewOrder k) others a (λ q p. cc);
+      stock = kept_stock t0 t values more (key.NewOrder k) others a (λ q p. cc);
     };
   }
 
@@ -120,13 +145,13 @@ module _ (t0 : Database) (ws : List ℕ) (t : Database) where
     tables = λ values more here others a. record {
       scale = a.scale;
       items = a.items;
-      warehouses = same_values (IsWarehouseKey t0.scale) (IsWarehouseOf t0) warehouse_words _ _ t.warehouses (λ q at. others (key.Warehouse q) at (λ (p : key.Warehouse q ≡ key.Order k). cc)) a.warehouses;
-      districts = same_values (IsDistrictKey t0.scale) (IsDistrictOf t0) district_words _ _ t.districts (λ q at. others (key.District q) at (λ (p : key.District q ≡ key.Order k). cc)) a.districts;
-      customers = same_values (IsCustomerKey t0.scale) (IsCustomerOf t0) customer_words _ _ t.customers (λ q at. others (key.Customer q) at (λ (p : key.Customer q ≡ key.Order k). cc)) a.customers;
-      new_orders = same_values (IsOrderKey t0.scale) (λ k r. Unit {0}) new_order_words _ _ t.new_orders (λ q at. others (key.NewOrder q) at (λ (p : key.NewOrder q ≡ key.Order k). cc)) a.new_orders;
-      orders = subst (λ m. IsTableOf (IsOrderKey t0.scale) (λ k r. IsOrderIn t0.scale r) order_words (λ q. more (key.Order q)) m) (sym e) (same_insert exact_order t.orders k r (IsOrderKey t0.scale) (λ k r. IsOrderIn t0.scale r) order_words (λ q. values (key.Order q)) (λ q. more (key.Order q)) is is_in (here ∙ ap Some same) (λ q at other. others (key.Order q) at (λ (p : key.Order q ≡ key.Order k). other cc)) a.orders);
-      lines = same_values (IsLineKey t0.scale) (λ k r. IsLineRow t0.scale r) line_words _ _ t.lines (λ q at. others (key.OrderLine q) at (λ (p : key.OrderLine q ≡ key.Order k). cc)) a.lines;
-      stock = same_values (IsStockKey t0.scale) (λ k r. IsStockRow r) stock_words _ _ t.stock (λ q at. others (key.Stock q) at (λ (p : key.Stock q ≡ key.Order k). cc)) a.stock;
+      warehouses = kept_warehouses t0 t values more (key.Order k) others a (λ q p. cc);
+      districts = kept_districts t0 t values more (key.Order k) others a (λ q p. cc);
+      customers = kept_customers t0 t values more (key.Order k) others a (λ q p. cc);
+      new_orders = kept_new_orders t0 t values more (key.Order k) others a (λ q p. cc);
+      orders = subst (IsTableOf (IsOrderKey t0.scale) (λ k r. IsOrderIn t0.scale r) order_words (λ q. more (key.Order q))) (sym e) (same_insert exact_order t.orders k r (IsOrderKey t0.scale) (λ k r. IsOrderIn t0.scale r) order_words _ _ is is_in (here ∙ ap Some same) (λ q at other. others (key.Order q) at (λ (p : key.Order q ≡ key.Order k). other cc)) a.orders);
+      lines = kept_lines t0 t values more (key.Order k) others a (λ q p. cc);
+      stock = kept_stock t0 t values more (key.Order k) others a (λ q p. cc);
     };
   }
 
@@ -136,13 +161,13 @@ module _ (t0 : Database) (ws : List ℕ) (t : Database) where
     tables = λ values more here others a. record {
       scale = a.scale;
       items = a.items;
-      warehouses = same_values (IsWarehouseKey t0.scale) (IsWarehouseOf t0) warehouse_words _ _ t.warehouses (λ q at. others (key.Warehouse q) at (λ (p : key.Warehouse q ≡ key.OrderLine k). cc)) a.warehouses;
-      districts = same_values (IsDistrictKey t0.scale) (IsDistrictOf t0) district_words _ _ t.districts (λ q at. others (key.District q) at (λ (p : key.District q ≡ key.OrderLine k). cc)) a.districts;
-      customers = same_values (IsCustomerKey t0.scale) (IsCustomerOf t0) customer_words _ _ t.customers (λ q at. others (key.Customer q) at (λ (p : key.Customer q ≡ key.OrderLine k). cc)) a.customers;
-      new_orders = same_values (IsOrderKey t0.scale) (λ k r. Unit {0}) new_order_words _ _ t.new_orders (λ q at. others (key.NewOrder q) at (λ (p : key.NewOrder q ≡ key.OrderLine k). cc)) a.new_orders;
-      orders = same_values (IsOrderKey t0.scale) (λ k r. IsOrderIn t0.scale r) order_words _ _ t.orders (λ q at. others (key.Order q) at (λ (p : key.Order q ≡ key.OrderLine k). cc)) a.orders;
-      lines = subst (λ m. IsTableOf (IsLineKey t0.scale) (λ k r. IsLineRow t0.scale r) line_words (λ q. more (key.OrderLine q)) m) (sym e) (same_insert exact_line t.lines k r (IsLineKey t0.scale) (λ k r. IsLineRow t0.scale r) line_words (λ q. values (key.OrderLine q)) (λ q. more (key.OrderLine q)) is is_in (here ∙ ap Some same) (λ q at other. others (key.OrderLine q) at (λ (p : key.OrderLine q ≡ key.OrderLine k). other cc)) a.lines);
-      stock = same_values (IsStockKey t0.scale) (λ k r. IsStockRow r) stock_words _ _ t.stock (λ q at. others (key.Stock q) at (λ (p : key.Stock q ≡ key.OrderLine k). cc)) a.stock;
+      warehouses = kept_warehouses t0 t values more (key.OrderLine k) others a (λ q p. cc);
+      districts = kept_districts t0 t values more (key.OrderLine k) others a (λ q p. cc);
+      customers = kept_customers t0 t values more (key.OrderLine k) others a (λ q p. cc);
+      new_orders = kept_new_orders t0 t values more (key.OrderLine k) others a (λ q p. cc);
+      orders = kept_orders t0 t values more (key.OrderLine k) others a (λ q p. cc);
+      lines = subst (IsTableOf (IsLineKey t0.scale) (λ k r. IsLineRow t0.scale r) line_words (λ q. more (key.OrderLine q))) (sym e) (same_insert exact_line t.lines k r (IsLineKey t0.scale) (λ k r. IsLineRow t0.scale r) line_words _ _ is is_in (here ∙ ap Some same) (λ q at other. others (key.OrderLine q) at (λ (p : key.OrderLine q ≡ key.OrderLine k). other cc)) a.lines);
+      stock = kept_stock t0 t values more (key.OrderLine k) others a (λ q p. cc);
     };
   }
 
@@ -152,12 +177,12 @@ module _ (t0 : Database) (ws : List ℕ) (t : Database) where
     tables = λ values more here others a. record {
       scale = a.scale;
       items = a.items;
-      warehouses = same_values (IsWarehouseKey t0.scale) (IsWarehouseOf t0) warehouse_words _ _ t.warehouses (λ q at. others (key.Warehouse q) at (λ (p : key.Warehouse q ≡ key.Stock k). cc)) a.warehouses;
-      districts = same_values (IsDistrictKey t0.scale) (IsDistrictOf t0) district_words _ _ t.districts (λ q at. others (key.District q) at (λ (p : key.District q ≡ key.Stock k). cc)) a.districts;
-      customers = same_values (IsCustomerKey t0.scale) (IsCustomerOf t0) customer_words _ _ t.customers (λ q at. others (key.Customer q) at (λ (p : key.Customer q ≡ key.Stock k). cc)) a.customers;
-      new_orders = same_values (IsOrderKey t0.scale) (λ k r. Unit {0}) new_order_words _ _ t.new_orders (λ q at. others (key.NewOrder q) at (λ (p : key.NewOrder q ≡ key.Stock k). cc)) a.new_orders;
-      orders = same_values (IsOrderKey t0.scale) (λ k r. IsOrderIn t0.scale r) order_words _ _ t.orders (λ q at. others (key.Order q) at (λ (p : key.Order q ≡ key.Stock k). cc)) a.orders;
-      lines = same_values (IsLineKey t0.scale) (λ k r. IsLineRow t0.scale r) line_words _ _ t.lines (λ q at. others (key.OrderLine q) at (λ (p : key.OrderLine q ≡ key.Stock k). cc)) a.lines;
-      stock = subst (λ m. IsTableOf (IsStockKey t0.scale) (λ k r. IsStockRow r) stock_words (λ q. more (key.Stock q)) m) (sym e) (same_insert exact_stock t.stock k r (IsStockKey t0.scale) (λ k r. IsStockRow r) stock_words (λ q. values (key.Stock q)) (λ q. more (key.Stock q)) is is_in (here ∙ ap Some same) (λ q at other. others (key.Stock q) at (λ (p : key.Stock q ≡ key.Stock k). other cc)) a.stock);
+      warehouses = kept_warehouses t0 t values more (key.Stock k) others a (λ q p. cc);
+      districts = kept_districts t0 t values more (key.Stock k) others a (λ q p. cc);
+      customers = kept_customers t0 t values more (key.Stock k) others a (λ q p. cc);
+      new_orders = kept_new_orders t0 t values more (key.Stock k) others a (λ q p. cc);
+      orders = kept_orders t0 t values more (key.Stock k) others a (λ q p. cc);
+      lines = kept_lines t0 t values more (key.Stock k) others a (λ q p. cc);
+      stock = subst (IsTableOf (IsStockKey t0.scale) (λ k r. IsStockRow r) stock_words (λ q. more (key.Stock q))) (sym e) (same_insert exact_stock t.stock k r (IsStockKey t0.scale) (λ k r. IsStockRow r) stock_words _ _ is is_in (here ∙ ap Some same) (λ q at other. others (key.Stock q) at (λ (p : key.Stock q ≡ key.Stock k). other cc)) a.stock);
     };
   }

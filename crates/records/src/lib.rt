@@ -7,7 +7,8 @@
 ghost use Rattle.std.specs.Prelude.{◌≡◌, ℕ, ◌<◌, Option, List};
 ghost use Rattle.tables.specs.Constant.{IsOf};
 ghost use Rattle.tables.specs.Database.{Database};
-ghost use Rattle.tables.specs.Rows.{rows, warehouse_words, district_words, customer_words, order_words, line_words, stock_words};
+ghost use Rattle.tables.specs.Records.{IsRecordKey};
+ghost use Rattle.tables.specs.Rows.{row_at, rows, warehouse_words, district_words, customer_words, order_words, line_words, stock_words};
 ghost use Rattle.tables.specs.Sizes.{Sizes};
 ghost use Rattle.tables.specs.WellFormed.{IsWellFormed, IsMoney, IsDistrictRow, IsCustomerRow, IsOrderRow, IsLineRow};
 ghost use Rattle.tables.specs.declared.records.RecordKey.{RecordKey};
@@ -19,6 +20,7 @@ ghost use Rattle.tables.specs.declared.rows.OrderLine.{OrderLine};
 ghost use Rattle.tables.specs.declared.rows.Stock.{Stock};
 ghost use Rattle.records.specs.Words.{warehouse_of, district_of, customer_of, order_of_words, line_of_words, stock_of_words};
 ghost use Rattle.records.specs.Held.{row_count, by_key, AreTables};
+ghost use Rattle.records.specs.Puts.{MayHold};
 
 mod decode;
 mod putting;
@@ -41,6 +43,17 @@ pub fn values_determine_tables()
         → AreTables t0 (by_key t0.scale values) t }
     ensures one { (t0 t u : Database) (values : RecordKey → Option (List ℕ)) → AreTables t0 values t → AreTables t0 values u
         → t.history ≡ u.history → t ≡ u }
+{}
+
+/// What the records of well-formed tables hold is what records may hold. Tables of some values hold these values,
+/// and where these may be held the tables are what the population's may become.
+pub fn values_are_held()
+    ensures may_hold { (t : Database) → IsWellFormed t → (k : RecordKey) → IsRecordKey t.scale k → MayHold t.scale k (row_at t k) }
+    ensures rows { (t0 t : Database) (values : ℕ → Option (List ℕ)) → AreTables t0 (by_key t0.scale values) t
+        → (n : ℕ) → n < row_count t0.scale → rows t n ≡ values n }
+    ensures population { (t0 t : Database) (values : RecordKey → Option (List ℕ)) → IsWellFormed t0
+        → ((k : RecordKey) → IsRecordKey t0.scale k → MayHold t0.scale k (values k))
+        → AreTables t0 values t → IsOf t0 t }
 {}
 
 /// A row comes back from its words and the columns that never change.
