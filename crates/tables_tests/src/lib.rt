@@ -4,6 +4,8 @@
 #[cfg(test)]
 mod conditions_tests;
 #[cfg(test)]
+mod decoding_tests;
+#[cfg(test)]
 mod money_tests;
 #[cfg(test)]
 mod new_order_tests;
