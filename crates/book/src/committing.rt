@@ -19,7 +19,8 @@ use std::sync::Wait;
 impl<K: Run> Book<K> {
     /// Commits a transaction that this reader has executed, as the next in the history (Silo, section 4.4). Costs a
     /// comparison a record read; a store, a comparison and a copy a record written; a copy of the reply; the look-ups
-    /// of the transaction on the tables; and constant time, amortized, for the history. May wait, at a record's cell alone.
+    /// of the transaction on the tables; and constant time, amortized, for the history. May wait, at a record's cell
+    /// alone.
     ///
     /// After Ok the reader has seen the versions stored, and the reply is the transaction's at the tables before it.
     ///

@@ -75,7 +75,8 @@ fn add_row<K, X, S: Share<K, X>>(
 ) -> Result<(), AllocError>
     requires bound { AreBounded S.Group.cmp sums.old }
     ensures sums { OnOk result ((g : S.Group) → amount_at S.Group.cmp sums.new g
-        ≡ amount_at S.Group.cmp sums.old g +ℤ share (S.is_of (database tables.now) g key.now row.now) (S.amount row.now)) }
+        ≡ amount_at S.Group.cmp sums.old g
+        +ℤ share (S.is_of (database tables.now) g key.now row.now) (S.amount row.now)) }
     ensures above { OnOk result ((g : S.Group)
         → (amount_at S.Group.cmp sums.old g -ℤ pos (2 ^ 63)) ≤ℤ amount_at S.Group.cmp sums.new g) }
     ensures below { OnOk result ((g : S.Group)

@@ -119,7 +119,8 @@ impl Condition<CustomerKey> for Condition12 {
 /// What was delivered to a customer minus what it paid.
 fn owed(tables: &Tables, sums: &Sums, key: &CustomerKey) -> i128
     requires { AreSumsOf (database tables.now) sums.now }
-    ensures { result ≡ delivered_amount (database tables.now) key.now -ℤ paid_by_customer (database tables.now) key.now }
+    ensures { result ≡ delivered_amount (database tables.now) key.now
+        -ℤ paid_by_customer (database tables.now) key.now }
 {
     let delivered = amount_of(&sums.delivered, key);
     let paid = amount_of(&sums.customer_history, key);

@@ -65,7 +65,8 @@ fn add_number(
 ) -> Result<(), AllocError>
     requires { (k : KeyOfDistrict) → (numbers_at numbers.old k).count < 2 ^ 63 }
     ensures { OnOk result ((k : KeyOfDistrict) → numbers_at numbers.new k
-        ≡ cond (eq_by_cmp district_cmp district k) (with_number (numbers_at numbers.old k) order) (numbers_at numbers.old k)) }
+        ≡ cond (eq_by_cmp district_cmp district k)
+        (with_number (numbers_at numbers.old k) order) (numbers_at numbers.old k)) }
 {
     let with = numbers_of(numbers, &district).with(order);
     numbers.insert(district, with)?;

@@ -3,7 +3,8 @@
 use tables::{CustomerKey, DistrictKey, LineKey, OrderKey};
 
 /// For each consistency condition (TPC-C 3.3.2) the least key that breaks it, or nothing where it holds.
-#[derive(Clone, Copy, Debug, PartialEq, Eq)]
+/// The default is the report in which every condition holds.
+#[derive(Clone, Copy, Debug, Default, PartialEq, Eq)]
 pub struct Report {
     /// W_YTD is the sum of D_YTD; by W_ID.
     pub condition_1: Option<u32>,

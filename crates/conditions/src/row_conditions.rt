@@ -39,7 +39,8 @@ impl RowCondition<OrderKey, Order> for Condition5 {
 pub struct Condition6;
 
 impl RowCondition<OrderKey, Order> for Condition6 {
-    ghost holds_of = { λ t k order. pos order.line_count ≡ count (λ j line. is_order j.warehouse j.district j.order k) t.lines };
+    ghost holds_of = { λ t k order. pos order.line_count
+        ≡ count (λ j line. is_order j.warehouse j.district j.order k) t.lines };
 
     fn holds(_tables: &Tables, sums: &Sums, key: &OrderKey, row: &Order) -> bool {
         i128::from(row.line_count) == amount_of(&sums.order_lines, key)
@@ -50,7 +51,8 @@ impl RowCondition<OrderKey, Order> for Condition6 {
 pub struct Condition7;
 
 impl RowCondition<LineKey, OrderLine> for Condition7 {
-    ghost holds_of = { λ t k line. is_none line.delivery_date ≡ option_map_or (λ order. is_none order.carrier) (get t.orders (order_of k)) true };
+    ghost holds_of = { λ t k line. is_none line.delivery_date
+        ≡ option_map_or (λ order. is_none order.carrier) (get t.orders (order_of k)) true };
 
     fn holds(tables: &Tables, _sums: &Sums, key: &LineKey, row: &OrderLine) -> bool {
         same(

@@ -13,7 +13,7 @@ use std::marker::Model;
 use std::sync::Wait;
 use tables::Input;
 
-pub fn parts<R: Wait>(rt: &R, alloc: Global) -> Result<Parts, Refusal>
+pub(crate) fn parts<R: Wait>(rt: &R, alloc: Global) -> Result<Parts, Refusal>
     ensures fresh { IfOk result IsFresh }
     ensures cells { IfOk result (λ parts. length (cells_of parts) ≡ 23) }
 {
@@ -21,7 +21,7 @@ pub fn parts<R: Wait>(rt: &R, alloc: Global) -> Result<Parts, Refusal>
 }
 
 /// The seats of the two terminals.
-pub fn both_of<K: Run>(seats: &mut Seats<K>) -> Option<(Seat<K>, Seat<K>)>
+pub(crate) fn both_of<K: Run>(seats: &mut Seats<K>) -> Option<(Seat<K>, Seat<K>)>
     ensures left { IfSome result (λ both. both.0.reader.cells ≡ K.cells) }
     ensures right { IfSome result (λ both. both.1.reader.cells ≡ K.cells) }
 {
@@ -32,10 +32,10 @@ pub fn both_of<K: Run>(seats: &mut Seats<K>) -> Option<(Seat<K>, Seat<K>)>
 
 /// A Payment that a terminal has executed.
 #[derive(Drop)]
-pub struct Executed<K: Run> {
-    pub seat: Seat<K>,
-    pub input: Input,
-    pub work: Work,
+pub(crate) struct Executed<K: Run> {
+    pub(crate) seat: Seat<K>,
+    pub(crate) input: Input,
+    pub(crate) work: Work,
 }
 
 impl<K: Run> Model for Executed<K> {
@@ -51,7 +51,7 @@ impl<K: Run> Model for Executed<K> {
 }
 
 /// Executes a Payment of 1.00 by this customer.
-pub fn pay<K: Run, R: Wait>(
+pub(crate) fn pay<K: Run, R: Wait>(
     rt: &R,
     alloc: Global,
     engine: &Engine<K>,

@@ -4,7 +4,7 @@ use money::Cents;
 use tables::{History, PaymentInput, PaymentReply, Reply, Who};
 
 /// A Payment's input.
-pub fn payment(customer: u32, amount: i64) -> PaymentInput {
+pub(crate) fn payment(customer: u32, amount: i64) -> PaymentInput {
     PaymentInput {
         date: 1,
         warehouse: 1,
@@ -17,7 +17,7 @@ pub fn payment(customer: u32, amount: i64) -> PaymentInput {
 }
 
 /// The HISTORY row of that Payment.
-pub fn history_row(customer: u32, amount: i64) -> History {
+pub(crate) fn history_row(customer: u32, amount: i64) -> History {
     History {
         customer,
         customer_district: 1,
@@ -30,7 +30,7 @@ pub fn history_row(customer: u32, amount: i64) -> History {
 }
 
 /// The reply of one that leaves this balance.
-pub fn reply(customer: u32, balance: i64) -> Option<PaymentReply> {
+pub(crate) fn reply(customer: u32, balance: i64) -> Option<PaymentReply> {
     Some(PaymentReply {
         warehouse: 1,
         district: 1,
@@ -42,7 +42,7 @@ pub fn reply(customer: u32, balance: i64) -> Option<PaymentReply> {
 }
 
 /// The reply, where it is a Payment's.
-pub fn payment_reply(reply: &Reply) -> Option<PaymentReply> {
+pub(crate) fn payment_reply(reply: &Reply) -> Option<PaymentReply> {
     match reply {
         Reply::Payment(reply) => Some(*reply),
         Reply::NewOrder(_) => None,

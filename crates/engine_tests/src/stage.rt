@@ -15,15 +15,15 @@ use std::test::Fail;
 use tables::Scale;
 
 /// The words of the warehouse.
-pub const WAREHOUSE: [u64; 7] = [20_000, 0, 0, 0, 0, 0, 0];
+pub(crate) const WAREHOUSE: [u64; 7] = [20_000, 0, 0, 0, 0, 0, 0];
 
 /// The words of a district.
-pub const DISTRICT: [u64; 7] = [10_000, 11, 0, 0, 0, 0, 0];
+pub(crate) const DISTRICT: [u64; 7] = [10_000, 11, 0, 0, 0, 0, 0];
 
 /// The words of a customer, of which the first is a C_BALANCE of -10.00.
-pub const CUSTOMER: [u64; 7] = [u64::MAX - 999, 1_000, 1, 0, 0, 0, 0];
+pub(crate) const CUSTOMER: [u64; 7] = [u64::MAX - 999, 1_000, 1, 0, 0, 0, 0];
 
-pub fn small(alloc: Global) -> Result<Population, Refusal>
+pub(crate) fn small(alloc: Global) -> Result<Population, Refusal>
     ensures { IfOk result (λ population. cell_count (initial population).scale ≡ 23) }
 {
     Population::plain(alloc, Scale::new(1, 2, 10, 20, 30, 1_000)?)
@@ -31,14 +31,14 @@ pub fn small(alloc: Global) -> Result<Population, Refusal>
 
 /// The population on cells, with one reader.
 #[derive(Drop)]
-pub struct Stage {
-    pub population: Population,
-    pub cells: Cells,
-    pub pen: Pen,
-    pub reader: Reader,
+pub(crate) struct Stage {
+    pub(crate) population: Population,
+    pub(crate) cells: Cells,
+    pub(crate) pen: Pen,
+    pub(crate) reader: Reader,
 }
 
-pub fn open<R: Wait>(rt: &R, alloc: Global) -> Result<Stage, Fail>
+pub(crate) fn open<R: Wait>(rt: &R, alloc: Global) -> Result<Stage, Fail>
     ensures count { IfOk result (λ s. length s.cells ≡ 23) }
     ensures scale { IfOk result (λ s. length s.cells ≡ cell_count (initial s.population).scale) }
     ensures pen { IfOk result (λ s. s.pen.cells ≡ s.cells) }

@@ -15,7 +15,8 @@ ghost use Rattle.tables.specs.declared.input.Input.{Input};
 /// Each transaction keeps consistent and well-formed tables well-formed while there is room and its order's number is
 /// within the order cap, and takes up the room of one commit.
 pub fn transactions_keep_tables_well_formed()
-    ensures { (t : Database) (x : Input) (n : ℕ) → IsInput t.scale x → HasOrderNumber t x → IsWellFormed t → IsConsistent t → HasRoom (n + 1) t → IsWellFormed (after t x) × HasRoom n (after t x) }
+    ensures { (t : Database) (x : Input) (n : ℕ) → IsInput t.scale x → HasOrderNumber t x → IsWellFormed t
+        → IsConsistent t → HasRoom (n + 1) t → IsWellFormed (after t x) × HasRoom n (after t x) }
 {}
 
 /// Each transaction keeps the consistency conditions (TPC-C 3.3.2) of well-formed tables.

@@ -8,19 +8,7 @@ use tables::Scale;
 
 #[test]
 fn statuses_and_lines(rt: HostRuntime) -> Result<(), Fail> {
-    let good = Report {
-        condition_1: None,
-        condition_2: None,
-        condition_3: None,
-        condition_4: None,
-        condition_5: None,
-        condition_6: None,
-        condition_7: None,
-        condition_8: None,
-        condition_9: None,
-        condition_10: None,
-        condition_12: None,
-    };
+    let good = Report::default();
     let mut broken = good;
     broken.condition_8 = Some(1);
     let few_orders = Scale::new(1, 2, 10, 20, 9, 1_000).map(|_| &good);

@@ -209,7 +209,8 @@ fn a_report_is_printed(rt: HostRuntime) {
     print_report(1, &report, &mut text).expect(&rt, "memory");
     assert_eq!(rt;
         text.as_str(),
-        "commits 1\nC1 ok\nC2 ok\nC3 ok\nC4 ok\nC5 broken 1 1 9\nC6 ok\nC7 broken 1 1 8 5\nC8 broken 1\nC9 broken 1 2\nC10 broken 1 1 3\nC12 ok\n"
+        "commits 1\nC1 ok\nC2 ok\nC3 ok\nC4 ok\nC5 broken 1 1 9\nC6 ok\nC7 broken 1 1 8 5\n\
+            C8 broken 1\nC9 broken 1 2\nC10 broken 1 1 3\nC12 ok\n"
     );
 }
 

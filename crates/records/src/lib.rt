@@ -41,14 +41,15 @@ pub fn values_determine_tables()
     ensures of_records { (t0 t : Database) (values : ℕ → Option (List ℕ)) → IsOf t0 t → IsWellFormed t
         → ((n : ℕ) → n < row_count t0.scale → rows t n ≡ values n)
         → AreTables t0 (by_key t0.scale values) t }
-    ensures one { (t0 t u : Database) (values : RecordKey → Option (List ℕ)) → AreTables t0 values t → AreTables t0 values u
-        → t.history ≡ u.history → t ≡ u }
+    ensures one { (t0 t u : Database) (values : RecordKey → Option (List ℕ)) → AreTables t0 values t
+        → AreTables t0 values u → t.history ≡ u.history → t ≡ u }
 {}
 
 /// What the records of well-formed tables hold is what records may hold. Tables of some values hold these values,
 /// and where these may be held the tables are what the population's may become.
 pub fn values_are_held()
-    ensures may_hold { (t : Database) → IsWellFormed t → (k : RecordKey) → IsRecordKey t.scale k → MayHold t.scale k (row_at t k) }
+    ensures may_hold { (t : Database) → IsWellFormed t → (k : RecordKey) → IsRecordKey t.scale k
+        → MayHold t.scale k (row_at t k) }
     ensures rows { (t0 t : Database) (values : ℕ → Option (List ℕ)) → AreTables t0 (by_key t0.scale values) t
         → (n : ℕ) → n < row_count t0.scale → rows t n ≡ values n }
     ensures population { (t0 t : Database) (values : RecordKey → Option (List ℕ)) → IsWellFormed t0
@@ -58,8 +59,10 @@ pub fn values_are_held()
 
 /// A row comes back from its words and the columns that never change.
 pub fn words_determine_rows()
-    ensures warehouse { (first r : Warehouse) → first.tax ≡ r.tax → IsMoney r.year_to_date → warehouse_of first (warehouse_words r) ≡ r }
-    ensures district { (s : Sizes) (first r : District) → first.tax ≡ r.tax → IsDistrictRow s r → district_of first (district_words r) ≡ r }
+    ensures warehouse { (first r : Warehouse) → first.tax ≡ r.tax → IsMoney r.year_to_date
+        → warehouse_of first (warehouse_words r) ≡ r }
+    ensures district { (s : Sizes) (first r : District) → first.tax ≡ r.tax → IsDistrictRow s r
+        → district_of first (district_words r) ≡ r }
     ensures customer { (first r : Customer) → first.first_name ≡ r.first_name → first.last_name ≡ r.last_name
         → first.credit ≡ r.credit → first.discount ≡ r.discount → IsCustomerRow r
         → customer_of first (customer_words r) ≡ r }

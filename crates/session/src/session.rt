@@ -79,7 +79,8 @@ impl<'e, K: Run> Session<'e, K> {
     }
 
     /// Commits a transaction, and tries again for as long as what it read isn't the latest. What the terminal is told
-    /// is then the last of `dones`. A refusal leaves all as it was: `CommitsFull` comes only at the commit cap, and else only `OutOfMemory`.
+    /// is then the last of `dones`. A refusal leaves all as it was: `CommitsFull` comes only at the commit cap, and
+    /// else only `OutOfMemory`.
     pub fn commit<R: Wait>(&mut self, rt: &R, input: &Input) -> Result<(), Refusal>
         requires input { IsInput K.first.scale input.now }
         requires executed { IsExecuted input.now }

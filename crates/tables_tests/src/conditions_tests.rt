@@ -16,22 +16,6 @@ fn plain(alloc: Global) -> Result<Tables, Fail> {
     Ok(population.into_tables())
 }
 
-fn nothing() -> Report {
-    Report {
-        condition_1: None,
-        condition_2: None,
-        condition_3: None,
-        condition_4: None,
-        condition_5: None,
-        condition_6: None,
-        condition_7: None,
-        condition_8: None,
-        condition_9: None,
-        condition_10: None,
-        condition_12: None,
-    }
-}
-
 fn district(number: u32) -> DistrictKey {
     DistrictKey {
         warehouse: 1,
@@ -50,7 +34,7 @@ fn order(number: u32) -> OrderKey {
 #[test]
 fn plain_tables_are_consistent(rt: HostRuntime) -> Result<(), Fail> {
     let report = check(rt.alloc(), &plain(rt.alloc())?)?;
-    assert_eq!(rt; report, nothing());
+    assert_eq!(rt; report, Report::default());
     assert!(rt; report.is_good());
     Ok(())
 }
@@ -62,7 +46,7 @@ fn tables_without_rows(rt: HostRuntime) -> Result<(), Fail> {
     let report = check(rt.alloc(), &tables)?;
     let expected = Report {
         condition_2: Some(district(1)),
-        ..nothing()
+        ..Report::default()
     };
     assert_eq!(rt; report, expected);
     assert!(rt; !report.is_good());
@@ -79,7 +63,7 @@ fn a_warehouse_with_a_cent_too_much(rt: HostRuntime) -> Result<(), Fail> {
     let expected = Report {
         condition_1: Some(1),
         condition_8: Some(1),
-        ..nothing()
+        ..Report::default()
     };
     assert_eq!(rt; check(rt.alloc(), &tables)?, expected);
     Ok(())
@@ -93,7 +77,7 @@ fn a_district_that_skips_an_order_number(rt: HostRuntime) -> Result<(), Fail> {
     }
     let expected = Report {
         condition_2: Some(district(2)),
-        ..nothing()
+        ..Report::default()
     };
     assert_eq!(rt; check(rt.alloc(), &tables)?, expected);
     Ok(())
@@ -107,7 +91,7 @@ fn a_new_order_taken_out(rt: HostRuntime) -> Result<(), Fail> {
     let expected = Report {
         condition_3: Some(district(1)),
         condition_5: Some(order(9)),
-        ..nothing()
+        ..Report::default()
     };
     assert_eq!(rt; check(rt.alloc(), &tables)?, expected);
     Ok(())
@@ -133,7 +117,7 @@ fn a_line_of_no_order(rt: HostRuntime) -> Result<(), Fail> {
     tables.lines.insert(key, line)?;
     let expected = Report {
         condition_4: Some(district(2)),
-        ..nothing()
+        ..Report::default()
     };
     assert_eq!(rt; check(rt.alloc(), &tables)?, expected);
     Ok(())
@@ -149,7 +133,7 @@ fn an_order_that_counts_six_lines(rt: HostRuntime) -> Result<(), Fail> {
     let expected = Report {
         condition_4: Some(district(1)),
         condition_6: Some(order(3)),
-        ..nothing()
+        ..Report::default()
     };
     assert_eq!(rt; check(rt.alloc(), &tables)?, expected);
     Ok(())
@@ -177,7 +161,7 @@ fn a_delivered_line_of_a_new_order(rt: HostRuntime) -> Result<(), Fail> {
         condition_7: Some(key),
         condition_10: Some(customer),
         condition_12: Some(customer),
-        ..nothing()
+        ..Report::default()
     };
     assert_eq!(rt; check(rt.alloc(), &tables)?, expected);
     Ok(())
