@@ -1,4 +1,6 @@
 mod Checks
+mod Newest
+mod Held
 mod Stores
 mod Sound
 pub mod Replaying

@@ -1,20 +1,22 @@
 -- A run that begins is sound.
-use Rattle.std.proofs.Common.{◌≡◌, ℕ, ◌<◌, ◌≤◌, Option, Some, None, List, [], ◌∷◌, length, refl, sym, ap, ◌∙◌, subst, arith, zero-add}
-use Rattle.std.proofs.lemmas.List.FromFn.{get_or-map-range_with_len}
+use Rattle.std.proofs.Common.{◌≡◌, ℕ, ◌<◌, ◌≤◌, Option, Some, None, List, [], ◌∷◌, length, refl, sym, ap, ◌∙◌, subst, arith}
 use Rattle.atomic_table.specs.Seated.{TableId}
 use Rattle.tables.specs.Database.{Database}
 use Rattle.tables.specs.Rows.{rows}
 use Rattle.tables.specs.Conditions.{IsConsistent}
 use Rattle.tables.specs.WellFormed.{IsWellFormed, HasRoom}
 use Rattle.tables.specs.declared.limits.TheConstants.{MAX_COMMITS}
-use Rattle.cells.specs.First.{cell_count, first_version, firsts}
+use Rattle.cells.specs.First.{first_version, firsts}
 use Rattle.cells.specs.TidWord.{tid_of}
 use Rattle.cells.specs.Versions.{tid, last_tid, value_in}
 use Rattle.cells.specs.Records.{PenView, at}
+use Rattle.cells.specs.declared.cells.Newest.{Newest}
+use Rattle.records.specs.Newest.{words_at, AreFirst}
 use Rattle.laws.proofs.Kept.{IsOf-itself}
 use Rattle.book.specs.History.{commit_word}
 use Rattle.book.specs.Book.{IsSound}
-use Rattle.book.specs.Ready.{IsReady}
+use Rattle.book.specs.Ready.{IsReady, AreNewest}
+use Rattle.records.proofs.Positions.{at_first}
 use Rattle.book.proofs.Sound.{last_one}
 
 first_value : (w : Option (List ℕ)) → value_in (first_version w) ≡ w
@@ -25,12 +27,20 @@ first_tid : (w : Option (List ℕ)) → tid (first_version w) < tid_of (commit_w
 first_tid (Some words) = omega arith
 first_tid None = omega arith
 
-module _ (t0 : Database) (run_cells : List TableId) (pen : PenView) (count : length run_cells ≡ cell_count t0.scale)
-    (fresh : pen ≡ record { cells = run_cells; all = firsts t0 0 (cell_count t0.scale) })
+module _ (t0 : Database) (run_cells : List TableId) (pen : PenView) (newest : List Newest) (are : AreFirst t0 newest) (count : length run_cells ≡ length newest)
+    (fresh : pen ≡ record { cells = run_cells; all = firsts newest })
   where
+    only : (n : ℕ) → n < length newest → at pen.all n ≡ words_at newest n ∷ []
+    only n h = ap (λ (w : PenView). at w.all n) fresh ∙ at_first newest n h
+
     first : (n : ℕ) → n < length run_cells → at pen.all n ≡ first_version (rows t0 n) ∷ []
-    first n h =
-        ap (λ (w : PenView). at w.all n) fresh ∙ get_or-map-range_with_len (λ number. first_version (rows t0 number) ∷ []) 0 (cell_count t0.scale) n n [] (subst (λ m. n < m) count h) (zero-add n)
+    first n h = only n (subst (λ m. n < m) count h) ∙ ap (λ w. w ∷ []) (are.words n (subst (λ m. n < m) (count ∙ are.count) h))
+
+    pub first_newest : AreNewest pen newest
+    first_newest = record {
+      count = sym count ∙ ap (λ (w : PenView). length w.cells) (sym fresh);
+      last = λ n h. ([], only n h);
+    }
 
     pub first_sound : IsWellFormed t0 → IsConsistent t0 → IsSound t0 run_cells (record { written = pen; history = [] }) t0
     first_sound well_formed consistent = record {
@@ -45,7 +55,7 @@ module _ (t0 : Database) (run_cells : List TableId) (pen : PenView) (count : len
     first_ready room few = record {
       of_population = IsOf-itself t0;
       cells = ap (λ (w : PenView). w.cells) fresh;
-      count = count;
+      count = count ∙ are.count;
       smaller = λ n h. subst (λ (l : List (List ℕ)). last_tid l < tid_of (commit_word 1)) (sym (first n h)) (first_tid (rows t0 n));
       cap = omega arith;
       few = few;

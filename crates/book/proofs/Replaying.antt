@@ -1,9 +1,12 @@
 -- A history that is replayed.
-use Rattle.std.proofs.Common.{◌≡◌, ℕ, ◌+◌, List, [], ◌∷◌, ◌++◌, refl, ◌∙◌}
+use Rattle.std.proofs.Common.{◌≡◌, ℕ, ◌+◌, List, [], ◌∷◌, ◌++◌, refl, sym, ap, ◌∙◌}
+use Rattle.std.proofs.lemmas.List.{append-nil, append_assoc}
 use Rattle.tables.specs.Database.{Database}
 use Rattle.tables.specs.Apply.{after}
-use Rattle.laws.proofs.Kept.{after-scale}
-use Rattle.book.specs.History.{replay, IsDone, Replays}
+use Rattle.tables.specs.Constant.{IsOf}
+use Rattle.laws.proofs.Kept.{IsOf-itself, after-IsOf}
+use Rattle.readset.specs.Writes.{added}
+use Rattle.book.specs.History.{replay, rows_added, IsDone, Replays}
 use Rattle.book.specs.declared.entry.Entry.{Entry}
 
 -- one entry more
@@ -16,7 +19,21 @@ pub replays_last : (n : ℕ) (t : Database) (es : List Entry) (e : Entry) → Re
 replays_last n t [] e h = h.2
 replays_last n t (f ∷ es) e h = replays_last (n + 1) (after t f.input) es e h.3
 
--- no transaction changes the scale
+-- no transaction changes the scale, nor a column that never changes
+replay-of : (t0 t : Database) (es : List Entry) → IsOf t0 t → IsOf t0 (replay t es)
+replay-of t0 t [] of = of
+replay-of t0 t (e ∷ es) of = replay-of t0 (after t e.input) es (after-IsOf t0 t e.input of)
+
+pub replay-IsOf : (t : Database) (es : List Entry) → IsOf t (replay t es)
+replay-IsOf t es = replay-of t t es (IsOf-itself t)
+
 pub replay-scale : (t : Database) (es : List Entry) → (replay t es).scale ≡ t.scale
-replay-scale t [] = refl
-replay-scale t (e ∷ es) = replay-scale (after t e.input) es ∙ after-scale t e.input
+replay-scale t es = (replay-IsOf t es).scale
+
+-- HISTORY gets the rows that the entries add
+pub replay-history : (n : ℕ) (t : Database) (es : List Entry) → Replays n t es → (replay t es).history ≡ t.history ++ rows_added es
+replay-history n t [] h = sym (append-nil t.history)
+replay-history n t (e ∷ es) h =
+    replay-history (n + 1) (after t e.input) es h.3
+    ∙ ap (λ l. l ++ rows_added es) h.2.commit.history
+    ∙ append_assoc t.history (added e.writes.history_row) (rows_added es)

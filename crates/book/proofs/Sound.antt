@@ -15,7 +15,7 @@ use Rattle.tables.specs.WellFormed.{HasRoom}
 use Rattle.tables.specs.declared.limits.TheConstants.{MAX_COMMITS}
 use Rattle.laws.proofs.Kept.{after-IsWellFormed, after-HasRoom, after-IsConsistent, after-IsOf}
 use Rattle.cells.specs.TidWord.{tid_of}
-use Rattle.cells.specs.First.{cell_count, first_version}
+use Rattle.cells.specs.First.{first_version}
 use Rattle.cells.specs.Versions.{EndsWith, tid, last_tid, value_in}
 use Rattle.cells.specs.Records.{PenView, ReaderView, at, words_of}
 use Rattle.cells.proofs.Rising.{last_tid-push}
@@ -75,9 +75,6 @@ last_one xs ys a b e = sym (end xs a) ∙ ap last_of e ∙ end ys b
     end (x ∷ []) a = refl
     end (x ∷ y ∷ rest) a = end (y ∷ rest) a
 
-counted : (s : Sizes) → cell_count s ≤ record_count s
-counted s = omega arith
-
 rest_of : (n : ℕ) → n < MAX_COMMITS → MAX_COMMITS - n ≡ MAX_COMMITS - (n + 1) + 1
 rest_of n h = omega arith
 
@@ -128,7 +125,7 @@ module _ (t0 : Database) (run_cells : List TableId) (k : BookView) (t : Database
 
     last_values : (n : ℕ) → n < length run_cells → (v : List ℕ) → EndsWith (at new.all n) v → value_in v ≡ rows (after t work.input) n
     last_values n h v e =
-        let small : n < record_count t.scale = subst (λ (s : Sizes). n < record_count s) (sym ready.of_population.scale) (omega (arith, subst (λ m. n < m) ready.count h, counted t0.scale)) in
+        let small : n < record_count t.scale = subst (λ (s : Sizes). n < record_count s) (sym ready.of_population.scale) (subst (λ m. n < m) ready.count h) in
         let changed : rows (after t work.input) n ≡ rows_with work.writes (rows t) n = (is_work.explained t may_be).rows n small in
         elim (value_for work.writes n) as (λ w. value_for work.writes n ≡ w → value_in v ≡ rows (after t work.input) n) [
           | None ↦ λ none.

@@ -1,22 +1,20 @@
 -- What the book keeps, and what a commit does to it.
-use Rattle.std.specs.Prelude.{◌≡◌, ◌≢◌, ℕ, ◌+◌, ◌-◌, ◌<◌, ◌≤◌, Option, Some, List, [], ◌∷◌, ◌++◌, length}
+use Rattle.std.specs.Prelude.{◌≡◌, ◌≢◌, ℕ, ◌<◌, Option, Some, List, [], ◌∷◌, ◌++◌, length}
 use Rattle.atomic_table.specs.Seated.{TableId}
 use Rattle.tables.specs.Database.{Database}
 use Rattle.tables.specs.Inputs.{IsInput, IsExecuted}
 use Rattle.tables.specs.Rows.{rows}
 use Rattle.tables.specs.Conditions.{IsConsistent}
-use Rattle.tables.specs.WellFormed.{IsWellFormed, HasRoom}
+use Rattle.tables.specs.WellFormed.{IsWellFormed}
 use Rattle.cells.specs.TidWord.{tid_of}
-use Rattle.cells.specs.First.{cell_count}
 use Rattle.cells.specs.Versions.{AllVersions, EndsWith, Has, last_tid, value_in}
 use Rattle.cells.specs.Records.{PenView, ReaderView, at, words_of}
 use Rattle.cells.specs.declared.cells.Version.{Version}
 use Rattle.readset.specs.Reads.{ReadSetView, held}
 use Rattle.readset.specs.Writes.{WriteSetView, value_for}
-use Rattle.tables.specs.Constant.{IsOf}
 use Rattle.readset.specs.Explains.{Explains, IsWithinLimits}
 use Rattle.readset.specs.declared.work.Work.{Work}
-use Rattle.book.specs.History.{IsLegal, commit_tid, commit_word, entry_versions, all_versions}
+use Rattle.book.specs.History.{IsLegal, commit_tid, entry_versions, all_versions}
 use Rattle.book.specs.declared.entry.Entry.{Entry}
 
 -- what contracts see of the book: all versions of the records, and the history. The committed tables are the history's replay

@@ -1,5 +1,5 @@
 -- What has committed, in order, and what it makes of the tables and of the records' versions.
-use Rattle.std.specs.Prelude.{◌≡◌, ℕ, ◌+◌, ◌<◌, true, false, Option, Some, None, List, [], ◌∷◌, ◌++◌, replicate}
+use Rattle.std.specs.Prelude.{◌≡◌, ℕ, ◌+◌, true, false, Option, Some, None, List, [], ◌∷◌, ◌++◌, replicate, flat_map}
 use Rattle.std.specs.Option.{option_map_or}
 use Rattle.std.specs.Ordering.{nat_cmp}
 use Rattle.std.specs.Map.{lookup}
@@ -8,10 +8,12 @@ use Rattle.tables.specs.Database.{Database}
 use Rattle.tables.specs.Inputs.{IsInput}
 use Rattle.tables.specs.Apply.{after}
 use Rattle.tables.specs.Rows.{rows}
+use Rattle.tables.specs.declared.rows.History.{History}
 use Rattle.cells.specs.TidWord.{tid_word}
 use Rattle.cells.specs.Versions.{Versions}
 use Rattle.cells.specs.First.{first_version}
 use Rattle.readset.specs.Commit.{IsCommitOf}
+use Rattle.readset.specs.Writes.{added}
 use Rattle.book.specs.declared.entry.Entry.{Entry}
 
 -- the tables after these entries: their inputs applied one after another
@@ -44,6 +46,10 @@ Replays n t (e ∷ es) = (e.number ≡ n) × (e.tid ≡ commit_tid n) × IsDone 
 pub record IsLegal (t0 : Database) (history : List Entry) (t : Database) : Type 0 where
   pub replays : Replays 1 t0 history
   pub end : replay t0 history ≡ t
+
+-- the rows that entries add to HISTORY
+abbrev pub rows_added : List Entry → List History
+rows_added entries = flat_map (λ e. added e.writes.history_row) entries
 
 -- the version that a commit, by its number, makes of a value
 abbrev pub version_of : ℕ → Option (List ℕ) → List ℕ

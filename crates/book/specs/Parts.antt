@@ -1,15 +1,17 @@
 -- What an engine is opened with.
 use Rattle.std.specs.Prelude.{◌≡◌, ℕ, ◌<◌, ◌^◌, List, [], length, All}
+use Rattle.std.specs.Arc.{arc_value}
 use Rattle.atomic_table.specs.Seated.{TableId}
-use Rattle.tables.specs.Database.{Database, database}
+use Rattle.tables.specs.Database.{Database}
 use Rattle.population.specs.Initial.{initial}
-use Rattle.cells.specs.First.{cell_count, firsts}
+use Rattle.cells.specs.First.{firsts}
 use Rattle.cells.specs.Opening.{seen_all}
+use Rattle.records.specs.Newest.{AreFirst}
 use Rattle.book.specs.declared.engine.Parts.{Parts}
 
 -- the tables that a run of these parts begins with, its cells, and its ledger
 abbrev pub first_of : Parts → Database
-first_of p = initial p.population
+first_of p = initial (arc_value p.population)
 
 abbrev pub cells_of : Parts → List TableId
 cells_of p = p.cells
@@ -25,10 +27,11 @@ terminals_of p = length p.readers.items
 
 -- nothing has committed: the cells have the first versions, which each reader has seen, and the ledger has a part a terminal
 pub record IsFresh (p : Parts) : Type 0 where
-  pub tables : database p.tables ≡ initial p.population
+  pub lent : initial (arc_value p.lent) ≡ initial (arc_value p.population)
+  pub newest : AreFirst (initial (arc_value p.population)) p.newest.items
   pub history : p.history.items ≡ []
-  pub count : length p.cells ≡ cell_count (initial p.population).scale
-  pub pen : p.pen ≡ record { cells = p.cells; all = firsts (initial p.population) 0 (cell_count (initial p.population).scale) }
+  pub count : length p.cells ≡ length p.newest.items
+  pub pen : p.pen ≡ record { cells = p.cells; all = firsts p.newest.items }
   pub readers : All (λ reader. reader ≡ seen_all p.pen) p.readers.items
   pub parts : p.blank.parts ≡ length p.readers.items
   pub few : length p.readers.items < 2 ^ 16

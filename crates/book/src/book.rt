@@ -1,48 +1,58 @@
 //! The committed state.
 
-use crate::copy::copy_of;
 use crate::entry::Entry;
+use crate::history_rows::added_rows;
 use crate::run::Run;
 use crate::share::Share;
-use cells::Pen;
+use cells::{Newest, Pen};
 use conditions::{Report, check};
 use money::Refusal;
+use population::Population;
+use records::tables_of;
 use std::alloc::Global;
 use std::marker::Model;
-use std::sync::ledger;
+use std::sync::{Arc, ledger};
 use tables::Tables;
 
-/// The committed state, which stands under the engine's lock. Its type keeps `IsSound` of what contracts see of
-/// it, that it is ready for the next commit, and that the terminals' shares sum to the length of the history.
+/// The committed state, which stands under the engine's lock: the newest version of each record, by record number,
+/// and what has committed. The committed tables are what these tell, and are kept nowhere. Its type keeps `IsSound` of
+/// what contracts see of it, that it is ready for the next commit, and that the terminals' shares sum to the length of
+/// the history.
 #[derive(Drop)]
 pub struct Book<K: Run> {
     pub(crate) pen: Pen,
-    pub(crate) tables: Tables,
+    pub(crate) population: Arc<Population, Global>,
+    pub(crate) newest: Vec<Newest>,
     pub(crate) history: Vec<Entry>,
     pub(crate) shares: ledger::Book<K>,
 }
 
 impl<K: Run> Model for Book<K> {
     ghost use Rattle.std.specs.Prelude.{◌≡◌, length};
-    ghost use Rattle.tables.specs.Database.{database};
+    ghost use Rattle.std.specs.Arc.{arc_value};
+    ghost use Rattle.population.specs.Initial.{initial};
+    ghost use Rattle.book.specs.History.{replay};
     ghost use Rattle.book.specs.Book.{BookView, IsSound};
-    ghost use Rattle.book.specs.Ready.{IsReady};
+    ghost use Rattle.book.specs.Ready.{IsReady, AreNewest};
 
     ghost Value = { BookView };
 
     ghost view = { λ b. record { written = b.pen; history = b.history.items } };
 
     ghost invariant = { λ b. let kept : BookView = record { written = b.pen; history = b.history.items } in
-        IsSound K.first K.cells kept (database b.tables) × IsReady K.first K.cells kept (database b.tables)
+        IsSound K.first K.cells kept (replay K.first b.history.items)
+        × IsReady K.first K.cells kept (replay K.first b.history.items)
+        × AreNewest b.pen b.newest.items × (initial (arc_value b.population) ≡ K.first)
         × (b.shares.total ≡ length b.history.items) };
 }
 
 impl<K: Run> Book<K> {
-    ghost use Rattle.std.specs.Prelude.{◌≡◌, ◌+◌, length, IfOk, IfErr};
+    ghost use Rattle.std.specs.Prelude.{◌≡◌, ◌+◌, ◌<◌, length, IfOk, IfErr};
     ghost use Rattle.money.specs.declared.refusal.Refusal.TheVariants.{OutOfMemory};
     ghost use Rattle.tables.specs.Database.{database};
-    ghost use Rattle.conditions.specs.Report.{IsReportOf};
-    ghost use Rattle.conditions.specs.Report.{IsGood};
+    ghost use Rattle.tables.specs.Records.{record_count};
+    ghost use Rattle.tables.specs.Rows.{rows};
+    ghost use Rattle.conditions.specs.Report.{IsReportOf, IsGood};
     ghost use Rattle.book.specs.History.{replay};
     ghost use Rattle.book.specs.Book.{IsSound};
 
@@ -57,30 +67,36 @@ impl<K: Run> Book<K> {
         self.history.as_slice()
     }
 
-    /// The committed tables, while the book is lent.
-    pub fn committed(&self) -> &Tables
-        ensures tables { database result.now ≡ replay K.first self.now.history }
-        ensures sound { IsSound K.first K.cells self.now (database result.now) }
+    /// What a record holds in the committed tables: the columns of its row that change, or an index record's number,
+    /// and nothing where it is absent. Constant time, no memory.
+    pub fn record(&self, number: u32) -> Option<[u64; 7]>
+        requires { number < record_count K.first.scale }
+        ensures { result ≡ rows (replay K.first self.now.history) number }
     {
-        &self.tables
+        self.newest[number as usize].value()
     }
 
-    /// A copy of the committed tables. Costs a pass over each. `OutOfMemory` is the only refusal.
+    /// The committed tables, made of their records. Costs what populating costs, a look at each record, and a pass over
+    /// the history. `OutOfMemory` is the only refusal.
     pub fn tables(&self) -> Result<Tables, Refusal>
         ensures tables { IfOk result (λ tables. database tables ≡ replay K.first self.now.history) }
         ensures sound { IfOk result (λ tables. IsSound K.first K.cells self.now (database tables)) }
         ensures only_memory { IfErr result (λ refusal. refusal ≡ OutOfMemory) }
     {
-        Ok(copy_of(&self.tables)?)
+        let alloc = *self.history.allocator();
+        let added = added_rows(alloc, &self.history)?;
+        tables_of(alloc, &self.population, &self.newest, &added)
     }
 
-    /// Which conditions the committed tables meet: all. Costs what `check` does. `OutOfMemory` is the only refusal.
+    /// Which conditions the committed tables meet: all. Costs what `tables` and `check` do. `OutOfMemory` is the only
+    /// refusal.
     pub fn report(&self, alloc: Global) -> Result<Report, Refusal>
         ensures report { IfOk result (IsReportOf (replay K.first self.now.history)) }
         ensures good { IfOk result IsGood }
         ensures only_memory { IfErr result (λ refusal. refusal ≡ OutOfMemory) }
     {
-        check(alloc, &self.tables)
+        let tables = self.tables()?;
+        check(alloc, &tables)
     }
 
     /// For proofs: a share with all parts of the ledger has as many commits as the history has entries. Changes

@@ -18,8 +18,8 @@ use std::sync::Wait;
 
 impl<K: Run> Book<K> {
     /// Commits a transaction that this reader has executed, as the next in the history (Silo, section 4.4). Costs a
-    /// comparison a record read; a store, a comparison and a copy a record written; a copy of the reply; the look-ups
-    /// of the transaction on the tables; and constant time, amortized, for the history. May wait, at a record's cell
+    /// comparison a record read; a store, a comparison and two copies a record written; a copy of the reply; and
+    /// constant time, amortized, for the history. May wait, at a record's cell
     /// alone.
     ///
     /// After Ok the reader has seen the versions stored, and the reply is the transaction's at the tables before it.
@@ -59,7 +59,8 @@ impl<K: Run> Book<K> {
             return Err(Refusal::Conflict);
         }
         // What is refused from here on is refused before the first store.
-        let (written, reply) = match prepare(&mut self.tables, &mut self.history, &work) {
+        let cap = self.population.scale().commits();
+        let (written, reply) = match prepare(cap, &mut self.history, &work) {
             Ok(prepared) => prepared,
             Err(refusal) => return Err(refusal),
         };
@@ -69,8 +70,8 @@ impl<K: Run> Book<K> {
             cells,
             &mut self.pen,
             reader,
-            &work.reads,
-            &work.writes,
+            &mut self.newest,
+            &work,
             number,
         );
         let tid = tid_for(number);

@@ -1,29 +1,30 @@
 //! The engine: the cells, which anyone reads, and the book under its lock.
 ghost use Rattle.std.specs.Prelude.{◌≡◌, ◌+◌, length, IfOk, IfErr, IfSome, IfNone};
+ghost use Rattle.std.specs.Arc.{arc_value};
 ghost use Rattle.money.specs.declared.refusal.Refusal.TheVariants.{OutOfMemory};
 ghost use Rattle.population.specs.Initial.{initial};
-ghost use Rattle.cells.specs.First.{cell_count};
+ghost use Rattle.tables.specs.Records.{record_count};
 ghost use Rattle.book.specs.Parts.{IsFresh, first_of, cells_of, ledger_name, ledger_parts, terminals_of};
 
 use crate::book::Book;
-use crate::copy::copy_of;
 use crate::entry::Entry;
 use crate::run::Run;
 use crate::share::Share;
-use cells::{Cells, Pen, Reader};
+use cells::{Cells, Newest, Pen, Reader};
 use money::Refusal;
 use population::Population;
+use records::newest_of;
 use std::alloc::Global;
 use std::marker::Model;
 use std::sync::ledger::{self, Blank};
-use std::sync::{Mutex, MutexGuard, Wait};
-use tables::Tables;
+use std::sync::{Arc, Mutex, MutexGuard, Wait};
 
 /// What an engine is opened with: all memory that opening one takes.
 #[derive(Drop)]
 pub struct Parts {
-    population: Population,
-    tables: Tables,
+    population: Arc<Population, Global>,
+    lent: Arc<Population, Global>,
+    newest: Vec<Newest>,
     history: Vec<Entry>,
     cells: Cells,
     pen: Pen,
@@ -33,7 +34,8 @@ pub struct Parts {
 
 impl Parts {
     /// The parts of an engine over this population, with any number of terminals, of which each gets a seat. Costs
-    /// a copy of the tables, and what `Cells::new` costs. May wait, at a record's cell alone.
+    /// what `newest_of` and `Cells::new` cost: a pass over the tables, and a step a record and terminal. May wait, at
+    /// a record's cell alone.
     ///
     /// # Errors
     ///
@@ -49,11 +51,13 @@ impl Parts {
         ensures terminals { IfOk result (λ parts. terminals_of parts ≡ terminals) }
         ensures only_memory { IfErr result (λ refusal. refusal ≡ OutOfMemory) }
     {
-        let tables = copy_of(population.tables())?;
-        let (cells, pen, readers) = Cells::new(rt, alloc, &population, terminals as usize)?;
+        let newest = newest_of(alloc, &population)?;
+        let (cells, pen, readers) = Cells::new(rt, alloc, &newest, terminals as usize)?;
+        let (population, lent) = shared(alloc, population)?;
         Ok(Parts {
             population,
-            tables,
+            lent,
+            newest,
             history: Vec::new(alloc),
             cells,
             pen,
@@ -63,11 +67,26 @@ impl Parts {
     }
 }
 
+/// A population that two may have.
+fn shared(
+    alloc: Global,
+    population: Population,
+) -> Result<(Arc<Population, Global>, Arc<Population, Global>), Refusal>
+    ensures both { IfOk result (λ made. (arc_value made.0 ≡ population) × (arc_value made.1 ≡ population)) }
+    ensures only_memory { IfErr result (λ refusal. refusal ≡ OutOfMemory) }
+{
+    let Ok(one) = Arc::new(alloc, population) else {
+        return Err(Refusal::OutOfMemory);
+    };
+    let other = Arc::try_clone(&one)?;
+    Ok((one, other))
+}
+
 /// An engine: the population, the record cells, which terminals read without a lock, and the book under one lock
 /// (Silo, section 4.1). Contracts see nothing of it but that it is of the run that `K` names.
 #[derive(Drop)]
 pub struct Engine<K: Run> {
-    population: Population,
+    population: Arc<Population, Global>,
     cells: Cells,
     book: Mutex<Book<K>>,
 }
@@ -75,14 +94,15 @@ pub struct Engine<K: Run> {
 impl<K: Run> Model for Engine<K> {
     ghost use Rattle.std.specs.Prelude.{◌≡◌, length};
     ghost use Rattle.population.specs.Initial.{initial};
-    ghost use Rattle.cells.specs.First.{cell_count};
+    ghost use Rattle.std.specs.Arc.{arc_value};
+    ghost use Rattle.tables.specs.Records.{record_count};
 
     ghost Value = { Unit {0} };
 
     ghost view = { λ e. tt };
 
-    ghost invariant = { λ e. (initial e.population ≡ K.first) × (e.cells ≡ K.cells)
-        × (length K.cells ≡ cell_count K.first.scale) };
+    ghost invariant = { λ e. (initial (arc_value e.population) ≡ K.first) × (e.cells ≡ K.cells)
+        × (length K.cells ≡ record_count K.first.scale) };
 }
 
 impl<K: Run> Engine<K> {
@@ -97,7 +117,8 @@ impl<K: Run> Engine<K> {
     {
         let Parts {
             population,
-            tables,
+            lent,
+            newest,
             history,
             cells,
             pen,
@@ -109,7 +130,8 @@ impl<K: Run> Engine<K> {
         let (shares, share) = blank.open::<K>();
         let book = Book {
             pen,
-            tables,
+            population: lent,
+            newest,
             history,
             shares,
         };
@@ -133,10 +155,10 @@ impl<K: Run> Engine<K> {
         &self.population
     }
 
-    /// The record cells: one for each record that has one.
+    /// The record cells: one for each record.
     pub fn cells(&self) -> &Cells
         ensures value { result.now ≡ K.cells }
-        ensures count { length result.now ≡ cell_count K.first.scale }
+        ensures count { length result.now ≡ record_count K.first.scale }
     {
         &self.cells
     }

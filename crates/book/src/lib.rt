@@ -1,14 +1,14 @@
 //! The book: the committed state under one lock, whose type vouches for it. Whenever the lock is free, the
 //! committed tables are the serial replay of the history with every reply the same, they are well-formed and
-//! consistent (TPC-C 3.3.2), and the versions of each record that has a cell are the values that it had along that
+//! consistent (TPC-C 3.3.2), and the versions of each record are the values that it had along that
 //! history.
 #![tactic(auto)]
 
 mod book;
 mod committing;
-mod copy;
 mod engine;
 mod entry;
+mod history_rows;
 mod prepare;
 mod run;
 mod share;

@@ -3,12 +3,14 @@ ghost use Rattle.std.specs.Prelude.{◌≡◌, ℕ, ◌<◌, ◌^◌, ◌∷◌,
 ghost use Rattle.cells.specs.TidWord.{tid_of};
 ghost use Rattle.cells.specs.Versions.{last_tid};
 ghost use Rattle.cells.specs.Records.{at, HasGrown};
+ghost use Rattle.cells.specs.Records.{newest_words};
 ghost use Rattle.readset.specs.Explains.{WritesAreRead};
 ghost use Rattle.book.specs.History.{commit_tid, commit_word, version_of, new_versions};
 ghost use Rattle.book.specs.Book.{AreLatest, HasConflict, HasSeen, IsReadBy};
+ghost use Rattle.book.specs.Ready.{AreNewest};
 
-use cells::{Cells, Pen, Reader, Status, TidWord};
-use readset::{ReadSet, Work, WriteSet};
+use cells::{Cells, Newest, Pen, Reader, Status, TidWord};
+use readset::Work;
 use std::sync::Wait;
 
 /// Whether each version read is still its record's latest (phase 2). The reader may have seen more by then.
@@ -33,33 +35,36 @@ pub(crate) fn validate<R: Wait>(
     true
 }
 
-/// Stores the versions that a commit writes (phase 3), each in one store with its TID word. The reader has then
-/// seen them.
+/// Stores the versions that a commit writes (phase 3), each in one store with its TID word, and keeps them as the
+/// newest of their records. The reader has then seen them.
 pub(crate) fn store<R: Wait>(
     rt: &R,
     cells: &Cells,
     pen: &mut Pen,
     reader: &mut Reader,
-    reads: &ReadSet,
-    writes: &WriteSet,
+    newest: &mut [Newest],
+    work: &Work,
     number: u32,
 )
     requires own { (pen.old.cells ≡ cells.now) × (reader.old.cells ≡ cells.now) }
-    requires read { IsReadBy (length cells.now) reader.old reads.now }
-    requires written_read { WritesAreRead writes.now reads.now }
+    requires read { IsReadBy (length cells.now) reader.old work.now.reads }
+    requires written_read { WritesAreRead work.now.writes work.now.reads }
     requires number { number < 2 ^ 29 }
     requires smaller { (n : ℕ) → n < length cells.now
         → last_tid (at pen.old.all n) < tid_of (commit_word number) }
+    requires newest { AreNewest pen.old newest.old }
     ensures cells { pen.new.cells ≡ pen.old.cells }
     ensures versions { (n : ℕ)
-        → at pen.new.all n ≡ at pen.old.all n ++ new_versions number writes.now.values n }
+        → at pen.new.all n ≡ at pen.old.all n ++ new_versions number work.now.writes.values n }
     ensures reader { HasGrown reader.old reader.new }
-    ensures seen { HasSeen reader.new pen.new writes.now }
+    ensures seen { HasSeen reader.new pen.new work.now.writes }
+    ensures newest { AreNewest pen.new newest.new }
 {
-    for (record, value) in writes.values() {
+    for (record, value) in work.writes.values() {
         let version = version(number, value);
         cells.store(rt, pen, *record, version.word, version.payload);
-        match reads.held(*record) {
+        newest[*record as usize] = version;
+        match work.reads.held(*record) {
             Some(held) => {
                 cells.meet(rt, pen, reader, held);
             }
@@ -68,17 +73,10 @@ pub(crate) fn store<R: Wait>(
     }
 }
 
-/// A version to be stored.
-#[derive(Clone, Copy, Debug, PartialEq, Eq)]
-struct NewVersion {
-    word: TidWord,
-    payload: [u64; 7],
-}
-
 /// The version that a commit makes of a value.
-fn version(number: u32, value: &Option<[u64; 7]>) -> NewVersion
+fn version(number: u32, value: &Option<[u64; 7]>) -> Newest
     requires { number < 2 ^ 29 }
-    ensures words { result.word ∷ result.payload ≡ version_of number value.now }
+    ensures words { newest_words result ≡ version_of number value.now }
     ensures tid { tid_of result.word ≡ tid_of (commit_word number) }
 {
     let status = Status {
@@ -86,7 +84,7 @@ fn version(number: u32, value: &Option<[u64; 7]>) -> NewVersion
         absent: value.is_none(),
         locked: false,
     };
-    NewVersion {
+    Newest {
         word: TidWord::pack(1, number, status),
         payload: match value {
             Some(words) => *words,

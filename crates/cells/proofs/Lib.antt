@@ -4,4 +4,3 @@ mod Known
 mod Passes
 pub mod Records
 pub mod Grown
-mod Firsts

@@ -1,5 +1,5 @@
 -- What the passes of the pen and of a reader know, one pass a record.
-use Rattle.std.specs.Prelude.{ℕ, List, [], ◌∷◌, ◌++◌, map}
+use Rattle.std.specs.Prelude.{List, [], ◌∷◌, ◌++◌, map}
 use Rattle.atomic_table.specs.Seated.{TableId}
 use Rattle.cells.specs.Views.{CellPass, known}
 use Rattle.cells.specs.Versions.{Versions}

@@ -2,6 +2,7 @@
 use Rattle.std.specs.Prelude.{◌≡◌, ℕ, ◌+◌, List, [], ◌∷◌, ◌++◌, slice_index, slice_index_or, slice_set}
 use Rattle.atomic_table.specs.Seated.{TableId}
 use Rattle.cells.specs.declared.cells.Version.{Version}
+use Rattle.cells.specs.declared.cells.Newest.{Newest}
 use Rattle.cells.specs.Versions.{Versions, AllVersions, StartsWith, EndsWith, IsRising}
 
 -- the pen's: which cell a record has, and all its versions
@@ -18,6 +19,10 @@ pub record ReaderView : Type 0 where
 -- the words of a version
 abbrev pub words_of : Version → List ℕ
 words_of version = version.word ∷ version.payload
+
+-- the words of a record's newest version
+abbrev pub newest_words : Newest → List ℕ
+newest_words newest = newest.word ∷ newest.payload
 
 -- the versions of record n
 abbrev pub at : AllVersions → ℕ → Versions

@@ -3,8 +3,8 @@ ghost use Rattle.std.specs.Prelude.{◌≡◌, ◌≢◌, ◌<◌, Some, List, [
 ghost use Rattle.money.specs.declared.refusal.Refusal.TheVariants.{OutOfMemory};
 ghost use Rattle.atomic_table.specs.Seated.{TableId};
 ghost use Rattle.cells.specs.TidWord.{tid_of};
-ghost use Rattle.cells.specs.Versions.{EndsWith, Has, last_tid};
-ghost use Rattle.cells.specs.Records.{at, StoresVersion, LoadsRecord, LearnsRecord};
+ghost use Rattle.cells.specs.Versions.{EndsWith, Has, last_tid, value_in};
+ghost use Rattle.cells.specs.Records.{at, newest_words, StoresVersion, LoadsRecord, LearnsRecord};
 
 use crate::holders::{PenOf, ReaderOf};
 use crate::rule::Cell;
@@ -30,6 +30,27 @@ pub struct Version {
     pub payload: [u64; 7],
 }
 
+/// What a record's newest version has: its TID word, and its data.
+#[derive(Clone, Copy, Debug, PartialEq, Eq)]
+pub struct Newest {
+    pub word: TidWord,
+    pub payload: [u64; 7],
+}
+
+impl Newest {
+    /// What the version says that its record holds: its data, or nothing where the record is absent.
+    pub fn value(&self) -> Option<[u64; 7]>
+        ensures { result ≡ value_in (newest_words self.now) }
+    {
+        let payload = self.payload;
+        if self.word.is_absent() {
+            None
+        } else {
+            Some(payload)
+        }
+    }
+}
+
 /// Cells, one after another. Contracts see which cells they are.
 #[derive(Drop)]
 pub(crate) struct CellList<const N: usize> {
@@ -53,6 +74,15 @@ impl<const N: usize> CellList<N> {
         CellList {
             cells: Vec::new(alloc),
         }
+    }
+
+    /// Takes memory for this many cells.
+    pub(crate) fn reserve(&mut self, count: usize) -> Result<(), Refusal>
+        ensures same { self.new ≡ self.old }
+        ensures memory { IfErr result (λ e. e ≡ OutOfMemory) }
+    {
+        self.cells.reserve(count)?;
+        Ok(())
     }
 
     /// Adds a cell at the end.

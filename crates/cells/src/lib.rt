@@ -10,5 +10,5 @@ mod populate;
 mod rule;
 mod tid;
 
-pub use cells::{Cells, Pen, Reader, Version};
+pub use cells::{Cells, Newest, Pen, Reader, Version};
 pub use tid::{Status, TidWord};

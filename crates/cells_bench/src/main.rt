@@ -1,21 +1,21 @@
-//! Measures record cells. `cells_bench CUSTOMERS TURNS` makes the cells of 8 warehouses with 10 districts each and
-//! CUSTOMERS customers a district (10 to 3,000). It prints the bytes of a cell, and what a call costs: the mean over
-//! TURNS calls, in nanoseconds. With no words it does nothing.
+//! Measures record cells. `cells_bench CELLS TURNS` makes that many cells (1 to 100,000,000). It prints the bytes of a
+//! cell, and what a call costs: the mean over TURNS calls, in nanoseconds. With no words it does nothing.
 #![tactic(auto)]
 
 ghost use Rattle.std.specs.Prelude.{◌≡◌, ◌*◌, ◌<◌, ◌≤◌, length, IfOk};
 ghost use Rattle.cells.specs.Versions.{last_tid};
 ghost use Rattle.cells.specs.Records.{at};
-ghost use Rattle.cells.specs.First.{cell_count};
 
 use anyhow::bail;
-use cells::{Cells, Pen, Reader, TidWord};
-use population::Population;
+use cells::{Cells, Newest, Pen, Reader, TidWord};
+use std::alloc::Global;
 use std::rt::{Clock, Env, Files};
 use std::sync::Wait;
 use std::time::Instant;
 use std::{env, fs};
-use tables::Scale;
+
+/// The most cells.
+const MAX_CELLS: u32 = 100_000_000;
 
 /// Bytes of a page of memory.
 const PAGE: u64 = 4096;
@@ -35,7 +35,7 @@ struct Bench {
     stride: u32,
     /// Record 0's next TID is 8 times this.
     turn: u64,
-    ghost counted: { (length cells ≡ count) × (count ≤ 1000000) },
+    ghost counted: { (length cells ≡ count) × (count ≤ 100000000) },
     ghost own: { (pen.cells ≡ cells) × (reader.cells ≡ cells) },
     ghost there: { (next < count) × (stride < count) },
     ghost larger: { last_tid (at pen.all 0) < turn * 8 },
@@ -102,11 +102,17 @@ fn resident<R: Files + AllocGlobal>(rt: &R) -> anyhow::Result<u64> {
     Ok(pages.saturating_mul(PAGE))
 }
 
-fn count_of(scale: &Scale) -> u32
-    ensures { (result ≡ cell_count scale.now) × (0 < result) × (result ≤ 1000000) }
+/// This many versions to begin with.
+fn firsts(alloc: Global, count: u32) -> anyhow::Result<Vec<Newest>>
+    ensures { IfOk result (λ first. length first.items ≡ count) }
 {
-    let districts = scale.warehouses() * scale.districts();
-    scale.warehouses() + districts + districts * scale.customers()
+    let zeros = Newest {
+        word: TidWord::POPULATED,
+        payload: [0; 7],
+    };
+    let mut first = Vec::new(alloc);
+    first.resize(count as usize, zeros)?;
+    Ok(first)
 }
 
 /// An eighth of the TID after record 0's last one.
@@ -128,18 +134,18 @@ fn next_turn<R: Wait>(
     Ok(version.word.word() / 8 + 1)
 }
 
-/// The cells of a population, with their holders, and the bytes of a cell.
-fn bench_of<R: Wait + Files + AllocGlobal>(
-    rt: &R,
-    population: &Population,
-) -> anyhow::Result<(Bench, u64)> {
+/// This many cells, with their holders, and the bytes of a cell.
+fn bench_of<R: Wait + Files + AllocGlobal>(rt: &R, count: u32) -> anyhow::Result<(Bench, u64)> {
+    if count == 0 || count > MAX_CELLS {
+        bail!("CELLS is from 1 to {MAX_CELLS}");
+    }
+    let first = firsts(rt.alloc(), count)?;
     let before = resident(rt)?;
-    let (cells, mut pen, mut readers) = Cells::new(rt, rt.alloc(), population, 1)?;
+    let (cells, mut pen, mut readers) = Cells::new(rt, rt.alloc(), &first, 1)?;
     let bytes = resident(rt)?.saturating_sub(before);
     let Some(mut reader) = readers.pop() else {
         bail!("no reader");
     };
-    let count = count_of(&population.scale());
     let turn = next_turn(rt, &cells, &mut pen, &mut reader)?;
     let bench = Bench {
         cells,
@@ -153,14 +159,13 @@ fn bench_of<R: Wait + Files + AllocGlobal>(
     Ok((bench, bytes / u64::from(count)))
 }
 
-/// The cells of a population, with their holders. Prints how many they are, the bytes of one, and how long they took to
-/// make.
+/// This many cells, with their holders. Prints how many they are, the bytes of one, and how long they took to make.
 fn made<R: Wait + Files + Clock + Print + AllocGlobal>(
     rt: &R,
-    population: &Population,
+    count: u32,
 ) -> anyhow::Result<Bench> {
     let start = Instant::now(rt)?;
-    let (bench, bytes) = bench_of(rt, population)?;
+    let (bench, bytes) = bench_of(rt, count)?;
     let millis = start.elapsed(rt)?.as_millis();
     println!(rt;
         "cells {}\nbytes a cell {bytes}\nmade in {millis} ms",
@@ -169,30 +174,20 @@ fn made<R: Wait + Files + Clock + Print + AllocGlobal>(
     Ok(bench)
 }
 
-/// The cells of this many customers a district, with their holders.
-fn open<R: Wait + Files + Clock + Print + AllocGlobal>(
-    rt: &R,
-    customers: u32,
-) -> anyhow::Result<Bench> {
-    let scale = Scale::new(8, 10, customers, 20, customers, 1)?;
-    let population = Population::plain(rt.alloc(), scale)?;
-    made(rt, &population)
-}
-
-/// The numbers of customers a district and of turns that the program's words ask for.
+/// The numbers of cells and of turns that the program's words ask for.
 fn asked<R: Env + AllocGlobal>(rt: &R) -> anyhow::Result<Option<(u32, u32)>> {
     let mut words = env::args(rt)?.skip(1);
-    let (Some(customers), Some(turns)) = (words.next(), words.next()) else {
+    let (Some(cells), Some(turns)) = (words.next(), words.next()) else {
         return Ok(None);
     };
-    Ok(Some((customers.parse()?, turns.parse()?)))
+    Ok(Some((cells.parse()?, turns.parse()?)))
 }
 
 fn main(rt: HostRuntime) -> anyhow::Result<()> {
-    let Some((customers, turns)) = asked(&rt)? else {
+    let Some((cells, turns)) = asked(&rt)? else {
         return Ok(());
     };
-    let mut bench = open(&rt, customers)?;
+    let mut bench = made(&rt, cells)?;
     for (name, call, stride) in [
         ("hot read", Call::Read, 0),
         ("cold read", Call::Read, SCATTERED),

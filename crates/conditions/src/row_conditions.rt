@@ -10,7 +10,6 @@ ghost use Rattle.conditions.specs.Sums.{AreSumsOf};
 
 use crate::amounts::amount_of;
 use crate::columns::is_without_carrier;
-use crate::shares::order_key;
 use crate::sums::Sums;
 use tables::{LineKey, Order, OrderKey, OrderLine, Tables};
 
@@ -57,7 +56,7 @@ impl RowCondition<LineKey, OrderLine> for Condition7 {
     fn holds(tables: &Tables, _sums: &Sums, key: &LineKey, row: &OrderLine) -> bool {
         same(
             row.delivery_date.is_none(),
-            is_without_carrier(tables, &order_key(key)),
+            is_without_carrier(tables, &key.order_key()),
         )
     }
 }

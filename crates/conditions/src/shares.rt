@@ -1,7 +1,7 @@
 //! What is summed, and by what.
 
 ghost use Rattle.std.specs.Prelude.{◌≡◌, pos, ◌==◌};
-ghost use Rattle.tables.specs.Keys.{is_district, is_customer, is_order, order_of};
+ghost use Rattle.tables.specs.Keys.{is_district, is_customer, is_order};
 ghost use Rattle.tables.specs.Conditions.{is_line_of};
 
 use crate::amounts::Share;
@@ -83,7 +83,7 @@ impl Share<LineKey, OrderLine> for OrderLines {
     ghost amount = { λ r. pos 1 };
 
     fn group(_tables: &Tables, key: &LineKey, _row: &OrderLine) -> Option<OrderKey> {
-        Some(order_key(key))
+        Some(key.order_key())
     }
 
     fn amount_of(_row: &OrderLine) -> i64 {
@@ -105,7 +105,7 @@ impl Share<LineKey, OrderLine> for Delivered {
         if row.delivery_date.is_none() {
             return None;
         }
-        let Some(order) = tables.orders.get(&order_key(key)) else {
+        let Some(order) = tables.orders.get(&key.order_key()) else {
             return None;
         };
         Some(CustomerKey {
@@ -181,16 +181,5 @@ impl Share<(), History> for CustomerHistory {
 
     fn amount_of(row: &History) -> i64 {
         row.amount.amount()
-    }
-}
-
-/// The key of the order that a line belongs to.
-pub fn order_key(key: &LineKey) -> OrderKey
-    ensures { result ≡ order_of key.now }
-{
-    OrderKey {
-        warehouse: key.warehouse,
-        district: key.district,
-        order: key.order,
     }
 }

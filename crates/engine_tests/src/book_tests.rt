@@ -6,7 +6,7 @@ use crate::engine::{Executed, both_of, parts, pay};
 use crate::payments::{history_row, payment_reply, reply};
 use book::{Engine, Parts, Run, Seat};
 use cells::Reader;
-use money::{Cents, Refusal};
+use money::Refusal;
 use std::alloc::Global;
 use std::marker::Brand;
 use std::sync::Wait;
@@ -146,20 +146,19 @@ fn commit_executed<K: Run, R: Wait>(
     (seat, told)
 }
 
-/// How many have committed, W_YTD and the length of HISTORY in the committed tables, and the TID words and first
-/// words of the warehouse, the district and customers 3 and 4.
+/// How many have committed, W_YTD in the committed tables, and the TID words and first words of the warehouse, the
+/// district and customers 3 and 4.
 #[derive(Clone, Copy, Debug, PartialEq, Eq)]
 struct Standing {
     commits: usize,
-    year_to_date: Option<Cents>,
-    payments: usize,
+    year_to_date: Option<u64>,
     tids: [u64; 4],
     words: [u64; 4],
 }
 
 fn standing_of<K: Run, R: Wait>(rt: &R, engine: &Engine<K>, reader: &mut Reader) -> Standing
     requires reader { reader.old.cells ≡ K.cells }
-    requires count { length K.cells ≡ 23 }
+    requires count { length K.cells ≡ 1085 }
     ensures reader { reader.new.cells ≡ K.cells }
 {
     let cells = engine.cells();
@@ -168,11 +167,9 @@ fn standing_of<K: Run, R: Wait>(rt: &R, engine: &Engine<K>, reader: &mut Reader)
     let third = cells.read(rt, reader, 5);
     let fourth = cells.read(rt, reader, 6);
     let book = engine.lock(rt);
-    let tables = book.committed();
     Standing {
         commits: book.history().len(),
-        year_to_date: tables.warehouses.get(&1).map(|row| row.year_to_date),
-        payments: tables.history.len(),
+        year_to_date: book.record(0).map(|words| words[0]),
         tids: [
             warehouse.word.word(),
             district.word.word(),
@@ -232,7 +229,7 @@ fn commit_both<K: Run, R: Wait>(
     third: Executed<K>,
     fourth: Executed<K>,
 ) -> Result<Commits, Refusal>
-    requires count { length K.cells ≡ 23 }
+    requires count { length K.cells ≡ 1085 }
 {
     let (mut left, first) = commit_executed(rt, engine, third);
     let before = standing_of(rt, engine, &mut left.reader);
@@ -278,7 +275,7 @@ fn outcome_of<K: Run + Send + Sync, R: Threads + Wait + Clock + Sync>(
     left: Seat<K>,
     right: Seat<K>,
 ) -> Result<Outcome, Fail>
-    requires count { length K.cells ≡ 23 }
+    requires count { length K.cells ≡ 1085 }
     requires left { left.reader.cells ≡ K.cells }
     requires right { right.reader.cells ≡ K.cells }
 {
@@ -301,7 +298,7 @@ fn pay_twice<K: Run + Send + Sync, R: Threads + Wait + Clock + Sync>(
     parts: Parts,
 ) -> Result<Outcome, Fail>
     requires fresh { IsFresh parts }
-    requires cells { length (cells_of parts) ≡ 23 }
+    requires cells { length (cells_of parts) ≡ 1085 }
     requires run { (first_of parts ≡ K.first) × (cells_of parts ≡ K.cells) }
     requires ledger { (ledger_name parts ≡ K.name) × (ledger_parts parts ≡ K.parts) }
 {
@@ -328,18 +325,9 @@ fn the_second_of_two_conflicts(rt: HostRuntime) -> Result<(), Fail> {
     assert_eq!(rt; opened.tids, [2; 4]);
     assert_eq!(rt; before.commits, 1);
     assert_eq!(rt; after, before);
-    assert_eq!(rt;
-        (opened.payments, opened.year_to_date),
-        (20, Some(Cents::new(20_000)))
-    );
-    assert_eq!(rt;
-        (before.payments, before.year_to_date),
-        (21, Some(Cents::new(20_100)))
-    );
-    assert_eq!(rt;
-        (end.payments, end.year_to_date),
-        (22, Some(Cents::new(20_200)))
-    );
+    assert_eq!(rt; opened.year_to_date, Some(20_000));
+    assert_eq!(rt; before.year_to_date, Some(20_100));
+    assert_eq!(rt; end.year_to_date, Some(20_200));
     assert_eq!(rt; end.commits, 2);
     let (one, two) = (4_294_967_306, 4_294_967_314);
     assert_eq!(rt; end.tids, [two, two, one, two]);

@@ -25,7 +25,7 @@ fn populated(record: u32, payload: [u64; 7]) -> Version {
 /// The versions of the warehouse, the first district and its third customer.
 fn read_three<R: Wait>(rt: &R, cells: &Cells, reader: &mut Reader) -> [Version; 3]
     requires own { reader.old.cells ≡ cells.now }
-    requires count { length cells.now ≡ 23 }
+    requires count { length cells.now ≡ 1085 }
     ensures { reader.new.cells ≡ cells.now }
 {
     let warehouse = cells.read(rt, reader, 0);
@@ -108,7 +108,7 @@ fn tid_words(rt: HostRuntime) {
 
 /// Stores versions of the warehouse whose payloads are all their TID's number.
 fn store_turns<R: Wait>(rt: &R, cells: &Cells, mut pen: Pen)
-    requires own { (pen.cells ≡ cells.now) × (length cells.now ≡ 23) }
+    requires own { (pen.cells ≡ cells.now) × (length cells.now ≡ 1085) }
     requires first { last_tid (at pen.all 0) ≡ 0 }
 {
     for turn in 1..TURNS {
@@ -123,7 +123,7 @@ fn payload_of(turn: u64) -> [u64; 7] {
 
 /// Whether each version of the warehouse that it reads is whole, and none is older than the one before.
 fn read_turns<R: Wait>(rt: &R, cells: &Cells, mut reader: Reader) -> bool
-    requires { (reader.cells ≡ cells.now) × (length cells.now ≡ 23) }
+    requires { (reader.cells ≡ cells.now) × (length cells.now ≡ 1085) }
 {
     let mut last = 0;
     let mut is_well = true;
@@ -137,7 +137,7 @@ fn read_turns<R: Wait>(rt: &R, cells: &Cells, mut reader: Reader) -> bool
 }
 
 fn both<R: Threads + Wait + Sync>(rt: &R, cells: &Cells, pen: Pen, reader: Reader) -> bool
-    requires own { (pen.cells ≡ cells.now) × (reader.cells ≡ cells.now) × (length cells.now ≡ 23) }
+    requires own { (pen.cells ≡ cells.now) × (reader.cells ≡ cells.now) × (length cells.now ≡ 1085) }
     requires first { last_tid (at pen.all 0) ≡ 0 }
 {
     let (_, is_well) = join(

@@ -15,7 +15,7 @@ use tables::Input;
 
 pub(crate) fn parts<R: Wait>(rt: &R, alloc: Global) -> Result<Parts, Refusal>
     ensures fresh { IfOk result IsFresh }
-    ensures cells { IfOk result (λ parts. length (cells_of parts) ≡ 23) }
+    ensures cells { IfOk result (λ parts. length (cells_of parts) ≡ 1085) }
 {
     Parts::new(rt, alloc, small(alloc)?, 2)
 }

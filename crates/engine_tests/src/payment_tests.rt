@@ -3,7 +3,7 @@ ghost use Rattle.std.specs.Prelude.{◌≡◌, ◌≢◌, ℕ, ◌<◌, length, 
 ghost use Rattle.tables.specs.Payment.{IsPayment};
 ghost use Rattle.cells.specs.Records.{at};
 ghost use Rattle.cells.specs.Versions.{last_tid};
-ghost use Rattle.cells.specs.First.{cell_count};
+ghost use Rattle.tables.specs.Records.{record_count};
 ghost use Rattle.population.specs.Initial.{initial};
 
 use crate::payments::{history_row, payment, payment_reply, reply};
@@ -121,7 +121,7 @@ fn seen_of(work: &Work) -> Seen {
 
 /// Executes a payment.
 fn pay<R: Wait>(rt: &R, alloc: Global, stage: &mut Stage, amount: i64) -> Result<Seen, Refusal>
-    requires scale { length stage.old.cells ≡ cell_count (initial stage.old.population).scale }
+    requires scale { length stage.old.cells ≡ record_count (initial stage.old.population).scale }
     requires reader { stage.old.reader.cells ≡ stage.old.cells }
     ensures population { stage.new.population ≡ stage.old.population }
     ensures cells { stage.new.cells ≡ stage.old.cells }
@@ -180,12 +180,12 @@ fn pay_and_store<R: Wait>(
     stage: &mut Stage,
     amount: i64,
 ) -> Result<Seen, Refusal>
-    requires count { length stage.old.cells ≡ 23 }
-    requires scale { length stage.old.cells ≡ cell_count (initial stage.old.population).scale }
+    requires count { length stage.old.cells ≡ 1085 }
+    requires scale { length stage.old.cells ≡ record_count (initial stage.old.population).scale }
     requires pen { stage.old.pen.cells ≡ stage.old.cells }
     requires reader { stage.old.reader.cells ≡ stage.old.cells }
     requires first { (n : ℕ) → last_tid (at stage.old.pen.all n) ≡ 0 }
-    ensures scale { length stage.new.cells ≡ cell_count (initial stage.new.population).scale }
+    ensures scale { length stage.new.cells ≡ record_count (initial stage.new.population).scale }
     ensures reader { stage.new.reader.cells ≡ stage.new.cells }
 {
     let seen = pay(rt, alloc, stage, amount)?;
@@ -226,7 +226,7 @@ fn outcome<R: Wait>(
     number: u32,
     value: Option<[u64; 7]>,
 ) -> Result<Result<Seen, Refusal>, Fail>
-    requires { number < 23 }
+    requires { number < 1085 }
 {
     let mut stage = open(rt, alloc)?;
     store(rt, &mut stage, number, value);
@@ -267,7 +267,7 @@ fn is_stale<R: Wait>(
     number: u32,
     value: Option<[u64; 7]>,
 ) -> Result<bool, Fail>
-    requires { number < 23 }
+    requires { number < 1085 }
 {
     let outcome = outcome(rt, alloc, number, value)?;
     Ok(matches!(outcome, Err(Refusal::Stale)))

@@ -20,7 +20,7 @@ struct Seen {
 
 /// Reads the warehouse, twice.
 fn read<R: Wait>(rt: &R, alloc: Global, stage: &mut Stage) -> Result<ReadSet, Refusal>
-    requires count { length stage.old.cells ≡ 23 }
+    requires count { length stage.old.cells ≡ 1085 }
     requires reader { stage.old.reader.cells ≡ stage.old.cells }
 {
     let mut reads = ReadSet::new(alloc);

@@ -1,14 +1,15 @@
-//! The plain population of one warehouse, two districts and ten customers a district, on its 23 cells: record 0 is
+//! The plain population of one warehouse, two districts and ten customers a district, on its 1,085 cells: record 0 is
 //! the warehouse, 1 and 2 are the districts, and from 3 on there are the customers of the first district.
-ghost use Rattle.std.specs.Prelude.{◌≡◌, ℕ, length, IfOk};
+ghost use Rattle.std.specs.Prelude.{◌≡◌, ◌<◌, ℕ, length, IfOk};
 ghost use Rattle.population.specs.Initial.{initial};
-ghost use Rattle.cells.specs.First.{cell_count};
+ghost use Rattle.tables.specs.Records.{record_count};
 ghost use Rattle.cells.specs.Records.{at};
 ghost use Rattle.cells.specs.Versions.{last_tid};
 
 use cells::{Cells, Pen, Reader};
 use money::Refusal;
 use population::Population;
+use records::newest_of;
 use std::alloc::Global;
 use std::sync::Wait;
 use std::test::Fail;
@@ -24,7 +25,7 @@ pub(crate) const DISTRICT: [u64; 7] = [10_000, 11, 0, 0, 0, 0, 0];
 pub(crate) const CUSTOMER: [u64; 7] = [u64::MAX - 999, 1_000, 1, 0, 0, 0, 0];
 
 pub(crate) fn small(alloc: Global) -> Result<Population, Refusal>
-    ensures { IfOk result (λ population. cell_count (initial population).scale ≡ 23) }
+    ensures { IfOk result (λ population. record_count (initial population).scale ≡ 1085) }
 {
     Population::plain(alloc, Scale::new(1, 2, 10, 20, 30, 1_000)?)
 }
@@ -39,14 +40,15 @@ pub(crate) struct Stage {
 }
 
 pub(crate) fn open<R: Wait>(rt: &R, alloc: Global) -> Result<Stage, Fail>
-    ensures count { IfOk result (λ s. length s.cells ≡ 23) }
-    ensures scale { IfOk result (λ s. length s.cells ≡ cell_count (initial s.population).scale) }
+    ensures count { IfOk result (λ s. length s.cells ≡ 1085) }
+    ensures scale { IfOk result (λ s. length s.cells ≡ record_count (initial s.population).scale) }
     ensures pen { IfOk result (λ s. s.pen.cells ≡ s.cells) }
     ensures reader { IfOk result (λ s. s.reader.cells ≡ s.cells) }
-    ensures first { IfOk result (λ s. (n : ℕ) → last_tid (at s.pen.all n) ≡ 0) }
+    ensures first { IfOk result (λ s. (n : ℕ) → n < length s.cells → last_tid (at s.pen.all n) ≡ 0) }
 {
     let population = small(alloc)?;
-    let (cells, pen, mut readers) = Cells::new(rt, alloc, &population, 1)?;
+    let newest = newest_of(alloc, &population)?;
+    let (cells, pen, mut readers) = Cells::new(rt, alloc, &newest, 1)?;
     let reader = readers.pop().ok_or("reader")?;
     Ok(Stage {
         population,

@@ -1,15 +1,16 @@
--- The numbers of a Payment's three records: each has a cell.
-use Rattle.std.proofs.Common.{◌<◌, arith}
+-- The numbers of a Payment's three records: each is a record's.
+use Rattle.std.proofs.Common.{◌<◌}
 use Rattle.tables.specs.Sizes.{Sizes}
 use Rattle.tables.specs.Payment.{IsPayment, payer}
-use Rattle.tables.proofs.Numbers.{warehouse_there, district_there, customer_there}
+use Rattle.tables.specs.Records.{record_count}
+use Rattle.tables.proofs.Numbers.{named}
+use Rattle.tables.specs.declared.records.RecordKey.TheVariants as key
 use Rattle.tables.specs.declared.payment.PaymentInput.{PaymentInput}
-use Rattle.cells.specs.First.{cell_count}
 use Rattle.payment.specs.Steps.{warehouse_record, district_record, customer_record}
 
-pub have_cells : (s : Sizes) (x : PaymentInput) → IsPayment s x → (warehouse_record s x < cell_count s) × (district_record s x < cell_count s) × (customer_record s x < cell_count s)
-have_cells s x h =
-    let w = warehouse_there s x.warehouse h.warehouse in
-    let d = district_there s (record { warehouse = x.warehouse; district = x.district }) (h.warehouse, h.district) in
-    let c = customer_there s (payer x) (h.customer_warehouse, h.customer_district, h.customer) in
-    (omega (arith, w.0), omega (arith, d.0), omega (arith, c.0))
+pub are_records : (s : Sizes) (x : PaymentInput) → IsPayment s x → (warehouse_record s x < record_count s) × (district_record s x < record_count s) × (customer_record s x < record_count s)
+are_records s x h = (
+  (named s (key.Warehouse x.warehouse) h.warehouse).0,
+  (named s (key.District (record { warehouse = x.warehouse; district = x.district })) (h.warehouse, h.district)).0,
+  (named s (key.Customer (payer x)) (h.customer_warehouse, h.customer_district, h.customer)).0,
+)

@@ -7,7 +7,7 @@ ghost use Rattle.tables.specs.declared.rows.Warehouse.{Warehouse};
 ghost use Rattle.tables.specs.declared.rows.District.{District};
 ghost use Rattle.tables.specs.declared.rows.Customer.{Customer};
 ghost use Rattle.money.specs.declared.refusal.Refusal.TheVariants.{OutOfMemory, Stale};
-ghost use Rattle.cells.specs.First.{cell_count};
+ghost use Rattle.tables.specs.Records.{record_count};
 ghost use Rattle.cells.specs.Records.{HasGrown};
 ghost use Rattle.cells.specs.declared.cells.Version.{Version};
 ghost use Rattle.population.specs.Initial.{initial};
@@ -70,7 +70,7 @@ pub fn execute<R: Wait>(
 ) -> Result<Work, Refusal>
     requires input { IsPayment (initial population.now).scale payment.now }
     requires own { reader.old.cells ≡ cells.now }
-    requires cells { length cells.now ≡ cell_count (initial population.now).scale }
+    requires cells { length cells.now ≡ record_count (initial population.now).scale }
     ensures input { IfOk result (λ work. work.input ≡ input_variants.Payment payment.now) }
     ensures read { IfOk result (λ work. AreRead reader.old reader.new work.reads) }
     ensures explains { IfOk result (λ work. Explains (initial population.now) (input_variants.Payment payment.now) work.reads work.writes work.reply) }

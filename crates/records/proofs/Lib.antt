@@ -3,5 +3,13 @@ pub mod Numbered
 pub mod Determined
 pub mod Held
 pub mod Values
+pub mod FromWords
 mod Decoded
 mod Puts
+mod Below
+pub mod Positions
+mod EachEntry
+mod Begun
+mod BegunTables
+mod BegunRows
+mod BegunNumbers

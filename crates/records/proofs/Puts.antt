@@ -48,7 +48,7 @@ module _ {K X : Type 0} {R : K → K → Ordering} (o : IsExact R) (m : FinMap R
   }
 
 -- a table of values that are the same at its keys
-same_values : {K X : Type 0} {R : K → K → Ordering} (IsKey : K → Type 0) (IsIn : K → X → Type 0) (words : X → List ℕ) (value more : K → Option (List ℕ)) (m : FinMap R X) → ((q : K) → IsKey q → more q ≡ value q) → IsTableOf IsKey IsIn words value m → IsTableOf IsKey IsIn words more m
+pub same_values : {K X : Type 0} {R : K → K → Ordering} (IsKey : K → Type 0) (IsIn : K → X → Type 0) (words : X → List ℕ) (value more : K → Option (List ℕ)) (m : FinMap R X) → ((q : K) → IsKey q → more q ≡ value q) → IsTableOf IsKey IsIn words value m → IsTableOf IsKey IsIn words more m
 same_values IsKey IsIn words value more m same a = record { within = a.within; each = a.each; rows = λ q is. a.rows q is ∙ sym (same q is) }
 
 module _ (t0 t : Database) (values more : RecordKey → Option (List ℕ)) (k : RecordKey) (others : (j : RecordKey) → IsRecordKey t0.scale j → j ≢ k → more j ≡ values j) (a : AreTables t0 values t) where

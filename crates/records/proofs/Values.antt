@@ -16,6 +16,7 @@ use Rattle.tables.specs.declared.records.RecordKey.{RecordKey}
 use Rattle.tables.specs.declared.records.RecordKey.TheVariants as key
 use Rattle.tables.proofs.Numbers.{numbered, row_numbered}
 use Rattle.records.specs.Held.{row_count, by_key, IsTableOf, AreTables}
+use Rattle.records.specs.Newest.{AreLawful}
 use Rattle.records.specs.Puts.{IsRow, MayHold}
 
 -- the value at a key where a row always stands
@@ -50,6 +51,9 @@ row_held t0 values t a (key.Last k) is row = absurd row
 
 among_all : (s : Sizes) (n : ℕ) → n < row_count s → n < record_count s
 among_all s n h = omega arith
+
+pub lawful_values : (t : Database) → IsWellFormed t → AreLawful t.scale (rows t)
+lawful_values t wf n h = lawful_rows t wf (key_of t.scale n) (numbered t.scale n (among_all t.scale n h)).0
 
 pub rows_held : (t0 : Database) (values : ℕ → Option (List ℕ)) (t : Database) → AreTables t0 (by_key t0.scale values) t → (n : ℕ) → n < row_count t0.scale → rows t n ≡ values n
 rows_held t0 values t a n h =

@@ -1,3 +1,5 @@
 pub mod Words
 pub mod Held
 pub mod Puts
+pub mod Newest
+pub mod Begun

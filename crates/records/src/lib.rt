@@ -20,12 +20,18 @@ ghost use Rattle.tables.specs.declared.rows.OrderLine.{OrderLine};
 ghost use Rattle.tables.specs.declared.rows.Stock.{Stock};
 ghost use Rattle.records.specs.Words.{warehouse_of, district_of, customer_of, order_of_words, line_of_words, stock_of_words};
 ghost use Rattle.records.specs.Held.{row_count, by_key, AreTables};
+ghost use Rattle.records.specs.Newest.{AreLawful};
 ghost use Rattle.records.specs.Puts.{MayHold};
 
+mod beginnings;
+mod building;
 mod decode;
+mod first;
 mod putting;
 
+pub use building::tables_of;
 pub use decode::{customer_of, district_of, line_of, order_of, stock_of, warehouse_of};
+pub use first::newest_of;
 pub use putting::put;
 
 /// Two well-formed tables that a population's may become are the same where the records of rows hold the same
@@ -50,6 +56,7 @@ pub fn values_determine_tables()
 pub fn values_are_held()
     ensures may_hold { (t : Database) → IsWellFormed t → (k : RecordKey) → IsRecordKey t.scale k
         → MayHold t.scale k (row_at t k) }
+    ensures lawful { (t : Database) → IsWellFormed t → AreLawful t.scale (rows t) }
     ensures rows { (t0 t : Database) (values : ℕ → Option (List ℕ)) → AreTables t0 (by_key t0.scale values) t
         → (n : ℕ) → n < row_count t0.scale → rows t n ≡ values n }
     ensures population { (t0 t : Database) (values : RecordKey → Option (List ℕ)) → IsWellFormed t0

@@ -1,4 +1,5 @@
 mod TurnLemmas
+mod Shown
 mod DeskLemmas
 mod Progress
 mod OneRun

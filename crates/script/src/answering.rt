@@ -9,20 +9,18 @@ ghost use Rattle.lines.specs.Lines.{held};
 ghost use Rattle.lines.specs.Requests.{HasNumbers};
 ghost use Rattle.lines.specs.declared.answer.Answer.TheVariants as answer;
 ghost use Rattle.lines.specs.declared.request.Request.{Request as RequestValue};
-ghost use Rattle.lines.specs.declared.request.Request.TheVariants as request;
-ghost use Rattle.tables.specs.Database.{database};
 ghost use Rattle.tables.specs.Inputs.{IsInput, IsExecuted};
-ghost use Rattle.tables.specs.WellFormed.{IsWellFormed};
 ghost use Rattle.tables.specs.declared.input.Input.{Input as InputValue};
 ghost use Rattle.script.specs.Answered.{state_of, IsMade, Shows};
 ghost use Rattle.script.specs.Turns.{State, IsInputTurn, IsShowTurn, IsRequestTurn, IsLineTurn, answer_of};
 
+use crate::showing::{show_customer, show_district, show_warehouse};
 use book::{Done, Run};
 use lines::{Answer, Request, read_request};
 use money::Refusal;
 use session::Session;
 use std::sync::Wait;
-use tables::{CustomerKey, DistrictKey, Input, PaymentInput, Reply, Tables, Who};
+use tables::{CustomerKey, DistrictKey, Input, PaymentInput, Reply, Who};
 
 /// Answers the line of a script that has this number, which is its date too. `None` is a line that is too
 /// long. What the line asks is done or refused, and the answer tells which; only want of memory is a
@@ -76,11 +74,12 @@ fn answer_request<K: Run, R: Wait>(
                 who: Who::Id(customer),
                 amount,
             };
-            let made = Input::payment(&session.tables().scale, payment);
+            let scale = session.population().scale();
+            let made = Input::payment(&scale, payment);
             commit(rt, session, made, number)
         }
         Request::ShowWarehouse { warehouse } => {
-            let row = show_warehouse(session.tables(), warehouse);
+            let row = show_warehouse(session, warehouse);
             Ok(row_or_refused(row, number))
         }
         Request::ShowDistrict {
@@ -88,7 +87,7 @@ fn answer_request<K: Run, R: Wait>(
             district,
         } => {
             let row = show_district(
-                session.tables(),
+                session,
                 DistrictKey {
                     warehouse,
                     district,
@@ -102,7 +101,7 @@ fn answer_request<K: Run, R: Wait>(
             customer,
         } => {
             let row = show_customer(
-                session.tables(),
+                session,
                 CustomerKey {
                     warehouse,
                     district,
@@ -157,33 +156,6 @@ fn told(reply: Reply) -> Answer
         Reply::Payment(reply) => Answer::Payment(reply),
         Reply::NewOrder(reply) => Answer::NewOrder(reply),
     }
-}
-
-/// The row of WAREHOUSE, which well-formed tables have exactly where its key is of the scale.
-fn show_warehouse(tables: &Tables, warehouse: u32) -> Option<Answer>
-    requires { IsWellFormed (database tables.now) }
-    ensures { Shows (database tables.now) (request.ShowWarehouse warehouse) result }
-{
-    let row = *tables.warehouses.get(&warehouse)?;
-    Some(Answer::Warehouse { warehouse, row })
-}
-
-/// The row of DISTRICT, which well-formed tables have exactly where its key is of the scale.
-fn show_district(tables: &Tables, key: DistrictKey) -> Option<Answer>
-    requires { IsWellFormed (database tables.now) }
-    ensures { Shows (database tables.now) (request.ShowDistrict key.warehouse key.district) result }
-{
-    let row = *tables.districts.get(&key)?;
-    Some(Answer::District { key, row })
-}
-
-/// The row of CUSTOMER, which well-formed tables have exactly where its key is of the scale.
-fn show_customer(tables: &Tables, key: CustomerKey) -> Option<Answer>
-    requires { IsWellFormed (database tables.now) }
-    ensures { Shows (database tables.now) (request.ShowCustomer key.warehouse key.district key.customer) result }
-{
-    let row = *tables.customers.get(&key)?;
-    Some(Answer::Customer { key, row })
 }
 
 fn refused(refusal: Refusal, number: u32) -> Answer

@@ -3,6 +3,7 @@
 
 mod answering;
 mod running;
+mod showing;
 mod turns;
 
 pub use running::{script, write_text};

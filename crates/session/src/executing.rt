@@ -3,7 +3,7 @@ ghost use Rattle.std.specs.Prelude.{◌≡◌, ◌⊎◌, length, IfOk, IfErr};
 ghost use Rattle.tables.specs.Inputs.{IsInput, IsExecuted};
 ghost use Rattle.money.specs.declared.refusal.Refusal.TheVariants.{OutOfMemory, Stale};
 ghost use Rattle.population.specs.Initial.{initial};
-ghost use Rattle.cells.specs.First.{cell_count};
+ghost use Rattle.tables.specs.Records.{record_count};
 ghost use Rattle.cells.specs.Records.{HasGrown};
 ghost use Rattle.readset.specs.Reads.{ReadSetView, AreRead};
 ghost use Rattle.readset.specs.Explains.{Explains, NoneMayBe, IsWithinLimits};
@@ -34,7 +34,7 @@ pub fn execute<R: Wait>(
     requires input { IsInput (initial population.now).scale input.now }
     requires executed { IsExecuted input.now }
     requires own { reader.old.cells ≡ cells.now }
-    requires cells { length cells.now ≡ cell_count (initial population.now).scale }
+    requires cells { length cells.now ≡ record_count (initial population.now).scale }
     ensures input { IfOk result (λ work. work.input ≡ input.now) }
     ensures read { IfOk result (λ work. AreRead reader.old reader.new work.reads) }
     ensures explains { IfOk result (λ work.

@@ -1,9 +1,11 @@
 //! A terminal that has the book to itself.
 
-ghost use Rattle.std.specs.Prelude.{◌≡◌, ◌⊎◌, ◌≤◌, [], ◌∷◌, ◌++◌, length, IfOk, IfErr, OnOk, OnErr, IsErrOf};
-ghost use Rattle.tables.specs.Database.{database};
+ghost use Rattle.std.specs.Prelude.{◌≡◌, ◌⊎◌, ◌<◌, ◌≤◌, [], ◌∷◌, ◌++◌, length, IfOk, IfErr, OnOk, OnErr, IsErrOf};
 ghost use Rattle.tables.specs.Inputs.{IsInput, IsExecuted};
+ghost use Rattle.tables.specs.Records.{record_count};
+ghost use Rattle.tables.specs.Rows.{rows};
 ghost use Rattle.tables.specs.WellFormed.{IsWellFormed};
+ghost use Rattle.population.specs.Initial.{initial};
 ghost use Rattle.conditions.specs.Report.{IsReportOf};
 ghost use Rattle.book.specs.History.{replay};
 ghost use Rattle.std.specs.Option.{ForSome};
@@ -16,11 +18,12 @@ use crate::attempting::{attempt, commit_work};
 use book::{Book, Done, Engine, Run, Seat};
 use conditions::Report;
 use money::Refusal;
+use population::Population;
 use readset::Work;
 use std::alloc::Global;
 use std::marker::Model;
 use std::sync::{MutexGuard, Wait};
-use tables::{Input, Tables};
+use tables::Input;
 
 /// The one terminal of an engine. It has the book for as long as it lasts, since no other terminal waits for it.
 /// Contracts see the book's history, and what the terminal was told.
@@ -69,13 +72,23 @@ impl<'e, K: Run> Session<'e, K> {
         }
     }
 
-    /// The committed tables, which are well-formed.
-    pub fn tables(&self) -> &Tables
-        ensures tables { database result.now ≡ replay K.first self.now.history }
-        ensures scale { (database result.now).scale ≡ K.first.scale }
-        ensures well_formed { IsWellFormed (database result.now) }
+    /// The population that the run began with.
+    pub fn population(&self) -> &Population
+        ensures { initial result.now ≡ K.first }
     {
-        self.book.committed()
+        self.engine.population()
+    }
+
+    /// What one record holds in the committed tables, which are well-formed: its row's columns that change, as seven
+    /// words, or nothing where it is absent. Constant time, no memory.
+    pub fn record(&self, number: u32) -> Option<[u64; 7]>
+        requires { number < record_count K.first.scale }
+        ensures words { result ≡ rows (replay K.first self.now.history) number }
+        ensures well_formed { IsWellFormed (replay K.first self.now.history) }
+    {
+        // The history's contract says that the committed tables are well-formed.
+        let _ = self.book.history();
+        self.book.record(number)
     }
 
     /// Commits a transaction, and tries again for as long as what it read isn't the latest. What the terminal is told

@@ -1,6 +1,9 @@
 //! The primary keys of the tables that have one of several columns (TPC-C 1.3). The order of keys is that
 //! of their columns as they stand here, and each prints as its numbers in that order, as `1 1 8 5`.
 
+ghost use Rattle.std.specs.Prelude.{◌≡◌};
+ghost use Rattle.tables.specs.Keys.{order_of};
+
 use std::fmt::{self, Display};
 
 /// The key of DISTRICT: D_W_ID, D_ID.
@@ -33,6 +36,19 @@ pub struct LineKey {
     pub district: u32,
     pub order: u32,
     pub line: u32,
+}
+
+impl LineKey {
+    /// The key of the order that has the line.
+    pub fn order_key(&self) -> OrderKey
+        ensures { result ≡ order_of self.now }
+    {
+        OrderKey {
+            warehouse: self.warehouse,
+            district: self.district,
+            order: self.order,
+        }
+    }
 }
 
 /// The key of STOCK: S_W_ID, S_I_ID.

@@ -140,12 +140,7 @@ fn place_of_line(scale: &Scale, key: LineKey) -> u32
     ensures value { result ≡ place_of scale.now (record_key.OrderLine key) }
     ensures limit { result < size scale.now table.OrderLine }
 {
-    let order = OrderKey {
-        warehouse: key.warehouse,
-        district: key.district,
-        order: key.order,
-    };
-    let row = place_of_order(scale, order);
+    let row = place_of_order(scale, key.order_key());
     place(Table::OrderLine.size(scale), row, MAX_ORDER_LINES, key.line)
 }
 

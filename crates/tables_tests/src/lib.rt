@@ -2,6 +2,8 @@
 #![tactic(auto)]
 
 #[cfg(test)]
+mod building_tests;
+#[cfg(test)]
 mod conditions_tests;
 #[cfg(test)]
 mod decoding_tests;
@@ -9,6 +11,8 @@ mod decoding_tests;
 mod money_tests;
 #[cfg(test)]
 mod new_order_tests;
+#[cfg(test)]
+mod newest_tests;
 #[cfg(test)]
 mod population_tests;
 #[cfg(test)]

@@ -1,5 +1,6 @@
+use Rattle.book.specs.Ready.{AreNewest}
 use Rattle.book.proofs.Stores.{AreStored}
 use Rattle.book.proofs.steps.store.Given as goal
 
 abbrev pub invariant-loop-record : goal.invariant-loop-record
-invariant-loop-record g l = AreStored l.number l.fn.pen l.fn.reader l.writes l.pen l.reader l.record-iterator
+invariant-loop-record g l = AreStored l.number l.fn.pen l.fn.reader l.work.writes l.pen l.reader l.record-iterator × AreNewest l.pen l.newest

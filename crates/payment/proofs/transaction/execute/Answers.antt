@@ -8,7 +8,7 @@ use Rattle.payment.specs.Steps.{AreNewValues, warehouse_record, district_record,
 use Rattle.readset.specs.Reads.{held}
 use Rattle.readset.specs.Writes.{WriteSetView}
 use Rattle.payment.proofs.Explained.{rows_of, explains, each_written, three_written, same_values}
-use Rattle.payment.proofs.Numbered.{have_cells}
+use Rattle.payment.proofs.Numbered.{are_records}
 use Rattle.payment.proofs.transaction.execute.Goals as goal
 
 is_held : {X : Type 0} {w : Option X} {v : X} → w ≡ Some v → IsSome w
@@ -19,7 +19,7 @@ read-requires-clause-are_records g c =
     let x = c.args.payment.now in
     let s = c.scale.ensures in
     let records = c.records_of-records in
-    let there = have_cells (initial c.args.population.now).scale x c.requires.input in
+    let there = are_records (initial c.args.population.now).scale x c.requires.input in
     let w = records.ensures.warehouse ∙ ap (λ (q : Sizes). warehouse_record q x) s in
     let d = records.ensures.district ∙ ap (λ (q : Sizes). district_record q x) s in
     let k = records.ensures.customer ∙ ap (λ (q : Sizes). customer_record q x) s in

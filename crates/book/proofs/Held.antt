@@ -1,0 +1,41 @@
+-- What the newest versions say is what the committed tables have.
+use Rattle.std.proofs.Common.{◌≡◌, ℕ, ◌<◌, ◌≤◌, ◌++◌, List, Option, length, sym, ap, ◌∙◌, subst, arith}
+use Rattle.atomic_table.specs.Seated.{TableId}
+use Rattle.tables.specs.Sizes.{Sizes}
+use Rattle.tables.specs.Constant.{IsOf}
+use Rattle.tables.specs.WellFormed.{IsWellFormed}
+use Rattle.tables.specs.Database.{Database}
+use Rattle.tables.specs.Records.{record_count, key_of}
+use Rattle.tables.specs.Rows.{rows}
+use Rattle.cells.specs.declared.cells.Newest.{Newest}
+use Rattle.records.specs.Held.{row_count}
+use Rattle.records.specs.Newest.{words_at, value_at, AreLawful}
+use Rattle.records.proofs.Values.{lawful_values}
+use Rattle.records.specs.Puts.{MayHold}
+use Rattle.book.specs.History.{replay, rows_added}
+use Rattle.book.specs.Book.{BookView, IsSound}
+use Rattle.book.specs.Ready.{IsReady, AreNewest}
+use Rattle.book.proofs.Replaying.{replay-history}
+
+module _ (t0 : Database) (run_cells : List TableId) (k : BookView) (t : Database) (newest : List Newest) (sound : IsSound t0 run_cells k t) (ready : IsReady t0 run_cells k t) (are : AreNewest k.written newest) where
+  pub counted : length newest ≡ record_count t0.scale
+  counted = are.count ∙ ap length ready.cells ∙ ready.count
+
+  pub value_held : (n : ℕ) → n < record_count t0.scale → value_at newest n ≡ rows t n
+  value_held n h = sound.latest n (subst (λ m. n < m) (sym ready.count) h) (words_at newest n) (are.last n (subst (λ m. n < m) (sym counted) h))
+
+  rows_first : row_count t0.scale ≤ record_count t0.scale
+  rows_first = omega arith
+
+  -- they may be held
+  pub lawful : AreLawful t0.scale (value_at newest)
+  lawful n h =
+      let scale : t.scale ≡ t0.scale = ready.of_population.scale in
+      subst (λ (q : Sizes × Option (List ℕ)). MayHold q.0 (key_of q.0 n) q.1) (λ i. (scale i, sym (value_held n (omega (arith, h, rows_first))) i))
+      (lawful_values t sound.well_formed n (subst (λ (s : Sizes). n < row_count s) (sym scale) h))
+
+  -- tables that are told by them, whose HISTORY has the rows that were added, are the committed ones
+  pub are_committed : (made : Database) → replay t0 k.history ≡ t
+      → ((u : Database) → IsOf t0 u → IsWellFormed u → ((n : ℕ) → n < row_count t0.scale → rows u n ≡ value_at newest n) → u.history ≡ t0.history ++ rows_added k.history → made ≡ u) → made ≡ t
+  are_committed made is one = one t ready.of_population sound.well_formed (λ n h. sym (value_held n (omega (arith, h, rows_first))))
+      (ap (λ (u : Database). u.history) (sym is) ∙ replay-history 1 t0 k.history sound.legal.replays)
