@@ -24,7 +24,7 @@ pub record IsDrawable (n lines : ℕ) (r : Stock) : Type 0 where
 abbrev left : RequestedLine → Stock → ℕ
 left l r = cond (nat_le (l.quantity + MIN_STOCK) r.quantity) (r.quantity - l.quantity) (r.quantity + RESTOCK - l.quantity)
 
-left_in_range : (s : Sizes) (l : RequestedLine) (r : Stock) → IsRequestedLine s l → IsBetween MIN_STOCK MAX_STOCK r.quantity → IsBetween MIN_STOCK MAX_STOCK (left l r)
+pub left_in_range : (s : Sizes) (l : RequestedLine) (r : Stock) → IsRequestedLine s l → IsBetween MIN_STOCK MAX_STOCK r.quantity → IsBetween MIN_STOCK MAX_STOCK (left l r)
 left_in_range s l r ok h =
     elim (nat_le (l.quantity + MIN_STOCK) r.quantity) as (λ b. nat_le (l.quantity + MIN_STOCK) r.quantity ≡ b → IsBetween MIN_STOCK MAX_STOCK (cond b (r.quantity - l.quantity) (r.quantity + RESTOCK - l.quantity))) [
       | true ↦ λ e. let q : l.quantity + MIN_STOCK ≤ r.quantity = grind (arith, nat_tests) in (omega (arith, h.0, h.1, ok.quantity.0, ok.quantity.1), omega (arith, h.0, h.1, ok.quantity.0, ok.quantity.1))

@@ -1,12 +1,13 @@
 pub mod Updates
 pub mod Rows
+pub mod Touched
 mod Inserts
 mod Room
 pub mod OrderNumbers
 pub mod NewKey
 mod NewLines
 mod PaymentKeeps
-mod Draws
+pub mod Draws
 mod NewOrderKeepsConsistent
 mod NewOrderKeepsWellFormed
 mod NewOrderKeepsConstants

@@ -1,6 +1,6 @@
 -- What a Payment changes of the records.
-use Rattle.std.proofs.Common.{◌≡◌, ◌≢◌, ℕ, ◌-ℤ◌, Bool, true, false, cond, List, Option, Some, refl, sym, ap, ◌∙◌, ◌==◌, ◌&&◌, true≢false}
-use Rattle.std.proofs.lemmas.Bool.{eqb-true, eq-eqb}
+use Rattle.std.proofs.Common.{◌≡◌, ◌≢◌, ℕ, ◌-ℤ◌, Bool, true, cond, List, Option, Some, refl, sym, ap, ◌∙◌, ◌==◌, ◌&&◌}
+use Rattle.std.proofs.lemmas.Bool.{eqb-true}
 use Rattle.std.specs.Option.{option_map, option_map_or, unwrap_or}
 use Rattle.std.specs.FinMap.{FinMap, get}
 use Rattle.tables.specs.Database.{Database}
@@ -11,9 +11,8 @@ use Rattle.tables.specs.Payment.{payer, after_payment, raised_warehouse, raised_
 use Rattle.tables.specs.OrderNumbers.{least, numbers_in}
 use Rattle.tables.specs.Rows.{row_at, number_words, warehouse_words, district_words, customer_words}
 use Rattle.tables.proofs.Orders.{IsExact, exact_number, exact_district, exact_customer}
-use Rattle.laws.proofs.Updates.{get-map_rows, column-update_where, kept-update_where}
-use Rattle.tables.specs.declared.keys.DistrictKey.{DistrictKey}
-use Rattle.tables.specs.declared.keys.CustomerKey.{CustomerKey}
+use Rattle.laws.proofs.Updates.{column-update_where, kept-update_where}
+use Rattle.laws.proofs.Touched.{self, district_named, customer_named, untouched, touched}
 use Rattle.tables.specs.declared.records.RecordKey.{RecordKey}
 use Rattle.tables.specs.declared.records.RecordKey.TheVariants as key
 use Rattle.tables.specs.declared.rows.Warehouse.{Warehouse}
@@ -21,44 +20,21 @@ use Rattle.tables.specs.declared.rows.District.{District}
 use Rattle.tables.specs.declared.rows.Customer.{Customer}
 use Rattle.tables.specs.declared.payment.PaymentInput.{PaymentInput}
 
-both : (a b : Bool) → (a && b) ≡ true → (a ≡ true) × (b ≡ true)
-both true b h = (refl, h)
-both false b h = absurd (true≢false (sym h))
-
--- a test that names one key passes at that key alone
-district_named : (w d : ℕ) (k : DistrictKey) → is_district w d k ≡ true → record { warehouse = w; district = d } ≡ k
-district_named w d k h = let p = both (w == k.warehouse) (d == k.district) h in
-    λ i. record { warehouse = eqb-true w k.warehouse p.0 i; district = eqb-true d k.district p.1 i }
-
-customer_named : (w d c : ℕ) (k : CustomerKey) → is_customer w d c k ≡ true → record { warehouse = w; district = d; customer = c } ≡ k
-customer_named w d c k h =
-    let p = both ((w == k.warehouse) && (d == k.district)) (c == k.customer) h in
-    let q = both (w == k.warehouse) (d == k.district) p.0 in
-    λ i. record { warehouse = eqb-true w k.warehouse q.0 i; district = eqb-true d k.district q.1 i; customer = eqb-true c k.customer p.1 i }
-
-self : (n : ℕ) → (n == n) ≡ true
-self n = eq-eqb n n refl
-
--- a row that no update touches, and the one that it touches
-module _ {K X : Type 0} {R : K → K → Rattle.std.specs.declared.cmp.Ordering.Ordering} (o : IsExact R) (p : K → Bool) (g : X → X) (words : X → List ℕ) (m : FinMap R X) where
-  untouched : (k : K) → (p k ≡ true → ⊥) → option_map words (get (update_where p g m) k) ≡ option_map words (get m k)
-  untouched k never = kept-update_where o p g (option_map words) m k (λ h. absurd (never h))
-
-  touched : (k : K) (r : X) → p k ≡ true → get m k ≡ Some r → option_map words (get (update_where p g m) k) ≡ Some (words (g r))
-  touched k r h found =
-      ap (option_map words) (get-map_rows o (λ j s. cond (p j) (g s) s) m k)
-      ∙ (λ i. option_map words (option_map (λ s. cond (h i) (g s) s) (found i)))
+-- the row that an update touches
+changed : {K X : Type 0} {R : K → K → Rattle.std.specs.declared.cmp.Ordering.Ordering} (o : IsExact R) (p : K → Bool) (g : X → X) (words : X → List ℕ) (m : FinMap R X) (k : K) (r : X)
+    → p k ≡ true → get m k ≡ Some r → option_map words (get (update_where p g m) k) ≡ Some (words (g r))
+changed o p g words m k r h found = touched o words m p g k h ∙ ap (option_map (λ r. words (g r))) found
 
 module _ (t : Database) (x : PaymentInput) where
   -- the records of all keys but three are as before
   pub others : (k : RecordKey) → k ≢ key.Warehouse x.warehouse → k ≢ key.District (record { warehouse = x.warehouse; district = x.district }) → k ≢ key.Customer (payer x)
       → row_at (after_payment t x) k ≡ row_at t k
-  others (key.Warehouse w) a b c = untouched exact_number (λ w. x.warehouse == w) (raised_warehouse x.amount) warehouse_words t.warehouses w
+  others (key.Warehouse w) a b c = untouched exact_number warehouse_words t.warehouses (λ w. x.warehouse == w) (raised_warehouse x.amount) w
       (λ h. a (ap key.Warehouse (sym (eqb-true x.warehouse w h))))
-  others (key.District k) a b c = untouched exact_district (is_district x.warehouse x.district) (raised_district x.amount) district_words t.districts k
+  others (key.District k) a b c = untouched exact_district district_words t.districts (is_district x.warehouse x.district) (raised_district x.amount) k
       (λ h. b (ap key.District (sym (district_named x.warehouse x.district k h))))
-  others (key.Customer k) a b c = untouched exact_customer (is_customer x.customer_warehouse x.customer_district (customer_number x.who))
-      (charged_customer x.amount) customer_words t.customers k
+  others (key.Customer k) a b c = untouched exact_customer customer_words t.customers (is_customer x.customer_warehouse x.customer_district (customer_number x.who))
+      (charged_customer x.amount) k
       (λ h. c (ap key.Customer (sym (customer_named x.customer_warehouse x.customer_district (customer_number x.who) k h))))
   others (key.NewOrder k) a b c = refl
   others (key.Order k) a b c = refl
@@ -69,15 +45,15 @@ module _ (t : Database) (x : PaymentInput) where
   others (key.Last k) a b c = refl
 
   pub warehouse_changed : (r : Warehouse) → get t.warehouses x.warehouse ≡ Some r → row_at (after_payment t x) (key.Warehouse x.warehouse) ≡ Some (warehouse_words (raised_warehouse x.amount r))
-  warehouse_changed r found = touched exact_number (λ w. x.warehouse == w) (raised_warehouse x.amount) warehouse_words t.warehouses x.warehouse r (self x.warehouse) found
+  warehouse_changed r found = changed exact_number (λ w. x.warehouse == w) (raised_warehouse x.amount) warehouse_words t.warehouses x.warehouse r (self x.warehouse) found
 
   pub district_changed : (r : District) → get t.districts (record { warehouse = x.warehouse; district = x.district }) ≡ Some r
       → row_at (after_payment t x) (key.District (record { warehouse = x.warehouse; district = x.district })) ≡ Some (district_words (raised_district x.amount r))
-  district_changed r found = touched exact_district (is_district x.warehouse x.district) (raised_district x.amount) district_words t.districts
+  district_changed r found = changed exact_district (is_district x.warehouse x.district) (raised_district x.amount) district_words t.districts
       (record { warehouse = x.warehouse; district = x.district }) r (λ i. self x.warehouse i && self x.district i) found
 
   pub customer_changed : (r : Customer) → get t.customers (payer x) ≡ Some r → row_at (after_payment t x) (key.Customer (payer x)) ≡ Some (customer_words (charged_customer x.amount r))
-  customer_changed r found = touched exact_customer (is_customer x.customer_warehouse x.customer_district (customer_number x.who))
+  customer_changed r found = changed exact_customer (is_customer x.customer_warehouse x.customer_district (customer_number x.who))
       (charged_customer x.amount) customer_words t.customers (payer x) r
       (λ i. (self x.customer_warehouse i && self x.customer_district i) && self (customer_number x.who) i) found
 

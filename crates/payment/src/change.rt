@@ -1,7 +1,7 @@
 //! What a Payment makes of the three records that it reads (TPC-C 2.5.2.2).
-ghost use Rattle.std.specs.Prelude.{◌≡◌, ◌+◌, ◌+ℤ◌, ◌-ℤ◌, ◌≤ℤ◌, pos, Some, IfSome, IfNone};
+ghost use Rattle.std.specs.Prelude.{◌≡◌, ◌-ℤ◌, ◌≤ℤ◌, pos, Some};
 ghost use Rattle.tables.specs.WellFormed.{IsMoney, IsCustomerRow};
-ghost use Rattle.tables.specs.Rows.{money_of, money_word, warehouse_words, district_words, customer_words};
+ghost use Rattle.tables.specs.Rows.{warehouse_words, district_words, customer_words};
 ghost use Rattle.tables.specs.declared.rows.Warehouse.{Warehouse};
 ghost use Rattle.tables.specs.declared.rows.District.{District};
 ghost use Rattle.tables.specs.declared.rows.Customer.{Customer};
@@ -10,10 +10,10 @@ ghost use Rattle.tables.specs.declared.limits.TheConstants.{MAX_PAYMENT};
 ghost use Rattle.readset.specs.Reads.{value_of};
 
 use cells::Version;
-use money::{Cents, MAX_MONEY};
+use columns::{count_raised, money_column, money_raised};
+use money::Cents;
 use readset::value_of;
-use tables::limits::MAX_COUNT;
-use tables::{money_from_word, money_to_word};
+use tables::money_to_word;
 
 /// A customer's words after a Payment, and C_BALANCE.
 #[derive(Clone, Copy)]
@@ -31,7 +31,7 @@ pub fn raise_warehouse(version: &Version, amount: Cents) -> Option<[u64; 7]>
         → result ≡ Some (warehouse_words (raised_warehouse amount r)) }
 {
     let words = value_of(version)?;
-    Some([raise(words[0], amount)?, 0, 0, 0, 0, 0, 0])
+    Some([money_raised(words[0], amount)?, 0, 0, 0, 0, 0, 0])
 }
 
 /// D_YTD raised. None only where no district of well-formed tables has this version.
@@ -43,7 +43,7 @@ pub fn raise_district(version: &Version, amount: Cents) -> Option<[u64; 7]>
         → result ≡ Some (district_words (raised_district amount r)) }
 {
     let words = value_of(version)?;
-    Some([raise(words[0], amount)?, words[1], 0, 0, 0, 0, 0])
+    Some([money_raised(words[0], amount)?, words[1], 0, 0, 0, 0, 0])
 }
 
 /// C_BALANCE lowered, C_YTD_PAYMENT raised, and one payment more. None only where no customer of well-formed
@@ -55,41 +55,15 @@ pub fn charge_customer(version: &Version, amount: Cents) -> Option<Charged>
         → result ≡ Some (record { words = customer_words (charged_customer amount r); balance = r.balance -ℤ amount }) }
 {
     let words = value_of(version)?;
-    let balance = column(words[0])? - amount;
-    let paid = raise(words[1], amount)?;
-    if words[2] > u64::from(MAX_COUNT) {
-        return None;
-    }
+    let balance = money_column(words[0])? - amount;
     let words = [
         money_to_word(balance),
-        paid,
-        words[2] + 1,
+        money_raised(words[1], amount)?,
+        count_raised(words[2], 1)?,
         words[3],
         0,
         0,
         0,
     ];
     Some(Charged { words, balance })
-}
-
-/// A money column raised.
-fn raise(word: u64, amount: Cents) -> Option<u64>
-    requires low { pos 0 ≤ℤ amount }
-    requires high { amount ≤ℤ MAX_PAYMENT }
-    ensures { IsMoney (money_of word) → result ≡ Some (money_word (money_of word +ℤ amount)) }
-{
-    Some(money_to_word(column(word)? + amount))
-}
-
-/// The amount in a money column, where it is within its range.
-fn column(word: u64) -> Option<Cents>
-    ensures range { IfSome result (λ amount. (amount ≡ money_of word) × IsMoney amount) }
-    ensures none { IfNone result (¬ IsMoney (money_of word)) }
-{
-    let amount = money_from_word(word);
-    if Cents::new(-MAX_MONEY) <= amount && amount <= Cents::new(MAX_MONEY) {
-        Some(amount)
-    } else {
-        None
-    }
 }

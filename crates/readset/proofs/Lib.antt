@@ -1,6 +1,6 @@
 pub mod Numbers
 pub mod HoldsChanges
-mod LeftIs
+pub mod LeftIs
 pub mod MoreReads
 pub mod WrittenRecords
 mod Lookups

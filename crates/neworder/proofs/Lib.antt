@@ -1,0 +1,9 @@
+mod Opened
+mod Lined
+mod HoldsSteps
+mod Amounts
+mod Pricing
+mod Stocked
+mod Supplied
+mod Taken
+mod SoFar
