@@ -20,8 +20,8 @@ use std::alloc::{AllocError, Global};
 use tables::{History, Scale, Table, Tables, key_of};
 
 /// Tables whose records of rows hold what these newest versions say, with these rows added to the population's
-/// HISTORY, and the population's columns that never change. A record whose newest version is absent has no row. The versions stand by record
-/// number; those of the index records may follow, and aren't read.
+/// HISTORY, and the population's columns that never change. A record whose newest version is absent has no row. The
+/// versions stand by record number; those of the index records may follow, and aren't read.
 ///
 /// Costs what populating costs, and a look at each record.
 ///
