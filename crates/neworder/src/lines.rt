@@ -18,15 +18,14 @@ ghost use Rattle.readset.specs.Explains.{NoneMayBe};
 ghost use Rattle.neworder.specs.Steps.{AreTaken};
 ghost use Rattle.neworder.specs.Drawn.{IsStockUpTo, NoneDrawable};
 
+use crate::rows::line_words;
 use crate::stock::drawn;
 use cells::{Cells, Reader};
 use money::{Cents, Refusal};
 use readset::{ReadSet, WriteSet};
 use std::alloc::Global;
 use std::sync::Wait;
-use tables::{
-    LineKey, OrderKey, OrderLine, RecordKey, RequestedLine, Scale, StockKey, number_of_key,
-};
+use tables::{LineKey, OrderKey, RecordKey, RequestedLine, Scale, StockKey, number_of_key};
 
 /// The records of a line: its ORDER-LINE record, what that is to hold, and its stock's record.
 #[derive(Clone, Copy)]
@@ -223,16 +222,10 @@ fn place_line(
         warehouse: line.supply_warehouse,
         item: line.item,
     };
-    let row = OrderLine {
-        item: line.item,
-        supply_warehouse: line.supply_warehouse,
-        delivery_date: None,
-        quantity: line.quantity,
-        amount,
-    };
+    let row = line_words(line, amount);
     Placed {
         line: number_of_key(scale, RecordKey::OrderLine(key)),
-        row: row.words(),
+        row,
         stock: number_of_key(scale, RecordKey::Stock(stock)),
     }
 }
