@@ -8,6 +8,7 @@ pub mod NewKey
 mod NewLines
 mod PaymentKeeps
 pub mod Draws
+pub mod LineAmount
 mod NewOrderKeepsConsistent
 mod NewOrderKeepsWellFormed
 mod NewOrderKeepsConstants

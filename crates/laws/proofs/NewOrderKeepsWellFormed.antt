@@ -1,6 +1,5 @@
 -- A New-Order keeps tables well-formed, and takes up the room of one commit.
-use Rattle.std.proofs.Common.{◌≡◌, ℕ, ◌+◌, ◌*◌, ◌≤◌, ℤ, pos, negsuc, ◌*ℤ◌, ◌≤ℤ◌, true, false, cond, Option, Some, None, IsSome, is_some, List, [], ◌∷◌, length, All, refl, sym, ap, ◌∙◌, subst, arith, mul-le-mul}
-use Rattle.std.proofs.Math.IntN.{pos-*ℤ-pos}
+use Rattle.std.proofs.Common.{◌≡◌, ℕ, ◌+◌, ◌*◌, ◌≤◌, ℤ, pos, ◌*ℤ◌, ◌≤ℤ◌, true, false, cond, Option, Some, None, IsSome, is_some, List, [], ◌∷◌, length, All, refl, sym, ap, ◌∙◌, subst, arith}
 use Rattle.std.proofs.lemmas.Int.{ints}
 use Rattle.std.proofs.lemmas.List.Elements.{All-nil, All-cons, All-head, All-tail}
 use Rattle.std.specs.FinMap.{get}
@@ -13,7 +12,7 @@ use Rattle.tables.specs.Database.{Database}
 use Rattle.tables.specs.NewOrder.{IsNewOrder, IsRequestedLine, HasNumber, first_missing, home, buyer, new_key, numbered_district, order_row, line_amount, line_key, line_row, after_new_order}
 use Rattle.tables.specs.Conditions.{IsConsistent}
 use Rattle.tables.specs.WellFormed.{IsWellFormed, HasRoom, IsDistrictRow, IsOrderRow, IsLineRow, IsStockRow, IsMoneyFor, IsCountFor, orderer}
-use Rattle.tables.specs.declared.limits.TheConstants.{MAX_LINE_AMOUNT, MAX_PRICE, MAX_QUANTITY}
+use Rattle.tables.specs.declared.limits.TheConstants.{MAX_LINE_AMOUNT, MAX_QUANTITY}
 use Rattle.tables.specs.declared.keys.DistrictKey.{DistrictKey}
 use Rattle.tables.specs.declared.keys.LineKey.{LineKey}
 use Rattle.tables.specs.declared.rows.District.{District}
@@ -27,6 +26,7 @@ use Rattle.tables.proofs.KeyTests.{is_district-key}
 use Rattle.tables.proofs.Entries.{tied}
 use Rattle.laws.proofs.Room.{money_stays, is_count, room_stays}
 use Rattle.laws.proofs.Rows.{there, updated_rows, each_updated, each_inserted, get-inserted, within_each, within_inserted, still_there}
+use Rattle.laws.proofs.LineAmount.{amount_in_range}
 use Rattle.laws.proofs.NewKey.{order_stays}
 use Rattle.laws.proofs.NewLines.{each-with_lines}
 use Rattle.laws.proofs.Draws.{IsDrawable, draws_rows, draws_range}
@@ -43,15 +43,6 @@ none_missing t (l ∷ ls) none ok =
       | true ↦ λ e n. All-cons (IsSuppliable t) l ls (All-head (IsRequestedLine t.scale) l ls ok, e) (none_missing t ls n (All-tail (IsRequestedLine t.scale) l ls ok))
       | false ↦ λ e n. cc
     ] refl none
-
--- a quantity times a price
-amount_in_range : (q : ℕ) (z : ℤ) → q ≤ MAX_QUANTITY → pos 0 ≤ℤ z → z ≤ℤ MAX_PRICE → (pos 0 ≤ℤ (pos q *ℤ z)) × ((pos q *ℤ z) ≤ℤ MAX_LINE_AMOUNT)
-amount_in_range q (pos p) few low high =
-    let cheap : p ≤ 10000 = omega (arith, ints) in
-    let most : q * p ≤ 10 * 10000 = mul-le-mul few cheap in
-    let is : pos q *ℤ pos p ≡ pos (q * p) = pos-*ℤ-pos q p in
-    (omega (arith, ints), omega (arith, ints))
-amount_in_range q (negsuc p) few low high = absurd (omega (arith, ints))
 
 module _ (t : Database) (x : NewOrderInput) (n : ℕ) (ok : IsNewOrder t.scale x) (room : HasRoom (n + 1) t) (wf : IsWellFormed t) where
   stock_before : EachRow (λ k r. IsDrawable n (length x.lines) r) t.stock
@@ -119,6 +110,7 @@ module _ (t : Database) (x : NewOrderInput) (n : ℕ) (ok : IsNewOrder t.scale x
         let r = item.0 in
         let row = wf.item_rows l.item r item.1 in
         let is : line_amount t l ≡ pos l.quantity *ℤ r.price = ap (λ (w : Option Item). pos l.quantity *ℤ option_map_or (λ i. i.price) w (pos 0)) item.1 in
+        let cheap : (z : ℤ) → z ≤ℤ pos 100000 → z ≤ℤ MAX_LINE_AMOUNT = λ z h. omega (arith, ints) in
         let fits = amount_in_range l.quantity r.price s.0.quantity.1 row.at_least row.at_most in
         record {
           item = wf.items l.item s.1;
@@ -126,7 +118,7 @@ module _ (t : Database) (x : NewOrderInput) (n : ℕ) (ok : IsNewOrder t.scale x
           delivery_date = λ d e. cc;
           quantity = s.0.quantity;
           at_least = subst (λ a. pos 0 ≤ℤ a) (sym is) fits.0;
-          at_most = subst (λ a. a ≤ℤ MAX_LINE_AMOUNT) (sym is) fits.1;
+          at_most = subst (λ a. a ≤ℤ MAX_LINE_AMOUNT) (sym is) (cheap _ fits.1);
         }
 
     pub new_order_keeps_well_formed : IsWellFormed (after_new_order t x)
