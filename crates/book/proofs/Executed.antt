@@ -1,7 +1,7 @@
 -- What a reader that has executed a transaction has read.
 use Rattle.std.proofs.Common.{◌≡◌, ℕ, ◌<◌, Some, []}
 use Rattle.tables.specs.Database.{Database}
-use Rattle.tables.specs.Inputs.{IsInput, IsExecuted}
+use Rattle.tables.specs.Inputs.{IsInput}
 use Rattle.cells.specs.Records.{ReaderView}
 use Rattle.cells.specs.declared.cells.Version.{Version}
 use Rattle.readset.specs.Reads.{ReadSetView, AreRead, held}
@@ -17,11 +17,10 @@ read_by cells old new reads within read = record {
 }
 
 -- what was executed, by what its clauses say, is this reader's work
-pub work_of : (t0 : Database) (cells : ℕ) (old new : ReaderView) (work : Work) → IsInput t0.scale work.input → IsExecuted work.input → Explains t0 work.input work.reads work.writes work.reply
+pub work_of : (t0 : Database) (cells : ℕ) (old new : ReaderView) (work : Work) → IsInput t0.scale work.input → Explains t0 work.input work.reads work.writes work.reply
     → IsWithinLimits cells work.reads work.writes → AreRead old new work.reads → IsWorkOf t0 cells new work
-work_of t0 cells old new work input executed explained limits read = record {
+work_of t0 cells old new work input explained limits read = record {
   input = input;
-  executed = executed;
   explained = explained;
   limits = limits;
   read = read_by cells old new work.reads limits.reads_cells read;

@@ -1,15 +1,16 @@
 -- A commit keeps the book sound.
-use Rattle.std.proofs.Common.{◌≡◌, ◌≢◌, ℕ, ◌+◌, ◌-◌, ◌*◌, ◌/◌, ◌%◌, ◌^◌, ◌<◌, ◌≤◌, Bool, true, false, cond, Option, Some, None, List, [], ◌∷◌, ◌++◌, length, replicate, refl, sym, ap, ◌∙◌, subst, arith, length-append, ◌==◌, eqb}
+use Rattle.std.proofs.Common.{◌≡◌, ◌≢◌, ℕ, ◌+◌, ◌-◌, ◌*◌, ◌/◌, ◌%◌, ◌^◌, ◌<◌, ◌≤◌, Bool, true, false, cond, Option, Some, None, IsSome, List, [], ◌∷◌, ◌++◌, length, replicate, refl, sym, ap, ◌∙◌, subst, arith, length-append, ◌==◌, eqb}
 use Rattle.std.proofs.lemmas.List.{append-nil, append_assoc}
 use Rattle.std.specs.Option.{option_map_or, unwrap_or}
 use Rattle.atomic_table.specs.Seated.{TableId}
 use Rattle.tables.specs.Sizes.{Sizes}
 use Rattle.tables.specs.Database.{Database}
-use Rattle.tables.specs.Inputs.{IsInput, IsExecuted}
-use Rattle.tables.specs.Apply.{after, HasOrderNumber}
-use Rattle.tables.specs.declared.input.Input.{Input}
-use Rattle.tables.specs.declared.input.Input.TheVariants.{Payment, NewOrder}
-use Rattle.tables.specs.Records.{record_count}
+use Rattle.tables.specs.Inputs.{IsInput}
+use Rattle.tables.specs.Apply.{after}
+use Rattle.tables.specs.Keys.{IsDistrictKey}
+use Rattle.tables.specs.Records.{record_count, number_of_key}
+use Rattle.tables.specs.declared.keys.DistrictKey.{DistrictKey}
+use Rattle.tables.specs.declared.records.RecordKey.TheVariants as key
 use Rattle.tables.specs.Rows.{rows}
 use Rattle.tables.specs.WellFormed.{HasRoom}
 use Rattle.tables.specs.declared.limits.TheConstants.{MAX_COMMITS}
@@ -20,7 +21,8 @@ use Rattle.cells.specs.Versions.{EndsWith, tid, last_tid, value_in}
 use Rattle.cells.specs.Records.{PenView, ReaderView, at, words_of}
 use Rattle.cells.proofs.Rising.{last_tid-push}
 use Rattle.readset.specs.Writes.{rows_with, value_for}
-use Rattle.readset.specs.Explains.{Agrees, MayBe}
+use Rattle.readset.specs.Reads.{held}
+use Rattle.readset.specs.Explains.{Agrees, MayBe, IsNumbered}
 use Rattle.readset.specs.declared.work.Work.{Work}
 use Rattle.book.specs.History.{replay, commit_tid, commit_word, absent_word, IsDone, Replays, IsLegal, version_of, new_versions, entry_versions, later_versions}
 use Rattle.book.specs.Book.{BookView, IsSound, IsWorkOf, AreLatest, entry_of}
@@ -82,11 +84,18 @@ module _ (t0 : Database) (run_cells : List TableId) (k : BookView) (t : Database
   agrees : Agrees t work.reads
   agrees n v e = sound.latest n (is_work.read.within n v e) (words_of v) (latest n v e)
 
+  numbered : (k : DistrictKey) → IsDistrictKey t.scale k → IsSome (held work.reads (number_of_key t.scale (key.District k))) → IsNumbered t k
+  numbered k here _ = record { condition_2 = sound.consistent.condition_2 k here; condition_3 = sound.consistent.condition_3 k here; condition_6 = λ j _. sound.consistent.condition_6 j }
+
   pub may_be : MayBe t0 work.reads t
-  may_be = record { of_population = ready.of_population; well_formed = sound.well_formed; consistent = sound.consistent; agrees = agrees }
+  may_be = record { of_population = ready.of_population; well_formed = sound.well_formed; numbered = numbered; agrees = agrees }
 
   pub input_of : IsInput t.scale work.input
   input_of = subst (λ s. IsInput s work.input) (sym ready.of_population.scale) is_work.input
+
+  -- it is done at the tables that the history leads to, as any entry of it, whether it commits or not
+  pub done_there : (number terminal : ℕ) → IsDone (replay t0 k.history) (entry_of number terminal work)
+  done_there number terminal = subst (λ s. IsDone s (entry_of number terminal work)) (sym sound.legal.end) (record { input = input_of; commit = is_work.explained t may_be })
 
   module _ (terminal : ℕ) (new : PenView) (below_cap : length k.history < t0.scale.commits) (cells : new.cells ≡ k.written.cells)
       (stores : (n : ℕ) → at new.all n ≡ at k.written.all n ++ new_versions (length k.history + 1) work.writes.values n) where
@@ -99,26 +108,14 @@ module _ (t0 : Database) (run_cells : List TableId) (k : BookView) (t : Database
     longer : length (k.history ++ entry_of (length k.history + 1) terminal work ∷ []) ≡ length k.history + 1
     longer = length-append k.history (entry_of (length k.history + 1) terminal work ∷ [])
 
-    done : IsDone t (entry_of (length k.history + 1) terminal work)
-    done = record { input = input_of; commit = is_work.explained t may_be }
-
-    -- the same at the tables that the history leads to
-    pub done_there : IsDone (replay t0 k.history) (entry_of (length k.history + 1) terminal work)
-    done_there = subst (λ s. IsDone s (entry_of (length k.history + 1) terminal work)) (sym sound.legal.end) done
-
     legal : IsLegal t0 (k.history ++ entry_of (length k.history + 1) terminal work ∷ []) (after t work.input)
     legal = record {
-      replays = replays_push 1 t0 k.history (entry_of (length k.history + 1) terminal work) sound.legal.replays (turned (length k.history)) (ap commit_tid (turned (length k.history))) done_there;
+      replays = replays_push 1 t0 k.history (entry_of (length k.history + 1) terminal work) sound.legal.replays (turned (length k.history)) (ap commit_tid (turned (length k.history))) (done_there (length k.history + 1) terminal);
       end = replay_push t0 k.history (entry_of (length k.history + 1) terminal work) ∙ ap (λ s. after s work.input) sound.legal.end;
     }
       where
         turned : (n : ℕ) → n + 1 ≡ 1 + n
         turned n = omega arith
-
-    -- no input that is executed makes an order
-    numbered : (x : Input) → IsExecuted x → HasOrderNumber t x
-    numbered (Payment x) executed = tt
-    numbered (NewOrder x) executed = absurd executed
 
     roomy : HasRoom (MAX_COMMITS - (length k.history + 1) + 1) t
     roomy = subst (λ n. HasRoom n t) (rest_of (length k.history) (omega (arith, below_cap, ready.few))) ready.room
@@ -162,7 +159,7 @@ module _ (t0 : Database) (run_cells : List TableId) (k : BookView) (t : Database
     sound_next : IsSound t0 run_cells kept (after t work.input)
     sound_next = record {
       legal = legal;
-      well_formed = after-IsWellFormed t work.input (MAX_COMMITS - (length k.history + 1)) input_of (numbered work.input is_work.executed) sound.well_formed sound.consistent roomy;
+      well_formed = after-IsWellFormed t work.input (MAX_COMMITS - (length k.history + 1)) input_of (is_work.explained t may_be).numbered sound.well_formed sound.consistent roomy;
       consistent = after-IsConsistent t work.input input_of sound.well_formed sound.consistent;
       versions = λ n h. stores n ∙ ap (λ (l : List (List ℕ)). l ++ new_versions (length k.history + 1) work.writes.values n) (sound.versions n h)
           ∙ ap (λ l. first_version (rows t0 n) ∷ l) (sym (later_push k.history (entry_of (length k.history + 1) terminal work) n));

@@ -2,7 +2,7 @@
 use Rattle.std.specs.Prelude.{◌≡◌, ◌≢◌, ℕ, ◌<◌, Option, Some, List, [], ◌∷◌, ◌++◌, length}
 use Rattle.atomic_table.specs.Seated.{TableId}
 use Rattle.tables.specs.Database.{Database}
-use Rattle.tables.specs.Inputs.{IsInput, IsExecuted}
+use Rattle.tables.specs.Inputs.{IsInput}
 use Rattle.tables.specs.Rows.{rows}
 use Rattle.tables.specs.Conditions.{IsConsistent}
 use Rattle.tables.specs.WellFormed.{IsWellFormed}
@@ -41,7 +41,6 @@ pub record IsReadBy (cells : ℕ) (reader : ReaderView) (reads : ReadSetView) : 
 -- a transaction that this reader has executed, explained by what it read
 pub record IsWorkOf (t0 : Database) (cells : ℕ) (reader : ReaderView) (work : Work) : Type 0 where
   pub input : IsInput t0.scale work.input
-  pub executed : IsExecuted work.input
   pub explained : Explains t0 work.input work.reads work.writes work.reply
   pub limits : IsWithinLimits cells work.reads work.writes
   pub read : IsReadBy cells reader work.reads

@@ -22,7 +22,8 @@ impl<K: Run> Book<K> {
     /// constant time, amortized, for the history. May wait, at a record's cell
     /// alone.
     ///
-    /// After Ok the reader has seen the versions stored, and the reply is the transaction's at the tables before it.
+    /// Where the versions read are the latest, the transaction is done at the committed tables: its reply and its writes
+    /// are those of its definition there, though it may be refused. After Ok the reader has seen the versions stored.
     ///
     /// # Errors
     ///
@@ -52,6 +53,7 @@ impl<K: Run> Book<K> {
             (λ refusal. (self.new ≡ self.old) × (share.new ≡ share.old)
             × (((refusal ≡ Conflict) × HasConflict self.old.written.all work.reads)
             ⊎ (AreLatest self.old.written.all work.reads
+            × IsDone (replay K.first self.old.history) (entry_of (length self.old.history + 1) share.old.terminal work)
             × (((refusal ≡ CommitsFull) × (K.first.scale.commits ≤ length self.old.history))
             ⊎ ((refusal ≡ OutOfMemory) × (length self.old.history < K.first.scale.commits)))))) }
     {

@@ -1,5 +1,6 @@
-//! An engine with two terminals over the small population, and a Payment that one of them has executed.
+//! An engine with two terminals over the small population, and a transaction that one of them has executed.
 ghost use Rattle.std.specs.Prelude.{◌≡◌, length, IfOk, IfSome};
+ghost use Rattle.tables.specs.Inputs.{IsInput};
 ghost use Rattle.book.specs.Parts.{IsFresh, cells_of};
 
 use crate::payments::payment;
@@ -30,7 +31,7 @@ pub(crate) fn both_of<K: Run>(seats: &mut Seats<K>) -> Option<(Seat<K>, Seat<K>)
     Some((left, right))
 }
 
-/// A Payment that a terminal has executed.
+/// A transaction that a terminal has executed.
 #[derive(Drop)]
 pub(crate) struct Executed<K: Run> {
     pub(crate) seat: Seat<K>,
@@ -50,6 +51,23 @@ impl<K: Run> Model for Executed<K> {
         × IsWorkOf K.first (length K.cells) e.seat.reader e.work };
 }
 
+/// Executes a transaction at a terminal.
+pub(crate) fn execute_at<K: Run, R: Wait>(
+    rt: &R,
+    alloc: Global,
+    engine: &Engine<K>,
+    seat: Seat<K>,
+    input: Input,
+) -> Result<Executed<K>, Refusal>
+    requires reader { seat.reader.cells ≡ K.cells }
+    requires input { IsInput K.first.scale input }
+{
+    let mut seat = seat;
+    let (cells, population) = (engine.cells(), engine.population());
+    let work = execute(rt, alloc, cells, &mut seat.reader, population, &input)?;
+    Ok(Executed { seat, input, work })
+}
+
 /// Executes a Payment of 1.00 by this customer.
 pub(crate) fn pay<K: Run, R: Wait>(
     rt: &R,
@@ -60,10 +78,7 @@ pub(crate) fn pay<K: Run, R: Wait>(
 ) -> Result<Executed<K>, Refusal>
     requires { seat.reader.cells ≡ K.cells }
 {
-    let mut seat = seat;
-    let population = engine.population();
-    let input = Input::payment(&population.scale(), payment(customer, 100))?;
-    let cells = engine.cells();
-    let work = execute(rt, alloc, cells, &mut seat.reader, population, &input)?;
-    Ok(Executed { seat, input, work })
+    let scale = engine.population().scale();
+    let input = Input::payment(&scale, payment(customer, 100))?;
+    execute_at(rt, alloc, engine, seat, input)
 }

@@ -8,6 +8,10 @@ mod cells_tests;
 #[cfg(test)]
 mod engine;
 #[cfg(test)]
+mod new_order_tests;
+#[cfg(test)]
+mod new_orders;
+#[cfg(test)]
 mod payment_tests;
 #[cfg(test)]
 mod payments;

@@ -7,3 +7,7 @@ mod Stocked
 mod Supplied
 mod Taken
 mod SoFar
+mod Begun
+mod Columns
+mod Explained
+pub mod Refusals

@@ -1,7 +1,8 @@
 -- How far a loop over the lines of an order has come.
-use Rattle.std.proofs.Common.{◌≡◌, ℕ, ◌+◌, ◌<◌, ℤ, List, Result, Err, length, map, take, get_or, sym, ap, ◌∙◌, arith}
+use Rattle.std.proofs.Common.{◌≡◌, ◌≢◌, ◌⊎◌, inl, inr, ℕ, ◌+◌, ◌<◌, ℤ, List, Result, Err, length, map, take, get_or, sym, ap, ◌∙◌, arith}
 use Rattle.std.proofs.lemmas.List.{get_or-map, length-take-le}
 use Rattle.money.specs.declared.refusal.Refusal.{Refusal}
+use Rattle.money.specs.declared.refusal.Refusal.TheVariants.{OutOfMemory, Stale}
 use Rattle.tables.specs.Database.{Database}
 use Rattle.tables.specs.NewOrder.{line_amount}
 use Rattle.tables.specs.declared.new_order.RequestedLine.{RequestedLine}
@@ -18,3 +19,12 @@ priced_at t ls amounts number i z d priced same more = (λ j. get_or (priced j) 
 -- a refusal is the same in any result
 pub same_refusal : {A B : Type 0} (e f : Refusal) → ◌≡◌ {A = Result A Refusal} (Err e) (Err f) → ◌≡◌ {A = Result B Refusal} (Err e) (Err f)
 same_refusal e f h = let q : e ≡ f = cc in ap Err q
+
+-- equal errors have equal refusals
+pub same_error : {A : Type 0} (e f : Refusal) → ◌≡◌ {A = Result A Refusal} (Err e) (Err f) → e ≡ f
+same_error e f h = cc
+
+-- a refusal that isn't one of memory
+pub unless_memory : {A : Type 0} (r : Refusal) → (r ≡ OutOfMemory) ⊎ (r ≡ Stale) → r ≢ OutOfMemory → ◌≡◌ {A = Result A Refusal} (Err r) (Err Stale)
+unless_memory r (inl memory) not = absurd (not memory)
+unless_memory r (inr stale) not = ap Err stale

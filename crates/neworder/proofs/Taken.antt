@@ -1,10 +1,9 @@
 -- What a transaction leaves of a line's stock is a row that the line may draw from, and once it has taken the line, the rows hold again.
-use Rattle.std.proofs.Common.{◌≡◌, ◌+◌, ◌≤◌, ℕ, List, [], ◌∷◌, ◌++◌, length, All, ℤ, pos, ◌*ℤ◌, Result, Ok, Err, IfOk, OnOk, Option, Some, IsSome, slice_index, sym, ap, ◌∙◌, subst, arith}
+use Rattle.std.proofs.Common.{◌≡◌, ◌+◌, ◌≤◌, ℕ, List, [], ◌∷◌, ◌++◌, length, All, ℤ, Option, Some, IsSome, slice_index, sym, ap, ◌∙◌, subst, arith}
 use Rattle.std.proofs.lemmas.List.Elements.{All-push}
 use Rattle.std.proofs.lemmas.List.{length-append}
 use Rattle.std.specs.Option.{option_map, option_map_or}
 use Rattle.std.specs.FinMap.{get}
-use Rattle.money.specs.declared.refusal.Refusal.{Refusal}
 use Rattle.tables.specs.Sizes.{Sizes}
 use Rattle.tables.specs.Keys.{IsOrderKey, IsLineKey, IsStockKey}
 use Rattle.tables.specs.Database.{Database}
@@ -16,6 +15,7 @@ use Rattle.tables.specs.declared.keys.OrderKey.{OrderKey}
 use Rattle.tables.specs.declared.rows.Stock.{Stock}
 use Rattle.tables.specs.declared.new_order.RequestedLine.{RequestedLine}
 use Rattle.tables.specs.declared.new_order.NewOrderInput.{NewOrderInput}
+use Rattle.tables.specs.declared.new_order.SuppliedLine.{SuppliedLine}
 use Rattle.tables.specs.declared.records.RecordKey.TheVariants as key
 use Rattle.readset.specs.Reads.{ReadSetView, held, Keeps}
 use Rattle.readset.specs.Writes.{WriteSetView, puts, left_at}
@@ -28,7 +28,7 @@ use Rattle.neworder.specs.Steps.{after_lines, AreTaken}
 use Rattle.neworder.specs.Drawn.{IsStockUpTo, NoneDrawable}
 use Rattle.neworder.specs.declared.lines.Placed.{Placed}
 use Rattle.neworder.proofs.HoldsSteps.{holds_lined}
-use Rattle.neworder.proofs.Supplied.{supplied-push, drawn_there}
+use Rattle.neworder.proofs.Supplied.{supplied-push, same_amount, told_line, drawn_there}
 use Rattle.neworder.proofs.Stocked.{stock_up_to, stock_there}
 
 -- a line's place, with the row that it has at all those tables
@@ -39,8 +39,8 @@ pub record IsPlacedLine (t0 : Database) (order : OrderKey) (n : ℕ) (l : Reques
   pub line_there : IsLineKey t0.scale (line_key order n)
   pub stock_there : IsStockKey t0.scale (stock_key l)
 
-module _ (t0 : Database) (x : NewOrderInput) (order : OrderKey) (ls : List RequestedLine) (l : RequestedLine) (placed : Placed) (old new : ReadSetView) (writes : WriteSetView) (quantities : List ℕ)
-    (taken : AreTaken t0 x order ls old writes quantities) (place : IsPlacedLine t0 order (length ls + 1) l old placed)
+module _ (t0 : Database) (x : NewOrderInput) (order : OrderKey) (ls : List RequestedLine) (l : RequestedLine) (placed : Placed) (old new : ReadSetView) (writes : WriteSetView) (told : List SuppliedLine)
+    (taken : AreTaken t0 x order ls old writes told) (place : IsPlacedLine t0 order (length ls + 1) l old placed)
     (keeps : Keeps old new) (is_held : IsSome (held new placed.stock))
   where
     -- a record's number at the scale of those tables
@@ -69,9 +69,9 @@ module _ (t0 : Database) (x : NewOrderInput) (order : OrderKey) (ls : List Reque
     none_taken none t h = let m = met t h in none m.0 m.2 m.3
 
     -- and taken otherwise
-    pub line_taken : IsRequestedLine t0.scale l → IsSome (held new placed.line) → (words : List ℕ) → ((r : Stock) → IsStockUpTo (MAX_COUNT + MAX_COUNT_STEP) r → left_at writes new placed.stock ≡ Some (stock_words r) → words ≡ stock_words (drawn order.warehouse l r))
-        → AreTaken t0 x order (ls ++ l ∷ []) new (puts (puts writes placed.line (Some placed.row)) placed.stock (Some words)) (quantities ++ slice_index words 0 ∷ [])
-    line_taken requested line_held words draws = record {
+    pub line_taken : IsRequestedLine t0.scale l → (amount : ℤ) → amount ≡ line_amount t0 l → IsSome (held new placed.line) → (words : List ℕ) → ((r : Stock) → IsStockUpTo (MAX_COUNT + MAX_COUNT_STEP) r → left_at writes new placed.stock ≡ Some (stock_words r) → words ≡ stock_words (drawn order.warehouse l r))
+        → AreTaken t0 x order (ls ++ l ∷ []) new (puts (puts writes placed.line (Some placed.row)) placed.stock (Some words)) (told ++ told_line l (slice_index words 0) amount ∷ [])
+    line_taken requested amount priced line_held words draws = record {
       written_read =
           puts_read (puts writes placed.line (Some placed.row)) new placed.stock (Some words)
           (puts_read writes new placed.line (Some placed.row) (keeps_read writes old new keeps taken.written_read) line_held) is_held;
@@ -89,7 +89,9 @@ module _ (t0 : Database) (x : NewOrderInput) (order : OrderKey) (ls : List Reque
           let drew : stock_words (drawn x.warehouse l m.0) ≡ words = ap (λ (k : OrderKey). stock_words (drawn k.warehouse l m.0)) (taken.at_order t before) ∙ sym (draws m.0 m.2 m.3) in
           let quantity : option_map_or (λ r. r.quantity) (get (draw x.warehouse stock l) (stock_key l)) 0 ≡ slice_index words 0 =
           ap (λ (o : Option Stock). option_map_or (λ r. r.quantity) o 0) (drawn_there x.warehouse l stock m.0 m.1) ∙ ap (λ (ws : List ℕ). slice_index ws 0) drew in
-          supplied-push t x.warehouse t.stock ls l ∙ (λ i. taken.supplied t before i ++ quantity i ∷ []);
+          supplied-push t x.warehouse t.stock ls l
+          ∙ (λ i. taken.supplied t before i ++ told_line l (quantity i) ((same_amount t0 t l h.of_population.items ∙ sym priced) i) ∷ []);
+      no_history = taken.no_history;
       at_order = λ t h. taken.at_order t (may_be_before t0 old new t keeps h);
       holds = λ t h.
           let s : t.scale ≡ t0.scale = h.of_population.scale in
@@ -115,21 +117,8 @@ pub is_placed : (s : Sizes) (t0 : Database) (order : OrderKey) (n : ℕ) (l : Re
     → placed.stock ≡ number_of_key s (key.Stock (stock_key l)) → IsLineKey s (line_key order n) → IsStockKey s (stock_key l) → IsPlacedLine t0 order n l reads placed
 is_placed s t0 order n l amount reads placed scale priced line row stock line_there stock_there = record {
   line = line ∙ ap (λ (s : Sizes). number_of_key s (key.OrderLine (line_key order n))) (sym scale);
-  row = λ t h. let items = sym h.of_population.items in row t (priced ∙ (λ i. pos l.quantity *ℤ option_map_or (λ r. r.price) (get (items i) l.item) (pos 0)));
+  row = λ t h. row t (priced ∙ sym (same_amount t0 t l h.of_population.items));
   stock = stock ∙ ap (λ (s : Sizes). number_of_key s (key.Stock (stock_key l))) (sym scale);
   line_there = subst (λ (s : Sizes). IsLineKey s (line_key order n)) (sym scale) line_there;
   stock_there = subst (λ (s : Sizes). IsStockKey s (stock_key l)) (sym scale) stock_there;
 }
-
--- what comes of taking a line: one more is taken, or there are no such tables
-module _ (t0 : Database) (x : NewOrderInput) (order : OrderKey) (ls : List RequestedLine) (l : RequestedLine) (placed : Placed) (old new : ReadSetView) (writes after : WriteSetView) (quantities : List ℕ)
-    (requested : IsRequestedLine t0.scale l) (taken : AreTaken t0 x order ls old writes quantities) (place : IsPlacedLine t0 order (length ls + 1) l old placed) (keeps : Keeps old new)
-  where
-    pub next_taken : (r : Result (List ℕ) Refusal) → IfOk r (λ words. after ≡ puts (puts writes placed.line (Some placed.row)) placed.stock (Some words))
-        → IfOk r (λ words. (s : Stock) → IsStockUpTo (MAX_COUNT + MAX_COUNT_STEP) s → left_at writes new placed.stock ≡ Some (stock_words s) → words ≡ stock_words (drawn order.warehouse l s))
-        → OnOk r (IsSome (held new placed.line)) → OnOk r (IsSome (held new placed.stock))
-        → IfOk r (λ words. AreTaken t0 x order (ls ++ l ∷ []) new after (quantities ++ slice_index words 0 ∷ []))
-    next_taken (Ok words) written draws line_held is_held =
-        subst (λ (w : WriteSetView). AreTaken t0 x order (ls ++ l ∷ []) new w (quantities ++ slice_index words 0 ∷ [])) (sym written)
-        (line_taken t0 x order ls l placed old new writes quantities taken place keeps is_held requested line_held words draws)
-    next_taken (Err refusal) written draws line_held is_held = tt

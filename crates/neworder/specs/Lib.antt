@@ -1,3 +1,6 @@
+pub mod Refused
 pub mod Steps
 pub mod Drawn
+pub mod Opening
 pub mod Priced
+pub mod Replied

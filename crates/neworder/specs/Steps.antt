@@ -1,5 +1,5 @@
 -- The steps of a New-Order (TPC-C 2.4.2.2): the tables when it has come so far, and the records that each step changes.
-use Rattle.std.specs.Prelude.{◌≡◌, ℕ, ◌+◌, ◌*◌, ◌≤◌, Some, List, [], ◌∷◌, length, map, All}
+use Rattle.std.specs.Prelude.{◌≡◌, ℕ, ◌+◌, ◌*◌, ◌≤◌, None, Some, List, [], ◌∷◌, length, All}
 use Rattle.std.specs.FinMap.{insert}
 use Rattle.tables.specs.Keys.{is_district}
 use Rattle.tables.specs.Maps.{update_where}
@@ -41,11 +41,12 @@ abbrev pub lining : ℕ → OrderKey → ℕ → RequestedLine → OrderLine →
 lining w k n l row r = (key.OrderLine (line_key k n), Some (line_words row))
     ∷ (key.Stock (stock_key l), Some (stock_words (drawn w l r))) ∷ []
 
--- these lines of an order are taken: at all tables at which the transaction may have read, the order has this key, and the writes put in make the rows of the tables when it has come so far. It writes the records that opening changes and two a line, each of which it has read, and replies these S_QUANTITYs, each after its line
-pub record AreTaken (t0 : Database) (x : NewOrderInput) (order : OrderKey) (ls : List RequestedLine) (reads : ReadSetView) (writes : WriteSetView) (quantities : List ℕ) : Type 0 where
+-- these lines of an order are taken: at all tables at which the transaction may have read, the order has this key, and the writes put in make the rows of the tables when it has come so far. It writes the records that opening changes and two a line, each of which it has read, and no HISTORY row, and replies these lines
+pub record AreTaken (t0 : Database) (x : NewOrderInput) (order : OrderKey) (ls : List RequestedLine) (reads : ReadSetView) (writes : WriteSetView) (told : List SuppliedLine) : Type 0 where
   pub requested : All (IsRequestedLine t0.scale) ls
   pub at_order : (t : Database) → MayBe t0 reads t → new_key t x ≡ order
   pub holds : (t : Database) → MayBe t0 reads t → Holds t writes (row_at (after_lines t x ls))
   pub written_read : WritesAreRead writes reads
   pub written_few : length writes.values ≤ 4 + 2 * length ls
-  pub supplied : (t : Database) → MayBe t0 reads t → map (λ (s : SuppliedLine). s.stock) (supplied_lines t x.warehouse t.stock ls) ≡ quantities
+  pub no_history : writes.history_row ≡ None
+  pub supplied : (t : Database) → MayBe t0 reads t → supplied_lines t x.warehouse t.stock ls ≡ told

@@ -1,7 +1,14 @@
-//! A New-Order on record cells (TPC-C 2.4.2.2), not yet committed.
+//! New-Order (TPC-C 2.4) on record cells: what it reads, what it is to write, and its reply. Nothing is written before
+//! the commit (Silo, SOSP 2013, section 4.4).
 #![tactic(auto)]
 
 mod lines;
+mod opening;
 mod prices;
+mod reply;
 mod rows;
 mod stock;
+mod taking;
+mod transaction;
+
+pub use transaction::execute;

@@ -1,5 +1,5 @@
 //! The lines of a New-Order on record cells (TPC-C 2.4.2.2).
-ghost use Rattle.std.specs.Prelude.{◌≡◌, ◌+◌, ◌*◌, ◌<◌, ◌≤◌, ◌⊎◌, List, [], ◌∷◌, ◌++◌, ℕ, slice_index, length, map, All, Some, IsSome, Err, IfOk, IfErr, OnOk};
+ghost use Rattle.std.specs.Prelude.{◌≡◌, ◌+◌, ◌*◌, ◌^◌, ◌<◌, ◌≤◌, ◌⊎◌, List, [], ◌∷◌, ◌++◌, slice_index, length, map, All, Some, IsSome, Err, IfOk, IfErr, OnOk};
 ghost use Rattle.tables.specs.Sizes.{IsNumber};
 ghost use Rattle.tables.specs.Keys.{IsOrderKey, IsLineKey, IsItemKey, IsStockKey};
 ghost use Rattle.tables.specs.Records.{number_of_key, record_count};
@@ -9,10 +9,11 @@ ghost use Rattle.tables.specs.NewOrder.{IsRequestedLine, drawn, line_key, line_a
 ghost use Rattle.tables.specs.declared.records.RecordKey.TheVariants as key;
 ghost use Rattle.tables.specs.declared.rows.Stock.{Stock};
 ghost use Rattle.tables.specs.declared.new_order.NewOrderInput.{NewOrderInput};
+ghost use Rattle.tables.specs.declared.new_order.SuppliedLine.{SuppliedLine};
 ghost use Rattle.tables.specs.declared.limits.TheConstants.{MAX_COUNT, MAX_COUNT_STEP, MAX_ORDER_LINES, MAX_QUANTITY};
 ghost use Rattle.money.specs.declared.refusal.Refusal.TheVariants.{OutOfMemory, Stale};
 ghost use Rattle.cells.specs.Records.{ReaderView, HasGrown};
-ghost use Rattle.readset.specs.Reads.{held, Keeps, AreRead};
+ghost use Rattle.readset.specs.Reads.{held, Keeps, AreWithin, AreRead};
 ghost use Rattle.readset.specs.Writes.{left_at, puts};
 ghost use Rattle.readset.specs.Explains.{NoneMayBe};
 ghost use Rattle.neworder.specs.Steps.{AreTaken};
@@ -25,7 +26,9 @@ use money::{Cents, Refusal};
 use readset::{ReadSet, WriteSet};
 use std::alloc::Global;
 use std::sync::Wait;
-use tables::{LineKey, OrderKey, RecordKey, RequestedLine, Scale, StockKey, number_of_key};
+use tables::{
+    LineKey, OrderKey, RecordKey, RequestedLine, Scale, StockKey, SuppliedLine, number_of_key,
+};
 
 /// The records of a line: its ORDER-LINE record, what that is to hold, and its stock's record.
 #[derive(Clone, Copy)]
@@ -63,11 +66,13 @@ pub(crate) fn take_line<R: Wait>(
         → IsStockUpTo (MAX_COUNT + MAX_COUNT_STEP) r
         → left_at writes.old reads.new placed.now.stock ≡ Some (stock_words r)
         → words ≡ stock_words (drawn home line.now r)) }
+    ensures small { IfOk result (λ words. slice_index words 0 < 2 ^ 32) }
     ensures refused { IfErr result (λ refusal. (refusal ≡ OutOfMemory) ⊎ (refusal ≡ Stale)) }
     ensures stale { result ≡ Err Stale → NoneDrawable writes.old reads.new placed.now.stock }
     ensures holds_line { OnOk result (IsSome (held reads.new placed.now.line)) }
     ensures holds_stock { OnOk result (IsSome (held reads.new placed.now.stock)) }
     ensures keeps { Keeps reads.old reads.new }
+    ensures within { AreWithin (length cells.now) reads.old → AreWithin (length cells.now) reads.new }
     ensures chain { (first : ReaderView) → AreRead first reader.old reads.old
         → OnOk result (AreRead first reader.new reads.new) }
     ensures stale_holds { result ≡ Err Stale → IsSome (held reads.new placed.now.stock) }
@@ -92,7 +97,7 @@ pub(crate) fn take_line<R: Wait>(
 }
 
 /// All lines of an order, in their order, with their OL_AMOUNTs: an item that comes twice is drawn from what its first
-/// line left. Gives S_QUANTITY after each line. Costs two loads and a few look-ups a line.
+/// line left. Gives the lines of the reply. Costs two loads and a few look-ups a line, and memory for the reply.
 ///
 /// # Errors
 ///
@@ -108,7 +113,7 @@ pub(crate) fn take_lines<R: Wait>(
     lines: &[RequestedLine],
     amounts: &[Cents],
     alloc: Global,
-) -> Result<Vec<u64>, Refusal>
+) -> Result<Vec<SuppliedLine>, Refusal>
     requires own { reader.old.cells ≡ cells.now }
     requires cells { length cells.now ≡ record_count scale.now }
     requires order { IsOrderKey scale.now order }
@@ -118,13 +123,14 @@ pub(crate) fn take_lines<R: Wait>(
     ensures taken { (t : Database) (x : NewOrderInput) → t.scale ≡ scale.now
         → amounts.now ≡ map (line_amount t) lines.now
         → AreTaken t x order [] reads.old writes.old []
-        → IfOk result (λ quantities. AreTaken t x order lines.now reads.new writes.new quantities.items) }
+        → IfOk result (λ supplied. AreTaken t x order lines.now reads.new writes.new supplied.items) }
     ensures stale { (t : Database) (x : NewOrderInput) → t.scale ≡ scale.now
         → amounts.now ≡ map (line_amount t) lines.now
         → AreTaken t x order [] reads.old writes.old []
         → result ≡ Err Stale → NoneMayBe t reads.new }
     ensures refused { IfErr result (λ refusal. (refusal ≡ OutOfMemory) ⊎ (refusal ≡ Stale)) }
     ensures keeps { Keeps reads.old reads.new }
+    ensures within { AreWithin (length cells.now) reads.old → AreWithin (length cells.now) reads.new }
     ensures chain { (first : ReaderView) → AreRead first reader.old reads.old
         → OnOk result (AreRead first reader.new reads.new) }
     ensures stale_chain { result ≡ Err Stale → (first : ReaderView)
@@ -133,25 +139,25 @@ pub(crate) fn take_lines<R: Wait>(
         → HasGrown first reader.new }
     ensures limit { length reads.new ≤ length reads.old + 2 * length lines.now }
 {
-    let mut quantities = Vec::new(alloc);
+    let mut supplied = Vec::new(alloc);
     let mut number = 0;
     for line in lines {
         let amount = amounts[number as usize];
         number += 1;
-        let words = match take_next(
+        let taken = match take_next(
             rt, cells, reader, reads, writes, scale, order, number, line, amount,
         ) {
-            Ok(words) => words,
+            Ok(taken) => taken,
             Err(refusal) => return Err(refusal),
         };
-        let Ok(()) = quantities.push(words[0]) else {
+        let Ok(()) = supplied.push(taken) else {
             return Err(Refusal::OutOfMemory);
         };
     }
-    Ok(quantities)
+    Ok(supplied)
 }
 
-/// Line `number`, from 1, of an order, with this OL_AMOUNT: places it and takes it.
+/// Line `number`, from 1, of an order, with this OL_AMOUNT: places it and takes it. Gives its line of the reply.
 fn take_next<R: Wait>(
     rt: &R,
     cells: &Cells,
@@ -163,24 +169,25 @@ fn take_next<R: Wait>(
     number: u32,
     line: &RequestedLine,
     amount: Cents,
-) -> Result<[u64; 7], Refusal>
+) -> Result<SuppliedLine, Refusal>
     requires own { reader.old.cells ≡ cells.now }
     requires cells { length cells.now ≡ record_count scale.now }
     requires order { IsOrderKey scale.now order }
     requires number { IsNumber MAX_ORDER_LINES number }
     requires line { IsRequestedLine scale.now line.now }
     requires item { IsItemKey scale.now line.now.item }
-    ensures taken { (t : Database) (x : NewOrderInput) (ls : List RequestedLine) (quantities : List ℕ)
+    ensures taken { (t : Database) (x : NewOrderInput) (ls : List RequestedLine) (supplied : List SuppliedLine)
         → t.scale ≡ scale.now → amount ≡ line_amount t line.now → number ≡ length ls + 1
-        → AreTaken t x order ls reads.old writes.old quantities
-        → IfOk result (λ words. AreTaken t x order (ls ++ line.now ∷ []) reads.new writes.new
-        (quantities ++ slice_index words 0 ∷ [])) }
-    ensures stale { (t : Database) (x : NewOrderInput) (ls : List RequestedLine) (quantities : List ℕ)
+        → AreTaken t x order ls reads.old writes.old supplied
+        → IfOk result (λ told. AreTaken t x order (ls ++ line.now ∷ []) reads.new writes.new
+        (supplied ++ told ∷ [])) }
+    ensures stale { (t : Database) (x : NewOrderInput) (ls : List RequestedLine) (supplied : List SuppliedLine)
         → t.scale ≡ scale.now → amount ≡ line_amount t line.now → number ≡ length ls + 1
-        → AreTaken t x order ls reads.old writes.old quantities
+        → AreTaken t x order ls reads.old writes.old supplied
         → result ≡ Err Stale → NoneMayBe t reads.new }
     ensures refused { IfErr result (λ refusal. (refusal ≡ OutOfMemory) ⊎ (refusal ≡ Stale)) }
     ensures keeps { Keeps reads.old reads.new }
+    ensures within { AreWithin (length cells.now) reads.old → AreWithin (length cells.now) reads.new }
     ensures chain { (first : ReaderView) → AreRead first reader.old reads.old
         → OnOk result (AreRead first reader.new reads.new) }
     ensures stale_chain { result ≡ Err Stale → (first : ReaderView)
@@ -192,7 +199,15 @@ fn take_next<R: Wait>(
 {
     let placed = place_line(scale, order, number, line, amount);
     let home = order.warehouse;
-    take_line(rt, cells, reader, reads, writes, &placed, home, line)
+    match take_line(rt, cells, reader, reads, writes, &placed, home, line) {
+        Ok(words) => Ok(SuppliedLine {
+            item: line.item,
+            supply_warehouse: line.supply_warehouse,
+            stock: words[0] as u32,
+            amount,
+        }),
+        Err(refusal) => Err(refusal),
+    }
 }
 
 /// The records of line `number`, from 1, of an order, with this OL_AMOUNT.
@@ -244,6 +259,7 @@ fn read_line<R: Wait>(
     ensures holds_line { OnOk result (IsSome (held reads.new placed.now.line)) }
     ensures holds_stock { OnOk result (IsSome (held reads.new placed.now.stock)) }
     ensures keeps { Keeps reads.old reads.new }
+    ensures within { AreWithin (length cells.now) reads.old → AreWithin (length cells.now) reads.new }
     ensures chain { (first : ReaderView) → AreRead first reader.old reads.old
         → OnOk result (AreRead first reader.new reads.new) }
     ensures grown { HasGrown reader.old reader.new }

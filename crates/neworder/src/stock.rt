@@ -1,5 +1,5 @@
 //! What a line of a New-Order makes of a stock (TPC-C 2.4.2.2).
-ghost use Rattle.std.specs.Prelude.{◌≡◌, ◌+◌, ◌-◌, ◌≤◌, nat_le, cond, Some};
+ghost use Rattle.std.specs.Prelude.{◌≡◌, ◌+◌, ◌-◌, ◌^◌, ◌<◌, ◌≤◌, nat_le, cond, slice_index, Some, IfSome};
 ghost use Rattle.tables.specs.Sizes.{IsBetween};
 ghost use Rattle.tables.specs.Rows.{stock_words};
 ghost use Rattle.tables.specs.NewOrder.{drawn};
@@ -17,7 +17,8 @@ use tables::limits::{MAX_STOCK, MIN_STOCK, RESTOCK};
 /// which 14 lines of the same order were drawn before.
 pub(crate) fn drawn(words: &[u64; 7], home: u32, line: &RequestedLine) -> Option<[u64; 7]>
     requires { line.now.quantity ≤ MAX_QUANTITY }
-    ensures { (r : Stock) → IsStockUpTo (MAX_COUNT + MAX_COUNT_STEP) r → words.now ≡ stock_words r
+    ensures small { IfSome result (λ words. slice_index words 0 < 2 ^ 32) }
+    ensures drawn { (r : Stock) → IsStockUpTo (MAX_COUNT + MAX_COUNT_STEP) r → words.now ≡ stock_words r
         → result ≡ Some (stock_words (drawn home line.now r)) }
 {
     Some([
@@ -34,7 +35,8 @@ pub(crate) fn drawn(words: &[u64; 7], home: u32, line: &RequestedLine) -> Option
 /// S_QUANTITY after a line of this quantity. None only where it isn't from 10 to 100.
 fn quantity_left(word: u64, quantity: u32) -> Option<u64>
     requires { quantity ≤ MAX_QUANTITY }
-    ensures { IsBetween MIN_STOCK MAX_STOCK word → result ≡ Some (cond (nat_le (quantity + MIN_STOCK) word)
+    ensures small { IfSome result (λ left. left < 2 ^ 32) }
+    ensures left { IsBetween MIN_STOCK MAX_STOCK word → result ≡ Some (cond (nat_le (quantity + MIN_STOCK) word)
         (word - quantity) (word + RESTOCK - quantity)) }
 {
     if word > u64::from(MAX_STOCK) {

@@ -8,7 +8,6 @@ use Rattle.tables.specs.Payment.{IsPayment, payer, after_payment, payment_reply}
 use Rattle.tables.specs.Apply.{Committed}
 use Rattle.tables.specs.Records.{number_of_key, IsRecordKey}
 use Rattle.tables.specs.Rows.{rows, row_at, warehouse_words, district_words, customer_words}
-use Rattle.tables.proofs.Numbers.{named}
 use Rattle.tables.specs.declared.records.RecordKey.{RecordKey}
 use Rattle.tables.specs.declared.records.RecordKey.TheVariants as key
 use Rattle.tables.specs.declared.rows.Warehouse.{Warehouse}
@@ -22,16 +21,13 @@ use Rattle.readset.specs.Writes.{WriteSetView, value_for, no_writes, puts, rows_
 use Rattle.readset.specs.Explains.{MayBe, Explains}
 use Rattle.readset.specs.Changes.{Holds, Changes, puts_all}
 use Rattle.readset.proofs.HoldsChanges.{holds-changes, holds_first}
+use Rattle.readset.proofs.LeftIs.{row_read}
 use Rattle.readset.proofs.WrittenRecords.{each_put, length-insert_entry}
 use Rattle.payment.specs.Steps.{warehouse_record, district_record, customer_record, AreRows, AreNewValues, values_put, writes_of, reply_of}
 use Rattle.payment.specs.declared.transaction.Records.{Records}
 use Rattle.payment.specs.declared.transaction.Found.{Found}
 use Rattle.payment.specs.declared.transaction.NewValues.{NewValues}
 use Rattle.payment.proofs.Changed.{others, warehouse_changed, district_changed, customer_changed, balance_changed}
-
--- the record of a key holds what the key's row has
-at_key : (t : Database) (k : RecordKey) → IsRecordKey t.scale k → rows t (number_of_key t.scale k) ≡ row_at t k
-at_key t k h = ap (row_at t) (named t.scale k h).1
 
 -- the row of a key that has one
 is_row : {X : Type 0} (w : Option X) → IsSome w → (r : X) × (w ≡ Some r)
@@ -95,9 +91,9 @@ module _ (t0 : Database) (x : PaymentInput) (reads : ReadSetView) (records : Rec
           at_d = rd.1;
           at_c = rc.1;
           are = record {
-            warehouse = h.agrees records.warehouse found.warehouse warehouse ∙ ap (rows t) nw ∙ at_key t kw v.warehouse ∙ ap (option_map warehouse_words) rw.1;
-            district = h.agrees records.district found.district district ∙ ap (rows t) nd ∙ at_key t kd (v.warehouse, v.district) ∙ ap (option_map district_words) rd.1;
-            customer = h.agrees records.customer found.customer customer ∙ ap (rows t) nc ∙ at_key t kc (v.customer_warehouse, v.customer_district, v.customer) ∙ ap (option_map customer_words) rc.1;
+            warehouse = row_read t reads kw records.warehouse found.warehouse h.agrees warehouse nw v.warehouse ∙ ap (option_map warehouse_words) rw.1;
+            district = row_read t reads kd records.district found.district h.agrees district nd (v.warehouse, v.district) ∙ ap (option_map district_words) rd.1;
+            customer = row_read t reads kc records.customer found.customer h.agrees customer nc (v.customer_warehouse, v.customer_district, v.customer) ∙ ap (option_map customer_words) rc.1;
             warehouse_range = f.warehouse_rows x.warehouse rw.0 rw.1;
             district_range = (f.district_rows (record { warehouse = x.warehouse; district = x.district }) rd.0 rd.1).year_to_date;
             customer_range = f.customer_rows (payer x) rc.0 rc.1;
@@ -146,6 +142,7 @@ module _ (t0 : Database) (x : PaymentInput) (reads : ReadSetView) (records : Rec
       pub explains : Explains t0 (input.Payment x) reads (writes_of records values x) (reply.Payment (reply_of values x))
       explains t h = record {
         commits = ap (λ told. Committed (after_payment t x) (reply.Payment told)) (replies t h);
+        numbered = tt;
         rows = λ n small. (changed t h).put_in n small ∙ ap (λ (w : WriteSetView). rows_with w (rows t) n) (same_puts t.scale h.of_population.scale);
         history = refl;
       }

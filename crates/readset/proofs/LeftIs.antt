@@ -4,7 +4,7 @@ use Rattle.std.specs.Prelude.{option_and_then}
 use Rattle.std.specs.Option.{unwrap_or}
 use Rattle.tables.specs.Database.{Database}
 use Rattle.tables.specs.Records.{number_of_key, IsRecordKey}
-use Rattle.tables.specs.Rows.{rows}
+use Rattle.tables.specs.Rows.{rows, row_at}
 use Rattle.tables.proofs.Numbers.{named}
 use Rattle.tables.specs.declared.records.RecordKey.{RecordKey}
 use Rattle.cells.specs.declared.cells.Version.{Version}
@@ -17,6 +17,11 @@ use Rattle.readset.specs.Changes.{Holds}
 read_is : (t : Database) (reads : ReadSetView) (n : ℕ) → Agrees t reads → (o : Option Version) → held reads n ≡ o → IsSome o → option_and_then value_of o ≡ rows t n
 read_is t reads n agrees None e h = absurd (true≢false (sym h))
 read_is t reads n agrees (Some v) e h = agrees n v e
+
+-- the version read of a key's record has the key's row
+pub row_read : (t : Database) (reads : ReadSetView) (k : RecordKey) (n : ℕ) (v : Version) → Agrees t reads → held reads n ≡ Some v → n ≡ number_of_key t.scale k
+    → IsRecordKey t.scale k → value_of v ≡ row_at t k
+row_read t reads k n v agrees found at is_key = agrees n v found ∙ ap (rows t) at ∙ ap (row_at t) (named t.scale k is_key).1
 
 pub left_is : (t : Database) (writes : WriteSetView) (reads : ReadSetView) (row : RecordKey → Option (List ℕ)) (k : RecordKey) → Agrees t reads → Holds t writes row
     → IsRecordKey t.scale k → IsSome (held reads (number_of_key t.scale k)) → left_at writes reads (number_of_key t.scale k) ≡ row k

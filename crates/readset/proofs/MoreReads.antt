@@ -1,9 +1,9 @@
 -- More reads: what is so at all tables that agree with some reads is so at all that agree with more.
-use Rattle.std.proofs.Common.{◌≡◌, Some, None, [], refl}
+use Rattle.std.proofs.Common.{◌≡◌, ℕ, Some, None, Option, IsSome, is_some, true≢false, [], refl, sym, ap}
 use Rattle.tables.specs.Database.{Database}
 use Rattle.cells.specs.Records.{ReaderView}
 use Rattle.cells.specs.declared.cells.Version.{Version}
-use Rattle.readset.specs.Reads.{ReadSetView, AreRead, Keeps}
+use Rattle.readset.specs.Reads.{ReadSetView, AreRead, Keeps, held}
 use Rattle.readset.specs.Explains.{MayBe}
 
 none_some : (v : Version) → None ≡ Some v → ⊥
@@ -24,10 +24,18 @@ nothing_read reader = record {
 pub keeps_twice : (a b c : ReadSetView) → Keeps a b → Keeps b c → Keeps a c
 keeps_twice a b c first then n v found = then n v (first n v found)
 
+-- a record that was read still is, after reads more
+still : (reads more : ReadSetView) (n : ℕ) (o : Option Version) → held reads n ≡ o → IsSome o → Keeps reads more → IsSome (held more n)
+still reads more n None e h keeps = absurd (true≢false (sym h))
+still reads more n (Some v) e h keeps = ap is_some (keeps n v e)
+
+pub still_read : (reads more : ReadSetView) (n : ℕ) → Keeps reads more → IsSome (held reads n) → IsSome (held more n)
+still_read reads more n keeps h = still reads more n (held reads n) refl h keeps
+
 pub may_be_before : (t0 : Database) (reads more : ReadSetView) (t : Database) → Keeps reads more → MayBe t0 more t → MayBe t0 reads t
 may_be_before t0 reads more t keeps h = record {
   of_population = h.of_population;
   well_formed = h.well_formed;
-  consistent = h.consistent;
+  numbered = λ k here read. h.numbered k here (still_read reads more _ keeps read);
   agrees = λ n v found. h.agrees n v (keeps n v found);
 }

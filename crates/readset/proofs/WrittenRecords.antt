@@ -1,14 +1,15 @@
 -- What is so of each record written, after one write more.
-use Rattle.std.proofs.Common.{◌≡◌, ℕ, ◌+◌, ◌≤◌, true, false, cond, List, [], ◌∷◌, Option, Some, None, IsSome, is_some, true≢false, length, refl, sym, ap, ◌∙◌, subst, arith}
+use Rattle.std.proofs.Common.{◌≡◌, ℕ, ◌+◌, ◌<◌, ◌≤◌, true, false, cond, List, [], ◌∷◌, Option, Some, None, IsSome, true≢false, length, refl, sym, ◌∙◌, subst, arith}
 use Rattle.std.specs.Ordering.{nat_cmp, is_eq, match_ordering}
 use Rattle.std.specs.BTreeMap.{insert_entry}
 use Rattle.std.specs.declared.cmp.Ordering.TheVariants.{Less, Equal, Greater}
 use Rattle.cells.specs.declared.cells.Version.{Version}
-use Rattle.readset.specs.Reads.{ReadSetView, held, Keeps}
+use Rattle.readset.specs.Reads.{ReadSetView, held, Keeps, AreWithin}
 use Rattle.readset.specs.Writes.{WriteSetView, value_for, puts}
 use Rattle.readset.specs.Explains.{WritesAreRead}
 use Rattle.readset.proofs.Numbers.{same_number}
 use Rattle.readset.proofs.Lookups.{lookup-insert_entry}
+use Rattle.readset.proofs.MoreReads.{still_read}
 
 pub each_put : (P : ℕ → Type 0) (writes : WriteSetView) (n : ℕ) (value : Option (List ℕ)) → ((m : ℕ) (v : Option (List ℕ)) → value_for writes m ≡ Some v → P m) → P n
     → (m : ℕ) (v : Option (List ℕ)) → value_for (puts writes n value) m ≡ Some v → P m
@@ -32,9 +33,13 @@ length-insert_entry {X} n v (e ∷ es) =
 pub puts_read : (writes : WriteSetView) (reads : ReadSetView) (n : ℕ) (value : Option (List ℕ)) → WritesAreRead writes reads → IsSome (held reads n) → WritesAreRead (puts writes n value) reads
 puts_read writes reads n value = each_put (λ m. IsSome (held reads m)) writes n value
 
-still : (reads more : ReadSetView) (n : ℕ) (o : Option Version) → held reads n ≡ o → IsSome o → Keeps reads more → IsSome (held more n)
-still reads more n None e h keeps = absurd (true≢false (sym h))
-still reads more n (Some v) e h keeps = ap is_some (keeps n v e)
-
 pub keeps_read : (writes : WriteSetView) (reads more : ReadSetView) → Keeps reads more → WritesAreRead writes reads → WritesAreRead writes more
-keeps_read writes reads more keeps each n value found = still reads more n (held reads n) refl (each n value found) keeps
+keeps_read writes reads more keeps each n value found = still_read reads more n keeps (each n value found)
+
+-- what is written was read, and what was read has a cell
+within : (reads : ReadSetView) (cells n : ℕ) (o : Option Version) → held reads n ≡ o → IsSome o → AreWithin cells reads → n < cells
+within reads cells n None e h all = absurd (true≢false (sym h))
+within reads cells n (Some v) e h all = all n v e
+
+pub written_within : (writes : WriteSetView) (reads : ReadSetView) (cells : ℕ) → WritesAreRead writes reads → AreWithin cells reads → (n : ℕ) (value : Option (List ℕ)) → value_for writes n ≡ Some value → n < cells
+written_within writes reads cells each all n value found = within reads cells n (held reads n) refl (each n value found) all

@@ -2,4 +2,5 @@ pub mod Reads
 pub mod Writes
 pub mod Commit
 pub mod Explains
+pub mod Refused
 pub mod Changes

@@ -1,5 +1,5 @@
 -- What a transaction has read (Silo, section 4.4: the read set).
-use Rattle.std.specs.Prelude.{◌≡◌, ℕ, ◌+◌, Option, Some, None, List, slice_index}
+use Rattle.std.specs.Prelude.{◌≡◌, ℕ, ◌+◌, ◌<◌, Option, Some, None, List, slice_index}
 use Rattle.std.specs.Ordering.{nat_cmp}
 use Rattle.std.specs.Map.{lookup}
 use Rattle.std.specs.BTreeMap.{is_at}
@@ -22,6 +22,10 @@ value_of version = value_in (words_of version)
 -- these reads, and perhaps more
 abbrev pub Keeps : ReadSetView → ReadSetView → Type 0
 Keeps reads more = (n : ℕ) (v : Version) → held reads n ≡ Some v → held more n ≡ Some v
+
+-- each is of a record that has a cell, where so many have one
+abbrev pub AreWithin : ℕ → ReadSetView → Type 0
+AreWithin cells reads = (n : ℕ) (v : Version) → held reads n ≡ Some v → n < cells
 
 -- between these two states, a reader has loaded exactly the records of these versions, each once, and each version is what that load gave
 pub record AreRead (old new : ReaderView) (reads : ReadSetView) : Type 0 where

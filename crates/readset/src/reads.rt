@@ -4,7 +4,7 @@ ghost use Rattle.std.specs.Option.{option_copied};
 ghost use Rattle.std.specs.Ordering.{nat_cmp};
 ghost use Rattle.std.specs.Map.{keys_of};
 ghost use Rattle.std.specs.List.Sorted.{IsStrictlySortedBy};
-ghost use Rattle.readset.specs.Reads.{held, value_of, Keeps, AreRead};
+ghost use Rattle.readset.specs.Reads.{held, value_of, Keeps, AreWithin, AreRead};
 ghost use Rattle.cells.specs.Records.{ReaderView, LoadsRecord, HasGrown, words_of};
 ghost use Rattle.cells.specs.declared.cells.Version.{Version};
 
@@ -67,6 +67,7 @@ impl ReadSet {
         ensures others { (n : ℕ) → n ≢ number → held self.new n ≡ held self.old n }
         ensures limit { length self.new ≤ length self.old + 1 }
         ensures keeps { Keeps self.old self.new }
+        ensures within { AreWithin (length cells.now) self.old → AreWithin (length cells.now) self.new }
         ensures kept { OnErr result (self.new ≡ self.old) }
         ensures chain { (first : ReaderView) → AreRead first reader.old self.old
             → OnOk result (AreRead first reader.new self.new) }

@@ -1,8 +1,8 @@
 -- A commit of the book as the next of a session.
-use Rattle.std.proofs.Common.{◌≡◌, ℕ, ◌+◌, ◌<◌, List, [], ◌∷◌, ◌++◌, length, sym, ap, ◌∙◌}
+use Rattle.std.proofs.Common.{◌≡◌, ℕ, ◌+◌, ◌<◌, List, [], ◌∷◌, ◌++◌, length, sym, ap, ◌∙◌, subst}
 use Rattle.std.proofs.lemmas.List.{length_push}
 use Rattle.tables.specs.Database.{Database}
-use Rattle.tables.specs.Apply.{Committed, apply, after}
+use Rattle.tables.specs.Apply.{Committed, apply, after, HasOrderNumber}
 use Rattle.tables.specs.declared.input.Input.{Input}
 use Rattle.readset.specs.declared.work.Work.{Work}
 use Rattle.book.specs.History.{replay, commit_tid, IsDone}
@@ -29,6 +29,7 @@ module _ (t0 : Database) (old new : List Entry) (terminal : ℕ) (work : Work) (
     pub is_next : length old < t0.scale.commits → IsNext t0 old new x done
     is_next below = record {
       below = below;
+      numbered = subst (HasOrderNumber (replay t0 old)) is is_done.commit.numbered;
       commits = ap (apply (replay t0 old)) (sym is) ∙ is_done.commit.commits ∙ (λ i. Committed (tables i) (reply i));
       longer = longer;
       number = ap (λ (d : Done). d.number) told ∙ sym longer;

@@ -1,1 +1,3 @@
 mod Commits
+mod NumberLeft
+mod RefusedThere

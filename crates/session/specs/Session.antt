@@ -1,8 +1,11 @@
 -- What contracts see of a session, and what a commit of it is.
-use Rattle.std.specs.Prelude.{◌≡◌, ◌<◌, ◌+◌, List, [], ◌∷◌, ◌++◌, length}
+use Rattle.std.specs.Prelude.{◌≡◌, ℕ, ◌<◌, ◌≤◌, ◌+◌, List, length}
+use Rattle.money.specs.declared.refusal.Refusal.{Refusal}
+use Rattle.money.specs.declared.refusal.Refusal.TheVariants.{ItemNotValid, OrdersFull, CommitsFull}
 use Rattle.tables.specs.Database.{Database}
-use Rattle.tables.specs.Apply.{apply, Committed}
+use Rattle.tables.specs.Apply.{apply, Committed, RolledBack, HasOrderNumber}
 use Rattle.tables.specs.declared.input.Input.{Input}
+use Rattle.readset.specs.Commit.{IsCommitted}
 use Rattle.book.specs.History.{replay, commit_tid}
 use Rattle.book.specs.declared.entry.Entry.{Entry}
 use Rattle.book.specs.declared.entry.Done.{Done}
@@ -15,7 +18,15 @@ pub record SessionView : Type 0 where
 -- an input is the next commit, below the cap: its tables and its reply are those of the transaction at the tables before, and this is what its terminal is told
 pub record IsNext (t0 : Database) (old new : List Entry) (x : Input) (done : Done) : Type 0 where
   pub below : length old < t0.scale.commits
+  pub numbered : HasOrderNumber (replay t0 old) x
   pub commits : apply (replay t0 old) x ≡ Committed (replay t0 new) done.reply
   pub longer : length new ≡ length old + 1
   pub number : done.number ≡ length new
   pub tid : done.tid ≡ commit_tid (length new)
+
+-- an input has this refusal at the committed tables t, when so many transactions have committed: the first of its items that isn't in ITEM, else an order number above the order cap, else the commit cap
+abbrev pub IsRefusedAt : Database → ℕ → Input → Refusal → Type 0
+IsRefusedAt t count x (ItemNotValid item) = apply t x ≡ RolledBack item
+IsRefusedAt t count x OrdersFull = IsCommitted (apply t x) × ¬ HasOrderNumber t x
+IsRefusedAt t count x CommitsFull = IsCommitted (apply t x) × HasOrderNumber t x × (t.scale.commits ≤ count)
+IsRefusedAt t count x _ = ⊥

@@ -1,28 +1,33 @@
-//! Which crate executes an input: one line a transaction.
-ghost use Rattle.std.specs.Prelude.{◌≡◌, ◌⊎◌, length, IfOk, IfErr};
-ghost use Rattle.tables.specs.Inputs.{IsInput, IsExecuted};
-ghost use Rattle.money.specs.declared.refusal.Refusal.TheVariants.{OutOfMemory, Stale};
-ghost use Rattle.population.specs.Initial.{initial};
+//! Which crate executes an input, and which inputs make an order: one arm a transaction.
+ghost use Rattle.std.specs.Prelude.{◌≡◌, length, IfOk, IfErr, MatchBool};
+ghost use Rattle.tables.specs.Inputs.{IsInput};
+ghost use Rattle.tables.specs.Apply.{HasOrderNumber};
+ghost use Rattle.tables.specs.NewOrder.{IsNewOrder, HasNumber};
 ghost use Rattle.tables.specs.Records.{record_count};
+ghost use Rattle.population.specs.Initial.{initial};
 ghost use Rattle.cells.specs.Records.{HasGrown};
-ghost use Rattle.readset.specs.Reads.{ReadSetView, AreRead};
-ghost use Rattle.readset.specs.Explains.{Explains, NoneMayBe, IsWithinLimits};
+ghost use Rattle.readset.specs.Reads.{AreRead};
+ghost use Rattle.readset.specs.Explains.{Explains, IsWithinLimits};
+ghost use Rattle.readset.specs.Refused.{IsRefusal};
+ghost use Rattle.book.specs.History.{replay};
 
+use book::{Book, Run};
 use cells::{Cells, Reader};
 use money::Refusal;
 use population::Population;
 use readset::Work;
 use std::alloc::Global;
 use std::sync::Wait;
-use tables::Input;
+use tables::{DistrictKey, Input, NewOrderInput, RecordKey, Scale, number_of_key};
 
 /// Executes a transaction: reads its records once each, and says what it is to write and to reply if it commits. No
 /// cell changes. Costs what its kind costs.
 ///
 /// # Errors
 ///
-/// `Stale` only where no consistent, well-formed tables of this population have the versions that this call has read;
-/// `OutOfMemory`. After a refusal, too, the reader has seen what it had seen, and perhaps more.
+/// `ItemNotValid`, with the first such item, where an order's item isn't in ITEM; `OrdersFull` only where an order has
+/// no number left at any tables of this population at which it may have read; `Stale` only where there are no such
+/// tables; `OutOfMemory`. After a refusal, too, the reader has seen what it had seen, and perhaps more.
 pub fn execute<R: Wait>(
     rt: &R,
     alloc: Global,
@@ -32,7 +37,6 @@ pub fn execute<R: Wait>(
     input: &Input,
 ) -> Result<Work, Refusal>
     requires input { IsInput (initial population.now).scale input.now }
-    requires executed { IsExecuted input.now }
     requires own { reader.old.cells ≡ cells.now }
     requires cells { length cells.now ≡ record_count (initial population.now).scale }
     ensures input { IfOk result (λ work. work.input ≡ input.now) }
@@ -41,12 +45,43 @@ pub fn execute<R: Wait>(
         Explains (initial population.now) input.now work.reads work.writes work.reply) }
     ensures limits { IfOk result (λ work. IsWithinLimits (length cells.now) work.reads work.writes) }
     ensures grown { HasGrown reader.old reader.new }
-    ensures refused { IfErr result (λ refusal. (refusal ≡ OutOfMemory) ⊎
-        ((refusal ≡ Stale) × ((reads : ReadSetView) × AreRead reader.old reader.new reads
-        × NoneMayBe (initial population.now) reads))) }
+    ensures refused { IfErr result (IsRefusal (initial population.now) input.now reader.old reader.new) }
 {
     match input {
         Input::Payment(payment) => payment::execute(rt, alloc, cells, reader, population, payment),
-        Input::NewOrder(_) => unreachable!(),
+        Input::NewOrder(order) => neworder::execute(rt, alloc, cells, reader, population, order),
+    }
+}
+
+/// Whether a transaction has an order number at the committed tables, where it makes an order. Constant time, no
+/// memory.
+pub(crate) fn has_order_number<K: Run>(book: &Book<K>, scale: &Scale, input: &Input) -> bool
+    requires scale { scale.now ≡ K.first.scale }
+    requires input { IsInput K.first.scale input.now }
+    ensures { MatchBool result
+        (HasOrderNumber (replay K.first book.now.history) input.now)
+        (¬ HasOrderNumber (replay K.first book.now.history) input.now) }
+{
+    match input {
+        Input::Payment(_) => true,
+        Input::NewOrder(order) => has_number(book, scale, order),
+    }
+}
+
+/// Whether D_NEXT_O_ID of an order's district is within the order cap.
+fn has_number<K: Run>(book: &Book<K>, scale: &Scale, order: &NewOrderInput) -> bool
+    requires scale { scale.now ≡ K.first.scale }
+    requires input { IsNewOrder K.first.scale order.now }
+    ensures { MatchBool result
+        (HasNumber (replay K.first book.now.history) order.now)
+        (¬ HasNumber (replay K.first book.now.history) order.now) }
+{
+    let home = DistrictKey {
+        warehouse: order.warehouse,
+        district: order.district,
+    };
+    match book.record(number_of_key(scale, RecordKey::District(home))) {
+        Some(words) => words[1] <= u64::from(scale.orders()),
+        None => true,
     }
 }

@@ -1,7 +1,7 @@
 //! A terminal that has the book to itself.
 
-ghost use Rattle.std.specs.Prelude.{◌≡◌, ◌⊎◌, ◌<◌, ◌≤◌, [], ◌∷◌, ◌++◌, length, IfOk, IfErr, OnOk, OnErr, IsErrOf};
-ghost use Rattle.tables.specs.Inputs.{IsInput, IsExecuted};
+ghost use Rattle.std.specs.Prelude.{◌≡◌, ◌⊎◌, ◌<◌, [], ◌∷◌, ◌++◌, length, IfOk, IfErr, OnOk, OnErr};
+ghost use Rattle.tables.specs.Inputs.{IsInput};
 ghost use Rattle.tables.specs.Records.{record_count};
 ghost use Rattle.tables.specs.Rows.{rows};
 ghost use Rattle.tables.specs.WellFormed.{IsWellFormed};
@@ -11,8 +11,8 @@ ghost use Rattle.book.specs.History.{replay};
 ghost use Rattle.std.specs.Option.{ForSome};
 ghost use Rattle.book.specs.Book.{IsWorkOf};
 ghost use Rattle.book.specs.declared.entry.Done.{Done as DoneValue};
-ghost use Rattle.session.specs.Session.{IsNext};
-ghost use Rattle.money.specs.declared.refusal.Refusal.TheVariants.{OutOfMemory, CommitsFull};
+ghost use Rattle.session.specs.Session.{IsNext, IsRefusedAt};
+ghost use Rattle.money.specs.declared.refusal.Refusal.TheVariants.{OutOfMemory};
 
 use crate::attempting::{attempt, commit_work};
 use book::{Book, Done, Engine, Run, Seat};
@@ -92,18 +92,20 @@ impl<'e, K: Run> Session<'e, K> {
     }
 
     /// Commits a transaction, and tries again for as long as what it read isn't the latest. What the terminal is told
-    /// is then the last of `dones`. A refusal leaves all as it was: `CommitsFull` comes only at the commit cap, and
-    /// else only `OutOfMemory`.
+    /// is then the last of `dones`.
+    ///
+    /// # Errors
+    ///
+    /// At the committed tables: `ItemNotValid`, with the first such item, where an order's item isn't in ITEM; else
+    /// `OrdersFull` where its district's order numbers are used up; else `CommitsFull` at the commit cap. `OutOfMemory`
+    /// at any time. A refusal leaves all as it was.
     pub fn commit<R: Wait>(&mut self, rt: &R, input: &Input) -> Result<(), Refusal>
         requires input { IsInput K.first.scale input.now }
-        requires executed { IsExecuted input.now }
         ensures next { OnOk result ((done : DoneValue) × IsNext K.first self.old.history self.new.history input.now done
             × (self.new.dones ≡ self.old.dones ++ done ∷ [])) }
         ensures count { length self.old.dones ≡ length self.old.history }
-        ensures refusals { IfErr result (λ refusal. (refusal ≡ CommitsFull)
-            ⊎ (refusal ≡ OutOfMemory)) }
-        ensures full { IsErrOf result CommitsFull
-            → K.first.scale.commits ≤ length self.old.history }
+        ensures refusals { IfErr result (λ refusal. (refusal ≡ OutOfMemory)
+            ⊎ IsRefusedAt (replay K.first self.old.history) (length self.old.history) input.now refusal) }
         ensures err { OnErr result (self.new ≡ self.old) }
     {
         self.dones.reserve(1)?;
@@ -152,7 +154,8 @@ impl<'e, K: Run> Session<'e, K> {
 ///
 /// # Errors
 ///
-/// `CommitsFull` only at the commit cap, and else only `OutOfMemory`. The history is then as it was.
+/// As `Session::commit`: `ItemNotValid`, `OrdersFull` and `CommitsFull` at the committed tables, and `OutOfMemory`. The
+/// history is then as it was.
 pub fn persist<K: Run, R: Wait>(
     rt: &R,
     alloc: Global,
@@ -163,14 +166,13 @@ pub fn persist<K: Run, R: Wait>(
     executed: Option<Work>,
 ) -> Result<Done, Refusal>
     requires input { IsInput K.first.scale input.now }
-    requires executed { IsExecuted input.now }
     requires reader { seat.old.reader.cells ≡ K.cells }
     requires begun { ForSome executed (λ work.
         IsWorkOf K.first (length K.cells) seat.old.reader work × (work.input ≡ input.now)) }
     ensures reader { seat.new.reader.cells ≡ K.cells }
     ensures commits { IfOk result (IsNext K.first book.old.history book.new.history input.now) }
-    ensures refusals { IfErr result (λ refusal. (refusal ≡ CommitsFull) ⊎ (refusal ≡ OutOfMemory)) }
-    ensures full { IsErrOf result CommitsFull → K.first.scale.commits ≤ length book.old.history }
+    ensures refusals { IfErr result (λ refusal. (refusal ≡ OutOfMemory)
+        ⊎ IsRefusedAt (replay K.first book.old.history) (length book.old.history) input.now refusal) }
     ensures err { OnErr result (book.new ≡ book.old) }
 {
     if let Some(work) = executed {

@@ -3,7 +3,7 @@ use Rattle.tables.specs.Database.{Database}
 use Rattle.tables.specs.NewOrder.{line_amount}
 use Rattle.tables.specs.declared.new_order.NewOrderInput.{NewOrderInput}
 use Rattle.cells.specs.Records.{ReaderView, HasGrown}
-use Rattle.readset.specs.Reads.{Keeps, AreRead}
+use Rattle.readset.specs.Reads.{Keeps, AreWithin, AreRead}
 use Rattle.neworder.specs.Steps.{AreTaken}
 use Rattle.neworder.proofs.lines.take_lines.Given as goal
 
@@ -13,7 +13,8 @@ invariant-loop-line g l = record {
   own : l.reader.cells ≡ l.cells;
   number : l.number ≡ l.line-index;
   taken : (t : Database) (x : NewOrderInput) → t.scale ≡ l.scale → l.amounts ≡ map (line_amount t) l.lines → AreTaken t x l.order [] l.fn.reads l.fn.writes []
-      → AreTaken t x l.order (take l.line-index l.lines) l.reads l.writes l.quantities.items;
+      → AreTaken t x l.order (take l.line-index l.lines) l.reads l.writes l.supplied.items;
+  within : AreWithin (length l.cells) l.fn.reads → AreWithin (length l.cells) l.reads;
   keeps : Keeps l.fn.reads l.reads;
   chain : (first : ReaderView) → AreRead first l.fn.reader l.fn.reads → AreRead first l.reader l.reads;
   grown : (first : ReaderView) → HasGrown first l.fn.reader → HasGrown first l.reader;

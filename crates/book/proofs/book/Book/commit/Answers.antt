@@ -30,6 +30,9 @@ returns-in-Err-clause-answer g c =
       refl,
       inr (
         subst (λ (k : BookView). AreLatest k.written.all c.args.work.reads) view c.if-not-validate.ensures.latest,
+        subst (λ (k : BookView). IsDone (replay g.K.Run.first k.history) (entry_of (length k.history + 1) c.args.share.now.terminal c.args.work)) view
+            (done_there g.K.Run.first g.K.Run.cells (record { written = c.self.inside.pen; history = c.self.inside.history.items }) (replay g.K.Run.first c.self.inside.history.items) c.self.invariant.0 c.self.invariant.1
+            c.args.reader.now c.args.work c.requires.work c.if-not-validate.ensures.latest (length c.self.inside.history.items + 1) c.args.share.now.terminal),
         subst (λ (q : ℕ × BookView). ((c.in-Err.refusal ≡ CommitsFull) × (q.0 ≤ length q.1.history)) ⊎ ((c.in-Err.refusal ≡ OutOfMemory) × (length q.1.history < q.0)))
             (λ i. (cap i, view i)) c.in-Err.ensures.refused,
       ),
@@ -96,5 +99,5 @@ returns-clause-answer g c =
       (λ i. record { terminal = c.share.inside.terminal; parts = c.add.ensures.parts i; commits = c.add.ensures.amount i }),
       c.store.ensures.seen,
       done_there g.K.Run.first g.K.Run.cells (record { written = c.self.inside.pen; history = c.self.inside.history.items }) (replay g.K.Run.first c.self.inside.history.items) sound c.self.invariant.1
-          c.args.reader.now c.args.work c.requires.work c.if-not-validate.ensures.latest c.share.inside.terminal c.store.new.pen small cells stores,
+          c.args.reader.now c.args.work c.requires.work c.if-not-validate.ensures.latest (length c.self.inside.history.items + 1) c.share.inside.terminal,
     )

@@ -1,0 +1,299 @@
+//! New-Orders on the small population: on its cells, and at an engine's terminals.
+ghost use Rattle.std.specs.Prelude.{◌≡◌, length, IfOk};
+ghost use Rattle.tables.specs.Records.{record_count};
+ghost use Rattle.population.specs.Initial.{initial};
+ghost use Rattle.book.specs.Parts.{IsFresh, first_of, cells_of, ledger_name, ledger_parts};
+
+use crate::engine::{Executed, both_of, execute_at, parts};
+use crate::new_orders::{Ordered, five, line, new_order, order_reply, order_told};
+use crate::stage::{Stage, open};
+use book::{Done, Engine, Parts, Run, Seat};
+use money::Refusal;
+use population::Population;
+use readset::Work;
+use session::{execute, persist};
+use std::alloc::Global;
+use std::marker::Brand;
+use std::sync::Wait;
+use std::test::Fail;
+use tables::{Reply, RequestedLine, Scale};
+
+/// What was seen of an order that was executed: what it is told, S_QUANTITY after each line, how many records it reads
+/// and writes, and what some of them are to hold.
+#[derive(Clone, Copy)]
+struct Seen {
+    ordered: Option<Ordered>,
+    stocks: [u32; 15],
+    reads: usize,
+    writes: usize,
+    written: Written,
+}
+
+/// What the records of order 11 of customer 1 are to hold: its district, itself, two of its nine lines, the stocks of
+/// items 1 and 2, and its customer's LAST.
+#[derive(Clone, Copy, Debug, PartialEq, Eq)]
+struct Written {
+    district: Option<[u64; 7]>,
+    new_order: Option<[u64; 7]>,
+    order: Option<[u64; 7]>,
+    first_line: Option<[u64; 7]>,
+    last_line: Option<[u64; 7]>,
+    stocks: [Option<[u64; 7]>; 2],
+    last: Option<[u64; 7]>,
+}
+
+/// S_QUANTITY after each line.
+fn stocks_of(reply: &Reply) -> [u32; 15] {
+    let mut stocks = [0; 15];
+    if let Reply::NewOrder(reply) = reply {
+        for (stock, line) in stocks.iter_mut().zip(reply.lines.as_slice()) {
+            *stock = line.stock;
+        }
+    }
+    stocks
+}
+
+fn written_of(work: &Work) -> Written {
+    let value = |number: u32| work.writes.value(number).flatten();
+    Written {
+        district: value(1),
+        new_order: value(33),
+        order: value(93),
+        first_line: value(293),
+        last_line: value(301),
+        stocks: [value(1_043), value(1_044)],
+        last: value(1_065),
+    }
+}
+
+/// Executes an order of customer 1.
+fn order<R: Wait>(
+    rt: &R,
+    alloc: Global,
+    stage: &mut Stage,
+    lines: &[RequestedLine],
+) -> Result<Seen, Refusal>
+    requires scale { length stage.old.cells ≡ record_count (initial stage.old.population).scale }
+    requires reader { stage.old.reader.cells ≡ stage.old.cells }
+{
+    let input = new_order(alloc, &stage.population.scale(), 1, lines)?;
+    let work = execute(
+        rt,
+        alloc,
+        &stage.cells,
+        &mut stage.reader,
+        &stage.population,
+        &input,
+    )?;
+    Ok(Seen {
+        ordered: order_reply(&work.reply),
+        stocks: stocks_of(&work.reply),
+        reads: work.reads.versions().count(),
+        writes: work.writes.values().count(),
+        written: written_of(&work),
+    })
+}
+
+fn seen_of<R: Wait>(rt: &R, alloc: Global, lines: &[RequestedLine]) -> Result<Seen, Fail> {
+    let mut stage = open(rt, alloc)?;
+    Ok(order(rt, alloc, &mut stage, lines)?)
+}
+
+/// Four lines of item 1 and five of item 2.
+#[test]
+fn an_item_that_comes_again(rt: HostRuntime) -> Result<(), Fail> {
+    let (one, two) = (line(1, 10), line(2, 10));
+    let lines = [one, one, one, one, two, two, two, line(2, 1), two];
+    let seen = seen_of(&rt, rt.alloc(), &lines)?;
+    assert_eq!(rt; seen.ordered, order_told(11, 12_200, 12_627));
+    let stocks = [40, 30, 20, 10, 40, 30, 20, 19, 100, 0, 0, 0, 0, 0, 0];
+    assert_eq!(rt; seen.stocks, stocks);
+    assert_eq!(rt; (seen.reads, seen.writes), (15, 15));
+    let wanted = Written {
+        district: Some([10_000, 12, 0, 0, 0, 0, 0]),
+        new_order: Some([0; 7]),
+        order: Some([1, 1, 0, 9, 1, 0, 0]),
+        first_line: Some([1, 1, 0, 10, 1_000, 0, 0]),
+        last_line: Some([2, 1, 0, 10, 2_000, 0, 0]),
+        stocks: [
+            Some([10, 40, 4, 0, 0, 0, 0]),
+            Some([100, 41, 5, 0, 0, 0, 0]),
+        ],
+        last: Some([11, 0, 0, 0, 0, 0, 0]),
+    };
+    assert_eq!(rt; seen.written, wanted);
+    Ok(())
+}
+
+/// A commit's number, and what an order is told.
+type Told = (u32, Option<Ordered>);
+
+fn told(done: &Done) -> Told {
+    (done.number(), order_reply(done.reply()))
+}
+
+/// Commits an order of customer 3.
+fn commit<K: Run, R: Wait>(
+    rt: &R,
+    alloc: Global,
+    engine: &Engine<K>,
+    seat: &mut Seat<K>,
+    lines: &[RequestedLine],
+) -> Result<Told, Refusal>
+    requires { seat.old.reader.cells ≡ K.cells }
+    ensures { seat.new.reader.cells ≡ K.cells }
+{
+    let scale = engine.population().scale();
+    let input = new_order(alloc, &scale, 3, lines)?;
+    let mut book = engine.lock(rt);
+    let done = persist(rt, alloc, engine, &mut book, seat, &input, None)?;
+    Ok(told(&done))
+}
+
+/// What came of an order of item 21, which isn't in ITEM, how much has committed then, and what came of an order of
+/// items that are there.
+type Tries = (Result<Told, Refusal>, usize, Result<Told, Refusal>);
+
+fn try_both<K: Run, R: Wait>(rt: &R, alloc: Global, parts: Parts) -> Result<Tries, Fail>
+    requires fresh { IsFresh parts }
+    requires run { (first_of parts ≡ K.first) × (cells_of parts ≡ K.cells) }
+    requires ledger { (ledger_name parts ≡ K.name) × (ledger_parts parts ≡ K.parts) }
+{
+    let (engine, mut seats) = Engine::<K>::open(parts);
+    let mut seat = seats.next().ok_or("seat")?;
+    let missing = commit(rt, alloc, &engine, &mut seat, &five(21, 10));
+    let commits = engine.lock(rt).history().len();
+    let there = commit(rt, alloc, &engine, &mut seat, &five(5, 1));
+    Ok((missing, commits, there))
+}
+
+#[test]
+fn an_item_that_is_missing(rt: HostRuntime) -> Result<(), Fail> {
+    let parts = parts(&rt, rt.alloc())?;
+    let (missing, commits, there) = try_both::<Brand, _>(&rt, rt.alloc(), parts)?;
+    assert_eq!(rt; missing, Err(Refusal::ItemNotValid { item: 21 }));
+    assert_eq!(rt; commits, 0);
+    assert_eq!(rt; there, Ok((1, order_told(11, 1_500, 1_552))));
+    Ok(())
+}
+
+/// Parts of an engine whose districts have all the orders that they may have.
+fn full<R: Wait>(rt: &R, alloc: Global) -> Result<Parts, Refusal>
+    ensures { IfOk result IsFresh }
+{
+    let scale = Scale::new(1, 2, 10, 20, 10, 1_000)?;
+    Parts::new(rt, alloc, Population::plain(alloc, scale)?, 1)
+}
+
+#[test]
+fn no_order_number_is_left(rt: HostRuntime) -> Result<(), Fail> {
+    let parts = full(&rt, rt.alloc())?;
+    let (missing, commits, there) = try_both::<Brand, _>(&rt, rt.alloc(), parts)?;
+    assert_eq!(rt; missing, Err(Refusal::ItemNotValid { item: 21 }));
+    assert_eq!(rt; commits, 0);
+    assert_eq!(rt; there, Err(Refusal::OrdersFull));
+    Ok(())
+}
+
+/// Executes an order of this customer.
+fn execute_order<K: Run, R: Wait>(
+    rt: &R,
+    alloc: Global,
+    engine: &Engine<K>,
+    seat: Seat<K>,
+    customer: u32,
+) -> Result<Executed<K>, Refusal>
+    requires { seat.reader.cells ≡ K.cells }
+{
+    let scale = engine.population().scale();
+    let input = new_order(alloc, &scale, customer, &five(5, 10))?;
+    execute_at(rt, alloc, engine, seat, input)
+}
+
+/// Commits an order that a terminal has executed. Where that is refused, executes it again, and tells the refusal.
+fn commit_executed<K: Run, R: Wait>(
+    rt: &R,
+    alloc: Global,
+    engine: &Engine<K>,
+    executed: Executed<K>,
+) -> Result<(Option<Refusal>, Told), Refusal> {
+    let Executed {
+        mut seat,
+        input,
+        work,
+    } = executed;
+    let mut book = engine.lock(rt);
+    let cells = engine.cells();
+    match book.commit(rt, cells, &mut seat.reader, &mut seat.share, work) {
+        Ok(done) => Ok((None, told(&done))),
+        Err(refusal) => {
+            let done = persist(rt, alloc, engine, &mut book, &mut seat, &input, None)?;
+            Ok((Some(refusal), told(&done)))
+        }
+    }
+}
+
+/// What came of two orders, and whether the conditions hold then.
+#[derive(Clone, Copy, Debug, PartialEq, Eq)]
+struct Outcome {
+    third: (Option<Refusal>, Told),
+    fourth: (Option<Refusal>, Told),
+    is_good: bool,
+}
+
+fn commit_both<K: Run, R: Wait>(
+    rt: &R,
+    alloc: Global,
+    engine: &Engine<K>,
+    third: Executed<K>,
+    fourth: Executed<K>,
+) -> Result<Outcome, Refusal> {
+    let third = commit_executed(rt, alloc, engine, third)?;
+    let fourth = commit_executed(rt, alloc, engine, fourth)?;
+    let is_good = engine.lock(rt).report(alloc)?.is_good();
+    Ok(Outcome {
+        third,
+        fourth,
+        is_good,
+    })
+}
+
+/// Has two orders to one district executed before either commits.
+fn outcome_of<K: Run, R: Wait>(
+    rt: &R,
+    alloc: Global,
+    engine: &Engine<K>,
+    left: Seat<K>,
+    right: Seat<K>,
+) -> Result<Outcome, Refusal>
+    requires left { left.reader.cells ≡ K.cells }
+    requires right { right.reader.cells ≡ K.cells }
+{
+    let third = execute_order(rt, alloc, engine, left, 3)?;
+    let fourth = execute_order(rt, alloc, engine, right, 4)?;
+    commit_both(rt, alloc, engine, third, fourth)
+}
+
+fn order_twice<K: Run, R: Wait>(rt: &R, alloc: Global, parts: Parts) -> Result<Outcome, Fail>
+    requires fresh { IsFresh parts }
+    requires run { (first_of parts ≡ K.first) × (cells_of parts ≡ K.cells) }
+    requires ledger { (ledger_name parts ≡ K.name) × (ledger_parts parts ≡ K.parts) }
+{
+    let (engine, mut seats) = Engine::<K>::open(parts);
+    let (left, right) = both_of(&mut seats).ok_or("seats")?;
+    Ok(outcome_of(rt, alloc, &engine, left, right)?)
+}
+
+#[test]
+fn one_number_at_two_terminals(rt: HostRuntime) -> Result<(), Fail> {
+    let parts = parts(&rt, rt.alloc())?;
+    let outcome = order_twice::<Brand, _>(&rt, rt.alloc(), parts)?;
+    assert_eq!(rt; outcome.third, (None, (1, order_told(11, 15_000, 15_525))));
+    let conflict = Some(Refusal::Conflict);
+    assert_eq!(rt;
+        outcome.fourth,
+        (conflict, (2, order_told(12, 15_000, 15_525)))
+    );
+    assert!(rt; outcome.is_good);
+    Ok(())
+}

@@ -1,0 +1,37 @@
+-- Refusals at the committed tables, from what an execution and a commit say.
+use Rattle.std.proofs.Common.{◌≡◌, ◌≢◌, ◌≤◌, ◌⊎◌, inl, inr, List, length, refl, sym, subst}
+use Rattle.money.specs.declared.refusal.Refusal.{Refusal}
+use Rattle.money.specs.declared.refusal.Refusal.TheVariants.{OutOfMemory, Stale, ItemNotValid, OrdersFull, CommitsFull}
+use Rattle.tables.specs.Sizes.{Sizes}
+use Rattle.tables.specs.Database.{Database}
+use Rattle.tables.specs.Apply.{HasOrderNumber}
+use Rattle.tables.specs.declared.input.Input.{Input}
+use Rattle.cells.specs.Records.{ReaderView}
+use Rattle.readset.specs.Commit.{IsCommitted}
+use Rattle.readset.specs.Refused.{IsRefusal}
+use Rattle.book.specs.History.{replay, IsDone}
+use Rattle.book.specs.declared.entry.Entry.{Entry}
+use Rattle.book.proofs.Replaying.{replay-IsOf, replay-scale}
+use Rattle.session.specs.Session.{IsRefusedAt}
+
+module _ (t0 : Database) (history : List Entry) (x : Input) where
+  -- where no order number is left there
+  pub orders_full : (old new : ReaderView) → IsRefusal t0 x old new OrdersFull → ¬ HasOrderNumber (replay t0 history) x → IsRefusedAt (replay t0 history) (length history) x OrdersFull
+  orders_full old new h none = (h.0 (replay t0 history) (replay-IsOf t0 history), none)
+
+  -- any other refusal of an execution
+  pub as_refused : (old new : ReaderView) (refusal : Refusal) → IsRefusal t0 x old new refusal → refusal ≢ OrdersFull
+      → (refusal ≡ Stale) ⊎ (refusal ≡ OutOfMemory) ⊎ IsRefusedAt (replay t0 history) (length history) x refusal
+  as_refused old new OutOfMemory h other = inr (inl refl)
+  as_refused old new (ItemNotValid item) h other = inr (inr (h (replay t0 history) (replay-IsOf t0 history)))
+  as_refused old new OrdersFull h other = absurd (other refl)
+  as_refused old new Stale h other = inl refl
+  as_refused old new _ h other = absurd h
+
+-- a work that is done there, and comes at the commit cap
+pub commits_full : (t0 : Database) (history : List Entry) (e : Entry) → IsDone (replay t0 history) e → t0.scale.commits ≤ length history → IsRefusedAt (replay t0 history) (length history) e.input CommitsFull
+commits_full t0 history e done cap = (
+  subst IsCommitted (sym done.commit.commits) tt,
+  done.commit.numbered,
+  subst (λ (s : Sizes). s.commits ≤ length history) (sym (replay-scale t0 history)) cap,
+)
