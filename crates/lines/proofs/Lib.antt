@@ -4,6 +4,7 @@ mod Spaces
 mod Numerals
 mod Amounts
 mod Supplied
+mod OrderLines
 mod RequestLemmas
 pub mod Cutting
 pub mod OneText

@@ -1,17 +1,16 @@
 -- Each request has a line of its own.
-use Rattle.std.proofs.Common.{◌≡◌, ℕ, zero, suc, ◌+◌, ◌-◌, ◌<◌, ◌^◌, ◌/◌, ◌%◌, List, [], ◌∷◌, get_or, drop, map, ℤ, pos, negsuc, sym, ap, ◌∙◌, refl, arith, lit≤}
-use Rattle.std.specs.Fmt.{decimal}
+use Rattle.std.proofs.Common.{◌≡◌, ℕ, zero, suc, ◌+◌, ◌-◌, ◌/◌, ◌%◌, List, [], ◌∷◌, get_or, drop, map, ℤ, pos, negsuc, sym, ap, ◌∙◌, refl, arith, lit≤}
 use Rattle.std.specs.Int.Digits.{digits_of}
-use Rattle.std.proofs.lemmas.Fmt.{decimal_injective}
 use Rattle.std.proofs.lemmas.Int.Digits.{same_from_digits_of}
 use Rattle.lines.specs.declared.request.Request.{Request}
-use Rattle.lines.specs.declared.request.Request.TheVariants.{Payment, ShowWarehouse, ShowDistrict, ShowCustomer}
+use Rattle.lines.specs.declared.request.Request.TheVariants.{Payment, NewOrder, ShowWarehouse, ShowDistrict, ShowCustomer, ShowStock, ShowOrder}
 use Rattle.lines.specs.Amount.{numeral, unsigned_amount_text, amount_text}
 use Rattle.lines.specs.Words.{words}
 use Rattle.lines.specs.Requests.{HasNumbers, words_of, request_text}
 use Rattle.lines.proofs.Numerals.{numeral_of_some, numeral_zero, zero_from_first}
 use Rattle.lines.proofs.Amounts.{units_of, cents_of, no_sign}
-use Rattle.lines.proofs.RequestLemmas.{byte_of, words_request}
+use Rattle.lines.proofs.OrderLines.{number_at, same_lines}
+use Rattle.lines.proofs.RequestLemmas.{kind_of, words_request}
 
 digits_of_glyphs : (xs : List ℕ) → map (λ c. c - 48) (map (λ d. 48 + d) xs) ≡ xs
 digits_of_glyphs [] = refl
@@ -43,11 +42,6 @@ amount_injective (negsuc m) (negsuc n) e =
     let same : m ≡ n = omega arith in
     ap negsuc same
 
--- the number that is word k
-number_at : (k : ℕ) (xs ys : List (List ℕ)) (m n : ℕ) → get_or xs k [] ≡ decimal m → get_or ys k [] ≡ decimal n → xs ≡ ys → m < 2 ^ 32 → n < 2 ^ 32 → m ≡ n
-number_at k xs ys m n is_m is_n e small_m small_n =
-    decimal_injective m n (omega arith) (omega arith) (sym is_m ∙ ap (λ l. get_or l k []) e ∙ is_n)
-
 same_words : (a b : Request) → HasNumbers a → HasNumbers b → words_of a ≡ words_of b → a ≡ b
 same_words (Payment w d cw cd c z) (Payment w' d' cw' cd' c' z') h i e =
     let same_w = number_at 1 _ _ w w' refl refl e h.0 i.0 in
@@ -57,27 +51,32 @@ same_words (Payment w d cw cd c z) (Payment w' d' cw' cd' c' z') h i e =
     let same_c = number_at 5 _ _ c c' refl refl e h.4 i.4 in
     let same_z = amount_injective z z' (ap (λ l. get_or l 6 []) e) in
     cc
-same_words (Payment w d cw cd c z) (ShowWarehouse w') h i e = absurd (let f : ◌≡◌ {A = ℕ} 112 115 = ap (byte_of 0) e in omega arith)
-same_words (Payment w d cw cd c z) (ShowDistrict w' d') h i e = absurd (let f : ◌≡◌ {A = ℕ} 112 115 = ap (byte_of 0) e in omega arith)
-same_words (Payment w d cw cd c z) (ShowCustomer w' d' c') h i e = absurd (let f : ◌≡◌ {A = ℕ} 112 115 = ap (byte_of 0) e in omega arith)
-same_words (ShowWarehouse w) (Payment w' d cw cd c z) h i e = absurd (let f : ◌≡◌ {A = ℕ} 115 112 = ap (byte_of 0) e in omega arith)
+same_words (NewOrder w d c ls) (NewOrder w' d' c' ls') h i e =
+    let same_w = number_at 1 _ _ w w' refl refl e h.0 i.0 in
+    let same_d = number_at 2 _ _ d d' refl refl e h.1 i.1 in
+    let same_c = number_at 3 _ _ c c' refl refl e h.2 i.2 in
+    let same_ls = same_lines ls ls' h.3 i.3 (ap (drop 4) e) in
+    cc
 same_words (ShowWarehouse w) (ShowWarehouse w') h i e = ap ShowWarehouse (number_at 2 _ _ w w' refl refl e h i)
-same_words (ShowWarehouse w) (ShowDistrict w' d') h i e = absurd (let f : ◌≡◌ {A = ℕ} 119 100 = ap (byte_of 1) e in omega arith)
-same_words (ShowWarehouse w) (ShowCustomer w' d' c') h i e = absurd (let f : ◌≡◌ {A = ℕ} 119 99 = ap (byte_of 1) e in omega arith)
-same_words (ShowDistrict w d) (Payment w' d' cw cd c z) h i e = absurd (let f : ◌≡◌ {A = ℕ} 115 112 = ap (byte_of 0) e in omega arith)
-same_words (ShowDistrict w d) (ShowWarehouse w') h i e = absurd (let f : ◌≡◌ {A = ℕ} 100 119 = ap (byte_of 1) e in omega arith)
 same_words (ShowDistrict w d) (ShowDistrict w' d') h i e =
     let same_w = number_at 2 _ _ w w' refl refl e h.0 i.0 in
-    let same_d = number_at 3 _ _ d d' refl refl e h.1 i.1 in cc
-same_words (ShowDistrict w d) (ShowCustomer w' d' c') h i e = absurd (let f : ◌≡◌ {A = ℕ} 100 99 = ap (byte_of 1) e in omega arith)
-same_words (ShowCustomer w d c) (Payment w' d' cw cd c' z) h i e = absurd (let f : ◌≡◌ {A = ℕ} 115 112 = ap (byte_of 0) e in omega arith)
-same_words (ShowCustomer w d c) (ShowWarehouse w') h i e = absurd (let f : ◌≡◌ {A = ℕ} 99 119 = ap (byte_of 1) e in omega arith)
-same_words (ShowCustomer w d c) (ShowDistrict w' d') h i e = absurd (let f : ◌≡◌ {A = ℕ} 99 100 = ap (byte_of 1) e in omega arith)
+    let same_d = number_at 3 _ _ d d' refl refl e h.1 i.1 in
+    cc
 same_words (ShowCustomer w d c) (ShowCustomer w' d' c') h i e =
     let same_w = number_at 2 _ _ w w' refl refl e h.0 i.0 in
     let same_d = number_at 3 _ _ d d' refl refl e h.1 i.1 in
     let same_c = number_at 4 _ _ c c' refl refl e h.2 i.2 in
     cc
+same_words (ShowStock w s) (ShowStock w' s') h i e =
+    let same_w = number_at 2 _ _ w w' refl refl e h.0 i.0 in
+    let same_s = number_at 3 _ _ s s' refl refl e h.1 i.1 in
+    cc
+same_words (ShowOrder w d o) (ShowOrder w' d' o') h i e =
+    let same_w = number_at 2 _ _ w w' refl refl e h.0 i.0 in
+    let same_d = number_at 3 _ _ d d' refl refl e h.1 i.1 in
+    let same_o = number_at 4 _ _ o o' refl refl e h.2 i.2 in
+    cc
+same_words a b h i e = absurd (let kinds : ◌≡◌ {A = ℕ} (kind_of (words_of a)) (kind_of (words_of b)) = ap kind_of e in omega arith)
 
 -- two requests with the same line are the same
 pub one_line_one_request : (a b : Request) → HasNumbers a → HasNumbers b → request_text a ≡ request_text b → a ≡ b

@@ -1,18 +1,20 @@
 -- What the words of a line can ask.
-use Rattle.std.proofs.Common.{true, eqb, not, get_or, drop, ◌≡◌, ◌≢◌, ℕ, ◌<◌, ◌^◌, List, [], ◌∷◌, codes, ℤ, Result, Ok, Err, Option, Some, None, MatchOption, MatchResult, IfOk, IfErr, ap, ◌∙◌, refl, arith}
+use Rattle.std.proofs.Common.{true, cond, eqb, not, get_or, drop, ◌≡◌, ◌≢◌, ℕ, ◌<◌, ◌^◌, List, [], ◌∷◌, map, codes, ℤ, Result, Ok, Err, Option, Some, None, MatchOption, MatchResult, IfOk, IfErr, ◌⊎◌, inl, inr, sym, subst, ap, ◌∙◌, refl, arith}
 use Rattle.std.specs.Fmt.{decimal}
 use Rattle.std.specs.List.{AllByRecursion, list_all}
 use Rattle.std.proofs.lemmas.Bool.{not-true}
 use Rattle.lines.proofs.Numerals.{and_left, and_right}
 use Rattle.std.specs.Option.{ok_or}
 use Rattle.money.specs.declared.refusal.Refusal.{Refusal}
-use Rattle.money.specs.declared.refusal.Refusal.TheVariants.{BadInput, BadLine}
+use Rattle.money.specs.declared.refusal.Refusal.TheVariants.{BadInput, BadLine, OutOfMemory}
+use Rattle.tables.specs.declared.new_order.RequestedLine.{RequestedLine}
 use Rattle.lines.specs.declared.request.Request.{Request}
-use Rattle.lines.specs.declared.request.Request.TheVariants.{Payment, ShowWarehouse, ShowDistrict, ShowCustomer}
+use Rattle.lines.specs.declared.request.Request.TheVariants.{Payment, NewOrder, ShowWarehouse, ShowDistrict, ShowCustomer, ShowStock, ShowOrder}
 use Rattle.lines.specs.Amount.{amount_text}
 use Rattle.lines.specs.Words.{words}
-use Rattle.lines.specs.Requests.{Answers, IsWithinReach, IsRefused, words_of, request_text}
+use Rattle.lines.specs.Requests.{line_word, Answers, AnswersOrNoMemory, IsRefused, words_of, request_text}
 use Rattle.lines.proofs.Amounts.{amount_no_space}
+use Rattle.lines.proofs.OrderLines.{lines_no_space}
 use Rattle.lines.proofs.Spaces.{HasNoSpace, decimal_no_space, words_one, words_joined, text_from_words}
 
 -- what an only word says, where it may be a number
@@ -24,19 +26,48 @@ last_from_number text (Some n) is = ap words is ∙ words_one (decimal n) (decim
 abbrev pub byte_of : ℕ → List (List ℕ) → ℕ
 byte_of k ws = get_or (get_or ws k []) 0 0
 
+-- a number that tells by the words which kind of request they can ask: the first byte of the verb, or behind `show` of the table
+abbrev pub kind_of : List (List ℕ) → ℕ
+kind_of ws = cond (eqb (byte_of 0 ws) 115) (byte_of 1 ws) (byte_of 0 ws)
+
 -- words that are no customer's key show none
 pub no_customer : (ws : List (List ℕ)) → ((w d c : ℕ) → w < 2 ^ 32 → d < 2 ^ 32 → c < 2 ^ 32 → ws ≢ decimal w ∷ decimal d ∷ decimal c ∷ []) → Answers (codes "show" ∷ codes "customer" ∷ ws) (Err BadLine)
-no_customer ws none (Payment w d cw cd c z) h e = let f : ◌≡◌ {A = ℕ} 115 112 = ap (byte_of 0) e in omega arith
-no_customer ws none (ShowWarehouse w) h e = let f : ◌≡◌ {A = ℕ} 99 119 = ap (byte_of 1) e in omega arith
-no_customer ws none (ShowDistrict w d) h e = let f : ◌≡◌ {A = ℕ} 99 100 = ap (byte_of 1) e in omega arith
 no_customer ws none (ShowCustomer w d c) h e = none w d c h.0 h.1 h.2 (ap (drop 2) e)
+no_customer ws none other h e = let f : ◌≡◌ {A = ℕ} 99 (kind_of (words_of other)) = ap kind_of e in omega arith
+
+-- the same of an order's
+pub no_order : (ws : List (List ℕ)) → ((w d o : ℕ) → w < 2 ^ 32 → d < 2 ^ 32 → o < 2 ^ 32 → ws ≢ decimal w ∷ decimal d ∷ decimal o ∷ []) → Answers (codes "show" ∷ codes "order" ∷ ws) (Err BadLine)
+no_order ws none (ShowOrder w d o) h e = none w d o h.0 h.1 h.2 (ap (drop 2) e)
+no_order ws none other h e = let f : ◌≡◌ {A = ℕ} 111 (kind_of (words_of other)) = ap kind_of e in omega arith
+
+-- a table that none of the requests shows
+pub no_table : (ws : List (List ℕ)) → get_or ws 0 [] ≢ codes "warehouse" → get_or ws 0 [] ≢ codes "district" → get_or ws 0 [] ≢ codes "customer" → get_or ws 0 [] ≢ codes "stock" → get_or ws 0 [] ≢ codes "order" → Answers (codes "show" ∷ ws) (Err BadLine)
+no_table ws no_w no_d no_c no_s no_o (ShowWarehouse w) h e = no_w (ap (λ l. get_or l 1 []) e)
+no_table ws no_w no_d no_c no_s no_o (ShowDistrict w d) h e = no_d (ap (λ l. get_or l 1 []) e)
+no_table ws no_w no_d no_c no_s no_o (ShowCustomer w d c) h e = no_c (ap (λ l. get_or l 1 []) e)
+no_table ws no_w no_d no_c no_s no_o (ShowStock w i) h e = no_s (ap (λ l. get_or l 1 []) e)
+no_table ws no_w no_d no_c no_s no_o (ShowOrder w d o) h e = no_o (ap (λ l. get_or l 1 []) e)
+no_table ws no_w no_d no_c no_s no_o other h e = let f : ◌≡◌ {A = ℕ} 115 (byte_of 0 (words_of other)) = ap (byte_of 0) e in omega arith
+
+-- a verb that none of the requests has
+pub no_verb : (ws : List (List ℕ)) → get_or ws 0 [] ≢ codes "payment" → get_or ws 0 [] ≢ codes "neworder" → get_or ws 0 [] ≢ codes "show" → Answers ws (Err BadLine)
+no_verb ws no_p no_n no_s (Payment w d cw cd c z) h e = no_p (ap (λ l. get_or l 0 []) e)
+no_verb ws no_p no_n no_s (NewOrder w d c ls) h e = no_n (ap (λ l. get_or l 0 []) e)
+no_verb ws no_p no_n no_s (ShowWarehouse w) h e = no_s (ap (λ l. get_or l 0 []) e)
+no_verb ws no_p no_n no_s (ShowDistrict w d) h e = no_s (ap (λ l. get_or l 0 []) e)
+no_verb ws no_p no_n no_s (ShowCustomer w d c) h e = no_s (ap (λ l. get_or l 0 []) e)
+no_verb ws no_p no_n no_s (ShowStock w i) h e = no_s (ap (λ l. get_or l 0 []) e)
+no_verb ws no_p no_n no_s (ShowOrder w d o) h e = no_s (ap (λ l. get_or l 0 []) e)
 
 -- words that are no payment's ask none
 pub no_payment : (ws : List (List ℕ)) → ((w d cw cd c : ℕ) (z : ℤ) → w < 2 ^ 32 → d < 2 ^ 32 → cw < 2 ^ 32 → cd < 2 ^ 32 → c < 2 ^ 32 → ws ≢ decimal w ∷ decimal d ∷ decimal cw ∷ decimal cd ∷ decimal c ∷ amount_text z ∷ []) → Answers (codes "payment" ∷ ws) (Err BadLine)
 no_payment ws none (Payment w d cw cd c z) h e = none w d cw cd c z h.0 h.1 h.2 h.3 h.4 (ap (drop 1) e)
-no_payment ws none (ShowWarehouse w) h e = let f : ◌≡◌ {A = ℕ} 112 115 = ap (byte_of 0) e in omega arith
-no_payment ws none (ShowDistrict w d) h e = let f : ◌≡◌ {A = ℕ} 112 115 = ap (byte_of 0) e in omega arith
-no_payment ws none (ShowCustomer w d c) h e = let f : ◌≡◌ {A = ℕ} 112 115 = ap (byte_of 0) e in omega arith
+no_payment ws none other h e = let f : ◌≡◌ {A = ℕ} 112 (kind_of (words_of other)) = ap kind_of e in omega arith
+
+-- words that are no New-Order's ask none
+pub no_new_order : (ws : List (List ℕ)) → ((w d c : ℕ) (ls : List RequestedLine) → w < 2 ^ 32 → d < 2 ^ 32 → ws ≢ decimal w ∷ decimal d ∷ decimal c ∷ map line_word ls) → Answers (codes "neworder" ∷ ws) (Err BadLine)
+no_new_order ws none (NewOrder w d c ls) h e = none w d c ls h.0 h.1 (ap (drop 1) e)
+no_new_order ws none other h e = let f : ◌≡◌ {A = ℕ} 110 (kind_of (words_of other)) = ap kind_of e in omega arith
 
 -- what the last word says, where it may be an amount
 pub words_amount : (text : List ℕ) (z : ℤ) → text ≡ amount_text z → words text ≡ amount_text z ∷ []
@@ -50,32 +81,44 @@ letters (x ∷ xs) e = (not-true _ (and_left _ _ e), letters xs (and_right _ _ e
 no_space_of : (request : Request) → AllByRecursion HasNoSpace (words_of request)
 no_space_of (Payment w d cw cd c z) =
     (letters (codes "payment") refl, (decimal_no_space w, (decimal_no_space d, (decimal_no_space cw, (decimal_no_space cd, (decimal_no_space c, (amount_no_space z, tt)))))))
+no_space_of (NewOrder w d c ls) = (letters (codes "neworder") refl, (decimal_no_space w, (decimal_no_space d, (decimal_no_space c, lines_no_space ls))))
 no_space_of (ShowWarehouse w) = (letters (codes "show") refl, (letters (codes "warehouse") refl, (decimal_no_space w, tt)))
 no_space_of (ShowDistrict w d) = (letters (codes "show") refl, (letters (codes "district") refl, (decimal_no_space w, (decimal_no_space d, tt))))
 no_space_of (ShowCustomer w d c) =
     (letters (codes "show") refl, (letters (codes "customer") refl, (decimal_no_space w, (decimal_no_space d, (decimal_no_space c, tt)))))
+no_space_of (ShowStock w i) = (letters (codes "show") refl, (letters (codes "stock") refl, (decimal_no_space w, (decimal_no_space i, tt))))
+no_space_of (ShowOrder w d o) =
+    (letters (codes "show") refl, (letters (codes "order") refl, (decimal_no_space w, (decimal_no_space d, (decimal_no_space o, tt)))))
 
 -- the words of a request's line are its words
 pub words_request : (request : Request) → words (request_text request) ≡ words_of request
 words_request (Payment w d cw cd c z) = words_joined _ _ (no_space_of (Payment w d cw cd c z))
+words_request (NewOrder w d c ls) = words_joined _ _ (no_space_of (NewOrder w d c ls))
 words_request (ShowWarehouse w) = words_joined _ _ (no_space_of (ShowWarehouse w))
 words_request (ShowDistrict w d) = words_joined _ _ (no_space_of (ShowDistrict w d))
 words_request (ShowCustomer w d c) = words_joined _ _ (no_space_of (ShowCustomer w d c))
+words_request (ShowStock w i) = words_joined _ _ (no_space_of (ShowStock w i))
+words_request (ShowOrder w d o) = words_joined _ _ (no_space_of (ShowOrder w d o))
 
 -- what the words ask, the line asks
-pub line_request : (line : List ℕ) (answer : Result Request Refusal) → Answers (words line) answer → IfOk answer (λ request. line ≡ request_text request)
-line_request line (Ok request) h = text_from_words line (words_of request) h.0
+pub line_request : (line : List ℕ) (answer : Result Request Refusal) → AnswersOrNoMemory (words line) answer → IfOk answer (λ request. line ≡ request_text request)
+line_request line (Ok request) (inl none) = absurd (let no : Ok request ≡ Err OutOfMemory = none in cc)
+line_request line (Ok request) (inr h) = text_from_words line (words_of request) h.0
 line_request line (Err e) h = tt
 
-pub line_reach : (ws : List (List ℕ)) (answer : Result Request Refusal) → Answers ws answer → IfOk answer IsWithinReach
-line_reach ws (Ok request) h = h.1
-line_reach ws (Err e) h = tt
+words_refusal : (line : List ℕ) (refusal : Refusal) → Answers (words line) (Err refusal) → IsRefused line refusal
+words_refusal line BadInput h = (h.0, h.1, text_from_words line (words_of h.0) h.2, h.3)
+words_refusal line BadLine h = λ request small e. h request small (ap words e ∙ words_request request)
+words_refusal line _ h = h
 
-pub line_refusal : (line : List ℕ) (answer : Result Request Refusal) → Answers (words line) answer → IfErr answer (IsRefused line)
+pub line_refusal : (line : List ℕ) (answer : Result Request Refusal) → AnswersOrNoMemory (words line) answer → IfErr answer (λ refusal. (refusal ≡ OutOfMemory) ⊎ IsRefused line refusal)
 line_refusal line (Ok request) h = tt
-line_refusal line (Err BadInput) h = (h.0, h.1, text_from_words line (words_of h.0) h.2, h.3)
-line_refusal line (Err BadLine) h = λ request small e. h request small (ap words e ∙ words_request request)
-line_refusal line (Err _) h = h
+line_refusal line (Err e) (inl none) = inl (let no : ◌≡◌ {A = Result Request Refusal} (Err e) (Err OutOfMemory) = none in cc)
+line_refusal line (Err e) (inr h) = inr (words_refusal line e h)
+
+-- what the words behind a verb get, the line gets
+pub behind_verb : (line verb written : List ℕ) (rest : List (List ℕ)) (answer : Result Request Refusal) → words line ≡ verb ∷ rest → verb ≡ written → AnswersOrNoMemory (written ∷ rest) answer → AnswersOrNoMemory (words line) answer
+behind_verb line verb written rest answer parts is = subst (λ ws. AnswersOrNoMemory ws answer) (sym (parts ∙ ap (λ w. w ∷ rest) is))
 
 -- a payment's words, one after another
 pub payment_words : (t0 t1 t2 t3 t4 t5 : List ℕ) (w d cw cd c : ℕ) (z : ℤ) → words t0 ≡ decimal w ∷ words t1 → words t1 ≡ decimal d ∷ words t2 → words t2 ≡ decimal cw ∷ words t3 → words t3 ≡ decimal cd ∷ words t4 → words t4 ≡ decimal c ∷ words t5 → t5 ≡ amount_text z → codes "payment" ∷ words t0 ≡ words_of (Payment w d cw cd c z)

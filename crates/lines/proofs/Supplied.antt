@@ -6,7 +6,7 @@ use Rattle.tables.specs.declared.new_order.NewOrderReply.{NewOrderReply}
 use Rattle.std.specs.Prelude.{codes}
 use Rattle.std.specs.Fmt.{decimal}
 use Rattle.money.specs.Money.{money_text}
-use Rattle.lines.specs.Output.{supplied_word, supplied_text, order_words, new_order_words}
+use Rattle.lines.specs.Output.{supplied_word, supplied_text, head_words, new_order_words}
 
 -- words behind one word, and behind several
 supplied_behind : (word : List ℕ) (ls : List SuppliedLine) → join_with_byte 32 (word ∷ map supplied_word ls) ≡ word ++ supplied_text ls
@@ -19,7 +19,7 @@ supplied_joined word (next ∷ words) ls =
     ap (λ rest. word ++ 32 ∷ rest) (supplied_joined next words ls)
     ∙ sym (append_assoc word (32 ∷ join_with_byte 32 (next ∷ words)) (supplied_text ls))
 
-pub order_joined : (reply : NewOrderReply) → join_with_byte 32 (new_order_words reply) ≡ join_with_byte 32 (order_words reply) ++ supplied_text reply.lines
+pub order_joined : (reply : NewOrderReply) → join_with_byte 32 (new_order_words reply) ≡ join_with_byte 32 (head_words reply) ++ supplied_text reply.lines
 order_joined reply = supplied_joined (codes "neworder") (
     decimal reply.warehouse ∷ decimal reply.district ∷ decimal reply.order
     ∷ codes "customer" ∷ decimal reply.customer ∷ codes "lines" ∷ money_text reply.amount

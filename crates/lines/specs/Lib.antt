@@ -1,6 +1,7 @@
 pub mod Words
 pub mod Amount
 pub mod Requests
+pub mod OrderWords
 pub mod Output
 pub mod Report
 pub mod Lines

@@ -1,5 +1,5 @@
 -- The text of an answer.
-use Rattle.std.specs.Prelude.{ℕ, Option, Some, None, List, [], ◌∷◌, ◌++◌, map, codes}
+use Rattle.std.specs.Prelude.{ℕ, cond, Option, Some, None, List, [], ◌∷◌, ◌++◌, map, codes}
 use Rattle.std.specs.Fmt.{decimal}
 use Rattle.std.specs.List.{join_with_byte, flat_map}
 use Rattle.money.specs.Money.{money_text}
@@ -7,11 +7,15 @@ use Rattle.money.specs.Refusal.{refusal_number}
 use Rattle.money.specs.declared.refusal.Refusal.{Refusal}
 use Rattle.money.specs.declared.refusal.Refusal.TheVariants.{ItemNotValid}
 use Rattle.tables.specs.declared.keys.CustomerKey.{CustomerKey}
+use Rattle.tables.specs.declared.keys.StockKey.{StockKey}
+use Rattle.tables.specs.declared.keys.OrderKey.{OrderKey}
 use Rattle.tables.specs.declared.rows.Customer.{Customer as CustomerRow}
+use Rattle.tables.specs.declared.rows.Stock.{Stock as StockRow}
+use Rattle.tables.specs.declared.rows.Order.{Order as OrderRow}
 use Rattle.tables.specs.declared.new_order.SuppliedLine.{SuppliedLine}
 use Rattle.tables.specs.declared.new_order.NewOrderReply.{NewOrderReply}
 use Rattle.lines.specs.declared.answer.Answer.{Answer}
-use Rattle.lines.specs.declared.answer.Answer.TheVariants.{Payment, NewOrder, Warehouse, District, Customer, Refused}
+use Rattle.lines.specs.declared.answer.Answer.TheVariants.{Payment, NewOrder, Warehouse, District, Customer, Stock, Order, Refused}
 
 -- the item that a refusal names
 abbrev pub refused_item : Refusal → Option ℕ
@@ -34,6 +38,28 @@ customer_words key row =
     ∷ codes "balance" ∷ money_text row.balance ∷ codes "paid" ∷ money_text row.paid
     ∷ codes "payments" ∷ decimal row.payments ∷ codes "deliveries" ∷ decimal row.deliveries ∷ []
 
+-- the words of a row of STOCK
+abbrev pub stock_words : StockKey → StockRow → List (List ℕ)
+stock_words key row =
+    codes "stock" ∷ decimal key.warehouse ∷ decimal key.item
+    ∷ codes "quantity" ∷ decimal row.quantity ∷ codes "ytd" ∷ decimal row.year_to_date
+    ∷ codes "orders" ∷ decimal row.orders ∷ codes "remote" ∷ decimal row.remote_orders ∷ []
+
+-- the word of a column that may be null
+abbrev pub nullable_word : Option ℕ → List ℕ
+nullable_word (Some n) = decimal n
+nullable_word None = codes "-"
+
+-- the words of a row of ORDER, or of none, behind the words of its key
+abbrev pub order_row_words : Option OrderRow → List (List ℕ)
+order_row_words (Some row) =
+    codes "customer" ∷ decimal row.customer ∷ codes "carrier" ∷ nullable_word row.carrier
+    ∷ codes "lines" ∷ decimal row.line_count ∷ codes "local" ∷ decimal (cond row.all_local 1 0) ∷ []
+order_row_words None = codes "none" ∷ []
+
+abbrev pub order_words : OrderKey → Option OrderRow → List (List ℕ)
+order_words key row = codes "order" ∷ decimal key.warehouse ∷ decimal key.district ∷ decimal key.order ∷ order_row_words row
+
 -- the word of a line of an order: its item, its supplying warehouse, the stock after it, and its amount
 abbrev pub supplied_word : SuppliedLine → List ℕ
 supplied_word l = join_with_byte 58 (decimal l.item ∷ decimal l.supply_warehouse ∷ decimal l.stock ∷ money_text l.amount ∷ [])
@@ -43,14 +69,14 @@ abbrev pub supplied_text : List SuppliedLine → List ℕ
 supplied_text ls = flat_map (λ l. 32 ∷ supplied_word l) ls
 
 -- the words of a New-Order's reply: of the order, and of its lines
-abbrev pub order_words : NewOrderReply → List (List ℕ)
-order_words reply =
+abbrev pub head_words : NewOrderReply → List (List ℕ)
+head_words reply =
     codes "neworder" ∷ decimal reply.warehouse ∷ decimal reply.district ∷ decimal reply.order
     ∷ codes "customer" ∷ decimal reply.customer ∷ codes "lines" ∷ money_text reply.amount
     ∷ codes "total" ∷ money_text reply.total ∷ []
 
 abbrev pub new_order_words : NewOrderReply → List (List ℕ)
-new_order_words reply = order_words reply ++ map supplied_word reply.lines
+new_order_words reply = head_words reply ++ map supplied_word reply.lines
 
 -- the words of an answer
 abbrev pub answer_words : Answer → List (List ℕ)
@@ -64,6 +90,8 @@ answer_words (District key row) =
     codes "district" ∷ decimal key.warehouse ∷ decimal key.district
     ∷ codes "ytd" ∷ money_text row.year_to_date ∷ codes "next" ∷ decimal row.next_order ∷ []
 answer_words (Customer key row) = customer_words key row
+answer_words (Stock key row) = stock_words key row
+answer_words (Order key row) = order_words key row
 answer_words (Refused refusal line) = refused_words refusal line
 
 -- an answer, without its line feed

@@ -2,11 +2,12 @@
 ghost use Rattle.std.specs.Prelude.{◌≡◌, ◌++◌, OnOk, OnErr, IfErr, string_bytes, codes};
 ghost use Rattle.lines.specs.Output.{refused_item};
 
+use crate::shown::{CustomerLine, OrderLine, StockLine};
 use money::Refusal;
 use std::fmt::{self, Display};
 use tables::{
-    Customer, CustomerKey, District, DistrictKey, NewOrderReply, PaymentReply, SuppliedLine,
-    Warehouse,
+    Customer, CustomerKey, District, DistrictKey, NewOrderReply, Order, OrderKey, PaymentReply,
+    Stock, StockKey, SuppliedLine, Warehouse,
 };
 
 /// What a line of a script is answered with.
@@ -23,6 +24,11 @@ pub enum Answer {
     District { key: DistrictKey, row: District },
     /// A row of CUSTOMER, as `customer 1 1 3 balance -22.34 paid 22.34 payments 2 deliveries 0`.
     Customer { key: CustomerKey, row: Customer },
+    /// A row of STOCK, as `stock 1 2 quantity 100 ytd 41 orders 5 remote 0`.
+    Stock { key: StockKey, row: Stock },
+    /// A row of ORDER, as `order 1 1 7 customer 7 carrier 1 lines 5 local 1`, with `-` for the carrier of an order that
+    /// isn't delivered; or that there is no such order, as `order 1 1 12 none`.
+    Order { key: OrderKey, row: Option<Order> },
     /// A line that was refused, counted from 1, as `14 line 3` or `5 line 3 item 21`.
     Refused { refusal: Refusal, line: u64 },
 }
@@ -76,6 +82,16 @@ impl Display for Answer {
                 row: *row,
             }
             .fmt(f),
+            Answer::Stock { key, row } => StockLine {
+                key: *key,
+                row: *row,
+            }
+            .fmt(f),
+            Answer::Order { key, row } => OrderLine {
+                key: *key,
+                row: *row,
+            }
+            .fmt(f),
             Answer::Refused { refusal, line } => RefusedLine {
                 refusal: *refusal,
                 line: *line,
@@ -114,9 +130,9 @@ struct OrderHead<'a> {
 impl Display for OrderHead<'_> {
     ghost use Rattle.std.specs.Prelude.{Some};
     ghost use Rattle.std.specs.List.{join_with_byte};
-    ghost use Rattle.lines.specs.Output.{order_words};
+    ghost use Rattle.lines.specs.Output.{head_words};
 
-    ghost output = { λ head. Some (join_with_byte 32 (order_words head.reply.now)) };
+    ghost output = { λ head. Some (join_with_byte 32 (head_words head.reply.now)) };
 
     fn fmt<W: fmt::Write>(&self, f: &mut fmt::Formatter<W>) -> fmt::Result {
         let reply = self.reply;
@@ -150,35 +166,6 @@ impl Display for SuppliedLines<'_> {
             )?;
         }
         Ok(())
-    }
-}
-
-#[derive(Clone, Copy)]
-struct CustomerLine {
-    key: CustomerKey,
-    row: Customer,
-}
-
-impl Display for CustomerLine {
-    ghost use Rattle.std.specs.Prelude.{Some};
-    ghost use Rattle.std.specs.List.{join_with_byte};
-    ghost use Rattle.lines.specs.Output.{customer_words};
-
-    ghost output = { λ shown. Some (join_with_byte 32 (customer_words shown.key shown.row)) };
-
-    fn fmt<W: fmt::Write>(&self, f: &mut fmt::Formatter<W>) -> fmt::Result {
-        let (key, row) = (&self.key, &self.row);
-        write!(
-            f,
-            "customer {} {} {} balance {} paid {} payments {} deliveries {}",
-            key.warehouse,
-            key.district,
-            key.customer,
-            row.balance,
-            row.paid,
-            row.payments,
-            row.deliveries
-        )
     }
 }
 

@@ -6,9 +6,11 @@ mod amount;
 mod answer;
 mod cut;
 mod line_buffer;
+mod order_words;
 mod read;
 mod report;
 mod request;
+mod shown;
 mod words;
 
 pub use amount::amounts_read_as_printed;

@@ -1,25 +1,31 @@
 //! How a line is read as a request.
-ghost use Rattle.std.specs.Prelude.{◌≡◌, ◌∷◌, codes, IfOk, IfErr};
+ghost use Rattle.std.specs.Prelude.{◌≡◌, ◌⊎◌, ◌∷◌, codes, Err, IfOk, IfErr};
 ghost use Rattle.lines.specs.declared.request.Request.{Request};
 ghost use Rattle.lines.specs.Words.{words};
-ghost use Rattle.lines.specs.Requests.{Answers, HasNumbers, request_text, IsWithinReach, IsRefused};
+ghost use Rattle.lines.specs.Requests.{Answers, BeginsNewOrder, AnswersOrNoMemory, HasNumbers, request_text, IsWithinReach, IsRefused};
 
 use crate::Request;
 use crate::amount::read_amount;
+use crate::order_words::read_order;
 use crate::words::{last_number, take_number, take_word};
 use money::Refusal;
+use std::alloc::Global;
 
 /// The request that a line, without its line feed, asks: `BadInput` for a payment of an amount further than
-/// 10,000,000,000,000 cents from zero, and `BadLine` for a line that is no request's. The caller tests the
-/// other ranges. Takes no memory.
-pub fn read_request(line: &[u8]) -> Result<Request, Refusal>
+/// 10,000,000,000,000 cents from zero, `BadLine` for a line that is no request's, and `OutOfMemory` where there is
+/// none left for an order's lines, which alone take memory. The caller tests the other ranges. Costs a pass over
+/// the line.
+pub fn read_request(alloc: Global, line: &[u8]) -> Result<Request, Refusal>
     ensures request { IfOk result (λ request. line.now ≡ request_text request) }
+    ensures numbers { IfOk result HasNumbers }
     ensures reach { IfOk result IsWithinReach }
-    ensures refusal { IfErr result (IsRefused line.now) }
+    ensures refusal { IfErr result (λ refusal. (refusal ≡ Refusal.OutOfMemory) ⊎ IsRefused line.now refusal) }
+    ensures memory { result ≡ Err Refusal.OutOfMemory → BeginsNewOrder line.now }
 {
     let (verb, rest) = take_word(line)?;
     match verb {
         b"payment" => read_payment(rest),
+        b"neworder" => read_new_order(alloc, rest),
         b"show" => read_show(rest),
         _ => Err(Refusal::BadLine),
     }
@@ -50,6 +56,20 @@ fn read_payment(text: &[u8]) -> Result<Request, Refusal>
     })
 }
 
+fn read_new_order(alloc: Global, text: &[u8]) -> Result<Request, Refusal>
+    ensures { AnswersOrNoMemory (codes "neworder" ∷ words text.now) result }
+{
+    let (warehouse, rest) = take_number(text)?;
+    let (district, rest) = take_number(rest)?;
+    let (customer, lines) = read_order(alloc, rest)?;
+    Ok(Request::NewOrder {
+        warehouse,
+        district,
+        customer,
+        lines,
+    })
+}
+
 fn read_show(text: &[u8]) -> Result<Request, Refusal>
     ensures { Answers (codes "show" ∷ words text.now) result }
 {
@@ -58,6 +78,8 @@ fn read_show(text: &[u8]) -> Result<Request, Refusal>
         b"warehouse" => show_warehouse(key),
         b"district" => show_district(key),
         b"customer" => show_customer(key),
+        b"stock" => show_stock(key),
+        b"order" => show_order(key),
         _ => Err(Refusal::BadLine),
     }
 }
@@ -90,5 +112,26 @@ fn show_customer(key: &[u8]) -> Result<Request, Refusal>
         warehouse,
         district,
         customer,
+    })
+}
+
+fn show_stock(key: &[u8]) -> Result<Request, Refusal>
+    ensures { Answers (codes "show" ∷ codes "stock" ∷ words key.now) result }
+{
+    let (warehouse, key) = take_number(key)?;
+    let item = last_number(key)?;
+    Ok(Request::ShowStock { warehouse, item })
+}
+
+fn show_order(key: &[u8]) -> Result<Request, Refusal>
+    ensures { Answers (codes "show" ∷ codes "order" ∷ words key.now) result }
+{
+    let (warehouse, key) = take_number(key)?;
+    let (district, key) = take_number(key)?;
+    let order = last_number(key)?;
+    Ok(Request::ShowOrder {
+        warehouse,
+        district,
+        order,
     })
 }

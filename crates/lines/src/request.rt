@@ -1,10 +1,11 @@
 //! What a line of a script asks.
 
 use money::Cents;
+use tables::{Lines, RequestedLine};
 
 /// What a line of a script asks. Its words are parted by one space each, its numbers are written without a
 /// leading zero, and its amount with two digits behind a point.
-#[derive(Clone, Copy, Debug, PartialEq, Eq)]
+#[derive(Debug, Drop, PartialEq)]
 pub enum Request {
     /// A Payment (TPC-C 2.5): `payment W D CW CD C AMOUNT`.
     Payment {
@@ -14,6 +15,13 @@ pub enum Request {
         customer_district: u32,
         customer: u32,
         amount: Cents,
+    },
+    /// A New-Order (TPC-C 2.4): `neworder W D C LINE LINE ..`, each LINE `ITEM:SUPPLY:QUANTITY`, in any number.
+    NewOrder {
+        warehouse: u32,
+        district: u32,
+        customer: u32,
+        lines: Lines<RequestedLine>,
     },
     /// A row of WAREHOUSE: `show warehouse W`.
     ShowWarehouse {
@@ -29,5 +37,16 @@ pub enum Request {
         warehouse: u32,
         district: u32,
         customer: u32,
+    },
+    /// A row of STOCK: `show stock W I`.
+    ShowStock {
+        warehouse: u32,
+        item: u32,
+    },
+    /// A row of ORDER: `show order W D O`.
+    ShowOrder {
+        warehouse: u32,
+        district: u32,
+        order: u32,
     },
 }

@@ -10,6 +10,8 @@ mod endings;
 #[cfg(test)]
 mod lines_tests;
 #[cfg(test)]
+mod new_orders;
+#[cfg(test)]
 mod runs;
 #[cfg(test)]
 mod scripts;

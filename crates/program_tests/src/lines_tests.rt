@@ -8,7 +8,7 @@ use std::process::Abort;
 use std::test::Fail;
 use tables::{
     Credit, Customer, CustomerKey, District, DistrictKey, LineKey, Lines, NewOrderReply, OrderKey,
-    PaymentReply, SuppliedLine, Warehouse,
+    PaymentReply, RequestedLine, SuppliedLine, Warehouse,
 };
 
 #[test]
@@ -21,46 +21,153 @@ fn requests_are_read(rt: HostRuntime) {
         customer: 3,
         amount: Cents::new(1234),
     };
-    assert_eq!(rt; read_request(b"payment 1 1 1 1 3 12.34"), Ok(payment));
+    let alloc = rt.alloc();
+    assert_eq!(rt;
+        read_request(alloc, b"payment 1 1 1 1 3 12.34"),
+        Ok(payment)
+    );
     let warehouse = Request::ShowWarehouse { warehouse: 1 };
-    assert_eq!(rt; read_request(b"show warehouse 1"), Ok(warehouse));
+    assert_eq!(rt; read_request(alloc, b"show warehouse 1"), Ok(warehouse));
     let district = Request::ShowDistrict {
         warehouse: 1,
         district: 1,
     };
-    assert_eq!(rt; read_request(b"show district 1 1"), Ok(district));
+    assert_eq!(rt; read_request(alloc, b"show district 1 1"), Ok(district));
     let customer = Request::ShowCustomer {
         warehouse: 1,
         district: 1,
         customer: 3,
     };
-    assert_eq!(rt; read_request(b"show customer 1 1 3"), Ok(customer));
+    assert_eq!(rt; read_request(alloc, b"show customer 1 1 3"), Ok(customer));
+    let stock = Request::ShowStock {
+        warehouse: 1,
+        item: 4294967295,
+    };
+    assert_eq!(rt; read_request(alloc, b"show stock 1 4294967295"), Ok(stock));
+    let order = Request::ShowOrder {
+        warehouse: 1,
+        district: 2,
+        order: 0,
+    };
+    assert_eq!(rt; read_request(alloc, b"show order 1 2 0"), Ok(order));
 }
 
-fn is_bad_line(line: &[u8]) -> bool {
-    read_request(line) == Err(Refusal::BadLine)
+fn requested(item: u32, supply_warehouse: u32, quantity: u32) -> RequestedLine {
+    RequestedLine {
+        item,
+        supply_warehouse,
+        quantity,
+    }
+}
+
+/// An order of customer 3 of the first district.
+fn order_of(alloc: Global, lines: &[RequestedLine]) -> Result<Request, Fail> {
+    let lines = Vec::from_slice(alloc, lines)?;
+    Ok(Request::NewOrder {
+        warehouse: 1,
+        district: 1,
+        customer: 3,
+        lines: Lines::new(lines),
+    })
+}
+
+#[test]
+fn orders_are_read(rt: HostRuntime) -> Result<(), Fail> {
+    let alloc = rt.alloc();
+    let none = order_of(alloc, &[])?;
+    assert_eq!(rt; read_request(alloc, b"neworder 1 1 3"), Ok(none));
+    let one = order_of(alloc, &[requested(21, 2, 10)])?;
+    assert_eq!(rt; read_request(alloc, b"neworder 1 1 3 21:2:10"), Ok(one));
+    let (zero, largest) = (
+        requested(0, 0, 0),
+        requested(4294967295, 4294967295, 4294967295),
+    );
+    let three = order_of(alloc, &[largest, zero, largest])?;
+    let line =
+        b"neworder 1 1 3 4294967295:4294967295:4294967295 0:0:0 4294967295:4294967295:4294967295";
+    assert_eq!(rt; read_request(alloc, line), Ok(three));
+    Ok(())
+}
+
+#[test]
+fn an_order_of_sixteen_lines_is_read(rt: HostRuntime) -> Result<(), Fail> {
+    let alloc = rt.alloc();
+    let mut line = String::new(alloc);
+    line.push_str("neworder 1 1 3")?;
+    for _ in 0..16 {
+        line.push_str(" 7:1:2")?;
+    }
+    let sixteen = order_of(alloc, &[requested(7, 1, 2); 16])?;
+    assert_eq!(rt; read_request(alloc, line.as_bytes()), Ok(sixteen));
+    Ok(())
+}
+
+fn is_bad_line(alloc: Global, line: &[u8]) -> bool {
+    read_request(alloc, line) == Err(Refusal::BadLine)
 }
 
 #[test]
 fn other_lines_are_bad(rt: HostRuntime) {
-    assert!(rt; is_bad_line(b""));
-    assert!(rt; is_bad_line(b"show"));
-    assert!(rt; is_bad_line(b"show warehouse 01"));
-    assert!(rt; is_bad_line(b"show warehouse +1"));
-    assert!(rt; is_bad_line(b"show warehouse 4294967296"));
-    assert!(rt; is_bad_line(b"show warehouse 1 "));
-    assert!(rt; is_bad_line(b"show  warehouse 1"));
-    assert!(rt; is_bad_line(b"show warehouse 1\r"));
-    assert!(rt; is_bad_line(b"show warehouse \x00"));
-    assert!(rt; is_bad_line(b"show warehouse \xff"));
-    assert!(rt; is_bad_line(b"payment 1 1 1 1 3 -0.00"));
-    assert!(rt; is_bad_line(b"payment 1 1 1 1 3 1.2"));
+    let alloc = rt.alloc();
+    assert!(rt; is_bad_line(alloc, b""));
+    assert!(rt; is_bad_line(alloc, b"show"));
+    assert!(rt; is_bad_line(alloc, b"show warehouse 01"));
+    assert!(rt; is_bad_line(alloc, b"show warehouse +1"));
+    assert!(rt; is_bad_line(alloc, b"show warehouse 4294967296"));
+    assert!(rt; is_bad_line(alloc, b"show warehouse 1 "));
+    assert!(rt; is_bad_line(alloc, b"show  warehouse 1"));
+    assert!(rt; is_bad_line(alloc, b"show warehouse 1\r"));
+    assert!(rt; is_bad_line(alloc, b"show warehouse \x00"));
+    assert!(rt; is_bad_line(alloc, b"show warehouse \xff"));
+    assert!(rt; is_bad_line(alloc, b"show stock 1"));
+    assert!(rt; is_bad_line(alloc, b"show stock 1 1 1"));
+    assert!(rt; is_bad_line(alloc, b"show stocks 1 1"));
+    assert!(rt; is_bad_line(alloc, b"show order 1 1"));
+    assert!(rt; is_bad_line(alloc, b"show order 1 1 1 1"));
+    assert!(rt; is_bad_line(alloc, b"payment 1 1 1 1 3 -0.00"));
+    assert!(rt; is_bad_line(alloc, b"payment 1 1 1 1 3 1.2"));
+}
+
+#[test]
+fn other_orders_are_bad(rt: HostRuntime) {
+    let alloc = rt.alloc();
+    assert!(rt; is_bad_line(alloc, b"neworder"));
+    assert!(rt; is_bad_line(alloc, b" neworder 1 1 3"));
+    assert!(rt; is_bad_line(alloc, b"neworders 1 1 3"));
+    assert!(rt; is_bad_line(alloc, b"neworder 1 1"));
+    assert!(rt; is_bad_line(alloc, b"neworder 1 1 "));
+    assert!(rt; is_bad_line(alloc, b"neworder 1 1 3 "));
+    assert!(rt; is_bad_line(alloc, b"neworder 1 1 03"));
+    assert!(rt; is_bad_line(alloc, b"neworder 1 1 4294967296 1:1:1"));
+    assert!(rt; is_bad_line(alloc, b"neworder 1 1 1:1:1"));
+    assert!(rt; is_bad_line(alloc, b"neworder 1 1 3 1:1:1 "));
+    assert!(rt; is_bad_line(alloc, b"neworder 1 1 3 1:1:1  2:1:1"));
+    assert!(rt; is_bad_line(alloc, b"neworder 1 1 3 1:1:1,2:1:1"));
+    assert!(rt; is_bad_line(alloc, b"neworder 1 1 3 1:1:1 2"));
+}
+
+#[test]
+fn other_lines_of_an_order_are_bad(rt: HostRuntime) {
+    let alloc = rt.alloc();
+    assert!(rt; is_bad_line(alloc, b"neworder 1 1 3 1"));
+    assert!(rt; is_bad_line(alloc, b"neworder 1 1 3 1:1"));
+    assert!(rt; is_bad_line(alloc, b"neworder 1 1 3 1:1:"));
+    assert!(rt; is_bad_line(alloc, b"neworder 1 1 3 :1:1"));
+    assert!(rt; is_bad_line(alloc, b"neworder 1 1 3 1::1"));
+    assert!(rt; is_bad_line(alloc, b"neworder 1 1 3 1:1:1:1"));
+    assert!(rt; is_bad_line(alloc, b"neworder 1 1 3 1:1:01"));
+    assert!(rt; is_bad_line(alloc, b"neworder 1 1 3 1:+1:1"));
+    assert!(rt; is_bad_line(alloc, b"neworder 1 1 3 4294967296:1:1"));
+    assert!(rt; is_bad_line(alloc, b"neworder 1 1 3 1:4294967296:1"));
+    assert!(rt; is_bad_line(alloc, b"neworder 1 1 3 1:1:4294967296"));
+    assert!(rt; is_bad_line(alloc, b"neworder 1 1 3 1:1:1\r"));
+    assert!(rt; is_bad_line(alloc, b"neworder 1 1 3 1:1:\xff"));
 }
 
 #[test]
 fn amounts_beyond_the_limit_are_bad_input(rt: HostRuntime) {
     let line = b"payment 1 1 1 1 3 99999999999999999999.00";
-    assert_eq!(rt; read_request(line), Err(Refusal::BadInput));
+    assert_eq!(rt; read_request(rt.alloc(), line), Err(Refusal::BadInput));
 }
 
 fn printed(rt: &(impl Abort + AllocGlobal), answer: Answer) -> String {

@@ -133,7 +133,7 @@ fn refused_lines(rt: HostRuntime) -> Result<(), Fail> {
         ("show warehouse 4294967296", 14),
         ("show warehouse \0", 14),
         ("show warehouse é", 14),
-        ("show stock 1 1", 14),
+        ("show item 1", 14),
         ("show warehouse 4294967295", 2),
         ("show warehouse 0", 2),
         ("show district 1 3", 2),

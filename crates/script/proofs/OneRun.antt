@@ -1,8 +1,9 @@
 -- Lines have one run.
-use Rattle.std.proofs.Common.{◌≡◌, ℕ, ◌+◌, Some, List, [], ◌∷◌, refl, sym, ap, ◌∙◌, subst, arith}
+use Rattle.std.proofs.Common.{◌≡◌, ℕ, ◌+◌, ◌<◌, Some, List, [], ◌∷◌, refl, sym, ap, ◌∙◌, subst, arith}
 use Rattle.money.specs.declared.refusal.Refusal.{Refusal}
-use Rattle.money.specs.declared.refusal.Refusal.TheVariants.{BadInput, BadLine}
-use Rattle.tables.specs.Apply.{Outcome, Committed, RolledBack, left_by}
+use Rattle.money.specs.declared.refusal.Refusal.TheVariants.{BadInput, BadLine, ItemNotValid, OrdersFull, CommitsFull}
+use Rattle.tables.specs.Database.{Database}
+use Rattle.tables.specs.Apply.{Outcome, Committed, RolledBack, apply, left_by, HasOrderNumber}
 use Rattle.tables.specs.declared.input.Input.{Input}
 use Rattle.tables.specs.declared.reply.Reply.{Reply}
 use Rattle.lines.specs.Requests.{HasNumbers, IsWithinReach, IsRefused, request_text}
@@ -10,22 +11,51 @@ use Rattle.lines.specs.declared.request.Request.{Request}
 use Rattle.lines.specs.declared.request.Request.TheVariants as request
 use Rattle.lines.specs.declared.answer.Answer.{Answer}
 use Rattle.lines.proofs.OneText.{one_line_one_request}
-use Rattle.script.specs.Turns.{State, Turn, committed, IsInputTurn, bad, full, done, IsShowTurn, beyond, row, IsRequestTurn, IsLineTurn, long, unread, read, AreTurns, refused}
+use Rattle.session.specs.Session.{IsRefusedAt}
+use Rattle.script.specs.Turns.{State, Turn, committed, IsInputTurn, bad, declined, done, IsShowTurn, beyond, row, IsRequestTurn, IsLineTurn, long, unread, read, AreTurns, refused}
 
 abbrev told_by : Reply → Outcome → Reply
 told_by other (Committed tables told) = told
 told_by other (RolledBack item) = other
 
+abbrev item_of : ℕ → Outcome → ℕ
+item_of other (Committed tables told) = other
+item_of other (RolledBack item) = item
+
+-- the committed tables have one refusal for an input
+one_declined : (t : Database) (count : ℕ) (x : Input) (a b : Refusal) → IsRefusedAt t count x a → IsRefusedAt t count x b → a ≡ b
+one_declined t count x (ItemNotValid item) (ItemNotValid other) h k = ap (λ o. ItemNotValid (item_of item o)) (sym h ∙ k)
+one_declined t count x (ItemNotValid item) OrdersFull h k = absurd (rw h at k.0)
+one_declined t count x (ItemNotValid item) CommitsFull h k = absurd (rw h at k.0)
+one_declined t count x (ItemNotValid item) _ h k = absurd k
+one_declined t count x OrdersFull (ItemNotValid item) h k = absurd (rw k at h.0)
+one_declined t count x OrdersFull OrdersFull h k = refl
+one_declined t count x OrdersFull CommitsFull h k = absurd (h.1 k.1)
+one_declined t count x OrdersFull _ h k = absurd k
+one_declined t count x CommitsFull (ItemNotValid item) h k = absurd (rw k at h.0)
+one_declined t count x CommitsFull OrdersFull h k = absurd (k.1 h.1)
+one_declined t count x CommitsFull CommitsFull h k = refl
+one_declined t count x CommitsFull _ h k = absurd k
+one_declined t count x _ b h k = absurd h
+
+-- what they refuse doesn't commit
+not_declined : (t : Database) (count : ℕ) (x : Input) (refusal : Refusal) (after : Database) (told : Reply) → IsRefusedAt t count x refusal → HasOrderNumber t x → count < t.scale.commits → apply t x ≡ Committed after told → ⊥
+not_declined t count x (ItemNotValid item) after told h numbered room commits = let both : Committed after told ≡ RolledBack item = sym commits ∙ h in cc
+not_declined t count x OrdersFull after told h numbered room commits = h.1 numbered
+not_declined t count x CommitsFull after told h numbered room commits = omega (arith, h.2, room)
+not_declined t count x _ after told h numbered room commits = h
+
 one_input : (s : State) (n : ℕ) (x : Input) (a b : Turn) → IsInputTurn s n x a → IsInputTurn s n x b → a ≡ b
 one_input s n x a b (bad not e) (bad isnt f) = e ∙ sym f
-one_input s n x a b (bad not e) (full is at_cap f) = absurd (not is)
-one_input s n x a b (bad not e) (done t r is room out f) = absurd (not is)
-one_input s n x a b (full is at_cap e) (bad isnt f) = absurd (isnt is)
-one_input s n x a b (full is at_cap e) (full ok top f) = e ∙ sym f
-one_input s n x a b (full is at_cap e) (done t r ok room out f) = absurd (omega arith)
-one_input s n x a b (done t r is room out e) (bad isnt f) = absurd (isnt is)
-one_input s n x a b (done t r is room out e) (full ok at_cap f) = absurd (omega arith)
-one_input s n x a b (done t r is room out e) (done u q ok free comes f) =
+one_input s n x a b (bad not e) (declined r is h f) = absurd (not is)
+one_input s n x a b (bad not e) (done t r is numbered room out f) = absurd (not is)
+one_input s n x a b (declined r is h e) (bad isnt f) = absurd (isnt is)
+one_input s n x a b (declined r is h e) (declined q ok k f) =
+    e ∙ ap (λ z. refused s z n) (one_declined s.tables _ x r q h k) ∙ sym f
+one_input s n x a b (declined r is h e) (done t told ok numbered room out f) = absurd (not_declined s.tables _ x r t told h numbered room out)
+one_input s n x a b (done t r is numbered room out e) (bad isnt f) = absurd (isnt is)
+one_input s n x a b (done t told is numbered room out e) (declined r ok h f) = absurd (not_declined s.tables _ x r t told h numbered room out)
+one_input s n x a b (done t r is numbered room out e) (done u q ok counts free comes f) =
     let same : Committed t r ≡ Committed u q = sym out ∙ comes in
     e ∙ (λ i. committed s (ap (left_by s.tables) same i) (ap (told_by r) same i)) ∙ sym f
 
@@ -41,9 +71,12 @@ one_show s n show a b (row found is at e) (row other ok there f) =
 
 one_request : (s : State) (n : ℕ) (asked : Request) (a b : Turn) → IsRequestTurn s n asked a → IsRequestTurn s n asked b → a ≡ b
 one_request s n (request.Payment w d cw cd c z) a b e f = one_input s n _ a b e f
+one_request s n (request.NewOrder w d c lines) a b e f = one_input s n _ a b e f
 one_request s n (request.ShowWarehouse w) a b e f = one_show s n _ a b e f
 one_request s n (request.ShowDistrict w d) a b e f = one_show s n _ a b e f
 one_request s n (request.ShowCustomer w d c) a b e f = one_show s n _ a b e f
+one_request s n (request.ShowStock w i) a b e f = one_show s n _ a b e f
+one_request s n (request.ShowOrder w d o) a b e f = one_show s n _ a b e f
 
 one_refusal : (line : List ℕ) (a b : Refusal) → IsRefused line a → IsRefused line b → a ≡ b
 one_refusal line BadInput BadInput h k = refl

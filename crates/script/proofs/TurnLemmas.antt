@@ -1,8 +1,8 @@
 -- What the calls of a turn make.
-use Rattle.std.proofs.Common.{◌≡◌, ℕ, ◌<◌, ◌≤◌, Bool, true, false, leb, cond, Option, Some, None, Result, Ok, Err, IfOk, List, [], ◌∷◌, ◌++◌, ◌+◌, length, is_some, true≢false, refl, sym, ap, ◌∙◌, subst, arith}
+use Rattle.std.proofs.Common.{◌≡◌, ◌≢◌, ℕ, ℤ, ◌<◌, ◌≤◌, Bool, true, false, leb, cond, Option, Some, None, Result, Ok, Err, IfOk, List, [], ◌∷◌, ◌++◌, ◌+◌, length, is_some, ◌⊎◌, inl, inr, true≢false, refl, sym, ap, ◌∙◌, subst, arith}
 use Rattle.std.proofs.lemmas.Bool.Decides.{nat_tests}
 use Rattle.money.specs.declared.refusal.Refusal.{Refusal}
-use Rattle.money.specs.declared.refusal.Refusal.TheVariants.{BadInput, CommitsFull}
+use Rattle.money.specs.declared.refusal.Refusal.TheVariants.{OutOfMemory, BadInput}
 use Rattle.std.specs.FinMap.{FinMap, get}
 use Rattle.std.specs.declared.cmp.Ordering.{Ordering}
 use Rattle.tables.specs.Sizes.{Sizes}
@@ -10,18 +10,20 @@ use Rattle.tables.specs.Maps.{RowsAt}
 use Rattle.tables.specs.Database.{Database}
 use Rattle.tables.specs.Inputs.{IsInput}
 use Rattle.tables.specs.declared.input.Input.{Input}
+use Rattle.tables.specs.declared.new_order.RequestedLine.{RequestedLine}
 use Rattle.lines.specs.declared.line_buffer.TheConstants.{MAX_LINE}
 use Rattle.lines.specs.Lines.{held}
 use Rattle.lines.specs.Requests.{HasNumbers, IsWithinReach, IsRefused, request_text}
 use Rattle.lines.specs.declared.request.Request.{Request}
+use Rattle.lines.specs.declared.request.Request.TheVariants as request
 use Rattle.lines.specs.declared.answer.Answer.{Answer}
 use Rattle.lines.specs.declared.answer.Answer.TheVariants as answer
 use Rattle.book.specs.declared.entry.Done.{Done}
 use Rattle.book.specs.History.{replay, commit_tid}
 use Rattle.book.proofs.Replaying.{replay-scale}
-use Rattle.session.specs.Session.{SessionView, IsNext}
+use Rattle.session.specs.Session.{SessionView, IsNext, IsRefusedAt}
 use Rattle.script.specs.Answered.{state_of, IsMade}
-use Rattle.script.specs.Turns.{State, IsInputTurn, bad, full, done, IsRequestTurn, IsLineTurn, unread, read, answer_of}
+use Rattle.script.specs.Turns.{State, Turn, IsInputTurn, IsShowTurn, bad, declined, done, IsRequestTurn, IsLineTurn, unread, read, answer_of}
 
 -- what holds of each answer by its equation holds of the answer
 pub answered_turn : (P Q : Answer → Type 0) (result : Result Answer Refusal) → IfOk result P → ((told : Answer) → P told → Q told) → IfOk result Q
@@ -39,7 +41,7 @@ committed_turn t0 old new n x d told says count dones is next =
       tid = (next.tid ∙ ap commit_tid (sym next.number ∙ number)) i;
       reply = d.reply;
     } in
-    done (replay t0 new.history) d.reply (subst (λ (s : Sizes). IsInput s x) (sym scale) is)
+    done (replay t0 new.history) d.reply (subst (λ (s : Sizes). IsInput s x) (sym scale) is) next.numbered
     (subst (λ (s : Sizes). length old.dones < s.commits) (sym scale) (subst (λ m. m < t0.scale.commits) (sym count) next.below))
     next.commits
     (λ i. record { answer = says i; state = record { tables = replay t0 new.history; dones = (dones ∙ ap (λ e. old.dones ++ e ∷ []) one) i } })
@@ -51,14 +53,19 @@ bad_turn t0 session n x refusal told says is =
     bad (subst (λ (s : Sizes). ¬ IsInput s x) (sym (replay-scale t0 session.history)) is.1)
     (λ i. record { answer = (says ∙ ap (λ r. answer.Refused r n) is.0) i; state = state_of t0 session })
 
--- the commit cap
-pub full_turn : (t0 : Database) (old new : SessionView) (n : ℕ) (x : Input) (told : Answer) → told ≡ answer.Refused CommitsFull n → new ≡ old → length old.dones ≡ length old.history
-    → IsInput t0.scale x → t0.scale.commits ≤ length old.history → IsInputTurn (state_of t0 old) n x (record { answer = told; state = state_of t0 new })
-full_turn t0 old new n x told says same count is cap =
+-- an input that the committed tables refuse
+pub declined_turn : (t0 : Database) (old new : SessionView) (n : ℕ) (x : Input) (refusal : Refusal) (told : Answer) → told ≡ answer.Refused refusal n → new ≡ old → length old.dones ≡ length old.history
+    → IsInput t0.scale x → IsRefusedAt (replay t0 old.history) (length old.history) x refusal → IsInputTurn (state_of t0 old) n x (record { answer = told; state = state_of t0 new })
+declined_turn t0 old new n x refusal told says same count is refuses =
     let scale : (replay t0 old.history).scale ≡ t0.scale = replay-scale t0 old.history in
-    full (subst (λ (s : Sizes). IsInput s x) (sym scale) is)
-    (subst (λ (s : Sizes). s.commits ≤ length old.dones) (sym scale) (subst (λ m. t0.scale.commits ≤ m) (sym count) cap))
+    declined refusal (subst (λ (s : Sizes). IsInput s x) (sym scale) is)
+    (subst (λ m. IsRefusedAt (replay t0 old.history) m x refusal) (sym count) refuses)
     (λ i. record { answer = says i; state = state_of t0 (same i) })
+
+-- a refusal that isn't for memory
+pub but_memory : (P : Refusal → Type 0) (refusal : Refusal) → refusal ≢ OutOfMemory → (refusal ≡ OutOfMemory) ⊎ P refusal → P refusal
+but_memory P refusal other (inl memory) = absurd (other memory)
+but_memory P refusal other (inr p) = p
 
 -- a row stands exactly at the keys of the scale
 pub row_there : {K X : Type 0} {R : K → K → Ordering} (IsKey : K → Type 0) (m : FinMap R X) (k : K) (r : X) → RowsAt IsKey m → get m k ≡ Some r → IsKey k
@@ -72,6 +79,17 @@ pub made_turn : (s : State) (n : ℕ) (x : Input) (scale : Sizes) (made : Result
     → IfOk result (λ told. (y : Input) → IsMade scale y made → IsInputTurn s n y (record { answer = told; state = last })) → IfOk result (λ told. IsInputTurn s n x (record { answer = told; state = last }))
 made_turn s n x scale made (Ok told) last is turn = turn x is
 made_turn s n x scale made (Err refusal) last is turn = tt
+
+-- a request that asks for no transaction asks for a row
+pub shown_turn : (s : State) (n : ℕ) (asked : Request) (turn : Turn) → ((w d cw cd c : ℕ) (z : ℤ) → asked ≢ request.Payment w d cw cd c z) → ((w d c : ℕ) (lines : List RequestedLine) → asked ≢ request.NewOrder w d c lines)
+    → IsShowTurn s n asked turn → IsRequestTurn s n asked turn
+shown_turn s n (request.Payment w d cw cd c z) turn no_payment no_order h = absurd (no_payment w d cw cd c z refl)
+shown_turn s n (request.NewOrder w d c lines) turn no_payment no_order h = absurd (no_order w d c lines refl)
+shown_turn s n (request.ShowWarehouse w) turn no_payment no_order h = h
+shown_turn s n (request.ShowDistrict w d) turn no_payment no_order h = h
+shown_turn s n (request.ShowCustomer w d c) turn no_payment no_order h = h
+shown_turn s n (request.ShowStock w i) turn no_payment no_order h = h
+shown_turn s n (request.ShowOrder w d o) turn no_payment no_order h = h
 
 -- the bytes of a line that is held
 pub held_some : (bytes text : List ℕ) → Some text ≡ held bytes → (length bytes ≤ MAX_LINE) × (bytes ≡ text)

@@ -3,14 +3,16 @@ use Rattle.std.specs.Prelude.{◌≡◌, ℕ, ◌+◌, ◌<◌, ◌≤◌, Optio
 use Rattle.std.specs.Option.{option_map}
 use Rattle.std.specs.FinMap.{get}
 use Rattle.money.specs.declared.refusal.Refusal.{Refusal}
-use Rattle.money.specs.declared.refusal.Refusal.TheVariants.{BadInput, BadLine, CommitsFull}
+use Rattle.money.specs.declared.refusal.Refusal.TheVariants.{BadInput, BadLine}
 use Rattle.tables.specs.Database.{Database}
 use Rattle.tables.specs.Sizes.{Sizes}
-use Rattle.tables.specs.Keys.{IsWarehouseKey, IsDistrictKey, IsCustomerKey}
+use Rattle.tables.specs.Keys.{IsWarehouseKey, IsDistrictKey, IsCustomerKey, IsOrderKey, IsStockKey}
 use Rattle.tables.specs.Inputs.{IsInput}
-use Rattle.tables.specs.Apply.{Committed, apply}
+use Rattle.tables.specs.Apply.{Committed, apply, HasOrderNumber}
 use Rattle.tables.specs.declared.keys.DistrictKey.{DistrictKey}
 use Rattle.tables.specs.declared.keys.CustomerKey.{CustomerKey}
+use Rattle.tables.specs.declared.keys.OrderKey.{OrderKey}
+use Rattle.tables.specs.declared.keys.StockKey.{StockKey}
 use Rattle.tables.specs.declared.input.Input.{Input}
 use Rattle.tables.specs.declared.input.Input.TheVariants as input
 use Rattle.tables.specs.declared.customer.Who.TheVariants.{Id}
@@ -24,6 +26,7 @@ use Rattle.lines.specs.declared.answer.Answer.{Answer}
 use Rattle.lines.specs.declared.answer.Answer.TheVariants as answer
 use Rattle.book.specs.History.{commit_tid}
 use Rattle.book.specs.declared.entry.Done.{Done}
+use Rattle.session.specs.Session.{IsRefusedAt}
 
 -- the committed tables, and what was committed, in order
 pub record State : Type 0 where
@@ -54,20 +57,23 @@ committed s tables told = record {
   };
 }
 
--- the turn of an input that line n asks for: refused outside its ranges, then at the commit cap, and else committed
+-- the turn of an input that line n asks for: refused outside its ranges, then where the committed tables refuse it, and else committed
 pub data IsInputTurn (s : State) (n : ℕ) (x : Input) (turn : Turn) : Type 0 where
   bad : ¬ IsInput s.tables.scale x → turn ≡ refused s BadInput n → IsInputTurn s n x turn
-  full : IsInput s.tables.scale x → s.tables.scale.commits ≤ length s.dones → turn ≡ refused s CommitsFull n → IsInputTurn s n x turn
-  done : (tables : Database) (told : Reply) → IsInput s.tables.scale x → length s.dones < s.tables.scale.commits → apply s.tables x ≡ Committed tables told → turn ≡ committed s tables told → IsInputTurn s n x turn
+  declined : (refusal : Refusal) → IsInput s.tables.scale x → IsRefusedAt s.tables (length s.dones) x refusal → turn ≡ refused s refusal n → IsInputTurn s n x turn
+  done : (tables : Database) (told : Reply) → IsInput s.tables.scale x → HasOrderNumber s.tables x → length s.dones < s.tables.scale.commits → apply s.tables x ≡ Committed tables told → turn ≡ committed s tables told → IsInputTurn s n x turn
 
 -- a request asks for a row, and its key is one of the scale
 abbrev pub IsShown : Sizes → Request → Type 0
 IsShown s (request.ShowWarehouse w) = IsWarehouseKey s w
 IsShown s (request.ShowDistrict w d) = IsDistrictKey s (record { warehouse = w; district = d })
 IsShown s (request.ShowCustomer w d c) = IsCustomerKey s (record { warehouse = w; district = d; customer = c })
+IsShown s (request.ShowStock w i) = IsStockKey s (record { warehouse = w; item = i })
+IsShown s (request.ShowOrder w d o) = IsOrderKey s (record { warehouse = w; district = d; order = o })
 IsShown s (request.Payment w d cw cd c z) = ⊥
+IsShown s (request.NewOrder w d c lines) = ⊥
 
--- the row that a request asks for, if there is one
+-- the row that a request asks for, if there is one. An order of a key without a row is shown as none
 abbrev pub row_of : Database → Request → Option Answer
 row_of t (request.ShowWarehouse w) = option_map (λ row. answer.Warehouse w row) (get t.warehouses w)
 row_of t (request.ShowDistrict w d) =
@@ -76,7 +82,14 @@ row_of t (request.ShowDistrict w d) =
 row_of t (request.ShowCustomer w d c) =
     let key : CustomerKey = record { warehouse = w; district = d; customer = c } in
     option_map (λ row. answer.Customer key row) (get t.customers key)
+row_of t (request.ShowStock w i) =
+    let key : StockKey = record { warehouse = w; item = i } in
+    option_map (λ row. answer.Stock key row) (get t.stock key)
+row_of t (request.ShowOrder w d o) =
+    let key : OrderKey = record { warehouse = w; district = d; order = o } in
+    Some (answer.Order key (get t.orders key))
 row_of t (request.Payment w d cw cd c z) = None
+row_of t (request.NewOrder w d c lines) = None
 
 -- the turn of a request for a row at line n: refused where its key isn't of the scale. Nothing changes
 pub data IsShowTurn (s : State) (n : ℕ) (show : Request) (turn : Turn) : Type 0 where
@@ -87,6 +100,8 @@ pub data IsShowTurn (s : State) (n : ℕ) (show : Request) (turn : Turn) : Type 
 abbrev pub IsRequestTurn : State → ℕ → Request → Turn → Type 0
 IsRequestTurn s n (request.Payment w d cw cd c z) turn =
     IsInputTurn s n (input.Payment (record { date = n; warehouse = w; district = d; customer_warehouse = cw; customer_district = cd; who = Id c; amount = z })) turn
+IsRequestTurn s n (request.NewOrder w d c lines) turn =
+    IsInputTurn s n (input.NewOrder (record { date = n; warehouse = w; district = d; customer = c; lines = lines })) turn
 IsRequestTurn s n show turn = IsShowTurn s n show turn
 
 -- the turn of line n: a line of more than 1,024 bytes, or of none of the forms, or of an amount beyond the reach, is refused

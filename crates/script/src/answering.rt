@@ -1,32 +1,33 @@
 //! How a session answers a line.
 
-ghost use Rattle.std.specs.Prelude.{◌≡◌, ◌<◌, ℕ, List, [], ◌∷◌, ◌++◌, length, IfErr, IfOk};
+ghost use Rattle.std.specs.Prelude.{◌≡◌, ◌≢◌, ◌<◌, ℕ, List, [], ◌∷◌, ◌++◌, length, IfErr, IfOk};
 ghost use Rattle.book.specs.declared.entry.Done.{Done as DoneValue};
 ghost use Rattle.std.specs.Option.{option_copied};
 ghost use Rattle.std.specs.Result.{ForOk};
 ghost use Rattle.money.specs.declared.refusal.Refusal.TheVariants.{OutOfMemory};
 ghost use Rattle.lines.specs.Lines.{held};
-ghost use Rattle.lines.specs.Requests.{HasNumbers};
 ghost use Rattle.lines.specs.declared.answer.Answer.TheVariants as answer;
 ghost use Rattle.lines.specs.declared.request.Request.{Request as RequestValue};
-ghost use Rattle.tables.specs.Inputs.{IsInput, IsExecuted};
+ghost use Rattle.tables.specs.Inputs.{IsInput};
 ghost use Rattle.tables.specs.declared.input.Input.{Input as InputValue};
 ghost use Rattle.script.specs.Answered.{state_of, IsMade, Shows};
 ghost use Rattle.script.specs.Turns.{State, IsInputTurn, IsShowTurn, IsRequestTurn, IsLineTurn, answer_of};
 
-use crate::showing::{show_customer, show_district, show_warehouse};
+use crate::showing::show;
 use book::{Done, Run};
 use lines::{Answer, Request, read_request};
 use money::Refusal;
 use session::Session;
+use std::alloc::Global;
 use std::sync::Wait;
-use tables::{CustomerKey, DistrictKey, Input, PaymentInput, Reply, Who};
+use tables::{Input, NewOrderInput, PaymentInput, Reply, Who};
 
 /// Answers the line of a script that has this number, which is its date too. `None` is a line that is too
 /// long. What the line asks is done or refused, and the answer tells which; only want of memory is a
-/// refusal of this call, and then nothing is answered.
+/// refusal of this call, and then nothing is answered. The lines of an order take memory.
 pub fn answer_line<K: Run, R: Wait>(
     rt: &R,
+    alloc: Global,
     session: &mut Session<'_, K>,
     line: Option<&[u8]>,
     number: u32,
@@ -38,9 +39,9 @@ pub fn answer_line<K: Run, R: Wait>(
     let Some(text) = line else {
         return Ok(refused(Refusal::BadLine, number));
     };
-    match read_request(text) {
+    match read_request(alloc, text) {
         Ok(request) => answer_request(rt, session, request, number),
-        Err(refusal) => Ok(refused(refusal, number)),
+        Err(refusal) => declined(refusal, number),
     }
 }
 
@@ -54,8 +55,8 @@ fn answer_request<K: Run, R: Wait>(
     ensures memory { IfErr result (λ refusal. refusal ≡ OutOfMemory) }
     ensures turn { IfOk result (λ answer.
         IsRequestTurn (state_of K.first session.old) number request (record { answer = answer; state = state_of K.first session.new })) }
-    ensures numbers { HasNumbers request }
 {
+    let scale = session.population().scale();
     match request {
         Request::Payment {
             warehouse,
@@ -74,40 +75,25 @@ fn answer_request<K: Run, R: Wait>(
                 who: Who::Id(customer),
                 amount,
             };
-            let scale = session.population().scale();
-            let made = Input::payment(&scale, payment);
-            commit(rt, session, made, number)
+            commit(rt, session, Input::payment(&scale, payment), number)
         }
-        Request::ShowWarehouse { warehouse } => {
-            let row = show_warehouse(session, warehouse);
-            Ok(row_or_refused(row, number))
-        }
-        Request::ShowDistrict {
-            warehouse,
-            district,
-        } => {
-            let row = show_district(
-                session,
-                DistrictKey {
-                    warehouse,
-                    district,
-                },
-            );
-            Ok(row_or_refused(row, number))
-        }
-        Request::ShowCustomer {
+        Request::NewOrder {
             warehouse,
             district,
             customer,
+            lines,
         } => {
-            let row = show_customer(
-                session,
-                CustomerKey {
-                    warehouse,
-                    district,
-                    customer,
-                },
-            );
+            let order = NewOrderInput {
+                date: number,
+                warehouse,
+                district,
+                customer,
+                lines,
+            };
+            commit(rt, session, Input::new_order(&scale, order), number)
+        }
+        asked => {
+            let row = show(session, &asked);
             Ok(row_or_refused(row, number))
         }
     }
@@ -121,7 +107,7 @@ fn commit<K: Run, R: Wait>(
     made: Result<Input, Refusal>,
     number: u32,
 ) -> Result<Answer, Refusal>
-    requires { ForOk made (λ input. IsInput K.first.scale input × IsExecuted input) }
+    requires { ForOk made (λ input. IsInput K.first.scale input) }
     ensures memory { IfErr result (λ refusal. refusal ≡ OutOfMemory) }
     ensures turn { IfOk result (λ answer. (x : InputValue) → IsMade K.first.scale x made
         → IsInputTurn (state_of K.first session.old) number x (record { answer = answer; state = state_of K.first session.new })) }
@@ -132,8 +118,7 @@ fn commit<K: Run, R: Wait>(
     };
     match session.commit(rt, &input) {
         Ok(()) => answered(session.dones()),
-        Err(Refusal::CommitsFull) => Ok(refused(Refusal::CommitsFull, number)),
-        Err(refusal) => Err(refusal),
+        Err(refusal) => declined(refusal, number),
     }
 }
 
@@ -155,6 +140,17 @@ fn told(reply: Reply) -> Answer
     match reply {
         Reply::Payment(reply) => Answer::Payment(reply),
         Reply::NewOrder(reply) => Answer::NewOrder(reply),
+    }
+}
+
+/// The answer to a line whose request or input was refused. Want of memory isn't answered.
+fn declined(refusal: Refusal, number: u32) -> Result<Answer, Refusal>
+    ensures told { IfOk result (λ told. (refusal ≢ OutOfMemory) × (told ≡ answer.Refused refusal number)) }
+    ensures memory { IfErr result (λ error. (error ≡ OutOfMemory) × (refusal ≡ OutOfMemory)) }
+{
+    match refusal {
+        Refusal::OutOfMemory => Err(refusal),
+        _ => Ok(refused(refusal, number)),
     }
 }
 

@@ -34,7 +34,7 @@ pub const MAX_LINES: u32 = 4_000_000_000;
 /// `14 line N`.
 ///
 /// Runs over the one terminal of an engine that it opens, and has its book until the end. May wait, at the
-/// book's lock and at record cells, and executes a Payment again after `Stale` or `Conflict`: what is promised
+/// book's lock and at record cells, and executes a transaction again after `Stale` or `Conflict`: what is promised
 /// holds if it returns.
 ///
 /// What is written is the text of a whole script of the bytes that the reader has, in whatever pieces they
@@ -108,6 +108,7 @@ fn run<K: Run, R: Read, W: Write, T: Wait>(
 /// A session with the line that is coming in and the answers that aren't written yet.
 #[derive(Drop)]
 struct Desk<'e, K: Run> {
+    alloc: Global,
     session: Session<'e, K>,
     line: LineBuffer,
     /// How many lines were answered.
@@ -129,6 +130,7 @@ impl<'e, K: Run> Desk<'e, K> {
         ensures memory { IfErr result (λ refusal. refusal ≡ OutOfMemory) }
     {
         Ok(Desk {
+            alloc,
             session: Session::open(rt, alloc, engine, seat),
             line: LineBuffer::new(alloc)?,
             answered: 0,
@@ -252,7 +254,8 @@ impl<'e, K: Run> Desk<'e, K> {
             return Err(Refusal::BadInput);
         }
         self.answered += 1;
-        let answer = answer_line(rt, &mut self.session, self.line.line(), self.answered)?;
+        let (alloc, line) = (self.alloc, self.line.line());
+        let answer = answer_line(rt, alloc, &mut self.session, line, self.answered)?;
         self.line.clear();
         answer.print(&mut self.output)?;
         Ok(())
@@ -290,6 +293,7 @@ impl<'e, K: Run> Desk<'e, K> {
         ensures refusals { IfErr result (λ refusal. (refusal ≡ OutOfMemory) ⊎ (refusal ≡ Device)) }
     {
         let Desk {
+            alloc: _,
             session,
             line: _,
             answered: _,

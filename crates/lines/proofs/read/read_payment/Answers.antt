@@ -59,5 +59,6 @@ pub returns : goal.returns
 returns c = (
   payment_words c.args.text.now c.in_ok-warehouse.rest.now c.in_ok-district.rest.now c.in_ok-customer_warehouse.rest.now c.in_ok-customer_district.rest.now c.in_ok-customer.rest.now _ _ _ _ _ c.in_ok-amount.amount
       c.in_ok-warehouse.ensures c.in_ok-district.ensures c.in_ok-customer_warehouse.ensures c.in_ok-customer_district.ensures c.in_ok-customer.ensures c.in_ok-amount.ensures.0,
+  (search rules, search rules, search rules, search rules, search rules),
   c.in_ok-amount.ensures.1,
 )

@@ -1,30 +1,52 @@
-use Rattle.std.proofs.Common.{◌≡◌, codes, ◌∷◌, subst, sym, ap, ◌∙◌, arith, rules}
+use Rattle.std.proofs.Common.{◌≡◌, ◌≢◌, Err, inr, length, codes, ◌∷◌, ◌++◌, subst, sym, ap, ◌∙◌, arith, rules}
 use Rattle.std.proofs.lemmas.Slice.Eq.{text_from_reads}
+use Rattle.money.specs.declared.refusal.Refusal.TheVariants.{BadLine}
 use Rattle.lines.specs.Words.{words}
 use Rattle.lines.specs.Requests.{Answers}
-use Rattle.lines.proofs.RequestLemmas.{line_request, line_refusal}
+use Rattle.lines.proofs.Spaces.{text_from_first}
+use Rattle.lines.proofs.RequestLemmas.{line_request, line_refusal, behind_verb, no_verb}
 use Rattle.lines.proofs.read.read_request.Goals as goal
 
 pub returns-in-show-clause-request : goal.returns-in-show-clause-request
 returns-in-show-clause-request c =
     let is : c.in_ok-verb.verb.now ≡ codes "show" = text_from_reads c.in_ok-verb.verb.now (codes "show") (omega arith) (search rules) in
-    let parts = c.in_ok-verb.ensures ∙ ap (λ w. w ∷ words c.in_ok-verb.rest.now) is in
-    line_request c.args.line.now c.read_show.result (subst (λ ws. Answers ws c.read_show.result) (sym parts) c.read_show.ensures)
+    line_request c.args.line.now c.read_show.result (behind_verb c.args.line.now _ _ _ _ c.in_ok-verb.ensures is (inr c.read_show.ensures))
 
 pub returns-in-show-clause-refusal : goal.returns-in-show-clause-refusal
 returns-in-show-clause-refusal c =
     let is : c.in_ok-verb.verb.now ≡ codes "show" = text_from_reads c.in_ok-verb.verb.now (codes "show") (omega arith) (search rules) in
-    let parts = c.in_ok-verb.ensures ∙ ap (λ w. w ∷ words c.in_ok-verb.rest.now) is in
-    line_refusal c.args.line.now c.read_show.result (subst (λ ws. Answers ws c.read_show.result) (sym parts) c.read_show.ensures)
+    line_refusal c.args.line.now c.read_show.result (behind_verb c.args.line.now _ _ _ _ c.in_ok-verb.ensures is (inr c.read_show.ensures))
 
 pub returns-in-payment-clause-request : goal.returns-in-payment-clause-request
 returns-in-payment-clause-request c =
     let is : c.in_ok-verb.verb.now ≡ codes "payment" = text_from_reads c.in_ok-verb.verb.now (codes "payment") (omega arith) (search rules) in
-    let parts = c.in_ok-verb.ensures ∙ ap (λ w. w ∷ words c.in_ok-verb.rest.now) is in
-    line_request c.args.line.now c.read_payment.result (subst (λ ws. Answers ws c.read_payment.result) (sym parts) c.read_payment.ensures)
+    line_request c.args.line.now c.read_payment.result (behind_verb c.args.line.now _ _ _ _ c.in_ok-verb.ensures is (inr c.read_payment.ensures))
 
 pub returns-in-payment-clause-refusal : goal.returns-in-payment-clause-refusal
 returns-in-payment-clause-refusal c =
     let is : c.in_ok-verb.verb.now ≡ codes "payment" = text_from_reads c.in_ok-verb.verb.now (codes "payment") (omega arith) (search rules) in
-    let parts = c.in_ok-verb.ensures ∙ ap (λ w. w ∷ words c.in_ok-verb.rest.now) is in
-    line_refusal c.args.line.now c.read_payment.result (subst (λ ws. Answers ws c.read_payment.result) (sym parts) c.read_payment.ensures)
+    line_refusal c.args.line.now c.read_payment.result (behind_verb c.args.line.now _ _ _ _ c.in_ok-verb.ensures is (inr c.read_payment.ensures))
+
+pub returns-in-neworder-clause-request : goal.returns-in-neworder-clause-request
+returns-in-neworder-clause-request c =
+    let is : c.in_ok-verb.verb.now ≡ codes "neworder" = text_from_reads c.in_ok-verb.verb.now (codes "neworder") (omega arith) (search rules) in
+    line_request c.args.line.now c.read_new_order.result (behind_verb c.args.line.now _ _ _ _ c.in_ok-verb.ensures is c.read_new_order.ensures)
+
+pub returns-in-neworder-clause-refusal : goal.returns-in-neworder-clause-refusal
+returns-in-neworder-clause-refusal c =
+    let is : c.in_ok-verb.verb.now ≡ codes "neworder" = text_from_reads c.in_ok-verb.verb.now (codes "neworder") (omega arith) (search rules) in
+    line_refusal c.args.line.now c.read_new_order.result (behind_verb c.args.line.now _ _ _ _ c.in_ok-verb.ensures is c.read_new_order.ensures)
+
+pub returns-in-neworder-clause-memory : goal.returns-in-neworder-clause-memory
+returns-in-neworder-clause-memory c none =
+    let is : c.in_ok-verb.verb.now ≡ codes "neworder" = text_from_reads c.in_ok-verb.verb.now (codes "neworder") (omega arith) (search rules) in
+    (c.in_ok-verb.rest.now, text_from_first c.args.line.now _ _ c.in_ok-verb.ensures ∙ ap (λ verb. verb ++ 32 ∷ c.in_ok-verb.rest.now) is)
+
+pub returns-in_default-clause-refusal : goal.returns-in_default-clause-refusal
+returns-in_default-clause-refusal c =
+    let verb = c.in_ok-verb.verb.now in
+    let no_payment : verb ≢ codes "payment" = λ e. grind (arith, ap length e) in
+    let no_neworder : verb ≢ codes "neworder" = λ e. grind (arith, ap length e) in
+    let no_show : verb ≢ codes "show" = λ e. grind (arith, ap length e) in
+    let parts = c.in_ok-verb.ensures in
+    line_refusal c.args.line.now (Err BadLine) (inr (subst (λ ws. Answers ws (Err BadLine)) (sym parts) (no_verb (verb ∷ words c.in_ok-verb.rest.now) no_payment no_neworder no_show)))

@@ -1,0 +1,89 @@
+//! Writes a script for `tpcc script`, at the default scale but for its caps, from a sequence of draws that is the same on
+//! every run. `load_script payments N` writes N Payments by customer number: a district, a customer's district, a customer
+//! and an amount are drawn evenly for each. `load_script orders N` writes N New-Orders: a district, a customer and 5 to
+//! 15 lines, each with an item and a quantity. With other words it writes nothing.
+#![tactic(auto)]
+
+ghost use Rattle.std.specs.Prelude.{◌≤◌, ◌<◌};
+
+use money::Cents;
+use std::env;
+
+/// The numbers of the default scale.
+const DISTRICTS: u32 = 10;
+
+const CUSTOMERS: u32 = 100;
+
+const ITEMS: u32 = 1000;
+
+/// The amounts of a Payment, in cents (TPC-C 2.5.1.3).
+const LEAST: u32 = 100;
+
+const AMOUNTS: u32 = 499_901;
+
+/// The lines of an order, and the quantity of a line (TPC-C 2.4.1.3 and 2.4.1.5).
+const LEAST_LINES: u32 = 5;
+
+const LINE_COUNTS: u32 = 11;
+
+const QUANTITIES: u32 = 10;
+
+/// A sequence of numbers that looks random: a linear congruential one, after Knuth.
+#[derive(Clone, Copy)]
+struct Draws {
+    state: u64,
+}
+
+impl Draws {
+    /// One of the numbers from 0 and below this one.
+    fn below(&mut self, end: u32) -> u32
+        requires { 0 < end }
+        ensures { result < end }
+    {
+        self.state = self
+            .state
+            .wrapping_mul(6_364_136_223_846_793_005)
+            .wrapping_add(1_442_695_040_888_963_407);
+        ((self.state >> 33) % u64::from(end)) as u32
+    }
+}
+
+/// Writes one Payment.
+fn pay<R: Print + Alloc>(rt: &R, draws: &mut Draws) -> anyhow::Result<()> {
+    let district = draws.below(DISTRICTS) + 1;
+    let customer_district = draws.below(DISTRICTS) + 1;
+    let customer = draws.below(CUSTOMERS) + 1;
+    let amount = Cents::new(i64::from(draws.below(AMOUNTS) + LEAST));
+    println!(rt; "payment 1 {district} 1 {customer_district} {customer} {amount}")?;
+    Ok(())
+}
+
+/// Writes one New-Order.
+fn order<R: Print + Alloc>(rt: &R, draws: &mut Draws) -> anyhow::Result<()> {
+    let district = draws.below(DISTRICTS) + 1;
+    let customer = draws.below(CUSTOMERS) + 1;
+    print!(rt; "neworder 1 {district} {customer}")?;
+    for _ in 0..draws.below(LINE_COUNTS) + LEAST_LINES {
+        let item = draws.below(ITEMS) + 1;
+        let quantity = draws.below(QUANTITIES) + 1;
+        print!(rt; " {item}:1:{quantity}")?;
+    }
+    println!(rt)?;
+    Ok(())
+}
+
+fn main(rt: HostRuntime) -> anyhow::Result<()> {
+    let mut words = env::args(&rt)?.skip(1);
+    let (Some(kind), Some(count)) = (words.next(), words.next()) else {
+        return Ok(());
+    };
+    let mut draws = Draws { state: 1 };
+    for _ in 0..count.parse::<u64>()? {
+        match kind.as_str() {
+            "payments" => pay(&rt, &mut draws)?,
+            "orders" => order(&rt, &mut draws)?,
+            _ => return Ok(()),
+        }
+    }
+    Ok(())
+}
