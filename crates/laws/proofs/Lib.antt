@@ -12,4 +12,15 @@ pub mod LineAmount
 mod NewOrderKeepsConsistent
 mod NewOrderKeepsWellFormed
 mod NewOrderKeepsConstants
+pub mod OrderAmount
+mod DeliveryKeepsWellFormed
+mod DeliveryKeepsConstants
+pub mod Retained
+pub mod RisingNumbers
+pub mod NumbersLeft
+pub mod DistrictNumbers
+mod Sums
+mod TakenOrder
+mod DeliveredAmounts
+mod DeliveryKeepsConsistent
 pub mod Kept

@@ -8,8 +8,3 @@ use Rattle.tables.specs.declared.input.Input.TheVariants as input
 abbrev pub IsInput : Sizes → Input → Type 0
 IsInput s (input.Payment x) = IsPayment s x
 IsInput s (input.NewOrder x) = IsNewOrder s x
-
--- the inputs that the engine executes. So far New-Order is only defined
-abbrev pub IsExecuted : Input → Type 0
-IsExecuted (input.Payment x) = Unit {0}
-IsExecuted (input.NewOrder x) = ⊥

@@ -9,6 +9,7 @@ pub mod Rows
 pub mod Customer
 pub mod Payment
 pub mod NewOrder
+pub mod Delivery
 pub mod Inputs
 pub mod Apply
 pub mod Conditions

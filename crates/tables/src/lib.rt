@@ -4,6 +4,7 @@
 #![tactic(auto)]
 
 mod customer;
+mod delivery;
 mod held;
 mod input;
 mod keys;
@@ -19,6 +20,7 @@ mod scale;
 mod words;
 
 pub use customer::Who;
+pub use delivery::{DeliveredOrder, DeliveryInput, DeliveryReply};
 pub use input::Input;
 pub use keys::{CustomerKey, DistrictKey, LineKey, OrderKey, StockKey};
 pub use located::key_of;

@@ -1,0 +1,14 @@
+mod Taking
+mod Rows
+mod NextOldest
+mod LastKept
+mod Done
+mod Dated
+mod LineWords
+mod DatedLine
+mod RowsRead
+mod Ended
+mod SameRefusal
+mod Waiting
+mod First
+mod Told

@@ -1,0 +1,28 @@
+-- The lines of a Delivery's reply, one district more.
+use Rattle.std.proofs.Common.{◌≡◌, ℕ, zero, suc, ◌+◌, List, [], ◌∷◌, ◌++◌, map, sym, ap, ◌∙◌, arith}
+use Rattle.std.proofs.lemmas.List.{map-append}
+use Rattle.std.specs.List.{range_with_len}
+use Rattle.tables.specs.Database.{Database}
+use Rattle.tables.specs.Delivery.{waiting}
+use Rattle.tables.specs.declared.delivery.DeliveryInput.{DeliveryInput}
+use Rattle.tables.specs.declared.delivery.DeliveredOrder.{DeliveredOrder}
+use Rattle.readset.specs.Reads.{ReadSetView, Keeps}
+use Rattle.readset.specs.Explains.{MayBe}
+use Rattle.readset.proofs.MoreReads.{may_be_before}
+use Rattle.delivery.specs.Steps.{AreTold}
+
+range_push : (a n : ℕ) → range_with_len a (suc n) ≡ range_with_len a n ++ (a + n) ∷ []
+range_push a zero = let same : a ≡ a + 0 = omega arith in ap (λ b. b ∷ []) same
+range_push a (suc n) =
+    let same : a + 1 + n ≡ a + suc n = omega arith in
+    ap (λ l. a ∷ l) (range_push (a + 1) n ∙ ap (λ b. range_with_len (a + 1) n ++ b ∷ []) same)
+
+pub told_next : (t0 : Database) (x : DeliveryInput) (n : ℕ) (old more : ReadSetView) (orders : List DeliveredOrder) (o : DeliveredOrder) → AreTold t0 x n old orders → Keeps old more
+    → ((t : Database) → MayBe t0 more t → o ≡ record { district = n + 1; order = waiting t (record { warehouse = x.warehouse; district = n + 1 }) }) → AreTold t0 x (n + 1) more (orders ++ o ∷ [])
+told_next t0 x n old more orders o told keeps is t h =
+    let f : ℕ → DeliveredOrder = λ d. record { district = d; order = waiting t (record { warehouse = x.warehouse; district = d }) } in
+    let next : n + 1 ≡ suc n = omega arith in
+    let last : 1 + n ≡ n + 1 = omega arith in
+    ap (λ m. map f (range_with_len 1 m)) next ∙ ap (map f) (range_push 1 n ∙ ap (λ b. range_with_len 1 n ++ b ∷ []) last)
+    ∙ map-append f (range_with_len 1 n) ((n + 1) ∷ [])
+    ∙ (λ i. told t (may_be_before t0 old more t keeps h) i ++ sym (is t h) i ∷ [])

@@ -1,0 +1,58 @@
+-- The steps of a Delivery (TPC-C 2.7.4.2): the tables when it has come so far.
+use Rattle.std.specs.Prelude.{◌≡◌, ℕ, ◌+◌, ◌*◌, ◌≤◌, nat_le, ℤ, pos, ◌+ℤ◌, Bool, ◌&&◌, ◌||◌, zero, suc, None, List, length, map}
+use Rattle.std.specs.List.{range_with_len}
+use Rattle.tables.specs.Keys.{is_order, order_of}
+use Rattle.tables.specs.Maps.{update_where, column}
+use Rattle.tables.specs.Database.{Database}
+use Rattle.tables.specs.NewOrder.{line_key}
+use Rattle.tables.specs.Rows.{row_at}
+use Rattle.tables.specs.Delivery.{waiting, is_taken, dated, after_districts}
+use Rattle.tables.specs.declared.keys.DistrictKey.{DistrictKey}
+use Rattle.tables.specs.declared.keys.OrderKey.{OrderKey}
+use Rattle.tables.specs.declared.keys.LineKey.{LineKey}
+use Rattle.tables.specs.declared.delivery.DeliveryInput.{DeliveryInput}
+use Rattle.tables.specs.declared.delivery.DeliveredOrder.{DeliveredOrder}
+use Rattle.readset.specs.Reads.{ReadSetView}
+use Rattle.readset.specs.Writes.{WriteSetView}
+use Rattle.readset.specs.Changes.{Holds}
+use Rattle.readset.specs.Explains.{MayBe, WritesAreRead}
+
+-- the district after the first n
+abbrev pub next_home : DeliveryInput → ℕ → DistrictKey
+next_home x n = record { warehouse = x.warehouse; district = n + 1 }
+
+-- the order of this number in it
+abbrev pub next_key : DeliveryInput → ℕ → ℕ → OrderKey
+next_key x n o = record { warehouse = x.warehouse; district = n + 1; order = o }
+
+-- whether a line is one of the first m of an order
+abbrev pub is_among : OrderKey → ℕ → LineKey → Bool
+is_among k m j = is_order k.warehouse k.district k.order (order_of j) && nat_le j.line m
+
+-- the tables once the first n districts are done, and OL_DELIVERY_D of the first m lines of order k is set
+abbrev pub with_dates : Database → DeliveryInput → ℕ → OrderKey → ℕ → Database
+with_dates t x n k m = record (after_districts t x n) { lines = update_where (λ j. is_taken t x n (order_of j) || is_among k m j) (dated x) t.lines }
+
+-- the sum of OL_AMOUNT over the first m lines of an order
+abbrev pub amount_up_to : Database → OrderKey → ℕ → ℤ
+amount_up_to t k zero = pos 0
+amount_up_to t k (suc m) = amount_up_to t k m +ℤ column (λ r. r.amount) t.lines (line_key k (suc m))
+
+-- the first n districts are done: at all tables at which the transaction may have read, the writes put in make the rows of the tables when it has come so far. It writes at most nineteen records a district, each of which it has read, and no HISTORY row
+pub record AreDone (t0 : Database) (x : DeliveryInput) (n : ℕ) (reads : ReadSetView) (writes : WriteSetView) : Type 0 where
+  pub holds : (t : Database) → MayBe t0 reads t → Holds t writes (row_at (after_districts t x n))
+  pub written_read : WritesAreRead writes reads
+  pub written_few : length writes.values ≤ 19 * n
+  pub no_history : writes.history_row ≡ None
+
+-- and the first m lines of order o of the next district have their dates, and this sum
+pub record AreDated (t0 : Database) (x : DeliveryInput) (n o m : ℕ) (reads : ReadSetView) (writes : WriteSetView) (sum : ℤ) : Type 0 where
+  pub holds : (t : Database) → MayBe t0 reads t → Holds t writes (row_at (with_dates t x n (next_key x n o) m))
+  pub sum_is : (t : Database) → MayBe t0 reads t → amount_up_to t (next_key x n o) m ≡ sum
+  pub written_read : WritesAreRead writes reads
+  pub written_few : length writes.values ≤ 19 * n + m
+  pub no_history : writes.history_row ≡ None
+
+-- these are the first n lines of its reply
+abbrev pub AreTold : Database → DeliveryInput → ℕ → ReadSetView → List DeliveredOrder → Type 0
+AreTold t0 x n reads orders = (t : Database) → MayBe t0 reads t → map (λ d. record { district = d; order = waiting t (record { warehouse = x.warehouse; district = d }) }) (range_with_len 1 n) ≡ orders
