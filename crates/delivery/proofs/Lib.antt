@@ -12,3 +12,4 @@ mod SameRefusal
 mod Waiting
 mod First
 mod Told
+mod Explained

@@ -107,13 +107,8 @@ pub(crate) fn credit(words: &[u64; 7], sum: Cents) -> Option<[u64; 7]>
     ensures { (r : Customer) → IsCustomerRow r → words.now ≡ customer_words r
         → result ≡ Some (customer_words (record r { balance = r.balance +ℤ sum; deliveries = r.deliveries + 1 })) }
 {
-    Some([
-        money_raised(words[0], sum)?,
-        words[1],
-        words[2],
-        count_raised(words[3], 1)?,
-        0,
-        0,
-        0,
-    ])
+    let balance = money_raised(words[0], sum)?;
+    let paid = words[1];
+    let deliveries = count_raised(words[3], 1)?;
+    Some([balance, paid, words[2], deliveries, 0, 0, 0])
 }

@@ -5,3 +5,6 @@ mod change;
 mod districts;
 mod lines;
 mod order;
+mod transaction;
+
+pub use transaction::execute;

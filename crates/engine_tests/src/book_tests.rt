@@ -3,7 +3,8 @@ ghost use Rattle.std.specs.Prelude.{◌≡◌, length};
 ghost use Rattle.book.specs.Parts.{IsFresh, first_of, cells_of, ledger_name, ledger_parts};
 
 use crate::engine::{Executed, both_of, parts, pay};
-use crate::payments::{history_row, payment_reply, reply};
+use crate::payments::{history_row, payment_told};
+use crate::told::{Told, told_of};
 use book::{Engine, Parts, Run, Seat};
 use cells::Reader;
 use money::Refusal;
@@ -14,7 +15,7 @@ use std::sync::atomic::{AtomicU64, Ordering};
 use std::test::Fail;
 use std::thread::{Threads, join, sleep};
 use std::time::{Clock, Duration};
-use tables::{History, PaymentReply};
+use tables::History;
 
 /// How often a thread looks for another before it gives up. It sleeps a millisecond between, so that the others run
 /// even on a busy machine.
@@ -118,15 +119,15 @@ fn both_executed<K: Run>(
     Some((third?, fourth?))
 }
 
-/// A commit's number, its TID's word, and the reply.
-type Told = (u32, u64, Option<PaymentReply>);
+/// A commit's number, its TID's word, and what is told.
+type Committed = (u32, u64, Told);
 
 /// Commits a Payment that a terminal has executed, and tells of it.
 fn commit_executed<K: Run, R: Wait>(
     rt: &R,
     engine: &Engine<K>,
     executed: Executed<K>,
-) -> (Seat<K>, Result<Told, Refusal>)
+) -> (Seat<K>, Result<Committed, Refusal>)
     ensures { result.0.reader.cells ≡ K.cells }
 {
     let Executed {
@@ -135,15 +136,11 @@ fn commit_executed<K: Run, R: Wait>(
         work,
     } = executed;
     let mut book = engine.lock(rt);
-    let told = book
+    let committed = book
         .commit(rt, engine.cells(), &mut seat.reader, &mut seat.share, work)
-        .map(|done| (
-            done.number(),
-            done.tid().word(),
-            payment_reply(done.reply()),
-        ));
+        .map(|done| (done.number(), done.tid().word(), told_of(done.reply())));
     drop(book);
-    (seat, told)
+    (seat, committed)
 }
 
 /// How many have committed, W_YTD in the committed tables, and the TID words and first words of the warehouse, the
@@ -215,9 +212,9 @@ fn account_of<K: Run, R: Wait>(
 /// What came of the commits, and the states after each of the first two and at the end.
 #[derive(Clone, Copy, Debug, PartialEq, Eq)]
 struct Commits {
-    first: Result<Told, Refusal>,
-    second: Result<Told, Refusal>,
-    again: Result<Told, Refusal>,
+    first: Result<Committed, Refusal>,
+    second: Result<Committed, Refusal>,
+    again: Result<Committed, Refusal>,
     states: [Standing; 3],
 }
 
@@ -251,12 +248,12 @@ fn pay_again<K: Run, R: Wait>(
     alloc: Global,
     engine: &Engine<K>,
     seat: Seat<K>,
-) -> Result<Result<Told, Refusal>, Refusal>
+) -> Result<Result<Committed, Refusal>, Refusal>
     requires reader { seat.reader.cells ≡ K.cells }
 {
     let executed = pay(rt, alloc, engine, seat, 4)?;
-    let (_, told) = commit_executed(rt, engine, executed);
-    Ok(told)
+    let (_, committed) = commit_executed(rt, engine, executed);
+    Ok(committed)
 }
 
 /// What came of the Payments, the terminals that made them, the state before them, and the book after them.
@@ -317,9 +314,15 @@ fn the_second_of_two_conflicts(rt: HostRuntime) -> Result<(), Fail> {
         account,
     } = pay_twice::<Brand, _>(&rt, rt.alloc(), parts)?;
     assert_eq!(rt; terminals, [0, 1]);
-    assert_eq!(rt; commits.first, Ok((1, 4_294_967_304, reply(3, -1_100))));
+    assert_eq!(rt;
+        commits.first,
+        Ok((1, 4_294_967_304, payment_told(3, -1_100)))
+    );
     assert_eq!(rt; commits.second, Err(Refusal::Conflict));
-    assert_eq!(rt; commits.again, Ok((2, 4_294_967_312, reply(4, -1_100))));
+    assert_eq!(rt;
+        commits.again,
+        Ok((2, 4_294_967_312, payment_told(4, -1_100)))
+    );
     let [before, after, end] = commits.states;
     assert_eq!(rt; opened.commits, 0);
     assert_eq!(rt; opened.tids, [2; 4]);

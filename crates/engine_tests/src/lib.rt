@@ -1,4 +1,4 @@
-//! Tests of `cells`, `readset`, `payment`, `book` and `session`, over the plain population of one warehouse.
+//! Tests of `cells`, `readset`, the transactions, `book` and `session`, over the plain population of one warehouse.
 #![tactic(auto)]
 
 #[cfg(test)]
@@ -6,11 +6,17 @@ mod book_tests;
 #[cfg(test)]
 mod cells_tests;
 #[cfg(test)]
+mod deliveries;
+#[cfg(test)]
+mod delivery_tests;
+#[cfg(test)]
 mod engine;
 #[cfg(test)]
 mod new_order_tests;
 #[cfg(test)]
 mod new_orders;
+#[cfg(test)]
+mod pairs;
 #[cfg(test)]
 mod payment_tests;
 #[cfg(test)]
@@ -21,3 +27,5 @@ mod readset_tests;
 mod session_tests;
 #[cfg(test)]
 mod stage;
+#[cfg(test)]
+mod told;

@@ -4,10 +4,12 @@ ghost use Rattle.tables.specs.Records.{record_count};
 ghost use Rattle.population.specs.Initial.{initial};
 ghost use Rattle.book.specs.Parts.{IsFresh, first_of, cells_of, ledger_name, ledger_parts};
 
-use crate::engine::{Executed, both_of, execute_at, parts};
-use crate::new_orders::{Ordered, five, line, new_order, order_reply, order_told};
+use crate::engine::parts;
+use crate::new_orders::{five, line, new_order, order_told};
+use crate::pairs::{Asked, Committed, outcome_of};
 use crate::stage::{Stage, open};
-use book::{Done, Engine, Parts, Run, Seat};
+use crate::told::{Told, told_of};
+use book::{Engine, Parts, Run, Seat};
 use money::Refusal;
 use population::Population;
 use readset::Work;
@@ -22,7 +24,7 @@ use tables::{Reply, RequestedLine, Scale};
 /// and writes, and what some of them are to hold.
 #[derive(Clone, Copy)]
 struct Seen {
-    ordered: Option<Ordered>,
+    told: Told,
     stocks: [u32; 15],
     reads: usize,
     writes: usize,
@@ -86,7 +88,7 @@ fn order<R: Wait>(
         &input,
     )?;
     Ok(Seen {
-        ordered: order_reply(&work.reply),
+        told: told_of(&work.reply),
         stocks: stocks_of(&work.reply),
         reads: work.reads.versions().count(),
         writes: work.writes.values().count(),
@@ -105,7 +107,7 @@ fn an_item_that_comes_again(rt: HostRuntime) -> Result<(), Fail> {
     let (one, two) = (line(1, 10), line(2, 10));
     let lines = [one, one, one, one, two, two, two, line(2, 1), two];
     let seen = seen_of(&rt, rt.alloc(), &lines)?;
-    assert_eq!(rt; seen.ordered, order_told(11, 12_200, 12_627));
+    assert_eq!(rt; seen.told, order_told(11, 12_200, 12_627));
     let stocks = [40, 30, 20, 10, 40, 30, 20, 19, 100, 0, 0, 0, 0, 0, 0];
     assert_eq!(rt; seen.stocks, stocks);
     assert_eq!(rt; (seen.reads, seen.writes), (15, 15));
@@ -125,21 +127,14 @@ fn an_item_that_comes_again(rt: HostRuntime) -> Result<(), Fail> {
     Ok(())
 }
 
-/// A commit's number, and what an order is told.
-type Told = (u32, Option<Ordered>);
-
-fn told(done: &Done) -> Told {
-    (done.number(), order_reply(done.reply()))
-}
-
-/// Commits an order of customer 3.
+/// Commits an order of customer 3, and gives the commit's number and what is told.
 fn commit<K: Run, R: Wait>(
     rt: &R,
     alloc: Global,
     engine: &Engine<K>,
     seat: &mut Seat<K>,
     lines: &[RequestedLine],
-) -> Result<Told, Refusal>
+) -> Result<(u32, Told), Refusal>
     requires { seat.old.reader.cells ≡ K.cells }
     ensures { seat.new.reader.cells ≡ K.cells }
 {
@@ -147,12 +142,16 @@ fn commit<K: Run, R: Wait>(
     let input = new_order(alloc, &scale, 3, lines)?;
     let mut book = engine.lock(rt);
     let done = persist(rt, alloc, engine, &mut book, seat, &input, None)?;
-    Ok(told(&done))
+    Ok((done.number(), told_of(done.reply())))
 }
 
 /// What came of an order of item 21, which isn't in ITEM, how much has committed then, and what came of an order of
 /// items that are there.
-type Tries = (Result<Told, Refusal>, usize, Result<Told, Refusal>);
+type Tries = (
+    Result<(u32, Told), Refusal>,
+    usize,
+    Result<(u32, Told), Refusal>,
+);
 
 fn try_both<K: Run, R: Wait>(rt: &R, alloc: Global, parts: Parts) -> Result<Tries, Fail>
     requires fresh { IsFresh parts }
@@ -195,105 +194,21 @@ fn no_order_number_is_left(rt: HostRuntime) -> Result<(), Fail> {
     Ok(())
 }
 
-/// Executes an order of this customer.
-fn execute_order<K: Run, R: Wait>(
-    rt: &R,
-    alloc: Global,
-    engine: &Engine<K>,
-    seat: Seat<K>,
-    customer: u32,
-) -> Result<Executed<K>, Refusal>
-    requires { seat.reader.cells ≡ K.cells }
-{
-    let scale = engine.population().scale();
-    let input = new_order(alloc, &scale, customer, &five(5, 10))?;
-    execute_at(rt, alloc, engine, seat, input)
-}
-
-/// Commits an order that a terminal has executed. Where that is refused, executes it again, and tells the refusal.
-fn commit_executed<K: Run, R: Wait>(
-    rt: &R,
-    alloc: Global,
-    engine: &Engine<K>,
-    executed: Executed<K>,
-) -> Result<(Option<Refusal>, Told), Refusal> {
-    let Executed {
-        mut seat,
-        input,
-        work,
-    } = executed;
-    let mut book = engine.lock(rt);
-    let cells = engine.cells();
-    match book.commit(rt, cells, &mut seat.reader, &mut seat.share, work) {
-        Ok(done) => Ok((None, told(&done))),
-        Err(refusal) => {
-            let done = persist(rt, alloc, engine, &mut book, &mut seat, &input, None)?;
-            Ok((Some(refusal), told(&done)))
-        }
+/// What came of an order that got this number.
+fn ordered(refusal: Option<Refusal>, number: u32, order: u32) -> Committed {
+    Committed {
+        refusal,
+        number,
+        told: order_told(order, 15_000, 15_525),
     }
-}
-
-/// What came of two orders, and whether the conditions hold then.
-#[derive(Clone, Copy, Debug, PartialEq, Eq)]
-struct Outcome {
-    third: (Option<Refusal>, Told),
-    fourth: (Option<Refusal>, Told),
-    is_good: bool,
-}
-
-fn commit_both<K: Run, R: Wait>(
-    rt: &R,
-    alloc: Global,
-    engine: &Engine<K>,
-    third: Executed<K>,
-    fourth: Executed<K>,
-) -> Result<Outcome, Refusal> {
-    let third = commit_executed(rt, alloc, engine, third)?;
-    let fourth = commit_executed(rt, alloc, engine, fourth)?;
-    let is_good = engine.lock(rt).report(alloc)?.is_good();
-    Ok(Outcome {
-        third,
-        fourth,
-        is_good,
-    })
-}
-
-/// Has two orders to one district executed before either commits.
-fn outcome_of<K: Run, R: Wait>(
-    rt: &R,
-    alloc: Global,
-    engine: &Engine<K>,
-    left: Seat<K>,
-    right: Seat<K>,
-) -> Result<Outcome, Refusal>
-    requires left { left.reader.cells ≡ K.cells }
-    requires right { right.reader.cells ≡ K.cells }
-{
-    let third = execute_order(rt, alloc, engine, left, 3)?;
-    let fourth = execute_order(rt, alloc, engine, right, 4)?;
-    commit_both(rt, alloc, engine, third, fourth)
-}
-
-fn order_twice<K: Run, R: Wait>(rt: &R, alloc: Global, parts: Parts) -> Result<Outcome, Fail>
-    requires fresh { IsFresh parts }
-    requires run { (first_of parts ≡ K.first) × (cells_of parts ≡ K.cells) }
-    requires ledger { (ledger_name parts ≡ K.name) × (ledger_parts parts ≡ K.parts) }
-{
-    let (engine, mut seats) = Engine::<K>::open(parts);
-    let (left, right) = both_of(&mut seats).ok_or("seats")?;
-    Ok(outcome_of(rt, alloc, &engine, left, right)?)
 }
 
 #[test]
 fn one_number_at_two_terminals(rt: HostRuntime) -> Result<(), Fail> {
-    let parts = parts(&rt, rt.alloc())?;
-    let outcome = order_twice::<Brand, _>(&rt, rt.alloc(), parts)?;
-    assert_eq!(rt; outcome.third, (None, (1, order_told(11, 15_000, 15_525))));
-    let conflict = Some(Refusal::Conflict);
-    assert_eq!(rt;
-        outcome.fourth,
-        (conflict, (2, order_told(12, 15_000, 15_525)))
-    );
+    let asked = (Asked::Order(3), Asked::Order(4));
+    let outcome = outcome_of(&rt, rt.alloc(), asked)?;
+    assert_eq!(rt; outcome.first, ordered(None, 1, 11));
+    assert_eq!(rt; outcome.second, ordered(Some(Refusal::Conflict), 2, 12));
     assert!(rt; outcome.is_good);
     Ok(())
 }

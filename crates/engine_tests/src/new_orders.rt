@@ -2,9 +2,10 @@
 ghost use Rattle.std.specs.Prelude.{IfOk};
 ghost use Rattle.tables.specs.Inputs.{IsInput};
 
+use crate::told::{Ordered, Told};
 use money::{Cents, Refusal};
 use std::alloc::Global;
-use tables::{Input, Lines, NewOrderInput, Reply, RequestedLine, Scale};
+use tables::{Input, Lines, NewOrderInput, RequestedLine, Scale};
 
 /// A line that its own warehouse supplies.
 pub(crate) fn line(item: u32, quantity: u32) -> RequestedLine {
@@ -46,31 +47,11 @@ pub(crate) fn new_order(
     Input::new_order(scale, order)
 }
 
-/// What a terminal is told of an order: its number, the sum of its lines, and its total amount.
-#[derive(Clone, Copy, Debug, PartialEq, Eq)]
-pub(crate) struct Ordered {
-    pub(crate) number: u32,
-    pub(crate) amount: Cents,
-    pub(crate) total: Cents,
-}
-
 /// An order of this number, whose lines sum to this amount, with this total.
-pub(crate) fn order_told(number: u32, amount: i64, total: i64) -> Option<Ordered> {
-    Some(Ordered {
+pub(crate) fn order_told(number: u32, amount: i64, total: i64) -> Told {
+    Told::Order(Ordered {
         number,
         amount: Cents::new(amount),
         total: Cents::new(total),
     })
-}
-
-/// What a reply tells of an order, where it is a New-Order's.
-pub(crate) fn order_reply(reply: &Reply) -> Option<Ordered> {
-    match reply {
-        Reply::NewOrder(reply) => Some(Ordered {
-            number: reply.order,
-            amount: reply.amount,
-            total: reply.total,
-        }),
-        Reply::Payment(_) => None,
-    }
 }

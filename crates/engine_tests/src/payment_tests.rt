@@ -6,8 +6,9 @@ ghost use Rattle.cells.specs.Versions.{last_tid};
 ghost use Rattle.tables.specs.Records.{record_count};
 ghost use Rattle.population.specs.Initial.{initial};
 
-use crate::payments::{history_row, payment, payment_reply, reply};
+use crate::payments::{history_row, payment, payment_told};
 use crate::stage::{CUSTOMER, DISTRICT, Stage, open};
+use crate::told::{Told, told_of};
 use cells::{Status, TidWord};
 use money::{MAX_MONEY, Refusal};
 use payment::execute;
@@ -15,7 +16,7 @@ use readset::{ReadSet, Work};
 use std::alloc::Global;
 use std::sync::Wait;
 use std::test::Fail;
-use tables::{History, Input, PaymentInput, PaymentReply, Scale};
+use tables::{History, Input, PaymentInput, Scale};
 
 /// The TID word and the data of a version.
 #[derive(Clone, Copy, Debug, PartialEq, Eq)]
@@ -28,7 +29,7 @@ struct Held {
 #[derive(Clone, Copy)]
 struct Seen {
     input: Option<PaymentInput>,
-    reply: Option<PaymentReply>,
+    told: Told,
     reads: usize,
     writes: usize,
     read: Read,
@@ -95,14 +96,14 @@ fn version_of(reads: &ReadSet, number: u32) -> Option<Held> {
 fn payment_input(input: &Input) -> Option<PaymentInput> {
     match input {
         Input::Payment(payment) => Some(*payment),
-        Input::NewOrder(_) => None,
+        Input::NewOrder(_) | Input::Delivery(_) => None,
     }
 }
 
 fn seen_of(work: &Work) -> Seen {
     Seen {
         input: payment_input(&work.input),
-        reply: payment_reply(&work.reply),
+        told: told_of(&work.reply),
         reads: work.reads.versions().count(),
         writes: work.writes.values().count(),
         read: Read {
@@ -166,7 +167,7 @@ fn a_payment(rt: HostRuntime) -> Result<(), Fail> {
     let seen = seen_of_first(&rt, rt.alloc())?;
     let wanted = written_of_first([21_234, 0, 0, 0, 0, 0, 0]);
     assert_eq!(rt; seen.input, Some(payment(3, 1_234)));
-    assert_eq!(rt; seen.reply, reply(3, -2_234));
+    assert_eq!(rt; seen.told, payment_told(3, -2_234));
     assert_eq!(rt; (seen.reads, seen.writes), (3, 3));
     assert_eq!(rt; seen.written, wanted);
     assert_eq!(rt; seen.history_row, Some(history_row(3, 1_234)));
@@ -206,8 +207,8 @@ fn seen_of_two<R: Wait>(rt: &R, alloc: Global) -> Result<(Seen, Seen), Fail> {
 fn a_payment_after_another(rt: HostRuntime) -> Result<(), Fail> {
     let (first, second) = seen_of_two(&rt, rt.alloc())?;
     assert_eq!(rt;
-        (first.reply, second.reply),
-        (reply(3, -1_100), reply(3, -501_100))
+        (first.told, second.told),
+        (payment_told(3, -1_100), payment_told(3, -501_100))
     );
     let customer = [(-501_100_i64).cast_unsigned(), 501_100, 3, 0, 0, 0, 0];
     let wanted = Written {
@@ -257,7 +258,7 @@ fn reads_between_the_stores_of_another(rt: HostRuntime) -> Result<(), Fail> {
     assert_eq!(rt; seen.reads, 3);
     assert_eq!(rt; seen.read, read);
     assert_eq!(rt; seen.written, wanted);
-    assert_eq!(rt; seen.reply, reply(3, -2_234));
+    assert_eq!(rt; seen.told, payment_told(3, -2_234));
     Ok(())
 }
 

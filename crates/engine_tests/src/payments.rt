@@ -1,7 +1,8 @@
 //! Payments of customers of district 1 to that district, and what they leave.
 
+use crate::told::Told;
 use money::Cents;
-use tables::{History, PaymentInput, PaymentReply, Reply, Who};
+use tables::{History, PaymentInput, PaymentReply, Who};
 
 /// A Payment's input.
 pub(crate) fn payment(customer: u32, amount: i64) -> PaymentInput {
@@ -29,9 +30,9 @@ pub(crate) fn history_row(customer: u32, amount: i64) -> History {
     }
 }
 
-/// The reply of one that leaves this balance.
-pub(crate) fn reply(customer: u32, balance: i64) -> Option<PaymentReply> {
-    Some(PaymentReply {
+/// What is told of one that leaves this balance.
+pub(crate) fn payment_told(customer: u32, balance: i64) -> Told {
+    Told::Payment(PaymentReply {
         warehouse: 1,
         district: 1,
         customer_warehouse: 1,
@@ -39,12 +40,4 @@ pub(crate) fn reply(customer: u32, balance: i64) -> Option<PaymentReply> {
         customer,
         balance: Cents::new(balance),
     })
-}
-
-/// The reply, where it is a Payment's.
-pub(crate) fn payment_reply(reply: &Reply) -> Option<PaymentReply> {
-    match reply {
-        Reply::Payment(reply) => Some(*reply),
-        Reply::NewOrder(_) => None,
-    }
 }

@@ -3,7 +3,8 @@ ghost use Rattle.std.specs.Prelude.{◌≡◌};
 ghost use Rattle.book.specs.Parts.{IsFresh, first_of, cells_of, ledger_name, ledger_parts};
 
 use crate::engine::{Executed, both_of, parts, pay};
-use crate::payments::{payment_reply, reply};
+use crate::payments::payment_told;
+use crate::told::{Told, told_of};
 use book::{Engine, Parts, Run, Seat};
 use money::Refusal;
 use session::persist;
@@ -11,10 +12,9 @@ use std::alloc::Global;
 use std::marker::Brand;
 use std::sync::Wait;
 use std::test::Fail;
-use tables::PaymentReply;
 
-/// A commit's number, and the reply.
-type Told = (u32, Option<PaymentReply>);
+/// A commit's number, and what is told.
+type Committed = (u32, Told);
 
 /// Commits what a terminal has executed, and executes it again where that is a conflict.
 fn commit<K: Run, R: Wait>(
@@ -22,7 +22,7 @@ fn commit<K: Run, R: Wait>(
     alloc: Global,
     engine: &Engine<K>,
     executed: Executed<K>,
-) -> Result<Told, Refusal> {
+) -> Result<Committed, Refusal> {
     let Executed {
         mut seat,
         input,
@@ -30,7 +30,7 @@ fn commit<K: Run, R: Wait>(
     } = executed;
     let mut book = engine.lock(rt);
     let done = persist(rt, alloc, engine, &mut book, &mut seat, &input, Some(work))?;
-    Ok((done.number(), payment_reply(done.reply())))
+    Ok((done.number(), told_of(done.reply())))
 }
 
 /// Has two Payments executed before either commits.
@@ -40,7 +40,7 @@ fn pay_twice<K: Run, R: Wait>(
     engine: &Engine<K>,
     left: Seat<K>,
     right: Seat<K>,
-) -> Result<[Told; 2], Refusal>
+) -> Result<[Committed; 2], Refusal>
     requires left { left.reader.cells ≡ K.cells }
     requires right { right.reader.cells ≡ K.cells }
 {
@@ -55,13 +55,13 @@ fn commit_both<K: Run, R: Wait>(
     engine: &Engine<K>,
     third: Executed<K>,
     fourth: Executed<K>,
-) -> Result<[Told; 2], Refusal> {
+) -> Result<[Committed; 2], Refusal> {
     let first = commit(rt, alloc, engine, third)?;
     let second = commit(rt, alloc, engine, fourth)?;
     Ok([first, second])
 }
 
-fn told<K: Run, R: Wait>(rt: &R, alloc: Global, parts: Parts) -> Result<[Told; 2], Fail>
+fn told<K: Run, R: Wait>(rt: &R, alloc: Global, parts: Parts) -> Result<[Committed; 2], Fail>
     requires fresh { IsFresh parts }
     requires run { (first_of parts ≡ K.first) × (cells_of parts ≡ K.cells) }
     requires ledger { (ledger_name parts ≡ K.name) × (ledger_parts parts ≡ K.parts) }
@@ -75,6 +75,9 @@ fn told<K: Run, R: Wait>(rt: &R, alloc: Global, parts: Parts) -> Result<[Told; 2
 fn a_conflict_is_executed_again(rt: HostRuntime) -> Result<(), Fail> {
     let parts = parts(&rt, rt.alloc())?;
     let told = told::<Brand, _>(&rt, rt.alloc(), parts)?;
-    assert_eq!(rt; told, [(1, reply(3, -1_100)), (2, reply(4, -1_100))]);
+    assert_eq!(rt;
+        told,
+        [(1, payment_told(3, -1_100)), (2, payment_told(4, -1_100))]
+    );
     Ok(())
 }

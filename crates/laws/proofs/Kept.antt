@@ -8,10 +8,13 @@ use Rattle.tables.specs.Conditions.{IsConsistent}
 use Rattle.tables.specs.Constant.{IsOf}
 use Rattle.tables.specs.Database.{Database}
 use Rattle.tables.specs.declared.input.Input.{Input}
-use Rattle.tables.specs.declared.input.Input.TheVariants.{Payment, NewOrder}
+use Rattle.tables.specs.declared.input.Input.TheVariants.{Payment, NewOrder, Delivery}
 use Rattle.laws.proofs.NewOrderKeepsConsistent.{new_order_keeps_consistent}
 use Rattle.laws.proofs.NewOrderKeepsConstants.{new_order_keeps_constants}
 use Rattle.laws.proofs.NewOrderKeepsWellFormed.{new_order_keeps_well_formed, new_order_keeps_room}
+use Rattle.laws.proofs.DeliveryKeepsConsistent.{delivery_keeps_consistent}
+use Rattle.laws.proofs.DeliveryKeepsConstants.{delivery_keeps_constants}
+use Rattle.laws.proofs.DeliveryKeepsWellFormed.{delivery_keeps_well_formed, delivery_keeps_room}
 use Rattle.laws.proofs.Room.{room_stays}
 use Rattle.laws.proofs.PaymentKeeps.{payment_keeps_well_formed, payment_keeps_room, payment_keeps_consistent, payment_keeps_constants}
 
@@ -21,6 +24,7 @@ after-IsWellFormed t (NewOrder x) n ok number wf con room = elim (first_missing 
   | None ↦ λ none. new_order_keeps_well_formed t x n ok room wf number con none
   | Some item ↦ λ _. wf
 ] refl
+after-IsWellFormed t (Delivery x) n ok number wf con room = delivery_keeps_well_formed t x n ok wf room
 
 pub after-HasRoom : (t : Database) (x : Input) (n : ℕ) → IsInput t.scale x → IsWellFormed t → HasRoom (n + 1) t → HasRoom n (after t x)
 after-HasRoom t (Payment x) n ok wf room = payment_keeps_room t x n ok wf room
@@ -28,6 +32,7 @@ after-HasRoom t (NewOrder x) n ok wf room = elim (first_missing t x.lines) as (�
   | None ↦ new_order_keeps_room t x n ok room wf
   | Some item ↦ room_stays n t room
 ]
+after-HasRoom t (Delivery x) n ok wf room = delivery_keeps_room t x n ok wf room
 
 pub after-IsConsistent : (t : Database) (x : Input) → IsInput t.scale x → IsWellFormed t → IsConsistent t → IsConsistent (after t x)
 after-IsConsistent t (Payment x) ok wf con = payment_keeps_consistent t x ok wf con
@@ -35,6 +40,7 @@ after-IsConsistent t (NewOrder x) ok wf con = elim (first_missing t x.lines) as 
   | None ↦ new_order_keeps_consistent t x ok wf con
   | Some item ↦ con
 ]
+after-IsConsistent t (Delivery x) ok wf con = delivery_keeps_consistent t x ok wf con
 
 pub after-IsOf : (t0 t : Database) (x : Input) → IsOf t0 t → IsOf t0 (after t x)
 after-IsOf t0 t (Payment x) h = payment_keeps_constants t0 t x h
@@ -42,6 +48,7 @@ after-IsOf t0 t (NewOrder x) h = elim (first_missing t x.lines) as (λ missing. 
   | None ↦ new_order_keeps_constants t0 t x h
   | Some item ↦ h
 ]
+after-IsOf t0 t (Delivery x) h = delivery_keeps_constants t0 t x h
 
 pub IsOf-itself : (t : Database) → IsOf t t
 IsOf-itself t = record { scale = refl; warehouse_taxes = λ w. refl; district_taxes = λ k. refl; first_names = λ k. refl; last_names = λ k. refl; credit = λ k. refl; discounts = λ k. refl; items = refl }

@@ -3,7 +3,7 @@ mod Numbers
 mod Spaces
 mod Numerals
 mod Amounts
-mod Supplied
+mod Joined
 mod OrderLines
 mod RequestLemmas
 pub mod Cutting

@@ -3,7 +3,7 @@ use Rattle.std.proofs.Common.{◌≡◌, ℕ, zero, suc, ◌+◌, ◌-◌, ◌/�
 use Rattle.std.specs.Int.Digits.{digits_of}
 use Rattle.std.proofs.lemmas.Int.Digits.{same_from_digits_of}
 use Rattle.lines.specs.declared.request.Request.{Request}
-use Rattle.lines.specs.declared.request.Request.TheVariants.{Payment, NewOrder, ShowWarehouse, ShowDistrict, ShowCustomer, ShowStock, ShowOrder}
+use Rattle.lines.specs.declared.request.Request.TheVariants.{Payment, NewOrder, Delivery, ShowWarehouse, ShowDistrict, ShowCustomer, ShowStock, ShowOrder}
 use Rattle.lines.specs.Amount.{numeral, unsigned_amount_text, amount_text}
 use Rattle.lines.specs.Words.{words}
 use Rattle.lines.specs.Requests.{HasNumbers, words_of, request_text}
@@ -56,6 +56,10 @@ same_words (NewOrder w d c ls) (NewOrder w' d' c' ls') h i e =
     let same_d = number_at 2 _ _ d d' refl refl e h.1 i.1 in
     let same_c = number_at 3 _ _ c c' refl refl e h.2 i.2 in
     let same_ls = same_lines ls ls' h.3 i.3 (ap (drop 4) e) in
+    cc
+same_words (Delivery w c) (Delivery w' c') h i e =
+    let same_w = number_at 1 _ _ w w' refl refl e h.0 i.0 in
+    let same_c = number_at 2 _ _ c c' refl refl e h.1 i.1 in
     cc
 same_words (ShowWarehouse w) (ShowWarehouse w') h i e = ap ShowWarehouse (number_at 2 _ _ w w' refl refl e h i)
 same_words (ShowDistrict w d) (ShowDistrict w' d') h i e =

@@ -1,5 +1,5 @@
 -- What the words of a line can ask.
-use Rattle.std.proofs.Common.{true, cond, eqb, not, get_or, drop, ◌≡◌, ◌≢◌, ℕ, ◌<◌, ◌^◌, List, [], ◌∷◌, map, codes, ℤ, Result, Ok, Err, Option, Some, None, MatchOption, MatchResult, IfOk, IfErr, ◌⊎◌, inl, inr, sym, subst, ap, ◌∙◌, refl, arith}
+use Rattle.std.proofs.Common.{true, cond, eqb, not, get_or, drop, ◌≡◌, ◌≢◌, ℕ, ◌<◌, ◌+◌, ◌^◌, List, [], ◌∷◌, map, codes, ℤ, Result, Ok, Err, Option, Some, None, MatchOption, MatchResult, IfOk, IfErr, ◌⊎◌, inl, inr, sym, subst, ap, ◌∙◌, refl, arith}
 use Rattle.std.specs.Fmt.{decimal}
 use Rattle.std.specs.List.{AllByRecursion, list_all}
 use Rattle.std.proofs.lemmas.Bool.{not-true}
@@ -9,7 +9,7 @@ use Rattle.money.specs.declared.refusal.Refusal.{Refusal}
 use Rattle.money.specs.declared.refusal.Refusal.TheVariants.{BadInput, BadLine, OutOfMemory}
 use Rattle.tables.specs.declared.new_order.RequestedLine.{RequestedLine}
 use Rattle.lines.specs.declared.request.Request.{Request}
-use Rattle.lines.specs.declared.request.Request.TheVariants.{Payment, NewOrder, ShowWarehouse, ShowDistrict, ShowCustomer, ShowStock, ShowOrder}
+use Rattle.lines.specs.declared.request.Request.TheVariants.{Payment, NewOrder, Delivery, ShowWarehouse, ShowDistrict, ShowCustomer, ShowStock, ShowOrder}
 use Rattle.lines.specs.Amount.{amount_text}
 use Rattle.lines.specs.Words.{words}
 use Rattle.lines.specs.Requests.{line_word, Answers, AnswersOrNoMemory, IsRefused, words_of, request_text}
@@ -26,19 +26,19 @@ last_from_number text (Some n) is = ap words is ∙ words_one (decimal n) (decim
 abbrev pub byte_of : ℕ → List (List ℕ) → ℕ
 byte_of k ws = get_or (get_or ws k []) 0 0
 
--- a number that tells by the words which kind of request they can ask: the first byte of the verb, or behind `show` of the table
+-- a number that tells by the words which kind of request they can ask: the first byte of the verb, or behind `show` 256 more than that of the table
 abbrev pub kind_of : List (List ℕ) → ℕ
-kind_of ws = cond (eqb (byte_of 0 ws) 115) (byte_of 1 ws) (byte_of 0 ws)
+kind_of ws = cond (eqb (byte_of 0 ws) 115) (256 + byte_of 1 ws) (byte_of 0 ws)
 
 -- words that are no customer's key show none
 pub no_customer : (ws : List (List ℕ)) → ((w d c : ℕ) → w < 2 ^ 32 → d < 2 ^ 32 → c < 2 ^ 32 → ws ≢ decimal w ∷ decimal d ∷ decimal c ∷ []) → Answers (codes "show" ∷ codes "customer" ∷ ws) (Err BadLine)
 no_customer ws none (ShowCustomer w d c) h e = none w d c h.0 h.1 h.2 (ap (drop 2) e)
-no_customer ws none other h e = let f : ◌≡◌ {A = ℕ} 99 (kind_of (words_of other)) = ap kind_of e in omega arith
+no_customer ws none other h e = let f : ◌≡◌ {A = ℕ} (256 + 99) (kind_of (words_of other)) = ap kind_of e in omega arith
 
 -- the same of an order's
 pub no_order : (ws : List (List ℕ)) → ((w d o : ℕ) → w < 2 ^ 32 → d < 2 ^ 32 → o < 2 ^ 32 → ws ≢ decimal w ∷ decimal d ∷ decimal o ∷ []) → Answers (codes "show" ∷ codes "order" ∷ ws) (Err BadLine)
 no_order ws none (ShowOrder w d o) h e = none w d o h.0 h.1 h.2 (ap (drop 2) e)
-no_order ws none other h e = let f : ◌≡◌ {A = ℕ} 111 (kind_of (words_of other)) = ap kind_of e in omega arith
+no_order ws none other h e = let f : ◌≡◌ {A = ℕ} (256 + 111) (kind_of (words_of other)) = ap kind_of e in omega arith
 
 -- a table that none of the requests shows
 pub no_table : (ws : List (List ℕ)) → get_or ws 0 [] ≢ codes "warehouse" → get_or ws 0 [] ≢ codes "district" → get_or ws 0 [] ≢ codes "customer" → get_or ws 0 [] ≢ codes "stock" → get_or ws 0 [] ≢ codes "order" → Answers (codes "show" ∷ ws) (Err BadLine)
@@ -50,14 +50,15 @@ no_table ws no_w no_d no_c no_s no_o (ShowOrder w d o) h e = no_o (ap (λ l. get
 no_table ws no_w no_d no_c no_s no_o other h e = let f : ◌≡◌ {A = ℕ} 115 (byte_of 0 (words_of other)) = ap (byte_of 0) e in omega arith
 
 -- a verb that none of the requests has
-pub no_verb : (ws : List (List ℕ)) → get_or ws 0 [] ≢ codes "payment" → get_or ws 0 [] ≢ codes "neworder" → get_or ws 0 [] ≢ codes "show" → Answers ws (Err BadLine)
-no_verb ws no_p no_n no_s (Payment w d cw cd c z) h e = no_p (ap (λ l. get_or l 0 []) e)
-no_verb ws no_p no_n no_s (NewOrder w d c ls) h e = no_n (ap (λ l. get_or l 0 []) e)
-no_verb ws no_p no_n no_s (ShowWarehouse w) h e = no_s (ap (λ l. get_or l 0 []) e)
-no_verb ws no_p no_n no_s (ShowDistrict w d) h e = no_s (ap (λ l. get_or l 0 []) e)
-no_verb ws no_p no_n no_s (ShowCustomer w d c) h e = no_s (ap (λ l. get_or l 0 []) e)
-no_verb ws no_p no_n no_s (ShowStock w i) h e = no_s (ap (λ l. get_or l 0 []) e)
-no_verb ws no_p no_n no_s (ShowOrder w d o) h e = no_s (ap (λ l. get_or l 0 []) e)
+pub no_verb : (ws : List (List ℕ)) → get_or ws 0 [] ≢ codes "payment" → get_or ws 0 [] ≢ codes "neworder" → get_or ws 0 [] ≢ codes "delivery" → get_or ws 0 [] ≢ codes "show" → Answers ws (Err BadLine)
+no_verb ws no_p no_n no_d no_s (Payment w d cw cd c z) h e = no_p (ap (λ l. get_or l 0 []) e)
+no_verb ws no_p no_n no_d no_s (NewOrder w d c ls) h e = no_n (ap (λ l. get_or l 0 []) e)
+no_verb ws no_p no_n no_d no_s (Delivery w c) h e = no_d (ap (λ l. get_or l 0 []) e)
+no_verb ws no_p no_n no_d no_s (ShowWarehouse w) h e = no_s (ap (λ l. get_or l 0 []) e)
+no_verb ws no_p no_n no_d no_s (ShowDistrict w d) h e = no_s (ap (λ l. get_or l 0 []) e)
+no_verb ws no_p no_n no_d no_s (ShowCustomer w d c) h e = no_s (ap (λ l. get_or l 0 []) e)
+no_verb ws no_p no_n no_d no_s (ShowStock w i) h e = no_s (ap (λ l. get_or l 0 []) e)
+no_verb ws no_p no_n no_d no_s (ShowOrder w d o) h e = no_s (ap (λ l. get_or l 0 []) e)
 
 -- words that are no payment's ask none
 pub no_payment : (ws : List (List ℕ)) → ((w d cw cd c : ℕ) (z : ℤ) → w < 2 ^ 32 → d < 2 ^ 32 → cw < 2 ^ 32 → cd < 2 ^ 32 → c < 2 ^ 32 → ws ≢ decimal w ∷ decimal d ∷ decimal cw ∷ decimal cd ∷ decimal c ∷ amount_text z ∷ []) → Answers (codes "payment" ∷ ws) (Err BadLine)
@@ -82,6 +83,7 @@ no_space_of : (request : Request) → AllByRecursion HasNoSpace (words_of reques
 no_space_of (Payment w d cw cd c z) =
     (letters (codes "payment") refl, (decimal_no_space w, (decimal_no_space d, (decimal_no_space cw, (decimal_no_space cd, (decimal_no_space c, (amount_no_space z, tt)))))))
 no_space_of (NewOrder w d c ls) = (letters (codes "neworder") refl, (decimal_no_space w, (decimal_no_space d, (decimal_no_space c, lines_no_space ls))))
+no_space_of (Delivery w c) = (letters (codes "delivery") refl, (decimal_no_space w, (decimal_no_space c, tt)))
 no_space_of (ShowWarehouse w) = (letters (codes "show") refl, (letters (codes "warehouse") refl, (decimal_no_space w, tt)))
 no_space_of (ShowDistrict w d) = (letters (codes "show") refl, (letters (codes "district") refl, (decimal_no_space w, (decimal_no_space d, tt))))
 no_space_of (ShowCustomer w d c) =
@@ -94,6 +96,7 @@ no_space_of (ShowOrder w d o) =
 pub words_request : (request : Request) → words (request_text request) ≡ words_of request
 words_request (Payment w d cw cd c z) = words_joined _ _ (no_space_of (Payment w d cw cd c z))
 words_request (NewOrder w d c ls) = words_joined _ _ (no_space_of (NewOrder w d c ls))
+words_request (Delivery w c) = words_joined _ _ (no_space_of (Delivery w c))
 words_request (ShowWarehouse w) = words_joined _ _ (no_space_of (ShowWarehouse w))
 words_request (ShowDistrict w d) = words_joined _ _ (no_space_of (ShowDistrict w d))
 words_request (ShowCustomer w d c) = words_joined _ _ (no_space_of (ShowCustomer w d c))

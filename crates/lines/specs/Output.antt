@@ -14,8 +14,10 @@ use Rattle.tables.specs.declared.rows.Stock.{Stock as StockRow}
 use Rattle.tables.specs.declared.rows.Order.{Order as OrderRow}
 use Rattle.tables.specs.declared.new_order.SuppliedLine.{SuppliedLine}
 use Rattle.tables.specs.declared.new_order.NewOrderReply.{NewOrderReply}
+use Rattle.tables.specs.declared.delivery.DeliveredOrder.{DeliveredOrder}
+use Rattle.tables.specs.declared.delivery.DeliveryReply.{DeliveryReply}
 use Rattle.lines.specs.declared.answer.Answer.{Answer}
-use Rattle.lines.specs.declared.answer.Answer.TheVariants.{Payment, NewOrder, Warehouse, District, Customer, Stock, Order, Refused}
+use Rattle.lines.specs.declared.answer.Answer.TheVariants.{Payment, NewOrder, Delivery, Warehouse, District, Customer, Stock, Order, Refused}
 
 -- the item that a refusal names
 abbrev pub refused_item : Refusal → Option ℕ
@@ -78,6 +80,18 @@ head_words reply =
 abbrev pub new_order_words : NewOrderReply → List (List ℕ)
 new_order_words reply = head_words reply ++ map supplied_word reply.lines
 
+-- the word of a district: its number, and the order delivered there, if one was
+abbrev pub delivered_word : DeliveredOrder → List ℕ
+delivered_word o = join_with_byte 58 (decimal o.district ∷ nullable_word o.order ∷ [])
+
+-- those words, each behind a space
+abbrev pub delivered_text : List DeliveredOrder → List ℕ
+delivered_text os = flat_map (λ o. 32 ∷ delivered_word o) os
+
+-- the words of a Delivery's reply
+abbrev pub delivery_words : DeliveryReply → List (List ℕ)
+delivery_words reply = codes "delivery" ∷ decimal reply.warehouse ∷ map delivered_word reply.orders
+
 -- the words of an answer
 abbrev pub answer_words : Answer → List (List ℕ)
 answer_words (Payment reply) =
@@ -85,6 +99,7 @@ answer_words (Payment reply) =
     ∷ codes "customer" ∷ decimal reply.customer_warehouse ∷ decimal reply.customer_district ∷ decimal reply.customer
     ∷ codes "balance" ∷ money_text reply.balance ∷ []
 answer_words (NewOrder reply) = new_order_words reply
+answer_words (Delivery reply) = delivery_words reply
 answer_words (Warehouse warehouse row) = codes "warehouse" ∷ decimal warehouse ∷ codes "ytd" ∷ money_text row.year_to_date ∷ []
 answer_words (District key row) =
     codes "district" ∷ decimal key.warehouse ∷ decimal key.district

@@ -7,7 +7,7 @@ use Rattle.money.specs.declared.refusal.Refusal.{Refusal}
 use Rattle.money.specs.declared.refusal.Refusal.TheVariants.{BadInput, BadLine, OutOfMemory}
 use Rattle.tables.specs.declared.new_order.RequestedLine.{RequestedLine}
 use Rattle.lines.specs.declared.request.Request.{Request}
-use Rattle.lines.specs.declared.request.Request.TheVariants.{Payment, NewOrder, ShowWarehouse, ShowDistrict, ShowCustomer, ShowStock, ShowOrder}
+use Rattle.lines.specs.declared.request.Request.TheVariants.{Payment, NewOrder, Delivery, ShowWarehouse, ShowDistrict, ShowCustomer, ShowStock, ShowOrder}
 use Rattle.lines.specs.Amount.{amount_text}
 
 -- the word of a line of an order: its item, its supplying warehouse and its quantity
@@ -19,6 +19,7 @@ abbrev pub words_of : Request → List (List ℕ)
 words_of (Payment w d cw cd c z) =
     codes "payment" ∷ decimal w ∷ decimal d ∷ decimal cw ∷ decimal cd ∷ decimal c ∷ amount_text z ∷ []
 words_of (NewOrder w d c ls) = codes "neworder" ∷ decimal w ∷ decimal d ∷ decimal c ∷ map line_word ls
+words_of (Delivery w c) = codes "delivery" ∷ decimal w ∷ decimal c ∷ []
 words_of (ShowWarehouse w) = codes "show" ∷ codes "warehouse" ∷ decimal w ∷ []
 words_of (ShowDistrict w d) = codes "show" ∷ codes "district" ∷ decimal w ∷ decimal d ∷ []
 words_of (ShowCustomer w d c) = codes "show" ∷ codes "customer" ∷ decimal w ∷ decimal d ∷ decimal c ∷ []
@@ -37,6 +38,7 @@ HasLineNumbers l = (l.item < 2 ^ 32) × (l.supply_warehouse < 2 ^ 32) × (l.quan
 abbrev pub HasNumbers : Request → Type 0
 HasNumbers (Payment w d cw cd c z) = (w < 2 ^ 32) × (d < 2 ^ 32) × (cw < 2 ^ 32) × (cd < 2 ^ 32) × (c < 2 ^ 32)
 HasNumbers (NewOrder w d c ls) = (w < 2 ^ 32) × (d < 2 ^ 32) × (c < 2 ^ 32) × All HasLineNumbers ls
+HasNumbers (Delivery w c) = (w < 2 ^ 32) × (c < 2 ^ 32)
 HasNumbers (ShowWarehouse w) = w < 2 ^ 32
 HasNumbers (ShowDistrict w d) = (w < 2 ^ 32) × (d < 2 ^ 32)
 HasNumbers (ShowCustomer w d c) = (w < 2 ^ 32) × (d < 2 ^ 32) × (c < 2 ^ 32)

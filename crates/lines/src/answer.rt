@@ -2,12 +2,14 @@
 ghost use Rattle.std.specs.Prelude.{◌≡◌, ◌++◌, OnOk, OnErr, IfErr, string_bytes, codes};
 ghost use Rattle.lines.specs.Output.{refused_item};
 
+use crate::delivered::DeliveryAnswer;
+use crate::ordered::OrderAnswer;
 use crate::shown::{CustomerLine, OrderLine, StockLine};
 use money::Refusal;
 use std::fmt::{self, Display};
 use tables::{
-    Customer, CustomerKey, District, DistrictKey, NewOrderReply, Order, OrderKey, PaymentReply,
-    Stock, StockKey, SuppliedLine, Warehouse,
+    Customer, CustomerKey, DeliveryReply, District, DistrictKey, NewOrderReply, Order, OrderKey,
+    PaymentReply, Stock, StockKey, Warehouse,
 };
 
 /// What a line of a script is answered with.
@@ -18,6 +20,9 @@ pub enum Answer {
     /// A committed New-Order's reply (TPC-C 2.4.3.3), as `neworder 1 1 11 customer 3 lines 50.00 total 51.75
     /// 1:1:40:10.00 2:1:40:40.00`: each line with its item, its supplying warehouse, the stock after it and its amount.
     NewOrder(NewOrderReply),
+    /// A committed Delivery's reply (TPC-C 2.7.3), as `delivery 1 1:8 2:-`: each district of the warehouse with the
+    /// order that was delivered there, or with `-` where none waited.
+    Delivery(DeliveryReply),
     /// A row of WAREHOUSE, as `warehouse 1 ytd 212.34`.
     Warehouse { warehouse: u32, row: Warehouse },
     /// A row of DISTRICT, as `district 1 1 ytd 112.34 next 11`.
@@ -68,6 +73,7 @@ impl Display for Answer {
                 reply.balance
             ),
             Answer::NewOrder(reply) => OrderAnswer { reply }.fmt(f),
+            Answer::Delivery(reply) => DeliveryAnswer { reply }.fmt(f),
             Answer::Warehouse { warehouse, row } => {
                 let year_to_date = row.year_to_date;
                 write!(f, "warehouse {warehouse} ytd {year_to_date}")
@@ -98,74 +104,6 @@ impl Display for Answer {
             }
             .fmt(f),
         }
-    }
-}
-
-/// The answer to a New-Order.
-#[derive(Clone, Copy)]
-struct OrderAnswer<'a> {
-    reply: &'a NewOrderReply,
-}
-
-impl Display for OrderAnswer<'_> {
-    ghost use Rattle.std.specs.Prelude.{Some};
-    ghost use Rattle.std.specs.List.{join_with_byte};
-    ghost use Rattle.lines.specs.Output.{new_order_words};
-
-    ghost output = { λ answer. Some (join_with_byte 32 (new_order_words answer.reply.now)) };
-
-    fn fmt<W: fmt::Write>(&self, f: &mut fmt::Formatter<W>) -> fmt::Result {
-        let reply = self.reply;
-        let lines = reply.lines.as_slice();
-        write!(f, "{}{}", OrderHead { reply }, SuppliedLines { lines })
-    }
-}
-
-/// What is said of the order itself.
-#[derive(Clone, Copy)]
-struct OrderHead<'a> {
-    reply: &'a NewOrderReply,
-}
-
-impl Display for OrderHead<'_> {
-    ghost use Rattle.std.specs.Prelude.{Some};
-    ghost use Rattle.std.specs.List.{join_with_byte};
-    ghost use Rattle.lines.specs.Output.{head_words};
-
-    ghost output = { λ head. Some (join_with_byte 32 (head_words head.reply.now)) };
-
-    fn fmt<W: fmt::Write>(&self, f: &mut fmt::Formatter<W>) -> fmt::Result {
-        let reply = self.reply;
-        write!(
-            f,
-            "neworder {} {} {} customer {} lines {} total {}",
-            reply.warehouse, reply.district, reply.order, reply.customer, reply.amount, reply.total
-        )
-    }
-}
-
-/// The lines of an order, each behind a space.
-#[derive(Clone, Copy)]
-struct SuppliedLines<'a> {
-    lines: &'a [SuppliedLine],
-}
-
-impl Display for SuppliedLines<'_> {
-    ghost use Rattle.std.specs.Prelude.{Some};
-    ghost use Rattle.lines.specs.Output.{supplied_text};
-
-    ghost output = { λ shown. Some (supplied_text shown.lines.now) };
-
-    fn fmt<W: fmt::Write>(&self, f: &mut fmt::Formatter<W>) -> fmt::Result {
-        for line in self.lines {
-            let (item, amount) = (line.item, line.amount);
-            write!(
-                f,
-                " {}:{}:{}:{}",
-                item, line.supply_warehouse, line.stock, amount
-            )?;
-        }
-        Ok(())
     }
 }
 

@@ -5,8 +5,10 @@
 mod amount;
 mod answer;
 mod cut;
+mod delivered;
 mod line_buffer;
 mod order_words;
+mod ordered;
 mod read;
 mod report;
 mod request;

@@ -26,6 +26,7 @@ pub fn read_request(alloc: Global, line: &[u8]) -> Result<Request, Refusal>
     match verb {
         b"payment" => read_payment(rest),
         b"neworder" => read_new_order(alloc, rest),
+        b"delivery" => read_delivery(rest),
         b"show" => read_show(rest),
         _ => Err(Refusal::BadLine),
     }
@@ -68,6 +69,14 @@ fn read_new_order(alloc: Global, text: &[u8]) -> Result<Request, Refusal>
         customer,
         lines,
     })
+}
+
+fn read_delivery(text: &[u8]) -> Result<Request, Refusal>
+    ensures { Answers (codes "delivery" ∷ words text.now) result }
+{
+    let (warehouse, rest) = take_number(text)?;
+    let carrier = last_number(rest)?;
+    Ok(Request::Delivery { warehouse, carrier })
 }
 
 fn read_show(text: &[u8]) -> Result<Request, Refusal>

@@ -23,6 +23,11 @@ pub enum Request {
         customer: u32,
         lines: Lines<RequestedLine>,
     },
+    /// A Delivery (TPC-C 2.7): `delivery W CARRIER`.
+    Delivery {
+        warehouse: u32,
+        carrier: u32,
+    },
     /// A row of WAREHOUSE: `show warehouse W`.
     ShowWarehouse {
         warehouse: u32,

@@ -97,7 +97,7 @@ impl Display for OrderLine {
 
 /// A column that may be null.
 #[derive(Clone, Copy)]
-struct Nullable(Option<u32>);
+pub(crate) struct Nullable(pub(crate) Option<u32>);
 
 impl Display for Nullable {
     ghost use Rattle.std.specs.Prelude.{Some};

@@ -4,6 +4,8 @@
 #[cfg(test)]
 mod command_lines;
 #[cfg(test)]
+mod deliveries;
+#[cfg(test)]
 mod devices;
 #[cfg(test)]
 mod endings;
@@ -15,6 +17,8 @@ mod new_orders;
 mod runs;
 #[cfg(test)]
 mod scripts;
+#[cfg(test)]
+mod small_scripts;
 
 /// The report's lines where every condition holds.
 #[cfg(test)]

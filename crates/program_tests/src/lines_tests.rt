@@ -7,8 +7,8 @@ use std::alloc::Global;
 use std::process::Abort;
 use std::test::Fail;
 use tables::{
-    Credit, Customer, CustomerKey, District, DistrictKey, LineKey, Lines, NewOrderReply, OrderKey,
-    PaymentReply, RequestedLine, SuppliedLine, Warehouse,
+    Credit, Customer, CustomerKey, DeliveredOrder, DeliveryReply, District, DistrictKey, LineKey,
+    Lines, NewOrderReply, OrderKey, PaymentReply, RequestedLine, SuppliedLine, Warehouse,
 };
 
 #[test]
@@ -102,6 +102,18 @@ fn an_order_of_sixteen_lines_is_read(rt: HostRuntime) -> Result<(), Fail> {
     Ok(())
 }
 
+#[test]
+fn a_delivery_is_read(rt: HostRuntime) {
+    let delivery = Request::Delivery {
+        warehouse: 1,
+        carrier: 4294967295,
+    };
+    assert_eq!(rt;
+        read_request(rt.alloc(), b"delivery 1 4294967295"),
+        Ok(delivery)
+    );
+}
+
 fn is_bad_line(alloc: Global, line: &[u8]) -> bool {
     read_request(alloc, line) == Err(Refusal::BadLine)
 }
@@ -162,6 +174,19 @@ fn other_lines_of_an_order_are_bad(rt: HostRuntime) {
     assert!(rt; is_bad_line(alloc, b"neworder 1 1 3 1:1:4294967296"));
     assert!(rt; is_bad_line(alloc, b"neworder 1 1 3 1:1:1\r"));
     assert!(rt; is_bad_line(alloc, b"neworder 1 1 3 1:1:\xff"));
+}
+
+#[test]
+fn other_deliveries_are_bad(rt: HostRuntime) {
+    let alloc = rt.alloc();
+    assert!(rt; is_bad_line(alloc, b"delivery"));
+    assert!(rt; is_bad_line(alloc, b"deliveries 1 4"));
+    assert!(rt; is_bad_line(alloc, b"delivery 1"));
+    assert!(rt; is_bad_line(alloc, b"delivery 1 "));
+    assert!(rt; is_bad_line(alloc, b"delivery 1 4 "));
+    assert!(rt; is_bad_line(alloc, b"delivery 1 4 4"));
+    assert!(rt; is_bad_line(alloc, b"delivery 1 04"));
+    assert!(rt; is_bad_line(alloc, b"delivery 1 4294967296"));
 }
 
 #[test]
@@ -227,6 +252,23 @@ fn an_order_is_printed(rt: HostRuntime) -> Result<(), Fail> {
     });
     let expected = "neworder 1 1 11 customer 3 lines 20.00 total 20.70 1:2:40:10.00 7:2:91:10.00\n";
     assert_eq!(rt; printed(&rt, order).as_str(), expected);
+    Ok(())
+}
+
+/// What was delivered in a district.
+fn delivered(district: u32, order: Option<u32>) -> DeliveredOrder {
+    DeliveredOrder { district, order }
+}
+
+#[test]
+fn a_delivery_is_printed(rt: HostRuntime) -> Result<(), Fail> {
+    let orders = [delivered(1, Some(8)), delivered(2, None)];
+    let orders = Vec::from_slice(rt.alloc(), &orders)?;
+    let delivery = Answer::Delivery(DeliveryReply {
+        warehouse: 3,
+        orders: Lines::new(orders),
+    });
+    assert_eq!(rt; printed(&rt, delivery).as_str(), "delivery 3 1:8 2:-\n");
     Ok(())
 }
 

@@ -1,28 +1,8 @@
 //! Whole scripts of New-Orders, by what they write.
 
 use crate::GOOD;
-use money::Refusal;
-use population::Population;
-use script::script;
-use std::alloc::Global;
-use std::sync::Wait;
+use crate::small_scripts::{assert_refused, written};
 use std::test::Fail;
-use tables::Scale;
-
-/// What a script writes, over the plain population of two districts a warehouse, ten customers a district and twenty
-/// items.
-fn written<T: Wait>(
-    rt: &T,
-    alloc: Global,
-    (warehouses, orders, commits): (u32, u32, u32),
-    input: &str,
-) -> Result<Vec<u8>, Refusal> {
-    let scale = Scale::new(warehouses, 2, 10, 20, orders, commits)?;
-    let population = Population::plain(alloc, scale)?;
-    let (mut input, mut written) = (input.as_bytes(), Vec::new(alloc));
-    let _ = script(rt, alloc, population, &mut input, &mut written)?;
-    Ok(written)
-}
 
 #[test]
 fn worked_rows(rt: HostRuntime) -> Result<(), Fail> {
@@ -107,23 +87,9 @@ fn refused_lines(rt: HostRuntime) -> Result<(), Fail> {
     let refused = [
         ("neworder 1 1 3", 2),
         ("neworder 1 1 3 1:1:1 2:1:1 3:1:1 4:1:1", 2),
-        (
-            "neworder 1 1 3 1:1:1 1:1:1 1:1:1 1:1:1 1:1:1 1:1:1 1:1:1 1:1:1 1:1:1 1:1:1 1:1:1 1:1:1 1:1:1 1:1:1 \
-             1:1:1 1:1:1",
-            2,
-        ),
         ("neworder 1 1 11 1:1:1 2:1:1 3:1:1 4:1:1 5:1:1", 2),
-        ("neworder 1 1 3 1:1:1 2:1:1 3:1:1 4:1:1 0:1:1", 2),
-        ("neworder 1 1 3 1:1:1 2:1:1 3:1:1 4:1:1 100002:1:1", 2),
-        ("neworder 1 1 3 1:1:1 2:1:1 3:1:1 4:1:1 5:2:1", 2),
-        ("neworder 1 1 3 1:1:1 2:1:1 3:1:1 4:1:1 5:1:11", 2),
         ("neworder 1 1", 14),
         ("neworder 1 1 3 ", 14),
-        ("neworder 1 1 3 1:1:1 2:1:1 3:1:1 4:1:1 5:1", 14),
-        ("neworder 1 1 3 1:1:1 2:1:1 3:1:1 4:1:1 5:1:1:1", 14),
-        ("neworder 1 1 3 1:1:1 2:1:1 3:1:1 4:1:1 5:1:01", 14),
-        ("neworder 1 1 3 1:1:1 2:1:1 3:1:1 4:1:1 5:1:-1", 14),
-        ("neworder 1 1 3 1:1:1  2:1:1 3:1:1 4:1:1 5:1:1", 14),
         ("show stock 1 21", 2),
         ("show stock 2 1", 2),
         ("show stock 1", 14),
@@ -131,22 +97,30 @@ fn refused_lines(rt: HostRuntime) -> Result<(), Fail> {
         ("show order 1 3 1", 2),
         ("show order 1 1", 14),
     ];
-    let (mut input, mut expected) = (String::new(rt.alloc()), String::new(rt.alloc()));
-    for (index, (line, refusal)) in refused.iter().enumerate() {
-        let number = index + 1;
-        input.push_str(format!(in rt.alloc(); "{line}\n")?.as_str())?;
-        expected.push_str(format!(in rt.alloc(); "{refusal} line {number}\n")?.as_str())?;
-    }
-    expected.push_str(format!(in rt.alloc(); "commits 0\n{GOOD}")?.as_str())?;
-    let written = written(&rt, rt.alloc(), (1, 30, 1_000), input.as_str())?;
-    assert_eq!(rt; written.as_slice(), expected.as_bytes());
-    Ok(())
+    assert_refused(&rt, "", &refused)
 }
 
-/// An order of many more lines than it may have is in the form while its line is no longer than any may be.
+/// Orders by their fifth line.
+#[test]
+fn refused_lines_of_an_order(rt: HostRuntime) -> Result<(), Fail> {
+    let refused = [
+        ("0:1:1", 2),
+        ("100002:1:1", 2),
+        ("5:2:1", 2),
+        ("5:1:11", 2),
+        ("5:1", 14),
+        ("5:1:1:1", 14),
+        ("5:1:01", 14),
+        ("5:1:-1", 14),
+        (" 5:1:1", 14),
+    ];
+    assert_refused(&rt, "neworder 1 1 3 1:1:1 2:1:1 3:1:1 4:1:1 ", &refused)
+}
+
+/// An order of more lines than it may have is in the form while its line is no longer than any may be.
 #[test]
 fn orders_of_many_lines(rt: HostRuntime) -> Result<(), Fail> {
-    for (lines, refusal) in [(168, 2), (169, 14)] {
+    for (lines, refusal) in [(16, 2), (168, 2), (169, 14)] {
         let mut input = String::from_str(rt.alloc(), "neworder 1 1 3")?;
         for _ in 0..lines {
             input.push_str(" 1:1:1")?;

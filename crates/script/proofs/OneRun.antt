@@ -72,6 +72,7 @@ one_show s n show a b (row found is at e) (row other ok there f) =
 one_request : (s : State) (n : ℕ) (asked : Request) (a b : Turn) → IsRequestTurn s n asked a → IsRequestTurn s n asked b → a ≡ b
 one_request s n (request.Payment w d cw cd c z) a b e f = one_input s n _ a b e f
 one_request s n (request.NewOrder w d c lines) a b e f = one_input s n _ a b e f
+one_request s n (request.Delivery w c) a b e f = one_input s n _ a b e f
 one_request s n (request.ShowWarehouse w) a b e f = one_show s n _ a b e f
 one_request s n (request.ShowDistrict w d) a b e f = one_show s n _ a b e f
 one_request s n (request.ShowCustomer w d c) a b e f = one_show s n _ a b e f

@@ -82,14 +82,15 @@ made_turn s n x scale made (Err refusal) last is turn = tt
 
 -- a request that asks for no transaction asks for a row
 pub shown_turn : (s : State) (n : ℕ) (asked : Request) (turn : Turn) → ((w d cw cd c : ℕ) (z : ℤ) → asked ≢ request.Payment w d cw cd c z) → ((w d c : ℕ) (lines : List RequestedLine) → asked ≢ request.NewOrder w d c lines)
-    → IsShowTurn s n asked turn → IsRequestTurn s n asked turn
-shown_turn s n (request.Payment w d cw cd c z) turn no_payment no_order h = absurd (no_payment w d cw cd c z refl)
-shown_turn s n (request.NewOrder w d c lines) turn no_payment no_order h = absurd (no_order w d c lines refl)
-shown_turn s n (request.ShowWarehouse w) turn no_payment no_order h = h
-shown_turn s n (request.ShowDistrict w d) turn no_payment no_order h = h
-shown_turn s n (request.ShowCustomer w d c) turn no_payment no_order h = h
-shown_turn s n (request.ShowStock w i) turn no_payment no_order h = h
-shown_turn s n (request.ShowOrder w d o) turn no_payment no_order h = h
+    → ((w c : ℕ) → asked ≢ request.Delivery w c) → IsShowTurn s n asked turn → IsRequestTurn s n asked turn
+shown_turn s n (request.Payment w d cw cd c z) turn no_payment no_order no_delivery h = absurd (no_payment w d cw cd c z refl)
+shown_turn s n (request.NewOrder w d c lines) turn no_payment no_order no_delivery h = absurd (no_order w d c lines refl)
+shown_turn s n (request.Delivery w c) turn no_payment no_order no_delivery h = absurd (no_delivery w c refl)
+shown_turn s n (request.ShowWarehouse w) turn no_payment no_order no_delivery h = h
+shown_turn s n (request.ShowDistrict w d) turn no_payment no_order no_delivery h = h
+shown_turn s n (request.ShowCustomer w d c) turn no_payment no_order no_delivery h = h
+shown_turn s n (request.ShowStock w i) turn no_payment no_order no_delivery h = h
+shown_turn s n (request.ShowOrder w d o) turn no_payment no_order no_delivery h = h
 
 -- the bytes of a line that is held
 pub held_some : (bytes text : List ℕ) → Some text ≡ held bytes → (length bytes ≤ MAX_LINE) × (bytes ≡ text)

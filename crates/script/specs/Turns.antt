@@ -46,6 +46,7 @@ refused s refusal n = record { answer = answer.Refused refusal n; state = s }
 abbrev pub answer_of : Reply → Answer
 answer_of (reply.Payment r) = answer.Payment r
 answer_of (reply.NewOrder r) = answer.NewOrder r
+answer_of (reply.Delivery r) = answer.Delivery r
 
 -- an input commits with these tables and this reply, as the next
 abbrev pub committed : State → Database → Reply → Turn
@@ -72,6 +73,7 @@ IsShown s (request.ShowStock w i) = IsStockKey s (record { warehouse = w; item =
 IsShown s (request.ShowOrder w d o) = IsOrderKey s (record { warehouse = w; district = d; order = o })
 IsShown s (request.Payment w d cw cd c z) = ⊥
 IsShown s (request.NewOrder w d c lines) = ⊥
+IsShown s (request.Delivery w c) = ⊥
 
 -- the row that a request asks for, if there is one. An order of a key without a row is shown as none
 abbrev pub row_of : Database → Request → Option Answer
@@ -90,6 +92,7 @@ row_of t (request.ShowOrder w d o) =
     Some (answer.Order key (get t.orders key))
 row_of t (request.Payment w d cw cd c z) = None
 row_of t (request.NewOrder w d c lines) = None
+row_of t (request.Delivery w c) = None
 
 -- the turn of a request for a row at line n: refused where its key isn't of the scale. Nothing changes
 pub data IsShowTurn (s : State) (n : ℕ) (show : Request) (turn : Turn) : Type 0 where
@@ -102,6 +105,7 @@ IsRequestTurn s n (request.Payment w d cw cd c z) turn =
     IsInputTurn s n (input.Payment (record { date = n; warehouse = w; district = d; customer_warehouse = cw; customer_district = cd; who = Id c; amount = z })) turn
 IsRequestTurn s n (request.NewOrder w d c lines) turn =
     IsInputTurn s n (input.NewOrder (record { date = n; warehouse = w; district = d; customer = c; lines = lines })) turn
+IsRequestTurn s n (request.Delivery w c) turn = IsInputTurn s n (input.Delivery (record { date = n; warehouse = w; carrier = c })) turn
 IsRequestTurn s n show turn = IsShowTurn s n show turn
 
 -- the turn of line n: a line of more than 1,024 bytes, or of none of the forms, or of an amount beyond the reach, is refused

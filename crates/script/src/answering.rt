@@ -20,7 +20,7 @@ use money::Refusal;
 use session::Session;
 use std::alloc::Global;
 use std::sync::Wait;
-use tables::{Input, NewOrderInput, PaymentInput, Reply, Who};
+use tables::{DeliveryInput, Input, NewOrderInput, PaymentInput, Reply, Who};
 
 /// Answers the line of a script that has this number, which is its date too. `None` is a line that is too
 /// long. What the line asks is done or refused, and the answer tells which; only want of memory is a
@@ -92,6 +92,14 @@ fn answer_request<K: Run, R: Wait>(
             };
             commit(rt, session, Input::new_order(&scale, order), number)
         }
+        Request::Delivery { warehouse, carrier } => {
+            let delivery = DeliveryInput {
+                date: number,
+                warehouse,
+                carrier,
+            };
+            commit(rt, session, Input::delivery(&scale, delivery), number)
+        }
         asked => {
             let row = show(session, &asked);
             Ok(row_or_refused(row, number))
@@ -140,6 +148,7 @@ fn told(reply: Reply) -> Answer
     match reply {
         Reply::Payment(reply) => Answer::Payment(reply),
         Reply::NewOrder(reply) => Answer::NewOrder(reply),
+        Reply::Delivery(reply) => Answer::Delivery(reply),
     }
 }
 

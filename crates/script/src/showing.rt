@@ -42,7 +42,7 @@ pub(crate) fn show<K: Run>(session: &Session<'_, K>, request: &Request) -> Optio
             district,
             order,
         } => show_order(session, *warehouse, *district, *order),
-        Request::Payment { .. } | Request::NewOrder { .. } => None,
+        Request::Payment { .. } | Request::NewOrder { .. } | Request::Delivery { .. } => None,
     }
 }
 

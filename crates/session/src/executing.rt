@@ -50,6 +50,7 @@ pub fn execute<R: Wait>(
     match input {
         Input::Payment(payment) => payment::execute(rt, alloc, cells, reader, population, payment),
         Input::NewOrder(order) => neworder::execute(rt, alloc, cells, reader, population, order),
+        Input::Delivery(delivery) => delivery::execute(rt, alloc, cells, reader, population, delivery),
     }
 }
 
@@ -63,8 +64,8 @@ pub(crate) fn has_order_number<K: Run>(book: &Book<K>, scale: &Scale, input: &In
         (¬ HasOrderNumber (replay K.first book.now.history) input.now) }
 {
     match input {
-        Input::Payment(_) => true,
         Input::NewOrder(order) => has_number(book, scale, order),
+        Input::Payment(_) | Input::Delivery(_) => true,
     }
 }
 

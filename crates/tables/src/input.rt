@@ -2,6 +2,7 @@
 
 ghost use Rattle.std.specs.Prelude.{◌≡◌, MatchResult};
 
+use crate::delivery::DeliveryInput;
 use crate::new_order::NewOrderInput;
 use crate::payment::PaymentInput;
 use crate::scale::Scale;
@@ -12,6 +13,7 @@ use money::Refusal;
 pub enum Input {
     Payment(PaymentInput),
     NewOrder(NewOrderInput),
+    Delivery(DeliveryInput),
 }
 
 impl Input {
@@ -44,5 +46,18 @@ impl Input {
             return Err(Refusal::BadInput);
         }
         Ok(Input::NewOrder(new_order))
+    }
+
+    /// A Delivery's input, or `BadInput` exactly where a field is outside its range: the warehouse within the scale, the
+    /// date from 1 to 4,000,000,000, the carrier from 1 to 10.
+    pub fn delivery(scale: &Scale, delivery: DeliveryInput) -> Result<Input, Refusal>
+        ensures ranges { let asked = Input.Delivery delivery in
+            MatchResult result (λ input. (input ≡ asked) × IsInput scale.now asked)
+            (λ refusal. (refusal ≡ BadInput) × ¬ IsInput scale.now asked) }
+    {
+        if !delivery.is_in_range(scale) {
+            return Err(Refusal::BadInput);
+        }
+        Ok(Input::Delivery(delivery))
     }
 }

@@ -2,6 +2,7 @@
 
 ghost use Rattle.std.specs.Prelude.{◌≡◌, IfOk};
 
+use crate::delivery::DeliveryReply;
 use crate::new_order::NewOrderReply;
 use crate::payment::PaymentReply;
 use std::alloc::AllocError;
@@ -11,16 +12,18 @@ use std::alloc::AllocError;
 pub enum Reply {
     Payment(PaymentReply),
     NewOrder(NewOrderReply),
+    Delivery(DeliveryReply),
 }
 
 impl Reply {
-    /// A copy. Takes memory only for an order's lines, and costs a pass over them.
+    /// A copy. Takes memory only for an order's lines or a delivery's districts, and costs a pass over them.
     pub fn copied(&self) -> Result<Reply, AllocError>
         ensures { IfOk result (λ copy. copy ≡ self.now) }
     {
         match self {
             Reply::Payment(reply) => Ok(Reply::Payment(*reply)),
             Reply::NewOrder(reply) => Ok(Reply::NewOrder(reply.copied()?)),
+            Reply::Delivery(reply) => Ok(Reply::Delivery(reply.copied()?)),
         }
     }
 }

@@ -42,11 +42,22 @@ returns-in-neworder-clause-memory c none =
     let is : c.in_ok-verb.verb.now ≡ codes "neworder" = text_from_reads c.in_ok-verb.verb.now (codes "neworder") (omega arith) (search rules) in
     (c.in_ok-verb.rest.now, text_from_first c.args.line.now _ _ c.in_ok-verb.ensures ∙ ap (λ verb. verb ++ 32 ∷ c.in_ok-verb.rest.now) is)
 
+pub returns-in-delivery-clause-request : goal.returns-in-delivery-clause-request
+returns-in-delivery-clause-request c =
+    let is : c.in_ok-verb.verb.now ≡ codes "delivery" = text_from_reads c.in_ok-verb.verb.now (codes "delivery") (omega arith) (search rules) in
+    line_request c.args.line.now c.read_delivery.result (behind_verb c.args.line.now _ _ _ _ c.in_ok-verb.ensures is (inr c.read_delivery.ensures))
+
+pub returns-in-delivery-clause-refusal : goal.returns-in-delivery-clause-refusal
+returns-in-delivery-clause-refusal c =
+    let is : c.in_ok-verb.verb.now ≡ codes "delivery" = text_from_reads c.in_ok-verb.verb.now (codes "delivery") (omega arith) (search rules) in
+    line_refusal c.args.line.now c.read_delivery.result (behind_verb c.args.line.now _ _ _ _ c.in_ok-verb.ensures is (inr c.read_delivery.ensures))
+
 pub returns-in_default-clause-refusal : goal.returns-in_default-clause-refusal
 returns-in_default-clause-refusal c =
     let verb = c.in_ok-verb.verb.now in
     let no_payment : verb ≢ codes "payment" = λ e. grind (arith, ap length e) in
     let no_neworder : verb ≢ codes "neworder" = λ e. grind (arith, ap length e) in
+    let no_delivery : verb ≢ codes "delivery" = λ e. grind (arith, ap length e) in
     let no_show : verb ≢ codes "show" = λ e. grind (arith, ap length e) in
     let parts = c.in_ok-verb.ensures in
-    line_refusal c.args.line.now (Err BadLine) (inr (subst (λ ws. Answers ws (Err BadLine)) (sym parts) (no_verb (verb ∷ words c.in_ok-verb.rest.now) no_payment no_neworder no_show)))
+    line_refusal c.args.line.now (Err BadLine) (inr (subst (λ ws. Answers ws (Err BadLine)) (sym parts) (no_verb (verb ∷ words c.in_ok-verb.rest.now) no_payment no_neworder no_delivery no_show)))

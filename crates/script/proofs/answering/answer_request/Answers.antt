@@ -22,7 +22,14 @@ returns-in-NewOrder-clause-turn g c =
     rw o.is (made_turn (state_of g.K.Run.first c.args.session.now) c.args.number x g.K.Run.first.scale c.new_order.result c.commit-in-NewOrder.result (state_of g.K.Run.first c.commit-in-NewOrder.new.session)
     (subst (λ (s : Sizes). IsMade s x c.new_order.result) (c.scale-scale.ensures ∙ ap (λ (t : Database). t.scale) c.population.ensures) c.new_order.ensures.ranges) c.commit-in-NewOrder.ensures.turn)
 
+pub returns-in-Delivery-clause-turn : goal.returns-in-Delivery-clause-turn
+returns-in-Delivery-clause-turn g c =
+    let d = c.in-Delivery in
+    let x : Input = input.Delivery (record { date = c.args.number; warehouse = d.warehouse; carrier = d.carrier }) in
+    rw d.is (made_turn (state_of g.K.Run.first c.args.session.now) c.args.number x g.K.Run.first.scale c.delivery.result c.commit-in-Delivery.result (state_of g.K.Run.first c.commit-in-Delivery.new.session)
+    (subst (λ (s : Sizes). IsMade s x c.delivery.result) (c.scale-scale.ensures ∙ ap (λ (t : Database). t.scale) c.population.ensures) c.delivery.ensures.ranges) c.commit-in-Delivery.ensures.turn)
+
 pub returns-in_default-clause-turn : goal.returns-in_default-clause-turn
 returns-in_default-clause-turn g c =
     let s = state_of g.K.Run.first c.args.session.now in
-    shown_turn s c.args.number c.args.request _ c.in_default.not-Payment c.in_default.not-NewOrder (c.row_or_refused.ensures s c.args.request c.show-row.ensures)
+    shown_turn s c.args.number c.args.request _ c.in_default.not-Payment c.in_default.not-NewOrder c.in_default.not-Delivery (c.row_or_refused.ensures s c.args.request c.show-row.ensures)

@@ -1,7 +1,7 @@
 use Rattle.std.proofs.Common.{take}
 use Rattle.std.specs.Fmt.{HasWritten, IsPlainFormatter}
 use Rattle.lines.specs.Output.{supplied_text}
-use Rattle.lines.proofs.answer.SuppliedLinesDisplay.fmt.Given as goal
+use Rattle.lines.proofs.ordered.SuppliedLinesDisplay.fmt.Given as goal
 
 -- the lines so far are written
 abbrev pub invariant-loop-line : goal.invariant-loop-line

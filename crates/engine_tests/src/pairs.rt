@@ -1,0 +1,151 @@
+//! Two transactions at two terminals, of which both are executed before either commits.
+ghost use Rattle.std.specs.Prelude.{◌≡◌, IfOk};
+ghost use Rattle.tables.specs.Inputs.{IsInput};
+ghost use Rattle.book.specs.Parts.{IsFresh, first_of, cells_of, ledger_name, ledger_parts};
+
+use crate::deliveries::delivery;
+use crate::engine::{Executed, both_of, execute_at, parts};
+use crate::new_orders::{five, new_order};
+use crate::told::{Told, told_of};
+use book::{Engine, Parts, Run, Seat};
+use money::Refusal;
+use session::persist;
+use std::alloc::Global;
+use std::marker::Brand;
+use std::sync::Wait;
+use std::test::Fail;
+use tables::{Input, Scale};
+
+/// What a terminal asks for: an order of this customer, or a Delivery.
+#[derive(Clone, Copy)]
+pub(crate) enum Asked {
+    Order(u32),
+    Delivery,
+}
+
+fn input_of(alloc: Global, scale: &Scale, asked: Asked) -> Result<Input, Refusal>
+    ensures { IfOk result (IsInput scale.now) }
+{
+    match asked {
+        Asked::Order(customer) => new_order(alloc, scale, customer, &five(5, 10)),
+        Asked::Delivery => delivery(scale),
+    }
+}
+
+/// What came of a transaction: the refusal where its commit was refused at first, and the commit's number and what the
+/// terminal was told in the end.
+#[derive(Clone, Copy, Debug, PartialEq, Eq)]
+pub(crate) struct Committed {
+    pub(crate) refusal: Option<Refusal>,
+    pub(crate) number: u32,
+    pub(crate) told: Told,
+}
+
+/// What came of both transactions, and whether the conditions hold then.
+#[derive(Clone, Copy, Debug, PartialEq, Eq)]
+pub(crate) struct Outcome {
+    pub(crate) first: Committed,
+    pub(crate) second: Committed,
+    pub(crate) is_good: bool,
+}
+
+/// Commits what a terminal has executed. Where that is refused, executes it again.
+fn commit<K: Run, R: Wait>(
+    rt: &R,
+    alloc: Global,
+    engine: &Engine<K>,
+    executed: Executed<K>,
+) -> Result<Committed, Refusal> {
+    let Executed {
+        mut seat,
+        input,
+        work,
+    } = executed;
+    let mut book = engine.lock(rt);
+    let cells = engine.cells();
+    let (refusal, done) = match book.commit(rt, cells, &mut seat.reader, &mut seat.share, work) {
+        Ok(done) => (None, done),
+        Err(refusal) => {
+            let done = persist(rt, alloc, engine, &mut book, &mut seat, &input, None)?;
+            (Some(refusal), done)
+        }
+    };
+    Ok(Committed {
+        refusal,
+        number: done.number(),
+        told: told_of(done.reply()),
+    })
+}
+
+fn commit_both<K: Run, R: Wait>(
+    rt: &R,
+    alloc: Global,
+    engine: &Engine<K>,
+    first: Executed<K>,
+    second: Executed<K>,
+) -> Result<Outcome, Refusal> {
+    let first = commit(rt, alloc, engine, first)?;
+    let second = commit(rt, alloc, engine, second)?;
+    let is_good = engine.lock(rt).report(alloc)?.is_good();
+    Ok(Outcome {
+        first,
+        second,
+        is_good,
+    })
+}
+
+/// Executes what a terminal asks for.
+fn execute<K: Run, R: Wait>(
+    rt: &R,
+    alloc: Global,
+    engine: &Engine<K>,
+    seat: Seat<K>,
+    asked: Asked,
+) -> Result<Executed<K>, Refusal>
+    requires { seat.reader.cells ≡ K.cells }
+{
+    let scale = engine.population().scale();
+    let input = input_of(alloc, &scale, asked)?;
+    execute_at(rt, alloc, engine, seat, input)
+}
+
+fn outcome_at<K: Run, R: Wait>(
+    rt: &R,
+    alloc: Global,
+    engine: &Engine<K>,
+    left: Seat<K>,
+    right: Seat<K>,
+    asked: (Asked, Asked),
+) -> Result<Outcome, Refusal>
+    requires left { left.reader.cells ≡ K.cells }
+    requires right { right.reader.cells ≡ K.cells }
+{
+    let first = execute(rt, alloc, engine, left, asked.0)?;
+    let second = execute(rt, alloc, engine, right, asked.1)?;
+    commit_both(rt, alloc, engine, first, second)
+}
+
+fn outcome_on<K: Run, R: Wait>(
+    rt: &R,
+    alloc: Global,
+    parts: Parts,
+    asked: (Asked, Asked),
+) -> Result<Outcome, Fail>
+    requires fresh { IsFresh parts }
+    requires run { (first_of parts ≡ K.first) × (cells_of parts ≡ K.cells) }
+    requires ledger { (ledger_name parts ≡ K.name) × (ledger_parts parts ≡ K.parts) }
+{
+    let (engine, mut seats) = Engine::<K>::open(parts);
+    let (left, right) = both_of(&mut seats).ok_or("seats")?;
+    Ok(outcome_at(rt, alloc, &engine, left, right, asked)?)
+}
+
+/// Has both transactions executed, and then commits the first before the second.
+pub(crate) fn outcome_of<R: Wait>(
+    rt: &R,
+    alloc: Global,
+    asked: (Asked, Asked),
+) -> Result<Outcome, Fail> {
+    let parts = parts(rt, alloc)?;
+    outcome_on::<Brand, _>(rt, alloc, parts, asked)
+}
