@@ -12,7 +12,7 @@ use Rattle.cells.specs.Versions.{tid, last_tid, value_in}
 use Rattle.cells.specs.Records.{PenView, at}
 use Rattle.cells.specs.declared.cells.Newest.{Newest}
 use Rattle.records.specs.Newest.{words_at, AreFirst}
-use Rattle.laws.proofs.Kept.{IsOf-itself}
+use Rattle.laws.proofs.NamesKept.{IsOf-itself}
 use Rattle.book.specs.History.{commit_word}
 use Rattle.book.specs.Book.{IsSound}
 use Rattle.book.specs.Ready.{IsReady, AreNewest}

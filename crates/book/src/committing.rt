@@ -22,8 +22,9 @@ impl<K: Run> Book<K> {
     /// constant time, amortized, for the history. May wait, at a record's cell
     /// alone.
     ///
-    /// Where the versions read are the latest, the transaction is done at the committed tables: its reply and its writes
-    /// are those of its definition there, though it may be refused. After Ok the reader has seen the versions stored.
+    /// Where the versions read are the latest, the transaction is done at the committed tables: its reply and its
+    /// writes are those of its definition there, though it may be refused. After Ok the reader has seen the versions
+    /// stored.
     ///
     /// # Errors
     ///

@@ -26,8 +26,8 @@ use tables::{
     DeliveredOrder, DeliveryInput, DistrictKey, OrderKey, RecordKey, Scale, number_of_key,
 };
 
-/// Does all districts of the warehouse, from the first on, and gives the order taken in each. Costs what each costs, and
-/// memory for the orders.
+/// Does all districts of the warehouse, from the first on, and gives the order taken in each. Costs what each costs,
+/// and memory for the orders.
 ///
 /// # Errors
 ///

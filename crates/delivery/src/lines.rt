@@ -19,8 +19,8 @@ use readset::{ReadSet, WriteSet, value_of};
 use std::sync::Wait;
 use tables::{LineKey, OrderKey, RecordKey, Scale, number_of_key};
 
-/// Sets OL_DELIVERY_D of an order's lines from the first to this one, and gives the sum of OL_AMOUNT. Costs a load and a
-/// few look-ups a line.
+/// Sets OL_DELIVERY_D of an order's lines from the first to this one, and gives the sum of OL_AMOUNT. Costs a load and
+/// a few look-ups a line.
 ///
 /// # Errors
 ///

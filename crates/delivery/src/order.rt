@@ -32,8 +32,8 @@ pub(crate) struct Places {
     pub oldest: u32,
 }
 
-/// Takes the order of this key, which waits longest in its district: reads its two records, its lines and its customer's,
-/// and says what these and OLDEST are to hold. Costs at most eighteen loads and some forty look-ups.
+/// Takes the order of this key, which waits longest in its district: reads its two records, its lines and its
+/// customer's, and says what these and OLDEST are to hold. Costs at most eighteen loads and some forty look-ups.
 ///
 /// # Errors
 ///
@@ -217,8 +217,8 @@ fn credit_buyer<R: Wait>(
     }
 }
 
-/// Says what the records at a district's end are to hold: no NEW-ORDER row, the order's and the customer's words, and the
-/// next number in OLDEST.
+/// Says what the records at a district's end are to hold: no NEW-ORDER row, the order's and the customer's words, and
+/// the next number in OLDEST.
 fn end_order(
     writes: &mut WriteSet,
     places: Places,

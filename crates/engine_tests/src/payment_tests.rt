@@ -96,7 +96,7 @@ fn version_of(reads: &ReadSet, number: u32) -> Option<Held> {
 fn payment_input(input: &Input) -> Option<PaymentInput> {
     match input {
         Input::Payment(payment) => Some(*payment),
-        Input::NewOrder(_) | Input::Delivery(_) => None,
+        _ => None,
     }
 }
 

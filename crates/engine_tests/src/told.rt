@@ -9,6 +9,8 @@ pub(crate) enum Told {
     Payment(PaymentReply),
     Order(Ordered),
     Delivery(Delivered),
+    /// A query's reply.
+    Query,
 }
 
 /// What a terminal is told of an order: its number, the sum of its lines, and its total amount.
@@ -44,5 +46,6 @@ pub(crate) fn told_of(reply: &Reply) -> Told {
                 orders: [orders.first().copied(), orders.get(1).copied()],
             })
         }
+        Reply::OrderStatus(_) | Reply::StockLevel(_) => Told::Query,
     }
 }

@@ -20,6 +20,8 @@ use Rattle.tables.specs.declared.rows.Order.{Order}
 use Rattle.tables.specs.declared.rows.OrderLine.{OrderLine}
 use Rattle.tables.specs.declared.delivery.DeliveryInput.{DeliveryInput}
 use Rattle.tables.proofs.Orders.{IsExact, exact_customer, exact_order, exact_line}
+use Rattle.laws.proofs.DeliveryKeepsConstants.{districts_keep_constants}
+use Rattle.laws.proofs.NamesKept.{IsOf-itself, last_names_stay}
 use Rattle.laws.proofs.OrderAmount.{order_amount-within}
 use Rattle.laws.proofs.Room.{money_stays, count_stays, is_money, is_count, room_stays}
 use Rattle.laws.proofs.Rows.{updated_rows, each_updated}
@@ -164,6 +166,7 @@ module _ (t : Database) (x : DeliveryInput) (districts : ℕ) where
         order_customers = order_customers;
         new_order_orders = new_order_orders;
         line_orders = line_orders;
+        last_names = last_names_stay t (after_districts t x districts) (districts_keep_constants t x districts t (IsOf-itself t)) wf.last_names;
       }
 
 pub delivery_keeps_room : (t : Database) (x : DeliveryInput) (n : ℕ) → IsDelivery t.scale x → IsWellFormed t → HasRoom (n + 1) t → HasRoom n (after_delivery t x)

@@ -1,4 +1,5 @@
 pub mod Updates
+pub mod NamesKept
 pub mod Rows
 pub mod Touched
 mod Inserts

@@ -146,4 +146,5 @@ module _ (t : Database) (x : NewOrderInput) (n : ℕ) (ok : IsNewOrder t.scale x
       line_orders = new_lines (λ k r. (order : Order) × (get (after_new_order t x).orders (order_of k) ≡ Some order) × (k.line ≤ order.line_count))
           (λ k r f. let was = wf.line_orders k r f in (was.0, order_stays t x wf (con.condition_2 (home x) (ok.warehouse, ok.district)) k r f ∙ was.1, was.2))
           (λ i l low high s. (order_row x, get-inserted exact_order t.orders (new_key t x) (order_row x), high));
+      last_names = wf.last_names;
     }

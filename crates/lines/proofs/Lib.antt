@@ -5,6 +5,7 @@ mod Numerals
 mod Amounts
 mod Joined
 mod OrderLines
+mod LastNames
 mod RequestLemmas
 pub mod Cutting
 pub mod OneText

@@ -13,6 +13,12 @@ use Rattle.std.proofs.lemmas.Str.{IsUtf8-from_ascii}
 pub own : IsNumeralModel (AllDigits 10) (digits_value 10)
 own = numerals_by_value (AllDigits 10) tells_digits
 
+-- a number's text begins with a digit
+pub first_of_decimal : (n : ℕ) → n < 2 ^ 32 → get_or (decimal n) 0 0 < 58
+first_of_decimal n small =
+    let wide : n < 2 ^ 64 = omega arith in
+    omega (arith, digit_at (decimal n) 0 (digits_decimal own n wide) (decimal_nonempty n wide))
+
 -- how a number's text begins
 pub start_of_decimal : (n : ℕ) → n < 2 ^ 32 → (0 < length (decimal n)) × (get_or (decimal n) 0 0 ≢ 43) × (get_or (decimal n) 0 0 ≡ 48 → length (decimal n) ≡ 1)
 start_of_decimal n small =

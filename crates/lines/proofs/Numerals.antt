@@ -72,7 +72,7 @@ pub numeral_zero : numeral 0 ≡ codes "0"
 unfolding numeral
 numeral_zero = refl
 
-length-zero : (xs : List ℕ) → length xs ≡ 0 → xs ≡ []
+pub length-zero : (xs : List ℕ) → length xs ≡ 0 → xs ≡ []
 length-zero [] e = refl
 length-zero (x ∷ xs) e = absurd (omega arith)
 

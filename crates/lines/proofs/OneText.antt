@@ -3,12 +3,13 @@ use Rattle.std.proofs.Common.{◌≡◌, ℕ, zero, suc, ◌+◌, ◌-◌, ◌/�
 use Rattle.std.specs.Int.Digits.{digits_of}
 use Rattle.std.proofs.lemmas.Int.Digits.{same_from_digits_of}
 use Rattle.lines.specs.declared.request.Request.{Request}
-use Rattle.lines.specs.declared.request.Request.TheVariants.{Payment, NewOrder, Delivery, ShowWarehouse, ShowDistrict, ShowCustomer, ShowStock, ShowOrder}
+use Rattle.lines.specs.declared.request.Request.TheVariants.{Payment, NewOrder, Delivery, OrderStatus, StockLevel, ShowWarehouse, ShowDistrict, ShowCustomer, ShowStock, ShowOrder}
 use Rattle.lines.specs.Amount.{numeral, unsigned_amount_text, amount_text}
 use Rattle.lines.specs.Words.{words}
 use Rattle.lines.specs.Requests.{HasNumbers, words_of, request_text}
 use Rattle.lines.proofs.Numerals.{numeral_of_some, numeral_zero, zero_from_first}
 use Rattle.lines.proofs.Amounts.{units_of, cents_of, no_sign}
+use Rattle.lines.proofs.LastNames.{who_at}
 use Rattle.lines.proofs.OrderLines.{number_at, same_lines}
 use Rattle.lines.proofs.RequestLemmas.{kind_of, words_request}
 
@@ -43,12 +44,12 @@ amount_injective (negsuc m) (negsuc n) e =
     ap negsuc same
 
 same_words : (a b : Request) → HasNumbers a → HasNumbers b → words_of a ≡ words_of b → a ≡ b
-same_words (Payment w d cw cd c z) (Payment w' d' cw' cd' c' z') h i e =
+same_words (Payment w d cw cd who z) (Payment w' d' cw' cd' who' z') h i e =
     let same_w = number_at 1 _ _ w w' refl refl e h.0 i.0 in
     let same_d = number_at 2 _ _ d d' refl refl e h.1 i.1 in
     let same_cw = number_at 3 _ _ cw cw' refl refl e h.2 i.2 in
     let same_cd = number_at 4 _ _ cd cd' refl refl e h.3 i.3 in
-    let same_c = number_at 5 _ _ c c' refl refl e h.4 i.4 in
+    let same_who = who_at 5 _ _ who who' refl refl e h.4 i.4 in
     let same_z = amount_injective z z' (ap (λ l. get_or l 6 []) e) in
     cc
 same_words (NewOrder w d c ls) (NewOrder w' d' c' ls') h i e =
@@ -60,6 +61,16 @@ same_words (NewOrder w d c ls) (NewOrder w' d' c' ls') h i e =
 same_words (Delivery w c) (Delivery w' c') h i e =
     let same_w = number_at 1 _ _ w w' refl refl e h.0 i.0 in
     let same_c = number_at 2 _ _ c c' refl refl e h.1 i.1 in
+    cc
+same_words (OrderStatus w d who) (OrderStatus w' d' who') h i e =
+    let same_w = number_at 1 _ _ w w' refl refl e h.0 i.0 in
+    let same_d = number_at 2 _ _ d d' refl refl e h.1 i.1 in
+    let same_who = who_at 3 _ _ who who' refl refl e h.2 i.2 in
+    cc
+same_words (StockLevel w d c) (StockLevel w' d' c') h i e =
+    let same_w = number_at 1 _ _ w w' refl refl e h.0 i.0 in
+    let same_d = number_at 2 _ _ d d' refl refl e h.1 i.1 in
+    let same_c = number_at 3 _ _ c c' refl refl e h.2 i.2 in
     cc
 same_words (ShowWarehouse w) (ShowWarehouse w') h i e = ap ShowWarehouse (number_at 2 _ _ w w' refl refl e h i)
 same_words (ShowDistrict w d) (ShowDistrict w' d') h i e =

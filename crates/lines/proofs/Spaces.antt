@@ -1,12 +1,13 @@
 -- Words without a mark, such as a space, and the texts that they make.
-use Rattle.std.proofs.Common.{◌≡◌, ◌≢◌, ℕ, zero, suc, ◌+◌, ◌<◌, ◌/◌, ◌%◌, Bool, true, false, cond, eqb, ltb, List, [], ◌∷◌, ◌++◌, length, sym, ap, ◌∙◌, refl, arith}
+use Rattle.std.proofs.Common.{◌≡◌, ◌≢◌, ℕ, zero, suc, ◌+◌, ◌<◌, ◌/◌, ◌%◌, Bool, true, false, cond, eqb, ltb, not, List, [], ◌∷◌, ◌++◌, length, sym, ap, ◌∙◌, refl, arith}
 use Rattle.std.specs.Fmt.{decimal, digits, digits_onto, digit_glyph}
-use Rattle.std.specs.List.{AllByRecursion, join_with_byte, slice_split}
-use Rattle.std.proofs.lemmas.Bool.{false_from_ne_true, false≢true}
+use Rattle.std.specs.List.{AllByRecursion, list_all, join_with_byte, slice_split}
+use Rattle.std.proofs.lemmas.Bool.{false_from_ne_true, false≢true, not-true}
 use Rattle.std.proofs.lemmas.Bool.Decides.{Decides-eqb, Decides-ltb}
 use Rattle.std.proofs.lemmas.List.Elements.{All-from_recursion}
 use Rattle.std.proofs.lemmas.List.Splits.{slice_split_at, slice_split_none, join_with_byte-slice_split, length-slice_split}
 use Rattle.lines.specs.Words.{words}
+use Rattle.lines.proofs.Numerals.{and_left, and_right}
 
 -- no byte is the mark
 abbrev pub Lacks : ℕ → List ℕ → Type 0
@@ -21,6 +22,11 @@ not_mark mark b apart = false_from_ne_true _ (λ e. apart ((Decides-eqb b mark).
 
 pub not_space : (b : ℕ) → 32 < b → eqb b 32 ≡ false
 not_space b above = not_mark 32 b (λ e. omega arith)
+
+-- a text that is written out has no space
+pub letters : (xs : List ℕ) → list_all (λ b. not (eqb b 32)) xs ≡ true → HasNoSpace xs
+letters [] e = tt
+letters (x ∷ xs) e = (not-true _ (and_left _ _ e), letters xs (and_right _ _ e))
 
 -- the mark is no digit
 abbrev pub IsNoDigit : ℕ → Type 0
@@ -55,7 +61,7 @@ pub decimal_no_colon : (n : ℕ) → Lacks 58 (decimal n)
 decimal_no_colon n = decimal_lacks 58 n (λ d small e. omega arith)
 
 -- words that lack one mark, joined by another
-lacks_append : (mark : ℕ) (xs ys : List ℕ) → Lacks mark xs → Lacks mark ys → Lacks mark (xs ++ ys)
+pub lacks_append : (mark : ℕ) (xs ys : List ℕ) → Lacks mark xs → Lacks mark ys → Lacks mark (xs ++ ys)
 lacks_append mark [] ys h i = i
 lacks_append mark (x ∷ xs) ys h i = (h.0, lacks_append mark xs ys h.1 i)
 

@@ -1,5 +1,6 @@
 pub mod Words
 pub mod Amount
+pub mod LastNames
 pub mod Requests
 pub mod OrderWords
 pub mod Output

@@ -15,9 +15,13 @@ use Rattle.tables.specs.declared.rows.Order.{Order as OrderRow}
 use Rattle.tables.specs.declared.new_order.SuppliedLine.{SuppliedLine}
 use Rattle.tables.specs.declared.new_order.NewOrderReply.{NewOrderReply}
 use Rattle.tables.specs.declared.delivery.DeliveredOrder.{DeliveredOrder}
+use Rattle.tables.specs.declared.rows.OrderLine.{OrderLine as OrderLineRow}
+use Rattle.tables.specs.declared.order_status.LastOrder.{LastOrder}
+use Rattle.tables.specs.declared.order_status.OrderStatusReply.{OrderStatusReply}
+use Rattle.tables.specs.declared.stock_level.StockLevelReply.{StockLevelReply}
 use Rattle.tables.specs.declared.delivery.DeliveryReply.{DeliveryReply}
 use Rattle.lines.specs.declared.answer.Answer.{Answer}
-use Rattle.lines.specs.declared.answer.Answer.TheVariants.{Payment, NewOrder, Delivery, Warehouse, District, Customer, Stock, Order, Refused}
+use Rattle.lines.specs.declared.answer.Answer.TheVariants.{Payment, NewOrder, Delivery, OrderStatus, StockLevel, Warehouse, District, Customer, Stock, Order, Refused}
 
 -- the item that a refusal names
 abbrev pub refused_item : Refusal → Option ℕ
@@ -92,6 +96,33 @@ delivered_text os = flat_map (λ o. 32 ∷ delivered_word o) os
 abbrev pub delivery_words : DeliveryReply → List (List ℕ)
 delivery_words reply = codes "delivery" ∷ decimal reply.warehouse ∷ map delivered_word reply.orders
 
+-- the word of a line of a customer's last order: its item, its supplying warehouse, its quantity, its amount, and when it was delivered
+abbrev pub told_word : OrderLineRow → List ℕ
+told_word l = join_with_byte 58 (decimal l.item ∷ decimal l.supply_warehouse ∷ decimal l.quantity ∷ money_text l.amount ∷ nullable_word l.delivery_date ∷ [])
+
+-- those words, each behind a space
+abbrev pub told_text : List OrderLineRow → List ℕ
+told_text ls = flat_map (λ l. 32 ∷ told_word l) ls
+
+-- the words of an Order-Status's reply: of the customer, and of its last order with its lines, or of none
+abbrev pub balance_words : OrderStatusReply → List (List ℕ)
+balance_words reply =
+    codes "status" ∷ decimal reply.warehouse ∷ decimal reply.district ∷ decimal reply.customer
+    ∷ codes "balance" ∷ money_text reply.balance ∷ codes "order" ∷ []
+
+abbrev pub last_words : OrderStatusReply → LastOrder → List (List ℕ)
+last_words reply o = balance_words reply ++ decimal o.order ∷ codes "date" ∷ decimal o.entry_date ∷ codes "carrier" ∷ nullable_word o.carrier ∷ []
+
+abbrev pub status_words : OrderStatusReply → Option LastOrder → List (List ℕ)
+status_words reply (Some o) = last_words reply o ++ map told_word o.lines
+status_words reply None = balance_words reply ++ codes "none" ∷ []
+
+-- the words of a Stock-Level's reply
+abbrev pub level_words : StockLevelReply → List (List ℕ)
+level_words reply =
+    codes "level" ∷ decimal reply.warehouse ∷ decimal reply.district
+    ∷ codes "threshold" ∷ decimal reply.threshold ∷ codes "low" ∷ decimal reply.low ∷ []
+
 -- the words of an answer
 abbrev pub answer_words : Answer → List (List ℕ)
 answer_words (Payment reply) =
@@ -100,6 +131,8 @@ answer_words (Payment reply) =
     ∷ codes "balance" ∷ money_text reply.balance ∷ []
 answer_words (NewOrder reply) = new_order_words reply
 answer_words (Delivery reply) = delivery_words reply
+answer_words (OrderStatus reply) = status_words reply reply.order
+answer_words (StockLevel reply) = level_words reply
 answer_words (Warehouse warehouse row) = codes "warehouse" ∷ decimal warehouse ∷ codes "ytd" ∷ money_text row.year_to_date ∷ []
 answer_words (District key row) =
     codes "district" ∷ decimal key.warehouse ∷ decimal key.district

@@ -4,12 +4,13 @@ ghost use Rattle.lines.specs.Output.{refused_item};
 
 use crate::delivered::DeliveryAnswer;
 use crate::ordered::OrderAnswer;
+use crate::queried::{LevelAnswer, StatusAnswer};
 use crate::shown::{CustomerLine, OrderLine, StockLine};
 use money::Refusal;
 use std::fmt::{self, Display};
 use tables::{
     Customer, CustomerKey, DeliveryReply, District, DistrictKey, NewOrderReply, Order, OrderKey,
-    PaymentReply, Stock, StockKey, Warehouse,
+    OrderStatusReply, PaymentReply, Stock, StockKey, StockLevelReply, Warehouse,
 };
 
 /// What a line of a script is answered with.
@@ -23,6 +24,12 @@ pub enum Answer {
     /// A committed Delivery's reply (TPC-C 2.7.3), as `delivery 1 1:8 2:-`: each district of the warehouse with the
     /// order that was delivered there, or with `-` where none waited.
     Delivery(DeliveryReply),
+    /// An Order-Status's reply (TPC-C 2.6.3.3), as `status 1 1 3 balance -10.00 order 11 date 1 carrier -
+    /// 1:1:10:10.00:-`: each line of the customer's last order with its item, its supplying warehouse, its quantity,
+    /// its amount and its delivery date; or `status 1 1 3 balance -10.00 order none`.
+    OrderStatus(OrderStatusReply),
+    /// A Stock-Level's reply (TPC-C 2.8.3.3), as `level 1 1 threshold 20 low 2`.
+    StockLevel(StockLevelReply),
     /// A row of WAREHOUSE, as `warehouse 1 ytd 212.34`.
     Warehouse { warehouse: u32, row: Warehouse },
     /// A row of DISTRICT, as `district 1 1 ytd 112.34 next 11`.
@@ -74,6 +81,8 @@ impl Display for Answer {
             ),
             Answer::NewOrder(reply) => OrderAnswer { reply }.fmt(f),
             Answer::Delivery(reply) => DeliveryAnswer { reply }.fmt(f),
+            Answer::OrderStatus(reply) => StatusAnswer { reply }.fmt(f),
+            Answer::StockLevel(reply) => LevelAnswer { reply: *reply }.fmt(f),
             Answer::Warehouse { warehouse, row } => {
                 let year_to_date = row.year_to_date;
                 write!(f, "warehouse {warehouse} ytd {year_to_date}")

@@ -6,6 +6,7 @@ ghost use Rattle.lines.specs.Requests.{Answers, BeginsNewOrder, AnswersOrNoMemor
 
 use crate::Request;
 use crate::amount::read_amount;
+use crate::last_names::{last_who, take_who};
 use crate::order_words::read_order;
 use crate::words::{last_number, take_number, take_word};
 use money::Refusal;
@@ -27,6 +28,8 @@ pub fn read_request(alloc: Global, line: &[u8]) -> Result<Request, Refusal>
         b"payment" => read_payment(rest),
         b"neworder" => read_new_order(alloc, rest),
         b"delivery" => read_delivery(rest),
+        b"status" => read_status(rest),
+        b"level" => read_level(rest),
         b"show" => read_show(rest),
         _ => Err(Refusal::BadLine),
     }
@@ -45,14 +48,14 @@ fn read_payment(text: &[u8]) -> Result<Request, Refusal>
     let (district, rest) = take_number(rest)?;
     let (customer_warehouse, rest) = take_number(rest)?;
     let (customer_district, rest) = take_number(rest)?;
-    let (customer, rest) = take_number(rest)?;
+    let (who, rest) = take_who(rest)?;
     let amount = read_amount(rest)?;
     Ok(Request::Payment {
         warehouse,
         district,
         customer_warehouse,
         customer_district,
-        customer,
+        who,
         amount,
     })
 }
@@ -77,6 +80,32 @@ fn read_delivery(text: &[u8]) -> Result<Request, Refusal>
     let (warehouse, rest) = take_number(text)?;
     let carrier = last_number(rest)?;
     Ok(Request::Delivery { warehouse, carrier })
+}
+
+fn read_status(text: &[u8]) -> Result<Request, Refusal>
+    ensures { Answers (codes "status" ∷ words text.now) result }
+{
+    let (warehouse, rest) = take_number(text)?;
+    let (district, rest) = take_number(rest)?;
+    let who = last_who(rest)?;
+    Ok(Request::OrderStatus {
+        warehouse,
+        district,
+        who,
+    })
+}
+
+fn read_level(text: &[u8]) -> Result<Request, Refusal>
+    ensures { Answers (codes "level" ∷ words text.now) result }
+{
+    let (warehouse, rest) = take_number(text)?;
+    let (district, rest) = take_number(rest)?;
+    let threshold = last_number(rest)?;
+    Ok(Request::StockLevel {
+        warehouse,
+        district,
+        threshold,
+    })
 }
 
 fn read_show(text: &[u8]) -> Result<Request, Refusal>

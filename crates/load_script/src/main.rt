@@ -1,7 +1,9 @@
-//! Writes a script for `tpcc script`, at the default scale but for its caps, from a sequence of draws that is the same on
-//! every run. `load_script payments N` writes N Payments by customer number: a district, a customer's district, a customer
-//! and an amount are drawn evenly for each. `load_script orders N` writes N New-Orders: a district, a customer and 5 to
-//! 15 lines, each with an item and a quantity. With other words it writes nothing.
+//! Writes a script for `tpcc script`, at the default scale but for its caps, from a sequence of draws that is the same
+//! on every run. `load_script payments N` writes N Payments by customer number: a district, a customer's district, a
+//! customer and an amount are drawn evenly for each. `load_script orders N` writes N New-Orders: a district, a customer
+//! and 5 to 15 lines, each with an item and a quantity. `load_script mix N` writes N transactions: of a hundred, 45
+//! New-Orders, 43 Payments, and 4 of each other kind; of the customers of Payments and Order-Status, 60 by last name.
+//! With other words it writes nothing.
 #![tactic(auto)]
 
 ghost use Rattle.std.specs.Prelude.{◌≤◌, ◌<◌};
@@ -27,6 +29,18 @@ const LEAST_LINES: u32 = 5;
 const LINE_COUNTS: u32 = 11;
 
 const QUANTITIES: u32 = 10;
+
+/// The carriers of a Delivery, and the thresholds of a Stock-Level (TPC-C 2.7.1.2 and 2.8.1.2).
+const CARRIERS: u32 = 10;
+
+const LEAST_THRESHOLD: u32 = 10;
+
+const THRESHOLDS: u32 = 11;
+
+/// The syllables of last names (TPC-C 4.3.2.3). At the default scale the number of a name is below that of customers.
+const SYLLABLES: [&str; 10] = [
+    "BAR", "OUGHT", "ABLE", "PRI", "PRES", "ESE", "ANTI", "CALLY", "ATION", "EING",
+];
 
 /// A sequence of numbers that looks random: a linear congruential one, after Knuth.
 #[derive(Clone, Copy)]
@@ -58,6 +72,63 @@ fn pay<R: Print + Alloc>(rt: &R, draws: &mut Draws) -> anyhow::Result<()> {
     Ok(())
 }
 
+/// Writes a space and a customer: 60 of a hundred by last name.
+fn who<R: Print + Alloc>(rt: &R, draws: &mut Draws) -> anyhow::Result<()> {
+    if draws.below(100) < 60 {
+        let name = draws.below(CUSTOMERS) as usize;
+        let (tens, ones) = (SYLLABLES[name / 10], SYLLABLES[name % 10]);
+        print!(rt; " BAR{tens}{ones}")?;
+    } else {
+        let customer = draws.below(CUSTOMERS) + 1;
+        print!(rt; " {customer}")?;
+    }
+    Ok(())
+}
+
+/// Writes one Payment by any customer.
+fn pay_as_anybody<R: Print + Alloc>(rt: &R, draws: &mut Draws) -> anyhow::Result<()> {
+    let district = draws.below(DISTRICTS) + 1;
+    let customer_district = draws.below(DISTRICTS) + 1;
+    print!(rt; "payment 1 {district} 1 {customer_district}")?;
+    who(rt, draws)?;
+    let amount = Cents::new(i64::from(draws.below(AMOUNTS) + LEAST));
+    println!(rt; " {amount}")?;
+    Ok(())
+}
+
+/// Writes one Order-Status, Delivery or Stock-Level.
+fn ask<R: Print + Alloc>(rt: &R, draws: &mut Draws, kind: u32) -> anyhow::Result<()> {
+    let district = draws.below(DISTRICTS) + 1;
+    match kind {
+        0 => {
+            print!(rt; "status 1 {district}")?;
+            who(rt, draws)?;
+            println!(rt)?;
+        }
+        1 => {
+            let carrier = draws.below(CARRIERS) + 1;
+            println!(rt; "delivery 1 {carrier}")?;
+        }
+        _ => {
+            let threshold = draws.below(THRESHOLDS) + LEAST_THRESHOLD;
+            println!(rt; "level 1 {district} {threshold}")?;
+        }
+    }
+    Ok(())
+}
+
+/// Writes one transaction of the standard's mix (TPC-C 5.2.3).
+fn transact<R: Print + Alloc>(rt: &R, draws: &mut Draws) -> anyhow::Result<()> {
+    let drawn = draws.below(100);
+    if drawn < 45 {
+        order(rt, draws)
+    } else if drawn < 88 {
+        pay_as_anybody(rt, draws)
+    } else {
+        ask(rt, draws, (drawn - 88) / 4)
+    }
+}
+
 /// Writes one New-Order.
 fn order<R: Print + Alloc>(rt: &R, draws: &mut Draws) -> anyhow::Result<()> {
     let district = draws.below(DISTRICTS) + 1;
@@ -82,6 +153,7 @@ fn main(rt: HostRuntime) -> anyhow::Result<()> {
         match kind.as_str() {
             "payments" => pay(&rt, &mut draws)?,
             "orders" => order(&rt, &mut draws)?,
+            "mix" => transact(&rt, &mut draws)?,
             _ => return Ok(()),
         }
     }

@@ -29,8 +29,8 @@ use tables::{Input, NewOrderInput, Reply};
 ///
 /// `ItemNotValid`, with the first such item, exactly where an item isn't in ITEM: no cell is read then. Else
 /// `OrdersFull` exactly where D_NEXT_O_ID as read is above the order cap; `Stale` only where no well-formed tables of
-/// this population, with conditions 2, 3 and 6 of the district, have the versions that this call has read. `OutOfMemory`
-/// at any time. After a refusal, too, the reader has seen what it had seen, and perhaps more.
+/// this population, with conditions 2, 3 and 6 of the district, have the versions that this call has read.
+/// `OutOfMemory` at any time. After a refusal, too, the reader has seen what it had seen, and perhaps more.
 pub fn execute<R: Wait>(
     rt: &R,
     alloc: Global,

@@ -6,8 +6,7 @@ use Rattle.std.specs.FinMap.{FinMap, get}
 use Rattle.tables.specs.Database.{Database}
 use Rattle.tables.specs.Keys.{is_district, is_customer}
 use Rattle.tables.specs.Maps.{update_where, column}
-use Rattle.tables.specs.Customer.{customer_number}
-use Rattle.tables.specs.Payment.{payer, after_payment, raised_warehouse, raised_district, charged_customer}
+use Rattle.tables.specs.Payment.{payer, after_payment_of, raised_warehouse, raised_district, charged_customer}
 use Rattle.tables.specs.OrderNumbers.{least, numbers_in}
 use Rattle.tables.specs.Rows.{row_at, number_words, warehouse_words, district_words, customer_words}
 use Rattle.tables.proofs.Orders.{IsExact, exact_number, exact_district, exact_customer}
@@ -25,17 +24,17 @@ changed : {K X : Type 0} {R : K → K → Rattle.std.specs.declared.cmp.Ordering
     → p k ≡ true → get m k ≡ Some r → option_map words (get (update_where p g m) k) ≡ Some (words (g r))
 changed o p g words m k r h found = touched o words m p g k h ∙ ap (option_map (λ r. words (g r))) found
 
-module _ (t : Database) (x : PaymentInput) where
+module _ (t : Database) (x : PaymentInput) (id : ℕ) where
   -- the records of all keys but three are as before
-  pub others : (k : RecordKey) → k ≢ key.Warehouse x.warehouse → k ≢ key.District (record { warehouse = x.warehouse; district = x.district }) → k ≢ key.Customer (payer x)
-      → row_at (after_payment t x) k ≡ row_at t k
+  pub others : (k : RecordKey) → k ≢ key.Warehouse x.warehouse → k ≢ key.District (record { warehouse = x.warehouse; district = x.district }) → k ≢ key.Customer (payer x id)
+      → row_at (after_payment_of t x id) k ≡ row_at t k
   others (key.Warehouse w) a b c = untouched exact_number warehouse_words t.warehouses (λ w. x.warehouse == w) (raised_warehouse x.amount) w
       (λ h. a (ap key.Warehouse (sym (eqb-true x.warehouse w h))))
   others (key.District k) a b c = untouched exact_district district_words t.districts (is_district x.warehouse x.district) (raised_district x.amount) k
       (λ h. b (ap key.District (sym (district_named x.warehouse x.district k h))))
-  others (key.Customer k) a b c = untouched exact_customer customer_words t.customers (is_customer x.customer_warehouse x.customer_district (customer_number x.who))
+  others (key.Customer k) a b c = untouched exact_customer customer_words t.customers (is_customer x.customer_warehouse x.customer_district id)
       (charged_customer x.amount) k
-      (λ h. c (ap key.Customer (sym (customer_named x.customer_warehouse x.customer_district (customer_number x.who) k h))))
+      (λ h. c (ap key.Customer (sym (customer_named x.customer_warehouse x.customer_district id k h))))
   others (key.NewOrder k) a b c = refl
   others (key.Order k) a b c = refl
   others (key.OrderLine k) a b c = refl
@@ -44,21 +43,21 @@ module _ (t : Database) (x : PaymentInput) where
       (kept-update_where exact_district (is_district x.warehouse x.district) (raised_district x.amount) (λ (w : Option District). option_map_or (λ r. r.next_order) w 0) t.districts k (λ _ r. refl)))
   others (key.Last k) a b c = refl
 
-  pub warehouse_changed : (r : Warehouse) → get t.warehouses x.warehouse ≡ Some r → row_at (after_payment t x) (key.Warehouse x.warehouse) ≡ Some (warehouse_words (raised_warehouse x.amount r))
+  pub warehouse_changed : (r : Warehouse) → get t.warehouses x.warehouse ≡ Some r → row_at (after_payment_of t x id) (key.Warehouse x.warehouse) ≡ Some (warehouse_words (raised_warehouse x.amount r))
   warehouse_changed r found = changed exact_number (λ w. x.warehouse == w) (raised_warehouse x.amount) warehouse_words t.warehouses x.warehouse r (self x.warehouse) found
 
   pub district_changed : (r : District) → get t.districts (record { warehouse = x.warehouse; district = x.district }) ≡ Some r
-      → row_at (after_payment t x) (key.District (record { warehouse = x.warehouse; district = x.district })) ≡ Some (district_words (raised_district x.amount r))
+      → row_at (after_payment_of t x id) (key.District (record { warehouse = x.warehouse; district = x.district })) ≡ Some (district_words (raised_district x.amount r))
   district_changed r found = changed exact_district (is_district x.warehouse x.district) (raised_district x.amount) district_words t.districts
       (record { warehouse = x.warehouse; district = x.district }) r (λ i. self x.warehouse i && self x.district i) found
 
-  pub customer_changed : (r : Customer) → get t.customers (payer x) ≡ Some r → row_at (after_payment t x) (key.Customer (payer x)) ≡ Some (customer_words (charged_customer x.amount r))
-  customer_changed r found = changed exact_customer (is_customer x.customer_warehouse x.customer_district (customer_number x.who))
-      (charged_customer x.amount) customer_words t.customers (payer x) r
-      (λ i. (self x.customer_warehouse i && self x.customer_district i) && self (customer_number x.who) i) found
+  pub customer_changed : (r : Customer) → get t.customers (payer x id) ≡ Some r → row_at (after_payment_of t x id) (key.Customer (payer x id)) ≡ Some (customer_words (charged_customer x.amount r))
+  customer_changed r found = changed exact_customer (is_customer x.customer_warehouse x.customer_district id)
+      (charged_customer x.amount) customer_words t.customers (payer x id) r
+      (λ i. (self x.customer_warehouse i && self x.customer_district i) && self id i) found
 
-  pub balance_changed : (r : Customer) → get t.customers (payer x) ≡ Some r → column (λ c. c.balance) (after_payment t x).customers (payer x) ≡ r.balance -ℤ x.amount
+  pub balance_changed : (r : Customer) → get t.customers (payer x id) ≡ Some r → column (λ c. c.balance) (after_payment_of t x id).customers (payer x id) ≡ r.balance -ℤ x.amount
   balance_changed r found =
-      column-update_where exact_customer (λ c. c.balance) (is_customer x.customer_warehouse x.customer_district (customer_number x.who))
-      (charged_customer x.amount) t.customers (payer x) r found
-      ∙ (λ i. (cond ((self x.customer_warehouse i && self x.customer_district i) && self (customer_number x.who) i) (charged_customer x.amount r) r).balance)
+      column-update_where exact_customer (λ c. c.balance) (is_customer x.customer_warehouse x.customer_district id)
+      (charged_customer x.amount) t.customers (payer x id) r found
+      ∙ (λ i. (cond ((self x.customer_warehouse i && self x.customer_district i) && self id i) (charged_customer x.amount r) r).balance)

@@ -1,7 +1,6 @@
 -- The steps of a Payment (TPC-C 2.5.2.2): its three records, their new values, its writes and its reply.
 use Rattle.std.specs.Prelude.{◌≡◌, ℕ, ℤ, ◌-ℤ◌, Some}
 use Rattle.tables.specs.Sizes.{Sizes}
-use Rattle.tables.specs.Customer.{customer_number}
 use Rattle.tables.specs.Payment.{payer, raised_warehouse, raised_district, charged_customer, history_row}
 use Rattle.tables.specs.Rows.{warehouse_words, district_words, customer_words}
 use Rattle.tables.specs.WellFormed.{IsMoney, IsCustomerRow}
@@ -18,15 +17,15 @@ use Rattle.payment.specs.declared.transaction.Records.{Records}
 use Rattle.payment.specs.declared.transaction.Found.{Found}
 use Rattle.payment.specs.declared.transaction.NewValues.{NewValues}
 
--- the numbers of the paying warehouse, the paying district and the customer
+-- the numbers of the records of the paying warehouse, of the paying district, and of the customer with this C_ID
 abbrev pub warehouse_record : Sizes → PaymentInput → ℕ
 warehouse_record s x = number_of_key s (key.Warehouse x.warehouse)
 
 abbrev pub district_record : Sizes → PaymentInput → ℕ
 district_record s x = number_of_key s (key.District (record { warehouse = x.warehouse; district = x.district }))
 
-abbrev pub customer_record : Sizes → PaymentInput → ℕ
-customer_record s x = number_of_key s (key.Customer (payer x))
+abbrev pub customer_record : Sizes → PaymentInput → ℕ → ℕ
+customer_record s x id = number_of_key s (key.Customer (payer x id))
 
 -- the rows of the three records, as the versions found have them, within their ranges
 pub record AreRows (found : Found) (w : Warehouse) (d : District) (c : Customer) : Type 0 where
@@ -50,15 +49,15 @@ values_put records values =
     puts (puts (puts no_writes records.warehouse (Some values.warehouse)) records.district (Some values.district)) records.customer (Some values.customer.words)
 
 -- the writes and the reply
-abbrev pub writes_of : Records → NewValues → PaymentInput → WriteSetView
-writes_of records values x = record { values = (values_put records values).values; history_row = Some (history_row x) }
+abbrev pub writes_of : Records → NewValues → PaymentInput → ℕ → WriteSetView
+writes_of records values x id = record { values = (values_put records values).values; history_row = Some (history_row x id) }
 
-abbrev pub reply_of : NewValues → PaymentInput → PaymentReply
-reply_of values x = record {
+abbrev pub reply_of : NewValues → PaymentInput → ℕ → PaymentReply
+reply_of values x id = record {
   warehouse = x.warehouse;
   district = x.district;
   customer_warehouse = x.customer_warehouse;
   customer_district = x.customer_district;
-  customer = customer_number x.who;
+  customer = id;
   balance = values.customer.balance;
 }

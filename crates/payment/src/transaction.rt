@@ -1,5 +1,6 @@
 //! A Payment on record cells.
 ghost use Rattle.std.specs.Prelude.{◌≡◌, ◌<◌, ◌≤◌, ◌⊎◌, ◌≤ℤ◌, pos, ℕ, [], length, Some, IfOk, IfErr, OnOk};
+ghost use Rattle.tables.specs.Sizes.{IsNumber};
 ghost use Rattle.tables.specs.Payment.{IsPayment};
 ghost use Rattle.tables.specs.declared.limits.TheConstants.{MAX_PAYMENT};
 ghost use Rattle.tables.specs.declared.input.Input.TheVariants as input_variants;
@@ -25,7 +26,7 @@ use std::alloc::Global;
 use std::sync::Wait;
 use tables::{
     CustomerKey, DistrictKey, History, Input, PaymentInput, PaymentReply, RecordKey, Reply, Scale,
-    Who, number_of_key,
+    number_of_key,
 };
 
 /// The numbers of the records that a Payment reads and writes.
@@ -53,7 +54,8 @@ struct NewValues {
 }
 
 /// Executes a Payment (TPC-C 2.5.2.2): reads its records once each, and says what it is to write and to reply if it
-/// commits. No cell changes. Costs three loads and a few look-ups, whatever the tables' size.
+/// commits. No cell changes. Costs three loads and a few look-ups, whatever the tables' size, and by last name what
+/// `Population::customer` does.
 ///
 /// # Errors
 ///
@@ -80,14 +82,19 @@ pub fn execute<R: Wait>(
         ((refusal ≡ Stale) × ((reads : ReadSetView) × AreRead reader.old reader.new reads
         × NoneMayBe (initial population.now) reads))) }
 {
-    let records = records_of(&population.scale(), payment);
+    let home = DistrictKey {
+        warehouse: payment.customer_warehouse,
+        district: payment.customer_district,
+    };
+    let customer = population.customer(home, payment.who);
+    let records = records_of(&population.scale(), payment, customer);
     let mut reads = ReadSet::new(alloc);
     let found = read(rt, cells, reader, &mut reads, records)?;
     let Some(values) = new_values(&found, payment.amount) else {
         return Err(Refusal::Stale);
     };
-    let writes = write(alloc, records, &values, payment)?;
-    let reply = Reply::Payment(reply(payment, &values));
+    let writes = write(alloc, records, &values, payment, customer)?;
+    let reply = Reply::Payment(reply(payment, &values, customer));
     Ok(Work {
         input: Input::Payment(*payment),
         reads,
@@ -97,13 +104,13 @@ pub fn execute<R: Wait>(
 }
 
 /// The numbers of the records that a Payment reads and writes.
-fn records_of(scale: &Scale, payment: &PaymentInput) -> Records
-    requires { IsPayment scale.now payment.now }
+fn records_of(scale: &Scale, payment: &PaymentInput, customer: u32) -> Records
+    requires payment { IsPayment scale.now payment.now }
+    requires customer { IsNumber scale.now.customers customer }
     ensures warehouse { result.warehouse ≡ warehouse_record scale.now payment.now }
     ensures district { result.district ≡ district_record scale.now payment.now }
-    ensures customer { result.customer ≡ customer_record scale.now payment.now }
+    ensures customer { result.customer ≡ customer_record scale.now payment.now customer }
 {
-    let Who::Id(customer) = payment.who;
     let district = DistrictKey {
         warehouse: payment.warehouse,
         district: payment.district,
@@ -175,11 +182,11 @@ fn write(
     records: Records,
     values: &NewValues,
     payment: &PaymentInput,
+    customer: u32,
 ) -> Result<WriteSet, Refusal>
-    ensures ok { IfOk result (λ writes. writes ≡ writes_of records values.now payment.now) }
+    ensures ok { IfOk result (λ writes. writes ≡ writes_of records values.now payment.now customer) }
     ensures only_memory { IfErr result (λ refusal. refusal ≡ OutOfMemory) }
 {
-    let Who::Id(customer) = payment.who;
     let mut writes = WriteSet::new(alloc);
     writes.put(records.warehouse, Some(values.warehouse))?;
     writes.put(records.district, Some(values.district))?;
@@ -197,10 +204,9 @@ fn write(
 }
 
 /// The reply of a Payment (TPC-C 2.5.3.3).
-fn reply(payment: &PaymentInput, values: &NewValues) -> PaymentReply
-    ensures { result ≡ reply_of values.now payment.now }
+fn reply(payment: &PaymentInput, values: &NewValues, customer: u32) -> PaymentReply
+    ensures { result ≡ reply_of values.now payment.now customer }
 {
-    let Who::Id(customer) = payment.who;
     PaymentReply {
         warehouse: payment.warehouse,
         district: payment.district,

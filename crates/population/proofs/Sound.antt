@@ -1,5 +1,5 @@
 -- The plain population is well-formed and has room.
-use Rattle.std.proofs.Common.{◌≡◌, ℕ, zero, suc, ◌+◌, ◌*◌, ◌≤◌, pos, neg_ℤ, ◌≤ℤ◌, Bool, true, false, cond, Some, None, List, map, sym, subst, arith}
+use Rattle.std.proofs.Common.{◌≡◌, ℕ, zero, suc, ◌+◌, ◌-◌, ◌*◌, ◌%◌, ◌≤◌, IsSome, pos, neg_ℤ, ◌≤ℤ◌, Bool, true, false, cond, Some, None, List, map, sym, subst, arith}
 use Rattle.std.specs.Prelude.{All}
 use Rattle.std.specs.List.{flat_map}
 use Rattle.std.specs.Option.{ForSome}
@@ -8,9 +8,12 @@ use Rattle.std.proofs.lemmas.List.Elements.{All-nil, All-append, All-push}
 use Rattle.std.proofs.lemmas.Nat.{mul-le}
 use Rattle.tables.specs.Sizes.{Sizes, IsNumber}
 use Rattle.tables.specs.Database.{Database}
+use Rattle.tables.specs.Names.{names, customer_named}
+use Rattle.tables.specs.declared.keys.CustomerKey.{CustomerKey}
+use Rattle.tables.proofs.Named.{somebody}
 use Rattle.tables.specs.WellFormed.{IsMoney, IsMoneyFor, IsHistoryRow, IsItemRow, IsWellFormed, HasRoom}
 use Rattle.tables.specs.declared.limits.TheConstants.{MAX_COMMITS, MAX_MONEY_STEP}
-use Rattle.population.specs.Plain.{numbers, plain_history_row, plain_order, plain_item, IsPlain}
+use Rattle.population.specs.Plain.{numbers, plain_customer, plain_history_row, plain_order, plain_item, IsPlain}
 use Rattle.population.proofs.Lists.{map_more, flat_map_more}
 use Rattle.population.proofs.TableRows.{found, at, within, each}
 
@@ -137,6 +140,11 @@ module _ (t : Database) (fit : IsFit t.scale) (plain : IsPlain t.scale t) where
     });
     order_customers = each plain.orders _ (λ k h. found plain.customers _ h);
     new_order_orders = λ k some. let h = plain.new_orders.only k some in found plain.orders k (h.0, h.1, (omega (arith, h.2), h.2.1));
+    last_names = λ d is n below name.
+        let k : CustomerKey = record { warehouse = d.warehouse; district = d.district; customer = n + 1 } in
+        let there = somebody t.customers k (plain_customer (n + 1)) (plain.customers.rows k (is.0, is.1, (omega arith, omega (arith, below)))) in
+        let same : (n + 1 - 1) % 1000 ≡ n = omega (arith, name) in
+        subst (λ m. IsSome (customer_named (names t.customers) d m)) same there;
     line_orders = each plain.lines _ (λ k h. (plain_order t.scale k.order, plain.orders.rows _ (h.0, h.1, h.2), h.3.1));
   }
 

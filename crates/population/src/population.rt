@@ -1,6 +1,8 @@
 //! The rows that a database begins with.
 
+ghost use Rattle.std.specs.Prelude.{◌≡◌};
 ghost use Rattle.std.proofs.Props.{props};
+ghost use Rattle.tables.specs.Names.{names as names_of};
 ghost use Rattle.population.specs.Unique.{line_order-prop};
 ghost use Rattle.tables.specs.Conditions.{IsConsistent};
 ghost use Rattle.tables.specs.Database.{database};
@@ -9,25 +11,29 @@ ghost use Rattle.tables.specs.declared.limits.TheConstants.{MAX_COMMITS};
 
 use crate::plain::plain_tables;
 use money::Refusal;
+use names::NameIndex;
 use std::alloc::Global;
-use tables::{Scale, Tables};
+use tables::{DistrictKey, Scale, Tables, Who};
 
-/// The rows that a database begins with. Its type keeps that they are well-formed and consistent, and have room for
-/// 600,000 commits.
+/// The rows that a database begins with, and its customers by name. Its type keeps that the rows are well-formed and
+/// consistent, and have room for 600,000 commits.
 #[derive(Debug, Drop)]
 pub struct Population {
     tables: Tables,
+    names: NameIndex,
     seed: u64,
     pub ghost room: { HasRoom MAX_COMMITS (database tables) } by { Prim.hlevel props },
     pub ghost well_formed: { IsWellFormed (database tables) } by { Prim.hlevel (props, line_order-prop) },
+    pub ghost named: { names ≡ names_of (database tables).customers } by { Prim.hlevel props },
     pub ghost consistent: { IsConsistent (database tables) } by { Prim.hlevel props },
 }
 
 impl Population {
-    ghost use Rattle.std.specs.Prelude.{◌≡◌, IfOk, IfErr};
+    ghost use Rattle.std.specs.Prelude.{IfOk, IfErr};
     ghost use Rattle.money.specs.declared.refusal.Refusal.TheVariants.{OutOfMemory};
     ghost use Rattle.population.specs.Plain.{IsPlain};
     ghost use Rattle.population.specs.Initial.{initial, seed_of};
+    ghost use Rattle.tables.specs.Customer.{IsWho, customer_number};
 
     /// The plain population of a scale, in which no column is drawn. Its seed is 0.
     ///
@@ -45,7 +51,12 @@ impl Population {
         prove!(scale.customers() >= 1);
         prove!(scale.customers() <= scale.orders());
         prove!(scale.items() >= 5);
-        Ok(Population { tables, seed: 0 })
+        let names = NameIndex::new(alloc, &tables.customers)?;
+        Ok(Population {
+            tables,
+            names,
+            seed: 0,
+        })
     }
 
     /// The seed that the rows were drawn from: 0 where none were.
@@ -60,6 +71,18 @@ impl Population {
         ensures { result ≡ (initial self.now).scale }
     {
         self.tables.scale
+    }
+
+    /// The C_ID of the customer whom a terminal means in a district. By last name it costs the logarithm of the number
+    /// of customers, and a pass over those of the district who have the name.
+    pub fn customer(&self, district: DistrictKey, who: Who) -> u32
+        requires { IsWho (initial self.now).scale who }
+        ensures { result ≡ customer_number (initial self.now) district who }
+    {
+        match who {
+            Who::Id(customer) => customer,
+            Who::Last(number) => self.names.customer(district, number).unwrap_or(0),
+        }
     }
 
     /// The tables.

@@ -14,6 +14,7 @@ mod lines_tests;
 #[cfg(test)]
 mod new_orders;
 #[cfg(test)]
+mod query_scripts;
 mod runs;
 #[cfg(test)]
 mod scripts;

@@ -8,7 +8,7 @@ use std::process::Abort;
 use std::test::Fail;
 use tables::{
     Credit, Customer, CustomerKey, DeliveredOrder, DeliveryReply, District, DistrictKey, LineKey,
-    Lines, NewOrderReply, OrderKey, PaymentReply, RequestedLine, SuppliedLine, Warehouse,
+    Lines, NewOrderReply, OrderKey, PaymentReply, RequestedLine, SuppliedLine, Warehouse, Who,
 };
 
 #[test]
@@ -18,7 +18,7 @@ fn requests_are_read(rt: HostRuntime) {
         district: 1,
         customer_warehouse: 1,
         customer_district: 1,
-        customer: 3,
+        who: Who::Id(3),
         amount: Cents::new(1234),
     };
     let alloc = rt.alloc();

@@ -20,6 +20,16 @@ pub(crate) fn written<T: Wait>(
     input: &str,
 ) -> Result<Vec<u8>, Refusal> {
     let scale = Scale::new(warehouses, 2, 10, 20, orders, commits)?;
+    written_over(rt, alloc, scale, input)
+}
+
+/// What a script writes, over the plain population of a scale.
+fn written_over<T: Wait>(
+    rt: &T,
+    alloc: Global,
+    scale: Scale,
+    input: &str,
+) -> Result<Vec<u8>, Refusal> {
     let population = Population::plain(alloc, scale)?;
     let (mut input, mut written) = (input.as_bytes(), Vec::new(alloc));
     let _ = script(rt, alloc, population, &mut input, &mut written)?;
@@ -35,15 +45,21 @@ fn text_of(alloc: Global, lines: &[&str]) -> Result<String, Fail> {
     Ok(text)
 }
 
-/// Asserts that a script over one warehouse writes these answers, and then that so many lines have committed and that
-/// every condition holds.
+/// The scale of most scripts here.
+fn small() -> Result<Scale, Refusal> {
+    Scale::new(1, 2, 10, 20, 30, 1_000)
+}
+
+/// Asserts that a script over a scale writes these answers, and then that so many lines have committed and that every
+/// condition holds.
 fn assert_written(
     rt: &(impl Abort + AllocGlobal + Wait),
+    scale: Scale,
     input: &str,
     answers: &str,
     commits: u32,
 ) -> Result<(), Fail> {
-    let written = written(rt, rt.alloc(), (1, 30, 1_000), input)?;
+    let written = written_over(rt, rt.alloc(), scale, input)?;
     let expected = format!(in rt.alloc(); "{answers}commits {commits}\n{GOOD}")?;
     assert_eq!(rt; written.as_slice(), expected.as_bytes());
     Ok(())
@@ -56,9 +72,20 @@ pub(crate) fn assert_answers(
     answers: &[&str],
     commits: u32,
 ) -> Result<(), Fail> {
+    assert_answers_over(rt, small()?, lines, answers, commits)
+}
+
+/// The same over another scale.
+pub(crate) fn assert_answers_over(
+    rt: &(impl Abort + AllocGlobal + Wait),
+    scale: Scale,
+    lines: &[&str],
+    answers: &[&str],
+    commits: u32,
+) -> Result<(), Fail> {
     let input = text_of(rt.alloc(), lines)?;
     let answers = text_of(rt.alloc(), answers)?;
-    assert_written(rt, input.as_str(), answers.as_str(), commits)
+    assert_written(rt, scale, input.as_str(), answers.as_str(), commits)
 }
 
 /// The lines of a script, and their answers: each line is this beginning with one of these ends, and has the refusal of
@@ -84,5 +111,5 @@ pub(crate) fn assert_refused(
     refused: &[(&str, u32)],
 ) -> Result<(), Fail> {
     let (input, answers) = refused_of(rt.alloc(), beginning, refused)?;
-    assert_written(rt, input.as_str(), answers.as_str(), 0)
+    assert_written(rt, small()?, input.as_str(), answers.as_str(), 0)
 }

@@ -75,8 +75,8 @@ impl WriteSet {
         self.values.get(&number).copied()
     }
 
-    /// What the transaction leaves of a record: what it is to write there, or else what it has read there. Nothing where
-    /// it did neither. Costs the logarithms of the numbers of records written and read.
+    /// What the transaction leaves of a record: what it is to write there, or else what it has read there. Nothing
+    /// where it did neither. Costs the logarithms of the numbers of records written and read.
     pub fn left(&self, reads: &ReadSet, number: u32) -> Option<[u64; 7]>
         ensures { result ≡ left_at self.now reads.now number }
     {

@@ -1,5 +1,5 @@
 -- Lines have one run.
-use Rattle.std.proofs.Common.{◌≡◌, ℕ, ◌+◌, ◌<◌, Some, List, [], ◌∷◌, refl, sym, ap, ◌∙◌, subst, arith}
+use Rattle.std.proofs.Common.{◌≡◌, ℕ, ◌+◌, ◌<◌, Option, Some, None, List, [], ◌∷◌, refl, sym, ap, ◌∙◌, subst, arith}
 use Rattle.money.specs.declared.refusal.Refusal.{Refusal}
 use Rattle.money.specs.declared.refusal.Refusal.TheVariants.{BadInput, BadLine, ItemNotValid, OrdersFull, CommitsFull}
 use Rattle.tables.specs.Database.{Database}
@@ -8,11 +8,10 @@ use Rattle.tables.specs.declared.input.Input.{Input}
 use Rattle.tables.specs.declared.reply.Reply.{Reply}
 use Rattle.lines.specs.Requests.{HasNumbers, IsWithinReach, IsRefused, request_text}
 use Rattle.lines.specs.declared.request.Request.{Request}
-use Rattle.lines.specs.declared.request.Request.TheVariants as request
 use Rattle.lines.specs.declared.answer.Answer.{Answer}
 use Rattle.lines.proofs.OneText.{one_line_one_request}
 use Rattle.session.specs.Session.{IsRefusedAt}
-use Rattle.script.specs.Turns.{State, Turn, committed, IsInputTurn, bad, declined, done, IsShowTurn, beyond, row, IsRequestTurn, IsLineTurn, long, unread, read, AreTurns, refused}
+use Rattle.script.specs.Turns.{State, Turn, committed, IsInputTurn, bad, declined, done, IsShowTurn, beyond, row, input_of, IsTurnOf, IsRequestTurn, IsLineTurn, long, unread, read, AreTurns, refused}
 
 abbrev told_by : Reply → Outcome → Reply
 told_by other (Committed tables told) = told
@@ -69,15 +68,12 @@ one_show s n show a b (row found is at e) (beyond isnt f) = absurd (isnt is)
 one_show s n show a b (row found is at e) (row other ok there f) =
     e ∙ (λ i. record { answer = one_answer found other (sym at ∙ there) i; state = s }) ∙ sym f
 
+one_turn : (s : State) (n : ℕ) (asked : Request) (x : Option Input) (a b : Turn) → IsTurnOf s n asked x a → IsTurnOf s n asked x b → a ≡ b
+one_turn s n asked (Some x) a b e f = one_input s n x a b e f
+one_turn s n asked None a b e f = one_show s n asked a b e f
+
 one_request : (s : State) (n : ℕ) (asked : Request) (a b : Turn) → IsRequestTurn s n asked a → IsRequestTurn s n asked b → a ≡ b
-one_request s n (request.Payment w d cw cd c z) a b e f = one_input s n _ a b e f
-one_request s n (request.NewOrder w d c lines) a b e f = one_input s n _ a b e f
-one_request s n (request.Delivery w c) a b e f = one_input s n _ a b e f
-one_request s n (request.ShowWarehouse w) a b e f = one_show s n _ a b e f
-one_request s n (request.ShowDistrict w d) a b e f = one_show s n _ a b e f
-one_request s n (request.ShowCustomer w d c) a b e f = one_show s n _ a b e f
-one_request s n (request.ShowStock w i) a b e f = one_show s n _ a b e f
-one_request s n (request.ShowOrder w d o) a b e f = one_show s n _ a b e f
+one_request s n asked a b e f = one_turn s n asked (input_of n asked) a b e f
 
 one_refusal : (line : List ℕ) (a b : Refusal) → IsRefused line a → IsRefused line b → a ≡ b
 one_refusal line BadInput BadInput h k = refl

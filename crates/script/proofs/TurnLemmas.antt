@@ -23,7 +23,7 @@ use Rattle.book.specs.History.{replay, commit_tid}
 use Rattle.book.proofs.Replaying.{replay-scale}
 use Rattle.session.specs.Session.{SessionView, IsNext, IsRefusedAt}
 use Rattle.script.specs.Answered.{state_of, IsMade}
-use Rattle.script.specs.Turns.{State, Turn, IsInputTurn, IsShowTurn, bad, declined, done, IsRequestTurn, IsLineTurn, unread, read, answer_of}
+use Rattle.script.specs.Turns.{State, Turn, IsInputTurn, IsShowTurn, bad, declined, done, IsRequestTurn, IsLineTurn, unread, read, answer_of, input_of, IsTurnOf}
 
 -- what holds of each answer by its equation holds of the answer
 pub answered_turn : (P Q : Answer → Type 0) (result : Result Answer Refusal) → IfOk result P → ((told : Answer) → P told → Q told) → IfOk result Q
@@ -80,17 +80,14 @@ pub made_turn : (s : State) (n : ℕ) (x : Input) (scale : Sizes) (made : Result
 made_turn s n x scale made (Ok told) last is turn = turn x is
 made_turn s n x scale made (Err refusal) last is turn = tt
 
--- a request that asks for no transaction asks for a row
-pub shown_turn : (s : State) (n : ℕ) (asked : Request) (turn : Turn) → ((w d cw cd c : ℕ) (z : ℤ) → asked ≢ request.Payment w d cw cd c z) → ((w d c : ℕ) (lines : List RequestedLine) → asked ≢ request.NewOrder w d c lines)
-    → ((w c : ℕ) → asked ≢ request.Delivery w c) → IsShowTurn s n asked turn → IsRequestTurn s n asked turn
-shown_turn s n (request.Payment w d cw cd c z) turn no_payment no_order no_delivery h = absurd (no_payment w d cw cd c z refl)
-shown_turn s n (request.NewOrder w d c lines) turn no_payment no_order no_delivery h = absurd (no_order w d c lines refl)
-shown_turn s n (request.Delivery w c) turn no_payment no_order no_delivery h = absurd (no_delivery w c refl)
-shown_turn s n (request.ShowWarehouse w) turn no_payment no_order no_delivery h = h
-shown_turn s n (request.ShowDistrict w d) turn no_payment no_order no_delivery h = h
-shown_turn s n (request.ShowCustomer w d c) turn no_payment no_order no_delivery h = h
-shown_turn s n (request.ShowStock w i) turn no_payment no_order no_delivery h = h
-shown_turn s n (request.ShowOrder w d o) turn no_payment no_order no_delivery h = h
+-- the turn of a request is that of the transaction that it asks for, and else that of a row
+pub asked_turn : (s : State) (n : ℕ) (asked : Request) (turn : Turn) (x : Option Input) → input_of n asked ≡ x → IsTurnOf s n asked x turn → IsRequestTurn s n asked turn
+asked_turn s n asked turn x is h = subst (λ o. IsTurnOf s n asked o turn) (sym is) h
+
+pub transaction_turn : (s : State) (n : ℕ) (asked : Request) (x : Input) (result : Result Answer Refusal) (last : State) → input_of n asked ≡ Some x
+    → IfOk result (λ told. IsInputTurn s n x (record { answer = told; state = last })) → IfOk result (λ told. IsRequestTurn s n asked (record { answer = told; state = last }))
+transaction_turn s n asked x (Ok told) last is turn = asked_turn s n asked (record { answer = told; state = last }) (Some x) is turn
+transaction_turn s n asked x (Err refusal) last is turn = tt
 
 -- the bytes of a line that is held
 pub held_some : (bytes text : List ℕ) → Some text ≡ held bytes → (length bytes ≤ MAX_LINE) × (bytes ≡ text)

@@ -15,7 +15,6 @@ use Rattle.tables.specs.declared.keys.OrderKey.{OrderKey}
 use Rattle.tables.specs.declared.keys.StockKey.{StockKey}
 use Rattle.tables.specs.declared.input.Input.{Input}
 use Rattle.tables.specs.declared.input.Input.TheVariants as input
-use Rattle.tables.specs.declared.customer.Who.TheVariants.{Id}
 use Rattle.tables.specs.declared.reply.Reply.{Reply}
 use Rattle.tables.specs.declared.reply.Reply.TheVariants as reply
 use Rattle.lines.specs.declared.line_buffer.TheConstants.{MAX_LINE}
@@ -47,6 +46,8 @@ abbrev pub answer_of : Reply → Answer
 answer_of (reply.Payment r) = answer.Payment r
 answer_of (reply.NewOrder r) = answer.NewOrder r
 answer_of (reply.Delivery r) = answer.Delivery r
+answer_of (reply.OrderStatus r) = answer.OrderStatus r
+answer_of (reply.StockLevel r) = answer.StockLevel r
 
 -- an input commits with these tables and this reply, as the next
 abbrev pub committed : State → Database → Reply → Turn
@@ -71,9 +72,7 @@ IsShown s (request.ShowDistrict w d) = IsDistrictKey s (record { warehouse = w; 
 IsShown s (request.ShowCustomer w d c) = IsCustomerKey s (record { warehouse = w; district = d; customer = c })
 IsShown s (request.ShowStock w i) = IsStockKey s (record { warehouse = w; item = i })
 IsShown s (request.ShowOrder w d o) = IsOrderKey s (record { warehouse = w; district = d; order = o })
-IsShown s (request.Payment w d cw cd c z) = ⊥
-IsShown s (request.NewOrder w d c lines) = ⊥
-IsShown s (request.Delivery w c) = ⊥
+IsShown s _ = ⊥
 
 -- the row that a request asks for, if there is one. An order of a key without a row is shown as none
 abbrev pub row_of : Database → Request → Option Answer
@@ -90,23 +89,29 @@ row_of t (request.ShowStock w i) =
 row_of t (request.ShowOrder w d o) =
     let key : OrderKey = record { warehouse = w; district = d; order = o } in
     Some (answer.Order key (get t.orders key))
-row_of t (request.Payment w d cw cd c z) = None
-row_of t (request.NewOrder w d c lines) = None
-row_of t (request.Delivery w c) = None
+row_of t _ = None
 
 -- the turn of a request for a row at line n: refused where its key isn't of the scale. Nothing changes
 pub data IsShowTurn (s : State) (n : ℕ) (show : Request) (turn : Turn) : Type 0 where
   beyond : ¬ IsShown s.tables.scale show → turn ≡ refused s BadInput n → IsShowTurn s n show turn
   row : (answer : Answer) → IsShown s.tables.scale show → row_of s.tables show ≡ Some answer → turn ≡ record { answer = answer; state = s } → IsShowTurn s n show turn
 
--- the turn of a request at line n, which is the date of a transaction
+-- the transaction that a request asks for at line n, which is its date. A show asks for none
+abbrev pub input_of : ℕ → Request → Option Input
+input_of n (request.Payment w d cw cd who z) = Some (input.Payment (record { date = n; warehouse = w; district = d; customer_warehouse = cw; customer_district = cd; who = who; amount = z }))
+input_of n (request.NewOrder w d c lines) = Some (input.NewOrder (record { date = n; warehouse = w; district = d; customer = c; lines = lines }))
+input_of n (request.Delivery w c) = Some (input.Delivery (record { date = n; warehouse = w; carrier = c }))
+input_of n (request.OrderStatus w d who) = Some (input.OrderStatus (record { date = n; warehouse = w; district = d; who = who }))
+input_of n (request.StockLevel w d h) = Some (input.StockLevel (record { date = n; warehouse = w; district = d; threshold = h }))
+input_of n _ = None
+
+-- the turn of a request at line n, by the transaction that it asks for, if it does
+abbrev pub IsTurnOf : State → ℕ → Request → Option Input → Turn → Type 0
+IsTurnOf s n asked (Some x) turn = IsInputTurn s n x turn
+IsTurnOf s n asked None turn = IsShowTurn s n asked turn
+
 abbrev pub IsRequestTurn : State → ℕ → Request → Turn → Type 0
-IsRequestTurn s n (request.Payment w d cw cd c z) turn =
-    IsInputTurn s n (input.Payment (record { date = n; warehouse = w; district = d; customer_warehouse = cw; customer_district = cd; who = Id c; amount = z })) turn
-IsRequestTurn s n (request.NewOrder w d c lines) turn =
-    IsInputTurn s n (input.NewOrder (record { date = n; warehouse = w; district = d; customer = c; lines = lines })) turn
-IsRequestTurn s n (request.Delivery w c) turn = IsInputTurn s n (input.Delivery (record { date = n; warehouse = w; carrier = c })) turn
-IsRequestTurn s n show turn = IsShowTurn s n show turn
+IsRequestTurn s n asked turn = IsTurnOf s n asked (input_of n asked) turn
 
 -- the turn of line n: a line of more than 1,024 bytes, or of none of the forms, or of an amount beyond the reach, is refused
 pub data IsLineTurn (s : State) (n : ℕ) (line : List ℕ) (turn : Turn) : Type 0 where

@@ -13,6 +13,7 @@ ghost use Rattle.tables.specs.declared.input.Input.{Input as InputValue};
 ghost use Rattle.script.specs.Answered.{state_of, IsMade, Shows};
 ghost use Rattle.script.specs.Turns.{State, IsInputTurn, IsShowTurn, IsRequestTurn, IsLineTurn, answer_of};
 
+use crate::asking::{Asked, asked_by};
 use crate::showing::show;
 use book::{Done, Run};
 use lines::{Answer, Request, read_request};
@@ -20,7 +21,7 @@ use money::Refusal;
 use session::Session;
 use std::alloc::Global;
 use std::sync::Wait;
-use tables::{DeliveryInput, Input, NewOrderInput, PaymentInput, Reply, Who};
+use tables::{Input, Reply};
 
 /// Answers the line of a script that has this number, which is its date too. `None` is a line that is too
 /// long. What the line asks is done or refused, and the answer tells which; only want of memory is a
@@ -57,50 +58,9 @@ fn answer_request<K: Run, R: Wait>(
         IsRequestTurn (state_of K.first session.old) number request (record { answer = answer; state = state_of K.first session.new })) }
 {
     let scale = session.population().scale();
-    match request {
-        Request::Payment {
-            warehouse,
-            district,
-            customer_warehouse,
-            customer_district,
-            customer,
-            amount,
-        } => {
-            let payment = PaymentInput {
-                date: number,
-                warehouse,
-                district,
-                customer_warehouse,
-                customer_district,
-                who: Who::Id(customer),
-                amount,
-            };
-            commit(rt, session, Input::payment(&scale, payment), number)
-        }
-        Request::NewOrder {
-            warehouse,
-            district,
-            customer,
-            lines,
-        } => {
-            let order = NewOrderInput {
-                date: number,
-                warehouse,
-                district,
-                customer,
-                lines,
-            };
-            commit(rt, session, Input::new_order(&scale, order), number)
-        }
-        Request::Delivery { warehouse, carrier } => {
-            let delivery = DeliveryInput {
-                date: number,
-                warehouse,
-                carrier,
-            };
-            commit(rt, session, Input::delivery(&scale, delivery), number)
-        }
-        asked => {
+    match asked_by(&scale, request, number) {
+        Asked::Transaction(made) => commit(rt, session, made, number),
+        Asked::Row(asked) => {
             let row = show(session, &asked);
             Ok(row_or_refused(row, number))
         }
@@ -149,6 +109,8 @@ fn told(reply: Reply) -> Answer
         Reply::Payment(reply) => Answer::Payment(reply),
         Reply::NewOrder(reply) => Answer::NewOrder(reply),
         Reply::Delivery(reply) => Answer::Delivery(reply),
+        Reply::OrderStatus(reply) => Answer::OrderStatus(reply),
+        Reply::StockLevel(reply) => Answer::StockLevel(reply),
     }
 }
 

@@ -2,6 +2,7 @@
 #![tactic(auto)]
 
 mod answering;
+mod asking;
 mod running;
 mod showing;
 mod turns;

@@ -42,7 +42,11 @@ pub(crate) fn show<K: Run>(session: &Session<'_, K>, request: &Request) -> Optio
             district,
             order,
         } => show_order(session, *warehouse, *district, *order),
-        Request::Payment { .. } | Request::NewOrder { .. } | Request::Delivery { .. } => None,
+        Request::Payment { .. }
+        | Request::NewOrder { .. }
+        | Request::Delivery { .. }
+        | Request::OrderStatus { .. }
+        | Request::StockLevel { .. } => None,
     }
 }
 

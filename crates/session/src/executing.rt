@@ -50,7 +50,15 @@ pub fn execute<R: Wait>(
     match input {
         Input::Payment(payment) => payment::execute(rt, alloc, cells, reader, population, payment),
         Input::NewOrder(order) => neworder::execute(rt, alloc, cells, reader, population, order),
-        Input::Delivery(delivery) => delivery::execute(rt, alloc, cells, reader, population, delivery),
+        Input::Delivery(delivery) => delivery::execute(
+            rt, alloc, cells, reader, population, delivery,
+        ),
+        Input::OrderStatus(query) => queries::order_status(
+            rt, alloc, cells, reader, population, query,
+        ),
+        Input::StockLevel(query) => queries::stock_level(
+            rt, alloc, cells, reader, population, query,
+        ),
     }
 }
 
@@ -65,7 +73,8 @@ pub(crate) fn has_order_number<K: Run>(book: &Book<K>, scale: &Scale, input: &In
 {
     match input {
         Input::NewOrder(order) => has_number(book, scale, order),
-        Input::Payment(_) | Input::Delivery(_) => true,
+        Input::Payment(_) | Input::Delivery(_) | Input::OrderStatus(_) | Input::StockLevel(_) =>
+            true,
     }
 }
 

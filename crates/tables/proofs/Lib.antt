@@ -7,4 +7,5 @@ pub mod LookUps
 pub mod Entries
 pub mod Totals
 pub mod OrderNumbers
+pub mod Named
 mod WorkedRows

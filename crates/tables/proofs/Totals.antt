@@ -23,7 +23,7 @@ module _ {K X : Type 0} (R : K → K → Ordering) where
   below k [] h = tt
   below k (e ∷ es) h = both _ _ (subst (λ (r : Ordering). T (is_lt r)) (sym h.0) tt) (below k es h.1)
 
-  sorted : (es : List (K × X)) → IsStrictlySortedBy R (keys_of es) → T (is_sorted R es)
+  pub sorted : (es : List (K × X)) → IsStrictlySortedBy R (keys_of es) → T (is_sorted R es)
   unfolding IsStrictlySortedBy
   sorted [] h = tt
   sorted (e ∷ es) h = both _ _ (below e.0 es h.0) (sorted es h.1)
@@ -33,11 +33,13 @@ entries_zero [] = refl
 entries_zero (e ∷ es) = ap (λ a. pos 0 +ℤ a) (entries_zero es)
 
 module _ {K X : Type 0} {R : K → K → Ordering} (o : IsExact R) where
+  pub entries_of_sorted : (es : List (K × X)) → T (is_sorted R es) → entries (from_entries {R = R} es) ≡ es
+  entries_of_sorted es s =
+      ap entries (same_map o.total o.same (from_entries es) (from_sorted es) (λ q. get-from_entries o.total es q ∙ sym (get-from_sorted R es q s)))
+      ∙ entries-from_sorted R es s
+
   pub entries-view : (m : BTreeMap K X) → tree.IsOrdered R m → entries (from_entries {R = R} m.entries) ≡ m.entries
-  entries-view m h =
-      let s = sorted R m.entries h in
-      ap entries (same_map o.total o.same (from_entries m.entries) (from_sorted m.entries) (λ q. get-from_entries o.total m.entries q ∙ sym (get-from_sorted R m.entries q s)))
-      ∙ entries-from_sorted R m.entries s
+  entries-view m h = entries_of_sorted m.entries (sorted R m.entries h)
 
   pub total-view : (f : K → X → ℤ) (m : BTreeMap K X) → tree.IsOrdered R m → total f (from_entries {R = R} m.entries) ≡ sum_entries f m.entries
   unfolding total

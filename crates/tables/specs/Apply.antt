@@ -4,6 +4,8 @@ use Rattle.tables.specs.Database.{Database}
 use Rattle.tables.specs.Payment.{after_payment, payment_reply}
 use Rattle.tables.specs.NewOrder.{first_missing, after_new_order, new_order_reply, HasNumber}
 use Rattle.tables.specs.Delivery.{after_delivery, delivery_reply}
+use Rattle.tables.specs.OrderStatus.{order_status_reply}
+use Rattle.tables.specs.StockLevel.{stock_level_reply}
 use Rattle.tables.specs.declared.new_order.NewOrderInput.{NewOrderInput}
 use Rattle.tables.specs.declared.input.Input.{Input}
 use Rattle.tables.specs.declared.input.Input.TheVariants as input
@@ -25,12 +27,16 @@ abbrev pub apply : Database → Input → Outcome
 apply t (input.Payment x) = Committed (after_payment t x) (reply.Payment (payment_reply t x))
 apply t (input.NewOrder x) = order_unless (first_missing t x.lines) t x
 apply t (input.Delivery x) = Committed (after_delivery t x) (reply.Delivery (delivery_reply t x))
+apply t (input.OrderStatus x) = Committed t (reply.OrderStatus (order_status_reply t x))
+apply t (input.StockLevel x) = Committed t (reply.StockLevel (stock_level_reply t x))
 
 -- a transaction's order number is within the order cap, where it makes an order
 abbrev pub HasOrderNumber : Database → Input → Type 0
 HasOrderNumber t (input.Payment x) = Unit {0}
 HasOrderNumber t (input.NewOrder x) = HasNumber t x
 HasOrderNumber t (input.Delivery x) = Unit {0}
+HasOrderNumber t (input.OrderStatus x) = Unit {0}
+HasOrderNumber t (input.StockLevel x) = Unit {0}
 
 -- the tables that an outcome leaves, of those before it: a transaction that is rolled back changes nothing
 abbrev pub left_by : Database → Outcome → Database

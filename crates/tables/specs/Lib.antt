@@ -7,9 +7,12 @@ pub mod OrderNumbers
 pub mod Records
 pub mod Rows
 pub mod Customer
+pub mod Names
 pub mod Payment
 pub mod NewOrder
 pub mod Delivery
+pub mod OrderStatus
+pub mod StockLevel
 pub mod Inputs
 pub mod Apply
 pub mod Conditions

@@ -1,10 +1,10 @@
 -- Payment (TPC-C 2.5): the ranges of its input, what it does to the tables, and its reply.
-use Rattle.std.specs.Prelude.{ℤ, ◌+◌, ◌+ℤ◌, ◌-ℤ◌, ◌≤ℤ◌, ◌==◌, [], ◌∷◌, ◌++◌}
+use Rattle.std.specs.Prelude.{ℕ, ℤ, ◌+◌, ◌+ℤ◌, ◌-ℤ◌, ◌≤ℤ◌, ◌==◌, [], ◌∷◌, ◌++◌}
 use Rattle.tables.specs.Sizes.{Sizes, IsBetween, IsNumber}
 use Rattle.tables.specs.Keys.{is_district, is_customer}
 use Rattle.tables.specs.Maps.{update_where, column}
 use Rattle.tables.specs.Database.{Database}
-use Rattle.tables.specs.Customer.{customer_number}
+use Rattle.tables.specs.Customer.{IsWho, customer_number}
 use Rattle.tables.specs.declared.limits.TheConstants.{MAX_DATE, MIN_PAYMENT, MAX_PAYMENT}
 use Rattle.tables.specs.declared.keys.CustomerKey.{CustomerKey}
 use Rattle.tables.specs.declared.rows.Warehouse.{Warehouse}
@@ -21,13 +21,17 @@ pub record IsPayment (s : Sizes) (x : PaymentInput) : Type 0 where
   pub district : IsNumber s.districts x.district
   pub customer_warehouse : IsNumber s.warehouses x.customer_warehouse
   pub customer_district : IsNumber s.districts x.customer_district
-  pub customer : IsNumber s.customers (customer_number x.who)
+  pub who : IsWho s x.who
   pub at_least : MIN_PAYMENT ≤ℤ x.amount
   pub at_most : x.amount ≤ℤ MAX_PAYMENT
 
--- the customer that pays
-abbrev pub payer : PaymentInput → CustomerKey
-payer x = record { warehouse = x.customer_warehouse; district = x.customer_district; customer = customer_number x.who }
+-- the C_ID of the customer that pays
+abbrev pub payer_number : Database → PaymentInput → ℕ
+payer_number t x = customer_number t (record { warehouse = x.customer_warehouse; district = x.customer_district }) x.who
+
+-- customer c as the one that pays
+abbrev pub payer : PaymentInput → ℕ → CustomerKey
+payer x c = record { warehouse = x.customer_warehouse; district = x.customer_district; customer = c }
 
 -- W_YTD and D_YTD raised by H_AMOUNT
 abbrev pub raised_warehouse : ℤ → Warehouse → Warehouse
@@ -40,10 +44,10 @@ raised_district amount r = record r { year_to_date = r.year_to_date +ℤ amount 
 abbrev pub charged_customer : ℤ → Customer → Customer
 charged_customer amount r = record r { balance = r.balance -ℤ amount; paid = r.paid +ℤ amount; payments = r.payments + 1 }
 
--- the HISTORY row that is added
-abbrev pub history_row : PaymentInput → History
-history_row x = record {
-  customer = customer_number x.who;
+-- the HISTORY row that is added where customer c pays
+abbrev pub history_row : PaymentInput → ℕ → History
+history_row x c = record {
+  customer = c;
   customer_district = x.customer_district;
   customer_warehouse = x.customer_warehouse;
   district = x.district;
@@ -52,22 +56,29 @@ history_row x = record {
   amount = x.amount;
 }
 
--- the tables after it (TPC-C 2.5.2.2)
-abbrev pub after_payment : Database → PaymentInput → Database
-after_payment t x = record t {
+-- the tables after it (TPC-C 2.5.2.2), where customer c pays
+abbrev pub after_payment_of : Database → PaymentInput → ℕ → Database
+after_payment_of t x c = record t {
   warehouses = update_where (λ w. x.warehouse == w) (raised_warehouse x.amount) t.warehouses;
   districts = update_where (is_district x.warehouse x.district) (raised_district x.amount) t.districts;
-  customers = update_where (is_customer x.customer_warehouse x.customer_district (customer_number x.who)) (charged_customer x.amount) t.customers;
-  history = t.history ++ history_row x ∷ [];
+  customers = update_where (is_customer x.customer_warehouse x.customer_district c) (charged_customer x.amount) t.customers;
+  history = t.history ++ history_row x c ∷ [];
 }
 
 -- its reply (TPC-C 2.5.3.3), with C_BALANCE after it
-abbrev pub payment_reply : Database → PaymentInput → PaymentReply
-payment_reply t x = record {
+abbrev pub payment_reply_of : Database → PaymentInput → ℕ → PaymentReply
+payment_reply_of t x c = record {
   warehouse = x.warehouse;
   district = x.district;
   customer_warehouse = x.customer_warehouse;
   customer_district = x.customer_district;
-  customer = customer_number x.who;
-  balance = column (λ r. r.balance) (after_payment t x).customers (payer x);
+  customer = c;
+  balance = column (λ r. r.balance) (after_payment_of t x c).customers (payer x c);
 }
+
+-- both, where the customer that is meant pays
+abbrev pub after_payment : Database → PaymentInput → Database
+after_payment t x = after_payment_of t x (payer_number t x)
+
+abbrev pub payment_reply : Database → PaymentInput → PaymentReply
+payment_reply t x = payment_reply_of t x (payer_number t x)

@@ -33,8 +33,8 @@ pub struct DeliveryReply {
 impl DeliveryInput {
     ghost use Rattle.tables.specs.Delivery.{IsDelivery};
 
-    /// Whether each field is in its range: the date from 1 to 4,000,000,000, the warehouse within the scale, the carrier
-    /// from 1 to 10.
+    /// Whether each field is in its range: the date from 1 to 4,000,000,000, the warehouse within the scale, the
+    /// carrier from 1 to 10.
     pub(crate) fn is_in_range(&self, scale: &Scale) -> bool
         ensures { IsTrue result ↔ IsDelivery scale.now self.now }
     {

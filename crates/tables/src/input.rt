@@ -4,8 +4,10 @@ ghost use Rattle.std.specs.Prelude.{◌≡◌, MatchResult};
 
 use crate::delivery::DeliveryInput;
 use crate::new_order::NewOrderInput;
+use crate::order_status::OrderStatusInput;
 use crate::payment::PaymentInput;
 use crate::scale::Scale;
+use crate::stock_level::StockLevelInput;
 use money::Refusal;
 
 /// The input of a transaction.
@@ -14,15 +16,17 @@ pub enum Input {
     Payment(PaymentInput),
     NewOrder(NewOrderInput),
     Delivery(DeliveryInput),
+    OrderStatus(OrderStatusInput),
+    StockLevel(StockLevelInput),
 }
 
 impl Input {
     ghost use Rattle.tables.specs.Inputs.{IsInput};
     ghost use Rattle.money.specs.declared.refusal.Refusal.TheVariants.{BadInput};
 
-    /// A Payment's input, or `BadInput` exactly where a field is outside its range: warehouses, districts
-    /// and the customer within the scale, the date from 1 to 4,000,000,000, the amount from 1.00 to
-    /// 5,000.00.
+    /// A Payment's input, or `BadInput` exactly where a field is outside its range: warehouses and districts
+    /// within the scale, the customer within it or a last name below the number of customers and below 1,000, the date
+    /// from 1 to 4,000,000,000, the amount from 1.00 to 5,000.00.
     pub fn payment(scale: &Scale, payment: PaymentInput) -> Result<Input, Refusal>
         ensures ranges { let asked = Input.Payment payment in
             MatchResult result (λ input. (input ≡ asked) × IsInput scale.now asked)
@@ -48,8 +52,8 @@ impl Input {
         Ok(Input::NewOrder(new_order))
     }
 
-    /// A Delivery's input, or `BadInput` exactly where a field is outside its range: the warehouse within the scale, the
-    /// date from 1 to 4,000,000,000, the carrier from 1 to 10.
+    /// A Delivery's input, or `BadInput` exactly where a field is outside its range: the warehouse within the scale,
+    /// the date from 1 to 4,000,000,000, the carrier from 1 to 10.
     pub fn delivery(scale: &Scale, delivery: DeliveryInput) -> Result<Input, Refusal>
         ensures ranges { let asked = Input.Delivery delivery in
             MatchResult result (λ input. (input ≡ asked) × IsInput scale.now asked)
@@ -59,5 +63,32 @@ impl Input {
             return Err(Refusal::BadInput);
         }
         Ok(Input::Delivery(delivery))
+    }
+
+    /// An Order-Status's input, or `BadInput` exactly where a field is outside its range: the district within the
+    /// scale, the customer within it or a last name below the number of customers and below 1,000, the date from 1 to
+    /// 4,000,000,000.
+    pub fn order_status(scale: &Scale, query: OrderStatusInput) -> Result<Input, Refusal>
+        ensures ranges { let asked = Input.OrderStatus query in
+            MatchResult result (λ input. (input ≡ asked) × IsInput scale.now asked)
+            (λ refusal. (refusal ≡ BadInput) × ¬ IsInput scale.now asked) }
+    {
+        if !query.is_in_range(scale) {
+            return Err(Refusal::BadInput);
+        }
+        Ok(Input::OrderStatus(query))
+    }
+
+    /// A Stock-Level's input, or `BadInput` exactly where a field is outside its range: the district within the scale,
+    /// the date from 1 to 4,000,000,000, the threshold from 10 to 20.
+    pub fn stock_level(scale: &Scale, query: StockLevelInput) -> Result<Input, Refusal>
+        ensures ranges { let asked = Input.StockLevel query in
+            MatchResult result (λ input. (input ≡ asked) × IsInput scale.now asked)
+            (λ refusal. (refusal ≡ BadInput) × ¬ IsInput scale.now asked) }
+    {
+        if !query.is_in_range(scale) {
+            return Err(Refusal::BadInput);
+        }
+        Ok(Input::StockLevel(query))
     }
 }

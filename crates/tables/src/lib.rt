@@ -10,13 +10,16 @@ mod input;
 mod keys;
 pub mod limits;
 mod located;
+mod names;
 mod new_order;
 mod order_lines;
+mod order_status;
 mod payment;
 mod records;
 mod reply;
 mod rows;
 mod scale;
+mod stock_level;
 mod words;
 
 pub use customer::Who;
@@ -24,8 +27,10 @@ pub use delivery::{DeliveredOrder, DeliveryInput, DeliveryReply};
 pub use input::Input;
 pub use keys::{CustomerKey, DistrictKey, LineKey, OrderKey, StockKey};
 pub use located::key_of;
+pub use names::NameKey;
 pub use new_order::{NewOrderInput, NewOrderReply, RequestedLine, SuppliedLine};
 pub use order_lines::Lines;
+pub use order_status::{LastOrder, OrderStatusInput, OrderStatusReply};
 pub use payment::{PaymentInput, PaymentReply};
 pub use records::{RecordKey, Table, number_of_key, rec, records_have_one_number_each};
 pub use reply::Reply;
@@ -35,6 +40,7 @@ pub use rows::{
 pub use scale::{Scale, is_between};
 use std::alloc::Global;
 use std::collections::BTreeMap;
+pub use stock_level::{StockLevelInput, StockLevelReply};
 pub use words::{money_from_word, money_to_word};
 
 /// The nine tables (TPC-C 1.3): eight maps from key to row, and HISTORY, which has no key, as a list in

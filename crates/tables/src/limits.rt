@@ -52,8 +52,20 @@ pub const MAX_QUANTITY: u32 = 10;
 /// The largest OL_AMOUNT. The smallest is 0.
 pub const MAX_LINE_AMOUNT: i64 = 999_999;
 
+/// How many last names there are (TPC-C 4.3.2.3). A last name is a number below this.
+pub const LAST_NAMES: u32 = 1_000;
+
 /// The largest O_CARRIER_ID (TPC-C 2.7.1.2). The smallest is 1.
 pub const MAX_CARRIER: u32 = 10;
+
+/// How many of a district's orders a Stock-Level looks at (TPC-C 2.8.2.2).
+pub const RECENT_ORDERS: u32 = 20;
+
+/// The smallest threshold of a Stock-Level (TPC-C 2.8.1.2).
+pub const MIN_THRESHOLD: u32 = 10;
+
+/// The largest threshold of a Stock-Level (TPC-C 2.8.1.2).
+pub const MAX_THRESHOLD: u32 = 20;
 
 /// The smallest S_QUANTITY.
 pub const MIN_STOCK: u32 = 10;

@@ -34,18 +34,17 @@ pub struct PaymentReply {
 impl PaymentInput {
     ghost use Rattle.tables.specs.Payment.{IsPayment};
 
-    /// Whether each field is in its range: warehouses, districts and the customer within the scale, the date
-    /// from 1 to 4,000,000,000, the amount from 1.00 to 5,000.00.
+    /// Whether each field is in its range: warehouses and districts within the scale, the customer one who may be
+    /// meant, the date from 1 to 4,000,000,000, the amount from 1.00 to 5,000.00.
     pub(crate) fn is_in_range(&self, scale: &Scale) -> bool
         ensures { IsTrue result ↔ IsPayment scale.now self.now }
     {
-        let Who::Id(customer) = self.who;
         is_between(1, MAX_DATE, self.date)
             && is_between(1, scale.warehouses(), self.warehouse)
             && is_between(1, scale.districts(), self.district)
             && is_between(1, scale.warehouses(), self.customer_warehouse)
             && is_between(1, scale.districts(), self.customer_district)
-            && is_between(1, scale.customers(), customer)
+            && self.who.is_in_range(scale)
             && Cents::new(MIN_PAYMENT) <= self.amount
             && self.amount <= Cents::new(MAX_PAYMENT)
     }

@@ -4,7 +4,9 @@ ghost use Rattle.std.specs.Prelude.{◌≡◌, IfOk};
 
 use crate::delivery::DeliveryReply;
 use crate::new_order::NewOrderReply;
+use crate::order_status::OrderStatusReply;
 use crate::payment::PaymentReply;
+use crate::stock_level::StockLevelReply;
 use std::alloc::AllocError;
 
 /// The reply to a committed transaction.
@@ -13,6 +15,8 @@ pub enum Reply {
     Payment(PaymentReply),
     NewOrder(NewOrderReply),
     Delivery(DeliveryReply),
+    OrderStatus(OrderStatusReply),
+    StockLevel(StockLevelReply),
 }
 
 impl Reply {
@@ -24,6 +28,8 @@ impl Reply {
             Reply::Payment(reply) => Ok(Reply::Payment(*reply)),
             Reply::NewOrder(reply) => Ok(Reply::NewOrder(reply.copied()?)),
             Reply::Delivery(reply) => Ok(Reply::Delivery(reply.copied()?)),
+            Reply::OrderStatus(reply) => Ok(Reply::OrderStatus(reply.copied()?)),
+            Reply::StockLevel(reply) => Ok(Reply::StockLevel(*reply)),
         }
     }
 }

@@ -52,12 +52,34 @@ returns-in-delivery-clause-refusal c =
     let is : c.in_ok-verb.verb.now ≡ codes "delivery" = text_from_reads c.in_ok-verb.verb.now (codes "delivery") (omega arith) (search rules) in
     line_refusal c.args.line.now c.read_delivery.result (behind_verb c.args.line.now _ _ _ _ c.in_ok-verb.ensures is (inr c.read_delivery.ensures))
 
+pub returns-in-status-clause-request : goal.returns-in-status-clause-request
+returns-in-status-clause-request c =
+    let is : c.in_ok-verb.verb.now ≡ codes "status" = text_from_reads c.in_ok-verb.verb.now (codes "status") (omega arith) (search rules) in
+    line_request c.args.line.now c.read_status.result (behind_verb c.args.line.now _ _ _ _ c.in_ok-verb.ensures is (inr c.read_status.ensures))
+
+pub returns-in-status-clause-refusal : goal.returns-in-status-clause-refusal
+returns-in-status-clause-refusal c =
+    let is : c.in_ok-verb.verb.now ≡ codes "status" = text_from_reads c.in_ok-verb.verb.now (codes "status") (omega arith) (search rules) in
+    line_refusal c.args.line.now c.read_status.result (behind_verb c.args.line.now _ _ _ _ c.in_ok-verb.ensures is (inr c.read_status.ensures))
+
+pub returns-in-level-clause-request : goal.returns-in-level-clause-request
+returns-in-level-clause-request c =
+    let is : c.in_ok-verb.verb.now ≡ codes "level" = text_from_reads c.in_ok-verb.verb.now (codes "level") (omega arith) (search rules) in
+    line_request c.args.line.now c.read_level.result (behind_verb c.args.line.now _ _ _ _ c.in_ok-verb.ensures is (inr c.read_level.ensures))
+
+pub returns-in-level-clause-refusal : goal.returns-in-level-clause-refusal
+returns-in-level-clause-refusal c =
+    let is : c.in_ok-verb.verb.now ≡ codes "level" = text_from_reads c.in_ok-verb.verb.now (codes "level") (omega arith) (search rules) in
+    line_refusal c.args.line.now c.read_level.result (behind_verb c.args.line.now _ _ _ _ c.in_ok-verb.ensures is (inr c.read_level.ensures))
+
 pub returns-in_default-clause-refusal : goal.returns-in_default-clause-refusal
 returns-in_default-clause-refusal c =
     let verb = c.in_ok-verb.verb.now in
     let no_payment : verb ≢ codes "payment" = λ e. grind (arith, ap length e) in
     let no_neworder : verb ≢ codes "neworder" = λ e. grind (arith, ap length e) in
     let no_delivery : verb ≢ codes "delivery" = λ e. grind (arith, ap length e) in
+    let no_status : verb ≢ codes "status" = λ e. grind (arith, ap length e) in
+    let no_level : verb ≢ codes "level" = λ e. grind (arith, ap length e) in
     let no_show : verb ≢ codes "show" = λ e. grind (arith, ap length e) in
     let parts = c.in_ok-verb.ensures in
-    line_refusal c.args.line.now (Err BadLine) (inr (subst (λ ws. Answers ws (Err BadLine)) (sym parts) (no_verb (verb ∷ words c.in_ok-verb.rest.now) no_payment no_neworder no_delivery no_show)))
+    line_refusal c.args.line.now (Err BadLine) (inr (subst (λ ws. Answers ws (Err BadLine)) (sym parts) (no_verb (verb ∷ words c.in_ok-verb.rest.now) no_payment no_neworder no_delivery no_status no_level no_show)))

@@ -10,5 +10,6 @@ invariant_of-result c =
     let made = database c.in_ok-tables.tables in record {
       room = has_room c.args.scale made fit c.in_ok-tables.ensures;
       well_formed = is_well_formed c.args.scale made fit c.in_ok-tables.ensures;
+      named = c.in_ok-names.ensures;
       consistent = plain-consistent c.args.scale made fit c.in_ok-tables.ensures;
     }

@@ -1,0 +1,2 @@
+mod Index
+mod Range

@@ -1,0 +1,3 @@
+pub mod Lines
+pub mod SoldItems
+pub mod LowStock

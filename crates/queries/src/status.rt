@@ -1,0 +1,102 @@
+//! An Order-Status on record cells.
+ghost use Rattle.std.specs.Prelude.{◌≡◌, ◌⊎◌, length, IfOk, IfErr};
+ghost use Rattle.tables.specs.Keys.{IsCustomerKey};
+ghost use Rattle.tables.specs.OrderStatus.{IsOrderStatus, asked, asked_number};
+ghost use Rattle.tables.specs.Records.{record_count};
+ghost use Rattle.tables.specs.declared.input.Input.TheVariants as input_variants;
+ghost use Rattle.money.specs.declared.refusal.Refusal.TheVariants.{OutOfMemory, Stale};
+ghost use Rattle.population.specs.Initial.{initial};
+ghost use Rattle.cells.specs.Records.{HasGrown};
+ghost use Rattle.readset.specs.Reads.{ReadSetView, AreRead};
+ghost use Rattle.readset.specs.Explains.{Explains, NoneMayBe, IsWithinLimits};
+
+use crate::last_order::{read_balance, read_last, read_order};
+use cells::{Cells, Reader};
+use money::Refusal;
+use population::Population;
+use readset::{ReadSet, Work, WriteSet};
+use std::alloc::Global;
+use std::sync::Wait;
+use tables::{
+    CustomerKey, DistrictKey, Input, OrderKey, OrderStatusInput, OrderStatusReply, Reply,
+};
+
+/// Executes an Order-Status (TPC-C 2.6.2.2): reads its customer, the number of the customer's last order, and that
+/// order with its lines. No cell changes, and it writes nothing. Costs at most eighteen loads, by last name what
+/// `Population::customer` does, and memory for what it reads and replies, whatever the tables' size.
+///
+/// # Errors
+///
+/// `Stale` only where no well-formed tables of this population have the versions that this call has read;
+/// `OutOfMemory`. After a refusal, too, the reader has seen what it had seen, and perhaps more.
+pub fn order_status<R: Wait>(
+    rt: &R,
+    alloc: Global,
+    cells: &Cells,
+    reader: &mut Reader,
+    population: &Population,
+    query: &OrderStatusInput,
+) -> Result<Work, Refusal>
+    requires input { IsOrderStatus (initial population.now).scale query.now }
+    requires own { reader.old.cells ≡ cells.now }
+    requires cells { length cells.now ≡ record_count (initial population.now).scale }
+    ensures input { IfOk result (λ work. work.input ≡ input_variants.OrderStatus query.now) }
+    ensures read { IfOk result (λ work. AreRead reader.old reader.new work.reads) }
+    ensures explains { IfOk result (λ work. Explains (initial population.now) (input_variants.OrderStatus query.now) work.reads work.writes work.reply) }
+    ensures limits { IfOk result (λ work. IsWithinLimits (length cells.now) work.reads work.writes) }
+    ensures grown { HasGrown reader.old reader.new }
+    ensures refused { IfErr result (λ refusal. (refusal ≡ OutOfMemory) ⊎
+        ((refusal ≡ Stale) × ((reads : ReadSetView) × AreRead reader.old reader.new reads
+        × NoneMayBe (initial population.now) reads))) }
+{
+    let scale = population.scale();
+    let asked = asked_for(population, query);
+    let mut reads = ReadSet::new(alloc);
+    let balance = match read_balance(rt, cells, reader, &mut reads, &scale, asked) {
+        Ok(balance) => balance,
+        Err(refusal) => return Err(refusal),
+    };
+    let number = match read_last(rt, cells, reader, &mut reads, &scale, asked) {
+        Ok(number) => number,
+        Err(refusal) => return Err(refusal),
+    };
+    let key = OrderKey {
+        warehouse: query.warehouse,
+        district: query.district,
+        order: number,
+    };
+    let order = match read_order(rt, alloc, cells, reader, &mut reads, &scale, key) {
+        Ok(order) => order,
+        Err(refusal) => return Err(refusal),
+    };
+    Ok(Work {
+        input: Input::OrderStatus(*query),
+        reads,
+        writes: WriteSet::new(alloc),
+        reply: Reply::OrderStatus(OrderStatusReply {
+            warehouse: query.warehouse,
+            district: query.district,
+            customer: asked.customer,
+            balance,
+            order,
+        }),
+    })
+}
+
+/// The customer that is asked for.
+fn asked_for(population: &Population, query: &OrderStatusInput) -> CustomerKey
+    requires { IsOrderStatus (initial population.now).scale query.now }
+    ensures asked { result ≡ asked query.now (asked_number (initial population.now) query.now) }
+    ensures key { IsCustomerKey (initial population.now).scale result }
+{
+    let home = DistrictKey {
+        warehouse: query.warehouse,
+        district: query.district,
+    };
+    let customer = population.customer(home, query.who);
+    CustomerKey {
+        warehouse: query.warehouse,
+        district: query.district,
+        customer,
+    }
+}
