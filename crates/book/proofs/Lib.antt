@@ -2,7 +2,13 @@ mod Checks
 mod Newest
 mod Held
 mod Stores
+mod Stamped
 mod Sound
+mod Tids
+mod Legal
+mod Taken
+mod Runs
+mod Showing
 pub mod Replaying
 mod Committed
 mod Opened

@@ -1,5 +1,8 @@
 -- A run that begins is sound.
-use Rattle.std.proofs.Common.{◌≡◌, ℕ, ◌<◌, ◌≤◌, Option, Some, None, List, [], ◌∷◌, length, refl, sym, ap, ◌∙◌, subst, arith}
+use Rattle.std.proofs.Common.{◌≡◌, ℕ, ◌<◌, ◌≤◌, Option, Some, None, List, [], ◌∷◌, length, replicate, refl, sym, ap, ◌∙◌, subst, arith}
+use Rattle.std.proofs.lemmas.List.Elements.{All-nil}
+use Rattle.std.proofs.lemmas.List.{length-replicate, get_or-replicate}
+use Rattle.std.specs.Prelude.{slice_index}
 use Rattle.atomic_table.specs.Seated.{TableId}
 use Rattle.tables.specs.Database.{Database}
 use Rattle.tables.specs.Rows.{rows}
@@ -7,15 +10,14 @@ use Rattle.tables.specs.Conditions.{IsConsistent}
 use Rattle.tables.specs.WellFormed.{IsWellFormed, HasRoom}
 use Rattle.tables.specs.declared.limits.TheConstants.{MAX_COMMITS}
 use Rattle.cells.specs.First.{first_version, firsts}
-use Rattle.cells.specs.TidWord.{tid_of}
 use Rattle.cells.specs.Versions.{tid, last_tid, value_in}
 use Rattle.cells.specs.Records.{PenView, at}
 use Rattle.cells.specs.declared.cells.Newest.{Newest}
 use Rattle.records.specs.Newest.{words_at, AreFirst}
 use Rattle.laws.proofs.NamesKept.{IsOf-itself}
-use Rattle.book.specs.History.{commit_word}
 use Rattle.book.specs.Book.{IsSound}
-use Rattle.book.specs.Ready.{IsReady, AreNewest}
+use Rattle.book.specs.Ready.{IsWithin, IsPassed, IsFree, IsReady, AreLast, AreNewest}
+use Rattle.book.specs.declared.epoch.TheConstants.{EPOCH}
 use Rattle.records.proofs.Positions.{at_first}
 use Rattle.book.proofs.Sound.{last_one}
 
@@ -23,9 +25,23 @@ first_value : (w : Option (List ℕ)) → value_in (first_version w) ≡ w
 first_value (Some words) = refl
 first_value None = refl
 
-first_tid : (w : Option (List ℕ)) → tid (first_version w) < tid_of (commit_word 1)
+first_free : (w : Option (List ℕ)) → IsFree (slice_index (first_version w) 0)
+first_free (Some words) = record { unlocked = refl; latest = refl }
+first_free None = record { unlocked = refl; latest = refl }
+
+first_tid : (w : Option (List ℕ)) → tid (first_version w) ≡ 0
 first_tid (Some words) = omega arith
 first_tid None = omega arith
+
+within_first : (tid : ℕ) → tid ≡ 0 → IsWithin EPOCH 0 tid
+within_first tid none = subst (IsWithin EPOCH 0) (sym none) (record { bits = omega arith; in_epoch = omega arith; sequence = omega arith })
+
+-- no terminal has committed
+pub first_lasts : (terminals count : ℕ) (lasts : List ℕ) → lasts ≡ replicate count 0 → count ≡ terminals → AreLast terminals [] lasts
+first_lasts terminals count lasts none all = record {
+  count = ap length none ∙ length-replicate count 0 ∙ all;
+  last = λ terminal h. subst (λ (l : List ℕ). slice_index l terminal ≡ 0) (sym none) (get_or-replicate count terminal 0 _ (subst (λ n. terminal < n) (ap length none ∙ length-replicate count 0) h));
+}
 
 module _ (t0 : Database) (run_cells : List TableId) (pen : PenView) (newest : List Newest) (are : AreFirst t0 newest) (count : length run_cells ≡ length newest)
     (fresh : pen ≡ record { cells = run_cells; all = firsts newest })
@@ -45,6 +61,7 @@ module _ (t0 : Database) (run_cells : List TableId) (pen : PenView) (newest : Li
     pub first_sound : IsWellFormed t0 → IsConsistent t0 → IsSound t0 run_cells (record { written = pen; history = [] }) t0
     first_sound well_formed consistent = record {
       legal = record { replays = tt; end = refl };
+      stamped = tt;
       well_formed = well_formed;
       consistent = consistent;
       versions = first;
@@ -56,7 +73,10 @@ module _ (t0 : Database) (run_cells : List TableId) (pen : PenView) (newest : Li
       of_population = IsOf-itself t0;
       cells = ap (λ (w : PenView). w.cells) fresh;
       count = count ∙ are.count;
-      smaller = λ n h. subst (λ (l : List (List ℕ)). last_tid l < tid_of (commit_word 1)) (sym (first n h)) (first_tid (rows t0 n));
+      passed = All-nil (IsPassed EPOCH (record { written = pen; history = [] }));
+      records = λ n h. within_first (last_tid (at pen.all n)) (ap last_tid (first n h) ∙ first_tid (rows t0 n));
+      terminals = λ terminal. within_first 0 refl;
+      free = λ n h v e. subst (λ (u : List ℕ). IsFree (slice_index u 0)) (sym (last_one e.0 [] v (first_version (rows t0 n)) (sym e.1 ∙ first n h))) (first_free (rows t0 n));
       cap = omega arith;
       few = few;
       room = room;

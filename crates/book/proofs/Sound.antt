@@ -1,7 +1,8 @@
 -- A commit keeps the book sound.
-use Rattle.std.proofs.Common.{◌≡◌, ◌≢◌, ℕ, ◌+◌, ◌-◌, ◌*◌, ◌/◌, ◌%◌, ◌^◌, ◌<◌, ◌≤◌, Bool, true, false, cond, Option, Some, None, IsSome, List, [], ◌∷◌, ◌++◌, length, replicate, refl, sym, ap, ◌∙◌, subst, arith, length-append, ◌==◌, eqb}
+use Rattle.std.proofs.Common.{◌≡◌, ℕ, ◌+◌, ◌-◌, ◌/◌, ◌%◌, ◌^◌, ◌<◌, ◌≤◌, cond, Option, Some, None, IsSome, List, [], ◌∷◌, ◌++◌, length, replicate, refl, sym, ap, ◌∙◌, subst, arith, length-append, ◌==◌, inl, inr, ⊎_elim, ◌≢◌, is_some, true≢false}
 use Rattle.std.proofs.lemmas.List.{append-nil, append_assoc}
 use Rattle.std.specs.Option.{option_map_or, unwrap_or}
+use Rattle.std.specs.Prelude.{slice_index}
 use Rattle.atomic_table.specs.Seated.{TableId}
 use Rattle.tables.specs.Sizes.{Sizes}
 use Rattle.tables.specs.Database.{Database}
@@ -15,54 +16,48 @@ use Rattle.tables.specs.Rows.{rows}
 use Rattle.tables.specs.WellFormed.{HasRoom}
 use Rattle.tables.specs.declared.limits.TheConstants.{MAX_COMMITS}
 use Rattle.laws.proofs.Kept.{after-IsWellFormed, after-HasRoom, after-IsConsistent, after-IsOf}
-use Rattle.cells.specs.TidWord.{tid_of}
+use Rattle.std.proofs.lemmas.Bool.{cases_eq, eq-eqb, ne_eqb}
+use Rattle.tidword.proofs.Words.{installed-tid, installed-present, installed-absent}
 use Rattle.cells.specs.First.{first_version}
 use Rattle.cells.specs.Versions.{EndsWith, tid, last_tid, value_in}
 use Rattle.cells.specs.Records.{PenView, ReaderView, at, words_of}
-use Rattle.cells.proofs.Rising.{last_tid-push}
+use Rattle.cells.proofs.Rising.{last_tid-push, last_tid-last}
 use Rattle.readset.specs.Writes.{rows_with, value_for}
 use Rattle.readset.specs.Reads.{held}
 use Rattle.readset.specs.Explains.{Agrees, MayBe, IsNumbered}
 use Rattle.readset.specs.declared.work.Work.{Work}
-use Rattle.book.specs.History.{replay, commit_tid, commit_word, absent_word, IsDone, Replays, IsLegal, version_of, new_versions, entry_versions, later_versions}
-use Rattle.book.specs.Book.{BookView, IsSound, IsWorkOf, AreLatest, entry_of}
-use Rattle.book.specs.Ready.{IsReady}
+use Rattle.book.specs.History.{replay, IsDone, IsLegal, version_of, new_versions, entry_versions, later_versions}
+use Rattle.book.specs.Book.{BookView, IsSound, IsWorkOf, IsRead, AreLatest, entry_of}
+use Rattle.book.specs.Stamps.{last_of}
+use Rattle.book.specs.Ready.{IsReady, IsWithin, IsFree}
+use Rattle.book.specs.declared.epoch.TheConstants.{EPOCH}
+use Rattle.book.proofs.Stamped.{all_stamped, all_passed, last_here, last_there, within_more}
 use Rattle.book.specs.declared.entry.Entry.{Entry}
-use Rattle.book.proofs.Replaying.{replay_push}
+use Rattle.book.proofs.Replaying.{replay_push, replays_push}
 
 -- one entry more
-replays_push : (n : ℕ) (t : Database) (es : List Entry) (e : Entry) → Replays n t es → e.number ≡ n + length es → e.tid ≡ commit_tid (n + length es) → IsDone (replay t es) e → Replays n t (es ++ e ∷ [])
-replays_push n t [] e h number tid done = (number ∙ Rattle.std.proofs.Common.add-zero n, tid ∙ ap commit_tid (Rattle.std.proofs.Common.add-zero n), done, tt)
-replays_push n t (f ∷ es) e h number tid done =
-    (h.0, h.1, h.2, replays_push (n + 1) (after t f.input) es e h.3 (number ∙ shifted n (length es)) (tid ∙ ap commit_tid (shifted n (length es))) done)
-  where
-    shifted : (n m : ℕ) → n + Rattle.std.proofs.Common.suc m ≡ n + 1 + m
-    shifted n m = omega arith
-
 later_push : (es : List Entry) (e : Entry) (n : ℕ) → later_versions (es ++ e ∷ []) n ≡ later_versions es n ++ entry_versions e n
 later_push [] e n = append-nil (entry_versions e n)
 later_push (f ∷ es) e n = ap (λ l. entry_versions f n ++ l) (later_push es e n) ∙ sym (append_assoc (entry_versions f n) (later_versions es n) (entry_versions e n))
 
--- TID words of commits
-tid_commit : (n : ℕ) → tid_of (commit_word n) ≡ (536870912 + n) * 8
-tid_commit n = omega arith
+-- what a version that a commit stores says
+tid_version : (tid_is : ℕ) (value : Option (List ℕ)) → tid_is % 8 ≡ 0 → tid (version_of tid_is value) ≡ tid_is
+tid_version tid_is value bits = installed-tid tid_is value bits
 
-tid_absent : (n : ℕ) → tid_of (absent_word n) ≡ (536870912 + n) * 8
-tid_absent n = omega arith
+pub value_in_version : (tid_is : ℕ) (value : Option (List ℕ)) → tid_is % 8 ≡ 0 → value_in (version_of tid_is value) ≡ value
+value_in_version tid_is (Some words) bits = ap (λ k. cond (k == 0) (Some words) None) (installed-present tid_is words bits)
+value_in_version tid_is None bits = ap (λ k. cond (k == 0) (Some (replicate 7 0)) None) (installed-absent (List ℕ) tid_is bits)
 
-tid_version : (n : ℕ) (value : Option (List ℕ)) → tid (version_of n value) ≡ (536870912 + n) * 8
-tid_version n (Some words) = tid_commit n
-tid_version n None = tid_absent n
-
-present : (n : ℕ) → commit_word n / 4 % 2 ≡ 0
-present n = omega arith
-
-gone : (n : ℕ) → absent_word n / 4 % 2 ≡ 1
-gone n = omega arith
-
-value_in_version : (n : ℕ) (value : Option (List ℕ)) → value_in (version_of n value) ≡ value
-value_in_version n (Some words) = ap (λ k. cond (k == 0) (Some words) None) (present n)
-value_in_version n None = ap (λ k. cond (k == 0) (Some (replicate 7 0)) None) (gone n)
+-- and its word
+free_version : (tid_is : ℕ) (value : Option (List ℕ)) → tid_is % 8 ≡ 0 → IsFree (slice_index (version_of tid_is value) 0)
+free_version tid_is (Some words) bits = record {
+  unlocked = ne_eqb ((tid_is + 2) % 2) 1 (λ (e : (tid_is + 2) % 2 ≡ 1). omega (arith, bits, e));
+  latest = eq-eqb ((tid_is + 2) / 2 % 2) 1 (omega (arith, bits));
+}
+free_version tid_is None bits = record {
+  unlocked = ne_eqb ((tid_is + 6) % 2) 1 (λ (e : (tid_is + 6) % 2 ≡ 1). omega (arith, bits, e));
+  latest = eq-eqb ((tid_is + 6) / 2 % 2) 1 (omega (arith, bits));
+}
 
 pub last_one : (xs ys : List (List ℕ)) (a b : List ℕ) → xs ++ a ∷ [] ≡ ys ++ b ∷ [] → a ≡ b
 last_one xs ys a b e = sym (end xs a) ∙ ap last_of e ∙ end ys b
@@ -93,25 +88,34 @@ module _ (t0 : Database) (run_cells : List TableId) (k : BookView) (t : Database
   pub input_of : IsInput t.scale work.input
   input_of = subst (λ s. IsInput s work.input) (sym ready.of_population.scale) is_work.input
 
-  -- it is done at the tables that the history leads to, as any entry of it, whether it commits or not
-  pub done_there : (number terminal : ℕ) → IsDone (replay t0 k.history) (entry_of number terminal work)
-  done_there number terminal = subst (λ s. IsDone s (entry_of number terminal work)) (sym sound.legal.end) (record { input = input_of; commit = is_work.explained t may_be })
+  -- it is done at the tables that the history leads to, whether it commits or not
+  pub done_there : IsDone (replay t0 k.history) work.input work.writes work.reply
+  done_there = subst (λ s. IsDone s work.input work.writes work.reply) (sym sound.legal.end) (record { input = input_of; commit = is_work.explained t may_be })
 
-  module _ (terminal : ℕ) (new : PenView) (below_cap : length k.history < t0.scale.commits) (cells : new.cells ≡ k.written.cells)
-      (stores : (n : ℕ) → at new.all n ≡ at k.written.all n ++ new_versions (length k.history + 1) work.writes.values n) where
-    number : ℕ
-    number = length k.history + 1
+  -- a TID that a version read has is its record's last
+  pub read_within : (seen : ℕ) → IsRead work.reads seen → IsWithin EPOCH (length k.history) seen
+  read_within seen (inl none) = subst (IsWithin EPOCH (length k.history)) (sym none) (record { bits = omega arith; in_epoch = omega arith; sequence = omega arith })
+  read_within seen (inr read) =
+      subst (IsWithin EPOCH (length k.history)) (last_tid-last (at k.written.all read.0) (words_of read.1) (latest read.0 read.1 read.2) ∙ sym read.3) (ready.records read.0 (is_work.read.within read.0 read.1 read.2))
 
-    entry : Entry
-    entry = entry_of (length k.history + 1) terminal work
+  module _ (terminal tid_is : ℕ) (new : PenView) (below_cap : length k.history < t0.scale.commits) (cells : new.cells ≡ k.written.cells)
+      (within : IsWithin EPOCH (length k.history + 1) tid_is) (in_epoch : tid_is / 2 ^ 32 ≡ EPOCH)
+      (above_last : last_of terminal k.history < tid_is)
+      (above : (n : ℕ) (value : Option (List ℕ)) → value_for work.writes n ≡ Some value → last_tid (at k.written.all n) < tid_is)
+      (stores : (n : ℕ) → at new.all n ≡ at k.written.all n ++ new_versions tid_is work.writes.values n) where
+    abbrev entry : Entry
+    entry = entry_of (length k.history + 1) tid_is terminal work
 
-    longer : length (k.history ++ entry_of (length k.history + 1) terminal work ∷ []) ≡ length k.history + 1
-    longer = length-append k.history (entry_of (length k.history + 1) terminal work ∷ [])
+    abbrev kept : BookView
+    kept = record { written = new; history = k.history ++ entry ∷ [] }
 
-    legal : IsLegal t0 (k.history ++ entry_of (length k.history + 1) terminal work ∷ []) (after t work.input)
+    longer : length (k.history ++ entry ∷ []) ≡ length k.history + 1
+    longer = length-append k.history (entry ∷ [])
+
+    legal : IsLegal t0 (k.history ++ entry ∷ []) (after t work.input)
     legal = record {
-      replays = replays_push 1 t0 k.history (entry_of (length k.history + 1) terminal work) sound.legal.replays (turned (length k.history)) (ap commit_tid (turned (length k.history))) (done_there (length k.history + 1) terminal);
-      end = replay_push t0 k.history (entry_of (length k.history + 1) terminal work) ∙ ap (λ s. after s work.input) sound.legal.end;
+      replays = replays_push 1 t0 k.history entry sound.legal.replays (turned (length k.history)) done_there;
+      end = replay_push t0 k.history entry ∙ ap (λ s. after s work.input) sound.legal.end;
     }
       where
         turned : (n : ℕ) → n + 1 ≡ 1 + n
@@ -120,62 +124,93 @@ module _ (t0 : Database) (run_cells : List TableId) (k : BookView) (t : Database
     roomy : HasRoom (MAX_COMMITS - (length k.history + 1) + 1) t
     roomy = subst (λ n. HasRoom n t) (rest_of (length k.history) (omega (arith, below_cap, ready.few))) ready.room
 
-    last_values : (n : ℕ) → n < length run_cells → (v : List ℕ) → EndsWith (at new.all n) v → value_in v ≡ rows (after t work.input) n
-    last_values n h v e =
+    -- a record that isn't written, and one that is
+    unchanged : (n : ℕ) → value_for work.writes n ≡ None → at new.all n ≡ at k.written.all n
+    unchanged n none = stores n ∙ ap (λ w. at k.written.all n ++ option_map_or (λ value. version_of tid_is value ∷ []) w []) none ∙ append-nil (at k.written.all n)
+
+    changed : (n : ℕ) (value : Option (List ℕ)) → value_for work.writes n ≡ Some value → at new.all n ≡ at k.written.all n ++ version_of tid_is value ∷ []
+    changed n value some = stores n ∙ ap (λ w. at k.written.all n ++ option_map_or (λ x. version_of tid_is x ∷ []) w []) some
+
+    last_value : (n : ℕ) → n < length run_cells → (v : List ℕ) → EndsWith (at new.all n) v → value_in v ≡ rows (after t work.input) n
+    last_value n h v e =
         let small : n < record_count t.scale = subst (λ (s : Sizes). n < record_count s) (sym ready.of_population.scale) (subst (λ m. n < m) ready.count h) in
-        let changed : rows (after t work.input) n ≡ rows_with work.writes (rows t) n = (is_work.explained t may_be).rows n small in
+        let leaves : rows (after t work.input) n ≡ rows_with work.writes (rows t) n = (is_work.explained t may_be).rows n small in
         elim (value_for work.writes n) as (λ w. value_for work.writes n ≡ w → value_in v ≡ rows (after t work.input) n) [
-          | None ↦ λ none.
-              let same : at new.all n ≡ at k.written.all n = stores n ∙ ap (λ w. at k.written.all n ++ option_map_or (λ value. version_of (length k.history + 1) value ∷ []) w []) none ∙ append-nil (at k.written.all n) in
-              sound.latest n h v (subst (λ (l : List (List ℕ)). EndsWith l v) same e) ∙ sym (changed ∙ ap (λ w. unwrap_or w (rows t n)) none)
-          | Some value ↦ λ some.
-              let more : at new.all n ≡ at k.written.all n ++ version_of (length k.history + 1) value ∷ [] = stores n ∙ ap (λ w. at k.written.all n ++ option_map_or (λ x. version_of (length k.history + 1) x ∷ []) w []) some in
-              ap value_in (last_one e.0 (at k.written.all n) v (version_of (length k.history + 1) value) (sym e.1 ∙ more)) ∙ value_in_version (length k.history + 1) value
-              ∙ sym (changed ∙ ap (λ w. unwrap_or w (rows t n)) some)
+          | None ↦ λ none. sound.latest n h v (subst (λ (l : List (List ℕ)). EndsWith l v) (unchanged n none) e) ∙ sym (leaves ∙ ap (λ w. unwrap_or w (rows t n)) none)
+          | Some value ↦ λ some. ap value_in (last_one e.0 (at k.written.all n) v (version_of tid_is value) (sym e.1 ∙ changed n value some)) ∙ value_in_version tid_is value within.bits
+              ∙ sym (leaves ∙ ap (λ w. unwrap_or w (rows t n)) some)
         ] refl
 
-    last_tids : (n : ℕ) → n < length run_cells → last_tid (at new.all n) < tid_of (commit_word (length (k.history ++ entry_of (length k.history + 1) terminal work ∷ []) + 1))
-    last_tids n h =
-        let next : tid_of (commit_word (length (k.history ++ entry_of (length k.history + 1) terminal work ∷ []) + 1)) ≡ (536870912 + (length k.history + 1 + 1)) * 8 = tid_commit _ ∙ ap (λ m. (536870912 + (m + 1)) * 8) longer in
-        elim (value_for work.writes n) as (λ w. value_for work.writes n ≡ w → last_tid (at new.all n) < tid_of (commit_word (length (k.history ++ entry_of (length k.history + 1) terminal work ∷ []) + 1))) [
-          | None ↦ λ none.
-              let same : at new.all n ≡ at k.written.all n = stores n ∙ ap (λ w. at k.written.all n ++ option_map_or (λ value. version_of (length k.history + 1) value ∷ []) w []) none ∙ append-nil (at k.written.all n) in
-              let old : last_tid (at k.written.all n) < tid_of (commit_word (length k.history + 1)) = ready.smaller n h in
-              grows (last_tid (at new.all n)) (last_tid (at k.written.all n)) (tid_of (commit_word (length k.history + 1))) _ (length k.history) (ap last_tid same) old (tid_commit (length k.history + 1)) next
-          | Some value ↦ λ some.
-              let more : at new.all n ≡ at k.written.all n ++ version_of (length k.history + 1) value ∷ [] = stores n ∙ ap (λ w. at k.written.all n ++ option_map_or (λ x. version_of (length k.history + 1) x ∷ []) w []) some in
-              above (last_tid (at new.all n)) _ (length k.history) (ap last_tid more ∙ last_tid-push (at k.written.all n) (version_of (length k.history + 1) value) ∙ tid_version (length k.history + 1) value) next
+    last_free : (n : ℕ) → n < length run_cells → (v : List ℕ) → EndsWith (at new.all n) v → IsFree (slice_index v 0)
+    last_free n h v e =
+        elim (value_for work.writes n) as (λ w. value_for work.writes n ≡ w → IsFree (slice_index v 0)) [
+          | None ↦ λ none. ready.free n h v (subst (λ (l : List (List ℕ)). EndsWith l v) (unchanged n none) e)
+          | Some value ↦ λ some. subst (λ (u : List ℕ). IsFree (slice_index u 0)) (sym (last_one e.0 (at k.written.all n) v (version_of tid_is value) (sym e.1 ∙ changed n value some))) (free_version tid_is value within.bits)
         ] refl
+
+    written_tid : (n : ℕ) (value : Option (List ℕ)) → value_for work.writes n ≡ Some value → last_tid (at new.all n) ≡ tid_is
+    written_tid n value some = ap last_tid (changed n value some) ∙ last_tid-push (at k.written.all n) (version_of tid_is value) ∙ tid_version tid_is value within.bits
+
+    -- what holds of a record's last TID before, or of the commit's, holds of its last TID after
+    by_record : (P : ℕ → Type 0) (n : ℕ) → (value_for work.writes n ≡ None → P (last_tid (at k.written.all n))) → ((value : Option (List ℕ)) → value_for work.writes n ≡ Some value → P tid_is) → P (last_tid (at new.all n))
+    by_record P n was is = elim (value_for work.writes n) as (λ w. value_for work.writes n ≡ w → P (last_tid (at new.all n))) [
+      | None ↦ λ none. subst P (sym (ap last_tid (unchanged n none))) (was none)
+      | Some value ↦ λ some. subst P (sym (written_tid n value some)) (is value some)
+    ] refl
+
+    grows : (n : ℕ) → last_tid (at k.written.all n) ≤ last_tid (at new.all n)
+    grows n = by_record (λ m. last_tid (at k.written.all n) ≤ m) n (λ _. same (last_tid (at k.written.all n))) (λ value some. less (last_tid (at k.written.all n)) (above n value some))
       where
-        grows : (a b c d m : ℕ) → a ≡ b → b < c → c ≡ (536870912 + (m + 1)) * 8 → d ≡ (536870912 + (m + 1 + 1)) * 8 → a < d
-        grows a b c d m p q r s = omega arith
+        same : (m : ℕ) → m ≤ m
+        same m = omega arith
 
-        above : (a d m : ℕ) → a ≡ (536870912 + (m + 1)) * 8 → d ≡ (536870912 + (m + 1 + 1)) * 8 → a < d
-        above a d m p q = omega arith
+        less : (m : ℕ) → m < tid_is → m ≤ tid_is
+        less m h = omega (arith, h)
 
-    abbrev kept : BookView
-    kept = record { written = new; history = k.history ++ entry_of (length k.history + 1) terminal work ∷ [] }
+    -- of what is some, a value
+    value_of_some : (n : ℕ) → IsSome (value_for work.writes n) → (value : Option (List ℕ)) × (value_for work.writes n ≡ Some value)
+    value_of_some n some = elim (value_for work.writes n) as (λ w. value_for work.writes n ≡ w → (value : Option (List ℕ)) × (value_for work.writes n ≡ Some value)) [
+      | None ↦ λ none. absurd (true≢false (sym some ∙ ap is_some none))
+      | Some value ↦ λ is. (value, is)
+    ] refl
 
-    sound_next : IsSound t0 run_cells kept (after t work.input)
-    sound_next = record {
+    above_records : (n : ℕ) → IsSome (value_for work.writes n) → last_tid (at k.written.all n) < tid_is
+    above_records n some = let v = value_of_some n some in above n v.0 v.1
+
+    written_records : (n : ℕ) → IsSome (value_for work.writes n) → last_tid (at new.all n) ≡ tid_is
+    written_records n some = let v = value_of_some n some in written_tid n v.0 v.1
+
+    from_epoch : EPOCH ≤ tid_is / 2 ^ 32
+    from_epoch = omega (arith, in_epoch)
+
+    pub next_sound : IsSound t0 run_cells kept (after t work.input)
+    next_sound = record {
       legal = legal;
+      stamped = all_stamped EPOCH k kept entry refl from_epoch above_last above_records written_records grows within.bits sound.stamped ready.passed;
       well_formed = after-IsWellFormed t work.input (MAX_COMMITS - (length k.history + 1)) input_of (is_work.explained t may_be).numbered sound.well_formed sound.consistent roomy;
       consistent = after-IsConsistent t work.input input_of sound.well_formed sound.consistent;
-      versions = λ n h. stores n ∙ ap (λ (l : List (List ℕ)). l ++ new_versions (length k.history + 1) work.writes.values n) (sound.versions n h)
-          ∙ ap (λ l. first_version (rows t0 n) ∷ l) (sym (later_push k.history (entry_of (length k.history + 1) terminal work) n));
-      latest = last_values;
+      versions = λ n h. stores n ∙ ap (λ (l : List (List ℕ)). l ++ new_versions tid_is work.writes.values n) (sound.versions n h)
+          ∙ ap (λ l. first_version (rows t0 n) ∷ l) (sym (later_push k.history entry n));
+      latest = last_value;
     }
 
-    ready_next : IsReady t0 run_cells kept (after t work.input)
-    ready_next = record {
+    terminals_within : (one : ℕ) → IsWithin EPOCH (length k.history + 1) (last_of one (k.history ++ entry ∷ []))
+    terminals_within one = ⊎_elim
+        (λ (same : terminal ≡ one). subst (IsWithin EPOCH (length k.history + 1)) (sym (last_here k.history entry one same)) within)
+        (λ (other : terminal ≢ one). subst (IsWithin EPOCH (length k.history + 1)) (sym (last_there k.history entry one other)) (within_more EPOCH (length k.history) _ (ready.terminals one)))
+        (cases_eq terminal one)
+
+    pub next_ready : IsReady t0 run_cells kept (after t work.input)
+    next_ready = record {
       of_population = after-IsOf t0 t work.input ready.of_population;
       cells = cells ∙ ready.cells;
       count = ready.count;
-      smaller = last_tids;
+      passed = all_passed EPOCH k kept entry refl from_epoch above_last above_records written_records grows within.in_epoch ready.passed;
+      records = λ n h. subst (λ m. IsWithin EPOCH m (last_tid (at new.all n))) (sym longer)
+          (by_record (IsWithin EPOCH (length k.history + 1)) n (λ _. within_more EPOCH (length k.history) _ (ready.records n h)) (λ _ _. within));
+      terminals = λ one. subst (λ m. IsWithin EPOCH m (last_of one (k.history ++ entry ∷ []))) (sym longer) (terminals_within one);
+      free = last_free;
       cap = subst (λ n. n ≤ t0.scale.commits) (sym longer) (omega (arith, below_cap));
       few = ready.few;
       room = subst (λ n. HasRoom (MAX_COMMITS - n) (after t work.input)) (sym longer) (after-HasRoom t work.input (MAX_COMMITS - (length k.history + 1)) input_of sound.well_formed roomy);
     }
-
-    pub next_sound : IsSound t0 run_cells kept (after t work.input) × IsReady t0 run_cells kept (after t work.input)
-    next_sound = (sound_next, ready_next)

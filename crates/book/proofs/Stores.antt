@@ -11,7 +11,7 @@ use Rattle.std.specs.List.{All, AllByRecursion}
 use Rattle.std.specs.List.Sorted.{IsStrictlySortedBy}
 use Rattle.std.specs.declared.cmp.Ordering.{Ordering}
 use Rattle.std.specs.declared.cmp.Ordering.TheVariants.{Less}
-use Rattle.cells.specs.TidWord.{tid_of}
+use Rattle.tidword.specs.TidWord.{tid_of}
 use Rattle.cells.specs.Versions.{Has, last_tid}
 use Rattle.cells.specs.Records.{PenView, ReaderView, at, words_of, StoresVersion, LearnsRecord, HasGrown}
 use Rattle.cells.specs.declared.cells.Version.{Version}
@@ -21,7 +21,7 @@ use Rattle.readset.specs.Reads.{ReadSetView, held}
 use Rattle.readset.specs.Writes.{WriteSetView, value_for}
 use Rattle.readset.specs.Explains.{WritesAreRead}
 use Rattle.readset.proofs.Numbers.{same_test, other_test}
-use Rattle.book.specs.History.{commit_word, version_of, new_versions}
+use Rattle.book.specs.History.{version_of, new_versions}
 use Rattle.book.specs.Book.{HasSeen, IsReadBy}
 
 abbrev Values : Type 0
@@ -52,30 +52,30 @@ pub never_none : {X : Type 0} (w : Option X) → w ≡ None → IsSome w → ⊥
 never_none w e s = true≢false (sym s ∙ ap is_some e)
 
 -- the writes before the rest are stored, and the reader has seen them
-pub record AreStored (number : ℕ) (pen0 : PenView) (r0 : ReaderView) (writes : WriteSetView) (pen : PenView) (r : ReaderView) (rest : Values) : Type 0 where
+pub record AreStored (tid : ℕ) (pen0 : PenView) (r0 : ReaderView) (writes : WriteSetView) (pen : PenView) (r : ReaderView) (rest : Values) : Type 0 where
   pub own : pen.cells ≡ pen0.cells
   pub grown : HasGrown r0 r
   pub found : All (λ e. value_for writes e.0 ≡ Some e.1) rest
   pub sorted : IsStrictlySortedBy nat_cmp (keys_of rest)
   pub waiting : (n : ℕ) → IsSome (find n rest) → at pen.all n ≡ at pen0.all n
-  pub done : (n : ℕ) → find n rest ≡ None → at pen.all n ≡ at pen0.all n ++ new_versions number writes.values n
+  pub done : (n : ℕ) → find n rest ≡ None → at pen.all n ≡ at pen0.all n ++ new_versions tid writes.values n
   pub seen : (n : ℕ) → find n rest ≡ None → IsSome (value_for writes n) → at r.seen n ≡ at pen.all n
 
-pub begins : (number : ℕ) (pen0 : PenView) (r0 : ReaderView) (writes : WriteSetView) (rest : Values) → rest ≡ writes.values
-    → All (λ e. value_for writes e.0 ≡ Some e.1) writes.values → IsStrictlySortedBy nat_cmp (keys_of writes.values) → AreStored number pen0 r0 writes pen0 r0 rest
-begins number pen0 r0 writes rest e found sorted = record {
+pub begins : (tid : ℕ) (pen0 : PenView) (r0 : ReaderView) (writes : WriteSetView) (rest : Values) → rest ≡ writes.values
+    → All (λ e. value_for writes e.0 ≡ Some e.1) writes.values → IsStrictlySortedBy nat_cmp (keys_of writes.values) → AreStored tid pen0 r0 writes pen0 r0 rest
+begins tid pen0 r0 writes rest e found sorted = record {
   own = refl;
   grown = grown_itself r0;
   found = subst (All (λ e. value_for writes e.0 ≡ Some e.1)) (sym e) found;
   sorted = subst (λ (q : Values). IsStrictlySortedBy nat_cmp (keys_of q)) (sym e) sorted;
   waiting = λ n h. refl;
-  done = λ n h. sym (ap (λ (w : Option (Option (List ℕ))). at pen0.all n ++ option_map_or (λ value. version_of number value ∷ []) w []) (ap (find n) (sym e) ∙ h) ∙ append-nil (at pen0.all n));
+  done = λ n h. sym (ap (λ (w : Option (Option (List ℕ))). at pen0.all n ++ option_map_or (λ value. version_of tid value ∷ []) w []) (ap (find n) (sym e) ∙ h) ∙ append-nil (at pen0.all n));
   seen = λ n h s. absurd (never_none (find n rest) h (subst (λ (q : Values). IsSome (find n q)) (sym e) s));
 }
 
-module _ (cells : ℕ) (number : ℕ) (pen0 : PenView) (r0 : ReaderView) (reads : ReadSetView) (writes : WriteSetView) (by : IsReadBy cells r0 reads) (are_read : WritesAreRead writes reads)
-    (smaller : (n : ℕ) → n < cells → last_tid (at pen0.all n) < tid_of (commit_word number))
-    (pen : PenView) (r : ReaderView) (rest : Values) (c : AreStored number pen0 r0 writes pen r rest)
+module _ (cells : ℕ) (tid : ℕ) (pen0 : PenView) (r0 : ReaderView) (reads : ReadSetView) (writes : WriteSetView) (by : IsReadBy cells r0 reads) (are_read : WritesAreRead writes reads)
+    (above : (n : ℕ) (value : Option (List ℕ)) → value_for writes n ≡ Some value → last_tid (at pen0.all n) < tid)
+    (pen : PenView) (r : ReaderView) (rest : Values) (c : AreStored tid pen0 r0 writes pen r rest)
     (m : ℕ) (value : Option (List ℕ)) (next : Values) (steps : rest ≡ (m, value) ∷ next) where
   sorted : IsStrictlySortedBy nat_cmp (keys_of ((m, value) ∷ next))
   sorted = subst (λ (q : Values). IsStrictlySortedBy nat_cmp (keys_of q)) steps c.sorted
@@ -96,8 +96,8 @@ module _ (cells : ℕ) (number : ℕ) (pen0 : PenView) (r0 : ReaderView) (reads 
   fresh : at pen.all m ≡ at pen0.all m
   fresh = c.waiting m (ap is_some (ap (find m) steps ∙ found_first m m value next refl))
 
-  pub larger : (word : ℕ) → tid_of word ≡ tid_of (commit_word number) → last_tid (at pen.all m) < tid_of word
-  larger word e = subst (λ (q : List (List ℕ) × ℕ). last_tid q.0 < q.1) (λ i. (sym fresh i, sym e i)) (smaller m within)
+  pub larger : (word : ℕ) → tid_of word ≡ tid → last_tid (at pen.all m) < tid_of word
+  larger word e = subst (λ (q : List (List ℕ) × ℕ). last_tid q.0 < q.1) (λ i. (sym fresh i, sym e i)) (above m value here)
 
   -- what `meet` asks for, of the version held
   module _ (v : Version) (v_is : held reads m ≡ Some v) where
@@ -110,20 +110,20 @@ module _ (cells : ℕ) (number : ℕ) (pen0 : PenView) (r0 : ReaderView) (reads 
     pub has : Has (at r.seen v.record) (words_of v)
     has = subst (λ q. Has (at r.seen q) (words_of v)) (sym record_is) (has_more (at r.seen m) (at r0.seen m) (words_of v) (c.grown.grows m) (by.seen m v v_is))
 
-    module _ (version : List ℕ) (version_is : version ≡ version_of number value) (pen' pen'' : PenView) (r' : ReaderView) (wrote : StoresVersion pen pen' m version) (same : pen'' ≡ pen') (learns : LearnsRecord pen' r r' v.record) where
+    module _ (version : List ℕ) (version_is : version ≡ version_of tid value) (pen' pen'' : PenView) (r' : ReaderView) (wrote : StoresVersion pen pen' m version) (same : pen'' ≡ pen') (learns : LearnsRecord pen' r r' v.record) where
       other : (n : ℕ) → n ≢ m → at pen''.all n ≡ at pen.all n
       other n e = ap (λ (w : PenView). at w.all n) same ∙ ap (λ (l : List (List (List ℕ))). at l n) wrote.others ∙ get_or-set_other pen.all m n (at pen'.all m) [] e
 
       other_seen : (n : ℕ) → n ≢ m → at r'.seen n ≡ at r.seen n
       other_seen n e = ap (λ (l : List (List (List ℕ))). at l n) learns.others ∙ get_or-set_other r.seen v.record n (at r'.seen v.record) [] (λ q. e (q ∙ record_is))
 
-      here_now : at pen''.all m ≡ at pen0.all m ++ version_of number value ∷ []
+      here_now : at pen''.all m ≡ at pen0.all m ++ version_of tid value ∷ []
       here_now = ap (λ (w : PenView). at w.all m) same ∙ wrote.last ∙ (λ i. fresh i ++ version_is i ∷ [])
 
       later : (n : ℕ) → n ≢ m → find n next ≡ find n rest
       later n e = sym (ap (find n) steps ∙ found_later n m value next e)
 
-      pub goes_on : AreStored number pen0 r0 writes pen'' r' next
+      pub goes_on : AreStored tid pen0 r0 writes pen'' r' next
       goes_on = record {
         own = ap (λ (w : PenView). w.cells) same ∙ wrote.cells ∙ c.own;
         grown = learns_grown pen' r0 r r' v.record c.grown learns;
@@ -134,7 +134,7 @@ module _ (cells : ℕ) (number : ℕ) (pen0 : PenView) (r0 : ReaderView) (reads 
             (λ (e : n ≢ m). other n e ∙ c.waiting n (subst IsSome (later n e) h))
             (cases_eq n m);
         done = λ n h. ⊎_elim
-            (λ (e : n ≡ m). subst (λ q. at pen''.all q ≡ at pen0.all q ++ new_versions number writes.values q) (sym e) (here_now ∙ sym (ap (λ (w : Option (Option (List ℕ))). at pen0.all m ++ option_map_or (λ x. version_of number x ∷ []) w []) here)))
+            (λ (e : n ≡ m). subst (λ q. at pen''.all q ≡ at pen0.all q ++ new_versions tid writes.values q) (sym e) (here_now ∙ sym (ap (λ (w : Option (Option (List ℕ))). at pen0.all m ++ option_map_or (λ x. version_of tid x ∷ []) w []) here)))
             (λ (e : n ≢ m). other n e ∙ c.done n (sym (later n e) ∙ h))
             (cases_eq n m);
         seen = λ n h s. ⊎_elim
@@ -143,9 +143,9 @@ module _ (cells : ℕ) (number : ℕ) (pen0 : PenView) (r0 : ReaderView) (reads 
             (cases_eq n m);
       }
 
-pub all_done : (number : ℕ) (pen0 : PenView) (r0 : ReaderView) (writes : WriteSetView) (pen : PenView) (r : ReaderView) (rest : Values) → AreStored number pen0 r0 writes pen r rest → rest ≡ []
-    → (n : ℕ) → at pen.all n ≡ at pen0.all n ++ new_versions number writes.values n
-all_done number pen0 r0 writes pen r rest c none n = c.done n (ap (find n) none)
+pub all_done : (tid : ℕ) (pen0 : PenView) (r0 : ReaderView) (writes : WriteSetView) (pen : PenView) (r : ReaderView) (rest : Values) → AreStored tid pen0 r0 writes pen r rest → rest ≡ []
+    → (n : ℕ) → at pen.all n ≡ at pen0.all n ++ new_versions tid writes.values n
+all_done tid pen0 r0 writes pen r rest c none n = c.done n (ap (find n) none)
 
-pub all_seen : (number : ℕ) (pen0 : PenView) (r0 : ReaderView) (writes : WriteSetView) (pen : PenView) (r : ReaderView) (rest : Values) → AreStored number pen0 r0 writes pen r rest → rest ≡ [] → HasSeen r pen writes
-all_seen number pen0 r0 writes pen r rest c none n value e = c.seen n (ap (find n) none) (ap is_some e)
+pub all_seen : (tid : ℕ) (pen0 : PenView) (r0 : ReaderView) (writes : WriteSetView) (pen : PenView) (r : ReaderView) (rest : Values) → AreStored tid pen0 r0 writes pen r rest → rest ≡ [] → HasSeen r pen writes
+all_seen tid pen0 r0 writes pen r rest c none n value e = c.seen n (ap (find n) none) (ap is_some e)

@@ -1,12 +1,16 @@
 -- What the book keeps, and what a commit does to it.
-use Rattle.std.specs.Prelude.{◌≡◌, ◌≢◌, ℕ, ◌<◌, Option, Some, List, [], ◌∷◌, ◌++◌, length}
+use Rattle.std.specs.Prelude.{◌≡◌, ◌≢◌, ℕ, ◌<◌, ◌⊎◌, Option, Some, List, [], ◌∷◌, ◌++◌, length}
+use Rattle.std.specs.Ordering.{nat_cmp}
+use Rattle.std.specs.List.{All}
+use Rattle.std.specs.List.Sorted.{IsStrictlySortedBy}
+use Rattle.std.specs.Map.{keys_of}
 use Rattle.atomic_table.specs.Seated.{TableId}
 use Rattle.tables.specs.Database.{Database}
 use Rattle.tables.specs.Inputs.{IsInput}
 use Rattle.tables.specs.Rows.{rows}
 use Rattle.tables.specs.Conditions.{IsConsistent}
 use Rattle.tables.specs.WellFormed.{IsWellFormed}
-use Rattle.cells.specs.TidWord.{tid_of}
+use Rattle.tidword.specs.TidWord.{tid_of}
 use Rattle.cells.specs.Versions.{AllVersions, EndsWith, Has, last_tid, value_in}
 use Rattle.cells.specs.Records.{PenView, ReaderView, at, words_of}
 use Rattle.cells.specs.declared.cells.Version.{Version}
@@ -14,7 +18,8 @@ use Rattle.readset.specs.Reads.{ReadSetView, held}
 use Rattle.readset.specs.Writes.{WriteSetView, value_for}
 use Rattle.readset.specs.Explains.{Explains, IsWithinLimits}
 use Rattle.readset.specs.declared.work.Work.{Work}
-use Rattle.book.specs.History.{IsLegal, commit_tid, entry_versions, all_versions}
+use Rattle.book.specs.History.{IsLegal, entry_versions, all_versions}
+use Rattle.book.specs.Stamps.{AreStamped}
 use Rattle.book.specs.declared.entry.Entry.{Entry}
 
 -- what contracts see of the book: all versions of the records, and the history. The committed tables are the history's replay
@@ -26,6 +31,8 @@ pub record BookView : Type 0 where
 pub record IsSound (t0 : Database) (run_cells : List TableId) (k : BookView) (t : Database) : Type 0 where
   -- the committed tables are the history's serial replay, with every reply the same
   pub legal : IsLegal t0 k.history t
+  -- its TIDs rise by record and by terminal, and its epochs don't fall
+  pub stamped : AreStamped k.history
   pub well_formed : IsWellFormed t
   pub consistent : IsConsistent t
   -- each record's versions are the values that it had along the history, and the last is what the tables have
@@ -38,6 +45,13 @@ pub record IsReadBy (cells : ℕ) (reader : ReaderView) (reads : ReadSetView) : 
   pub records : (n : ℕ) (v : Version) → held reads n ≡ Some v → v.record ≡ n
   pub seen : (n : ℕ) (v : Version) → held reads n ≡ Some v → Has (at reader.seen n) (words_of v)
 
+-- what was read and what is to be written stand in the order of their records, and a look-up finds each
+pub record AreInOrder (reads : ReadSetView) (writes : WriteSetView) : Type 0 where
+  pub reads_ascend : IsStrictlySortedBy nat_cmp (keys_of reads)
+  pub reads_found : All (λ read. held reads read.0 ≡ Some read.1) reads
+  pub writes_ascend : IsStrictlySortedBy nat_cmp (keys_of writes.values)
+  pub writes_found : All (λ write. value_for writes write.0 ≡ Some write.1) writes.values
+
 -- a transaction that this reader has executed, explained by what it read
 pub record IsWorkOf (t0 : Database) (cells : ℕ) (reader : ReaderView) (work : Work) : Type 0 where
   pub input : IsInput t0.scale work.input
@@ -49,6 +63,10 @@ pub record IsWorkOf (t0 : Database) (cells : ℕ) (reader : ReaderView) (work : 
 abbrev pub AreLatest : AllVersions → ReadSetView → Type 0
 AreLatest all reads = (n : ℕ) (v : Version) → held reads n ≡ Some v → EndsWith (at all n) (words_of v)
 
+-- a TID is that of a version read, or 0
+abbrev pub IsRead : ReadSetView → ℕ → Type 0
+IsRead reads tid = (tid ≡ 0) ⊎ ((n : ℕ) × (v : Version) × (held reads n ≡ Some v) × (tid ≡ tid_of v.word))
+
 -- some version read has another TID than its record's last
 abbrev pub HasConflict : AllVersions → ReadSetView → Type 0
 HasConflict all reads = (n : ℕ) × (v : Version) × (held reads n ≡ Some v) × (tid_of v.word ≢ last_tid (at all n))
@@ -57,9 +75,9 @@ HasConflict all reads = (n : ℕ) × (v : Version) × (held reads n ≡ Some v) 
 abbrev pub HasSeen : ReaderView → PenView → WriteSetView → Type 0
 HasSeen reader pen writes = (n : ℕ) (value : Option (List ℕ)) → value_for writes n ≡ Some value → at reader.seen n ≡ at pen.all n
 
--- the entry of a work that commits
-abbrev pub entry_of : ℕ → ℕ → Work → Entry
-entry_of number terminal work = record { number = number; tid = commit_tid number; terminal = terminal; input = work.input; reply = work.reply; writes = work.writes }
+-- the entry of a work that commits, with this number, TID and terminal
+abbrev pub entry_of : ℕ → ℕ → ℕ → Work → Entry
+entry_of number tid terminal work = record { number = number; tid = tid; terminal = terminal; input = work.input; reply = work.reply; writes = work.writes }
 
 -- a work has committed as this entry: the history has it at its end, and each record that it writes has one version more
 pub record Commits (old new : BookView) (entry : Entry) : Type 0 where

@@ -1,6 +1,9 @@
 pub mod History
+pub mod Stamps
 pub mod Book
 pub mod Ready
+pub mod Shows
 pub mod Share
 pub mod Parts
 pub mod Seats
+pub mod Decided

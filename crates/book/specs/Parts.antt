@@ -1,5 +1,5 @@
 -- What an engine is opened with.
-use Rattle.std.specs.Prelude.{◌≡◌, ℕ, ◌<◌, ◌^◌, List, [], length, All}
+use Rattle.std.specs.Prelude.{◌≡◌, ℕ, ◌<◌, ◌^◌, List, [], length, replicate, All}
 use Rattle.std.specs.Arc.{arc_value}
 use Rattle.atomic_table.specs.Seated.{TableId}
 use Rattle.tables.specs.Database.{Database}
@@ -9,7 +9,7 @@ use Rattle.cells.specs.Opening.{seen_all}
 use Rattle.records.specs.Newest.{AreFirst}
 use Rattle.book.specs.declared.engine.Parts.{Parts}
 
--- the tables that a run of these parts begins with, its cells, and its ledger
+-- the tables that a run of these parts begins with, its cells, its ledger, and how many loggers and terminals it has
 abbrev pub first_of : Parts → Database
 first_of p = initial (arc_value p.population)
 
@@ -22,6 +22,9 @@ ledger_name p = p.blank.name
 abbrev pub ledger_parts : Parts → ℕ
 ledger_parts p = p.blank.parts
 
+abbrev pub loggers_of : Parts → ℕ
+loggers_of p = p.loggers
+
 abbrev pub terminals_of : Parts → ℕ
 terminals_of p = length p.readers.items
 
@@ -30,6 +33,7 @@ pub record IsFresh (p : Parts) : Type 0 where
   pub lent : initial (arc_value p.lent) ≡ initial (arc_value p.population)
   pub newest : AreFirst (initial (arc_value p.population)) p.newest.items
   pub history : p.history.items ≡ []
+  pub lasts : p.lasts.items ≡ replicate (length p.readers.items) 0
   pub count : length p.cells ≡ length p.newest.items
   pub pen : p.pen ≡ record { cells = p.cells; all = firsts p.newest.items }
   pub readers : All (λ reader. reader ≡ seen_all p.pen) p.readers.items

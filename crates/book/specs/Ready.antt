@@ -1,30 +1,61 @@
 -- What the next commit needs of the book: bookkeeping, and what follows from the rest.
-use Rattle.std.specs.Prelude.{◌≡◌, ℕ, ◌+◌, ◌-◌, ◌<◌, ◌≤◌, List, length}
+use Rattle.std.specs.Prelude.{◌≡◌, ℕ, ◌-◌, ◌/◌, ◌%◌, ◌^◌, ◌<◌, ◌≤◌, true, false, IsSome, List, length, slice_index}
+use Rattle.std.specs.List.{All}
 use Rattle.atomic_table.specs.Seated.{TableId}
 use Rattle.tables.specs.Database.{Database}
 use Rattle.tables.specs.Constant.{IsOf}
 use Rattle.tables.specs.WellFormed.{HasRoom}
 use Rattle.tables.specs.declared.limits.TheConstants.{MAX_COMMITS}
-use Rattle.cells.specs.TidWord.{tid_of}
 use Rattle.tables.specs.Records.{record_count}
+use Rattle.tidword.specs.TidWord.{is_locked, is_latest}
 use Rattle.cells.specs.Versions.{EndsWith, last_tid}
 use Rattle.cells.specs.declared.cells.Newest.{Newest}
 use Rattle.records.specs.Newest.{words_at}
 use Rattle.cells.specs.Records.{PenView, at}
-use Rattle.book.specs.History.{commit_word}
+use Rattle.readset.specs.Writes.{value_for}
+use Rattle.book.specs.Stamps.{last_of}
 use Rattle.book.specs.Book.{BookView}
+use Rattle.book.specs.declared.entry.Entry.{Entry}
+use Rattle.book.specs.declared.epoch.TheConstants.{EPOCH}
+
+-- a TID without status bits, of an epoch up to this one, whose sequence is at most this count
+pub record IsWithin (epoch count tid : ℕ) : Type 0 where
+  pub bits : tid % 8 ≡ 0
+  pub in_epoch : tid / 2 ^ 32 ≤ epoch
+  pub sequence : tid / 8 % 2 ^ 29 ≤ count
+
+-- what an entry's TID is to the book: of an epoch up to this one, and no larger than the last TID of each record that the entry wrote, nor than its terminal's
+pub record IsPassed (epoch : ℕ) (k : BookView) (e : Entry) : Type 0 where
+  pub in_epoch : e.tid / 2 ^ 32 ≤ epoch
+  pub records : (n : ℕ) → IsSome (value_for e.writes n) → e.tid ≤ last_tid (at k.written.all n)
+  pub terminal : e.tid ≤ last_of e.terminal k.history
+
+-- the word of a version that is its record's latest, and that no writer has
+pub record IsFree (word : ℕ) : Type 0 where
+  pub unlocked : is_locked word ≡ false
+  pub latest : is_latest word ≡ true
 
 pub record IsReady (t0 : Database) (run_cells : List TableId) (k : BookView) (t : Database) : Type 0 where
   pub of_population : IsOf t0 t
   -- the pen is of the run's cells, one a record
   pub cells : k.written.cells ≡ run_cells
   pub count : length run_cells ≡ record_count t0.scale
-  -- the next commit's TID is larger than those of all versions
-  pub smaller : (n : ℕ) → n < length run_cells → last_tid (at k.written.all n) < tid_of (commit_word (length k.history + 1))
+  -- the next commit's TID is in this epoch or a later one, and is to be larger than those before it
+  pub passed : All (IsPassed EPOCH k) k.history
+  -- there is one: no sequence is larger than the number of commits
+  pub records : (n : ℕ) → n < length run_cells → IsWithin EPOCH (length k.history) (last_tid (at k.written.all n))
+  pub terminals : (terminal : ℕ) → IsWithin EPOCH (length k.history) (last_of terminal k.history)
+  -- each record's newest version says that it is the latest, and unlocked
+  pub free : (n : ℕ) → n < length run_cells → (v : List ℕ) → EndsWith (at k.written.all n) v → IsFree (slice_index v 0)
   -- the commit cap isn't passed, and there is room for the commits that are left
   pub cap : length k.history ≤ t0.scale.commits
   pub few : t0.scale.commits ≤ MAX_COMMITS
   pub room : HasRoom (MAX_COMMITS - length k.history) t
+
+-- these are the last TIDs of the terminals, so many of which there are
+pub record AreLast (terminals : ℕ) (history : List Entry) (lasts : List ℕ) : Type 0 where
+  pub count : length lasts ≡ terminals
+  pub last : (terminal : ℕ) → terminal < length lasts → slice_index lasts terminal ≡ last_of terminal history
 
 -- these are the newest versions of all records
 pub record AreNewest (pen : PenView) (newest : List Newest) : Type 0 where

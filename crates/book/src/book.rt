@@ -13,17 +13,19 @@ use std::alloc::Global;
 use std::marker::Model;
 use std::sync::{Arc, ledger};
 use tables::Tables;
+use tidword::TidWord;
 
 /// The committed state, which stands under the engine's lock: the newest version of each record, by record number,
 /// and what has committed. The committed tables are what these tell, and are kept nowhere. Its type keeps `IsSound` of
-/// what contracts see of it, that it is ready for the next commit, and that the terminals' shares sum to the length of
-/// the history.
+/// what contracts see of it, that it is ready for the next commit, that it has each terminal's last TID, and that the
+/// terminals' shares sum to the length of the history.
 #[derive(Drop)]
 pub struct Book<K: Run> {
     pub(crate) pen: Pen,
     pub(crate) population: Arc<Population, Global>,
     pub(crate) newest: Vec<Newest>,
     pub(crate) history: Vec<Entry>,
+    pub(crate) lasts: Vec<TidWord>,
     pub(crate) shares: ledger::Book<K>,
 }
 
@@ -33,7 +35,7 @@ impl<K: Run> Model for Book<K> {
     ghost use Rattle.population.specs.Initial.{initial};
     ghost use Rattle.book.specs.History.{replay};
     ghost use Rattle.book.specs.Book.{BookView, IsSound};
-    ghost use Rattle.book.specs.Ready.{IsReady, AreNewest};
+    ghost use Rattle.book.specs.Ready.{IsReady, AreLast, AreNewest};
 
     ghost Value = { BookView };
 
@@ -43,7 +45,8 @@ impl<K: Run> Model for Book<K> {
         IsSound K.first K.cells kept (replay K.first b.history.items)
         × IsReady K.first K.cells kept (replay K.first b.history.items)
         × AreNewest b.pen b.newest.items × (initial (arc_value b.population) ≡ K.first)
-        × (b.shares.total ≡ length b.history.items) };
+        × (b.shares.total ≡ length b.history.items)
+        × AreLast K.parts b.history.items b.lasts.items };
 }
 
 impl<K: Run> Book<K> {

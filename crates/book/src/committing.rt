@@ -1,16 +1,20 @@
 //! Committing a transaction.
-ghost use Rattle.std.specs.Prelude.{◌≡◌, ◌+◌, ◌<◌, ◌≤◌, ◌⊎◌, length, MatchResult, IsErr};
-ghost use Rattle.money.specs.declared.refusal.Refusal.TheVariants.{OutOfMemory, Conflict, CommitsFull};
+ghost use Rattle.std.specs.Prelude.{◌≡◌, ◌≢◌, ℕ, ◌+◌, ◌<◌, ◌≤◌, ◌⊎◌, Some, None, IsSome, length, MatchResult, IfErr};
+ghost use Rattle.money.specs.declared.refusal.Refusal.TheVariants.{OutOfMemory, Conflict, CommitsFull, EpochFull};
+ghost use Rattle.commit.specs.Machine.{Machine};
 ghost use Rattle.cells.specs.Records.{HasGrown};
-ghost use Rattle.book.specs.History.{replay, commit_tid, IsDone};
+ghost use Rattle.book.specs.History.{replay, IsDone};
+ghost use Rattle.book.specs.Stamps.{tid_for};
+ghost use Rattle.book.specs.declared.epoch.TheConstants.{EPOCH as the_epoch};
 ghost use Rattle.book.specs.Book.{AreLatest, HasConflict, HasSeen, IsWorkOf, Commits, entry_of};
+ghost use Rattle.book.specs.Shows.{Shows, IsRun, IsRefusedRun, reads_of};
 
 use crate::book::Book;
 use crate::entry::{Done, Entry};
-use crate::prepare::prepare;
+use crate::prepare::{Prepared, prepare};
 use crate::run::Run;
 use crate::share::Share;
-use crate::steps::{store, tid_for, validate};
+use crate::steps::{in_order, store, validate};
 use cells::{Cells, Reader};
 use money::Refusal;
 use readset::Work;
@@ -19,18 +23,23 @@ use std::sync::Wait;
 impl<K: Run> Book<K> {
     /// Commits a transaction that this reader has executed, as the next in the history (Silo, section 4.4). Costs a
     /// comparison a record read; a store, a comparison and two copies a record written; a copy of the reply; and
-    /// constant time, amortized, for the history. May wait, at a record's cell
-    /// alone.
+    /// constant time, amortized, for the history. May wait, at a record's cell alone.
     ///
     /// Where the versions read are the latest, the transaction is done at the committed tables: its reply and its
-    /// writes are those of its definition there, though it may be refused. After Ok the reader has seen the versions
-    /// stored.
+    /// writes are those of its definition there, though it may be refused. Its TID is the least of the epoch that is
+    /// larger than all TIDs that it has read and than its terminal's last (`next_tid`). After Ok the reader has seen
+    /// the versions stored.
+    ///
+    /// To a machine of the commit protocol that shows the book to the terminal as any one of its workers, the commit is
+    /// a run: the worker locks what it writes, reads the epoch, validates, takes this TID and installs, or fails at the
+    /// first read that isn't current. Between its events other workers may begin and read, and the epoch may go on as
+    /// long as the worker reads this one: each event may still happen, and the records and the worker end the same.
     ///
     /// # Errors
     ///
     /// `Conflict` exactly where a version read isn't its record's latest; then `CommitsFull` exactly at the commit
-    /// cap; then `OutOfMemory`. A refusal drops the work, and book and share are as before; the reader may have seen
-    /// more.
+    /// cap; then `EpochFull` exactly where `next_tid` has no TID, which doesn't happen: the commit cap comes first;
+    /// then `OutOfMemory`. A refusal drops the work, and book and share are as before; the reader may have seen more.
     pub fn commit<R: Wait>(
         &mut self,
         rt: &R,
@@ -46,28 +55,44 @@ impl<K: Run> Book<K> {
         ensures answer { MatchResult result
             (λ done. AreLatest self.old.written.all work.reads
             × (length self.old.history < K.first.scale.commits)
-            × Commits self.old self.new (entry_of (length self.old.history + 1) share.old.terminal work)
-            × (done ≡ record { number = length self.old.history + 1; tid = commit_tid (length self.old.history + 1); reply = work.reply })
+            × (tid_for self.old.history share.old.terminal the_epoch work.reads ≡ Some done.tid)
+            × Commits self.old self.new (entry_of (length self.old.history + 1) done.tid share.old.terminal work)
+            × (done.number ≡ length self.old.history + 1) × (done.reply ≡ work.reply)
             × (share.new ≡ record { terminal = share.old.terminal; parts = share.old.parts; commits = share.old.commits + 1 })
             × HasSeen reader.new self.new.written work.writes
-            × IsDone (replay K.first self.old.history) (entry_of (length self.old.history + 1) share.old.terminal work))
+            × IsDone (replay K.first self.old.history) work.input work.writes work.reply)
             (λ refusal. (self.new ≡ self.old) × (share.new ≡ share.old)
             × (((refusal ≡ Conflict) × HasConflict self.old.written.all work.reads)
             ⊎ (AreLatest self.old.written.all work.reads
-            × IsDone (replay K.first self.old.history) (entry_of (length self.old.history + 1) share.old.terminal work)
+            × IsDone (replay K.first self.old.history) work.input work.writes work.reply
             × (((refusal ≡ CommitsFull) × (K.first.scale.commits ≤ length self.old.history))
-            ⊎ ((refusal ≡ OutOfMemory) × (length self.old.history < K.first.scale.commits)))))) }
+            ⊎ ((refusal ≡ EpochFull) × (length self.old.history < K.first.scale.commits)
+            × (tid_for self.old.history share.old.terminal the_epoch work.reads ≡ None))
+            ⊎ ((refusal ≡ OutOfMemory) × (length self.old.history < K.first.scale.commits)
+            × IsSome (tid_for self.old.history share.old.terminal the_epoch work.reads)))))) }
+        ensures section { (m : Machine) (w : ℕ) → Shows self.old share.old.terminal the_epoch work.reads m w
+            → MatchResult result
+            (λ done. IsRun m w (reads_of work.reads) work.writes.values done.tid self.new.written)
+            (λ refusal. IsRefusedRun m w (reads_of work.reads) work.writes.values refusal) }
+        ensures cap_first { IfErr result (λ refusal. refusal ≢ EpochFull) }
     {
-        if !validate(rt, cells, &mut self.pen, reader, &work) {
+        in_order(&work);
+        let Some(seen) = validate(rt, cells, &mut self.pen, reader, &work) else {
             return Err(Refusal::Conflict);
-        }
+        };
         // What is refused from here on is refused before the first store.
         let cap = self.population.scale().commits();
-        let (written, reply) = match prepare(cap, &mut self.history, &work) {
+        let last = self.lasts[share.terminal as usize];
+        let Prepared { tid, writes, reply } = match prepare(
+            cap,
+            &mut self.history,
+            seen,
+            last,
+            &work,
+        ) {
             Ok(prepared) => prepared,
             Err(refusal) => return Err(refusal),
         };
-        let number = self.history.len() as u32 + 1;
         store(
             rt,
             cells,
@@ -75,17 +100,18 @@ impl<K: Run> Book<K> {
             reader,
             &mut self.newest,
             &work,
-            number,
+            tid,
         );
-        let tid = tid_for(number);
+        let number = self.history.len() as u32 + 1;
         self.history.push_reserved(Entry {
             number,
             tid,
             terminal: share.terminal,
             input: work.input,
             reply: work.reply,
-            writes: written,
+            writes,
         });
+        self.lasts[share.terminal as usize] = tid;
         self.shares.add(&mut share.part, 1);
         Ok(Done::of(number, tid, reply))
     }

@@ -1,10 +1,11 @@
 //! The engine: the cells, which anyone reads, and the book under its lock.
-ghost use Rattle.std.specs.Prelude.{◌≡◌, ◌+◌, length, IfOk, IfErr, IfSome, IfNone};
+ghost use Rattle.std.specs.Prelude.{◌≡◌, ◌<◌, ◌≤◌, ◌+◌, length, IfOk, IfErr, IfSome, IfNone};
 ghost use Rattle.std.specs.Arc.{arc_value};
 ghost use Rattle.money.specs.declared.refusal.Refusal.TheVariants.{OutOfMemory};
 ghost use Rattle.population.specs.Initial.{initial};
 ghost use Rattle.tables.specs.Records.{record_count};
-ghost use Rattle.book.specs.Parts.{IsFresh, first_of, cells_of, ledger_name, ledger_parts, terminals_of};
+ghost use Rattle.book.specs.Parts.{IsFresh, first_of, cells_of, ledger_name, ledger_parts, loggers_of, terminals_of};
+ghost use Rattle.book.specs.declared.engine.TheConstants.{MAX_LOGGERS as the_most_loggers, MAX_TERMINALS as the_most_terminals};
 
 use crate::book::Book;
 use crate::entry::Entry;
@@ -18,6 +19,7 @@ use std::alloc::Global;
 use std::marker::Model;
 use std::sync::ledger::{self, Blank};
 use std::sync::{Arc, Mutex, MutexGuard, Wait};
+use tidword::TidWord;
 
 /// What an engine is opened with: all memory that opening one takes.
 #[derive(Drop)]
@@ -26,16 +28,23 @@ pub struct Parts {
     lent: Arc<Population, Global>,
     newest: Vec<Newest>,
     history: Vec<Entry>,
+    lasts: Vec<TidWord>,
     cells: Cells,
     pen: Pen,
     readers: Vec<Reader>,
     blank: Blank,
+    loggers: u16,
 }
 
+/// The most loggers, and the most terminals.
+pub const MAX_LOGGERS: u16 = 8;
+
+pub const MAX_TERMINALS: u16 = 16;
+
 impl Parts {
-    /// The parts of an engine over this population, with any number of terminals, of which each gets a seat. Costs
-    /// what `newest_of` and `Cells::new` cost: a pass over the tables, and a step a record and terminal. May wait, at
-    /// a record's cell alone.
+    /// The parts of an engine over this population, for 1 to 8 loggers and 1 to 16 terminals, of which each gets a
+    /// seat. Costs what `newest_of` and `Cells::new` cost: a pass over the tables, and a step a record and terminal.
+    /// May wait, at a record's cell alone.
     ///
     /// # Errors
     ///
@@ -44,10 +53,14 @@ impl Parts {
         rt: &R,
         alloc: Global,
         population: Population,
+        loggers: u16,
         terminals: u16,
     ) -> Result<Parts, Refusal>
+        requires loggers { (0 < loggers) × (loggers ≤ the_most_loggers) }
+        requires terminals { (0 < terminals) × (terminals ≤ the_most_terminals) }
         ensures fresh { IfOk result IsFresh }
         ensures first { IfOk result (λ parts. first_of parts ≡ initial population) }
+        ensures loggers { IfOk result (λ parts. loggers_of parts ≡ loggers) }
         ensures terminals { IfOk result (λ parts. terminals_of parts ≡ terminals) }
         ensures only_memory { IfErr result (λ refusal. refusal ≡ OutOfMemory) }
     {
@@ -59,10 +72,12 @@ impl Parts {
             lent,
             newest,
             history: Vec::new(alloc),
+            lasts: vec![in alloc; TidWord::new(0); terminals as usize]?,
             cells,
             pen,
             readers,
             blank: Blank::new(u64::from(terminals)),
+            loggers,
         })
     }
 }
@@ -120,10 +135,12 @@ impl<K: Run> Engine<K> {
             lent,
             newest,
             history,
+            lasts,
             cells,
             pen,
             readers,
             blank,
+            loggers: _,
         } = parts;
         // The accessor's contract says that the commit cap is at most 600,000.
         let _ = population.scale().commits();
@@ -133,6 +150,7 @@ impl<K: Run> Engine<K> {
             population: lent,
             newest,
             history,
+            lasts,
             shares,
         };
         let engine = Engine {
@@ -186,7 +204,7 @@ impl<K: Run> Model for Seats<K> {
 
     ghost view = { λ s. record { left = length s.readers.items; given = s.given } };
 
-    ghost invariant = { λ s. All (λ reader. reader.cells ≡ K.cells) s.readers.items × (s.share.parts ≡ length s.readers.items) × (s.share.amount ≡ 0) × (s.given + length s.readers.items < 2 ^ 16) };
+    ghost invariant = { λ s. All (λ reader. reader.cells ≡ K.cells) s.readers.items × (s.share.parts ≡ length s.readers.items) × (s.share.amount ≡ 0) × (s.given + length s.readers.items ≡ K.parts) × (K.parts < 2 ^ 16) };
 }
 
 /// What one terminal is given.

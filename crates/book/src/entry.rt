@@ -1,9 +1,9 @@
 //! What has committed.
 ghost use Rattle.std.specs.Prelude.{◌≡◌};
 
-use cells::TidWord;
 use readset::WriteList;
 use tables::{Input, Reply};
+use tidword::TidWord;
 
 /// A committed transaction as the history has it.
 #[derive(Drop)]

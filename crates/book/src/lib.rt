@@ -6,16 +6,21 @@
 
 mod book;
 mod committing;
+mod decided;
 mod engine;
 mod entry;
+mod epoch;
 mod history_rows;
 mod prepare;
 mod run;
 mod share;
+mod shown;
 mod steps;
 
 pub use book::Book;
-pub use engine::{Engine, Parts, Seat, Seats};
+pub use decided::every_decided_run_is_legal;
+pub use engine::{Engine, MAX_LOGGERS, MAX_TERMINALS, Parts, Seat, Seats};
 pub use entry::{Done, Entry};
 pub use run::Run;
 pub use share::Share;
+pub use shown::every_book_is_shown;

@@ -1,42 +1,63 @@
 //! What may be refused of a commit, all of which comes before its first store.
-ghost use Rattle.std.specs.Prelude.{◌≡◌, ◌<◌, ◌≤◌, ◌⊎◌, length, vec_len, vec_capacity, IfOk, IfErr, OnOk};
-ghost use Rattle.money.specs.declared.refusal.Refusal.TheVariants.{OutOfMemory, CommitsFull};
+ghost use Rattle.std.specs.Prelude.{◌≡◌, ◌<◌, ◌≤◌, ◌⊎◌, ℕ, Some, None, IsSome, length, vec_len, vec_capacity, IfOk, IfErr, OnOk};
+ghost use Rattle.money.specs.declared.refusal.Refusal.TheVariants.{OutOfMemory, CommitsFull, EpochFull};
+ghost use Rattle.tidword.specs.TidWord.{tid_of};
+ghost use Rattle.tidword.specs.Lawful.{IsLawful, next};
+ghost use Rattle.book.specs.declared.epoch.TheConstants.{EPOCH as the_epoch};
 
 use crate::entry::Entry;
+use crate::epoch::EPOCH;
 use money::Refusal;
 use readset::{Work, WriteList};
 use tables::Reply;
+use tidword::{TidWord, next_tid};
 
-/// Takes the memory for one entry more, for its writes and for a copy of its reply.
+/// What a commit that isn't refused puts into the history.
+pub(crate) struct Prepared {
+    pub tid: TidWord,
+    pub writes: WriteList,
+    pub reply: Reply,
+}
+
+/// Takes the TID, and the memory for one entry more, for its writes and for a copy of its reply.
 ///
 /// # Errors
 ///
-/// `CommitsFull` exactly at the commit cap, then `OutOfMemory`. The history is then as before.
+/// `CommitsFull` exactly at the commit cap, then `EpochFull` exactly where `next_tid` has no TID of the greatest one
+/// seen and the terminal's last, then `OutOfMemory`. The history is then as before.
 pub(crate) fn prepare(
     cap: u32,
     history: &mut Vec<Entry>,
+    seen: TidWord,
+    last: TidWord,
     work: &Work,
-) -> Result<(WriteList, Reply), Refusal>
-    ensures writes { IfOk result (λ made. made.0 ≡ work.now.writes) }
-    ensures reply { IfOk result (λ made. made.1 ≡ work.now.reply) }
+) -> Result<Prepared, Refusal>
+    ensures tid { IfOk result (λ made. next (tid_of seen) (tid_of last) the_epoch ≡ Some made.tid) }
+    ensures lawful { IfOk result (λ made. IsLawful seen last the_epoch made.tid) }
+    ensures writes { IfOk result (λ made. made.writes ≡ work.now.writes) }
+    ensures reply { IfOk result (λ made. made.reply ≡ work.now.reply) }
     ensures below { OnOk result (length history.old.items < cap) }
     ensures room { OnOk result (vec_len history.new < vec_capacity history.new) }
     ensures history { history.new.items ≡ history.old.items }
     ensures refused { IfErr result (λ refusal.
         ((refusal ≡ CommitsFull) × (cap ≤ length history.old.items))
-        ⊎ ((refusal ≡ OutOfMemory) × (length history.old.items < cap))) }
+        ⊎ ((refusal ≡ EpochFull) × (length history.old.items < cap)
+        × (next (tid_of seen) (tid_of last) the_epoch ≡ None))
+        ⊎ ((refusal ≡ OutOfMemory) × (length history.old.items < cap)
+        × IsSome (next (tid_of seen) (tid_of last) the_epoch))) }
 {
     if history.len() >= cap as usize {
         return Err(Refusal::CommitsFull);
     }
+    let tid = next_tid(seen, last, EPOCH)?;
     let Ok(()) = history.reserve(1) else {
         return Err(Refusal::OutOfMemory);
     };
-    let Ok(written) = work.writes.list(*history.allocator()) else {
+    let Ok(writes) = work.writes.list(*history.allocator()) else {
         return Err(Refusal::OutOfMemory);
     };
     match work.reply.copied() {
-        Ok(reply) => Ok((written, reply)),
+        Ok(reply) => Ok(Prepared { tid, writes, reply }),
         Err(_) => Err(Refusal::OutOfMemory),
     }
 }

@@ -21,7 +21,7 @@ impl<K: Run> Model for Share<K> {
 
     ghost view = { λ s. record { terminal = s.terminal; parts = s.part.parts; commits = s.part.amount } };
 
-    ghost invariant = { λ s. 0 < s.part.parts };
+    ghost invariant = { λ s. (0 < s.part.parts) × (s.terminal < K.parts) };
 }
 
 impl<K: Run> Share<K> {

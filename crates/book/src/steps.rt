@@ -1,38 +1,53 @@
 //! The steps of a commit at the records' cells (Silo, section 4.4).
-ghost use Rattle.std.specs.Prelude.{◌≡◌, ℕ, ◌<◌, ◌^◌, ◌∷◌, ◌++◌, Some, List, length, MatchBool};
-ghost use Rattle.cells.specs.TidWord.{tid_of};
+ghost use Rattle.std.specs.Prelude.{◌≡◌, ℕ, ◌<◌, ◌%◌, ◌∷◌, ◌++◌, Some, List, Option, length, MatchOption};
+ghost use Rattle.tidword.specs.TidWord.{tid_of};
 ghost use Rattle.cells.specs.Versions.{last_tid};
-ghost use Rattle.cells.specs.Records.{at, HasGrown};
-ghost use Rattle.cells.specs.Records.{newest_words};
+ghost use Rattle.cells.specs.Records.{at, HasGrown, newest_words};
+ghost use Rattle.readset.specs.Writes.{value_for};
 ghost use Rattle.readset.specs.Explains.{WritesAreRead};
-ghost use Rattle.book.specs.History.{commit_tid, commit_word, version_of, new_versions};
-ghost use Rattle.book.specs.Book.{AreLatest, HasConflict, HasSeen, IsReadBy};
+ghost use Rattle.book.specs.History.{version_of, new_versions};
+ghost use Rattle.book.specs.Stamps.{greatest_tid};
+ghost use Rattle.book.specs.Book.{AreInOrder, AreLatest, HasConflict, HasSeen, IsRead, IsReadBy};
 ghost use Rattle.book.specs.Ready.{AreNewest};
 
-use cells::{Cells, Newest, Pen, Reader, Status, TidWord};
+use cells::{Cells, Newest, Pen, Reader};
 use readset::Work;
 use std::sync::Wait;
+use tidword::TidWord;
 
-/// Whether each version read is still its record's latest (phase 2). The reader may have seen more by then.
+/// For proofs: what was read and what is to be written stand in the order of their records. Changes nothing.
+pub(crate) fn in_order(work: &Work)
+    ensures { AreInOrder work.now.reads work.now.writes }
+{
+    work.reads.versions();
+    work.writes.values();
+}
+
+/// The greatest TID of what was read, if each version read is still its record's latest (phase 2). The reader may have
+/// seen more by then.
 pub(crate) fn validate<R: Wait>(
     rt: &R,
     cells: &Cells,
     pen: &mut Pen,
     reader: &mut Reader,
     work: &Work,
-) -> bool
+) -> Option<TidWord>
     requires own { (pen.old.cells ≡ cells.now) × (reader.old.cells ≡ cells.now) }
     requires read { IsReadBy (length cells.now) reader.old work.now.reads }
     ensures pen { pen.new ≡ pen.old }
     ensures reader { HasGrown reader.old reader.new }
-    ensures latest { MatchBool result (AreLatest pen.old.all work.now.reads) (HasConflict pen.old.all work.now.reads) }
+    ensures latest { MatchOption result (HasConflict pen.old.all work.now.reads)
+        (λ seen. AreLatest pen.old.all work.now.reads × (seen ≡ greatest_tid work.now.reads)
+        × IsRead work.now.reads seen) }
 {
+    let mut seen = 0;
     for (_, version) in work.reads.versions() {
         if !cells.meet(rt, pen, reader, version) {
-            return false;
+            return None;
         }
+        seen = version.word.tid().word().max(seen);
     }
-    true
+    Some(TidWord::new(seen))
 }
 
 /// Stores the versions that a commit writes (phase 3), each in one store with its TID word, and keeps them as the
@@ -44,24 +59,24 @@ pub(crate) fn store<R: Wait>(
     reader: &mut Reader,
     newest: &mut [Newest],
     work: &Work,
-    number: u32,
+    tid: TidWord,
 )
     requires own { (pen.old.cells ≡ cells.now) × (reader.old.cells ≡ cells.now) }
     requires read { IsReadBy (length cells.now) reader.old work.now.reads }
     requires written_read { WritesAreRead work.now.writes work.now.reads }
-    requires number { number < 2 ^ 29 }
-    requires smaller { (n : ℕ) → n < length cells.now
-        → last_tid (at pen.old.all n) < tid_of (commit_word number) }
+    requires no_bits { tid % 8 ≡ 0 }
+    requires larger { (n : ℕ) (value : Option (List ℕ)) → value_for work.now.writes n ≡ Some value
+        → last_tid (at pen.old.all n) < tid }
     requires newest { AreNewest pen.old newest.old }
     ensures cells { pen.new.cells ≡ pen.old.cells }
     ensures versions { (n : ℕ)
-        → at pen.new.all n ≡ at pen.old.all n ++ new_versions number work.now.writes.values n }
+        → at pen.new.all n ≡ at pen.old.all n ++ new_versions tid work.now.writes.values n }
     ensures reader { HasGrown reader.old reader.new }
     ensures seen { HasSeen reader.new pen.new work.now.writes }
     ensures newest { AreNewest pen.new newest.new }
 {
     for (record, value) in work.writes.values() {
-        let version = version(number, value);
+        let version = version(tid, value);
         cells.store(rt, pen, *record, version.word, version.payload);
         newest[*record as usize] = version;
         match work.reads.held(*record) {
@@ -73,35 +88,17 @@ pub(crate) fn store<R: Wait>(
     }
 }
 
-/// The version that a commit makes of a value.
-fn version(number: u32, value: &Option<[u64; 7]>) -> Newest
-    requires { number < 2 ^ 29 }
-    ensures words { newest_words result ≡ version_of number value.now }
-    ensures tid { tid_of result.word ≡ tid_of (commit_word number) }
+/// The version that a commit with this TID makes of a value.
+fn version(tid: TidWord, value: &Option<[u64; 7]>) -> Newest
+    requires no_bits { tid % 8 ≡ 0 }
+    ensures words { newest_words result ≡ version_of tid value.now }
+    ensures tid { tid_of result.word ≡ tid }
 {
-    let status = Status {
-        latest: true,
-        absent: value.is_none(),
-        locked: false,
-    };
     Newest {
-        word: TidWord::pack(1, number, status),
+        word: tid.installed(value),
         payload: match value {
             Some(words) => *words,
             None => [0; 7],
         },
     }
-}
-
-/// The TID of a commit: epoch 1 and its number.
-pub(crate) fn tid_for(number: u32) -> TidWord
-    requires { number < 2 ^ 29 }
-    ensures { result ≡ commit_tid number }
-{
-    let status = Status {
-        latest: false,
-        absent: false,
-        locked: false,
-    };
-    TidWord::pack(1, number, status)
 }

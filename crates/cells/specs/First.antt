@@ -2,7 +2,7 @@
 use Rattle.std.specs.Prelude.{ℕ, true, false, Option, Some, None, List, [], ◌∷◌, map, replicate}
 use Rattle.cells.specs.Versions.{AllVersions}
 use Rattle.cells.specs.Records.{newest_words}
-use Rattle.cells.specs.TidWord.{tid_word}
+use Rattle.tidword.specs.TidWord.{tid_word}
 use Rattle.cells.specs.declared.cells.Newest.{Newest}
 
 -- the TID word of a record that is there: epoch 0, sequence 0, latest. Of one that isn't: absent too

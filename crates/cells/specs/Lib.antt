@@ -1,4 +1,3 @@
-pub mod TidWord
 pub mod Versions
 pub mod Views
 pub mod Records

@@ -2,17 +2,17 @@
 ghost use Rattle.std.specs.Prelude.{◌≡◌, ◌≢◌, ◌<◌, Some, List, [], ◌∷◌, ◌++◌, length, slice_get, MatchBool, OnOk, OnErr, IfErr};
 ghost use Rattle.money.specs.declared.refusal.Refusal.TheVariants.{OutOfMemory};
 ghost use Rattle.atomic_table.specs.Seated.{TableId};
-ghost use Rattle.cells.specs.TidWord.{tid_of};
+ghost use Rattle.tidword.specs.TidWord.{tid_of};
 ghost use Rattle.cells.specs.Versions.{EndsWith, Has, last_tid, value_in};
 ghost use Rattle.cells.specs.Records.{at, newest_words, StoresVersion, LoadsRecord, LearnsRecord};
 
 use crate::holders::{PenOf, ReaderOf};
 use crate::rule::Cell;
-use crate::tid::TidWord;
 use money::Refusal;
 use std::alloc::Global;
 use std::marker::Model;
 use std::sync::Wait;
+use tidword::TidWord;
 
 /// The right to store versions, of which there is one. Contracts see what it knows of each record, by record
 /// number: its cell, and all its versions (`PenView`). It has no bytes of its own a record.

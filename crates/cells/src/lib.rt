@@ -8,7 +8,5 @@ mod opening;
 mod pass;
 mod populate;
 mod rule;
-mod tid;
 
 pub use cells::{Cells, Newest, Pen, Reader, Version};
-pub use tid::{Status, TidWord};

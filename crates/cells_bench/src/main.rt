@@ -7,12 +7,13 @@ ghost use Rattle.cells.specs.Versions.{last_tid};
 ghost use Rattle.cells.specs.Records.{at};
 
 use anyhow::bail;
-use cells::{Cells, Newest, Pen, Reader, TidWord};
+use cells::{Cells, Newest, Pen, Reader};
 use std::alloc::Global;
 use std::rt::{Clock, Env, Files};
 use std::sync::Wait;
 use std::time::Instant;
 use std::{env, fs};
+use tidword::TidWord;
 
 /// The most cells.
 const MAX_CELLS: u32 = 100_000_000;

@@ -316,12 +316,12 @@ fn the_second_of_two_conflicts(rt: HostRuntime) -> Result<(), Fail> {
     assert_eq!(rt; terminals, [0, 1]);
     assert_eq!(rt;
         commits.first,
-        Ok((1, 4_294_967_304, payment_told(3, -1_100)))
+        Ok((1, 4_294_967_296, payment_told(3, -1_100)))
     );
     assert_eq!(rt; commits.second, Err(Refusal::Conflict));
     assert_eq!(rt;
         commits.again,
-        Ok((2, 4_294_967_312, payment_told(4, -1_100)))
+        Ok((2, 4_294_967_304, payment_told(4, -1_100)))
     );
     let [before, after, end] = commits.states;
     assert_eq!(rt; opened.commits, 0);
@@ -332,7 +332,7 @@ fn the_second_of_two_conflicts(rt: HostRuntime) -> Result<(), Fail> {
     assert_eq!(rt; before.year_to_date, Some(20_100));
     assert_eq!(rt; end.year_to_date, Some(20_200));
     assert_eq!(rt; end.commits, 2);
-    let (one, two) = (4_294_967_306, 4_294_967_314);
+    let (one, two) = (4_294_967_298, 4_294_967_306);
     assert_eq!(rt; end.tids, [two, two, one, two]);
     // A C_BALANCE of -11.00, in the 64 bits of a word.
     let balance = u64::MAX - 1_099;

@@ -1,15 +1,16 @@
 //! Reads, stores and meets by one thread, and reads while another thread stores.
 ghost use Rattle.std.specs.Prelude.{◌≡◌, ◌<◌, length};
-ghost use Rattle.cells.specs.TidWord.{tid_of};
+ghost use Rattle.tidword.specs.TidWord.{tid_of};
 ghost use Rattle.cells.specs.Versions.{last_tid};
 ghost use Rattle.cells.specs.Records.{at};
 
 use crate::stage::{CUSTOMER, DISTRICT, Stage, WAREHOUSE, open};
-use cells::{Cells, Pen, Reader, Status, TidWord, Version};
+use cells::{Cells, Pen, Reader, Version};
 use std::alloc::Global;
 use std::sync::Wait;
 use std::test::Fail;
 use std::thread::{Threads, join};
+use tidword::{Status, TidWord};
 
 const TURNS: u64 = 200_000;
 

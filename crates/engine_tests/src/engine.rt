@@ -18,7 +18,7 @@ pub(crate) fn parts<R: Wait>(rt: &R, alloc: Global) -> Result<Parts, Refusal>
     ensures fresh { IfOk result IsFresh }
     ensures cells { IfOk result (λ parts. length (cells_of parts) ≡ 1085) }
 {
-    Parts::new(rt, alloc, small(alloc)?, 2)
+    Parts::new(rt, alloc, small(alloc)?, 1, 2)
 }
 
 /// The seats of the two terminals.

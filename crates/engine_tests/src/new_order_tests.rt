@@ -181,7 +181,7 @@ fn full<R: Wait>(rt: &R, alloc: Global) -> Result<Parts, Refusal>
     ensures { IfOk result IsFresh }
 {
     let scale = Scale::new(1, 2, 10, 20, 10, 1_000)?;
-    Parts::new(rt, alloc, Population::plain(alloc, scale)?, 1)
+    Parts::new(rt, alloc, Population::plain(alloc, scale)?, 1, 1)
 }
 
 #[test]

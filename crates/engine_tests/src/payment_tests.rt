@@ -9,7 +9,6 @@ ghost use Rattle.population.specs.Initial.{initial};
 use crate::payments::{history_row, payment, payment_told};
 use crate::stage::{CUSTOMER, DISTRICT, Stage, open};
 use crate::told::{Told, told_of};
-use cells::{Status, TidWord};
 use money::{MAX_MONEY, Refusal};
 use payment::execute;
 use readset::{ReadSet, Work};
@@ -17,6 +16,7 @@ use std::alloc::Global;
 use std::sync::Wait;
 use std::test::Fail;
 use tables::{History, Input, PaymentInput, Scale};
+use tidword::{Status, TidWord};
 
 /// The TID word and the data of a version.
 #[derive(Clone, Copy, Debug, PartialEq, Eq)]

@@ -1,7 +1,7 @@
 mod Backs
 pub mod Numbered
-pub mod Determined
-pub mod Held
+mod Determined
+mod Held
 pub mod Values
 pub mod FromWords
 mod Decoded

@@ -20,12 +20,13 @@ use crate::beginnings::{
     Customers, Districts, LastOrder, NewOrders, NextOrder, NoOrder, OldestOrder, OrderLines,
     Orders, Stocks, Warehouses,
 };
-use cells::{Newest, TidWord};
+use cells::Newest;
 use money::Refusal;
 use population::Population;
 use std::alloc::{AllocError, Global};
 use std::collections::BTreeMap;
 use tables::{RecordKey, Scale, Table, Tables, number_of_key};
+use tidword::TidWord;
 
 /// How a row of a table gives a record its first words.
 pub trait Begins<K, X> {

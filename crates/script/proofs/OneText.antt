@@ -1,5 +1,6 @@
 -- Bytes have one text.
 use Rattle.std.proofs.Common.{◌≡◌, ℕ, Option, None, Some, List, ◌++◌, length, refl, sym, ap, ◌∙◌, subst}
+use Rattle.std.proofs.lemmas.List.{length-map}
 use Rattle.std.specs.Ordering.{ordering_reverse}
 use Rattle.std.specs.declared.cmp.Ordering.{Ordering}
 use Rattle.std.specs.declared.cmp.Ordering.TheVariants.{Less, Equal, Greater}
@@ -11,6 +12,7 @@ use Rattle.conditions.specs.Finds.{Finds}
 use Rattle.conditions.specs.Report.{IsReportOf}
 use Rattle.conditions.specs.declared.report.Report.{Report}
 use Rattle.book.specs.declared.entry.Done.{Done}
+use Rattle.script.specs.Turns.{commits_of}
 use Rattle.script.specs.Written.{start, answers_text, IsWhole}
 use Rattle.script.proofs.OneRun.{one_run}
 
@@ -54,11 +56,12 @@ one_report t a b p q =
     }
 
 -- two whole scripts of the same bytes
-pub one_text : (tables : Database) (bytes text other : List ℕ) (report found : Report) (dones told : List Done) → IsWhole tables bytes text report dones → IsWhole tables bytes other found told → (text ≡ other) × (report ≡ found) × (dones ≡ told)
+pub one_text : (tables : Database) (bytes text other : List ℕ) (report found : Report) (dones told : List Done) → IsWhole tables bytes text report dones → IsWhole tables bytes other found told → (text ≡ other) × (report ≡ found) × (commits_of dones ≡ commits_of told)
 one_text tables bytes text other report found dones told w v =
     let run = one_run (start tables) 1 (lines_of bytes) w.answers v.answers w.last v.last w.turns v.turns in
-    let commits : dones ≡ told = w.dones_are ∙ ap (λ s. s.dones) run.1 ∙ sym v.dones_are in
+    let commits : commits_of dones ≡ commits_of told = w.commits_are ∙ ap (λ s. s.commits) run.1 ∙ sym v.commits_are in
+    let count : length dones ≡ length told = sym (length-map dones _) ∙ ap length commits ∙ length-map told _ in
     let reports : report ≡ found = one_report v.last.tables report found (subst (λ s. IsReportOf s.tables report) run.1 w.report_is) v.report_is in
     let texts : answers_text w.answers ++ report_text (length dones) report ≡ answers_text v.answers ++ report_text (length told) found =
-    λ i. answers_text (run.0 i) ++ report_text (length (commits i)) (reports i) in
+    λ i. answers_text (run.0 i) ++ report_text (count i) (reports i) in
     (w.text_is ∙ texts ∙ sym v.text_is, reports, commits)

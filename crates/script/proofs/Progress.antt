@@ -14,7 +14,7 @@ use Rattle.conditions.specs.declared.report.Report.{Report}
 use Rattle.lines.specs.Lines.{lines_of}
 use Rattle.lines.specs.Report.{report_text}
 use Rattle.book.specs.declared.entry.Done.{Done}
-use Rattle.script.specs.Turns.{AreTurns}
+use Rattle.script.specs.Turns.{AreTurns, commits_of}
 use Rattle.script.specs.Written.{start, HasTooManyLines, IsWhole, IsBeginning, of_answers, of_whole}
 use Rattle.script.specs.Answered.{state_of, Standing, HasAnswered, HasAnsweredAll, HasTooMany}
 use Rattle.script.proofs.DeskLemmas.{lines_of_more}
@@ -58,13 +58,13 @@ begun_all tables bytes written d h =
     of_answers (lines_of bytes) [] h.answers (state_of tables d.session) (d.output) (sym (append-nil _)) h.turns (h.output_is ∙ ap (λ w. w ++ d.output) (sym (append-nil written)))
 
 -- the report stands behind the answers
-pub whole : (tables : Database) (bytes written output : List ℕ) (d : Standing) (report : Report) (dones : List Done) → HasAnsweredAll tables bytes written d → IsReportOf (state_of tables d.session).tables report → dones ≡ (state_of tables d.session).dones → output ≡ d.output ++ report_text (length dones) report → IsWhole tables bytes (written ++ output) report dones
+pub whole : (tables : Database) (bytes written output : List ℕ) (d : Standing) (report : Report) (dones : List Done) → HasAnsweredAll tables bytes written d → IsReportOf (state_of tables d.session).tables report → dones ≡ d.session.dones → output ≡ d.output ++ report_text (length dones) report → IsWhole tables bytes (written ++ output) report dones
 whole tables bytes written output d report dones h is_report dones_are output_is = record {
   answers = h.answers;
   last = (state_of tables d.session);
   turns = h.turns;
   report_is = is_report;
-  dones_are = dones_are;
+  commits_are = ap commits_of dones_are;
   text_is = ap (λ o. written ++ o) output_is ∙ sym (append_assoc written _ _) ∙ ap (λ t. t ++ report_text (length dones) report) (sym h.output_is);
 }
 

@@ -1,8 +1,9 @@
 -- What the calls of a turn make.
-use Rattle.std.proofs.Common.{◌≡◌, ◌≢◌, ℕ, ℤ, ◌<◌, ◌≤◌, Bool, true, false, leb, cond, Option, Some, None, Result, Ok, Err, IfOk, List, [], ◌∷◌, ◌++◌, ◌+◌, length, is_some, ◌⊎◌, inl, inr, true≢false, refl, sym, ap, ◌∙◌, subst, arith}
+use Rattle.std.proofs.Common.{◌≡◌, ◌≢◌, ℕ, ◌<◌, ◌≤◌, Bool, true, false, leb, cond, Option, Some, None, Result, Ok, Err, IfOk, List, [], ◌∷◌, ◌++◌, ◌+◌, length, is_some, ◌⊎◌, inl, inr, true≢false, refl, sym, ap, ◌∙◌, subst, arith}
 use Rattle.std.proofs.lemmas.Bool.Decides.{nat_tests}
 use Rattle.money.specs.declared.refusal.Refusal.{Refusal}
 use Rattle.money.specs.declared.refusal.Refusal.TheVariants.{OutOfMemory, BadInput}
+use Rattle.std.proofs.lemmas.List.{length-map, length_push, map-append}
 use Rattle.std.specs.FinMap.{FinMap, get}
 use Rattle.std.specs.declared.cmp.Ordering.{Ordering}
 use Rattle.tables.specs.Sizes.{Sizes}
@@ -10,20 +11,18 @@ use Rattle.tables.specs.Maps.{RowsAt}
 use Rattle.tables.specs.Database.{Database}
 use Rattle.tables.specs.Inputs.{IsInput}
 use Rattle.tables.specs.declared.input.Input.{Input}
-use Rattle.tables.specs.declared.new_order.RequestedLine.{RequestedLine}
 use Rattle.lines.specs.declared.line_buffer.TheConstants.{MAX_LINE}
 use Rattle.lines.specs.Lines.{held}
 use Rattle.lines.specs.Requests.{HasNumbers, IsWithinReach, IsRefused, request_text}
 use Rattle.lines.specs.declared.request.Request.{Request}
-use Rattle.lines.specs.declared.request.Request.TheVariants as request
 use Rattle.lines.specs.declared.answer.Answer.{Answer}
 use Rattle.lines.specs.declared.answer.Answer.TheVariants as answer
 use Rattle.book.specs.declared.entry.Done.{Done}
-use Rattle.book.specs.History.{replay, commit_tid}
+use Rattle.book.specs.History.{replay}
 use Rattle.book.proofs.Replaying.{replay-scale}
 use Rattle.session.specs.Session.{SessionView, IsNext, IsRefusedAt}
 use Rattle.script.specs.Answered.{state_of, IsMade}
-use Rattle.script.specs.Turns.{State, Turn, IsInputTurn, IsShowTurn, bad, declined, done, IsRequestTurn, IsLineTurn, unread, read, answer_of, input_of, IsTurnOf}
+use Rattle.script.specs.Turns.{State, Turn, Commit, commits_of, IsInputTurn, bad, declined, done, IsRequestTurn, IsLineTurn, unread, read, answer_of, input_of, IsTurnOf}
 
 -- what holds of each answer by its equation holds of the answer
 pub answered_turn : (P Q : Answer → Type 0) (result : Result Answer Refusal) → IfOk result P → ((told : Answer) → P told → Q told) → IfOk result Q
@@ -35,16 +34,14 @@ pub committed_turn : (t0 : Database) (old new : SessionView) (n : ℕ) (x : Inpu
     → IsInput t0.scale x → IsNext t0 old.history new.history x d → IsInputTurn (state_of t0 old) n x (record { answer = told; state = state_of t0 new })
 committed_turn t0 old new n x d told says count dones is next =
     let scale : (replay t0 old.history).scale ≡ t0.scale = replay-scale t0 old.history in
-    let number : d.number ≡ length old.dones + 1 = next.number ∙ next.longer ∙ ap (λ m. m + 1) (sym count) in
-    let one : ◌≡◌ {A = Done} d (record { number = length old.dones + 1; tid = commit_tid (length old.dones + 1); reply = d.reply }) = λ i. record {
-      number = number i;
-      tid = (next.tid ∙ ap commit_tid (sym next.number ∙ number)) i;
-      reply = d.reply;
-    } in
+    let number : d.number ≡ length old.dones + 1 = next.number ∙ (ap length next.entry.1 ∙ length_push old.history next.entry.0) ∙ ap (λ m. m + 1) (sym count) in
+    let length_is : length (commits_of old.dones) ≡ length old.dones = length-map old.dones _ in
+    let one : ◌≡◌ {A = List Commit} (commits_of new.dones) (commits_of old.dones ++ record { number = length (commits_of old.dones) + 1; reply = d.reply } ∷ []) =
+    ap commits_of dones ∙ map-append _ old.dones (d ∷ []) ∙ (λ i. commits_of old.dones ++ record { number = (number ∙ ap (λ m. m + 1) (sym length_is)) i; reply = d.reply } ∷ []) in
     done (replay t0 new.history) d.reply (subst (λ (s : Sizes). IsInput s x) (sym scale) is) next.numbered
-    (subst (λ (s : Sizes). length old.dones < s.commits) (sym scale) (subst (λ m. m < t0.scale.commits) (sym count) next.below))
+    (subst (λ (s : Sizes). length (commits_of old.dones) < s.commits) (sym scale) (subst (λ m. m < t0.scale.commits) (sym (length_is ∙ count)) next.below))
     next.commits
-    (λ i. record { answer = says i; state = record { tables = replay t0 new.history; dones = (dones ∙ ap (λ e. old.dones ++ e ∷ []) one) i } })
+    (λ i. record { answer = says i; state = record { tables = replay t0 new.history; commits = one i } })
 
 -- an input outside its ranges
 pub bad_turn : (t0 : Database) (session : SessionView) (n : ℕ) (x : Input) (refusal : Refusal) (told : Answer) → told ≡ answer.Refused refusal n → (refusal ≡ BadInput) × ¬ IsInput t0.scale x
@@ -59,7 +56,7 @@ pub declined_turn : (t0 : Database) (old new : SessionView) (n : ℕ) (x : Input
 declined_turn t0 old new n x refusal told says same count is refuses =
     let scale : (replay t0 old.history).scale ≡ t0.scale = replay-scale t0 old.history in
     declined refusal (subst (λ (s : Sizes). IsInput s x) (sym scale) is)
-    (subst (λ m. IsRefusedAt (replay t0 old.history) m x refusal) (sym count) refuses)
+    (subst (λ m. IsRefusedAt (replay t0 old.history) m x refusal) (sym (length-map old.dones _ ∙ count)) refuses)
     (λ i. record { answer = says i; state = state_of t0 (same i) })
 
 -- a refusal that isn't for memory

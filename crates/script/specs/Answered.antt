@@ -14,12 +14,12 @@ use Rattle.script.specs.declared.asking.Asked.{Asked}
 use Rattle.script.specs.declared.asking.Asked.TheVariants.{Transaction, Row}
 use Rattle.script.specs.declared.running.Desk.{Desk}
 use Rattle.session.specs.Session.{SessionView}
-use Rattle.script.specs.Turns.{State, AreTurns, IsShown, row_of, input_of}
+use Rattle.script.specs.Turns.{State, AreTurns, commits_of, IsShown, row_of, input_of}
 use Rattle.script.specs.Written.{start, answers_text, HasTooManyLines}
 
 -- the state that a session makes of the tables that the run began with
 abbrev pub state_of : Database → SessionView → State
-state_of t0 session = record { tables = replay t0 session.history; dones = session.dones }
+state_of t0 session = record { tables = replay t0 session.history; commits = commits_of session.dones }
 
 -- what was made of the fields of an input: the input, or a refusal outside its ranges
 abbrev pub IsMade : Sizes → Input → Result Input Refusal → Type 0

@@ -1,5 +1,5 @@
 -- What the lines of a script are answered, and what they commit.
-use Rattle.std.specs.Prelude.{◌≡◌, ℕ, ◌+◌, ◌<◌, ◌≤◌, Option, Some, None, List, [], ◌∷◌, ◌++◌, length}
+use Rattle.std.specs.Prelude.{◌≡◌, ℕ, ◌+◌, ◌<◌, ◌≤◌, Option, Some, None, List, [], ◌∷◌, ◌++◌, length, map}
 use Rattle.std.specs.Option.{option_map}
 use Rattle.std.specs.FinMap.{get}
 use Rattle.money.specs.declared.refusal.Refusal.{Refusal}
@@ -23,14 +23,21 @@ use Rattle.lines.specs.declared.request.Request.{Request}
 use Rattle.lines.specs.declared.request.Request.TheVariants as request
 use Rattle.lines.specs.declared.answer.Answer.{Answer}
 use Rattle.lines.specs.declared.answer.Answer.TheVariants as answer
-use Rattle.book.specs.History.{commit_tid}
 use Rattle.book.specs.declared.entry.Done.{Done}
 use Rattle.session.specs.Session.{IsRefusedAt}
+
+-- what a terminal is told of a commit: its number and its reply. Its TID, which it is told too, is the engine's own
+pub record Commit : Type 0 where
+  pub number : ℕ
+  pub reply : Reply
+
+abbrev pub commits_of : List Done → List Commit
+commits_of dones = map (λ (done : Done). record { number = done.number; reply = done.reply }) dones
 
 -- the committed tables, and what was committed, in order
 pub record State : Type 0 where
   pub tables : Database
-  pub dones : List Done
+  pub commits : List Commit
 
 -- an answer, and the state after it
 pub record Turn : Type 0 where
@@ -55,15 +62,15 @@ committed s tables told = record {
   answer = answer_of told;
   state = record {
     tables = tables;
-    dones = s.dones ++ record { number = length s.dones + 1; tid = commit_tid (length s.dones + 1); reply = told } ∷ [];
+    commits = s.commits ++ record { number = length s.commits + 1; reply = told } ∷ [];
   };
 }
 
 -- the turn of an input that line n asks for: refused outside its ranges, then where the committed tables refuse it, and else committed
 pub data IsInputTurn (s : State) (n : ℕ) (x : Input) (turn : Turn) : Type 0 where
   bad : ¬ IsInput s.tables.scale x → turn ≡ refused s BadInput n → IsInputTurn s n x turn
-  declined : (refusal : Refusal) → IsInput s.tables.scale x → IsRefusedAt s.tables (length s.dones) x refusal → turn ≡ refused s refusal n → IsInputTurn s n x turn
-  done : (tables : Database) (told : Reply) → IsInput s.tables.scale x → HasOrderNumber s.tables x → length s.dones < s.tables.scale.commits → apply s.tables x ≡ Committed tables told → turn ≡ committed s tables told → IsInputTurn s n x turn
+  declined : (refusal : Refusal) → IsInput s.tables.scale x → IsRefusedAt s.tables (length s.commits) x refusal → turn ≡ refused s refusal n → IsInputTurn s n x turn
+  done : (tables : Database) (told : Reply) → IsInput s.tables.scale x → HasOrderNumber s.tables x → length s.commits < s.tables.scale.commits → apply s.tables x ≡ Committed tables told → turn ≡ committed s tables told → IsInputTurn s n x turn
 
 -- a request asks for a row, and its key is one of the scale
 abbrev pub IsShown : Sizes → Request → Type 0

@@ -10,11 +10,11 @@ use Rattle.conditions.specs.Report.{IsReportOf}
 use Rattle.conditions.specs.declared.report.Report.{Report}
 use Rattle.book.specs.declared.entry.Done.{Done}
 use Rattle.script.specs.declared.running.TheConstants.{MAX_LINES}
-use Rattle.script.specs.Turns.{State, AreTurns}
+use Rattle.script.specs.Turns.{State, AreTurns, commits_of}
 
 -- the state in which nothing is committed
 abbrev pub start : Database → State
-start t = record { tables = t; dones = [] }
+start t = record { tables = t; commits = [] }
 
 -- answers, each with a line feed
 abbrev pub answers_text : List Answer → List ℕ
@@ -30,7 +30,7 @@ pub record IsWhole (tables : Database) (bytes text : List ℕ) (report : Report)
   pub last : State
   pub turns : AreTurns (start tables) 1 (lines_of bytes) answers last
   pub report_is : IsReportOf last.tables report
-  pub dones_are : dones ≡ last.dones
+  pub commits_are : commits_of dones ≡ last.commits
   pub text_is : text ≡ answers_text answers ++ report_text (length dones) report
 
 -- a beginning of that text: of the answers to the first of its lines, or of the whole

@@ -68,7 +68,7 @@ pub fn script<R: Read, W: Write, T: Wait>(
     ensures refusals { IfErr result (λ refusal. (refusal ≡ OutOfMemory) ⊎ (refusal ≡ BadInput)
         ⊎ (refusal ≡ Device)) }
 {
-    let parts = Parts::new(rt, alloc, population, 1)?;
+    let parts = Parts::new(rt, alloc, population, 1, 1)?;
     run::<Brand, R, W, T>(rt, alloc, parts, reader, writer)
 }
 

@@ -4,7 +4,7 @@ ghost use Rattle.tables.specs.Database.{Database};
 ghost use Rattle.lines.specs.declared.answer.Answer.{Answer};
 ghost use Rattle.conditions.specs.declared.report.Report.{Report};
 ghost use Rattle.book.specs.declared.entry.Done.{Done};
-ghost use Rattle.script.specs.Turns.{State, AreTurns};
+ghost use Rattle.script.specs.Turns.{State, AreTurns, commits_of};
 ghost use Rattle.script.specs.Written.{IsWhole};
 
 /// The lines of a script determine their answers and the state after them: two runs of the same lines from
@@ -15,10 +15,10 @@ pub fn lines_determine_turns()
         × (last ≡ end) }
 {}
 
-/// The bytes of a script determine its text, its report and its commits: two whole scripts of the same bytes
-/// from the same tables are the same.
+/// The bytes of a script determine its text, its report and its commits, each with its number and its reply: two
+/// whole scripts of the same bytes from the same tables are the same.
 pub fn bytes_determine_text()
     ensures { (tables : Database) (bytes text other : List ℕ) (report found : Report) (dones told : List Done)
         → IsWhole tables bytes text report dones → IsWhole tables bytes other found told
-        → (text ≡ other) × (report ≡ found) × (dones ≡ told) }
+        → (text ≡ other) × (report ≡ found) × (commits_of dones ≡ commits_of told) }
 {}

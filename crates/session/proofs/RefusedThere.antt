@@ -9,6 +9,7 @@ use Rattle.tables.specs.declared.input.Input.{Input}
 use Rattle.cells.specs.Records.{ReaderView}
 use Rattle.readset.specs.Commit.{IsCommitted}
 use Rattle.readset.specs.Refused.{IsRefusal}
+use Rattle.readset.specs.declared.work.Work.{Work}
 use Rattle.book.specs.History.{replay, IsDone}
 use Rattle.book.specs.declared.entry.Entry.{Entry}
 use Rattle.book.proofs.Replaying.{replay-IsOf, replay-scale}
@@ -29,8 +30,9 @@ module _ (t0 : Database) (history : List Entry) (x : Input) where
   as_refused old new _ h other = absurd h
 
 -- a work that is done there, and comes at the commit cap
-pub commits_full : (t0 : Database) (history : List Entry) (e : Entry) → IsDone (replay t0 history) e → t0.scale.commits ≤ length history → IsRefusedAt (replay t0 history) (length history) e.input CommitsFull
-commits_full t0 history e done cap = (
+pub commits_full : (t0 : Database) (history : List Entry) (work : Work) → IsDone (replay t0 history) work.input work.writes work.reply → t0.scale.commits ≤ length history
+    → IsRefusedAt (replay t0 history) (length history) work.input CommitsFull
+commits_full t0 history work done cap = (
   subst IsCommitted (sym done.commit.commits) tt,
   done.commit.numbered,
   subst (λ (s : Sizes). s.commits ≤ length history) (sym (replay-scale t0 history)) cap,

@@ -11,7 +11,7 @@ ghost use Rattle.records.specs.Held.{row_count};
 ghost use Rattle.records.specs.Newest.{value_at, AreLawful};
 ghost use Rattle.records.specs.Puts.{MayHold};
 
-use cells::{Newest, TidWord};
+use cells::Newest;
 use money::{Cents, Rate, Refusal};
 use population::Population;
 use records::tables_of;
@@ -21,6 +21,7 @@ use tables::{
     District, DistrictKey, History, Order, OrderKey, RecordKey, Scale, Tables, key_of,
     number_of_key,
 };
+use tidword::TidWord;
 
 const DISTRICT: DistrictKey = DistrictKey {
     warehouse: 1,

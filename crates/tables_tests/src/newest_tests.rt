@@ -1,10 +1,11 @@
 //! What the records of the plain population begin with.
 
-use cells::{Newest, TidWord};
+use cells::Newest;
 use population::Population;
 use records::newest_of;
 use std::test::Fail;
 use tables::Scale;
+use tidword::TidWord;
 
 const ABSENT: Newest = Newest {
     word: TidWord::ABSENT,

@@ -1,5 +1,5 @@
 use Rattle.std.proofs.Common.{◌≡◌, ◌∙◌, arith}
-use Rattle.cells.specs.TidWord.{tid_of}
+use Rattle.tidword.specs.TidWord.{tid_of}
 use Rattle.cells.specs.Versions.{last_tid}
 use Rattle.cells.specs.Records.{at}
 use Rattle.cells.proofs.Records.{last_tid-writes}

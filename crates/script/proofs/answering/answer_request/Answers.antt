@@ -1,9 +1,8 @@
-use Rattle.std.proofs.Common.{ap, sym, ◌∙◌, subst}
+use Rattle.std.proofs.Common.{ap, ◌∙◌, subst}
 use Rattle.tables.specs.Sizes.{Sizes}
 use Rattle.tables.specs.Database.{Database}
 use Rattle.lines.specs.declared.request.Request.{Request}
-use Rattle.lines.specs.declared.answer.Answer.{Answer}
-use Rattle.script.specs.Answered.{state_of, IsMade, Shows}
+use Rattle.script.specs.Answered.{state_of, IsMade}
 use Rattle.script.specs.Turns.{IsShowTurn}
 use Rattle.script.proofs.TurnLemmas.{made_turn, transaction_turn, asked_turn}
 use Rattle.script.proofs.answering.answer_request.Goals as goal

@@ -1,5 +1,4 @@
-use Rattle.std.proofs.Common.{inl, inr, ⊎_elim, ◌+◌, length, refl, sym, subst}
-use Rattle.book.specs.Book.{entry_of}
+use Rattle.std.proofs.Common.{inl, inr, ⊎_elim, length, refl, sym, subst}
 use Rattle.book.specs.History.{replay}
 use Rattle.session.specs.Session.{IsRefusedAt}
 use Rattle.session.proofs.Commits.{is_next}
@@ -9,7 +8,7 @@ use Rattle.session.proofs.attempting.commit_work.Goals as goal
 pub returns-in-Ok-clause-commits : goal.returns-in-Ok-clause-commits
 returns-in-Ok-clause-commits g c =
     let answer = c.in-Ok.ensures.answer in
-    is_next g.K.Run.first c.args.book.now.history c.commit.new.self.history c.args.seat.now.share.terminal c.args.work c.args.work.input c.in-Ok.done answer.2.history refl answer.3 answer.6 answer.1
+    is_next g.K.Run.first c.args.book.now.history c.commit.new.self.history c.args.seat.now.share.terminal c.args.work c.args.work.input c.in-Ok.done answer.3.history refl answer.4 answer.5 answer.8 answer.1
 
 pub returns-in-Err-clause-refusals : goal.returns-in-Err-clause-refusals
 returns-in-Err-clause-refusals g c =
@@ -19,7 +18,7 @@ returns-in-Err-clause-refusals g c =
     ⊎_elim
     (λ conflict. inl conflict.0)
     (λ latest. ⊎_elim
-    (λ full. inr (inr (subst refused (sym full.0) (commits_full t0 history (entry_of (length history + 1) c.args.seat.now.share.terminal c.args.work) latest.1 full.1))))
-    (λ memory. inr (inl memory.0))
+    (λ full. inr (inr (subst refused (sym full.0) (commits_full t0 history c.args.work latest.1 full.1))))
+    (λ rest. ⊎_elim (λ epoch. absurd (c.in-Err.ensures.cap_first epoch.0)) (λ memory. inr (inl memory.0)) rest)
     latest.2)
     c.in-Err.ensures.answer.2

@@ -1,103 +1,236 @@
-use Rattle.std.proofs.Common.{◌≡◌, ℕ, ◌+◌, ◌<◌, ◌≤◌, ◌⊎◌, List, [], ◌∷◌, ◌++◌, inr, refl, sym, ap, ◌∙◌, subst, length, arith, rules, length-append}
-use Rattle.money.specs.declared.refusal.Refusal.TheVariants.{OutOfMemory, CommitsFull}
+use Rattle.std.proofs.Common.{◌≡◌, ◌≢◌, ℕ, ◌+◌, ◌<◌, ◌≤◌, ◌⊎◌, Option, Some, None, IsSome, inl, List, [], ◌∷◌, ◌++◌, inr, refl, sym, ap, ◌∙◌, subst, length, arith, rules, length-append}
+use Rattle.std.specs.Prelude.{slice_index_or, slice_set}
+use Rattle.std.proofs.lemmas.Grind.{get_or_default_zero}
+use Rattle.money.specs.declared.refusal.Refusal.{Refusal}
+use Rattle.money.specs.declared.refusal.Refusal.TheVariants.{OutOfMemory, Conflict, CommitsFull, EpochFull}
 use Rattle.tables.specs.Sizes.{Sizes}
 use Rattle.tables.specs.Database.{Database}
 use Rattle.population.specs.Initial.{initial}
 use Rattle.population.specs.declared.population.Population.{Population}
+use Rattle.cells.specs.Versions.{last_tid}
 use Rattle.cells.specs.Records.{PenView, at}
+use Rattle.readset.specs.Writes.{value_for}
 use Rattle.cells.proofs.Grown.{grown_twice}
 use Rattle.book.specs.Book.{BookView, AreLatest, IsSound, IsReadBy, Commits, HasSeen, entry_of}
-use Rattle.book.specs.Ready.{IsReady, AreNewest}
-use Rattle.book.specs.History.{replay, commit_tid, IsDone, new_versions}
+use Rattle.book.specs.Ready.{IsReady, AreLast, AreNewest}
+use Rattle.book.specs.History.{replay, IsDone, new_versions}
+use Rattle.book.specs.Stamps.{last_of, tid_for}
 use Rattle.book.specs.Share.{ShareView}
+use Rattle.book.specs.Shows.{Shows, IsRun, reads_of}
 use Rattle.tables.specs.Apply.{after}
+use Rattle.book.proofs.Runs.{stale_run, full_run, run}
 use Rattle.book.proofs.Newest.{given_back}
 use Rattle.book.proofs.Replaying.{replay_push}
-use Rattle.book.proofs.Sound.{next_sound, done_there}
+use Rattle.book.proofs.Sound.{done_there}
+use Rattle.book.proofs.Stamped.{lasts_next}
+use Rattle.book.proofs.Taken.{same_next, there_is, taken_above, next_kept}
 use Rattle.book.proofs.Committed.{read_by_more}
 use Rattle.book.specs.declared.entry.Entry.{Entry}
+use Rattle.book.specs.declared.entry.Done.{Done}
+use Rattle.book.specs.declared.epoch.TheConstants.{EPOCH}
 use Rattle.book.proofs.book.Book.commit.Goals as goal
 
 -- the commit cap is that of the run's first tables
 capped : (t0 : Database) {p q : Population} {s : Sizes} {n : ℕ} → n ≡ s.commits → s ≡ (initial p).scale → p ≡ q → initial q ≡ t0 → n ≡ t0.scale.commits
 capped t0 a b d e = a ∙ ap (λ (s : Sizes). s.commits) (b ∙ ap (λ (r : Population). (initial r).scale) d ∙ ap (λ (t : Database). t.scale) e)
 
+abbrev kept : PenView → List Entry → BookView
+kept pen history = record { written = pen; history = history }
+
+-- the terminal's last TID, where the vector has it
+last_is : {terminals terminal last : ℕ} {history : List Entry} {lasts : List ℕ} → AreLast terminals history lasts → terminal < terminals → last ≡ slice_index_or lasts terminal last → last ≡ last_of terminal history
+last_is {terminal = terminal} {last = last} {lasts = lasts} are small is =
+    let within : terminal < length lasts = subst (λ n. terminal < n) (sym are.count) small in
+    is ∙ get_or_default_zero lasts terminal last within ∙ are.last terminal within
+
+never_full : (refusal : Refusal) (count cap : ℕ) (next : Option ℕ)
+    → ((refusal ≡ CommitsFull) × (cap ≤ count)) ⊎ ((refusal ≡ EpochFull) × (count < cap) × (next ≡ None)) ⊎ ((refusal ≡ OutOfMemory) × (count < cap) × IsSome next)
+    → (count < cap → next ≡ None → ⊥) → refusal ≢ EpochFull
+never_full refusal count cap next (inl full) never e = other (sym full.0 ∙ e)
+  where
+    other : CommitsFull ≢ EpochFull
+    other h = cc
+never_full refusal count cap next (inr (inl epoch)) never e = never epoch.1 epoch.2
+never_full refusal count cap next (inr (inr memory)) never e = other (sym memory.0 ∙ e)
+  where
+    other : OutOfMemory ≢ EpochFull
+    other h = cc
+
+-- these refusals say nothing of a conflict, and of the epoch that there is no TID
+only_full : (refusal : Refusal) (count cap : ℕ) (next : Option ℕ)
+    → ((refusal ≡ CommitsFull) × (cap ≤ count)) ⊎ ((refusal ≡ EpochFull) × (count < cap) × (next ≡ None)) ⊎ ((refusal ≡ OutOfMemory) × (count < cap) × IsSome next)
+    → (refusal ≢ Conflict) × (refusal ≡ EpochFull → next ≡ None)
+only_full refusal count cap next (inl full) = ((λ e. never (sym full.0 ∙ e)), (λ e. absurd (other (sym full.0 ∙ e))))
+  where
+    never : CommitsFull ≢ Conflict
+    never h = cc
+
+    other : CommitsFull ≢ EpochFull
+    other h = cc
+only_full refusal count cap next (inr (inl epoch)) = ((λ e. never (sym epoch.0 ∙ e)), (λ _. epoch.2))
+  where
+    never : EpochFull ≢ Conflict
+    never h = cc
+only_full refusal count cap next (inr (inr memory)) = ((λ e. never (sym memory.0 ∙ e)), (λ e. absurd (other (sym memory.0 ∙ e))))
+  where
+    never : OutOfMemory ≢ Conflict
+    never h = cc
+
+    other : OutOfMemory ≢ EpochFull
+    other h = cc
+
+conflict_not_full : Conflict ≢ EpochFull
+conflict_not_full h = cc
+
 pub returns-in-Err-clause-answer : goal.returns-in-Err-clause-answer
 returns-in-Err-clause-answer g c =
     let view = c.self.view_is in
-    let cap = capped g.K.Run.first c.commits-cap.ensures.value c.scale.ensures c.deref.ensures c.self.invariant.3 in (
+    let items : List Entry = c.self.inside.history.items in
+    let cap = capped g.K.Run.first c.commits-cap.ensures.value c.scale.ensures c.deref.ensures c.self.invariant.3 in
+    let found = c.in-Some.ensures.latest in
+    let lasts = c.self.invariant.5 in
+    let last : c.index-last.result.now ≡ last_of c.share.inside.terminal items = last_is lasts c.share.invariant.1 c.index-last.ensures in
+    let same = same_next g.K.Run.first g.K.Run.cells (kept c.self.inside.pen items) (replay g.K.Run.first items) c.self.invariant.0 c.self.invariant.1 c.args.reader.now c.args.work c.requires.work found.0
+    c.share.inside.terminal c.in-Some.seen c.index-last.result.now found.2 found.1 last in (
       (λ i. record { written = c.validate.ensures.pen i; history = c.prepare.ensures.history i }) ∙ view,
       refl,
       inr (
-        subst (λ (k : BookView). AreLatest k.written.all c.args.work.reads) view c.if-not-validate.ensures.latest,
-        subst (λ (k : BookView). IsDone (replay g.K.Run.first k.history) (entry_of (length k.history + 1) c.args.share.now.terminal c.args.work)) view
-            (done_there g.K.Run.first g.K.Run.cells (record { written = c.self.inside.pen; history = c.self.inside.history.items }) (replay g.K.Run.first c.self.inside.history.items) c.self.invariant.0 c.self.invariant.1
-            c.args.reader.now c.args.work c.requires.work c.if-not-validate.ensures.latest (length c.self.inside.history.items + 1) c.args.share.now.terminal),
-        subst (λ (q : ℕ × BookView). ((c.in-Err.refusal ≡ CommitsFull) × (q.0 ≤ length q.1.history)) ⊎ ((c.in-Err.refusal ≡ OutOfMemory) × (length q.1.history < q.0)))
-            (λ i. (cap i, view i)) c.in-Err.ensures.refused,
+        subst (λ (k : BookView). AreLatest k.written.all c.args.work.reads) view found.0,
+        subst (λ (k : BookView). IsDone (replay g.K.Run.first k.history) c.args.work.input c.args.work.writes c.args.work.reply) view
+            (done_there g.K.Run.first g.K.Run.cells (kept c.self.inside.pen items) (replay g.K.Run.first items) c.self.invariant.0 c.self.invariant.1 c.args.reader.now c.args.work c.requires.work found.0),
+        subst (λ (q : ℕ × BookView × Option ℕ). ((c.in-Err.refusal ≡ CommitsFull) × (q.0 ≤ length q.1.history))
+            ⊎ ((c.in-Err.refusal ≡ EpochFull) × (length q.1.history < q.0) × (q.2 ≡ None)) ⊎ ((c.in-Err.refusal ≡ OutOfMemory) × (length q.1.history < q.0) × IsSome q.2))
+            (λ i. (cap i, view i, (same ∙ (λ j. tid_for (view j).history (c.share.view_is j).terminal EPOCH c.args.work.reads)) i)) c.in-Err.ensures.refused,
       ),
     )
+
+pub returns-in-Err-clause-cap_first : goal.returns-in-Err-clause-cap_first
+returns-in-Err-clause-cap_first g c =
+    let items : List Entry = c.self.inside.history.items in
+    let cap = capped g.K.Run.first c.commits-cap.ensures.value c.scale.ensures c.deref.ensures c.self.invariant.3 in
+    let found = c.in-Some.ensures.latest in
+    let last : c.index-last.result.now ≡ last_of c.share.inside.terminal items = last_is c.self.invariant.5 c.share.invariant.1 c.index-last.ensures in
+    never_full c.in-Err.refusal (length items) c.commits-cap.result _ c.in-Err.ensures.refused (λ below none. there_is g.K.Run.first g.K.Run.cells (kept c.self.inside.pen items) (replay g.K.Run.first items) c.self.invariant.0 c.self.invariant.1 c.args.reader.now c.args.work c.requires.work found.0
+    c.share.inside.terminal c.in-Some.seen c.index-last.result.now found.2 found.1 last (subst (λ n. length items < n) cap below) none)
 
 pub store-requires-clause-read : goal.store-requires-clause-read
 store-requires-clause-read g c =
     subst (λ (cells : List _). IsReadBy (length cells) c.validate.new.reader c.args.work.reads) (sym c.requires.cells)
     (read_by_more (length g.K.Run.cells) c.args.reader.now c.validate.new.reader c.args.work.reads c.requires.work.read c.validate.ensures.reader)
 
+pub store-requires-clause-larger : goal.store-requires-clause-larger
+store-requires-clause-larger g c =
+    let items : List Entry = c.self.inside.history.items in
+    let found = c.in-Some.ensures.latest in
+    let last : c.index-last.result.now ≡ last_of c.share.inside.terminal items = last_is c.self.invariant.5 c.share.invariant.1 c.index-last.ensures in
+    subst (λ (w : PenView). (n : ℕ) (value : Option (List ℕ)) → value_for c.args.work.writes n ≡ Some value → last_tid (at w.all n) < c.in-Ok.prepared.tid) (sym c.validate.ensures.pen)
+    (taken_above g.K.Run.first g.K.Run.cells (kept c.self.inside.pen items) (replay g.K.Run.first items) c.self.invariant.0 c.self.invariant.1 c.args.reader.now c.args.work c.requires.work found.0
+    c.share.inside.terminal c.in-Some.seen c.index-last.result.now found.2 found.1 last c.in-Ok.prepared.tid c.in-Ok.ensures.lawful c.in-Ok.ensures.tid)
+
 pub returns-clause-reader : goal.returns-clause-reader
 returns-clause-reader g c = grown_twice c.args.reader.now c.validate.new.reader c.store.new.reader c.validate.ensures.reader c.store.ensures.reader
 
 pub invariant_of-self-2 : goal.invariant_of-self-2
 invariant_of-self-2 g c =
-    let sound = c.self.invariant.0 in
     let items : List Entry = c.self.inside.history.items in
+    let found = c.in-Some.ensures.latest in
     let cap = capped g.K.Run.first c.commits-cap.ensures.value c.scale.ensures c.deref.ensures c.self.invariant.3 in
     let len : c.len.result ≡ length c.prepare.new.history.items = search rules in
-    let small : length c.self.inside.history.items < g.K.Run.first.scale.commits = omega (arith, c.in-Ok.ensures.below, cap) in
-    let next : c.len.result + 1 ≡ length c.self.inside.history.items + 1 = ap (λ n. n + 1) (len ∙ ap length c.prepare.ensures.history) in
+    let small : length items < g.K.Run.first.scale.commits = omega (arith, c.in-Ok.ensures.below, cap) in
+    let next : c.len.result + 1 ≡ length items + 1 = ap (λ n. n + 1) (len ∙ ap length c.prepare.ensures.history) in
     let cells : c.store.new.pen.cells ≡ c.self.inside.pen.cells = c.store.ensures.cells ∙ ap (λ (w : PenView). w.cells) c.validate.ensures.pen in
-    let made = next_sound g.K.Run.first g.K.Run.cells (record { written = c.self.inside.pen; history = c.self.inside.history.items }) (replay g.K.Run.first c.self.inside.history.items) sound c.self.invariant.1
-    c.args.reader.now c.args.work c.requires.work c.if-not-validate.ensures.latest c.share.inside.terminal c.store.new.pen small cells
-    (λ n. c.store.ensures.versions n ∙ (λ i. at (c.validate.ensures.pen i).all n ++ new_versions (next i) c.args.work.writes.values n)) in
-    let history : c.push_reserved.new.self.items ≡ c.self.inside.history.items ++ entry_of (length c.self.inside.history.items + 1) c.share.inside.terminal c.args.work ∷ [] =
-    c.push_reserved.ensures.items ∙ (λ i. c.prepare.ensures.history i ++ record { number = next i; tid = (c.tid_for-tid.ensures ∙ ap commit_tid next) i; terminal = c.share.inside.terminal; input = c.args.work.input; reply = c.args.work.reply; writes = c.in-Ok.ensures.writes i } ∷ []) in
-    let led : after (replay g.K.Run.first c.self.inside.history.items) c.args.work.input ≡ replay g.K.Run.first c.push_reserved.new.self.items =
-    sym (replay_push g.K.Run.first c.self.inside.history.items (entry_of (length c.self.inside.history.items + 1) c.share.inside.terminal c.args.work)) ∙ ap (replay g.K.Run.first) (sym history) in (
+    let last : c.index-last.result.now ≡ last_of c.share.inside.terminal items = last_is c.self.invariant.5 c.share.invariant.1 c.index-last.ensures in
+    let tid : ℕ = c.in-Ok.prepared.tid in
+    let stores : (n : ℕ) → at c.store.new.pen.all n ≡ at c.self.inside.pen.all n ++ new_versions c.in-Ok.prepared.tid c.args.work.writes.values n = λ n. c.store.ensures.versions n ∙ (λ i. at (c.validate.ensures.pen i).all n ++ new_versions c.in-Ok.prepared.tid c.args.work.writes.values n) in
+    let made = next_kept g.K.Run.first g.K.Run.cells (kept c.self.inside.pen items) (replay g.K.Run.first items) c.self.invariant.0 c.self.invariant.1 c.args.reader.now c.args.work c.requires.work found.0
+    c.share.inside.terminal c.in-Some.seen c.index-last.result.now found.2 found.1 last c.in-Ok.prepared.tid c.in-Ok.ensures.lawful c.in-Ok.ensures.tid c.store.new.pen small cells stores in
+    let history : c.push_reserved.new.self.items ≡ items ++ entry_of (length items + 1) c.in-Ok.prepared.tid c.share.inside.terminal c.args.work ∷ [] =
+    c.push_reserved.ensures.items ∙ (λ i. c.prepare.ensures.history i ++ record { number = next i; tid = c.in-Ok.prepared.tid; terminal = c.share.inside.terminal; input = c.args.work.input; reply = c.args.work.reply; writes = c.in-Ok.ensures.writes i } ∷ []) in
+    let led : after (replay g.K.Run.first items) c.args.work.input ≡ replay g.K.Run.first c.push_reserved.new.self.items =
+    sym (replay_push g.K.Run.first items (entry_of (length items + 1) c.in-Ok.prepared.tid c.share.inside.terminal c.args.work)) ∙ ap (replay g.K.Run.first) (sym history) in (
       subst (λ (q : List Entry × Database). IsSound g.K.Run.first g.K.Run.cells (record { written = c.store.new.pen; history = q.0 }) q.1) (λ i. (sym history i, led i)) made.0,
       subst (λ (q : List Entry × Database). IsReady g.K.Run.first g.K.Run.cells (record { written = c.store.new.pen; history = q.0 }) q.1) (λ i. (sym history i, led i)) made.1,
       subst (AreNewest c.store.new.pen) (sym (given_back c.self.inside.newest.len c.store.new.newest c.self.inside.newest.items c.self.inside.newest.ok.0
           (c.store.ensures.newest.count ∙ ap length cells ∙ sym c.self.invariant.2.count))) c.store.ensures.newest,
       c.self.invariant.3,
-      c.add.ensures.total ∙ ap (λ n. n + 1) c.self.invariant.4 ∙ sym (ap length history ∙ length-append c.self.inside.history.items (entry_of (length c.self.inside.history.items + 1) c.share.inside.terminal c.args.work ∷ [])),
+      c.add.ensures.total ∙ ap (λ n. n + 1) c.self.invariant.4 ∙ sym (ap length history ∙ length-append items (entry_of (length items + 1) c.in-Ok.prepared.tid c.share.inside.terminal c.args.work ∷ [])),
+      subst (λ (h : List Entry). AreLast g.K.Ledger.parts h (slice_set c.self.inside.lasts.items c.share.inside.terminal c.in-Ok.prepared.tid)) (sym history)
+          (lasts_next g.K.Ledger.parts items c.self.inside.lasts.items (entry_of (length items + 1) c.in-Ok.prepared.tid c.share.inside.terminal c.args.work) c.self.invariant.5
+          (subst (λ n. c.share.inside.terminal < n) (sym c.self.invariant.5.count) c.share.invariant.1)),
     )
 
 pub returns-clause-answer : goal.returns-clause-answer
 returns-clause-answer g c =
-    let sound = c.self.invariant.0 in
+    let items : List Entry = c.self.inside.history.items in
+    let found = c.in-Some.ensures.latest in
     let cap = capped g.K.Run.first c.commits-cap.ensures.value c.scale.ensures c.deref.ensures c.self.invariant.3 in
     let len : c.len.result ≡ length c.prepare.new.history.items = search rules in
-    let small : length c.self.inside.history.items < g.K.Run.first.scale.commits = omega (arith, c.in-Ok.ensures.below, cap) in
-    let next : c.len.result + 1 ≡ length c.self.inside.history.items + 1 = ap (λ n. n + 1) (len ∙ ap length c.prepare.ensures.history) in
+    let small : length items < g.K.Run.first.scale.commits = omega (arith, c.in-Ok.ensures.below, cap) in
+    let next : c.len.result + 1 ≡ length items + 1 = ap (λ n. n + 1) (len ∙ ap length c.prepare.ensures.history) in
     let cells : c.store.new.pen.cells ≡ c.self.inside.pen.cells = c.store.ensures.cells ∙ ap (λ (w : PenView). w.cells) c.validate.ensures.pen in
-    let stores : (n : ℕ) → at c.store.new.pen.all n ≡ at c.self.inside.pen.all n ++ new_versions (length c.self.inside.history.items + 1) c.args.work.writes.values n = λ n. c.store.ensures.versions n ∙ (λ i. at (c.validate.ensures.pen i).all n ++ new_versions (next i) c.args.work.writes.values n) in
-    let tid = c.tid_for-tid.ensures ∙ ap commit_tid next in
-    let history : c.push_reserved.new.self.items ≡ c.self.inside.history.items ++ entry_of (length c.self.inside.history.items + 1) c.share.inside.terminal c.args.work ∷ [] =
-    c.push_reserved.ensures.items ∙ (λ i. c.prepare.ensures.history i ++ record { number = next i; tid = tid i; terminal = c.share.inside.terminal; input = c.args.work.input; reply = c.args.work.reply; writes = c.in-Ok.ensures.writes i } ∷ []) in
-    subst (λ (q : BookView × ShareView). AreLatest q.0.written.all c.args.work.reads × (length q.0.history < g.K.Run.first.scale.commits)
-    × Commits q.0 (record { written = c.store.new.pen; history = c.push_reserved.new.self.items }) (entry_of (length q.0.history + 1) q.1.terminal c.args.work)
-    × (c.of.result ≡ record { number = length q.0.history + 1; tid = commit_tid (length q.0.history + 1); reply = c.args.work.reply })
+    let last : c.index-last.result.now ≡ last_of c.share.inside.terminal items = last_is c.self.invariant.5 c.share.invariant.1 c.index-last.ensures in
+    let same = same_next g.K.Run.first g.K.Run.cells (kept c.self.inside.pen items) (replay g.K.Run.first items) c.self.invariant.0 c.self.invariant.1 c.args.reader.now c.args.work c.requires.work found.0
+    c.share.inside.terminal c.in-Some.seen c.index-last.result.now found.2 found.1 last in
+    let stores : (n : ℕ) → at c.store.new.pen.all n ≡ at c.self.inside.pen.all n ++ new_versions c.in-Ok.prepared.tid c.args.work.writes.values n = λ n. c.store.ensures.versions n ∙ (λ i. at (c.validate.ensures.pen i).all n ++ new_versions c.in-Ok.prepared.tid c.args.work.writes.values n) in
+    let history : c.push_reserved.new.self.items ≡ items ++ entry_of (length items + 1) c.in-Ok.prepared.tid c.share.inside.terminal c.args.work ∷ [] =
+    c.push_reserved.ensures.items ∙ (λ i. c.prepare.ensures.history i ++ record { number = next i; tid = c.in-Ok.prepared.tid; terminal = c.share.inside.terminal; input = c.args.work.input; reply = c.args.work.reply; writes = c.in-Ok.ensures.writes i } ∷ []) in
+    let of : c.of.result ≡ record { number = length items + 1; tid = c.in-Ok.prepared.tid; reply = c.args.work.reply } = c.of.ensures ∙ (λ i. record { number = next i; tid = c.in-Ok.prepared.tid; reply = c.in-Ok.ensures.reply i }) in
+    subst (λ (q : BookView × ShareView × Done). AreLatest q.0.written.all c.args.work.reads × (length q.0.history < g.K.Run.first.scale.commits)
+    × (tid_for q.0.history q.1.terminal EPOCH c.args.work.reads ≡ Some q.2.tid)
+    × Commits q.0 (record { written = c.store.new.pen; history = c.push_reserved.new.self.items }) (entry_of (length q.0.history + 1) q.2.tid q.1.terminal c.args.work)
+    × (q.2.number ≡ length q.0.history + 1) × (q.2.reply ≡ c.args.work.reply)
     × (◌≡◌ {A = ShareView} (record { terminal = c.share.inside.terminal; parts = c.add.new.share.parts; commits = c.add.new.share.amount }) (record { terminal = q.1.terminal; parts = q.1.parts; commits = q.1.commits + 1 }))
     × HasSeen c.store.new.reader c.store.new.pen c.args.work.writes
-    × IsDone (replay g.K.Run.first q.0.history) (entry_of (length q.0.history + 1) q.1.terminal c.args.work)) (λ i. (c.self.view_is i, c.share.view_is i)) (
-      c.if-not-validate.ensures.latest,
+    × IsDone (replay g.K.Run.first q.0.history) c.args.work.input c.args.work.writes c.args.work.reply) (λ i. (c.self.view_is i, c.share.view_is i, sym of i)) (
+      found.0,
       small,
+      sym same ∙ c.in-Ok.ensures.tid,
       record {
         history = history;
         cells = cells;
         versions = λ n _. stores n;
       },
-      c.of.ensures ∙ (λ i. record { number = next i; tid = tid i; reply = c.in-Ok.ensures.reply i }),
+      refl,
+      refl,
       (λ i. record { terminal = c.share.inside.terminal; parts = c.add.ensures.parts i; commits = c.add.ensures.amount i }),
       c.store.ensures.seen,
-      done_there g.K.Run.first g.K.Run.cells (record { written = c.self.inside.pen; history = c.self.inside.history.items }) (replay g.K.Run.first c.self.inside.history.items) sound c.self.invariant.1
-          c.args.reader.now c.args.work c.requires.work c.if-not-validate.ensures.latest (length c.self.inside.history.items + 1) c.share.inside.terminal,
+      done_there g.K.Run.first g.K.Run.cells (kept c.self.inside.pen items) (replay g.K.Run.first items) c.self.invariant.0 c.self.invariant.1 c.args.reader.now c.args.work c.requires.work found.0,
     )
+
+pub returns-in_default-clause-section : goal.returns-in_default-clause-section
+returns-in_default-clause-section g c m w shows =
+    let items : List Entry = c.self.inside.history.items in
+    record {
+      conflict = λ _. stale_run g.K.Run.first g.K.Run.cells (kept c.self.inside.pen items) (replay g.K.Run.first items) c.self.invariant.0 c.self.invariant.1 c.args.reader.now c.args.work c.requires.work c.in_order.ensures
+          c.args.share.now.terminal w m (subst (λ k. Shows k c.args.share.now.terminal EPOCH c.args.work.reads m w) (sym c.self.view_is) shows) c.in_default.ensures.latest;
+      epoch_full = λ e. absurd (conflict_not_full e);
+    }
+
+pub returns-in-Err-clause-section : goal.returns-in-Err-clause-section
+returns-in-Err-clause-section g c m w shows =
+    let items : List Entry = c.self.inside.history.items in
+    let found = c.in-Some.ensures.latest in
+    let last : c.index-last.result.now ≡ last_of c.share.inside.terminal items = last_is c.self.invariant.5 c.share.invariant.1 c.index-last.ensures in
+    let same = same_next g.K.Run.first g.K.Run.cells (kept c.self.inside.pen items) (replay g.K.Run.first items) c.self.invariant.0 c.self.invariant.1 c.args.reader.now c.args.work c.requires.work found.0
+    c.share.inside.terminal c.in-Some.seen c.index-last.result.now found.2 found.1 last in
+    let only = only_full c.in-Err.refusal (length items) c.commits-cap.result _ c.in-Err.ensures.refused in
+    record {
+      conflict = λ e. absurd (only.0 e);
+      epoch_full = λ e. full_run g.K.Run.first g.K.Run.cells (kept c.self.inside.pen items) (replay g.K.Run.first items) c.self.invariant.0 c.self.invariant.1 c.args.reader.now c.args.work c.requires.work c.in_order.ensures
+          c.share.inside.terminal w m (subst (λ (q : BookView × ShareView). Shows q.0 q.1.terminal EPOCH c.args.work.reads m w) (λ i. (sym c.self.view_is i, sym c.share.view_is i)) shows) found.0 (sym same ∙ only.1 e);
+    }
+
+pub returns-clause-section : goal.returns-clause-section
+returns-clause-section g c m w shows =
+    let items : List Entry = c.self.inside.history.items in
+    let found = c.in-Some.ensures.latest in
+    let last : c.index-last.result.now ≡ last_of c.share.inside.terminal items = last_is c.self.invariant.5 c.share.invariant.1 c.index-last.ensures in
+    let same = same_next g.K.Run.first g.K.Run.cells (kept c.self.inside.pen items) (replay g.K.Run.first items) c.self.invariant.0 c.self.invariant.1 c.args.reader.now c.args.work c.requires.work found.0
+    c.share.inside.terminal c.in-Some.seen c.index-last.result.now found.2 found.1 last in
+    let cells : c.store.new.pen.cells ≡ c.self.inside.pen.cells = c.store.ensures.cells ∙ ap (λ (w : PenView). w.cells) c.validate.ensures.pen in
+    let stores : (n : ℕ) → at c.store.new.pen.all n ≡ at c.self.inside.pen.all n ++ new_versions c.in-Ok.prepared.tid c.args.work.writes.values n = λ n. c.store.ensures.versions n ∙ (λ i. at (c.validate.ensures.pen i).all n ++ new_versions c.in-Ok.prepared.tid c.args.work.writes.values n) in
+    let tid : c.in-Ok.prepared.tid ≡ c.of.result.tid = sym (ap (λ (done : Done). done.tid) c.of.ensures) in
+    subst (λ (n : ℕ). IsRun m w (reads_of c.args.work.reads) c.args.work.writes.values n c.store.new.pen) tid
+    (run g.K.Run.first g.K.Run.cells (kept c.self.inside.pen items) (replay g.K.Run.first items) c.self.invariant.0 c.self.invariant.1 c.args.reader.now c.args.work c.requires.work c.in_order.ensures
+    c.share.inside.terminal w m (subst (λ (q : BookView × ShareView). Shows q.0 q.1.terminal EPOCH c.args.work.reads m w) (λ i. (sym c.self.view_is i, sym c.share.view_is i)) shows) found.0
+    c.in-Ok.prepared.tid c.store.new.pen (sym same ∙ c.in-Ok.ensures.tid) c.in-Ok.ensures.lawful.bits cells stores)

@@ -1,4 +1,4 @@
-use Rattle.std.proofs.Common.{◌≤◌, List, length, sym, ap, ◌∙◌, subst, arith, rules}
+use Rattle.std.proofs.Common.{◌<◌, ◌^◌, ◌≤◌, List, length, sym, ap, ◌∙◌, subst, arith, rules}
 use Rattle.std.specs.Arc.{arc_value}
 use Rattle.atomic_table.specs.Seated.{TableId}
 use Rattle.tables.specs.Sizes.{Sizes}
@@ -10,8 +10,8 @@ use Rattle.cells.specs.Records.{PenView, ReaderView}
 use Rattle.book.specs.History.{replay}
 use Rattle.book.specs.Book.{IsSound}
 use Rattle.book.specs.declared.entry.Entry.{Entry}
-use Rattle.book.specs.Ready.{IsReady}
-use Rattle.book.proofs.Opened.{first_sound, first_ready, first_newest}
+use Rattle.book.specs.Ready.{IsReady, AreLast}
+use Rattle.book.proofs.Opened.{first_sound, first_ready, first_lasts, first_newest}
 use Rattle.book.proofs.engine.Engine.open.Goals as goal
 
 pub invariant_of-book : goal.invariant_of-book
@@ -30,6 +30,8 @@ invariant_of-book g c =
       first_newest t0 parts.cells parts.pen parts.newest.items fresh.newest fresh.count fresh.pen,
       fresh.lent ∙ c.requires.run.0,
       c.open-shares.ensures.total ∙ sym (ap length fresh.history),
+      subst (λ (h : List Entry). AreLast g.K.Ledger.parts h c.args.parts.lasts.items) (sym fresh.history)
+          (first_lasts g.K.Ledger.parts (length parts.readers.items) parts.lasts.items fresh.lasts (sym fresh.parts ∙ c.requires.ledger.1)),
     )
 
 pub invariant_of-seats : goal.invariant_of-seats
@@ -38,5 +40,6 @@ invariant_of-seats g c =
       (λ k d h. ap (λ (r : ReaderView). r.cells) (fresh.readers k d h) ∙ ap (λ (w : PenView). w.cells) fresh.pen ∙ c.requires.run.1),
       search rules,
       search rules,
-      omega (arith, fresh.few),
+      omega (arith, sym fresh.parts ∙ c.requires.ledger.1),
+      subst (λ n. n < 2 ^ 16) (sym fresh.parts ∙ c.requires.ledger.1) fresh.few,
     )

@@ -1,7 +1,7 @@
 use Rattle.std.proofs.Common.{◌≡◌, ap, ◌∙◌}
 use Rattle.std.specs.Prelude.{slice_index}
 use lib.Dec.{eqb}
-use Rattle.cells.specs.TidWord.{tid_of}
+use Rattle.tidword.specs.TidWord.{tid_of}
 use Rattle.cells.proofs.Rising.{is_last_by_tid}
 use Rattle.cells.proofs.cells.Cells.meet.Goals as goal
 

@@ -1,0 +1,2 @@
+pub mod TidWord
+pub mod Lawful
