@@ -1,12 +1,12 @@
 -- Each move at a cell keeps the rule.
-use Rattle.std.proofs.Common.{◌≡◌, ◌≢◌, ◌⊎◌, ℕ, zero, suc, ◌+◌, List, [], ◌∷◌, ◌++◌, set, true, false, true≢false, refl, sym, ap, ◌∙◌, subst, ⊎_elim, inl, inr, append_assoc}
+use Rattle.std.proofs.Common.{◌≡◌, ◌≢◌, ◌⊎◌, ℕ, zero, suc, ◌+◌, List, [], ◌∷◌, ◌++◌, set, Bool, true, false, cond, true≢false, refl, sym, ap, ◌∙◌, subst, ⊎_elim, inl, inr, append_assoc}
 use mathlib.Core.Option.{some, some-ne-none, some-injective}
 use lib.ListN.{get_elem?}
 use Rattle.crossbeam_utils.specs.Register.{Turns, Forks, Merges}
 use Rattle.atomic_table.proofs.Lists.{at_set, at_snoc, set_again}
 use Rattle.cells.specs.declared.rule.View.{View}
 use Rattle.cells.specs.Versions.{StartsWith, EndsWith, IsRising}
-use Rattle.cells.specs.Views.{pen_view, sight, heard, learnt, Fits, IsKept, Stored, Loaded, Compared}
+use Rattle.cells.specs.Views.{pen_view, sight, heard, learnt, Fits, IsKept, Stored, Looked, looked}
 use Rattle.cells.proofs.Rising.{starts_self}
 
 off : {A : Type 0} → false ≡ true → A
@@ -58,24 +58,33 @@ stores by all new rising now views h at =
       refl,
     )
 
-pub loads : (by : ℕ) (v : View) → Turns IsKept by v (λ x. x) Loaded
-loads by v now views h at =
-    let log = h.1 in
-    let fits = h.4 in
-    let w = sight log (v.loads + 1) in
-    (w, (h.0, log, h.2, h.3, fits_set h.0 log views by w (λ j u _ e. fits j u e) (fits_sight h.0 log log (v.loads + 1) by (starts_self log))), (refl, (fits by v at).0, h.2, h.3))
+either : (b : Bool) → (b ≡ true) ⊎ (b ≡ false)
+either true = inl refl
+either false = inr refl
 
-pub compares : (by : ℕ) (v : View) → v.pen ≡ true → Turns IsKept by v (λ x. x) Compared
-compares by v pen now views h at =
+looks_pen : (by : ℕ) (v : View) → v.pen ≡ true → Turns IsKept by v (λ x. x) Looked
+looks_pen by v pen now views h at =
     let log = h.1 in
     let fits = h.4 in
     let mine = fits by v at in
     let known : (by ≡ h.0) × (v.seen ≡ log) = mine.2 pen in
-    let w = pen_view v.seen in (
+    let w = pen_view v.seen in
+    let is : w ≡ looked v v.seen = sym (ap (λ b. cond b w (sight v.seen (v.loads + 1))) pen) in (
       w,
       (h.0, log, h.2, h.3, fits_set h.0 log views by w (λ j u _ e. fits j u e) (subst (λ (l : List (List ℕ)). Fits h.0 log by (pen_view l)) (sym known.1) (fits_pen h.0 log by known.0))),
-      subst (λ (l : List (List ℕ)). (w ≡ pen_view v.seen) × StartsWith l v.told × IsRising l × ((l ≡ []) ⊎ EndsWith l now)) (sym known.1) (refl, mine.1, h.2, h.3),
+      subst (λ (l : List (List ℕ)). (w ≡ looked v v.seen) × StartsWith v.seen v.seen × StartsWith l v.told × IsRising l × ((l ≡ []) ⊎ EndsWith l now)) (sym known.1) (is, starts_self v.seen, mine.1, h.2, h.3),
     )
+
+looks_reader : (by : ℕ) (v : View) → v.pen ≡ false → Turns IsKept by v (λ x. x) Looked
+looks_reader by v reader now views h at =
+    let log = h.1 in
+    let fits = h.4 in
+    let w = sight log (v.loads + 1) in
+    let is : w ≡ looked v log = sym (ap (λ b. cond b (pen_view v.seen) w) reader) in
+    (w, (h.0, log, h.2, h.3, fits_set h.0 log views by w (λ j u _ e. fits j u e) (fits_sight h.0 log log (v.loads + 1) by (starts_self log))), (is, (fits by v at).0, (fits by v at).1, h.2, h.3))
+
+pub looks : (by : ℕ) (v : View) → Turns IsKept by v (λ x. x) Looked
+looks by v = ⊎_elim (looks_pen by v) (looks_reader by v) (either v.pen)
 
 pub tells : (by : ℕ) (v : View) → Forks IsKept by v v (sight v.seen 0)
 tells by v now views h at = (

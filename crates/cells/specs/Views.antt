@@ -1,5 +1,5 @@
 -- The rule of one cell, over what each of its passes knows.
-use Rattle.std.specs.Prelude.{◌≡◌, ◌≢◌, ℕ, ◌+◌, ◌⊎◌, List, [], ◌∷◌, ◌++◌, true, false}
+use Rattle.std.specs.Prelude.{◌≡◌, ◌≢◌, ℕ, ◌+◌, ◌⊎◌, if◌then◌else◌, List, [], ◌∷◌, ◌++◌, true, false}
 use mathlib.Core.Option.{some}
 use lib.ListN.{get_elem?}
 use Rattle.atomic_table.specs.declared.shared.Seat.{Seat}
@@ -38,15 +38,14 @@ IsKept now views =
 abbrev pub Stored : View → List ℕ → List ℕ → View → Type 0
 Stored v before after w = w ≡ pen_view (v.seen ++ after ∷ [])
 
--- a reader loads the last version, and has then seen all up to it
-abbrev pub Loaded : View → List ℕ → List ℕ → View → Type 0
-Loaded v before after w =
-    (w ≡ sight w.seen (v.loads + 1)) × StartsWith w.seen v.seen × IsRising w.seen × ((w.seen ≡ []) ⊎ EndsWith w.seen after)
+-- what a pass knows once it has loaded the last of these versions: the pen what it knew; a reader these, by one load more
+abbrev pub looked : View → Versions → View
+looked v seen = if v.pen then pen_view v.seen else sight seen (v.loads + 1)
 
--- the pen loads the last version, and learns that what it was told is the first of its versions
-abbrev pub Compared : View → List ℕ → List ℕ → View → Type 0
-Compared v before after w =
-    (w ≡ pen_view v.seen) × StartsWith v.seen v.told × IsRising v.seen × ((v.seen ≡ []) ⊎ EndsWith v.seen after)
+-- a pass loads the last version, and what it has seen and was told turn out to be the first of all up to it
+abbrev pub Looked : View → List ℕ → List ℕ → View → Type 0
+Looked v before after w =
+    (w ≡ looked v w.seen) × StartsWith w.seen v.seen × StartsWith w.seen v.told × IsRising w.seen × ((w.seen ≡ []) ⊎ EndsWith w.seen after)
 
 -- what a pass of the pen, and of a reader, knows between calls
 abbrev pub IsPen : View → Type 0

@@ -36,22 +36,13 @@ impl<const N: usize> Outcome<[u64; N], View> for Stores {
     ghost then = { Stored };
 }
 
-/// A reader loads the last version.
-pub(crate) struct Loads;
+/// A pass loads the last version. A reader counts it, and has then seen all up to it; the pen compares what it was told.
+pub(crate) struct Looks;
 
-impl<const N: usize> Outcome<[u64; N], View> for Loads {
-    ghost use Rattle.cells.specs.Views.{Loaded};
+impl<const N: usize> Outcome<[u64; N], View> for Looks {
+    ghost use Rattle.cells.specs.Views.{Looked};
 
-    ghost then = { Loaded };
-}
-
-/// The pen loads the last version, and compares what it was told.
-pub(crate) struct Compares;
-
-impl<const N: usize> Outcome<[u64; N], View> for Compares {
-    ghost use Rattle.cells.specs.Views.{Compared};
-
-    ghost then = { Compared };
+    ghost then = { Looked };
 }
 
 /// A pass tells what it has seen.

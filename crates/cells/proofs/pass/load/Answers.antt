@@ -1,13 +1,14 @@
-use Rattle.std.proofs.Common.{rules}
-use Rattle.cells.proofs.Moves.{loads}
 use Rattle.cells.proofs.Known.{loaded_reader, loaded_last}
 use Rattle.cells.proofs.pass.load.Goals as goal
 
-pub load_as-requires : goal.load_as-requires
-load_as-requires g c = (search rules, (search rules, (c.requires.own, loads _ _)))
-
 pub returns-clause-reader : goal.returns-clause-reader
-returns-clause-reader g c = loaded_reader _ _ _ c.requires.reader c.load_as.ensures.rule
+returns-clause-reader g c = (loaded_reader _ _ _ c.requires.reader c.look.ensures.looked).0
+
+pub returns-clause-loads : goal.returns-clause-loads
+returns-clause-loads g c = (loaded_reader _ _ _ c.requires.reader c.look.ensures.looked).1
+
+pub returns-clause-grows : goal.returns-clause-grows
+returns-clause-grows g c = c.look.ensures.looked.1
 
 pub returns-clause-last : goal.returns-clause-last
-returns-clause-last g c = loaded_last _ _ _ c.requires.reader c.load_as.ensures.rule
+returns-clause-last g c = loaded_last _ _ _ c.requires.reader c.look.ensures.looked

@@ -1,0 +1,7 @@
+use Rattle.std.proofs.Common.{rules, sym, ◌∙◌}
+use Rattle.cells.proofs.Moves.{hears}
+use Rattle.cells.proofs.Known.{compared_pen}
+use Rattle.cells.proofs.pass.compare.Goals as goal
+
+pub join_pass-requires : goal.join_pass-requires
+join_pass-requires g c = (search rules, (search rules, (c.requires.own, hears _ _ _ _)))
