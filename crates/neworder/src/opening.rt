@@ -1,5 +1,5 @@
 //! Opening an order on record cells (TPC-C 2.4.2.2): it takes its number, and gets its rows of ORDER and NEW-ORDER.
-ghost use Rattle.std.specs.Prelude.{◌≡◌, ◌≢◌, ◌+◌, ◌<◌, ◌≤◌, ◌⊎◌, [], length, IsSome, Some, Err, IfOk, IfErr, OnOk, slice_index};
+ghost use Rattle.std.specs.Prelude.{◌≡◌, ◌≢◌, ◌+◌, ◌<◌, ◌≤◌, ◌⊎◌, [], length, IsSome, Some, Err, IfOk, IfErr, OnOk};
 ghost use Rattle.tables.specs.Sizes.{IsNumber};
 ghost use Rattle.tables.specs.Keys.{IsOrderKey};
 ghost use Rattle.tables.specs.Records.{number_of_key, record_count};
