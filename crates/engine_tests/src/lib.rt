@@ -22,6 +22,10 @@ mod payment_tests;
 #[cfg(test)]
 mod payments;
 #[cfg(test)]
+mod queries;
+#[cfg(test)]
+mod query_tests;
+#[cfg(test)]
 mod readset_tests;
 #[cfg(test)]
 mod session_tests;

@@ -6,6 +6,8 @@ ghost use Rattle.book.specs.Parts.{IsFresh, first_of, cells_of, ledger_name, led
 use crate::deliveries::delivery;
 use crate::engine::{Executed, both_of, execute_at, parts};
 use crate::new_orders::{five, new_order};
+use crate::payments::payment;
+use crate::queries::{order_status, stock_level};
 use crate::told::{Told, told_of};
 use book::{Engine, Parts, Run, Seat};
 use money::Refusal;
@@ -16,19 +18,26 @@ use std::sync::Wait;
 use std::test::Fail;
 use tables::{Input, Scale};
 
-/// What a terminal asks for: an order of this customer, or a Delivery.
+/// What a terminal asks for: a Payment of 1.00 or an order of this customer, a Delivery, an Order-Status of this
+/// customer, or a Stock-Level of this district.
 #[derive(Clone, Copy)]
 pub(crate) enum Asked {
+    Payment(u32),
     Order(u32),
     Delivery,
+    Status(u32),
+    Level(u32),
 }
 
-fn input_of(alloc: Global, scale: &Scale, asked: Asked) -> Result<Input, Refusal>
+pub(crate) fn input_of(alloc: Global, scale: &Scale, asked: Asked) -> Result<Input, Refusal>
     ensures { IfOk result (IsInput scale.now) }
 {
     match asked {
+        Asked::Payment(customer) => Input::payment(scale, payment(customer, 100)),
         Asked::Order(customer) => new_order(alloc, scale, customer, &five(5, 10)),
         Asked::Delivery => delivery(scale),
+        Asked::Status(customer) => order_status(scale, customer),
+        Asked::Level(district) => stock_level(scale, district),
     }
 }
 

@@ -1,5 +1,5 @@
 //! Payments of the third customer, which is record 5, on the small population's cells.
-ghost use Rattle.std.specs.Prelude.{◌≡◌, ◌≢◌, ℕ, ◌<◌, length, OnOk};
+ghost use Rattle.std.specs.Prelude.{◌≡◌, ℕ, ◌<◌, length, OnOk};
 ghost use Rattle.tables.specs.Payment.{IsPayment};
 ghost use Rattle.cells.specs.Records.{at};
 ghost use Rattle.cells.specs.Versions.{last_tid};
@@ -7,7 +7,7 @@ ghost use Rattle.tables.specs.Records.{record_count};
 ghost use Rattle.population.specs.Initial.{initial};
 
 use crate::payments::{history_row, payment, payment_told};
-use crate::stage::{CUSTOMER, DISTRICT, Stage, open};
+use crate::stage::{CUSTOMER, DISTRICT, Stage, open, store};
 use crate::told::{Told, told_of};
 use money::{MAX_MONEY, Refusal};
 use payment::execute;
@@ -16,7 +16,6 @@ use std::alloc::Global;
 use std::sync::Wait;
 use std::test::Fail;
 use tables::{History, Input, PaymentInput, Scale};
-use tidword::{Status, TidWord};
 
 /// The TID word and the data of a version.
 #[derive(Clone, Copy, Debug, PartialEq, Eq)]
@@ -51,28 +50,6 @@ struct Written {
     warehouse: Option<[u64; 7]>,
     district: Option<[u64; 7]>,
     customer: Option<[u64; 7]>,
-}
-
-/// Stores the version 1 of epoch 1 of a record: these words, or that it is absent.
-fn store<R: Wait>(rt: &R, stage: &mut Stage, number: u32, value: Option<[u64; 7]>)
-    requires own { stage.old.pen.cells ≡ stage.old.cells }
-    requires is_record { number < length stage.old.cells }
-    requires first { last_tid (at stage.old.pen.all number) ≡ 0 }
-    ensures own { stage.new.pen.cells ≡ stage.new.cells }
-    ensures others { (n : ℕ) → n ≢ number → at stage.new.pen.all n ≡ at stage.old.pen.all n }
-    ensures population { stage.new.population ≡ stage.old.population }
-    ensures cells { stage.new.cells ≡ stage.old.cells }
-    ensures reader { stage.new.reader ≡ stage.old.reader }
-{
-    let status = Status {
-        latest: true,
-        absent: value.is_none(),
-        locked: false,
-    };
-    let word = TidWord::pack(1, 1, status);
-    stage
-        .cells
-        .store(rt, &mut stage.pen, number, word, value.unwrap_or([0; 7]));
 }
 
 /// Refuses a Payment outside the ranges of a scale.

@@ -1,6 +1,6 @@
 //! The plain population of one warehouse, two districts and ten customers a district, on its 1,085 cells: record 0 is
 //! the warehouse, 1 and 2 are the districts, and from 3 on there are the customers of the first district.
-ghost use Rattle.std.specs.Prelude.{◌≡◌, ◌<◌, ℕ, length, IfOk};
+ghost use Rattle.std.specs.Prelude.{◌≡◌, ◌≢◌, ◌<◌, ℕ, length, IfOk};
 ghost use Rattle.population.specs.Initial.{initial};
 ghost use Rattle.tables.specs.Records.{record_count};
 ghost use Rattle.cells.specs.Records.{at};
@@ -14,6 +14,7 @@ use std::alloc::Global;
 use std::sync::Wait;
 use std::test::Fail;
 use tables::Scale;
+use tidword::{Status, TidWord};
 
 /// The words of the warehouse.
 pub(crate) const WAREHOUSE: [u64; 7] = [20_000, 0, 0, 0, 0, 0, 0];
@@ -56,4 +57,26 @@ pub(crate) fn open<R: Wait>(rt: &R, alloc: Global) -> Result<Stage, Fail>
         pen,
         reader,
     })
+}
+
+/// Stores the version 1 of epoch 1 of a record: these words, or that it is absent.
+pub(crate) fn store<R: Wait>(rt: &R, stage: &mut Stage, number: u32, value: Option<[u64; 7]>)
+    requires own { stage.old.pen.cells ≡ stage.old.cells }
+    requires is_record { number < length stage.old.cells }
+    requires first { last_tid (at stage.old.pen.all number) ≡ 0 }
+    ensures own { stage.new.pen.cells ≡ stage.new.cells }
+    ensures others { (n : ℕ) → n ≢ number → at stage.new.pen.all n ≡ at stage.old.pen.all n }
+    ensures population { stage.new.population ≡ stage.old.population }
+    ensures cells { stage.new.cells ≡ stage.old.cells }
+    ensures reader { stage.new.reader ≡ stage.old.reader }
+{
+    let status = Status {
+        latest: true,
+        absent: value.is_none(),
+        locked: false,
+    };
+    let word = TidWord::pack(1, 1, status);
+    stage
+        .cells
+        .store(rt, &mut stage.pen, number, word, value.unwrap_or([0; 7]));
 }

@@ -9,8 +9,9 @@ pub(crate) enum Told {
     Payment(PaymentReply),
     Order(Ordered),
     Delivery(Delivered),
-    /// A query's reply.
-    Query,
+    Status(Status),
+    /// How many items have a low stock.
+    Level(u32),
 }
 
 /// What a terminal is told of an order: its number, the sum of its lines, and its total amount.
@@ -27,6 +28,13 @@ pub(crate) struct Delivered {
     pub(crate) warehouse: u32,
     pub(crate) districts: usize,
     pub(crate) orders: [Option<DeliveredOrder>; 2],
+}
+
+/// What a terminal is told of a customer: C_BALANCE, and the number of the last order.
+#[derive(Clone, Copy, Debug, PartialEq, Eq)]
+pub(crate) struct Status {
+    pub(crate) balance: Cents,
+    pub(crate) order: Option<u32>,
 }
 
 /// What a reply tells.
@@ -46,6 +54,10 @@ pub(crate) fn told_of(reply: &Reply) -> Told {
                 orders: [orders.first().copied(), orders.get(1).copied()],
             })
         }
-        Reply::OrderStatus(_) | Reply::StockLevel(_) => Told::Query,
+        Reply::OrderStatus(reply) => Told::Status(Status {
+            balance: reply.balance,
+            order: reply.order.as_ref().map(|order| order.order),
+        }),
+        Reply::StockLevel(reply) => Told::Level(reply.low),
     }
 }

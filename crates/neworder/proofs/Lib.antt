@@ -10,4 +10,4 @@ mod SoFar
 mod Begun
 mod Columns
 mod Explained
-pub mod Refusals
+mod Refusals

@@ -1,4 +1,3 @@
-pub mod Refused
 pub mod Steps
 pub mod Drawn
 pub mod Opening

@@ -10,7 +10,10 @@ use Rattle.tables.specs.declared.keys.OrderKey.{OrderKey}
 use Rattle.tables.specs.declared.rows.District.{District}
 use Rattle.tables.specs.declared.new_order.NewOrderInput.{NewOrderInput}
 use Rattle.tables.specs.declared.records.RecordKey.TheVariants as key
+use Rattle.cells.specs.declared.cells.Version.{Version}
+use Rattle.readset.specs.Reads.{ReadSetView, held}
 use Rattle.readset.specs.Writes.{WriteSetView, no_writes, puts}
+use Rattle.readset.specs.Refused.{SaysAbove}
 use Rattle.neworder.specs.declared.opening.Places.{Places}
 use Rattle.neworder.specs.declared.opening.Taken.{Taken}
 
@@ -31,3 +34,8 @@ abbrev pub opening_writes : NewOrderInput → OrderKey → Places → List ℕ �
 opening_writes x k places district =
     puts (puts (puts (puts no_writes places.district (Some district)) places.new_order (Some (new_order_words (record {})))) places.order (Some (order_words (order_row x))))
     places.last (Some (number_words k.order))
+
+-- the record of the order's district was read, and doesn't say that D_NEXT_O_ID is above the order cap
+abbrev pub IsWithinCap : Sizes → NewOrderInput → ReadSetView → Type 0
+IsWithinCap s x reads =
+    (v : Version) × (held reads (number_of_key s (key.District (home x))) ≡ Some v) × ¬ SaysAbove s.orders v

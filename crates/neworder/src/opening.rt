@@ -1,5 +1,5 @@
 //! Opening an order on record cells (TPC-C 2.4.2.2): it takes its number, and gets its rows of ORDER and NEW-ORDER.
-ghost use Rattle.std.specs.Prelude.{◌≡◌, ◌≢◌, ◌+◌, ◌<◌, ◌≤◌, ◌⊎◌, [], length, IsSome, Some, Err, IfOk, IfErr, OnOk, slice_index};
+ghost use Rattle.std.specs.Prelude.{◌≡◌, ◌≢◌, ◌+◌, ◌<◌, ◌≤◌, ◌⊎◌, [], length, IsSome, Some, Err, IfOk, IfErr, OnOk};
 ghost use Rattle.tables.specs.Sizes.{IsNumber};
 ghost use Rattle.tables.specs.Keys.{IsOrderKey};
 ghost use Rattle.tables.specs.Records.{number_of_key, record_count};
@@ -9,14 +9,15 @@ ghost use Rattle.tables.specs.Rows.{district_words};
 ghost use Rattle.tables.specs.declared.rows.District.{District};
 ghost use Rattle.tables.specs.declared.keys.OrderKey.{OrderKey as Key};
 ghost use Rattle.tables.specs.declared.records.RecordKey.TheVariants as key;
+ghost use Rattle.tables.specs.declared.input.Input.TheVariants as input_variants;
 ghost use Rattle.money.specs.declared.refusal.Refusal.TheVariants.{OutOfMemory, OrdersFull, Stale};
 ghost use Rattle.cells.specs.Records.{ReaderView, HasGrown};
 ghost use Rattle.readset.specs.Reads.{value_of, held, Keeps, AreWithin, AreRead};
 ghost use Rattle.readset.specs.Writes.{no_writes};
 ghost use Rattle.readset.specs.Explains.{NoneMayBe};
+ghost use Rattle.readset.specs.Refused.{SaysAbove, IsAboveCap};
 ghost use Rattle.neworder.specs.Steps.{AreTaken};
-ghost use Rattle.neworder.specs.Opening.{IsTakenOf, ArePlaces, opening_writes};
-ghost use Rattle.neworder.specs.Refused.{IsAboveCap};
+ghost use Rattle.neworder.specs.Opening.{IsTakenOf, IsWithinCap, ArePlaces, opening_writes};
 
 use crate::rows::order_words;
 use cells::{Cells, Reader, Version};
@@ -65,7 +66,9 @@ pub(crate) fn open_order<R: Wait>(
     ensures opened { IfOk result (λ k. (t : Database) → t.scale ≡ scale.now
         → AreTaken t order.now k [] reads.new writes.new []) }
     ensures key { IfOk result (IsOrderKey scale.now) }
-    ensures full { result ≡ Err OrdersFull → IsAboveCap scale.now order.now reads.new }
+    ensures within_cap { OnOk result (IsWithinCap scale.now order.now reads.new) }
+    ensures full { result ≡ Err OrdersFull → IsAboveCap scale.now (input_variants.NewOrder order.now) reads.new }
+    ensures stale_within_cap { result ≡ Err Stale → IsWithinCap scale.now order.now reads.new }
     ensures stale { result ≡ Err Stale → (t : Database) → t.scale ≡ scale.now → NoneMayBe t reads.new }
     ensures refused { IfErr result (λ refusal. (refusal ≡ OutOfMemory) ⊎ (refusal ≡ OrdersFull) ⊎ (refusal ≡ Stale)) }
     ensures within { AreWithin (length cells.now) reads.new }
@@ -107,7 +110,9 @@ fn take_number(version: &Version, cap: u32) -> Result<Taken, Refusal>
     ensures number { IfOk result (λ taken. IsNumber cap taken.order) }
     ensures row { (r : District) → 1 ≤ r.next_order → value_of version.now ≡ Some (district_words r)
         → IsTakenOf cap r result }
-    ensures full { result ≡ Err OrdersFull → cap < slice_index version.now.payload 1 }
+    ensures within_cap { OnOk result (¬ SaysAbove cap version.now) }
+    ensures full { result ≡ Err OrdersFull → SaysAbove cap version.now }
+    ensures stale_within_cap { result ≡ Err Stale → ¬ SaysAbove cap version.now }
     ensures refused { IfErr result (λ refusal. (refusal ≡ OrdersFull) ⊎ (refusal ≡ Stale)) }
 {
     let Some(words) = value_of(version) else {

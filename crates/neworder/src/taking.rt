@@ -4,13 +4,15 @@ ghost use Rattle.tables.specs.Keys.{IsOrderKey, IsItemKey};
 ghost use Rattle.tables.specs.Records.{record_count};
 ghost use Rattle.tables.specs.Database.{Database};
 ghost use Rattle.tables.specs.NewOrder.{IsNewOrder, IsRequestedLine, line_amount};
+ghost use Rattle.tables.specs.declared.input.Input.TheVariants as input_variants;
 ghost use Rattle.money.specs.declared.refusal.Refusal.TheVariants.{OutOfMemory, OrdersFull, Stale};
 ghost use Rattle.cells.specs.Records.{HasGrown};
 ghost use Rattle.readset.specs.Reads.{AreWithin, AreRead};
 ghost use Rattle.readset.specs.Writes.{no_writes};
 ghost use Rattle.readset.specs.Explains.{NoneMayBe};
+ghost use Rattle.readset.specs.Refused.{IsAboveCap};
 ghost use Rattle.neworder.specs.Steps.{AreTaken};
-ghost use Rattle.neworder.specs.Refused.{IsAboveCap};
+ghost use Rattle.neworder.specs.Opening.{IsWithinCap};
 
 use crate::lines::take_lines;
 use crate::opening::open_order;
@@ -56,7 +58,9 @@ pub(crate) fn take_order<R: Wait>(
         → amounts.now ≡ map (line_amount t) order.now.lines
         → AreTaken t order.now o.key order.now.lines reads.new writes.new o.supplied.items) }
     ensures key { IfOk result (λ o. IsOrderKey scale.now o.key) }
-    ensures full { result ≡ Err OrdersFull → IsAboveCap scale.now order.now reads.new }
+    ensures within_cap { OnOk result (IsWithinCap scale.now order.now reads.new) }
+    ensures full { result ≡ Err OrdersFull → IsAboveCap scale.now (input_variants.NewOrder order.now) reads.new }
+    ensures stale_within_cap { result ≡ Err Stale → IsWithinCap scale.now order.now reads.new }
     ensures stale { result ≡ Err Stale → (t : Database) → t.scale ≡ scale.now
         → amounts.now ≡ map (line_amount t) order.now.lines → NoneMayBe t reads.new }
     ensures refused { IfErr result (λ refusal. (refusal ≡ OutOfMemory) ⊎ (refusal ≡ OrdersFull) ⊎ (refusal ≡ Stale)) }

@@ -1,13 +1,13 @@
 //! A New-Order on record cells.
-ghost use Rattle.std.specs.Prelude.{◌≡◌, None, length, IfOk, IfErr, OnOk};
-ghost use Rattle.tables.specs.NewOrder.{IsNewOrder, first_missing};
+ghost use Rattle.std.specs.Prelude.{◌≡◌, length, IfOk, IfErr, OnOk};
+ghost use Rattle.tables.specs.NewOrder.{IsNewOrder};
 ghost use Rattle.tables.specs.Records.{record_count};
 ghost use Rattle.tables.specs.declared.input.Input.TheVariants as input_variants;
 ghost use Rattle.population.specs.Initial.{initial};
 ghost use Rattle.cells.specs.Records.{HasGrown};
 ghost use Rattle.readset.specs.Reads.{AreRead};
 ghost use Rattle.readset.specs.Explains.{Explains, IsWithinLimits};
-ghost use Rattle.neworder.specs.Refused.{IsOrderRefusal};
+ghost use Rattle.readset.specs.Refused.{NoneMissing, IsAboveCap, IsRefusal};
 
 use crate::prices::{Pricing, price_lines};
 use crate::reply::reply_to;
@@ -28,8 +28,8 @@ use tables::{Input, NewOrderInput, Reply};
 /// # Errors
 ///
 /// `ItemNotValid`, with the first such item, exactly where an item isn't in ITEM: no cell is read then. Else
-/// `OrdersFull` exactly where D_NEXT_O_ID as read is above the order cap; `Stale` only where no well-formed tables of
-/// this population, with conditions 2, 3 and 6 of the district, have the versions that this call has read.
+/// `OrdersFull` exactly where D_NEXT_O_ID as read is above the order cap. Else `Stale` only where no well-formed tables
+/// of this population, with conditions 2, 3 and 6 of the district, have the versions that this call has read.
 /// `OutOfMemory` at any time. After a refusal, too, the reader has seen what it had seen, and perhaps more.
 pub fn execute<R: Wait>(
     rt: &R,
@@ -43,12 +43,15 @@ pub fn execute<R: Wait>(
     requires own { reader.old.cells ≡ cells.now }
     requires cells { length cells.now ≡ record_count (initial population.now).scale }
     ensures input { IfOk result (λ work. work.input ≡ input_variants.NewOrder order.now) }
-    ensures none_missing { OnOk result (first_missing (initial population.now) order.now.lines ≡ None) }
+    ensures none_missing { OnOk result (NoneMissing (initial population.now) (input_variants.NewOrder order.now)) }
+    ensures within_cap { IfOk result (λ work.
+        ¬ IsAboveCap (initial population.now).scale (input_variants.NewOrder order.now) work.reads) }
     ensures read { IfOk result (λ work. AreRead reader.old reader.new work.reads) }
     ensures explains { IfOk result (λ work. Explains (initial population.now) (input_variants.NewOrder order.now) work.reads work.writes work.reply) }
     ensures limits { IfOk result (λ work. IsWithinLimits (length cells.now) work.reads work.writes) }
     ensures grown { HasGrown reader.old reader.new }
-    ensures refused { IfErr result (IsOrderRefusal (initial population.now) order.now reader.old reader.new) }
+    ensures refused { IfErr result
+        (IsRefusal (initial population.now) (input_variants.NewOrder order.now) reader.old reader.new) }
 {
     let priced = match price_lines(alloc, population, order.lines.as_slice()) {
         Pricing::Priced(priced) => priced,

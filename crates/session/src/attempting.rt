@@ -54,8 +54,9 @@ fn confirmed<K: Run>(book: &Book<K>, scale: &Scale, input: &Input, refusal: Refu
     requires scale { scale.now ≡ K.first.scale }
     requires input { IsInput K.first.scale input.now }
     requires refusal { (old : ReaderView) × ((new : ReaderView) × IsRefusal K.first input.now old new refusal) }
-    ensures { (result ≡ Stale) ⊎ (result ≡ OutOfMemory)
+    ensures there { (result ≡ Stale) ⊎ (result ≡ OutOfMemory)
         ⊎ IsRefusedAt (replay K.first book.now.history) (length book.now.history) input.now result }
+    ensures memory { result ≡ OutOfMemory → refusal ≡ OutOfMemory }
 {
     match refusal {
         Refusal::OrdersFull => {

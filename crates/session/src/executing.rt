@@ -1,5 +1,5 @@
 //! Which crate executes an input, and which inputs make an order: one arm a transaction.
-ghost use Rattle.std.specs.Prelude.{◌≡◌, length, IfOk, IfErr, MatchBool};
+ghost use Rattle.std.specs.Prelude.{◌≡◌, length, IfOk, IfErr, OnOk, MatchBool};
 ghost use Rattle.tables.specs.Inputs.{IsInput};
 ghost use Rattle.tables.specs.Apply.{HasOrderNumber};
 ghost use Rattle.tables.specs.NewOrder.{IsNewOrder, HasNumber};
@@ -8,7 +8,7 @@ ghost use Rattle.population.specs.Initial.{initial};
 ghost use Rattle.cells.specs.Records.{HasGrown};
 ghost use Rattle.readset.specs.Reads.{AreRead};
 ghost use Rattle.readset.specs.Explains.{Explains, IsWithinLimits};
-ghost use Rattle.readset.specs.Refused.{IsRefusal};
+ghost use Rattle.readset.specs.Refused.{NoneMissing, IsAboveCap, IsRefusal};
 ghost use Rattle.book.specs.History.{replay};
 
 use book::{Book, Run};
@@ -25,9 +25,10 @@ use tables::{DistrictKey, Input, NewOrderInput, RecordKey, Scale, number_of_key}
 ///
 /// # Errors
 ///
-/// `ItemNotValid`, with the first such item, where an order's item isn't in ITEM; `OrdersFull` only where an order has
-/// no number left at any tables of this population at which it may have read; `Stale` only where there are no such
-/// tables; `OutOfMemory`. After a refusal, too, the reader has seen what it had seen, and perhaps more.
+/// `ItemNotValid`, with the first such item, exactly where an order's item isn't in ITEM. Else `OrdersFull` exactly
+/// where its D_NEXT_O_ID as read is above the order cap. Else `Stale` only where no tables of this population at which
+/// it may have read have the versions that this call has read. `OutOfMemory` at any time. After a refusal, too, the
+/// reader has seen what it had seen, and perhaps more.
 pub fn execute<R: Wait>(
     rt: &R,
     alloc: Global,
@@ -40,6 +41,8 @@ pub fn execute<R: Wait>(
     requires own { reader.old.cells ≡ cells.now }
     requires cells { length cells.now ≡ record_count (initial population.now).scale }
     ensures input { IfOk result (λ work. work.input ≡ input.now) }
+    ensures none_missing { OnOk result (NoneMissing (initial population.now) input.now) }
+    ensures within_cap { IfOk result (λ work. ¬ IsAboveCap (initial population.now).scale input.now work.reads) }
     ensures read { IfOk result (λ work. AreRead reader.old reader.new work.reads) }
     ensures explains { IfOk result (λ work.
         Explains (initial population.now) input.now work.reads work.writes work.reply) }

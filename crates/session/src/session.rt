@@ -1,6 +1,6 @@
 //! A terminal that has the book to itself.
 
-ghost use Rattle.std.specs.Prelude.{◌≡◌, ◌⊎◌, ◌<◌, [], ◌∷◌, ◌++◌, length, IfOk, IfErr, OnOk, OnErr};
+ghost use Rattle.std.specs.Prelude.{◌≡◌, ◌⊎◌, ◌↔◌, ◌<◌, [], ◌∷◌, ◌++◌, length, Err, IsTrue, IfOk, IfErr, OnOk, OnErr};
 ghost use Rattle.tables.specs.Inputs.{IsInput};
 ghost use Rattle.tables.specs.Records.{record_count};
 ghost use Rattle.tables.specs.Rows.{rows};
@@ -12,7 +12,7 @@ ghost use Rattle.std.specs.Option.{ForSome};
 ghost use Rattle.book.specs.Book.{IsWorkOf};
 ghost use Rattle.book.specs.declared.entry.Done.{Done as DoneValue};
 ghost use Rattle.session.specs.Session.{IsNext, IsRefusedAt};
-ghost use Rattle.money.specs.declared.refusal.Refusal.TheVariants.{OutOfMemory};
+ghost use Rattle.money.specs.declared.refusal.Refusal.TheVariants.{OutOfMemory, Conflict, Stale};
 
 use crate::attempting::{attempt, commit_work};
 use book::{Book, Done, Engine, Run, Seat};
@@ -175,17 +175,45 @@ pub fn persist<K: Run, R: Wait>(
         ⊎ IsRefusedAt (replay K.first book.old.history) (length book.old.history) input.now refusal) }
     ensures err { OnErr result (book.new ≡ book.old) }
 {
-    if let Some(work) = executed {
-        match commit_work(rt, engine, book, seat, work) {
-            Err(Refusal::Conflict) => {}
-            outcome => return outcome,
-        }
-    }
+    let mut executed = executed;
     for _ in rt.forever() {
-        match attempt(rt, alloc, engine, book, seat, input) {
-            Err(Refusal::Stale | Refusal::Conflict) => continue,
-            outcome => return outcome,
+        let outcome = try_once(rt, alloc, engine, book, seat, input, executed.take());
+        if !is_retried(&outcome) {
+            return outcome;
         }
     }
     unreachable!()
+}
+
+/// One try: commits what was executed before, or else executes the transaction and commits it.
+fn try_once<K: Run, R: Wait>(
+    rt: &R,
+    alloc: Global,
+    engine: &Engine<K>,
+    book: &mut Book<K>,
+    seat: &mut Seat<K>,
+    input: &Input,
+    executed: Option<Work>,
+) -> Result<Done, Refusal>
+    requires input { IsInput K.first.scale input.now }
+    requires reader { seat.old.reader.cells ≡ K.cells }
+    requires begun { ForSome executed (λ work.
+        IsWorkOf K.first (length K.cells) seat.old.reader work × (work.input ≡ input.now)) }
+    ensures reader { seat.new.reader.cells ≡ K.cells }
+    ensures commits { IfOk result (IsNext K.first book.old.history book.new.history input.now) }
+    ensures refusals { IfErr result (λ refusal. (refusal ≡ Stale) ⊎ (refusal ≡ Conflict) ⊎ (refusal ≡ OutOfMemory)
+        ⊎ IsRefusedAt (replay K.first book.old.history) (length book.old.history) input.now refusal) }
+    ensures err { OnErr result (book.new ≡ book.old) }
+{
+    match executed {
+        Some(work) => commit_work(rt, engine, book, seat, work),
+        None => attempt(rt, alloc, engine, book, seat, input),
+    }
+}
+
+/// Whether a transaction is tried again after this outcome: exactly where what it read wasn't or isn't the latest.
+fn is_retried(outcome: &Result<Done, Refusal>) -> bool
+    ensures { IsTrue result ↔ (outcome.now ≡ Err Stale) ⊎ (outcome.now ≡ Err Conflict) }
+{
+    matches!(outcome, Err(Refusal::Stale | Refusal::Conflict))
 }

@@ -1,11 +1,12 @@
-use Rattle.std.proofs.Common.{Ok, Err, [], refl, sym, ap, ◌∙◌, subst}
+use Rattle.std.proofs.Common.{◌≡◌, Ok, Err, Some, [], refl, sym, ap, ◌∙◌, subst}
 use Rattle.tables.specs.Sizes.{Sizes, IsNumber}
 use Rattle.tables.specs.NewOrder.{IsNewOrder, home}
 use Rattle.tables.specs.Records.{number_of_key}
 use Rattle.tables.specs.declared.keys.OrderKey.{OrderKey}
 use Rattle.tables.specs.declared.records.RecordKey.TheVariants as key
-use Rattle.readset.specs.Reads.{ReadSetView, AreRead}
+use Rattle.readset.specs.Reads.{ReadSetView, AreRead, held}
 use Rattle.readset.specs.Writes.{WriteSetView}
+use Rattle.readset.specs.Refused.{SaysAbove}
 use Rattle.readset.proofs.MoreReads.{nothing_read}
 use Rattle.neworder.specs.Steps.{AreTaken}
 use Rattle.neworder.specs.Opening.{IsTakenOf, ArePlaces}
@@ -33,6 +34,9 @@ returns-in_err-read_places-clause-within g c = c.read_places.ensures.within (c.g
 pub returns-in_err-read_places-clause-grown : goal.returns-in_err-read_places-clause-grown
 returns-in_err-read_places-clause-grown g c = c.read_places.ensures.grown_since c.args.reader.now c.get.ensures.grown
 
+pub returns-in_err-write_places-clause-within : goal.returns-in_err-write_places-clause-within
+returns-in_err-write_places-clause-within g c = c.read_places.ensures.within (c.get.ensures.within (none_within _ c.args.reads.now c.requires.none_read))
+
 pub returns-in_err-write_places-clause-grown : goal.returns-in_err-write_places-clause-grown
 returns-in_err-write_places-clause-grown g c = c.read_places.ensures.grown_since c.args.reader.now c.get.ensures.grown
 
@@ -51,6 +55,12 @@ returns-clause-opened g c = λ t scale.
     (subst (λ n. IsNumber n taken.order) (c.orders.ensures.value ∙ ap (λ (s : Sizes). s.orders) (sym scale)) c.in-Ok-take_number.ensures.number)
     places c.read_places.new.reads (subst (λ (s : Sizes). ArePlaces s x k places) (sym scale) c.places_of-places.ensures.places) c.read_places.ensures.keeps
     there.holds_new_order there.holds_order there.holds_last)
+
+pub returns-clause-within_cap : goal.returns-clause-within_cap
+returns-clause-within_cap g c =
+    let version = c.in-Ok.version in
+    let found = subst (λ n. held c.get.new.self n ≡ Some version) c.number_of_key-district.ensures.value c.in-Ok.ensures.holds in
+    (version, c.read_places.ensures.keeps _ version found, subst (λ cap. ¬ SaysAbove cap version) c.orders.ensures.value c.in-Ok-take_number.ensures.within_cap)
 
 pub returns-clause-within : goal.returns-clause-within
 returns-clause-within g c = c.read_places.ensures.within (c.get.ensures.within (none_within _ c.args.reads.now c.requires.none_read))

@@ -9,7 +9,8 @@ use Rattle.population.specs.Initial.{initial}
 use Rattle.readset.specs.Explains.{Explains}
 use Rattle.readset.proofs.WrittenRecords.{written_within}
 use Rattle.neworder.specs.Priced.{ArePriced}
-use Rattle.neworder.specs.Refused.{IsAboveCap}
+use Rattle.readset.specs.Refused.{IsAboveCap}
+use Rattle.neworder.specs.Opening.{IsWithinCap}
 use Rattle.neworder.proofs.Explained.{explains, items_there}
 use Rattle.neworder.proofs.Refusals.{refusal_of}
 use Rattle.neworder.proofs.transaction.execute.Goals as goal
@@ -29,7 +30,8 @@ returns-in-Err-clause-refused g c =
     let prices = subst (λ (ls : List RequestedLine). ArePriced t0 ls c.in-Priced.priced) c.as_slice.ensures c.in-Priced.ensures in
     let refused = c.in-Err.ensures in
     refusal_of t0 x c.args.reader.now c.take_order.new.reader c.in-Err.refusal c.take_order.new.reads prices.none_missing refused.refused refused.refused_read
-    (λ is. subst (λ (s : Sizes). IsAboveCap s x c.take_order.new.reads) c.scale-scale.ensures (refused.full (ap (λ e. Err e) is)))
+    (λ is. subst (λ (s : Sizes). IsAboveCap s (input.NewOrder x) c.take_order.new.reads) c.scale-scale.ensures (refused.full (ap (λ e. Err e) is)))
+    (λ is. subst (λ (s : Sizes). IsWithinCap s x c.take_order.new.reads) c.scale-scale.ensures (refused.stale_within_cap (ap (λ e. Err e) is)))
     (λ is. refused.stale (ap (λ e. Err e) is) t0 (sym c.scale-scale.ensures) (c.as_slice-amounts.ensures.value ∙ prices.amounts))
 
 pub returns-clause-explains : goal.returns-clause-explains

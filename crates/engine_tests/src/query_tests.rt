@@ -1,0 +1,228 @@
+//! Order-Statuses and Stock-Levels on the small population: on its cells, and at an engine's terminals.
+ghost use Rattle.std.specs.Prelude.{◌≡◌, ◌<◌, length};
+ghost use Rattle.tables.specs.Records.{record_count};
+ghost use Rattle.population.specs.Initial.{initial};
+
+use crate::new_orders::order_told;
+use crate::pairs::{Asked, Committed, input_of, outcome_of};
+use crate::payments::payment_told;
+use crate::queries::status_told;
+use crate::stage::{Stage, open, store};
+use crate::told::{Told, told_of};
+use money::{MAX_MONEY, Refusal};
+use session::execute;
+use std::alloc::Global;
+use std::sync::Wait;
+use std::test::Fail;
+
+/// The record of customer 3.
+const CUSTOMER: u32 = 5;
+
+/// The number of its last order, which is order 3.
+const LAST: u32 = 1_067;
+
+/// That order.
+const ORDER: u32 = 85;
+
+/// The first line of that order.
+const LINE: u32 = 173;
+
+/// The first district.
+const DISTRICT: u32 = 1;
+
+/// The stock of item 1.
+const STOCK: u32 = 1_043;
+
+/// A value of a record: its words, or that it is absent.
+type Value = Option<[u64; 7]>;
+
+/// Executes what is asked for, and gives what is told.
+fn ask<R: Wait>(rt: &R, alloc: Global, stage: &mut Stage, asked: Asked) -> Result<Told, Refusal>
+    requires scale { length stage.old.cells ≡ record_count (initial stage.old.population).scale }
+    requires reader { stage.old.reader.cells ≡ stage.old.cells }
+{
+    let input = input_of(alloc, &stage.population.scale(), asked)?;
+    let work = execute(
+        rt,
+        alloc,
+        &stage.cells,
+        &mut stage.reader,
+        &stage.population,
+        &input,
+    )?;
+    Ok(told_of(&work.reply))
+}
+
+fn asked_of_all<R: Wait>(rt: &R, alloc: Global, asked: Asked) -> Result<Told, Fail> {
+    let mut stage = open(rt, alloc)?;
+    Ok(ask(rt, alloc, &mut stage, asked)?)
+}
+
+/// What comes of a query where one record has another value than the population's.
+fn outcome<R: Wait>(
+    rt: &R,
+    alloc: Global,
+    asked: Asked,
+    number: u32,
+    value: Value,
+) -> Result<Result<Told, Refusal>, Fail>
+    requires { number < 1085 }
+{
+    let mut stage = open(rt, alloc)?;
+    store(rt, &mut stage, number, value);
+    Ok(ask(rt, alloc, &mut stage, asked))
+}
+
+#[test]
+fn queries_on_cells(rt: HostRuntime) -> Result<(), Fail> {
+    let status = asked_of_all(&rt, rt.alloc(), Asked::Status(3))?;
+    let level = asked_of_all(&rt, rt.alloc(), Asked::Level(1))?;
+    assert_eq!(rt; status, status_told(Some(3)));
+    assert_eq!(rt; level, Told::Level(0));
+    Ok(())
+}
+
+/// Whether a query is refused as stale where one record has this value.
+fn is_stale<R: Wait>(
+    rt: &R,
+    alloc: Global,
+    asked: Asked,
+    number: u32,
+    value: Value,
+) -> Result<bool, Fail>
+    requires { number < 1085 }
+{
+    let outcome = outcome(rt, alloc, asked, number, value)?;
+    Ok(matches!(outcome, Err(Refusal::Stale)))
+}
+
+#[test]
+fn a_status_of_records_that_no_tables_miss(rt: HostRuntime) -> Result<(), Fail> {
+    let status = Asked::Status(3);
+    assert!(rt; is_stale(&rt, rt.alloc(), status, CUSTOMER, None)?);
+    assert!(rt; is_stale(&rt, rt.alloc(), status, LAST, None)?);
+    Ok(())
+}
+
+#[test]
+fn a_status_of_a_customer_that_no_tables_have(rt: HostRuntime) -> Result<(), Fail> {
+    let status = Asked::Status(3);
+    let balance = MAX_MONEY.cast_unsigned() + 1;
+    assert!(rt;
+        is_stale(
+            &rt,
+            rt.alloc(),
+            status,
+            CUSTOMER,
+            Some([balance, 0, 1, 0, 0, 0, 0])
+        )?
+    );
+    assert!(rt; is_stale(&rt, rt.alloc(), status, LAST, Some([31, 0, 0, 0, 0, 0, 0]))?);
+    Ok(())
+}
+
+#[test]
+fn a_status_of_an_order_that_no_tables_have(rt: HostRuntime) -> Result<(), Fail> {
+    let status = Asked::Status(3);
+    assert!(rt; is_stale(&rt, rt.alloc(), status, ORDER, Some([3, 1, 1, 16, 1, 0, 0]))?);
+    assert!(rt; is_stale(&rt, rt.alloc(), status, LINE, Some([21, 1, 1, 5, 0, 0, 0]))?);
+    Ok(())
+}
+
+/// Another order has stored its customer's LAST, and not yet itself: that there is none isn't told of any tables, and
+/// never commits.
+#[test]
+fn a_status_between_the_stores_of_an_order(rt: HostRuntime) -> Result<(), Fail> {
+    let last = Some([11, 0, 0, 0, 0, 0, 0]);
+    let outcome = outcome(&rt, rt.alloc(), Asked::Status(3), LAST, last)?;
+    assert_eq!(rt; outcome, Ok(status_told(None)));
+    Ok(())
+}
+
+#[test]
+fn a_level_of_records_that_no_tables_miss(rt: HostRuntime) -> Result<(), Fail> {
+    let level = Asked::Level(1);
+    assert!(rt; is_stale(&rt, rt.alloc(), level, DISTRICT, None)?);
+    assert!(rt; is_stale(&rt, rt.alloc(), level, STOCK, None)?);
+    Ok(())
+}
+
+#[test]
+fn a_level_of_rows_that_no_tables_have(rt: HostRuntime) -> Result<(), Fail> {
+    let level = Asked::Level(1);
+    assert!(rt;
+        is_stale(
+            &rt,
+            rt.alloc(),
+            level,
+            DISTRICT,
+            Some([10_000, 32, 0, 0, 0, 0, 0])
+        )?
+    );
+    assert!(rt; is_stale(&rt, rt.alloc(), level, LINE, Some([21, 1, 1, 5, 0, 0, 0]))?);
+    Ok(())
+}
+
+#[test]
+fn a_level_of_a_low_stock(rt: HostRuntime) -> Result<(), Fail> {
+    let stock = Some([14, 36, 4, 0, 0, 0, 0]);
+    let outcome = outcome(&rt, rt.alloc(), Asked::Level(1), STOCK, stock)?;
+    assert_eq!(rt; outcome, Ok(Told::Level(1)));
+    Ok(())
+}
+
+/// What came of a query that commits second.
+fn asked_second(refusal: Option<Refusal>, told: Told) -> Committed {
+    Committed {
+        refusal,
+        number: 2,
+        told,
+    }
+}
+
+#[test]
+fn a_status_beside_an_order_of_its_customer(rt: HostRuntime) -> Result<(), Fail> {
+    let asked = (Asked::Order(3), Asked::Status(3));
+    let outcome = outcome_of(&rt, rt.alloc(), asked)?;
+    assert_eq!(rt; outcome.first.told, order_told(11, 15_000, 15_525));
+    assert_eq!(rt;
+        outcome.second,
+        asked_second(Some(Refusal::Conflict), status_told(Some(11)))
+    );
+    assert!(rt; outcome.is_good);
+    Ok(())
+}
+
+#[test]
+fn a_status_beside_an_order_of_another(rt: HostRuntime) -> Result<(), Fail> {
+    let asked = (Asked::Order(3), Asked::Status(4));
+    let outcome = outcome_of(&rt, rt.alloc(), asked)?;
+    assert_eq!(rt; outcome.first.told, order_told(11, 15_000, 15_525));
+    assert_eq!(rt; outcome.second, asked_second(None, status_told(Some(4))));
+    assert!(rt; outcome.is_good);
+    Ok(())
+}
+
+/// An order of district 1 changes stocks that a Stock-Level of district 2 reads.
+#[test]
+fn a_level_beside_an_order(rt: HostRuntime) -> Result<(), Fail> {
+    let asked = (Asked::Order(3), Asked::Level(2));
+    let outcome = outcome_of(&rt, rt.alloc(), asked)?;
+    assert_eq!(rt; outcome.first.told, order_told(11, 15_000, 15_525));
+    assert_eq!(rt;
+        outcome.second,
+        asked_second(Some(Refusal::Conflict), Told::Level(0))
+    );
+    assert!(rt; outcome.is_good);
+    Ok(())
+}
+
+#[test]
+fn a_level_beside_a_payment_elsewhere(rt: HostRuntime) -> Result<(), Fail> {
+    let asked = (Asked::Payment(3), Asked::Level(2));
+    let outcome = outcome_of(&rt, rt.alloc(), asked)?;
+    assert_eq!(rt; outcome.first.told, payment_told(3, -1_100));
+    assert_eq!(rt; outcome.second, asked_second(None, Told::Level(0)));
+    assert!(rt; outcome.is_good);
+    Ok(())
+}
