@@ -1,13 +1,17 @@
--- What a reader that has executed a transaction has read.
+-- What a reader that has executed a transaction has read, and where that explains the transaction.
 use Rattle.std.proofs.Common.{◌≡◌, ℕ, ◌<◌, Some, []}
 use Rattle.tables.specs.Database.{Database}
 use Rattle.tables.specs.Inputs.{IsInput}
+use Rattle.tables.specs.declared.input.Input.{Input}
+use Rattle.tables.specs.declared.reply.Reply.{Reply}
 use Rattle.cells.specs.Records.{ReaderView}
 use Rattle.cells.specs.declared.cells.Version.{Version}
 use Rattle.readset.specs.Reads.{ReadSetView, AreRead, held}
 use Rattle.readset.specs.Explains.{Explains, IsWithinLimits}
+use Rattle.readset.specs.Writes.{WriteSetView}
 use Rattle.readset.specs.declared.work.Work.{Work}
 use Rattle.book.specs.Book.{IsReadBy, IsWorkOf}
+use Rattle.book.specs.Decided.{ExplainsWhereConsistent}
 
 read_by : (cells : ℕ) (old new : ReaderView) (reads : ReadSetView) → ((n : ℕ) (v : Version) → held reads n ≡ Some v → n < cells) → AreRead old new reads → IsReadBy cells new reads
 read_by cells old new reads within read = record {
@@ -15,6 +19,15 @@ read_by cells old new reads within read = record {
   records = read.records;
   seen = λ n v h. ((read.last n v h).0, [], (read.last n v h).1);
 }
+
+-- consistent tables have the conditions of each district that was read
+pub explains_where_consistent : (t0 : Database) (x : Input) (reads : ReadSetView) (writes : WriteSetView) (reply : Reply) → Explains t0 x reads writes reply → ExplainsWhereConsistent t0 x reads writes reply
+explains_where_consistent t0 x reads writes reply explains t of_population well_formed consistent agrees = explains t (record {
+  of_population = of_population;
+  well_formed = well_formed;
+  numbered = λ k here _. record { condition_2 = consistent.condition_2 k here; condition_3 = consistent.condition_3 k here; condition_6 = λ j _. consistent.condition_6 j };
+  agrees = agrees;
+})
 
 -- what was executed, by what its clauses say, is this reader's work
 pub work_of : (t0 : Database) (cells : ℕ) (old new : ReaderView) (work : Work) → IsInput t0.scale work.input → Explains t0 work.input work.reads work.writes work.reply

@@ -13,7 +13,7 @@ use Rattle.tables.specs.Rows.{rows}
 use Rattle.tables.specs.WellFormed.{IsWellFormed, HasRoom}
 use Rattle.laws.proofs.Kept.{after-IsWellFormed, after-HasRoom, after-IsConsistent, after-IsOf}
 use Rattle.laws.proofs.NamesKept.{IsOf-itself}
-use Rattle.readset.specs.Explains.{Agrees, MayBe}
+use Rattle.readset.specs.Explains.{Agrees}
 use Rattle.readset.specs.declared.work.Work.{Work}
 use Rattle.commit.specs.Machine as machine
 use Rattle.commit.specs.Turns.{Transaction}
@@ -46,19 +46,11 @@ module _ (t0 t : Database) (versions : ℕ → noted.Version) (left : ℕ) (stan
   agrees n v e =
       sym (is.reads n v e).2 ∙ ap (λ (x : noted.Version). x.value) (sym (serial n (is.reads n v e).0 (is.reads n v e).1)) ∙ sym (stands.values n (is.within n v e))
 
-  may_be : MayBe t0 work.reads t
-  may_be = record {
-    of_population = stands.of_population;
-    well_formed = stands.well_formed;
-    numbered = λ k here _. record { condition_2 = stands.consistent.condition_2 k here; condition_3 = stands.consistent.condition_3 k here; condition_6 = λ j _. stands.consistent.condition_6 j };
-    agrees = agrees;
-  }
-
   input_of : IsInput t.scale work.input
   input_of = subst (λ s. IsInput s work.input) (sym stands.of_population.scale) is.input
 
   done_there : IsDone t work.input work.writes work.reply
-  done_there = record { input = input_of; commit = is.explained t may_be }
+  done_there = record { input = input_of; commit = is.explained t stands.of_population stands.well_formed stands.consistent agrees }
 
   value_next : (n : ℕ) → n < record_count t0.scale → rows (after t work.input) n ≡ (overwritten (versions n) transaction.tid (machine.held transaction.writes n)).value
   value_next n small =

@@ -8,10 +8,7 @@ use Rattle.tables.specs.Sizes.{Sizes}
 use Rattle.tables.specs.Database.{Database}
 use Rattle.tables.specs.Inputs.{IsInput}
 use Rattle.tables.specs.Apply.{after}
-use Rattle.tables.specs.Keys.{IsDistrictKey}
-use Rattle.tables.specs.Records.{record_count, number_of_key}
-use Rattle.tables.specs.declared.keys.DistrictKey.{DistrictKey}
-use Rattle.tables.specs.declared.records.RecordKey.TheVariants as key
+use Rattle.tables.specs.Records.{record_count}
 use Rattle.tables.specs.Rows.{rows}
 use Rattle.tables.specs.WellFormed.{HasRoom}
 use Rattle.tables.specs.declared.limits.TheConstants.{MAX_COMMITS}
@@ -23,8 +20,8 @@ use Rattle.cells.specs.Versions.{EndsWith, tid, last_tid, value_in}
 use Rattle.cells.specs.Records.{PenView, ReaderView, at, words_of}
 use Rattle.cells.proofs.Rising.{last_tid-push, last_tid-last}
 use Rattle.readset.specs.Writes.{rows_with, value_for}
-use Rattle.readset.specs.Reads.{held}
-use Rattle.readset.specs.Explains.{Agrees, MayBe, IsNumbered}
+use Rattle.readset.specs.Commit.{IsCommitOf}
+use Rattle.readset.specs.Explains.{Agrees}
 use Rattle.readset.specs.declared.work.Work.{Work}
 use Rattle.book.specs.History.{replay, IsDone, IsLegal, version_of, new_versions, entry_versions, later_versions}
 use Rattle.book.specs.Book.{BookView, IsSound, IsWorkOf, IsRead, AreLatest, entry_of}
@@ -33,6 +30,7 @@ use Rattle.book.specs.Ready.{IsReady, IsWithin, IsFree}
 use Rattle.book.specs.declared.epoch.TheConstants.{EPOCH}
 use Rattle.book.proofs.Stamped.{all_stamped, all_passed, last_here, last_there, within_more}
 use Rattle.book.specs.declared.entry.Entry.{Entry}
+use Rattle.book.proofs.Executed.{explains_where_consistent}
 use Rattle.book.proofs.Replaying.{replay_push, replays_push}
 
 -- one entry more
@@ -79,18 +77,15 @@ module _ (t0 : Database) (run_cells : List TableId) (k : BookView) (t : Database
   agrees : Agrees t work.reads
   agrees n v e = sound.latest n (is_work.read.within n v e) (words_of v) (latest n v e)
 
-  numbered : (k : DistrictKey) → IsDistrictKey t.scale k → IsSome (held work.reads (number_of_key t.scale (key.District k))) → IsNumbered t k
-  numbered k here _ = record { condition_2 = sound.consistent.condition_2 k here; condition_3 = sound.consistent.condition_3 k here; condition_6 = λ j _. sound.consistent.condition_6 j }
-
-  pub may_be : MayBe t0 work.reads t
-  may_be = record { of_population = ready.of_population; well_formed = sound.well_formed; numbered = numbered; agrees = agrees }
+  commits_there : IsCommitOf t work.input work.writes work.reply
+  commits_there = explains_where_consistent t0 work.input work.reads work.writes work.reply is_work.explained t ready.of_population sound.well_formed sound.consistent agrees
 
   pub input_of : IsInput t.scale work.input
   input_of = subst (λ s. IsInput s work.input) (sym ready.of_population.scale) is_work.input
 
   -- it is done at the tables that the history leads to, whether it commits or not
   pub done_there : IsDone (replay t0 k.history) work.input work.writes work.reply
-  done_there = subst (λ s. IsDone s work.input work.writes work.reply) (sym sound.legal.end) (record { input = input_of; commit = is_work.explained t may_be })
+  done_there = subst (λ s. IsDone s work.input work.writes work.reply) (sym sound.legal.end) (record { input = input_of; commit = commits_there })
 
   -- a TID that a version read has is its record's last
   pub read_within : (seen : ℕ) → IsRead work.reads seen → IsWithin EPOCH (length k.history) seen
@@ -134,7 +129,7 @@ module _ (t0 : Database) (run_cells : List TableId) (k : BookView) (t : Database
     last_value : (n : ℕ) → n < length run_cells → (v : List ℕ) → EndsWith (at new.all n) v → value_in v ≡ rows (after t work.input) n
     last_value n h v e =
         let small : n < record_count t.scale = subst (λ (s : Sizes). n < record_count s) (sym ready.of_population.scale) (subst (λ m. n < m) ready.count h) in
-        let leaves : rows (after t work.input) n ≡ rows_with work.writes (rows t) n = (is_work.explained t may_be).rows n small in
+        let leaves : rows (after t work.input) n ≡ rows_with work.writes (rows t) n = commits_there.rows n small in
         elim (value_for work.writes n) as (λ w. value_for work.writes n ≡ w → value_in v ≡ rows (after t work.input) n) [
           | None ↦ λ none. sound.latest n h v (subst (λ (l : List (List ℕ)). EndsWith l v) (unchanged n none) e) ∙ sym (leaves ∙ ap (λ w. unwrap_or w (rows t n)) none)
           | Some value ↦ λ some. ap value_in (last_one e.0 (at k.written.all n) v (version_of tid_is value) (sym e.1 ∙ changed n value some)) ∙ value_in_version tid_is value within.bits
@@ -187,7 +182,7 @@ module _ (t0 : Database) (run_cells : List TableId) (k : BookView) (t : Database
     next_sound = record {
       legal = legal;
       stamped = all_stamped EPOCH k kept entry refl from_epoch above_last above_records written_records grows within.bits sound.stamped ready.passed;
-      well_formed = after-IsWellFormed t work.input (MAX_COMMITS - (length k.history + 1)) input_of (is_work.explained t may_be).numbered sound.well_formed sound.consistent roomy;
+      well_formed = after-IsWellFormed t work.input (MAX_COMMITS - (length k.history + 1)) input_of commits_there.numbered sound.well_formed sound.consistent roomy;
       consistent = after-IsConsistent t work.input input_of sound.well_formed sound.consistent;
       versions = λ n h. stores n ∙ ap (λ (l : List (List ℕ)). l ++ new_versions tid_is work.writes.values n) (sound.versions n h)
           ∙ ap (λ l. first_version (rows t0 n) ∷ l) (sym (later_push k.history entry n));

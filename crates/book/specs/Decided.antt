@@ -1,15 +1,19 @@
 -- What the transactions that a run of the commit machine decides make of the tables, where each is explained by what it read (Silo, section 4.4).
 use Rattle.std.specs.Prelude.{◌≡◌, ℕ, ◌+◌, ◌<◌, Some, List, [], ◌∷◌, ◌++◌, length}
 use Rattle.tables.specs.Database.{Database}
+use Rattle.tables.specs.Constant.{IsOf}
 use Rattle.tables.specs.Inputs.{IsInput}
 use Rattle.tables.specs.Records.{record_count}
 use Rattle.tables.specs.Rows.{rows}
 use Rattle.tables.specs.Conditions.{IsConsistent}
 use Rattle.tables.specs.WellFormed.{IsWellFormed}
+use Rattle.tables.specs.declared.input.Input.{Input}
+use Rattle.tables.specs.declared.reply.Reply.{Reply}
 use Rattle.cells.specs.declared.cells.Version.{Version}
-use Rattle.readset.specs.Reads.{AreWithin, held, value_of}
-use Rattle.readset.specs.Writes.{value_for}
-use Rattle.readset.specs.Explains.{Explains}
+use Rattle.readset.specs.Reads.{ReadSetView, AreWithin, held, value_of}
+use Rattle.readset.specs.Writes.{WriteSetView, value_for}
+use Rattle.readset.specs.Commit.{IsCommitOf}
+use Rattle.readset.specs.Explains.{Agrees}
 use Rattle.readset.specs.declared.work.Work.{Work}
 use Rattle.commit.specs.Machine as machine
 use Rattle.commit.specs.Turns.{Transaction}
@@ -23,10 +27,15 @@ use Rattle.book.specs.declared.entry.Entry.{Entry}
 abbrev pub HoldsRows : Database → machine.Machine → Type 0
 HoldsRows t m = (n : ℕ) → n < record_count t.scale → (machine.cell m n).value ≡ rows t n
 
+-- at all consistent, well-formed tables of the population as read, the transaction has this reply and these writes
+abbrev pub ExplainsWhereConsistent : Database → Input → ReadSetView → WriteSetView → Reply → Type 0
+ExplainsWhereConsistent t0 x reads writes reply =
+    (t : Database) → IsOf t0 t → IsWellFormed t → IsConsistent t → Agrees t reads → IsCommitOf t x writes reply
+
 -- the machine's transaction is this work's: what the work read explains it, each value that it read is of a version that the transaction has validated, and what it writes is what the transaction writes
 pub record IsTransactionOf (t0 : Database) (work : Work) (transaction : Transaction) : Type 0 where
   pub input : IsInput t0.scale work.input
-  pub explained : Explains t0 work.input work.reads work.writes work.reply
+  pub explained : ExplainsWhereConsistent t0 work.input work.reads work.writes work.reply
   pub within : AreWithin (record_count t0.scale) work.reads
   pub reads : (n : ℕ) (v : Version) → held work.reads n ≡ Some v → (read : noted.Version) × (machine.held transaction.reads n ≡ Some read) × (read.value ≡ value_of v)
   pub writes : (n : ℕ) → machine.held transaction.writes n ≡ value_for work.writes n

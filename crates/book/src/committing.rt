@@ -11,6 +11,7 @@ ghost use Rattle.book.specs.Shows.{Shows, IsRun, IsRefusedRun, reads_of};
 
 use crate::book::Book;
 use crate::entry::{Done, Entry};
+use crate::epoch::EPOCH;
 use crate::prepare::{Prepared, prepare};
 use crate::run::Run;
 use crate::share::Share;
@@ -77,14 +78,15 @@ impl<K: Run> Book<K> {
         ensures cap_first { IfErr result (λ refusal. refusal ≢ EpochFull) }
     {
         in_order(&work);
+        let epoch = EPOCH;
         let Some(seen) = validate(rt, cells, &mut self.pen, reader, &work) else {
             return Err(Refusal::Conflict);
         };
-        // What is refused from here on is refused before the first store.
         let cap = self.population.scale().commits();
         let last = self.lasts[share.terminal as usize];
         let Prepared { tid, writes, reply } = match prepare(
             cap,
+            epoch,
             &mut self.history,
             seen,
             last,

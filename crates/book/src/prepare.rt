@@ -3,10 +3,8 @@ ghost use Rattle.std.specs.Prelude.{◌≡◌, ◌<◌, ◌≤◌, ◌⊎◌, �
 ghost use Rattle.money.specs.declared.refusal.Refusal.TheVariants.{OutOfMemory, CommitsFull, EpochFull};
 ghost use Rattle.tidword.specs.TidWord.{tid_of};
 ghost use Rattle.tidword.specs.Lawful.{IsLawful, next};
-ghost use Rattle.book.specs.declared.epoch.TheConstants.{EPOCH as the_epoch};
 
 use crate::entry::Entry;
-use crate::epoch::EPOCH;
 use money::Refusal;
 use readset::{Work, WriteList};
 use tables::Reply;
@@ -19,7 +17,7 @@ pub(crate) struct Prepared {
     pub reply: Reply,
 }
 
-/// Takes the TID, and the memory for one entry more, for its writes and for a copy of its reply.
+/// Takes the TID in this epoch, and the memory for one entry more, for its writes and for a copy of its reply.
 ///
 /// # Errors
 ///
@@ -27,13 +25,14 @@ pub(crate) struct Prepared {
 /// seen and the terminal's last, then `OutOfMemory`. The history is then as before.
 pub(crate) fn prepare(
     cap: u32,
+    epoch: u32,
     history: &mut Vec<Entry>,
     seen: TidWord,
     last: TidWord,
     work: &Work,
 ) -> Result<Prepared, Refusal>
-    ensures tid { IfOk result (λ made. next (tid_of seen) (tid_of last) the_epoch ≡ Some made.tid) }
-    ensures lawful { IfOk result (λ made. IsLawful seen last the_epoch made.tid) }
+    ensures tid { IfOk result (λ made. next (tid_of seen) (tid_of last) epoch ≡ Some made.tid) }
+    ensures lawful { IfOk result (λ made. IsLawful seen last epoch made.tid) }
     ensures writes { IfOk result (λ made. made.writes ≡ work.now.writes) }
     ensures reply { IfOk result (λ made. made.reply ≡ work.now.reply) }
     ensures below { OnOk result (length history.old.items < cap) }
@@ -42,14 +41,14 @@ pub(crate) fn prepare(
     ensures refused { IfErr result (λ refusal.
         ((refusal ≡ CommitsFull) × (cap ≤ length history.old.items))
         ⊎ ((refusal ≡ EpochFull) × (length history.old.items < cap)
-        × (next (tid_of seen) (tid_of last) the_epoch ≡ None))
+        × (next (tid_of seen) (tid_of last) epoch ≡ None))
         ⊎ ((refusal ≡ OutOfMemory) × (length history.old.items < cap)
-        × IsSome (next (tid_of seen) (tid_of last) the_epoch))) }
+        × IsSome (next (tid_of seen) (tid_of last) epoch))) }
 {
     if history.len() >= cap as usize {
         return Err(Refusal::CommitsFull);
     }
-    let tid = next_tid(seen, last, EPOCH)?;
+    let tid = next_tid(seen, last, epoch)?;
     let Ok(()) = history.reserve(1) else {
         return Err(Refusal::OutOfMemory);
     };

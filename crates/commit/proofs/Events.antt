@@ -17,9 +17,9 @@ use Rattle.commit.specs.declared.event.Event.{Event}
 use Rattle.commit.specs.declared.event.Event.TheVariants.{Begin, Read, Lock, ReadEpoch, Validate, ChooseTid, Install, Unlock, AdvanceEpoch}
 use Rattle.commit.proofs.Held.{same_value, by_test, never_both, none_of, held_more, held_left}
 use Rattle.commit.proofs.Words.{above_first, above_second, lock_keeps_tid, unlock_keeps_tid}
-use Rattle.commit.proofs.Invariant.{IsFresh, AreOrdered, AreStored, IsSound, Changes}
+use Rattle.commit.proofs.Invariant.{IsFresh, unchecked, to_check, AreOrdered, AreStored, IsSound, Changes}
 use Rattle.commit.proofs.Turns.{falling_more, same_transactions}
-use Rattle.commit.proofs.Stores.{pending_held, pending_none, nothing_entered, versions_kept, locks_kept, locks_taken, quiet, choice, install, fresh_installed, left}
+use Rattle.commit.proofs.Stores.{pending_held, pending_none, nothing_entered, unchecked_held, versions_kept, locks_kept, locks_taken, quiet, choice, install, fresh_installed, left}
 use Rattle.commit.proofs.Order.{begun, chose, failed, idle, order_aside, order_given_up, order_entered, order_checked, order_decided}
 
 -- the machine is sound, with these turns
@@ -116,11 +116,11 @@ module _ (first : ℕ → Version) (m : Machine) (turns : List Turn) (h : Holds 
       itself : IsFresh (version_of (cell m r)) (version_of (cell m r))
       itself = (le_refl (version_of (cell m r)).tid, λ _. refl)
 
-      fresh : (k : ℕ) (v : Version) → held x.reads k ≡ Some v → IsFresh v (version_of (cell m k))
+      fresh : (k : ℕ) (v : Version) → to_check x k ≡ Some v → IsFresh v (version_of (cell m k))
       fresh k v e = ⊎_elim
-          (λ (q : held (worker m w).reads k ≡ Some v). h.locks.fresh w k v q)
+          (λ (q : held (worker m w).reads k ≡ Some v). h.locks.fresh w k v (ap (λ p. unchecked p (held (worker m w).reads k)) phase ∙ q))
           (λ (q : (r ≡ k) × (version_of (cell m r) ≡ v)). subst (λ j. IsFresh v (version_of (cell m j))) q.0 (subst (λ u. IsFresh u (version_of (cell m r))) q.1 itself))
-          (held_more (worker m w).reads r (version_of (cell m r)) k v e)
+          (held_more (worker m w).reads r (version_of (cell m r)) k v (unchecked_held (worker m w).phase (held x.reads k) v e))
 
   -- it locks one
   pub lock : (r : ℕ) (value : Option (List ℕ)) → r < length m.records → (worker m w).phase ≡ Begun → is_locked (cell m r).word ≡ false → Holds first (after m (Lock w r value)) turns
@@ -151,7 +151,8 @@ module _ (first : ℕ → Version) (m : Machine) (turns : List Turn) (h : Holds 
   -- it reads the epoch
   pub read_epoch : (worker m w).phase ≡ Begun → Holds first (after m (ReadEpoch w)) (Waiting w m.epoch ∷ turns)
   read_epoch phase = record {
-    locks = locks_kept (worker m) ws' (cell m) (cell m) w x change h.locks (λ r value e. e) (λ k r value e q. q) (h.locks.fresh w) (λ r v q. q);
+    locks = locks_kept (worker m) ws' (cell m) (cell m) w x change h.locks (λ r value e. e) (λ k r value e q. q)
+        (λ r v e. h.locks.fresh w r v (ap (λ p. unchecked p (held (worker m w).reads r)) phase ∙ e)) (λ r v q. q);
     order = order_entered first (worker m) ws' w x change (le_refl (tid_of (worker m w).last)) m.epoch turns h.order (begun (worker m w).phase phase) refl refl refl;
     stores = quiet first (worker m) ws' (cell m) (cell m) w x change (decided turns) h.stores (λ r. ap (λ p. pending p (held (worker m w).locks r)) phase) (λ r. refl) (λ r. refl);
   }
@@ -175,7 +176,7 @@ module _ (first : ℕ → Version) (m : Machine) (turns : List Turn) (h : Holds 
   -- a worker that has read its epoch fails
   fails : (worker m w).phase ≡ Entered → SettlesAs (record (worker m w) { phase = Failed })
   fails phase = record {
-    locks = locks_kept (worker m) ws' (cell m) (cell m) w x change h.locks (λ r value e. e) (λ k r value e q. q) (h.locks.fresh w) (λ r v q. q);
+    locks = locks_kept (worker m) ws' (cell m) (cell m) w x change h.locks (λ r value e. e) (λ k r value e q. q) (λ r v e. absurd (never_both refl e)) (λ r v q. q);
     order = order_given_up first (worker m) ws' w x change (le_refl (tid_of (worker m w).last)) m.epoch turns h.order (failed Failed refl);
     stores = subst (AreStored first ws' (cell m)) (sym (same_transactions w turns))
         (quiet first (worker m) ws' (cell m) (cell m) w x change (decided turns) h.stores (λ r. nothing_entered (worker m w) r phase) (λ r. refl) (λ r. refl));
@@ -191,6 +192,10 @@ module _ (first : ℕ → Version) (m : Machine) (turns : List Turn) (h : Holds 
       change = change_worker m w x there
 
   module _ (phase : (worker m w).phase ≡ Entered) where
+    -- what it has read it may still validate
+    may_check : (r : ℕ) (v : Version) → held (worker m w).reads r ≡ Some v → to_check (worker m w) r ≡ Some v
+    may_check r v e = ap (λ p. unchecked p (held (worker m w).reads r)) phase ∙ e
+
     -- a record that nobody but w has locked has its last version
     settled_here : (r : ℕ) → ((k : ℕ) (value : Option (List ℕ)) → held (worker m k).locks r ≡ Some value → k ≡ w) → now first (decided turns) r ≡ version_of (cell m r)
     settled_here r mine = h.stores.settled r (λ k. none_of (to_install (worker m k) r) (λ value e.
@@ -200,7 +205,8 @@ module _ (first : ℕ → Version) (m : Machine) (turns : List Turn) (h : Holds 
     -- a read stands
     passes : (r : ℕ) (v : Version) → held (worker m w).reads r ≡ Some v → still_holds (cell m r) (worker m w) r v ≡ true → SettlesAs (checked (worker m w) r v true)
     passes r v was_read holds = record {
-      locks = locks_kept (worker m) ws' (cell m) (cell m) w x change h.locks (λ k value e. e) (λ k j value e q. q) (λ k u e. h.locks.fresh w k u (held_left (worker m w).reads r k u e).1) (λ k u q. q);
+      locks = locks_kept (worker m) ws' (cell m) (cell m) w x change h.locks (λ k value e. e) (λ k j value e q. q)
+          (λ k u e. h.locks.fresh w k u (may_check k u (held_left (worker m w).reads r k u (unchecked_held (worker m w).phase (held x.reads k) u e)).1)) (λ k u q. q);
       order = subst (AreOrdered first ws' m.epoch) (sym stays)
           (order_checked first (worker m) ws' w r v change m.epoch turns h.order was_read (λ k apart. none_of (held (worker m k).locks r) (λ value e. apart (mine k value e))) (settled_here r mine ∙ sym same));
       stores = subst (λ (l : List Turn). AreStored first ws' (cell m) (decided l)) (sym stays)
@@ -223,7 +229,7 @@ module _ (first : ℕ → Version) (m : Machine) (turns : List Turn) (h : Holds 
         parts = both (tid_of (cell m r).word == v.tid) (is_latest (cell m r).word && (not (is_locked (cell m r).word) || is_some (held (worker m w).locks r))) holds
 
         same : v ≡ version_of (cell m r)
-        same = (h.locks.fresh w r v was_read).1 (sym (eqb-true (tid_of (cell m r).word) v.tid parts.0))
+        same = (h.locks.fresh w r v (may_check r v was_read)).1 (sym (eqb-true (tid_of (cell m r).word) v.tid parts.0))
 
         mine : (k : ℕ) (value : Option (List ℕ)) → held (worker m k).locks r ≡ Some value → k ≡ w
         mine k value e =
@@ -245,7 +251,7 @@ module _ (first : ℕ → Version) (m : Machine) (turns : List Turn) (h : Holds 
     -- it takes a TID
     takes : (tid : ℕ) → next (tid_of (seen_by m (worker m w))) (tid_of (worker m w).last) (worker m w).epoch ≡ Some tid → SettlesAs (chosen (worker m w) (Some tid))
     takes tid e = record {
-      locks = locks_kept (worker m) ws' (cell m) (cell m) w x change h.locks (λ r value e. e) (λ k r value e q. q) (h.locks.fresh w) (λ r v q. q);
+      locks = locks_kept (worker m) ws' (cell m) (cell m) w x change h.locks (λ r value e. e) (λ k r value e q. q) (λ r v e. absurd (never_both refl e)) (λ r v q. q);
       order = order_decided first (worker m) ws' w tid change m.epoch turns h.order (λ k r value other e f. h.locks.single w k r value other e f)
           above_fresh above_read is_taken.in_epoch is_taken.bits is_taken.above_last
           (λ r value lock. subst (λ (v : Version). v.tid < tid) (sym (settled_here r (λ k u f. sym (h.locks.single w k r value u lock f)))) (above r value lock));
@@ -269,9 +275,9 @@ module _ (first : ℕ → Version) (m : Machine) (turns : List Turn) (h : Holds 
             let seen : tid_of (cell m r).word ≤ greatest_locked m (worker m w).locks = seen_locked m (worker m w).locks r value lock in
             above_second (tid_of (cell m r).word) (greatest_read (worker m w).validated) (greatest_locked m (worker m w).locks) tid seen is_taken.above_seen is_taken.bits
 
-        above_fresh : (k r : ℕ) (value : Option (List ℕ)) (v : Version) → held (worker m w).locks r ≡ Some value → held (worker m k).reads r ≡ Some v → v.tid < tid
-        above_fresh k r value v lock was_read =
-            let old : v.tid ≤ (version_of (cell m r)).tid = (h.locks.fresh k r v was_read).0 in
+        above_fresh : (k r : ℕ) (value : Option (List ℕ)) (v : Version) → (worker m k).phase ≡ Entered → held (worker m w).locks r ≡ Some value → held (worker m k).reads r ≡ Some v → v.tid < tid
+        above_fresh k r value v entered lock was_read =
+            let old : v.tid ≤ (version_of (cell m r)).tid = (h.locks.fresh k r v (ap (λ p. unchecked p (held (worker m k).reads r)) entered ∙ was_read)).0 in
             let less : (version_of (cell m r)).tid < tid = above r value lock in
             omega arith
 

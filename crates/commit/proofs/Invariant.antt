@@ -5,7 +5,8 @@ use Rattle.commit.specs.Machine.{Worker, held, version_of}
 use Rattle.commit.specs.Turns.{IsWaiting, Transaction, Turn, decided}
 use Rattle.commit.specs.Turns.Turn.{Waiting, Decided}
 use Rattle.commit.specs.Serial.{now, to_install, IsStamped}
-use Rattle.commit.specs.declared.worker.Phase.TheVariants.{Entered}
+use Rattle.commit.specs.declared.worker.Phase.{Phase}
+use Rattle.commit.specs.declared.worker.Phase.TheVariants.{Begun, Entered}
 use Rattle.commit.specs.declared.worker.Cell.{Cell}
 use Rattle.commit.specs.declared.worker.Version.{Version}
 
@@ -45,11 +46,21 @@ Falling epoch (Decided t ∷ turns) = (t.epoch ≤ epoch) × Falling t.epoch tur
 abbrev pub IsFresh : Version → Version → Type 0
 IsFresh v u = (v.tid ≤ u.tid) × (v.tid ≡ u.tid → v ≡ u)
 
--- locks are of one worker each and locked, and reads are fresh
+-- a read that may still be validated, by the phase of its worker: what an idle one has read before says nothing
+abbrev pub unchecked : Phase → Option Version → Option Version
+unchecked Begun read = read
+unchecked Entered read = read
+unchecked _ read = None
+
+-- what a worker may still validate of record r
+abbrev pub to_check : Worker → ℕ → Option Version
+to_check x r = unchecked x.phase (held x.reads r)
+
+-- locks are of one worker each and locked, and reads that may still be validated are fresh
 pub record HaveLocks (ws : ℕ → Worker) (cs : ℕ → Cell) : Type 0 where
   pub locked : (w r : ℕ) (value : Option (List ℕ)) → held (ws w).locks r ≡ Some value → is_locked (cs r).word ≡ true
   pub single : (w k r : ℕ) (value other : Option (List ℕ)) → held (ws w).locks r ≡ Some value → held (ws k).locks r ≡ Some other → w ≡ k
-  pub fresh : (w r : ℕ) (v : Version) → held (ws w).reads r ≡ Some v → IsFresh v (version_of (cs r))
+  pub fresh : (w r : ℕ) (v : Version) → to_check (ws w) r ≡ Some v → IsFresh v (version_of (cs r))
 
 -- whoever has read its epoch waits, and the turns are good
 pub record AreOrdered (first : ℕ → Version) (ws : ℕ → Worker) (epoch : ℕ) (turns : List Turn) : Type 0 where

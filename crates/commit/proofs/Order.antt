@@ -4,14 +4,14 @@ use Rattle.tidword.specs.TidWord.{tid_of}
 use Rattle.commit.specs.Machine.{Worker, IsIdle, held}
 use Rattle.commit.specs.Events.{checked, chosen}
 use Rattle.commit.specs.Turns.{IsWaiting, Turn, transaction_of, decided, decide, give_up}
-use Rattle.commit.specs.Turns.Turn.{Waiting, Decided}
+use Rattle.commit.specs.Turns.Turn.{Waiting}
 use Rattle.commit.specs.Serial.{now}
 use Rattle.commit.specs.declared.worker.Phase.{Phase}
 use Rattle.commit.specs.declared.worker.Phase.TheVariants.{Idle, Begun, Entered, Chosen, Failed}
 use Rattle.commit.specs.declared.worker.Version.{Version}
 use Rattle.commit.proofs.Held.{never_both}
-use Rattle.commit.proofs.Invariant.{AreFound, AreGood, AreOrdered, Changes}
-use Rattle.commit.proofs.Turns.{spread, still_waits, falling_given_up, good_given_up, good_aside, good_checked, waits_on, falling_decided, good_decided}
+use Rattle.commit.proofs.Invariant.{AreFound, AreOrdered, Changes}
+use Rattle.commit.proofs.Turns.{spread, still_waits, falling_given_up, good_given_up, good_aside, good_checked, waits_on, falling_decided, good_decided, has_entered}
 
 abbrev is_entered : Phase → Bool
 is_entered Entered = true
@@ -31,15 +31,6 @@ failed p = apart_from p Failed refl
 
 pub idle : (x : Worker) → IsIdle x → x.phase ≡ Entered → ⊥
 idle x h = ⊎_elim (apart_from x.phase Idle refl) (λ (q : (x.phase ≡ Chosen) ⊎ (x.phase ≡ Failed)). ⊎_elim (chose x.phase) (failed x.phase) q) h.1
-
--- who waits has read its epoch
-pub has_entered : (first : ℕ → Version) (ws : ℕ → Worker) (w : ℕ) (turns : List Turn) → AreGood first ws turns → IsWaiting w turns → (ws w).phase ≡ Entered
-has_entered first ws w [] h q = absurd q
-has_entered first ws w (Waiting k e ∷ turns) h q = ⊎_elim
-    (λ (p : k ≡ w). subst (λ j. (ws j).phase ≡ Entered) p h.0.phase)
-    (λ (p : IsWaiting w turns). has_entered first ws w turns h.1 p)
-    q
-has_entered first ws w (Decided t ∷ turns) h q = has_entered first ws w turns h.1 q
 
 module _ (first : ℕ → Version) (ws ws' : ℕ → Worker) (w : ℕ) (x : Worker) (change : Changes ws ws' w x) (no_smaller : tid_of (ws w).last ≤ tid_of x.last) (epoch : ℕ) (turns : List Turn) (h : AreOrdered first ws epoch turns) where
   -- it has no turn
@@ -87,7 +78,7 @@ module _ (first : ℕ → Version) (ws ws' : ℕ → Worker) (w n : ℕ) (v : Ve
 -- worker w has taken a TID
 module _ (first : ℕ → Version) (ws ws' : ℕ → Worker) (w tid : ℕ) (change : Changes ws ws' w (chosen (ws w) (Some tid))) (epoch : ℕ) (turns : List Turn) (h : AreOrdered first ws epoch turns) where
   pub order_decided : ((k r : ℕ) (value other : Option (List ℕ)) → held (ws w).locks r ≡ Some value → held (ws k).locks r ≡ Some other → w ≡ k)
-      → ((k r : ℕ) (value : Option (List ℕ)) (v : Version) → held (ws w).locks r ≡ Some value → held (ws k).reads r ≡ Some v → v.tid < tid)
+      → ((k r : ℕ) (value : Option (List ℕ)) (v : Version) → (ws k).phase ≡ Entered → held (ws w).locks r ≡ Some value → held (ws k).reads r ≡ Some v → v.tid < tid)
       → ((r : ℕ) (v : Version) → held (ws w).validated r ≡ Some v → v.tid < tid)
       → tid / 2 ^ 32 ≡ (ws w).epoch → tid % 8 ≡ 0 → tid_of (ws w).last < tid
       → ((r : ℕ) (value : Option (List ℕ)) → held (ws w).locks r ≡ Some value → (now first (decided turns) r).tid < tid)

@@ -11,15 +11,15 @@ use Rattle.commit.specs.declared.worker.Version.{Version}
 use Rattle.commit.specs.declared.event.Event.{Event}
 use Rattle.commit.proofs.Held.{never_both}
 use Rattle.commit.proofs.Invariant.{AreGood, Falling}
-use Rattle.commit.proofs.Stores.{pending_held}
+use Rattle.commit.proofs.Stores.{pending_held, nothing_idle}
 use Rattle.commit.proofs.Order.{idle}
 use Rattle.commit.proofs.Events.{Holds, step}
 
--- every worker is idle and has read nothing where a run opens
-opens_idle : (opening : Machine) → IsOpening opening → (w : ℕ) → IsIdle (worker opening w) × ((worker opening w).reads ≡ [])
+-- every worker is idle where a run opens
+opens_idle : (opening : Machine) → IsOpening opening → (w : ℕ) → IsIdle (worker opening w)
 opens_idle opening opens w = ⊎_elim
     (λ (here : w < length opening.workers). opens.idle w here)
-    (λ (past : length opening.workers ≤ w). subst (λ (x : Worker). IsIdle x × (x.reads ≡ [])) (sym (get_or_past opening.workers w idle_worker past)) ((refl, inl refl), refl))
+    (λ (past : length opening.workers ≤ w). subst (λ (x : Worker). IsIdle x) (sym (get_or_past opening.workers w idle_worker past)) (refl, inl refl))
     (cases_lt w (length opening.workers))
 
 opens_sound : (opening : Machine) → IsOpening opening → Holds (first_versions opening) opening []
@@ -27,9 +27,9 @@ opens_sound opening opens = record {
   locks = record {
     locked = λ w r value e. absurd (no_lock w r value e);
     single = λ w k r value other e f. absurd (no_lock w r value e);
-    fresh = λ w r v e. absurd (never_both (ap (λ l. held l r) (opens_idle opening opens w).1) e);
+    fresh = λ w r v e. absurd (never_both (nothing_idle (worker opening w) r (opens_idle opening opens w)) e);
   };
-  order = record { places = λ w e. absurd (idle (worker opening w) (opens_idle opening opens w).0 e); good = tt; epochs = tt };
+  order = record { places = λ w e. absurd (idle (worker opening w) (opens_idle opening opens w) e); good = tt; epochs = tt };
   stores = record {
     to_come = λ w r value e. absurd (no_lock w r value (pending_held (worker opening w).phase (held (worker opening w).locks r) value e));
     settled = λ r _. refl;
@@ -37,7 +37,7 @@ opens_sound opening opens = record {
 }
   where
     no_lock : (w r : ℕ) (value : Option (List ℕ)) → held (worker opening w).locks r ≡ Some value → ⊥
-    no_lock w r value e = never_both (ap (λ l. held l r) (opens_idle opening opens w).0.0) e
+    no_lock w r value e = never_both (ap (λ l. held l r) (opens_idle opening opens w).0) e
 
 sound_on : (first : ℕ → Version) (r : Run) (events : List Event) → Holds first r.machine r.turns → AreEnabled r.machine events → Holds first (run_on r events).machine (run_on r events).turns
 sound_on first r [] h enabled = h

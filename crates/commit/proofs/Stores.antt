@@ -3,17 +3,17 @@ use Rattle.std.proofs.Common.{◌≡◌, ◌≢◌, ℕ, ◌%◌, ◌<◌, ◌�
 use Rattle.std.proofs.lemmas.Bool.{cases_eq}
 use Rattle.tidword.specs.TidWord.{is_locked}
 use Rattle.tidword.proofs.Words.{installed-tid}
-use Rattle.commit.specs.Machine.{Worker, held, without, version_of}
+use Rattle.commit.specs.Machine.{Worker, IsIdle, held, without, version_of}
 use Rattle.commit.specs.Events.{chosen, locked_cell, written_cell}
 use Rattle.commit.specs.Turns.{IsWaiting, Transaction, Turn, transaction_of, decided, decide}
 use Rattle.commit.specs.Serial.{now, pending, to_install}
 use Rattle.commit.specs.declared.worker.Phase.{Phase}
-use Rattle.commit.specs.declared.worker.Phase.TheVariants.{Entered, Chosen}
+use Rattle.commit.specs.declared.worker.Phase.TheVariants.{Idle, Begun, Entered, Chosen, Failed}
 use Rattle.commit.specs.declared.worker.Cell.{Cell}
 use Rattle.commit.specs.declared.worker.Version.{Version}
 use Rattle.commit.proofs.Held.{never_both, none_of, held_more, held_without, held_elsewhere, held_left}
 use Rattle.commit.proofs.Words.{locked_word, lock_keeps_tid}
-use Rattle.commit.proofs.Invariant.{AreGood, IsFresh, HaveLocks, AreStored, Changes}
+use Rattle.commit.proofs.Invariant.{AreGood, IsFresh, unchecked, to_check, HaveLocks, AreStored, Changes}
 use Rattle.commit.proofs.Turns.{spread, now_same, now_written}
 
 -- what is pending is held
@@ -27,6 +27,22 @@ pending_none p o e = none_of (pending p o) (λ value h. never_both e (pending_he
 pub nothing_entered : (x : Worker) (r : ℕ) → x.phase ≡ Entered → to_install x r ≡ None
 nothing_entered x r e = ap (λ p. pending p (held x.locks r)) e
 
+-- what may be validated was read
+pub unchecked_held : (p : Phase) (o : Option Version) (v : Version) → unchecked p o ≡ Some v → o ≡ Some v
+unchecked_held Begun o v h = h
+unchecked_held Entered o v h = h
+unchecked_held _ o v h = absurd (never_both refl h)
+
+-- who is idle may validate nothing
+pub nothing_idle : (x : Worker) (r : ℕ) → IsIdle x → to_check x r ≡ None
+nothing_idle x r h = ⊎_elim
+    (λ (e : x.phase ≡ Idle). ap over e)
+    (λ (q : (x.phase ≡ Chosen) ⊎ (x.phase ≡ Failed)). ⊎_elim (λ (e : x.phase ≡ Chosen). ap over e) (λ (e : x.phase ≡ Failed). ap over e) q)
+    h.1
+  where
+    over : Phase → Option Version
+    over p = unchecked p (held x.reads r)
+
 -- a record that changes to another with the same version
 pub versions_kept : {cs cs' : ℕ → Cell} {n : ℕ} {c : Cell} → Changes cs cs' n c → version_of c ≡ version_of (cs n) → (r : ℕ) → version_of (cs' r) ≡ version_of (cs r)
 versions_kept {cs} {cs'} {n} {c} change same = spread (λ r (d : Cell). version_of d ≡ version_of (cs r)) change same (λ k e. refl)
@@ -35,13 +51,13 @@ module _ (ws ws' : ℕ → Worker) (cs cs' : ℕ → Cell) (w : ℕ) (x : Worker
   -- no lock more
   pub locks_kept : HaveLocks ws cs → ((r : ℕ) (value : Option (List ℕ)) → held x.locks r ≡ Some value → held (ws w).locks r ≡ Some value)
       → ((k r : ℕ) (value : Option (List ℕ)) → held (ws' k).locks r ≡ Some value → is_locked (cs r).word ≡ true → is_locked (cs' r).word ≡ true)
-      → ((r : ℕ) (v : Version) → held x.reads r ≡ Some v → IsFresh v (version_of (cs r)))
+      → ((r : ℕ) (v : Version) → to_check x r ≡ Some v → IsFresh v (version_of (cs r)))
       → ((r : ℕ) (v : Version) → IsFresh v (version_of (cs r)) → IsFresh v (version_of (cs' r)))
       → HaveLocks ws' cs'
   locks_kept h fewer still reads grown = record {
     locked = λ k r value e. still k r value e (h.locked k r value (had k r value e));
     single = λ k j r value other e f. h.single k j r value other (had k r value e) (had j r other f);
-    fresh = λ k r v. spread (λ k (x : Worker). held x.reads r ≡ Some v → IsFresh v (version_of (cs' r))) change (λ e. grown r v (reads r v e)) (λ k apart e. grown r v (h.fresh k r v e)) k;
+    fresh = λ k r v. spread (λ k (x : Worker). to_check x r ≡ Some v → IsFresh v (version_of (cs' r))) change (λ e. grown r v (reads r v e)) (λ k apart e. grown r v (h.fresh k r v e)) k;
   }
     where
       had : (k r : ℕ) (value : Option (List ℕ)) → held (ws' k).locks r ≡ Some value → held (ws k).locks r ≡ Some value
@@ -66,7 +82,7 @@ module _ (ws ws' : ℕ → Worker) (cs cs' : ℕ → Cell) (w n : ℕ) (locked_w
         (had j r other f))
         (had k r value e);
     fresh = λ k r v e. subst (IsFresh v) (sym (versions_kept changed same r))
-        (spread (λ k (x : Worker). held x.reads r ≡ Some v → IsFresh v (version_of (cs r))) change (h.fresh w r v) (λ k apart. h.fresh k r v) k e);
+        (spread (λ k (x : Worker). to_check x r ≡ Some v → IsFresh v (version_of (cs r))) change (h.fresh w r v) (λ k apart. h.fresh k r v) k e);
   }
     where
       same : version_of (locked_cell (cs n)) ≡ version_of (cs n)

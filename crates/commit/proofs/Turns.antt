@@ -9,6 +9,7 @@ use Rattle.commit.specs.Events.{checked, chosen}
 use Rattle.commit.specs.Turns.{IsWaiting, Transaction, Turn, transaction_of, decided, decide, give_up}
 use Rattle.commit.specs.Turns.Turn.{Waiting, Decided}
 use Rattle.commit.specs.Serial.{now, overwritten}
+use Rattle.commit.specs.declared.worker.Phase.TheVariants.{Entered}
 use Rattle.commit.specs.declared.worker.Version.{Version}
 use Rattle.commit.proofs.Held.{by_test, never_both, none_of, cases_held, held_more, held_left}
 use Rattle.commit.proofs.Invariant.{AreFound, Waits, Fits, AreGood, Falling, Changes}
@@ -19,6 +20,15 @@ spread {X} {f} {g} {n} {x} P change here there k = ⊎_elim
     (λ (e : k ≡ n). subst (λ q. P q (g q)) (sym e) (subst (P n) (sym change.here) here))
     (λ (e : k ≢ n). subst (P k) (sym (change.there k e)) (there k e))
     (cases_eq k n)
+
+-- who waits has read its epoch
+pub has_entered : (first : ℕ → Version) (ws : ℕ → Worker) (w : ℕ) (turns : List Turn) → AreGood first ws turns → IsWaiting w turns → (ws w).phase ≡ Entered
+has_entered first ws w [] h q = absurd q
+has_entered first ws w (Waiting k e ∷ turns) h q = ⊎_elim
+    (λ (p : k ≡ w). subst (λ j. (ws j).phase ≡ Entered) p h.0.phase)
+    (λ (p : IsWaiting w turns). has_entered first ws w turns h.1 p)
+    q
+has_entered first ws w (Decided t ∷ turns) h q = has_entered first ws w turns h.1 q
 
 -- how the workers and the turns go on, where worker w's locks may have become writes among the turns
 pub record Goes (first : ℕ → Version) (ws ws' : ℕ → Worker) (w : ℕ) (turns turns' : List Turn) : Type 0 where
@@ -245,7 +255,7 @@ module _ (first : ℕ → Version) (ws ws' : ℕ → Worker) (w tid : ℕ) (chan
 
   -- its locks are its own, and its TID is of its epoch and above what was read of the records that it has locked
   module _ (single : (k r : ℕ) (value other : Option (List ℕ)) → held (ws w).locks r ≡ Some value → held (ws k).locks r ≡ Some other → w ≡ k)
-      (above : (k r : ℕ) (value : Option (List ℕ)) (v : Version) → held (ws w).locks r ≡ Some value → held (ws k).reads r ≡ Some v → v.tid < tid)
+      (above : (k r : ℕ) (value : Option (List ℕ)) (v : Version) → (ws k).phase ≡ Entered → held (ws w).locks r ≡ Some value → held (ws k).reads r ≡ Some v → v.tid < tid)
       (above_read : (r : ℕ) (v : Version) → held (ws w).validated r ≡ Some v → v.tid < tid)
       (in_epoch : tid / 2 ^ 32 ≡ (ws w).epoch) (bits : tid % 8 ≡ 0) (above_last : tid_of (ws w).last < tid) where
     no_smaller : tid_of (ws w).last ≤ tid_of tid
@@ -293,7 +303,7 @@ module _ (first : ℕ → Version) (ws ws' : ℕ → Worker) (w tid : ℕ) (chan
           ap (λ (x : Worker). held x.locks r) (change.there k other) ∙ none_of (held (ws k).locks r) (λ u e. other (sym (single k r value u lock e)));
       later = λ k r value v q lock read.
           let other : k ≢ w = λ p. waits.once (subst (λ j. IsWaiting j turns) p q) in
-          above k r value v lock (sym (ap (λ (x : Worker). held x.reads r) (change.there k other)) ∙ read);
+          above k r value v (has_entered first ws k turns good q) lock (sym (ap (λ (x : Worker). held x.reads r) (change.there k other)) ∙ read);
       over = λ k q p. waits.once (subst (λ j. IsWaiting j turns) p q);
       reached = subst (λ (x : Worker). tid ≤ tid_of x.last) (sym change.here) whole;
     }

@@ -53,9 +53,10 @@ version_of c = record { tid = tid_of c.word; value = c.value }
 abbrev pub IsIdle : Worker → Type 0
 IsIdle x = (x.locks ≡ []) × ((x.phase ≡ Idle) ⊎ (x.phase ≡ Chosen) ⊎ (x.phase ≡ Failed))
 
--- where a run begins: idle workers that have read nothing, no lock, every record's version its latest, and no TID of an epoch above the machine's
+-- where a run begins: idle workers, whatever they have read before, no lock, every record's version its latest, and no
+-- TID of an epoch above the machine's
 pub record IsOpening (m : Machine) : Type 0 where
-  pub idle : (w : ℕ) → w < length m.workers → IsIdle (worker m w) × ((worker m w).reads ≡ [])
+  pub idle : (w : ℕ) → w < length m.workers → IsIdle (worker m w)
   pub unlocked : (r : ℕ) → r < length m.records → is_locked (cell m r).word ≡ false
   pub latest : (r : ℕ) → r < length m.records → is_latest (cell m r).word ≡ true
   pub epochs : (r : ℕ) → r < length m.records → (cell m r).word / 2 ^ 32 ≤ m.epoch

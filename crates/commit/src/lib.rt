@@ -6,8 +6,6 @@ mod event;
 mod notes;
 mod sections;
 mod state;
-#[cfg(test)]
-mod tests;
 mod theorem;
 mod tid;
 mod worker;

@@ -2,8 +2,6 @@
 #![tactic(auto)]
 
 mod next;
-#[cfg(test)]
-mod tests;
 mod word;
 
 pub use next::next_tid;

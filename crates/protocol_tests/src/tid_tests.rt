@@ -1,9 +1,9 @@
 //! TIDs at the ends of an epoch.
 
-use crate::{Status, TidWord, next_tid};
 use money::Refusal;
 use std::rt::HostRuntime;
 use std::test::Fail;
+use tidword::{Status, TidWord, next_tid};
 
 const NO_BITS: Status = Status {
     latest: false,

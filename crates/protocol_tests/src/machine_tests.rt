@@ -1,7 +1,7 @@
 //! Two workers whose reads and locks cross, and what may not happen.
 ghost use Rattle.std.specs.Prelude.{◌≡◌, ◌<◌, length, IfOk};
 
-use crate::{Event, State};
+use commit::{Event, State};
 use money::Refusal;
 use std::alloc::Global;
 use std::test::Fail;
