@@ -1,5 +1,5 @@
 -- A transaction under way, after a step.
-use Rattle.std.proofs.Common.{◌≡◌, ℕ, ◌+◌, ◌≤◌, Bool, Option, Some, None, Result, Ok, Err, OnOk, OnErr, IsSome, is_some, Bor, List, length, refl, sym, ap, ◌∙◌, subst}
+use Rattle.std.proofs.Common.{◌≡◌, ℕ, ◌+◌, ◌≤◌, Bool, Option, Some, None, Result, Ok, Err, OnOk, OnErr, IsSome, is_some, Bor, List, length, inl, inr, refl, sym, ap, ◌∙◌, subst, arith}
 use Rattle.std.specs.Option.{option_copied}
 use Rattle.tables.specs.Sizes.{Sizes}
 use Rattle.tables.specs.Database.{Database}
@@ -17,8 +17,9 @@ use Rattle.readset.specs.Writes.{WriteSetView, puts}
 use Rattle.readset.specs.Commit.{IsCommitOf}
 use Rattle.readset.specs.declared.limits.TheConstants.{MAX_READS, MAX_WRITES}
 use Rattle.readset.specs.Explains.{MayBe}
-use Rattle.readset.specs.Transaction.{TransactionView, IsUnderWay, IsStepRefusal, IsReadRefusal, IsExecuted}
+use Rattle.readset.specs.Transaction.{TransactionView, IsUnderWay, ReadsMore, IsStepRefusal, IsReadRefusal, IsExecuted}
 use Rattle.readset.proofs.LeftIs.{row_read}
+use Rattle.readset.proofs.MoreReads.{may_be_before}
 use Rattle.readset.proofs.WrittenRecords.{keeps_read, puts_read, written_within}
 
 -- whether an entry is found is whether there is one
@@ -82,6 +83,21 @@ pub refused_executed : (t0 : Database) (x : Input) (start now : ReaderView) (und
 refused_executed t0 x start now under_way refusal h why = record { input = tt; read = tt; explains = tt; limits = tt; grown = h.grown; refused = go refusal why }
   where
     go : (r : Refusal) → IsStepRefusal t0 under_way r → IsReadRefusal t0 start now r
-    go OutOfMemory w = tt
-    go Stale w = (under_way.reads, h.read, w)
+    go OutOfMemory w = inl refl
+    go Stale w = inr (refl, (under_way.reads, h.read, w))
     go _ w = absurd w
+
+-- steps in a row
+pub reads_none : (most : ℕ) (x : TransactionView) → ReadsMore most x x
+reads_none most x = record { keeps = λ n v found. found; limit = omega arith; writes = refl }
+
+pub reads_twice : (x y z : TransactionView) (first then most : ℕ) → ReadsMore first x y → ReadsMore then y z → first + then ≤ most → ReadsMore most x z
+reads_twice x y z first then most a b within = record {
+  keeps = λ n v found. b.keeps n v (a.keeps n v found);
+  limit = omega (arith, a.limit, b.limit, within);
+  writes = b.writes ∙ a.writes;
+}
+
+-- tables at which it may have read after a step are such before it
+pub may_be_still : (t0 : Database) (x y : TransactionView) (most : ℕ) → ReadsMore most x y → (t : Database) → MayBe t0 y.reads t → MayBe t0 x.reads t
+may_be_still t0 x y most more t h = may_be_before t0 x.reads y.reads t more.keeps h

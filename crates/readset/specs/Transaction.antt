@@ -1,5 +1,5 @@
 -- A transaction under way (Silo, section 4.4): what it has read and is to write so far, and what its steps say.
-use Rattle.std.specs.Prelude.{◌≡◌, ℕ, ◌+◌, ◌≤◌, ⊤, Result, Ok, Err, IfOk, IfErr, length}
+use Rattle.std.specs.Prelude.{◌≡◌, ◌⊎◌, ℕ, ◌+◌, ◌≤◌, ⊤, Result, Ok, Err, IfOk, IfErr, length}
 use Rattle.money.specs.declared.refusal.Refusal.{Refusal}
 use Rattle.money.specs.declared.refusal.Refusal.TheVariants.{OutOfMemory, Stale}
 use Rattle.tables.specs.Database.{Database}
@@ -47,9 +47,8 @@ Finds t0 x (Err refusal) P = IsStepRefusal t0 x refusal
 -- how an execution without refusals of its own is refused: for want of memory, or since there are no tables at which it
 -- may have read
 abbrev pub IsReadRefusal : Database → ReaderView → ReaderView → Refusal → Type 0
-IsReadRefusal t0 old new OutOfMemory = ⊤
-IsReadRefusal t0 old new Stale = (reads : ReadSetView) × AreRead old new reads × NoneMayBe t0 reads
-IsReadRefusal t0 old new _ = ⊥
+IsReadRefusal t0 old new refusal =
+    (refusal ≡ OutOfMemory) ⊎ ((refusal ≡ Stale) × ((reads : ReadSetView) × AreRead old new reads × NoneMayBe t0 reads))
 
 -- an execution of this input, from one state of its reader to another
 pub record IsExecuted (t0 : Database) (x : Input) (old new : ReaderView) (result : Result Work Refusal) : Type 0 where
