@@ -17,10 +17,10 @@ use Rattle.readset.specs.Writes.{WriteSetView, puts}
 use Rattle.readset.specs.Commit.{IsCommitOf}
 use Rattle.readset.specs.declared.limits.TheConstants.{MAX_READS, MAX_WRITES}
 use Rattle.readset.specs.Explains.{MayBe}
-use Rattle.readset.specs.Transaction.{TransactionView, IsUnderWay, ReadsMore, IsStepRefusal, IsReadRefusal, IsExecuted}
+use Rattle.readset.specs.Transaction.{TransactionView, IsUnderWay, ReadsMore, GoesOn, IsStepRefusal, IsReadRefusal, IsExecuted}
 use Rattle.readset.proofs.LeftIs.{row_read}
 use Rattle.readset.proofs.MoreReads.{may_be_before}
-use Rattle.readset.proofs.WrittenRecords.{keeps_read, puts_read, written_within}
+use Rattle.readset.proofs.WrittenRecords.{keeps_read, length-insert_entry, puts_read, written_within}
 
 -- whether an entry is found is whether there is one
 pub found_is : {X : Type 0} (o : Option (Bor X)) (b : Bool) (found : Option X) → b ≡ is_some o → option_copied o ≡ found → b ≡ is_some found
@@ -101,3 +101,44 @@ reads_twice x y z first then most a b within = record {
 -- tables at which it may have read after a step are such before it
 pub may_be_still : (t0 : Database) (x y : TransactionView) (most : ℕ) → ReadsMore most x y → (t : Database) → MayBe t0 y.reads t → MayBe t0 x.reads t
 may_be_still t0 x y most more t h = may_be_before t0 x.reads y.reads t more.keeps h
+
+pub goes_on : (reads writes : ℕ) (x y : TransactionView) → ReadsMore reads x y → GoesOn reads writes x y
+goes_on reads writes x y more = record {
+  keeps = more.keeps;
+  limit = more.limit;
+  written = let same : length y.writes.values ≡ length x.writes.values = ap (λ (w : WriteSetView). length w.values) more.writes in omega (arith, same);
+  history = ap (λ (w : WriteSetView). w.history_row) more.writes;
+}
+
+pub goes_on_none : (reads writes : ℕ) (x : TransactionView) → GoesOn reads writes x x
+goes_on_none reads writes x = record { keeps = λ n v found. found; limit = omega arith; written = omega arith; history = refl }
+
+pub goes_on_twice : (x y z : TransactionView) (a b c d reads writes : ℕ) → GoesOn a b x y → GoesOn c d y z → a + c ≤ reads → b + d ≤ writes → GoesOn reads writes x z
+goes_on_twice x y z a b c d reads writes first then few_reads few_writes = record {
+  keeps = λ n v found. then.keeps n v (first.keeps n v found);
+  limit = omega (arith, first.limit, then.limit, few_reads);
+  written = omega (arith, first.written, then.written, few_writes);
+  history = then.history ∙ first.history;
+}
+
+-- a write of one record
+pub put_goes_on : {X : Type 0} (x y : TransactionView) (n : ℕ) (value : Option (List ℕ)) (result : Result X Refusal) → y.reads ≡ x.reads
+    → OnOk result (y.writes ≡ puts x.writes n value) → OnErr result (y.writes ≡ x.writes) → GoesOn 0 1 x y
+put_goes_on x y n value (Ok r) reads put kept =
+    let one : length (puts x.writes n value).values ≤ length x.writes.values + 1 = length-insert_entry n value x.writes.values in
+    record {
+      keeps = λ m v found. ap (λ (r : ReadSetView). held r m) reads ∙ found;
+      limit = let same : length y.reads ≡ length x.reads = ap length reads in omega (arith, same);
+      written = let same : length y.writes.values ≡ length (puts x.writes n value).values = ap (λ (w : WriteSetView). length w.values) put in omega (arith, same, one);
+      history = ap (λ (w : WriteSetView). w.history_row) put;
+    }
+put_goes_on x y n value (Err e) reads put kept = record {
+  keeps = λ m v found. ap (λ (r : ReadSetView). held r m) reads ∙ found;
+  limit = let same : length y.reads ≡ length x.reads = ap length reads in omega (arith, same);
+  written = let same : length y.writes.values ≡ length x.writes.values = ap (λ (w : WriteSetView). length w.values) kept in omega (arith, same);
+  history = ap (λ (w : WriteSetView). w.history_row) kept;
+}
+
+-- tables at which it may have read after steps are such before them
+pub may_be_then : (t0 : Database) (x y : TransactionView) (reads writes : ℕ) → GoesOn reads writes x y → (t : Database) → MayBe t0 y.reads t → MayBe t0 x.reads t
+may_be_then t0 x y reads writes on t h = may_be_before t0 x.reads y.reads t on.keeps h

@@ -29,6 +29,13 @@ pub record ReadsMore (most : ℕ) (old new : TransactionView) : Type 0 where
   pub limit : length new.reads ≤ length old.reads + most
   pub writes : new.writes ≡ old.writes
 
+-- steps that read at most so many records more, write at most so many more, and add no HISTORY row
+pub record GoesOn (reads writes : ℕ) (old new : TransactionView) : Type 0 where
+  pub keeps : Keeps old.reads new.reads
+  pub limit : length new.reads ≤ length old.reads + reads
+  pub written : length new.writes.values ≤ length old.writes.values + writes
+  pub history : new.writes.history_row ≡ old.writes.history_row
+
 -- so at all tables at which it may have read
 abbrev pub AtAll : Database → TransactionView → (Database → Type 0) → Type 0
 AtAll t0 x P = (t : Database) → MayBe t0 x.reads t → P t

@@ -10,7 +10,7 @@ ghost use Rattle.readset.specs.declared.limits.TheConstants.{MAX_READS, MAX_WRIT
 ghost use Rattle.readset.specs.Reads.{held};
 ghost use Rattle.readset.specs.Writes.{no_writes, puts, left_at};
 ghost use Rattle.readset.specs.Commit.{IsCommitOf};
-ghost use Rattle.readset.specs.Transaction.{ReadsMore, Finds, IsExecuted};
+ghost use Rattle.readset.specs.Transaction.{ReadsMore, GoesOn, Finds, IsExecuted};
 
 use crate::reads::{ReadSet, value_of};
 use crate::work::Work;
@@ -145,7 +145,8 @@ impl<'a, K: Start> Transaction<'a, K> {
         requires { IsRecordKey K.tables.scale key }
         ensures { result ≡ left_at self.now.writes self.now.reads (number_of_key K.tables.scale key) }
     {
-        self.writes.left(&self.reads, number_of_key(&self.scale(), key))
+        self.writes
+            .left(&self.reads, number_of_key(&self.scale(), key))
     }
 
     /// Says what a record that was read is to hold, in the place of what was said of it before. Costs the logarithm of
@@ -161,6 +162,7 @@ impl<'a, K: Start> Transaction<'a, K> {
         ensures puts { OnOk result (self.new.writes
             ≡ puts self.old.writes (number_of_key K.tables.scale key) value) }
         ensures kept { OnErr result (self.new.writes ≡ self.old.writes) }
+        ensures goes_on { GoesOn 0 1 self.old self.new }
         ensures only_memory { IfErr result (λ refusal. refusal ≡ OutOfMemory) }
     {
         let number = number_of_key(&self.scale(), key);
@@ -169,8 +171,11 @@ impl<'a, K: Start> Transaction<'a, K> {
 
     /// Says which row HISTORY is to get, in the place of the row said before.
     pub fn put_history_row(&mut self, row: History)
-        ensures { self.new ≡ record { reads = self.old.reads; writes
-            = record { values = self.old.writes.values; history_row = Some row } } }
+        ensures { self.new ≡ record {
+          reads = self.old.reads;
+          writes
+              = record { values = self.old.writes.values; history_row = Some row };
+        } }
     {
         self.writes.put_history_row(row);
     }

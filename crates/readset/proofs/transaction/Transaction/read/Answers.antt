@@ -8,9 +8,13 @@ use Rattle.readset.proofs.transaction.Transaction.read.Goals as goal
 pub invariant_of-self-2 : goal.invariant_of-self-2
 invariant_of-self-2 g c =
     let i = c.self.invariant in
-    let loaded = c.get.ensures in
-    (i.0, i.1, i.2, loaded_under_way g.K.Start.reader c.self.inside.reader c.get.new.reader (length c.self.inside.cells.now) c.self.inside.reads c.get.new.self c.self.inside.writes
-    i.3 (ap length i.1) loaded.chain loaded.grown_since loaded.within loaded.keeps)
+    let loaded = c.get.ensures in (
+      i.0,
+      i.1,
+      i.2,
+      loaded_under_way g.K.Start.reader c.self.inside.reader c.get.new.reader (length c.self.inside.cells.now) c.self.inside.reads c.get.new.self c.self.inside.writes
+          i.3 (ap length i.1) loaded.chain loaded.grown_since loaded.within loaded.keeps,
+    )
 
 pub returns-clause-words : goal.returns-clause-words
 returns-clause-words g c =
