@@ -53,9 +53,9 @@ impl<const N: usize> Model for ReaderOf<N> {
 }
 
 impl<const N: usize> ReaderOf<N> {
-    // A reader of no record.
-    pub(crate) fn new(alloc: Global) -> ReaderOf<N>
-        ensures { result ≡ sights_of [] }
+    /// A reader of no record. Takes no memory.
+    pub fn new(alloc: Global) -> ReaderOf<N>
+        ensures { result ≡ record { cells = []; seen = []; loads = [] } }
     {
         ReaderOf {
             passes: Vec::new(alloc),

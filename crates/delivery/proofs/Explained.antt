@@ -1,5 +1,5 @@
 -- A Delivery that has done all districts is explained by what was read.
-use Rattle.std.proofs.Common.{◌≡◌, ℕ, List, ◌++◌, map, sym, ap, ◌∙◌, subst}
+use Rattle.std.proofs.Common.{◌≡◌, ℕ, List, None, ◌++◌, map, sym, ap, ◌∙◌, subst}
 use Rattle.std.specs.List.{range_with_len}
 use Rattle.std.proofs.lemmas.List.{append-nil}
 use Rattle.tables.specs.Sizes.{Sizes}
@@ -11,31 +11,32 @@ use Rattle.tables.specs.declared.delivery.DeliveredOrder.{DeliveredOrder}
 use Rattle.tables.specs.declared.delivery.DeliveryReply.{DeliveryReply}
 use Rattle.tables.specs.declared.input.Input.TheVariants as input
 use Rattle.tables.specs.declared.reply.Reply.TheVariants as reply
-use Rattle.readset.specs.Reads.{ReadSetView}
-use Rattle.readset.specs.Writes.{WriteSetView, added}
+use Rattle.readset.specs.Writes.{added}
+use Rattle.readset.specs.Commit.{IsCommitOf}
 use Rattle.readset.specs.Changes.{Holds}
-use Rattle.readset.specs.Explains.{MayBe, Explains}
+use Rattle.readset.specs.Explains.{MayBe}
+use Rattle.readset.specs.Transaction.{TransactionView, AtAll}
 use Rattle.tables.specs.Rows.{row_at}
 use Rattle.tables.specs.Delivery.{after_districts}
 use Rattle.delivery.specs.Steps.{AreDone, AreTold}
 
-module _ (t0 : Database) (x : DeliveryInput) (reads : ReadSetView) (writes : WriteSetView) (orders : List DeliveredOrder)
-    (done : AreDone t0 x t0.scale.districts reads writes) (told : AreTold t0 x t0.scale.districts reads orders)
+module _ (t0 : Database) (x : DeliveryInput) (under_way : TransactionView) (orders : List DeliveredOrder)
+    (done : AreDone t0 x t0.scale.districts under_way) (no_history : under_way.writes.history_row ≡ None) (told : AreTold t0 x t0.scale.districts under_way orders)
   where
-    module _ (t : Database) (h : MayBe t0 reads t) where
+    module _ (t : Database) (h : MayBe t0 under_way.reads t) where
       replies : delivery_reply t x ≡ record { warehouse = x.warehouse; orders = orders }
       replies =
           let f : ℕ → DeliveredOrder = λ d. record { district = d; order = waiting t (record { warehouse = x.warehouse; district = d }) } in
           let same : map f (range_with_len 1 t.scale.districts) ≡ orders = ap (λ (s : Sizes). map f (range_with_len 1 s.districts)) h.of_population.scale ∙ told t h in
           ap (λ (os : List DeliveredOrder). record { warehouse = x.warehouse; orders = os }) same
 
-      holds : Holds t writes (row_at (after_delivery t x))
-      holds = subst (λ (s : Sizes). Holds t writes (row_at (after_districts t x s.districts))) (sym h.of_population.scale) (done.holds t h)
+      holds : Holds t under_way.writes (row_at (after_delivery t x))
+      holds = subst (λ (s : Sizes). Holds t under_way.writes (row_at (after_districts t x s.districts))) (sym h.of_population.scale) (done t h)
 
-    pub explains : Explains t0 (input.Delivery x) reads writes (reply.Delivery (record { warehouse = x.warehouse; orders = orders }))
-    explains t h = record {
+    pub commits : AtAll t0 under_way (λ t. IsCommitOf t (input.Delivery x) under_way.writes (reply.Delivery (record { warehouse = x.warehouse; orders = orders })))
+    commits t h = record {
       commits = ap (λ (r : DeliveryReply). Committed (after_delivery t x) (reply.Delivery r)) (replies t h);
       numbered = tt;
       rows = λ n small. (holds t h).put_in n small;
-      history = sym (append-nil t.history) ∙ ap (λ q. t.history ++ added q) (sym done.no_history);
+      history = sym (append-nil t.history) ∙ ap (λ q. t.history ++ added q) (sym no_history);
     }

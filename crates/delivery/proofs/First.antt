@@ -47,10 +47,5 @@ module _ (t : Database) (x : DeliveryInput) where
   none_taken_yet (key.Last c) is = ap (λ o. Some (number_words o)) (last_kept t x 0 c)
 
 -- before the first district
-pub none_done : (t0 : Database) (x : DeliveryInput) (reads : ReadSetView) → AreDone t0 x 0 reads no_writes
-none_done t0 x reads = record {
-  holds = λ t h. holds-changes t [] no_writes (row_at t) (row_at (after_districts t x 0)) (holds_first t no_writes (λ n. refl)) tt tt (λ j is _. none_taken_yet t x j is);
-  written_read = λ n value e. cc;
-  written_few = omega arith;
-  no_history = refl;
-}
+pub none_done : (t0 : Database) (x : DeliveryInput) (reads : ReadSetView) → AreDone t0 x 0 (record { reads = reads; writes = no_writes })
+none_done t0 x reads t h = holds-changes t [] no_writes (row_at t) (row_at (after_districts t x 0)) (holds_first t no_writes (λ n. refl)) tt tt (λ j is _. none_taken_yet t x j is)

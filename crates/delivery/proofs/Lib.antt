@@ -8,7 +8,6 @@ mod LineWords
 mod DatedLine
 mod RowsRead
 mod Ended
-mod SameRefusal
 mod Waiting
 mod First
 mod Told

@@ -1,5 +1,5 @@
 -- OLDEST and D_NEXT_O_ID as read tell which order waits longest in a district, if one does.
-use Rattle.std.proofs.Common.{◌≡◌, ℕ, ◌<◌, ◌≤◌, nat_le, true, false, Option, Some, None, is_some, refl, sym, ap, ◌∙◌, subst, arith}
+use Rattle.std.proofs.Common.{◌≡◌, ℕ, ◌<◌, ◌≤◌, nat_le, true, false, List, Option, Some, None, IsSome, refl, sym, ap, ◌∙◌, subst, arith}
 use Rattle.std.proofs.lemmas.Bool.Decides.{nat_tests}
 use Rattle.std.proofs.lemmas.Option.{same_Some}
 use Rattle.std.specs.Option.{option_map, option_map_or}
@@ -8,41 +8,39 @@ use Rattle.tables.specs.Keys.{IsDistrictKey}
 use Rattle.tables.specs.OrderNumbers.{next_order}
 use Rattle.tables.specs.Database.{Database}
 use Rattle.tables.specs.Records.{number_of_key}
-use Rattle.tables.specs.Rows.{district_words, number_words, oldest}
+use Rattle.tables.specs.Rows.{row_at, district_words, number_words, oldest}
 use Rattle.tables.specs.Delivery.{waiting}
 use Rattle.tables.specs.declared.keys.DistrictKey.{DistrictKey}
 use Rattle.tables.specs.declared.rows.District.{District}
 use Rattle.tables.specs.declared.records.RecordKey.TheVariants as key
 use Rattle.laws.proofs.Rows.{there}
 use Rattle.laws.proofs.RisingNumbers.{least_row}
-use Rattle.cells.specs.declared.cells.Version.{Version}
-use Rattle.readset.specs.Reads.{ReadSetView, held, value_of}
-use Rattle.readset.specs.Explains.{MayBe, NoneMayBe, IsNumbered}
-use Rattle.readset.proofs.LeftIs.{row_read}
+use Rattle.readset.specs.Reads.{held}
+use Rattle.readset.specs.Explains.{NoneMayBe, IsNumbered}
+use Rattle.readset.specs.Transaction.{TransactionView, AtAll}
 use Rattle.delivery.proofs.NextOldest.{one_waits, none_waits}
 
-module _ (t0 : Database) (home : DistrictKey) (reads : ReadSetView) (first own : Version) (first_number own_number : ℕ) (is_home : IsDistrictKey t0.scale home)
-    (first_at : first_number ≡ number_of_key t0.scale (key.Oldest home)) (own_at : own_number ≡ number_of_key t0.scale (key.District home))
-    (first_found : held reads first_number ≡ Some first) (own_found : held reads own_number ≡ Some own)
+module _ (t0 : Database) (home : DistrictKey) (under_way : TransactionView) (first own : Option (List ℕ)) (is_home : IsDistrictKey t0.scale home)
+    (own_held : IsSome (held under_way.reads (number_of_key t0.scale (key.District home))))
+    (first_read : AtAll t0 under_way (λ t. row_at t (key.Oldest home) ≡ first)) (own_read : AtAll t0 under_way (λ t. row_at t (key.District home) ≡ own))
     (result : Option (Option ℕ))
-    (waits : (o : ℕ) (r : District) → value_of first ≡ Some (number_words o) → value_of own ≡ Some (district_words r) → o < r.next_order → IsNumber t0.scale.orders o → result ≡ Some (Some o))
-    (none : (o : ℕ) (r : District) → value_of first ≡ Some (number_words o) → value_of own ≡ Some (district_words r) → r.next_order ≤ o → result ≡ Some None)
+    (waits : (o : ℕ) (r : District) → first ≡ Some (number_words o) → own ≡ Some (district_words r) → o < r.next_order → IsNumber t0.scale.orders o → result ≡ Some (Some o))
+    (none : (o : ℕ) (r : District) → first ≡ Some (number_words o) → own ≡ Some (district_words r) → r.next_order ≤ o → result ≡ Some None)
   where
     home_at : (t : Database) → t.scale ≡ t0.scale → IsDistrictKey t.scale home
     home_at t s = subst (λ (q : Sizes). IsDistrictKey q home) (sym s) is_home
 
-    numbered_at : (t : Database) → MayBe t0 reads t → IsNumbered t home
+    numbered_at : AtAll t0 under_way (λ t. IsNumbered t home)
     numbered_at t h =
         let s : t.scale ≡ t0.scale = h.of_population.scale in
-        h.numbered home (home_at t s) (ap (λ n. is_some (held reads n)) (ap (λ (q : Sizes). number_of_key q (key.District home)) s ∙ sym own_at) ∙ ap is_some own_found)
+        h.numbered home (home_at t s) (subst (λ (q : Sizes). IsSome (held under_way.reads (number_of_key q (key.District home)))) (sym s) own_held)
 
-    waiting_at : (t : Database) → MayBe t0 reads t → result ≡ Some (waiting t home)
+    waiting_at : AtAll t0 under_way (λ t. result ≡ Some (waiting t home))
     waiting_at t h =
         let s : t.scale ≡ t0.scale = h.of_population.scale in
         let r = there (IsDistrictKey t.scale) t.districts h.well_formed.districts home (home_at t s) in
-        let first_is : value_of first ≡ Some (number_words (oldest t home)) = row_read t reads (key.Oldest home) first_number first h.agrees first_found (first_at ∙ ap (λ (q : Sizes). number_of_key q (key.Oldest home)) (sym s)) (home_at t s) in
-        let own_is : value_of own ≡ Some (district_words r.0) = row_read t reads (key.District home) own_number own h.agrees own_found (own_at ∙ ap (λ (q : Sizes). number_of_key q (key.District home)) (sym s)) (home_at t s)
-        ∙ ap (option_map district_words) r.1 in
+        let first_is : first ≡ Some (number_words (oldest t home)) = sym (first_read t h) in
+        let own_is : own ≡ Some (district_words r.0) = sym (own_read t h) ∙ ap (option_map district_words) r.1 in
         let next : next_order t home ≡ r.0.next_order = ap (λ (o : Option District). option_map_or (λ r. r.next_order) o 0) r.1 in
         elim (nat_le (next_order t home) (oldest t home)) as (λ b. nat_le (next_order t home) (oldest t home) ≡ b → result ≡ Some (waiting t home)) [
           | true ↦ λ e.
@@ -55,8 +53,8 @@ module _ (t0 : Database) (home : DistrictKey) (reads : ReadSetView) (first own :
               waits (oldest t home) r.0 first_is own_is (omega (arith, below, next)) (subst (λ (q : Sizes). IsNumber q.orders (oldest t home)) s row.2) ∙ ap Some (sym waiting_is)
         ] refl
 
-    pub waiting_read : (w : Option ℕ) → result ≡ Some w → (t : Database) → MayBe t0 reads t → (waiting t home ≡ w) × IsNumbered t home
+    pub waiting_read : (w : Option ℕ) → result ≡ Some w → AtAll t0 under_way (λ t. (waiting t home ≡ w) × IsNumbered t home)
     waiting_read w is t h = (same_Some _ _ (sym (waiting_at t h) ∙ is), numbered_at t h)
 
-    pub none_read : result ≡ None → NoneMayBe t0 reads
+    pub none_read : result ≡ None → NoneMayBe t0 under_way.reads
     none_read is t h = let e = waiting_at t h in absurd cc

@@ -1,5 +1,5 @@
 -- The steps of a Delivery (TPC-C 2.7.4.2): the tables when it has come so far.
-use Rattle.std.specs.Prelude.{◌≡◌, ℕ, ◌+◌, ◌*◌, ◌≤◌, nat_le, ℤ, pos, ◌+ℤ◌, Bool, ◌&&◌, ◌||◌, zero, suc, None, List, length, map}
+use Rattle.std.specs.Prelude.{◌≡◌, ℕ, ◌+◌, nat_le, ℤ, pos, ◌+ℤ◌, Bool, ◌&&◌, ◌||◌, zero, suc, List, map}
 use Rattle.std.specs.List.{range_with_len}
 use Rattle.tables.specs.Keys.{is_order, order_of}
 use Rattle.tables.specs.Maps.{update_where, column}
@@ -12,10 +12,8 @@ use Rattle.tables.specs.declared.keys.OrderKey.{OrderKey}
 use Rattle.tables.specs.declared.keys.LineKey.{LineKey}
 use Rattle.tables.specs.declared.delivery.DeliveryInput.{DeliveryInput}
 use Rattle.tables.specs.declared.delivery.DeliveredOrder.{DeliveredOrder}
-use Rattle.readset.specs.Reads.{ReadSetView}
-use Rattle.readset.specs.Writes.{WriteSetView}
 use Rattle.readset.specs.Changes.{Holds}
-use Rattle.readset.specs.Explains.{MayBe, WritesAreRead}
+use Rattle.readset.specs.Transaction.{TransactionView, AtAll}
 
 -- the district after the first n
 abbrev pub next_home : DeliveryInput → ℕ → DistrictKey
@@ -38,21 +36,17 @@ abbrev pub amount_up_to : Database → OrderKey → ℕ → ℤ
 amount_up_to t k zero = pos 0
 amount_up_to t k (suc m) = amount_up_to t k m +ℤ column (λ r. r.amount) t.lines (line_key k (suc m))
 
--- the first n districts are done: at all tables at which the transaction may have read, the writes put in make the rows of the tables when it has come so far. It writes at most nineteen records a district, each of which it has read, and no HISTORY row
-pub record AreDone (t0 : Database) (x : DeliveryInput) (n : ℕ) (reads : ReadSetView) (writes : WriteSetView) : Type 0 where
-  pub holds : (t : Database) → MayBe t0 reads t → Holds t writes (row_at (after_districts t x n))
-  pub written_read : WritesAreRead writes reads
-  pub written_few : length writes.values ≤ 19 * n
-  pub no_history : writes.history_row ≡ None
+-- the first n districts are done: at all tables at which the transaction may have read, the writes put in make the rows
+-- of the tables when it has come so far
+abbrev pub AreDone : Database → DeliveryInput → ℕ → TransactionView → Type 0
+AreDone t0 x n under_way = AtAll t0 under_way (λ t. Holds t under_way.writes (row_at (after_districts t x n)))
 
 -- and the first m lines of order o of the next district have their dates, and this sum
-pub record AreDated (t0 : Database) (x : DeliveryInput) (n o m : ℕ) (reads : ReadSetView) (writes : WriteSetView) (sum : ℤ) : Type 0 where
-  pub holds : (t : Database) → MayBe t0 reads t → Holds t writes (row_at (with_dates t x n (next_key x n o) m))
-  pub sum_is : (t : Database) → MayBe t0 reads t → amount_up_to t (next_key x n o) m ≡ sum
-  pub written_read : WritesAreRead writes reads
-  pub written_few : length writes.values ≤ 19 * n + m
-  pub no_history : writes.history_row ≡ None
+pub record AreDated (t0 : Database) (x : DeliveryInput) (n o m : ℕ) (under_way : TransactionView) (sum : ℤ) : Type 0 where
+  pub holds : AtAll t0 under_way (λ t. Holds t under_way.writes (row_at (with_dates t x n (next_key x n o) m)))
+  pub sum_is : AtAll t0 under_way (λ t. amount_up_to t (next_key x n o) m ≡ sum)
 
 -- these are the first n lines of its reply
-abbrev pub AreTold : Database → DeliveryInput → ℕ → ReadSetView → List DeliveredOrder → Type 0
-AreTold t0 x n reads orders = (t : Database) → MayBe t0 reads t → map (λ d. record { district = d; order = waiting t (record { warehouse = x.warehouse; district = d }) }) (range_with_len 1 n) ≡ orders
+abbrev pub AreTold : Database → DeliveryInput → ℕ → TransactionView → List DeliveredOrder → Type 0
+AreTold t0 x n under_way orders = AtAll t0 under_way (λ t.
+    map (λ d. record { district = d; order = waiting t (record { warehouse = x.warehouse; district = d }) }) (range_with_len 1 n) ≡ orders)

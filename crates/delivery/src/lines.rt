@@ -1,23 +1,16 @@
 //! The lines of the order that a Delivery takes, on record cells (TPC-C 2.7.4.2).
-ghost use Rattle.std.specs.Prelude.{◌≡◌, ◌+◌, ◌≤◌, ◌⊎◌, ℕ, ℤ, pos, ◌+ℤ◌, ◌*ℤ◌, ◌≤ℤ◌, length, Err, IfOk, IfErr, OnOk};
+ghost use Rattle.std.specs.Prelude.{◌≡◌, ◌-◌, ◌≤◌, pos, ℤ, ◌+ℤ◌, ◌*ℤ◌, ◌≤ℤ◌, IfOk, IfErr};
 ghost use Rattle.tables.specs.Sizes.{IsNumber};
 ghost use Rattle.tables.specs.Keys.{IsOrderKey};
-ghost use Rattle.tables.specs.Records.{record_count};
-ghost use Rattle.tables.specs.Database.{Database};
-ghost use Rattle.tables.specs.declared.delivery.DeliveryInput.{DeliveryInput};
 ghost use Rattle.tables.specs.declared.limits.TheConstants.{MAX_LINE_AMOUNT, MAX_ORDER_LINES};
-ghost use Rattle.money.specs.declared.refusal.Refusal.TheVariants.{OutOfMemory, Stale};
-ghost use Rattle.cells.specs.Records.{ReaderView, HasGrown};
-ghost use Rattle.readset.specs.Reads.{Keeps, AreWithin, AreRead};
-ghost use Rattle.readset.specs.Explains.{NoneMayBe};
-ghost use Rattle.delivery.specs.Steps.{next_key, AreDated};
+ghost use Rattle.readset.specs.Transaction.{GoesOn, IsStepRefusal};
+ghost use Rattle.delivery.specs.Steps.{AreDated};
 
 use crate::change::date;
-use cells::{Cells, Reader};
 use money::{Cents, Refusal};
-use readset::{ReadSet, WriteSet, value_of};
+use readset::{Start, Transaction};
 use std::sync::Wait;
-use tables::{LineKey, OrderKey, RecordKey, Scale, number_of_key};
+use tables::{DeliveryInput, LineKey, OrderKey, RecordKey};
 
 /// Sets OL_DELIVERY_D of an order's lines from the first to this one, and gives the sum of OL_AMOUNT. Costs a load and
 /// a few look-ups a line.
@@ -25,95 +18,61 @@ use tables::{LineKey, OrderKey, RecordKey, Scale, number_of_key};
 /// # Errors
 ///
 /// `Stale` only where no tables at which the transaction may have read have the versions read; `OutOfMemory`.
-pub(crate) fn date_lines<R: Wait>(
+pub(crate) fn date_lines<R: Wait, K: Start>(
     rt: &R,
-    cells: &Cells,
-    reader: &mut Reader,
-    reads: &mut ReadSet,
-    writes: &mut WriteSet,
-    scale: &Scale,
+    transaction: &mut Transaction<'_, K>,
+    delivery: &DeliveryInput,
     order: OrderKey,
     count: u32,
-    day: u32,
 ) -> Result<Cents, Refusal>
-    requires own { reader.old.cells ≡ cells.now }
-    requires cells { length cells.now ≡ record_count scale.now }
-    requires order { IsOrderKey scale.now order }
+    requires order { IsOrderKey K.tables.scale order }
+    requires home { order.warehouse ≡ delivery.now.warehouse }
     requires count { count ≤ MAX_ORDER_LINES }
-    ensures dated { (t : Database) (x : DeliveryInput) (n : ℕ) → t.scale ≡ scale.now → order ≡ next_key x n order.order
-        → x.date ≡ day → AreDated t x n order.order 0 reads.old writes.old (pos 0)
-        → IfOk result (AreDated t x n order.order count reads.new writes.new) }
+    requires dated { AreDated K.tables delivery.now (order.district - 1) order.order 0
+        transaction.old (pos 0) }
+    ensures dated { IfOk result (AreDated K.tables delivery.now (order.district - 1) order.order count
+        transaction.new) }
     ensures range { IfOk result (λ sum. (pos 0 ≤ℤ sum) × (sum ≤ℤ (MAX_LINE_AMOUNT *ℤ pos count))) }
-    ensures stale { result ≡ Err Stale → (t : Database) → t.scale ≡ scale.now → NoneMayBe t reads.new }
-    ensures refused { IfErr result (λ refusal. (refusal ≡ OutOfMemory) ⊎ (refusal ≡ Stale)) }
-    ensures keeps { Keeps reads.old reads.new }
-    ensures within { AreWithin (length cells.now) reads.old → AreWithin (length cells.now) reads.new }
-    ensures chain { (first : ReaderView) → AreRead first reader.old reads.old
-        → OnOk result (AreRead first reader.new reads.new) }
-    ensures stale_chain { result ≡ Err Stale → (first : ReaderView)
-        → AreRead first reader.old reads.old → AreRead first reader.new reads.new }
-    ensures grown_since { (first : ReaderView) → HasGrown first reader.old → HasGrown first reader.new }
-    ensures limit { length reads.new ≤ length reads.old + count }
+    ensures refused { IfErr result (IsStepRefusal K.tables transaction.new) }
+    ensures goes_on { GoesOn count count transaction.old transaction.new }
 {
     let mut sum = Cents::new(0);
     for done in 0..count {
-        let number = done + 1;
-        let amount = match date_line(rt, cells, reader, reads, writes, scale, order, number, day) {
-            Ok(amount) => amount,
-            Err(refusal) => return Err(refusal),
-        };
+        let amount = date_line(rt, transaction, delivery, order, done + 1)?;
         sum = sum + amount;
     }
     Ok(sum)
 }
 
 /// Sets OL_DELIVERY_D of one line, and gives its OL_AMOUNT: of a line that isn't there neither.
-fn date_line<R: Wait>(
+fn date_line<R: Wait, K: Start>(
     rt: &R,
-    cells: &Cells,
-    reader: &mut Reader,
-    reads: &mut ReadSet,
-    writes: &mut WriteSet,
-    scale: &Scale,
+    transaction: &mut Transaction<'_, K>,
+    delivery: &DeliveryInput,
     order: OrderKey,
     number: u32,
-    day: u32,
 ) -> Result<Cents, Refusal>
-    requires own { reader.old.cells ≡ cells.now }
-    requires cells { length cells.now ≡ record_count scale.now }
-    requires order { IsOrderKey scale.now order }
+    requires order { IsOrderKey K.tables.scale order }
+    requires home { order.warehouse ≡ delivery.now.warehouse }
     requires number { IsNumber MAX_ORDER_LINES number }
-    ensures dated { (t : Database) (x : DeliveryInput) (n m : ℕ) (sum : ℤ) → t.scale ≡ scale.now
-        → order ≡ next_key x n order.order → x.date ≡ day → number ≡ m + 1
-        → AreDated t x n order.order m reads.old writes.old sum
-        → IfOk result (λ amount. AreDated t x n order.order (m + 1) reads.new writes.new (sum +ℤ amount)) }
+    ensures dated { (sum : ℤ) → AreDated K.tables delivery.now (order.district - 1) order.order (number - 1)
+        transaction.old sum
+        → IfOk result (λ amount. AreDated K.tables delivery.now (order.district - 1) order.order number
+        transaction.new (sum +ℤ amount)) }
     ensures range { IfOk result (λ amount. (pos 0 ≤ℤ amount) × (amount ≤ℤ MAX_LINE_AMOUNT)) }
-    ensures stale { result ≡ Err Stale → (t : Database) → t.scale ≡ scale.now → NoneMayBe t reads.new }
-    ensures refused { IfErr result (λ refusal. (refusal ≡ OutOfMemory) ⊎ (refusal ≡ Stale)) }
-    ensures keeps { Keeps reads.old reads.new }
-    ensures within { AreWithin (length cells.now) reads.old → AreWithin (length cells.now) reads.new }
-    ensures chain { (first : ReaderView) → AreRead first reader.old reads.old
-        → OnOk result (AreRead first reader.new reads.new) }
-    ensures stale_chain { result ≡ Err Stale → (first : ReaderView)
-        → AreRead first reader.old reads.old → AreRead first reader.new reads.new }
-    ensures grown { HasGrown reader.old reader.new }
-    ensures grown_since { (first : ReaderView) → HasGrown first reader.old → HasGrown first reader.new }
-    ensures limit { length reads.new ≤ length reads.old + 1 }
+    ensures refused { IfErr result (IsStepRefusal K.tables transaction.new) }
+    ensures goes_on { GoesOn 1 1 transaction.old transaction.new }
 {
-    let key = LineKey {
+    let key = RecordKey::OrderLine(LineKey {
         warehouse: order.warehouse,
         district: order.district,
         order: order.order,
         line: number,
-    };
-    let record = number_of_key(scale, RecordKey::OrderLine(key));
-    let version = match reads.get(rt, cells, reader, record) {
-        Ok(version) => version,
-        Err(refusal) => return Err(refusal),
-    };
-    let Some(dated) = date(value_of(&version), day) else {
+    });
+    let value = transaction.read(rt, key)?;
+    let Some(dated) = date(value, delivery.date) else {
         return Err(Refusal::Stale);
     };
-    writes.put(record, dated.words)?;
+    transaction.put(key, dated.words)?;
     Ok(dated.amount)
 }

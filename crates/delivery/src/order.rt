@@ -1,36 +1,25 @@
 //! The order that a Delivery takes in a district, on record cells (TPC-C 2.7.4.2).
-ghost use Rattle.std.specs.Prelude.{◌≡◌, ◌≢◌, ◌+◌, ◌<◌, ◌≤◌, ◌⊎◌, ◌≤ℤ◌, pos, ℕ, List, None, Some, IsSome, length, Err, IfOk, IfErr, OnOk};
+ghost use Rattle.std.specs.Prelude.{◌≡◌, ◌-◌, ◌≤◌, ◌≤ℤ◌, pos, IsSome, IfOk, IfErr, OnOk};
 ghost use Rattle.std.specs.FinMap.{get};
 ghost use Rattle.tables.specs.Sizes.{IsNumber};
 ghost use Rattle.tables.specs.Keys.{IsOrderKey, IsCustomerKey};
-ghost use Rattle.tables.specs.Records.{number_of_key, record_count};
-ghost use Rattle.tables.specs.Database.{Database};
+ghost use Rattle.tables.specs.Records.{number_of_key};
 ghost use Rattle.tables.specs.Delivery.{IsDelivery};
-ghost use Rattle.tables.specs.declared.delivery.DeliveryInput.{DeliveryInput as Input};
 ghost use Rattle.tables.specs.declared.records.RecordKey.TheVariants as key_variants;
 ghost use Rattle.tables.specs.declared.limits.TheConstants.{MAX_MONEY_STEP, MAX_ORDER_LINES};
-ghost use Rattle.money.specs.declared.refusal.Refusal.TheVariants.{OutOfMemory, Stale};
-ghost use Rattle.cells.specs.Records.{ReaderView, HasGrown};
-ghost use Rattle.readset.specs.Reads.{held, Keeps, AreWithin, AreRead};
-ghost use Rattle.readset.specs.Explains.{MayBe, NoneMayBe};
-ghost use Rattle.delivery.specs.Steps.{next_home, next_key, AreDone};
-ghost use Rattle.delivery.specs.Ending.{Waits, ArePlaces, IsCarriedOf, IsCreditOf, ending_writes};
+ghost use Rattle.money.specs.declared.refusal.Refusal.TheVariants.{OutOfMemory};
+ghost use Rattle.readset.specs.Reads.{held};
+ghost use Rattle.readset.specs.Changes.{puts_all};
+ghost use Rattle.readset.specs.Transaction.{AtAll, Finds, GoesOn, IsStepRefusal, ReadsMore};
+ghost use Rattle.delivery.specs.Steps.{AreDone};
+ghost use Rattle.delivery.specs.Ending.{Waits, IsCarried, IsCredited, buyer_of, ending_changes};
 
 use crate::change::{Carried, carry, credit};
 use crate::lines::date_lines;
-use cells::{Cells, Reader};
 use money::{Cents, Refusal};
-use readset::{ReadSet, WriteSet, value_of};
+use readset::{Start, Transaction};
 use std::sync::Wait;
-use tables::{CustomerKey, DeliveryInput, DistrictKey, OrderKey, RecordKey, Scale, number_of_key};
-
-/// The numbers of the records of an order's own two rows, and of its district's OLDEST.
-#[derive(Clone, Copy)]
-pub(crate) struct Places {
-    pub new_order: u32,
-    pub order: u32,
-    pub oldest: u32,
-}
+use tables::{CustomerKey, DeliveryInput, DistrictKey, OrderKey, RecordKey};
 
 /// Takes the order of this key, which waits longest in its district: reads its two records, its lines and its
 /// customer's, and says what these and OLDEST are to hold. Costs at most eighteen loads and some forty look-ups.
@@ -38,203 +27,120 @@ pub(crate) struct Places {
 /// # Errors
 ///
 /// `Stale` only where no tables at which the transaction may have read have the versions read; `OutOfMemory`.
-pub(crate) fn deliver_order<R: Wait>(
+pub(crate) fn deliver_order<R: Wait, K: Start>(
     rt: &R,
-    cells: &Cells,
-    reader: &mut Reader,
-    reads: &mut ReadSet,
-    writes: &mut WriteSet,
-    scale: &Scale,
+    transaction: &mut Transaction<'_, K>,
     delivery: &DeliveryInput,
     key: OrderKey,
 ) -> Result<(), Refusal>
-    requires own { reader.old.cells ≡ cells.now }
-    requires cells { length cells.now ≡ record_count scale.now }
-    requires input { IsDelivery scale.now delivery.now }
-    requires key { IsOrderKey scale.now key }
-    ensures done { (t : Database) (n : ℕ) → t.scale ≡ scale.now → key ≡ next_key delivery.now n key.order
-        → IsSome (held reads.old (number_of_key scale.now (key_variants.Oldest (next_home delivery.now n))))
-        → ((s : Database) → MayBe t reads.old s → Waits s delivery.now n key.order)
-        → AreDone t delivery.now n reads.old writes.old
-        → OnOk result (AreDone t delivery.now (n + 1) reads.new writes.new) }
-    ensures stale { result ≡ Err Stale → (t : Database) (n : ℕ) → t.scale ≡ scale.now → key ≡ next_key delivery.now n key.order
-        → ((s : Database) → MayBe t reads.old s → Waits s delivery.now n key.order) → NoneMayBe t reads.new }
-    ensures refused { IfErr result (λ refusal. (refusal ≡ OutOfMemory) ⊎ (refusal ≡ Stale)) }
-    ensures keeps { Keeps reads.old reads.new }
-    ensures within { AreWithin (length cells.now) reads.old → AreWithin (length cells.now) reads.new }
-    ensures chain { (first : ReaderView) → AreRead first reader.old reads.old
-        → OnOk result (AreRead first reader.new reads.new) }
-    ensures stale_chain { result ≡ Err Stale → (first : ReaderView)
-        → AreRead first reader.old reads.old → AreRead first reader.new reads.new }
-    ensures grown_since { (first : ReaderView) → HasGrown first reader.old → HasGrown first reader.new }
-    ensures limit { length reads.new ≤ length reads.old + 18 }
+    requires input { IsDelivery K.tables.scale delivery.now }
+    requires key { IsOrderKey K.tables.scale key }
+    requires home { key.warehouse ≡ delivery.now.warehouse }
+    requires oldest { IsSome (held transaction.old.reads (number_of_key K.tables.scale
+        (key_variants.Oldest (record { warehouse = key.warehouse; district = key.district })))) }
+    requires waits { AtAll K.tables transaction.old (λ t. Waits t delivery.now (key.district - 1) key.order) }
+    requires done { AreDone K.tables delivery.now (key.district - 1) transaction.old }
+    ensures done { OnOk result
+        (AreDone K.tables delivery.now key.district transaction.new) }
+    ensures refused { IfErr result (IsStepRefusal K.tables transaction.new) }
+    ensures goes_on { GoesOn 18 19 transaction.old transaction.new }
 {
-    let places = places_of(scale, key);
-    let order = match read_order(
-        rt,
-        cells,
-        reader,
-        reads,
-        scale,
-        places,
-        key,
-        delivery.carrier,
-    ) {
-        Ok(order) => order,
-        Err(refusal) => return Err(refusal),
-    };
-    let (count, date) = (order.line_count, delivery.date);
-    let sum = match date_lines(rt, cells, reader, reads, writes, scale, key, count, date) {
-        Ok(sum) => sum,
-        Err(refusal) => return Err(refusal),
-    };
+    let order = read_order(rt, transaction, delivery, key)?;
+    let sum = date_lines(rt, transaction, delivery, key, order.line_count)?;
     let buyer = CustomerKey {
         warehouse: key.warehouse,
         district: key.district,
         customer: order.customer,
     };
-    let credited = match credit_buyer(rt, cells, reader, reads, scale, buyer, sum) {
-        Ok(credited) => credited,
-        Err(refusal) => return Err(refusal),
-    };
-    end_order(writes, places, key.order, &order, credited)?;
-    Ok(())
-}
-
-/// The records of an order's own two rows, and of its district's OLDEST.
-fn places_of(scale: &Scale, key: OrderKey) -> Places
-    requires { IsOrderKey scale.now key }
-    ensures places { ArePlaces scale.now key result }
-    ensures are_records { (result.new_order < record_count scale.now) × (result.order < record_count scale.now)
-        × (result.oldest < record_count scale.now) }
-{
-    let home = DistrictKey {
-        warehouse: key.warehouse,
-        district: key.district,
-    };
-    Places {
-        new_order: number_of_key(scale, RecordKey::NewOrder(key)),
-        order: number_of_key(scale, RecordKey::Order(key)),
-        oldest: number_of_key(scale, RecordKey::Oldest(home)),
-    }
+    let credited = credit_buyer(rt, transaction, buyer, sum)?;
+    end_order(transaction, key, &order, credited)
 }
 
 /// Reads the order's two records, of which the NEW-ORDER one has no words, and gives the order with its carrier.
-fn read_order<R: Wait>(
+fn read_order<R: Wait, K: Start>(
     rt: &R,
-    cells: &Cells,
-    reader: &mut Reader,
-    reads: &mut ReadSet,
-    scale: &Scale,
-    places: Places,
+    transaction: &mut Transaction<'_, K>,
+    delivery: &DeliveryInput,
     key: OrderKey,
-    carrier: u32,
 ) -> Result<Carried, Refusal>
-    requires own { reader.old.cells ≡ cells.now }
-    requires cells { length cells.now ≡ record_count scale.now }
-    requires key { IsOrderKey scale.now key }
-    requires places { ArePlaces scale.now key places }
-    requires are_records { (places.new_order < record_count scale.now) × (places.order < record_count scale.now) }
-    ensures carried { IfOk result (λ c. (t : Database) (x : Input) → t.scale ≡ scale.now → x.carrier ≡ carrier
-        → IsCarriedOf t x key reads.new c) }
-    ensures range { IfOk result (λ c. IsNumber scale.now.customers c.customer × (c.line_count ≤ MAX_ORDER_LINES)) }
-    ensures stale { result ≡ Err Stale → (t : Database) → t.scale ≡ scale.now
-        → ((s : Database) → MayBe t reads.new s → IsSome (get s.orders key)) → NoneMayBe t reads.new }
-    ensures holds_new_order { OnOk result (IsSome (held reads.new places.new_order)) }
-    ensures holds_order { OnOk result (IsSome (held reads.new places.order)) }
-    ensures refused { IfErr result (λ refusal. (refusal ≡ OutOfMemory) ⊎ (refusal ≡ Stale)) }
-    ensures keeps { Keeps reads.old reads.new }
-    ensures within { AreWithin (length cells.now) reads.old → AreWithin (length cells.now) reads.new }
-    ensures chain { (first : ReaderView) → AreRead first reader.old reads.old
-        → OnOk result (AreRead first reader.new reads.new) }
-    ensures stale_chain { result ≡ Err Stale → (first : ReaderView)
-        → AreRead first reader.old reads.old → AreRead first reader.new reads.new }
-    ensures grown_since { (first : ReaderView) → HasGrown first reader.old → HasGrown first reader.new }
-    ensures limit { length reads.new ≤ length reads.old + 2 }
+    requires key { IsOrderKey K.tables.scale key }
+    requires there { AtAll K.tables transaction.old (λ t. IsSome (get t.orders key)) }
+    ensures carried { Finds K.tables transaction.new result (IsCarried delivery.now key) }
+    ensures range { IfOk result (λ c. IsNumber K.tables.scale.customers c.customer
+        × (c.line_count ≤ MAX_ORDER_LINES)) }
+    ensures holds_new_order { OnOk result
+        (IsSome (held transaction.new.reads (number_of_key K.tables.scale (key_variants.NewOrder key)))) }
+    ensures holds_order { OnOk result
+        (IsSome (held transaction.new.reads (number_of_key K.tables.scale (key_variants.Order key)))) }
+    ensures reads { ReadsMore 2 transaction.old transaction.new }
 {
-    reads.get(rt, cells, reader, places.new_order)?;
-    let version = match reads.get(rt, cells, reader, places.order) {
-        Ok(version) => version,
-        Err(refusal) => return Err(refusal),
-    };
-    let Some(words) = value_of(&version) else {
+    transaction.read(rt, RecordKey::NewOrder(key))?;
+    let Some(words) = transaction.read(rt, RecordKey::Order(key))? else {
         return Err(Refusal::Stale);
     };
-    match carry(&words, carrier, scale.customers()) {
+    match carry(&words, delivery.carrier, transaction.scale().customers()) {
         Some(order) => Ok(order),
         None => Err(Refusal::Stale),
     }
 }
 
-/// A customer's record, and its words once an order of it is delivered.
-#[derive(Clone, Copy)]
-pub(crate) struct Credited {
-    pub record: u32,
-    pub words: [u64; 7],
-}
-
-/// Reads the customer's record, and raises C_BALANCE by this sum and C_DELIVERY_CNT by 1.
-fn credit_buyer<R: Wait>(
+/// Reads the customer's record, and gives its words with C_BALANCE raised by this sum and C_DELIVERY_CNT by 1.
+fn credit_buyer<R: Wait, K: Start>(
     rt: &R,
-    cells: &Cells,
-    reader: &mut Reader,
-    reads: &mut ReadSet,
-    scale: &Scale,
+    transaction: &mut Transaction<'_, K>,
     buyer: CustomerKey,
     sum: Cents,
-) -> Result<Credited, Refusal>
-    requires own { reader.old.cells ≡ cells.now }
-    requires cells { length cells.now ≡ record_count scale.now }
-    requires buyer { IsCustomerKey scale.now buyer }
+) -> Result<[u64; 7], Refusal>
+    requires buyer { IsCustomerKey K.tables.scale buyer }
     requires low { pos 0 ≤ℤ sum }
     requires high { sum ≤ℤ pos MAX_MONEY_STEP }
-    ensures record { IfOk result (λ c. c.record ≡ number_of_key scale.now (key_variants.Customer buyer)) }
-    ensures credited { IfOk result (λ c. (t : Database) → t.scale ≡ scale.now
-        → IsCreditOf t buyer sum reads.new c.words) }
-    ensures holds { IfOk result (λ c. IsSome (held reads.new c.record)) }
-    ensures stale { result ≡ Err Stale → (t : Database) → t.scale ≡ scale.now → NoneMayBe t reads.new }
-    ensures refused { IfErr result (λ refusal. (refusal ≡ OutOfMemory) ⊎ (refusal ≡ Stale)) }
-    ensures keeps { Keeps reads.old reads.new }
-    ensures within { AreWithin (length cells.now) reads.old → AreWithin (length cells.now) reads.new }
-    ensures chain { (first : ReaderView) → AreRead first reader.old reads.old
-        → OnOk result (AreRead first reader.new reads.new) }
-    ensures stale_chain { result ≡ Err Stale → (first : ReaderView)
-        → AreRead first reader.old reads.old → AreRead first reader.new reads.new }
-    ensures grown_since { (first : ReaderView) → HasGrown first reader.old → HasGrown first reader.new }
-    ensures limit { length reads.new ≤ length reads.old + 1 }
+    ensures credited { Finds K.tables transaction.new result (IsCredited buyer sum) }
+    ensures holds { OnOk result
+        (IsSome (held transaction.new.reads (number_of_key K.tables.scale (key_variants.Customer buyer)))) }
+    ensures reads { ReadsMore 1 transaction.old transaction.new }
 {
-    let record = number_of_key(scale, RecordKey::Customer(buyer));
-    let version = match reads.get(rt, cells, reader, record) {
-        Ok(version) => version,
-        Err(refusal) => return Err(refusal),
-    };
-    let Some(words) = value_of(&version) else {
+    let Some(words) = transaction.read(rt, RecordKey::Customer(buyer))? else {
         return Err(Refusal::Stale);
     };
     match credit(&words, sum) {
-        Some(words) => Ok(Credited { record, words }),
+        Some(words) => Ok(words),
         None => Err(Refusal::Stale),
     }
 }
 
 /// Says what the records at a district's end are to hold: no NEW-ORDER row, the order's and the customer's words, and
 /// the next number in OLDEST.
-fn end_order(
-    writes: &mut WriteSet,
-    places: Places,
-    number: u32,
+fn end_order<K: Start>(
+    transaction: &mut Transaction<'_, K>,
+    key: OrderKey,
     order: &Carried,
-    buyer: Credited,
+    credited: [u64; 7],
 ) -> Result<(), Refusal>
-    ensures written { OnOk result (writes.new ≡ ending_writes writes.old places number order.now buyer) }
+    requires key { IsOrderKey K.tables.scale key }
+    requires customer { IsNumber K.tables.scale.customers order.now.customer }
+    requires holds_new_order { IsSome (held transaction.old.reads (number_of_key K.tables.scale (key_variants.NewOrder key))) }
+    requires holds_order { IsSome (held transaction.old.reads (number_of_key K.tables.scale (key_variants.Order key))) }
+    requires holds_buyer { IsSome (held transaction.old.reads (number_of_key K.tables.scale (key_variants.Customer (buyer_of key order.now)))) }
+    requires holds_oldest { IsSome (held transaction.old.reads (number_of_key K.tables.scale
+        (key_variants.Oldest (record { warehouse = key.warehouse; district = key.district })))) }
+    ensures written { OnOk result (transaction.new.writes
+        ≡ puts_all K.tables.scale transaction.old.writes (ending_changes key order.now credited)) }
+    ensures reads { transaction.new.reads ≡ transaction.old.reads }
+    ensures goes_on { GoesOn 0 4 transaction.old transaction.new }
     ensures only_memory { IfErr result (λ refusal. refusal ≡ OutOfMemory) }
 {
-    writes.put(places.new_order, None)?;
-    writes.put(places.order, Some(order.words))?;
-    writes.put(buyer.record, Some(buyer.words))?;
-    writes.put(
-        places.oldest,
-        Some([u64::from(number) + 1, 0, 0, 0, 0, 0, 0]),
-    )?;
-    Ok(())
+    let home = DistrictKey {
+        warehouse: key.warehouse,
+        district: key.district,
+    };
+    let buyer = CustomerKey {
+        warehouse: key.warehouse,
+        district: key.district,
+        customer: order.customer,
+    };
+    let next = u64::from(key.order) + 1;
+    transaction.put(RecordKey::NewOrder(key), None)?;
+    transaction.put(RecordKey::Order(key), Some(order.words))?;
+    transaction.put(RecordKey::Customer(buyer), Some(credited))?;
+    transaction.put(RecordKey::Oldest(home), Some([next, 0, 0, 0, 0, 0, 0]))
 }

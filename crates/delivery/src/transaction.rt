@@ -1,5 +1,5 @@
 //! A Delivery on record cells.
-ghost use Rattle.std.specs.Prelude.{◌≡◌, ◌⊎◌, length, IfOk, IfErr};
+ghost use Rattle.std.specs.Prelude.{◌≡◌, ◌≤◌, ◌⊎◌, [], length, IfOk, IfErr};
 ghost use Rattle.tables.specs.Delivery.{IsDelivery};
 ghost use Rattle.tables.specs.Records.{record_count};
 ghost use Rattle.tables.specs.declared.input.Input.TheVariants as input_variants;
@@ -8,13 +8,18 @@ ghost use Rattle.population.specs.Initial.{initial};
 ghost use Rattle.cells.specs.Records.{HasGrown};
 ghost use Rattle.readset.specs.Reads.{ReadSetView, AreRead};
 ghost use Rattle.readset.specs.Explains.{Explains, NoneMayBe, IsWithinLimits};
+ghost use Rattle.readset.specs.Writes.{no_writes};
+ghost use Rattle.readset.specs.Commit.{IsCommitOf};
+ghost use Rattle.readset.specs.Transaction.{Finds, IsExecuted};
 
 use crate::districts::deliver_districts;
 use cells::{Cells, Reader};
 use money::Refusal;
 use population::Population;
-use readset::{ReadSet, Work, WriteSet};
+use readset::{Start, Transaction, Work};
 use std::alloc::Global;
+use std::marker::Brand;
+use std::mem;
 use std::sync::Wait;
 use tables::{DeliveryInput, DeliveryReply, Input, Lines, Reply};
 
@@ -47,30 +52,50 @@ pub fn execute<R: Wait>(
         ((refusal ≡ Stale) × ((reads : ReadSetView) × AreRead reader.old reader.new reads
         × NoneMayBe (initial population.now) reads))) }
 {
-    let mut reads = ReadSet::new(alloc);
-    let mut writes = WriteSet::new(alloc);
-    let scale = population.scale();
-    let orders = match deliver_districts(
-        rt,
-        alloc,
-        cells,
-        reader,
-        &mut reads,
-        &mut writes,
-        &scale,
-        delivery,
-    ) {
-        Ok(orders) => orders,
-        Err(refusal) => return Err(refusal),
-    };
-    let reply = DeliveryReply {
+    let taken = mem::replace(reader, Reader::new(alloc));
+    let (after, work) = run::<Brand, R>(rt, alloc, cells, taken, population, delivery);
+    *reader = after;
+    work
+}
+
+/// The same of a reader of its own.
+fn run<K: Start, R: Wait>(
+    rt: &R,
+    alloc: Global,
+    cells: &Cells,
+    reader: Reader,
+    population: &Population,
+    delivery: &DeliveryInput,
+) -> (Reader, Result<Work, Refusal>)
+    requires input { IsDelivery K.tables.scale delivery.now }
+    requires tables { initial population.now ≡ K.tables }
+    requires reader { reader ≡ K.reader }
+    requires own { reader.cells ≡ cells.now }
+    requires cells { length cells.now ≡ record_count K.tables.scale }
+    ensures { IsExecuted K.tables (input_variants.Delivery delivery.now) K.reader result.0 result.1 }
+{
+    let mut transaction = Transaction::<K>::begin(alloc, cells, population, reader);
+    let reply = deliver(rt, alloc, &mut transaction, delivery);
+    transaction.finish(Input::Delivery(*delivery), reply)
+}
+
+/// Does all districts, and replies.
+fn deliver<R: Wait, K: Start>(
+    rt: &R,
+    alloc: Global,
+    transaction: &mut Transaction<'_, K>,
+    delivery: &DeliveryInput,
+) -> Result<Reply, Refusal>
+    requires input { IsDelivery K.tables.scale delivery.now }
+    requires begun { transaction.old ≡ record { reads = []; writes = no_writes } }
+    ensures reply { Finds K.tables transaction.new result (λ reply t.
+        IsCommitOf t (input_variants.Delivery delivery.now) transaction.new.writes reply) }
+    ensures reads { length transaction.new.reads ≤ 200 }
+    ensures writes { length transaction.new.writes.values ≤ 190 }
+{
+    let orders = deliver_districts(rt, alloc, transaction, delivery)?;
+    Ok(Reply::Delivery(DeliveryReply {
         warehouse: delivery.warehouse,
         orders: Lines::new(orders),
-    };
-    Ok(Work {
-        input: Input::Delivery(*delivery),
-        reads,
-        writes,
-        reply: Reply::Delivery(reply),
-    })
+    }))
 }

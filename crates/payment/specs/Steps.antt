@@ -1,37 +1,39 @@
--- The steps of a Payment (TPC-C 2.5.2.2): its three records, their new values, its writes and its reply.
-use Rattle.std.specs.Prelude.{◌≡◌, ℕ, ℤ, ◌-ℤ◌, Some}
-use Rattle.tables.specs.Sizes.{Sizes}
-use Rattle.tables.specs.Payment.{payer, raised_warehouse, raised_district, charged_customer, history_row}
-use Rattle.tables.specs.Rows.{warehouse_words, district_words, customer_words}
+-- The steps of a Payment (TPC-C 2.5.2.2): its three records, their new values and its reply.
+use Rattle.std.specs.Prelude.{◌≡◌, ℕ, ℤ, ◌-ℤ◌, Some, [], ◌∷◌}
+use Rattle.tables.specs.Database.{Database}
+use Rattle.tables.specs.Payment.{payer, raised_warehouse, raised_district, charged_customer}
+use Rattle.tables.specs.Rows.{row_at, warehouse_words, district_words, customer_words}
 use Rattle.tables.specs.WellFormed.{IsMoney, IsCustomerRow}
-use Rattle.tables.specs.Records.{number_of_key}
 use Rattle.tables.specs.declared.records.RecordKey.TheVariants as key
 use Rattle.tables.specs.declared.rows.Warehouse.{Warehouse}
 use Rattle.tables.specs.declared.rows.District.{District}
 use Rattle.tables.specs.declared.rows.Customer.{Customer}
 use Rattle.tables.specs.declared.payment.PaymentInput.{PaymentInput}
 use Rattle.tables.specs.declared.payment.PaymentReply.{PaymentReply}
-use Rattle.readset.specs.Reads.{value_of}
-use Rattle.readset.specs.Writes.{WriteSetView, no_writes, puts}
-use Rattle.payment.specs.declared.transaction.Records.{Records}
+use Rattle.readset.specs.Changes.{Changes}
+use Rattle.payment.specs.declared.transaction.Keys.{Keys}
 use Rattle.payment.specs.declared.transaction.Found.{Found}
 use Rattle.payment.specs.declared.transaction.NewValues.{NewValues}
 
--- the numbers of the records of the paying warehouse, of the paying district, and of the customer with this C_ID
-abbrev pub warehouse_record : Sizes → PaymentInput → ℕ
-warehouse_record s x = number_of_key s (key.Warehouse x.warehouse)
+-- the records of the paying warehouse, of the paying district, and of the customer with this C_ID
+abbrev pub keys_at : PaymentInput → ℕ → Keys
+keys_at x id = record {
+  warehouse = key.Warehouse x.warehouse;
+  district = key.District (record { warehouse = x.warehouse; district = x.district });
+  customer = key.Customer (payer x id);
+}
 
-abbrev pub district_record : Sizes → PaymentInput → ℕ
-district_record s x = number_of_key s (key.District (record { warehouse = x.warehouse; district = x.district }))
+-- what they hold
+pub record AreRead (keys : Keys) (found : Found) (t : Database) : Type 0 where
+  pub warehouse : row_at t keys.warehouse ≡ found.warehouse
+  pub district : row_at t keys.district ≡ found.district
+  pub customer : row_at t keys.customer ≡ found.customer
 
-abbrev pub customer_record : Sizes → PaymentInput → ℕ → ℕ
-customer_record s x id = number_of_key s (key.Customer (payer x id))
-
--- the rows of the three records, as the versions found have them, within their ranges
+-- these rows, within their ranges
 pub record AreRows (found : Found) (w : Warehouse) (d : District) (c : Customer) : Type 0 where
-  pub warehouse : value_of found.warehouse ≡ Some (warehouse_words w)
-  pub district : value_of found.district ≡ Some (district_words d)
-  pub customer : value_of found.customer ≡ Some (customer_words c)
+  pub warehouse : found.warehouse ≡ Some (warehouse_words w)
+  pub district : found.district ≡ Some (district_words d)
+  pub customer : found.customer ≡ Some (customer_words c)
   pub warehouse_range : IsMoney w.year_to_date
   pub district_range : IsMoney d.year_to_date
   pub customer_range : IsCustomerRow c
@@ -43,14 +45,10 @@ pub record AreNewValues (amount : ℤ) (w : Warehouse) (d : District) (c : Custo
   pub customer : values.customer.words ≡ customer_words (charged_customer amount c)
   pub balance : values.customer.balance ≡ c.balance -ℤ amount
 
--- the three values, each put in
-abbrev pub values_put : Records → NewValues → WriteSetView
-values_put records values =
-    puts (puts (puts no_writes records.warehouse (Some values.warehouse)) records.district (Some values.district)) records.customer (Some values.customer.words)
-
--- the writes and the reply
-abbrev pub writes_of : Records → NewValues → PaymentInput → ℕ → WriteSetView
-writes_of records values x id = record { values = (values_put records values).values; history_row = Some (history_row x id) }
+-- what changes, and the reply
+abbrev pub changes_of : Keys → NewValues → Changes
+changes_of keys values =
+    (keys.warehouse, Some values.warehouse) ∷ (keys.district, Some values.district) ∷ (keys.customer, Some values.customer.words) ∷ []
 
 abbrev pub reply_of : NewValues → PaymentInput → ℕ → PaymentReply
 reply_of values x id = record {

@@ -7,12 +7,9 @@ ghost use Rattle.tables.specs.declared.rows.District.{District};
 ghost use Rattle.tables.specs.declared.rows.Customer.{Customer};
 ghost use Rattle.tables.specs.Payment.{raised_warehouse, raised_district, charged_customer};
 ghost use Rattle.tables.specs.declared.limits.TheConstants.{MAX_PAYMENT};
-ghost use Rattle.readset.specs.Reads.{value_of};
 
-use cells::Version;
 use columns::{count_raised, money_column, money_raised};
 use money::Cents;
-use readset::value_of;
 use tables::money_to_word;
 
 /// A customer's words after a Payment, and C_BALANCE.
@@ -22,39 +19,39 @@ pub struct Charged {
     pub balance: Cents,
 }
 
-/// W_YTD raised. None only where no warehouse of well-formed tables has this version.
-pub fn raise_warehouse(version: &Version, amount: Cents) -> Option<[u64; 7]>
+/// W_YTD raised. None only where no warehouse of well-formed tables holds this.
+pub fn raise_warehouse(value: Option<[u64; 7]>, amount: Cents) -> Option<[u64; 7]>
     requires low { pos 0 ≤ℤ amount }
     requires high { amount ≤ℤ MAX_PAYMENT }
     ensures { (r : Warehouse) → IsMoney r.year_to_date
-        → value_of version.now ≡ Some (warehouse_words r)
+        → value ≡ Some (warehouse_words r)
         → result ≡ Some (warehouse_words (raised_warehouse amount r)) }
 {
-    let words = value_of(version)?;
+    let words = value?;
     Some([money_raised(words[0], amount)?, 0, 0, 0, 0, 0, 0])
 }
 
-/// D_YTD raised. None only where no district of well-formed tables has this version.
-pub fn raise_district(version: &Version, amount: Cents) -> Option<[u64; 7]>
+/// D_YTD raised. None only where no district of well-formed tables holds this.
+pub fn raise_district(value: Option<[u64; 7]>, amount: Cents) -> Option<[u64; 7]>
     requires low { pos 0 ≤ℤ amount }
     requires high { amount ≤ℤ MAX_PAYMENT }
     ensures { (r : District) → IsMoney r.year_to_date
-        → value_of version.now ≡ Some (district_words r)
+        → value ≡ Some (district_words r)
         → result ≡ Some (district_words (raised_district amount r)) }
 {
-    let words = value_of(version)?;
+    let words = value?;
     Some([money_raised(words[0], amount)?, words[1], 0, 0, 0, 0, 0])
 }
 
 /// C_BALANCE lowered, C_YTD_PAYMENT raised, and one payment more. None only where no customer of well-formed
-/// tables has this version.
-pub fn charge_customer(version: &Version, amount: Cents) -> Option<Charged>
+/// tables holds this.
+pub fn charge_customer(value: Option<[u64; 7]>, amount: Cents) -> Option<Charged>
     requires low { pos 0 ≤ℤ amount }
     requires high { amount ≤ℤ MAX_PAYMENT }
-    ensures { (r : Customer) → IsCustomerRow r → value_of version.now ≡ Some (customer_words r)
+    ensures { (r : Customer) → IsCustomerRow r → value ≡ Some (customer_words r)
         → result ≡ Some (record { words = customer_words (charged_customer amount r); balance = r.balance -ℤ amount }) }
 {
-    let words = value_of(version)?;
+    let words = value?;
     let balance = money_column(words[0])? - amount;
     let words = [
         money_to_word(balance),

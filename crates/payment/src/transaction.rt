@@ -1,48 +1,52 @@
 //! A Payment on record cells.
-ghost use Rattle.std.specs.Prelude.{◌≡◌, ◌<◌, ◌≤◌, ◌⊎◌, ◌≤ℤ◌, pos, ℕ, [], length, Some, IfOk, IfErr, OnOk};
+ghost use Rattle.std.specs.Prelude.{◌≡◌, ◌≤◌, ◌⊎◌, ◌≤ℤ◌, pos, IsSome, [], length, Some, IfOk, IfErr, OnOk};
 ghost use Rattle.tables.specs.Sizes.{IsNumber};
-ghost use Rattle.tables.specs.Payment.{IsPayment};
+ghost use Rattle.tables.specs.Payment.{IsPayment, payer_number, history_row};
 ghost use Rattle.tables.specs.declared.limits.TheConstants.{MAX_PAYMENT};
 ghost use Rattle.tables.specs.declared.input.Input.TheVariants as input_variants;
 ghost use Rattle.tables.specs.declared.rows.Warehouse.{Warehouse};
 ghost use Rattle.tables.specs.declared.rows.District.{District};
 ghost use Rattle.tables.specs.declared.rows.Customer.{Customer};
 ghost use Rattle.money.specs.declared.refusal.Refusal.TheVariants.{OutOfMemory, Stale};
-ghost use Rattle.tables.specs.Records.{record_count};
+ghost use Rattle.tables.specs.Records.{number_of_key, record_count};
 ghost use Rattle.cells.specs.Records.{HasGrown};
-ghost use Rattle.cells.specs.declared.cells.Version.{Version};
 ghost use Rattle.population.specs.Initial.{initial};
 ghost use Rattle.readset.specs.Reads.{ReadSetView, AreRead, held};
+ghost use Rattle.readset.specs.Writes.{no_writes};
+ghost use Rattle.readset.specs.Changes.{puts_all};
+ghost use Rattle.readset.specs.Commit.{IsCommitOf};
 ghost use Rattle.readset.specs.Explains.{Explains, NoneMayBe, IsWithinLimits};
+ghost use Rattle.readset.specs.Transaction.{Finds, ReadsMore, IsExecuted};
 ghost use Rattle.payment.specs.declared.transaction.NewValues.{NewValues as Values};
-ghost use Rattle.payment.specs.Steps.{warehouse_record, district_record, customer_record, writes_of, reply_of, AreRows, AreNewValues};
+ghost use Rattle.payment.specs.Steps.{keys_at, AreRead as AreFound, AreRows, AreNewValues, changes_of, reply_of};
 
 use crate::change::{Charged, charge_customer, raise_district, raise_warehouse};
-use cells::{Cells, Reader, Version};
+use cells::{Cells, Reader};
 use money::{Cents, Refusal};
 use population::Population;
-use readset::{ReadSet, Work, WriteSet};
+use readset::{Start, Transaction, Work};
 use std::alloc::Global;
+use std::marker::Brand;
+use std::mem;
 use std::sync::Wait;
 use tables::{
-    CustomerKey, DistrictKey, History, Input, PaymentInput, PaymentReply, RecordKey, Reply, Scale,
-    number_of_key,
+    CustomerKey, DistrictKey, History, Input, PaymentInput, PaymentReply, RecordKey, Reply,
 };
 
-/// The numbers of the records that a Payment reads and writes.
+/// The records that a Payment reads and writes.
 #[derive(Clone, Copy)]
-struct Records {
-    warehouse: u32,
-    district: u32,
-    customer: u32,
+struct Keys {
+    warehouse: RecordKey,
+    district: RecordKey,
+    customer: RecordKey,
 }
 
-/// The versions of those records.
+/// What those records hold.
 #[derive(Clone, Copy)]
 struct Found {
-    warehouse: Version,
-    district: Version,
-    customer: Version,
+    warehouse: Option<[u64; 7]>,
+    district: Option<[u64; 7]>,
+    customer: Option<[u64; 7]>,
 }
 
 /// What they are to hold.
@@ -82,34 +86,75 @@ pub fn execute<R: Wait>(
         ((refusal ≡ Stale) × ((reads : ReadSetView) × AreRead reader.old reader.new reads
         × NoneMayBe (initial population.now) reads))) }
 {
+    let taken = mem::replace(reader, Reader::new(alloc));
+    let (after, work) = run::<Brand, R>(rt, alloc, cells, taken, population, payment);
+    *reader = after;
+    work
+}
+
+/// The same of a reader of its own.
+fn run<K: Start, R: Wait>(
+    rt: &R,
+    alloc: Global,
+    cells: &Cells,
+    reader: Reader,
+    population: &Population,
+    payment: &PaymentInput,
+) -> (Reader, Result<Work, Refusal>)
+    requires input { IsPayment K.tables.scale payment.now }
+    requires tables { initial population.now ≡ K.tables }
+    requires reader { reader ≡ K.reader }
+    requires own { reader.cells ≡ cells.now }
+    requires cells { length cells.now ≡ record_count K.tables.scale }
+    ensures { IsExecuted K.tables (input_variants.Payment payment.now) K.reader result.0 result.1 }
+{
+    let customer = payer(population, payment);
+    let mut transaction = Transaction::<K>::begin(alloc, cells, population, reader);
+    let reply = pay(rt, &mut transaction, payment, customer);
+    transaction.finish(Input::Payment(*payment), reply)
+}
+
+/// The C_ID of the customer who pays.
+fn payer(population: &Population, payment: &PaymentInput) -> u32
+    requires { IsPayment (initial population.now).scale payment.now }
+    ensures payer { result ≡ payer_number (initial population.now) payment.now }
+    ensures customer { IsNumber (initial population.now).scale.customers result }
+{
     let home = DistrictKey {
         warehouse: payment.customer_warehouse,
         district: payment.customer_district,
     };
-    let customer = population.customer(home, payment.who);
-    let records = records_of(&population.scale(), payment, customer);
-    let mut reads = ReadSet::new(alloc);
-    let found = read(rt, cells, reader, &mut reads, records)?;
+    population.customer(home, payment.who)
+}
+
+/// Reads the three records, says what they are to hold and which row HISTORY is to get, and replies.
+fn pay<R: Wait, K: Start>(
+    rt: &R,
+    transaction: &mut Transaction<'_, K>,
+    payment: &PaymentInput,
+    customer: u32,
+) -> Result<Reply, Refusal>
+    requires input { IsPayment K.tables.scale payment.now }
+    requires payer { customer ≡ payer_number K.tables payment.now }
+    requires customer { IsNumber K.tables.scale.customers customer }
+    requires begun { transaction.old ≡ record { reads = []; writes = no_writes } }
+    ensures reply { Finds K.tables transaction.new result (λ reply t.
+        IsCommitOf t (input_variants.Payment payment.now) transaction.new.writes reply) }
+    ensures reads { length transaction.new.reads ≤ 3 }
+    ensures writes { length transaction.new.writes.values ≤ 3 }
+{
+    let keys = keys_of(payment, customer);
+    let found = read(rt, transaction, payment, customer, keys)?;
     let Some(values) = new_values(&found, payment.amount) else {
         return Err(Refusal::Stale);
     };
-    let writes = write(alloc, records, &values, payment, customer)?;
-    let reply = Reply::Payment(reply(payment, &values, customer));
-    Ok(Work {
-        input: Input::Payment(*payment),
-        reads,
-        writes,
-        reply,
-    })
+    write(transaction, payment, customer, keys, &values)?;
+    Ok(Reply::Payment(reply(payment, &values, customer)))
 }
 
-/// The numbers of the records that a Payment reads and writes.
-fn records_of(scale: &Scale, payment: &PaymentInput, customer: u32) -> Records
-    requires payment { IsPayment scale.now payment.now }
-    requires customer { IsNumber scale.now.customers customer }
-    ensures warehouse { result.warehouse ≡ warehouse_record scale.now payment.now }
-    ensures district { result.district ≡ district_record scale.now payment.now }
-    ensures customer { result.customer ≡ customer_record scale.now payment.now customer }
+/// The records that a Payment reads and writes.
+fn keys_of(payment: &PaymentInput, customer: u32) -> Keys
+    ensures { result ≡ keys_at payment.now customer }
 {
     let district = DistrictKey {
         warehouse: payment.warehouse,
@@ -120,41 +165,33 @@ fn records_of(scale: &Scale, payment: &PaymentInput, customer: u32) -> Records
         district: payment.customer_district,
         customer,
     };
-    Records {
-        warehouse: number_of_key(scale, RecordKey::Warehouse(payment.warehouse)),
-        district: number_of_key(scale, RecordKey::District(district)),
-        customer: number_of_key(scale, RecordKey::Customer(payer)),
+    Keys {
+        warehouse: RecordKey::Warehouse(payment.warehouse),
+        district: RecordKey::District(district),
+        customer: RecordKey::Customer(payer),
     }
 }
 
 /// Reads the three records, each once.
-fn read<R: Wait>(
+fn read<R: Wait, K: Start>(
     rt: &R,
-    cells: &Cells,
-    reader: &mut Reader,
-    reads: &mut ReadSet,
-    records: Records,
+    transaction: &mut Transaction<'_, K>,
+    payment: &PaymentInput,
+    customer: u32,
+    keys: Keys,
 ) -> Result<Found, Refusal>
-    requires own { reader.old.cells ≡ cells.now }
-    requires none { reads.old ≡ [] }
-    requires are_records { (records.warehouse < length cells.now)
-        × (records.district < length cells.now) × (records.customer < length cells.now) }
-    ensures read { OnOk result (AreRead reader.old reader.new reads.new) }
-    ensures warehouse { IfOk result (λ found. held reads.new records.warehouse
-        ≡ Some found.warehouse) }
-    ensures district { IfOk result (λ found. held reads.new records.district
-        ≡ Some found.district) }
-    ensures customer { IfOk result (λ found. held reads.new records.customer
-        ≡ Some found.customer) }
-    ensures limit { OnOk result (length reads.new ≤ 3) }
-    ensures cells { OnOk result ((n : ℕ) (v : Version) → held reads.new n ≡ Some v
-        → n < length cells.now) }
-    ensures grown { HasGrown reader.old reader.new }
-    ensures only_memory { IfErr result (λ refusal. refusal ≡ OutOfMemory) }
+    requires input { IsPayment K.tables.scale payment.now }
+    requires customer { IsNumber K.tables.scale.customers customer }
+    requires keys { keys ≡ keys_at payment.now customer }
+    ensures found { Finds K.tables transaction.new result (AreFound keys) }
+    ensures warehouse { OnOk result (IsSome (held transaction.new.reads (number_of_key K.tables.scale keys.warehouse))) }
+    ensures district { OnOk result (IsSome (held transaction.new.reads (number_of_key K.tables.scale keys.district))) }
+    ensures customer { OnOk result (IsSome (held transaction.new.reads (number_of_key K.tables.scale keys.customer))) }
+    ensures reads { ReadsMore 3 transaction.old transaction.new }
 {
-    let warehouse = reads.get(rt, cells, reader, records.warehouse)?;
-    let district = reads.get(rt, cells, reader, records.district)?;
-    let customer = reads.get(rt, cells, reader, records.customer)?;
+    let warehouse = transaction.read(rt, keys.warehouse)?;
+    let district = transaction.read(rt, keys.district)?;
+    let customer = transaction.read(rt, keys.customer)?;
     Ok(Found {
         warehouse,
         district,
@@ -162,7 +199,7 @@ fn read<R: Wait>(
     })
 }
 
-/// What the three records are to hold. None only where no well-formed tables have these versions.
+/// What the three records are to hold. None only where no well-formed tables have what they hold.
 fn new_values(found: &Found, amount: Cents) -> Option<NewValues>
     requires low { pos 0 ≤ℤ amount }
     requires high { amount ≤ℤ MAX_PAYMENT }
@@ -170,28 +207,39 @@ fn new_values(found: &Found, amount: Cents) -> Option<NewValues>
         → (values : Values) × (result ≡ Some values) × AreNewValues amount w d c values }
 {
     Some(NewValues {
-        warehouse: raise_warehouse(&found.warehouse, amount)?,
-        district: raise_district(&found.district, amount)?,
-        customer: charge_customer(&found.customer, amount)?,
+        warehouse: raise_warehouse(found.warehouse, amount)?,
+        district: raise_district(found.district, amount)?,
+        customer: charge_customer(found.customer, amount)?,
     })
 }
 
-/// The writes of a Payment.
-fn write(
-    alloc: Global,
-    records: Records,
-    values: &NewValues,
+/// Says what the three records are to hold, and which row HISTORY is to get.
+fn write<K: Start>(
+    transaction: &mut Transaction<'_, K>,
     payment: &PaymentInput,
     customer: u32,
-) -> Result<WriteSet, Refusal>
-    ensures ok { IfOk result (λ writes. writes ≡ writes_of records values.now payment.now customer) }
+    keys: Keys,
+    values: &NewValues,
+) -> Result<(), Refusal>
+    requires input { IsPayment K.tables.scale payment.now }
+    requires customer { IsNumber K.tables.scale.customers customer }
+    requires keys { keys ≡ keys_at payment.now customer }
+    requires warehouse { IsSome (held transaction.old.reads (number_of_key K.tables.scale keys.warehouse)) }
+    requires district { IsSome (held transaction.old.reads (number_of_key K.tables.scale keys.district)) }
+    requires payer { IsSome (held transaction.old.reads (number_of_key K.tables.scale keys.customer)) }
+    requires none { transaction.old.writes ≡ no_writes }
+    ensures written { OnOk result (transaction.new.writes ≡ record {
+      values = (puts_all K.tables.scale no_writes (changes_of keys values.now)).values;
+      history_row = Some (history_row payment.now customer);
+    }) }
+    ensures reads { transaction.new.reads ≡ transaction.old.reads }
+    ensures few { length transaction.new.writes.values ≤ 3 }
     ensures only_memory { IfErr result (λ refusal. refusal ≡ OutOfMemory) }
 {
-    let mut writes = WriteSet::new(alloc);
-    writes.put(records.warehouse, Some(values.warehouse))?;
-    writes.put(records.district, Some(values.district))?;
-    writes.put(records.customer, Some(values.customer.words))?;
-    writes.put_history_row(History {
+    transaction.put(keys.warehouse, Some(values.warehouse))?;
+    transaction.put(keys.district, Some(values.district))?;
+    transaction.put(keys.customer, Some(values.customer.words))?;
+    transaction.put_history_row(History {
         customer,
         customer_district: payment.customer_district,
         customer_warehouse: payment.customer_warehouse,
@@ -200,7 +248,7 @@ fn write(
         date: payment.date,
         amount: payment.amount,
     });
-    Ok(writes)
+    Ok(())
 }
 
 /// The reply of a Payment (TPC-C 2.5.3.3).

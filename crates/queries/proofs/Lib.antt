@@ -2,13 +2,10 @@ mod WordsRead
 mod LinesByNumber
 mod ToldOrder
 mod StatusExplained
-mod SameRefusal
 mod Apart
 mod RowsRead
 mod AnyRow
 mod LookedAt
 mod Pushed
 mod Counted
-mod Held
 mod LevelExplained
-mod NoWrites

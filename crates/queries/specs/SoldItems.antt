@@ -2,14 +2,19 @@
 use Rattle.std.specs.Prelude.{◌≡◌, ℕ, ◌+◌, nat_le, Bool, ◌==◌, ◌&&◌, ◌||◌, List}
 use Rattle.std.specs.List.{list_any}
 use Rattle.std.specs.FinMap.{entries}
-use Rattle.tables.specs.Keys.{is_district}
+use Rattle.tables.specs.Sizes.{Sizes}
+use Rattle.tables.specs.Keys.{is_district, IsStockKey}
+use Rattle.tables.specs.Records.{number_of_key}
+use Rattle.tables.specs.declared.keys.StockKey.{StockKey}
+use Rattle.tables.specs.declared.records.RecordKey.TheVariants as key
 use Rattle.tables.specs.Database.{Database}
 use Rattle.tables.specs.declared.keys.DistrictKey.{DistrictKey}
 use Rattle.tables.specs.declared.keys.OrderKey.{OrderKey}
 use Rattle.tables.specs.declared.keys.LineKey.{LineKey}
 use Rattle.tables.specs.declared.rows.OrderLine.{OrderLine}
-use Rattle.readset.specs.Reads.{ReadSetView}
+use Rattle.readset.specs.Reads.{ReadSetView, held}
 use Rattle.readset.specs.Explains.{MayBe}
+use Rattle.readset.specs.Transaction.{TransactionView}
 
 -- the district of an order
 abbrev pub home_of : OrderKey → DistrictKey
@@ -23,3 +28,7 @@ is_looked_at d first o m k = is_district k.warehouse k.district d && ((nat_le fi
 abbrev pub AreItems : Database → DistrictKey → ℕ → ℕ → ℕ → ReadSetView → List ℕ → Type 0
 AreItems t0 d first o m reads items = (t : Database) → MayBe t0 reads t → (i : ℕ)
     → list_any (λ (e : LineKey × OrderLine). is_looked_at d first o m e.0 && (e.1.item == i)) (entries t.lines) ≡ list_any (λ j. j == i) items
+
+-- as much of STOCK is read as before
+abbrev pub SameStock : Sizes → TransactionView → TransactionView → Type 0
+SameStock s old new = (k : StockKey) → IsStockKey s k → held new.reads (number_of_key s (key.Stock k)) ≡ held old.reads (number_of_key s (key.Stock k))

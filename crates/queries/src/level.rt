@@ -1,5 +1,5 @@
 //! A Stock-Level on record cells.
-ghost use Rattle.std.specs.Prelude.{◌≡◌, ◌⊎◌, length, IfOk, IfErr};
+ghost use Rattle.std.specs.Prelude.{◌≡◌, ◌⊎◌, [], length, IfOk, IfErr};
 ghost use Rattle.tables.specs.StockLevel.{IsStockLevel};
 ghost use Rattle.tables.specs.Records.{record_count};
 ghost use Rattle.tables.specs.declared.input.Input.TheVariants as input_variants;
@@ -8,14 +8,19 @@ ghost use Rattle.population.specs.Initial.{initial};
 ghost use Rattle.cells.specs.Records.{HasGrown};
 ghost use Rattle.readset.specs.Reads.{ReadSetView, AreRead};
 ghost use Rattle.readset.specs.Explains.{Explains, NoneMayBe, IsWithinLimits};
+ghost use Rattle.readset.specs.Writes.{no_writes};
+ghost use Rattle.readset.specs.Commit.{IsCommitOf};
+ghost use Rattle.readset.specs.Transaction.{Finds, ReadsMore, IsExecuted};
 
 use crate::low_stock::count_low;
 use crate::sold_items::{read_next_order, sold_items};
 use cells::{Cells, Reader};
 use money::Refusal;
 use population::Population;
-use readset::{ReadSet, Work, WriteSet};
+use readset::{Start, Transaction, Work};
 use std::alloc::Global;
+use std::marker::Brand;
+use std::mem;
 use std::sync::Wait;
 use tables::{DistrictKey, Input, Reply, StockLevelInput, StockLevelReply};
 
@@ -48,41 +53,57 @@ pub fn stock_level<R: Wait>(
         ((refusal ≡ Stale) × ((reads : ReadSetView) × AreRead reader.old reader.new reads
         × NoneMayBe (initial population.now) reads))) }
 {
-    let scale = population.scale();
+    let taken = mem::replace(reader, Reader::new(alloc));
+    let (after, work) = run::<Brand, R>(rt, alloc, cells, taken, population, query);
+    *reader = after;
+    work
+}
+
+/// The same of a reader of its own.
+fn run<K: Start, R: Wait>(
+    rt: &R,
+    alloc: Global,
+    cells: &Cells,
+    reader: Reader,
+    population: &Population,
+    query: &StockLevelInput,
+) -> (Reader, Result<Work, Refusal>)
+    requires input { IsStockLevel K.tables.scale query.now }
+    requires tables { initial population.now ≡ K.tables }
+    requires reader { reader ≡ K.reader }
+    requires own { reader.cells ≡ cells.now }
+    requires cells { length cells.now ≡ record_count K.tables.scale }
+    ensures { IsExecuted K.tables (input_variants.StockLevel query.now) K.reader result.0 result.1 }
+{
+    let mut transaction = Transaction::<K>::begin(alloc, cells, population, reader);
+    let reply = read_reply(rt, alloc, &mut transaction, query);
+    transaction.finish(Input::StockLevel(*query), reply)
+}
+
+/// Reads what the reply tells: how many of the items in the district's last orders have a low stock.
+fn read_reply<R: Wait, K: Start>(
+    rt: &R,
+    alloc: Global,
+    transaction: &mut Transaction<'_, K>,
+    query: &StockLevelInput,
+) -> Result<Reply, Refusal>
+    requires input { IsStockLevel K.tables.scale query.now }
+    requires none { transaction.old.reads ≡ [] }
+    ensures reply { Finds K.tables transaction.new result
+        (λ reply t. IsCommitOf t (input_variants.StockLevel query.now) no_writes reply) }
+    ensures reads { ReadsMore 601 transaction.old transaction.new }
+{
     let home = DistrictKey {
         warehouse: query.warehouse,
         district: query.district,
     };
-    let mut reads = ReadSet::new(alloc);
-    let next = match read_next_order(rt, cells, reader, &mut reads, &scale, home) {
-        Ok(next) => next,
-        Err(refusal) => return Err(refusal),
-    };
-    let items = match sold_items(rt, alloc, cells, reader, &mut reads, &scale, home, next) {
-        Ok(items) => items,
-        Err(refusal) => return Err(refusal),
-    };
-    let low = match count_low(
-        rt,
-        cells,
-        reader,
-        &mut reads,
-        &scale,
-        query,
-        items.as_slice(),
-    ) {
-        Ok(low) => low,
-        Err(refusal) => return Err(refusal),
-    };
-    Ok(Work {
-        input: Input::StockLevel(*query),
-        reads,
-        writes: WriteSet::new(alloc),
-        reply: Reply::StockLevel(StockLevelReply {
-            warehouse: query.warehouse,
-            district: query.district,
-            threshold: query.threshold,
-            low,
-        }),
-    })
+    let next = read_next_order(rt, transaction, home)?;
+    let items = sold_items(rt, alloc, transaction, home, next)?;
+    let low = count_low(rt, transaction, query, items.as_slice())?;
+    Ok(Reply::StockLevel(StockLevelReply {
+        warehouse: query.warehouse,
+        district: query.district,
+        threshold: query.threshold,
+        low,
+    }))
 }

@@ -1,85 +1,58 @@
 //! The items of a district's last orders, on record cells (TPC-C 2.8.2.2).
-ghost use Rattle.std.specs.Prelude.{◌≡◌, ◌+◌, ◌-◌, ◌*◌, ◌≤◌, ◌⊎◌, ℕ, max, [], ◌∷◌, ◌++◌, length, Option, Some, IfSome, Err, IfOk, IfErr, OnOk, ◌==◌, All};
+ghost use Rattle.std.specs.Prelude.{◌≡◌, ◌+◌, ◌-◌, ◌*◌, ◌≤◌, ℕ, max, [], ◌∷◌, ◌++◌, length, Option, Some, IfSome, IfOk, IfErr, OnOk, ◌==◌, All};
 ghost use Rattle.std.specs.List.{list_any};
 ghost use Rattle.std.specs.Option.{ForSome, option_map, option_map_or};
 ghost use Rattle.std.specs.FinMap.{get};
 ghost use Rattle.tables.specs.Sizes.{IsNumber};
-ghost use Rattle.tables.specs.Keys.{IsDistrictKey, IsOrderKey, IsLineKey, IsItemKey, IsStockKey};
-ghost use Rattle.tables.specs.Records.{number_of_key, record_count};
-ghost use Rattle.tables.specs.Database.{Database};
+ghost use Rattle.tables.specs.Keys.{IsDistrictKey, IsOrderKey, IsLineKey, IsItemKey};
 ghost use Rattle.tables.specs.OrderNumbers.{next_order};
 ghost use Rattle.tables.specs.StockLevel.{is_sold};
-ghost use Rattle.tables.specs.declared.keys.StockKey.{StockKey as StockKeyValue};
-ghost use Rattle.tables.specs.declared.records.RecordKey.TheVariants as key_variants;
 ghost use Rattle.tables.specs.declared.rows.District.{District};
 ghost use Rattle.tables.specs.declared.rows.OrderLine.{OrderLine as OrderLineValue};
 ghost use Rattle.tables.specs.Rows.{district_words, line_words};
 ghost use Rattle.tables.specs.declared.limits.TheConstants.{MAX_ORDER_LINES, RECENT_ORDERS};
-ghost use Rattle.money.specs.declared.refusal.Refusal.TheVariants.{OutOfMemory, Stale};
-ghost use Rattle.cells.specs.Records.{ReaderView, HasGrown};
-ghost use Rattle.readset.specs.Reads.{value_of, held, Keeps, AreWithin, AreRead};
-ghost use Rattle.readset.specs.Explains.{MayBe, NoneMayBe};
-ghost use Rattle.queries.specs.SoldItems.{home_of, AreItems};
+ghost use Rattle.money.specs.declared.refusal.Refusal.TheVariants.{OutOfMemory};
+ghost use Rattle.readset.specs.Transaction.{Finds, IsStepRefusal, ReadsMore};
+ghost use Rattle.queries.specs.SoldItems.{home_of, AreItems, SameStock};
 
-use cells::{Cells, Reader, Version};
 use money::Refusal;
-use readset::{ReadSet, value_of};
+use readset::{Start, Transaction};
 use std::alloc::Global;
 use std::sync::Wait;
 use tables::limits::{MAX_ORDER_LINES, RECENT_ORDERS};
-use tables::{DistrictKey, LineKey, OrderKey, RecordKey, Scale, number_of_key};
+use tables::{DistrictKey, LineKey, OrderKey, RecordKey, Scale};
 
 /// Reads D_NEXT_O_ID of a district. Costs a load.
 ///
 /// # Errors
 ///
 /// `Stale` only where no tables at which the transaction may have read have the version read; `OutOfMemory`.
-pub(crate) fn read_next_order<R: Wait>(
+pub(crate) fn read_next_order<R: Wait, K: Start>(
     rt: &R,
-    cells: &Cells,
-    reader: &mut Reader,
-    reads: &mut ReadSet,
-    scale: &Scale,
+    transaction: &mut Transaction<'_, K>,
     home: DistrictKey,
 ) -> Result<u32, Refusal>
-    requires own { reader.old.cells ≡ cells.now }
-    requires cells { length cells.now ≡ record_count scale.now }
-    requires home { IsDistrictKey scale.now home }
-    ensures next { IfOk result (λ n. (t : Database) → t.scale ≡ scale.now → (s : Database) → MayBe t reads.new s
-        → next_order s home ≡ n) }
-    ensures range { IfOk result (λ n. IsNumber (scale.now.orders + 1) n) }
-    ensures no_stock { (k : StockKeyValue) → IsStockKey scale.now k
-        → held reads.new (number_of_key scale.now (key_variants.Stock k)) ≡ held reads.old (number_of_key scale.now (key_variants.Stock k)) }
-    ensures stale { result ≡ Err Stale → (t : Database) → t.scale ≡ scale.now → NoneMayBe t reads.new }
-    ensures refused { IfErr result (λ refusal. (refusal ≡ OutOfMemory) ⊎ (refusal ≡ Stale)) }
-    ensures keeps { Keeps reads.old reads.new }
-    ensures within { AreWithin (length cells.now) reads.old → AreWithin (length cells.now) reads.new }
-    ensures chain { (first : ReaderView) → AreRead first reader.old reads.old
-        → OnOk result (AreRead first reader.new reads.new) }
-    ensures stale_chain { result ≡ Err Stale → (first : ReaderView)
-        → AreRead first reader.old reads.old → AreRead first reader.new reads.new }
-    ensures grown { HasGrown reader.old reader.new }
-    ensures grown_since { (first : ReaderView) → HasGrown first reader.old → HasGrown first reader.new }
-    ensures limit { length reads.new ≤ length reads.old + 1 }
+    requires { IsDistrictKey K.tables.scale home }
+    ensures next { Finds K.tables transaction.new result (λ next t. next_order t home ≡ next) }
+    ensures range { IfOk result (λ next. IsNumber (K.tables.scale.orders + 1) next) }
+    ensures no_stock { SameStock K.tables.scale transaction.old transaction.new }
+    ensures reads { ReadsMore 1 transaction.old transaction.new }
 {
-    let record = number_of_key(scale, RecordKey::District(home));
-    let version = match reads.get(rt, cells, reader, record) {
-        Ok(version) => version,
-        Err(refusal) => return Err(refusal),
-    };
-    match next_number(&version, scale) {
+    let value = transaction.read(rt, RecordKey::District(home))?;
+    match next_number(value, &transaction.scale()) {
         Some(next) => Ok(next),
         None => Err(Refusal::Stale),
     }
 }
 
-/// D_NEXT_O_ID, by this version of a district. None only where no district of well-formed tables of this scale has it.
-fn next_number(version: &Version, scale: &Scale) -> Option<u32>
-    ensures next { (r : District) → value_of version.now ≡ Some (district_words r)
+/// D_NEXT_O_ID, by what a district's record holds. None only where no district of well-formed tables of this scale
+/// holds it.
+fn next_number(value: Option<[u64; 7]>, scale: &Scale) -> Option<u32>
+    ensures next { (r : District) → value ≡ Some (district_words r)
         → IsNumber (scale.now.orders + 1) r.next_order → result ≡ Some r.next_order }
     ensures range { IfSome result (λ n. IsNumber (scale.now.orders + 1) n) }
 {
-    let next = value_of(version)?[1];
+    let next = value?[1];
     if next == 0 || next > u64::from(scale.orders()) + 1 {
         return None;
     }
@@ -92,36 +65,21 @@ fn next_number(version: &Version, scale: &Scale) -> Option<u32>
 /// # Errors
 ///
 /// `Stale` only where no tables at which the transaction may have read have the versions read; `OutOfMemory`.
-pub(crate) fn sold_items<R: Wait>(
+pub(crate) fn sold_items<R: Wait, K: Start>(
     rt: &R,
     alloc: Global,
-    cells: &Cells,
-    reader: &mut Reader,
-    reads: &mut ReadSet,
-    scale: &Scale,
+    transaction: &mut Transaction<'_, K>,
     home: DistrictKey,
     next: u32,
 ) -> Result<Vec<u32>, Refusal>
-    requires own { reader.old.cells ≡ cells.now }
-    requires cells { length cells.now ≡ record_count scale.now }
-    requires home { IsDistrictKey scale.now home }
-    requires next { IsNumber (scale.now.orders + 1) next }
-    ensures sold { IfOk result (λ items. (t : Database) → t.scale ≡ scale.now → (s : Database) → MayBe t reads.new s
-        → next_order s home ≡ next → (i : ℕ) → is_sold s home i ≡ list_any (λ j. j == i) items.items) }
-    ensures items { IfOk result (λ items. All (IsItemKey scale.now) items.items) }
+    requires home { IsDistrictKey K.tables.scale home }
+    requires next { IsNumber (K.tables.scale.orders + 1) next }
+    ensures sold { Finds K.tables transaction.new result (λ items t. next_order t home ≡ next
+        → (i : ℕ) → is_sold t home i ≡ list_any (λ j. j == i) items.items) }
+    ensures items { IfOk result (λ items. All (IsItemKey K.tables.scale) items.items) }
     ensures count { IfOk result (λ items. length items.items ≤ RECENT_ORDERS * MAX_ORDER_LINES) }
-    ensures no_stock { (k : StockKeyValue) → IsStockKey scale.now k
-        → held reads.new (number_of_key scale.now (key_variants.Stock k)) ≡ held reads.old (number_of_key scale.now (key_variants.Stock k)) }
-    ensures stale { result ≡ Err Stale → (t : Database) → t.scale ≡ scale.now → NoneMayBe t reads.new }
-    ensures refused { IfErr result (λ refusal. (refusal ≡ OutOfMemory) ⊎ (refusal ≡ Stale)) }
-    ensures keeps { Keeps reads.old reads.new }
-    ensures within { AreWithin (length cells.now) reads.old → AreWithin (length cells.now) reads.new }
-    ensures chain { (first : ReaderView) → AreRead first reader.old reads.old
-        → OnOk result (AreRead first reader.new reads.new) }
-    ensures stale_chain { result ≡ Err Stale → (first : ReaderView)
-        → AreRead first reader.old reads.old → AreRead first reader.new reads.new }
-    ensures grown_since { (first : ReaderView) → HasGrown first reader.old → HasGrown first reader.new }
-    ensures limit { length reads.new ≤ length reads.old + RECENT_ORDERS * MAX_ORDER_LINES }
+    ensures no_stock { SameStock K.tables.scale transaction.old transaction.new }
+    ensures reads { ReadsMore (RECENT_ORDERS * MAX_ORDER_LINES) transaction.old transaction.new }
 {
     let first = first_recent(next);
     let mut items = Vec::new(alloc);
@@ -131,10 +89,7 @@ pub(crate) fn sold_items<R: Wait>(
             district: home.district,
             order,
         };
-        match order_items(rt, cells, reader, reads, scale, &mut items, key) {
-            Ok(()) => (),
-            Err(refusal) => return Err(refusal),
-        }
+        order_items(rt, transaction, &mut items, key)?;
     }
     Ok(items)
 }
@@ -147,36 +102,22 @@ fn first_recent(next: u32) -> u32
 }
 
 /// Appends the items of an order's lines. Reads the record of each line that it may have, absent ones too.
-fn order_items<R: Wait>(
+fn order_items<R: Wait, K: Start>(
     rt: &R,
-    cells: &Cells,
-    reader: &mut Reader,
-    reads: &mut ReadSet,
-    scale: &Scale,
+    transaction: &mut Transaction<'_, K>,
     items: &mut Vec<u32>,
     order: OrderKey,
 ) -> Result<(), Refusal>
-    requires own { reader.old.cells ≡ cells.now }
-    requires cells { length cells.now ≡ record_count scale.now }
-    requires order { IsOrderKey scale.now order }
-    ensures sold { (t : Database) (first : ℕ) → t.scale ≡ scale.now → first ≤ order.order
-        → AreItems t (home_of order) first order.order 0 reads.old items.old.items
-        → OnOk result (AreItems t (home_of order) first (order.order + 1) 0 reads.new items.new.items) }
-    ensures items { All (IsItemKey scale.now) items.old.items → All (IsItemKey scale.now) items.new.items }
+    requires order { IsOrderKey K.tables.scale order }
+    ensures sold { (first : ℕ) → first ≤ order.order
+        → AreItems K.tables (home_of order) first order.order 0 transaction.old.reads items.old.items
+        → OnOk result (AreItems K.tables (home_of order) first (order.order + 1) 0 transaction.new.reads items.new.items) }
+    ensures items { All (IsItemKey K.tables.scale) items.old.items
+        → All (IsItemKey K.tables.scale) items.new.items }
     ensures count { length items.new.items ≤ length items.old.items + MAX_ORDER_LINES }
-    ensures no_stock { (k : StockKeyValue) → IsStockKey scale.now k
-        → held reads.new (number_of_key scale.now (key_variants.Stock k)) ≡ held reads.old (number_of_key scale.now (key_variants.Stock k)) }
-    ensures stale { result ≡ Err Stale → (t : Database) → t.scale ≡ scale.now → NoneMayBe t reads.new }
-    ensures refused { IfErr result (λ refusal. (refusal ≡ OutOfMemory) ⊎ (refusal ≡ Stale)) }
-    ensures keeps { Keeps reads.old reads.new }
-    ensures within { AreWithin (length cells.now) reads.old → AreWithin (length cells.now) reads.new }
-    ensures chain { (first : ReaderView) → AreRead first reader.old reads.old
-        → OnOk result (AreRead first reader.new reads.new) }
-    ensures stale_chain { result ≡ Err Stale → (first : ReaderView)
-        → AreRead first reader.old reads.old → AreRead first reader.new reads.new }
-    ensures own { reader.new.cells ≡ reader.old.cells }
-    ensures grown_since { (first : ReaderView) → HasGrown first reader.old → HasGrown first reader.new }
-    ensures limit { length reads.new ≤ length reads.old + MAX_ORDER_LINES }
+    ensures no_stock { SameStock K.tables.scale transaction.old transaction.new }
+    ensures refused { IfErr result (IsStepRefusal K.tables transaction.new) }
+    ensures reads { ReadsMore MAX_ORDER_LINES transaction.old transaction.new }
 {
     for done in 0..MAX_ORDER_LINES {
         let key = LineKey {
@@ -185,13 +126,8 @@ fn order_items<R: Wait>(
             order: order.order,
             line: done + 1,
         };
-        let item = match read_item(rt, cells, reader, reads, scale, key) {
-            Ok(item) => item,
-            Err(refusal) => return Err(refusal),
-        };
-        let Ok(()) = push_some(items, item) else {
-            return Err(Refusal::OutOfMemory);
-        };
+        let item = read_item(rt, transaction, key)?;
+        push_some(items, item)?;
     }
     Ok(())
 }
@@ -201,50 +137,27 @@ fn push_some(items: &mut Vec<u32>, item: Option<u32>) -> Result<(), Refusal>
     ensures pushed { OnOk result (items.new.items ≡ items.old.items ++ option_map_or (λ i. i ∷ []) item []) }
     ensures only_memory { IfErr result (λ refusal. (refusal ≡ OutOfMemory) × (items.new.items ≡ items.old.items)) }
 {
-    let Some(item) = item else {
-        return Ok(());
-    };
-    match items.push(item) {
-        Ok(()) => Ok(()),
-        Err(_) => Err(Refusal::OutOfMemory),
+    if let Some(item) = item {
+        items.push(item)?;
     }
+    Ok(())
 }
 
 /// Reads the item of a line, if there is one. Costs a load.
-fn read_item<R: Wait>(
+fn read_item<R: Wait, K: Start>(
     rt: &R,
-    cells: &Cells,
-    reader: &mut Reader,
-    reads: &mut ReadSet,
-    scale: &Scale,
+    transaction: &mut Transaction<'_, K>,
     key: LineKey,
 ) -> Result<Option<u32>, Refusal>
-    requires own { reader.old.cells ≡ cells.now }
-    requires cells { length cells.now ≡ record_count scale.now }
-    requires key { IsLineKey scale.now key }
-    ensures item { IfOk result (λ o. (t : Database) → t.scale ≡ scale.now → (s : Database) → MayBe t reads.new s
-        → option_map (λ r. r.item) (get s.lines key) ≡ o) }
-    ensures range { IfOk result (λ o. ForSome o (λ i. IsItemKey scale.now i)) }
-    ensures no_stock { (k : StockKeyValue) → IsStockKey scale.now k
-        → held reads.new (number_of_key scale.now (key_variants.Stock k)) ≡ held reads.old (number_of_key scale.now (key_variants.Stock k)) }
-    ensures stale { result ≡ Err Stale → (t : Database) → t.scale ≡ scale.now → NoneMayBe t reads.new }
-    ensures refused { IfErr result (λ refusal. (refusal ≡ OutOfMemory) ⊎ (refusal ≡ Stale)) }
-    ensures keeps { Keeps reads.old reads.new }
-    ensures within { AreWithin (length cells.now) reads.old → AreWithin (length cells.now) reads.new }
-    ensures chain { (first : ReaderView) → AreRead first reader.old reads.old
-        → OnOk result (AreRead first reader.new reads.new) }
-    ensures stale_chain { result ≡ Err Stale → (first : ReaderView)
-        → AreRead first reader.old reads.old → AreRead first reader.new reads.new }
-    ensures grown { HasGrown reader.old reader.new }
-    ensures grown_since { (first : ReaderView) → HasGrown first reader.old → HasGrown first reader.new }
-    ensures limit { length reads.new ≤ length reads.old + 1 }
+    requires { IsLineKey K.tables.scale key }
+    ensures item { Finds K.tables transaction.new result
+        (λ item t. option_map (λ r. r.item) (get t.lines key) ≡ item) }
+    ensures range { IfOk result (λ item. ForSome item (λ i. IsItemKey K.tables.scale i)) }
+    ensures no_stock { SameStock K.tables.scale transaction.old transaction.new }
+    ensures reads { ReadsMore 1 transaction.old transaction.new }
 {
-    let record = number_of_key(scale, RecordKey::OrderLine(key));
-    let version = match reads.get(rt, cells, reader, record) {
-        Ok(version) => version,
-        Err(refusal) => return Err(refusal),
-    };
-    match line_item(value_of(&version), scale) {
+    let value = transaction.read(rt, RecordKey::OrderLine(key))?;
+    match line_item(value, &transaction.scale()) {
         Some(item) => Ok(item),
         None => Err(Refusal::Stale),
     }

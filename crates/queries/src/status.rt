@@ -9,13 +9,18 @@ ghost use Rattle.population.specs.Initial.{initial};
 ghost use Rattle.cells.specs.Records.{HasGrown};
 ghost use Rattle.readset.specs.Reads.{ReadSetView, AreRead};
 ghost use Rattle.readset.specs.Explains.{Explains, NoneMayBe, IsWithinLimits};
+ghost use Rattle.readset.specs.Writes.{no_writes};
+ghost use Rattle.readset.specs.Commit.{IsCommitOf};
+ghost use Rattle.readset.specs.Transaction.{Finds, ReadsMore, IsExecuted};
 
 use crate::last_order::{read_balance, read_last, read_order};
 use cells::{Cells, Reader};
 use money::Refusal;
 use population::Population;
-use readset::{ReadSet, Work, WriteSet};
+use readset::{Start, Transaction, Work};
 use std::alloc::Global;
+use std::marker::Brand;
+use std::mem;
 use std::sync::Wait;
 use tables::{
     CustomerKey, DistrictKey, Input, OrderKey, OrderStatusInput, OrderStatusReply, Reply,
@@ -49,38 +54,64 @@ pub fn order_status<R: Wait>(
         ((refusal ≡ Stale) × ((reads : ReadSetView) × AreRead reader.old reader.new reads
         × NoneMayBe (initial population.now) reads))) }
 {
-    let scale = population.scale();
+    let taken = mem::replace(reader, Reader::new(alloc));
+    let (after, work) = run::<Brand, R>(rt, alloc, cells, taken, population, query);
+    *reader = after;
+    work
+}
+
+/// The same of a reader of its own.
+fn run<K: Start, R: Wait>(
+    rt: &R,
+    alloc: Global,
+    cells: &Cells,
+    reader: Reader,
+    population: &Population,
+    query: &OrderStatusInput,
+) -> (Reader, Result<Work, Refusal>)
+    requires input { IsOrderStatus K.tables.scale query.now }
+    requires tables { initial population.now ≡ K.tables }
+    requires reader { reader ≡ K.reader }
+    requires own { reader.cells ≡ cells.now }
+    requires cells { length cells.now ≡ record_count K.tables.scale }
+    ensures { IsExecuted K.tables (input_variants.OrderStatus query.now) K.reader result.0 result.1 }
+{
     let asked = asked_for(population, query);
-    let mut reads = ReadSet::new(alloc);
-    let balance = match read_balance(rt, cells, reader, &mut reads, &scale, asked) {
-        Ok(balance) => balance,
-        Err(refusal) => return Err(refusal),
-    };
-    let number = match read_last(rt, cells, reader, &mut reads, &scale, asked) {
-        Ok(number) => number,
-        Err(refusal) => return Err(refusal),
-    };
+    let mut transaction = Transaction::<K>::begin(alloc, cells, population, reader);
+    let reply = read_reply(rt, alloc, &mut transaction, query, asked);
+    transaction.finish(Input::OrderStatus(*query), reply)
+}
+
+/// Reads what the reply tells: the customer's balance, the number of its last order, and that order.
+fn read_reply<R: Wait, K: Start>(
+    rt: &R,
+    alloc: Global,
+    transaction: &mut Transaction<'_, K>,
+    query: &OrderStatusInput,
+    customer: CustomerKey,
+) -> Result<Reply, Refusal>
+    requires input { IsOrderStatus K.tables.scale query.now }
+    requires asked { customer ≡ asked query.now (asked_number K.tables query.now) }
+    requires key { IsCustomerKey K.tables.scale customer }
+    ensures reply { Finds K.tables transaction.new result
+        (λ reply t. IsCommitOf t (input_variants.OrderStatus query.now) no_writes reply) }
+    ensures reads { ReadsMore 18 transaction.old transaction.new }
+{
+    let balance = read_balance(rt, transaction, customer)?;
+    let order = read_last(rt, transaction, customer)?;
     let key = OrderKey {
         warehouse: query.warehouse,
         district: query.district,
-        order: number,
+        order,
     };
-    let order = match read_order(rt, alloc, cells, reader, &mut reads, &scale, key) {
-        Ok(order) => order,
-        Err(refusal) => return Err(refusal),
-    };
-    Ok(Work {
-        input: Input::OrderStatus(*query),
-        reads,
-        writes: WriteSet::new(alloc),
-        reply: Reply::OrderStatus(OrderStatusReply {
-            warehouse: query.warehouse,
-            district: query.district,
-            customer: asked.customer,
-            balance,
-            order,
-        }),
-    })
+    let order = read_order(rt, alloc, transaction, key)?;
+    Ok(Reply::OrderStatus(OrderStatusReply {
+        warehouse: query.warehouse,
+        district: query.district,
+        customer: customer.customer,
+        balance,
+        order,
+    }))
 }
 
 /// The customer that is asked for.

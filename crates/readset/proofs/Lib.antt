@@ -6,3 +6,4 @@ pub mod WrittenRecords
 mod Lookups
 mod Entries
 mod Loaded
+pub mod UnderWay

@@ -1,10 +1,11 @@
 -- What has been read, after the load of one record more.
-use Rattle.std.proofs.Common.{◌≡◌, ◌≢◌, ℕ, ◌+◌, [], Option, Some, None, cond, Bor, refl, sym, ap, ◌∙◌, subst, ⊎_elim, slice_index}
+use Rattle.std.proofs.Common.{◌≡◌, ◌≢◌, ℕ, ◌+◌, [], Option, Some, None, Result, Ok, Err, IfOk, OnErr, cond, Bor, refl, sym, ap, ◌∙◌, subst, ⊎_elim, slice_index}
 use Rattle.std.proofs.lemmas.Bool.{cases_eq}
 use Rattle.std.proofs.lemmas.List.{get_or-set_other}
 use Rattle.std.specs.Option.{option_copied}
 use Rattle.std.specs.Ordering.{nat_cmp}
 use Rattle.std.specs.BTreeMap.{insert_entry}
+use Rattle.money.specs.declared.refusal.Refusal.{Refusal}
 use Rattle.readset.proofs.Numbers.{same_test, other_test}
 use Rattle.readset.proofs.Lookups.{lookup-insert_entry}
 use Rattle.cells.specs.Versions.{StartsWith, EndsWith}
@@ -62,6 +63,15 @@ load_put first old new reads n v so_far load named absent =
     load_read first old new reads (insert_entry nat_cmp reads n v) n v so_far load named absent
     (lookup-insert_entry n n v reads ∙ ap (λ b. cond b (Some v) (held reads n)) (same_test n n refl))
     (λ m apart. lookup-insert_entry m n v reads ∙ ap (λ b. cond b (Some v) (held reads m)) (other_test m n apart))
+
+-- the same of a load that may have had no memory, when nothing was read
+pub load_chain : (first old new : ReaderView) (reads more : ReadSetView) (n : ℕ) (result : Result Version Refusal) → held reads n ≡ None
+    → IfOk result (λ v. LoadsRecord old new n (words_of v) × (v.record ≡ n)) → IfOk result (λ v. more ≡ insert_entry nat_cmp reads n v)
+    → OnErr result (new ≡ old) → OnErr result (more ≡ reads) → AreRead first old reads → AreRead first new more
+load_chain first old new reads more n (Ok v) absent load put unread kept so_far =
+    subst (AreRead first new) (sym put) (load_put first old new reads n v so_far load.0 load.1 absent)
+load_chain first old new reads more n (Err e) absent load put unread kept so_far =
+    subst (λ (p : ReaderView × ReadSetView). AreRead first p.0 p.1) (λ i. (sym unread i, sym kept i)) so_far
 
 -- a look-up that found nothing
 pub copied_none : {X : Type 0} (o : Option (Bor X)) → ((x : Bor X) → o ≡ Some x → ⊥) → option_copied o ≡ None

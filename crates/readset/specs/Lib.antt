@@ -4,3 +4,4 @@ pub mod Commit
 pub mod Explains
 pub mod Refused
 pub mod Changes
+pub mod Transaction

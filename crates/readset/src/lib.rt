@@ -5,10 +5,12 @@
 pub mod limits;
 mod list;
 mod reads;
+mod transaction;
 mod work;
 mod writes;
 
 pub use list::WriteList;
 pub use reads::{ReadSet, value_of};
+pub use transaction::{Start, Transaction};
 pub use work::Work;
 pub use writes::WriteSet;

@@ -3,6 +3,8 @@ ghost use Rattle.std.specs.Prelude.{◌≡◌, ◌≢◌, ℕ, ◌+◌, ◌<◌,
 ghost use Rattle.std.specs.Option.{option_copied};
 ghost use Rattle.std.specs.Ordering.{nat_cmp};
 ghost use Rattle.std.specs.Map.{keys_of};
+ghost use Rattle.std.specs.BTreeMap.{get, insert_entry, btree_map_len, Updates};
+ghost use Rattle.money.specs.declared.refusal.Refusal.TheVariants.{OutOfMemory};
 ghost use Rattle.std.specs.List.Sorted.{IsStrictlySortedBy};
 ghost use Rattle.readset.specs.Reads.{held, value_of, Keeps, AreWithin, AreRead};
 ghost use Rattle.cells.specs.Records.{ReaderView, LoadsRecord, HasGrown, words_of};
@@ -32,8 +34,6 @@ impl Model for ReadSet {
 }
 
 impl ReadSet {
-    ghost use Rattle.money.specs.declared.refusal.Refusal.TheVariants.{OutOfMemory};
-
     /// Nothing read. Takes no memory.
     pub fn new(alloc: Global) -> ReadSet
         ensures { result ≡ [] }
@@ -48,7 +48,7 @@ impl ReadSet {
     ///
     /// # Errors
     ///
-    /// `OutOfMemory`, and no other. The versions held are then as before; the reader may have loaded.
+    /// `OutOfMemory`, and no other. The versions held are then as before, and nothing was loaded.
     pub fn get<R: Wait>(
         &mut self,
         rt: &R,
@@ -69,8 +69,9 @@ impl ReadSet {
         ensures keeps { Keeps self.old self.new }
         ensures within { AreWithin (length cells.now) self.old → AreWithin (length cells.now) self.new }
         ensures kept { OnErr result (self.new ≡ self.old) }
+        ensures unread { OnErr result (reader.new ≡ reader.old) }
         ensures chain { (first : ReaderView) → AreRead first reader.old self.old
-            → OnOk result (AreRead first reader.new self.new) }
+            → AreRead first reader.new self.new }
         ensures grown { HasGrown reader.old reader.new }
         ensures grown_since { (first : ReaderView) → HasGrown first reader.old
             → HasGrown first reader.new }
@@ -79,11 +80,7 @@ impl ReadSet {
         if let Some(version) = self.versions.get(&number) {
             return Ok(*version);
         }
-        let version = &cells.read(rt, reader, number);
-        match self.versions.insert(number, *version) {
-            Ok(_) => Ok(*version),
-            Err(_) => Err(Refusal::OutOfMemory),
-        }
+        load(rt, cells, reader, &mut self.versions, number)
     }
 
     /// The version held of a record. Costs the logarithm of the number of records held.
@@ -101,6 +98,34 @@ impl ReadSet {
     {
         self.versions.iter()
     }
+}
+
+/// Loads a record's version into a place that is made for it first: what was loaded is held.
+fn load<R: Wait>(
+    rt: &R,
+    cells: &Cells,
+    reader: &mut Reader,
+    versions: &mut BTreeMap<u32, Version>,
+    number: u32,
+) -> Result<Version, Refusal>
+    requires own { reader.old.cells ≡ cells.now }
+    requires is_record { number < length cells.now }
+    requires absent { get nat_cmp versions.old number ≡ None }
+    ensures read { IfOk result (λ v. LoadsRecord reader.old reader.new number (words_of v)
+        × (v.record ≡ number)) }
+    ensures entries { IfOk result (λ v. versions.new.entries
+        ≡ insert_entry nat_cmp versions.old.entries number v) }
+    ensures updates { IfOk result (λ v. Updates nat_cmp versions.old versions.new number (Some v)) }
+    ensures count { OnOk result (btree_map_len versions.new ≡ btree_map_len versions.old + 1) }
+    ensures grown { HasGrown reader.old reader.new }
+    ensures unread { OnErr result (reader.new ≡ reader.old) }
+    ensures kept { OnErr result (versions.new.entries ≡ versions.old.entries) }
+    ensures only_memory { IfErr result (λ refusal. refusal ≡ OutOfMemory) }
+{
+    let entry = versions.entry(number)?;
+    let version = &cells.read(rt, reader, number);
+    entry.or_insert(*version);
+    Ok(*version)
 }
 
 /// What a version says that its record holds: its words, or nothing where it is absent. Takes constant time.

@@ -1,77 +1,34 @@
-use Rattle.std.proofs.Common.{◌≡◌, ℕ, ◌+◌, ◌-◌, Option, IsSome, sym, ap, ◌∙◌, subst, arith}
-use Rattle.tables.specs.Records.{number_of_key}
+use Rattle.std.proofs.Common.{◌≡◌, ℕ, ◌+◌, ◌-◌, Option, sym, ap, ◌∙◌, subst, arith}
 use Rattle.tables.specs.Delivery.{waiting}
-use Rattle.tables.specs.declared.keys.DistrictKey.{DistrictKey}
 use Rattle.tables.specs.declared.delivery.DeliveredOrder.{DeliveredOrder}
-use Rattle.tables.specs.declared.records.RecordKey.TheVariants as key
-use Rattle.readset.specs.Reads.{held}
-use Rattle.readset.proofs.MoreReads.{may_be_before, keeps_twice}
-use Rattle.delivery.specs.Steps.{next_home}
-use Rattle.delivery.proofs.Ended.{none_to_do, done_with_more, waits_at}
-use Rattle.delivery.proofs.RowsRead.{never_some}
-use Rattle.delivery.proofs.SameRefusal.{same_refusal}
+use Rattle.readset.proofs.UnderWay.{goes_on, goes_on_twice, may_be_then}
+use Rattle.delivery.specs.Steps.{AreDone}
+use Rattle.delivery.proofs.Ended.{none_to_do, done_with_more}
 use Rattle.delivery.proofs.districts.deliver_district.Goals as goal
 
-pub returns-in-Err-clause-stale : goal.returns-in-Err-clause-stale
-returns-in-Err-clause-stale g c = λ stale. c.in-Err.ensures.stale (same_refusal _ _ stale)
-
-pub returns-in-Err-clause-stale_chain : goal.returns-in-Err-clause-stale_chain
-returns-in-Err-clause-stale_chain g c = λ stale. c.in-Err.ensures.stale_chain (same_refusal _ _ stale)
-
 pub returns-in_default-clause-done : goal.returns-in_default-clause-done
-returns-in_default-clause-done g c = λ t n scale next start.
-    none_to_do t c.args.delivery.now n c.args.reads.now c.read_waiting.new.reads c.args.writes.now start c.read_waiting.ensures.keeps
-    (λ s h. ap (λ d. waiting s (record { warehouse = c.args.delivery.now.warehouse; district = d })) (sym next) ∙ (c.in-Ok.ensures.waits t scale s h).0 ∙ never_some c.in-Ok.order c.in_default.not-Some)
-
-pub returns-in-Ok-deliver_order-clause-done : goal.returns-in-Ok-deliver_order-clause-done
-returns-in-Ok-deliver_order-clause-done g c = λ t n scale next start.
+returns-in_default-clause-done g c =
     let x = c.args.delivery.now in
-    let home : ◌≡◌ {A = DistrictKey} (record { warehouse = x.warehouse; district = c.args.district }) (next_home x n) = λ i. record { warehouse = x.warehouse; district = next i } in
-    c.in-Ok-deliver_order.ensures.done t n scale (λ i. record { warehouse = x.warehouse; district = next i; order = c.in-Some.number })
-    (subst (λ (h : DistrictKey). IsSome (held c.read_waiting.new.reads (number_of_key c.args.scale.now (key.Oldest h)))) home c.in-Ok.ensures.holds)
-    (λ s h. let w = c.in-Ok.ensures.waits t scale s h in waits_at s x n c.in-Some.number (record { warehouse = x.warehouse; district = c.args.district }) home (w.0 ∙ c.in-Some.is) w.1)
-    (done_with_more t x n c.args.reads.now c.read_waiting.new.reads c.args.writes.now start c.read_waiting.ensures.keeps)
+    let next : c.args.district ≡ c.args.district - 1 + 1 = omega (arith, c.requires.district.0) in
+    subst (λ n. AreDone g.K.Start.tables x n c.read_waiting.new.transaction) (sym next)
+    (none_to_do g.K.Start.tables x (c.args.district - 1) c.args.transaction.now c.read_waiting.new.transaction 2 c.requires.done c.read_waiting.ensures.reads
+    (λ t h. ap (λ d. waiting t (record { warehouse = x.warehouse; district = d })) (sym next) ∙ (c.in_ok-number.ensures.waits t h).0 ∙ c.in_default.is))
 
-pub returns-in-Ok-deliver_order-clause-told : goal.returns-in-Ok-deliver_order-clause-told
-returns-in-Ok-deliver_order-clause-told g c = λ t scale s h.
-    let w = c.in-Ok.ensures.waits t scale s (may_be_before t c.read_waiting.new.reads c.deliver_order.new.reads s c.deliver_order.ensures.keeps h) in
-    ap {B = DeliveredOrder} (λ (o : Option ℕ). record { district = c.args.district; order = o }) (sym (w.0 ∙ c.in-Some.is))
+pub deliver_order-requires-clause-done : goal.deliver_order-requires-clause-done
+deliver_order-requires-clause-done g c =
+    done_with_more g.K.Start.tables c.args.delivery.now (c.args.district - 1) c.args.transaction.now c.read_waiting.new.transaction 2 c.requires.done c.read_waiting.ensures.reads
 
-pub returns-in-Ok-deliver_order-clause-keeps : goal.returns-in-Ok-deliver_order-clause-keeps
-returns-in-Ok-deliver_order-clause-keeps g c = keeps_twice c.args.reads.now c.read_waiting.new.reads c.deliver_order.new.reads c.read_waiting.ensures.keeps c.deliver_order.ensures.keeps
+pub returns-in_err-deliver_order-clause-goes_on : goal.returns-in_err-deliver_order-clause-goes_on
+returns-in_err-deliver_order-clause-goes_on g c =
+    goes_on_twice c.args.transaction.now c.read_waiting.new.transaction c.deliver_order.new.transaction 2 0 18 19 20 19
+    (goes_on 2 0 c.args.transaction.now c.read_waiting.new.transaction c.read_waiting.ensures.reads) c.deliver_order.ensures.goes_on (omega arith) (omega arith)
 
-pub returns-in-Ok-deliver_order-clause-within : goal.returns-in-Ok-deliver_order-clause-within
-returns-in-Ok-deliver_order-clause-within g c = λ before. c.deliver_order.ensures.within (c.read_waiting.ensures.within before)
+pub returns-clause-told : goal.returns-clause-told
+returns-clause-told g c = λ t h.
+    let waits = c.in_ok-number.ensures.waits t (may_be_then g.K.Start.tables c.read_waiting.new.transaction c.deliver_order.new.transaction 18 19 c.deliver_order.ensures.goes_on t h) in
+    ap {B = DeliveredOrder} (λ (o : Option ℕ). record { district = c.args.district; order = o }) (sym (waits.0 ∙ c.in-Some.is))
 
-pub returns-in-Ok-deliver_order-clause-chain : goal.returns-in-Ok-deliver_order-clause-chain
-returns-in-Ok-deliver_order-clause-chain g c = λ first start. c.in-Ok-deliver_order.ensures.chain first (c.in-Ok.ensures.chain first start)
-
-pub returns-in-Ok-deliver_order-clause-grown : goal.returns-in-Ok-deliver_order-clause-grown
-returns-in-Ok-deliver_order-clause-grown g c = c.deliver_order.ensures.grown_since c.args.reader.now c.read_waiting.ensures.grown
-
-pub returns-in-Ok-deliver_order-clause-grown_since : goal.returns-in-Ok-deliver_order-clause-grown_since
-returns-in-Ok-deliver_order-clause-grown_since g c = λ first start. c.deliver_order.ensures.grown_since first (c.read_waiting.ensures.grown_since first start)
-
-pub returns-in-Err-deliver_order-clause-stale : goal.returns-in-Err-deliver_order-clause-stale
-returns-in-Err-deliver_order-clause-stale g c = λ stale t scale.
-    let x = c.args.delivery.now in
-    let n = c.args.district - 1 in
-    let next : c.args.district ≡ n + 1 = omega (arith, c.requires.district.0) in
-    let home : ◌≡◌ {A = DistrictKey} (record { warehouse = x.warehouse; district = c.args.district }) (next_home x n) = λ i. record { warehouse = x.warehouse; district = next i } in
-    c.in-Err-deliver_order.ensures.stale (same_refusal _ _ stale) t n scale (λ i. record { warehouse = x.warehouse; district = next i; order = c.in-Some.number })
-    (λ s h. let w = c.in-Ok.ensures.waits t scale s h in waits_at s x n c.in-Some.number (record { warehouse = x.warehouse; district = c.args.district }) home (w.0 ∙ c.in-Some.is) w.1)
-
-pub returns-in-Err-deliver_order-clause-keeps : goal.returns-in-Err-deliver_order-clause-keeps
-returns-in-Err-deliver_order-clause-keeps g c = keeps_twice c.args.reads.now c.read_waiting.new.reads c.deliver_order.new.reads c.read_waiting.ensures.keeps c.deliver_order.ensures.keeps
-
-pub returns-in-Err-deliver_order-clause-within : goal.returns-in-Err-deliver_order-clause-within
-returns-in-Err-deliver_order-clause-within g c = λ before. c.deliver_order.ensures.within (c.read_waiting.ensures.within before)
-
-pub returns-in-Err-deliver_order-clause-stale_chain : goal.returns-in-Err-deliver_order-clause-stale_chain
-returns-in-Err-deliver_order-clause-stale_chain g c = λ stale first start. c.in-Err-deliver_order.ensures.stale_chain (same_refusal _ _ stale) first (c.in-Ok.ensures.chain first start)
-
-pub returns-in-Err-deliver_order-clause-grown : goal.returns-in-Err-deliver_order-clause-grown
-returns-in-Err-deliver_order-clause-grown g c = c.deliver_order.ensures.grown_since c.args.reader.now c.read_waiting.ensures.grown
-
-pub returns-in-Err-deliver_order-clause-grown_since : goal.returns-in-Err-deliver_order-clause-grown_since
-returns-in-Err-deliver_order-clause-grown_since g c = λ first start. c.deliver_order.ensures.grown_since first (c.read_waiting.ensures.grown_since first start)
+pub returns-clause-goes_on : goal.returns-clause-goes_on
+returns-clause-goes_on g c =
+    goes_on_twice c.args.transaction.now c.read_waiting.new.transaction c.deliver_order.new.transaction 2 0 18 19 20 19
+    (goes_on 2 0 c.args.transaction.now c.read_waiting.new.transaction c.read_waiting.ensures.reads) c.deliver_order.ensures.goes_on (omega arith) (omega arith)

@@ -1,29 +1,26 @@
-use Rattle.std.proofs.Common.{◌≡◌, ◌+◌, ℤ, refl, sym, ◌∙◌, subst, arith}
+use Rattle.std.proofs.Common.{◌≡◌, ◌+◌, ◌-◌, ℤ, sym, subst, arith}
 use Rattle.std.proofs.lemmas.Int.{ints}
+use Rattle.readset.proofs.UnderWay.{goes_on_twice}
 use Rattle.delivery.specs.Steps.{AreDated}
 use Rattle.delivery.proofs.lines.date_lines.Goals as goal
 
-pub returns-in-Err-clause-stale_chain : goal.returns-in-Err-clause-stale_chain
-returns-in-Err-clause-stale_chain g c = λ stale first start. c.in-Err.ensures.stale_chain stale first (c.loop-done.invariant.chain first start)
-
-pub returns-in-Err-clause-grown_since : goal.returns-in-Err-clause-grown_since
-returns-in-Err-clause-grown_since g c = λ first start. c.in-Err.ensures.grown_since first (c.loop-done.invariant.grown first start)
-
 pub loop-done-preserved : goal.loop-done-preserved
-loop-done-preserved g c = record {
-  own = c.in-Ok.ensures.grown.cells ∙ c.loop-done.invariant.own;
-  dated = λ t x n scale named day start.
-      subst (λ (s : ℤ). AreDated t x n c.args.order.order (c.loop-done.done + 1) c.date_line.new.reads c.date_line.new.writes s) (sym c.add-sum.ensures)
-      (c.in-Ok.ensures.dated t x n c.loop-done.done c.loop-done.sum scale named day refl (c.loop-done.invariant.dated t x n scale named day start));
-  range = let low = c.in-Ok.ensures.range in let so_far = c.loop-done.invariant.range in (omega (arith, ints, low.0, so_far.0, c.add-sum.ensures), omega (arith, ints, low.1, so_far.1, c.add-sum.ensures));
-  within = λ before. c.in-Ok.ensures.within (c.loop-done.invariant.within before);
-  keeps = λ n v found. c.in-Ok.ensures.keeps n v (c.loop-done.invariant.keeps n v found);
-  chain = λ first start. c.in-Ok.ensures.chain first (c.loop-done.invariant.chain first start);
-  grown = λ first start. c.in-Ok.ensures.grown_since first (c.loop-done.invariant.grown first start);
-  limit = omega (arith, c.in-Ok.ensures.limit, c.loop-done.invariant.limit);
-}
+loop-done-preserved g c =
+    let i = c.loop-done.invariant in
+    let k = c.args.order in
+    let x = c.args.delivery.now in
+    let t0 = g.K.Start.tables in
+    let done = c.loop-done.done in
+    let before : done ≡ done + 1 - 1 = omega arith in
+    let low = c.in_ok-amount.ensures.range in
+    record {
+      dated = subst (λ (s : ℤ). AreDated t0 x (k.district - 1) k.order (done + 1) c.date_line.new.transaction s) (sym c.add-sum.ensures)
+          (c.in_ok-amount.ensures.dated c.loop-done.sum (subst (λ m. AreDated t0 x (k.district - 1) k.order m c.loop-done.transaction c.loop-done.sum) before i.dated));
+      range = (omega (arith, ints, low.0, i.range.0, c.add-sum.ensures), omega (arith, ints, low.1, i.range.1, c.add-sum.ensures));
+      goes_on = goes_on_twice c.args.transaction.now c.loop-done.transaction c.date_line.new.transaction done done 1 1 (done + 1) (done + 1) i.goes_on c.date_line.ensures.goes_on (omega arith) (omega arith);
+    }
 
 pub returns-clause-dated : goal.returns-clause-dated
-returns-clause-dated g c = λ t x n scale named day start.
+returns-clause-dated g c =
     let all : c.loop-done.done ≡ c.args.count = omega (arith, c.loop-done.auto.done-end, c.loop-done-test.false) in
-    subst (λ m. AreDated t x n c.args.order.order m c.loop-done.reads c.loop-done.writes c.loop-done.sum) all (c.loop-done.invariant.dated t x n scale named day start)
+    subst (λ m. AreDated g.K.Start.tables c.args.delivery.now (c.args.order.district - 1) c.args.order.order m c.loop-done.transaction c.loop-done.sum) all c.loop-done.invariant.dated

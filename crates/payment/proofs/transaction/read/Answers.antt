@@ -1,19 +1,18 @@
-use Rattle.std.proofs.Common.{subst, sym}
-use Rattle.readset.specs.Reads.{ReadSetView, AreRead}
-use Rattle.readset.proofs.MoreReads.{nothing_read}
+use Rattle.std.proofs.Common.{arith}
+use Rattle.readset.proofs.UnderWay.{reads_twice, may_be_still}
 use Rattle.payment.proofs.transaction.read.Goals as goal
 
-pub returns-clause-read : goal.returns-clause-read
-returns-clause-read g c =
-    let first = c.args.reader.now in
-    let start : AreRead first first c.args.reads.now = subst (λ (r : ReadSetView). AreRead first first r) (sym c.requires.none) (nothing_read first) in
-    c.in_ok-customer.ensures.chain first (c.in_ok-district.ensures.chain first (c.in_ok-warehouse.ensures.chain first start))
+pub returns-clause-found : goal.returns-clause-found
+returns-clause-found g c = λ t h.
+    let t0 = g.K.Start.tables in
+    let before = may_be_still t0 c.read-2.new.self c.read-3.new.self 1 c.read-3.ensures.reads t h in
+    record {
+      warehouse = c.in_ok-warehouse.ensures.words t (may_be_still t0 c.read.new.self c.read-2.new.self 1 c.read-2.ensures.reads t before);
+      district = c.in_ok-district.ensures.words t before;
+      customer = c.in_ok-customer.ensures.words t h;
+    }
 
-pub returns-in_err-district-clause-grown : goal.returns-in_err-district-clause-grown
-returns-in_err-district-clause-grown g c = c.get-2.ensures.grown_since c.args.reader.now c.get.ensures.grown
-
-pub returns-in_err-customer-clause-grown : goal.returns-in_err-customer-clause-grown
-returns-in_err-customer-clause-grown g c = c.get-3.ensures.grown_since c.args.reader.now (c.get-2.ensures.grown_since c.args.reader.now c.get.ensures.grown)
-
-pub returns-clause-grown : goal.returns-clause-grown
-returns-clause-grown g c = c.get-3.ensures.grown_since c.args.reader.now (c.get-2.ensures.grown_since c.args.reader.now c.get.ensures.grown)
+pub returns-clause-reads : goal.returns-clause-reads
+returns-clause-reads g c =
+    reads_twice c.args.transaction.now c.read-2.new.self c.read-3.new.self 2 1 3
+    (reads_twice c.args.transaction.now c.read.new.self c.read-2.new.self 1 1 2 c.read.ensures.reads c.read-2.ensures.reads (omega arith)) c.read-3.ensures.reads (omega arith)

@@ -4,62 +4,46 @@ use Rattle.std.specs.List.{list_any, range_with_len}
 use Rattle.tables.specs.Keys.{IsItemKey}
 use Rattle.tables.specs.StockLevel.{is_low}
 use Rattle.readset.specs.Reads.{held}
-use Rattle.readset.proofs.MoreReads.{may_be_before}
+use Rattle.readset.proofs.UnderWay.{reads_none, reads_twice, may_be_still}
 use Rattle.queries.specs.LowStock.{stock_number}
 use Rattle.queries.proofs.Counted.{none_counted, held_after, counted_after}
 use Rattle.queries.proofs.low_stock.count_low.Goals as goal
 
 pub loop-item-init : goal.loop-item-init
 loop-item-init g c = record {
-  own = c.requires.own;
-  held_once = λ i is. ap is_some (c.requires.no_stock i is);
-  counted = λ t scale s h. none_counted 1 c.args.scale.now.items;
+  read_once = λ i is. ap is_some (c.requires.no_stock i is);
+  counted = λ t h. none_counted 1 g.K.Start.tables.scale.items;
   few = omega arith;
-  within = λ before. before;
-  keeps = λ n v found. found;
-  chain = λ first start. start;
-  grown = λ first start. start;
-  limit = omega arith;
+  reads = reads_none _ c.args.transaction.now;
 }
-
-pub returns-in-Err-clause-keeps : goal.returns-in-Err-clause-keeps
-returns-in-Err-clause-keeps g c = λ n v found. c.in-Err.ensures.keeps n v (c.loop-item.invariant.keeps n v found)
-
-pub returns-in-Err-clause-within : goal.returns-in-Err-clause-within
-returns-in-Err-clause-within g c = λ before. c.in-Err.ensures.within (c.loop-item.invariant.within before)
-
-pub returns-in-Err-clause-stale_chain : goal.returns-in-Err-clause-stale_chain
-returns-in-Err-clause-stale_chain g c = λ stale first start. c.in-Err.ensures.stale_chain stale first (c.loop-item.invariant.chain first start)
-
-pub returns-in-Err-clause-grown_since : goal.returns-in-Err-clause-grown_since
-returns-in-Err-clause-grown_since g c = λ first start. c.in-Err.ensures.grown_since first (c.loop-item.invariant.grown first start)
 
 pub loop-item-preserved : goal.loop-item-preserved
 loop-item-preserved g c =
+    let i = c.loop-item.invariant in
+    let t0 = g.K.Start.tables in
+    let query = c.args.query.now in
     let at = c.loop-item.item-index in
     let items = c.args.items.now in
     let item = get_or items at 0 in
-    let is_item : IsItemKey c.args.scale.now item = c.requires.items at 0 c.loop-item-test.true in
+    let old = c.loop-item.transaction in
+    let new = c.count_once.new.transaction in
+    let more = c.count_once.ensures.reads in
+    let is_item : IsItemKey t0.scale item = c.requires.items at 0 c.loop-item-test.true in
     record {
-      own = c.in-Ok.ensures.own ∙ c.loop-item.invariant.own;
-      held_once = λ i is. held_after items at c.loop-item-test.true i (is_some (held c.loop-item.reads (stock_number c.args.scale.now c.args.query.now i))) (is_some (held c.count_once.new.reads (stock_number c.args.scale.now c.args.query.now i)))
-          (c.loop-item.invariant.held_once i is) (λ same. subst (λ (j : ℕ). is_some (held c.count_once.new.reads (stock_number c.args.scale.now c.args.query.now j)) ≡ true) (sym same) c.in-Ok.ensures.holds)
-          (λ apart. ap is_some (c.in-Ok.ensures.others i is apart));
-      counted = λ t scale s h.
-          let low : ℕ → Bool = λ i. is_low s c.args.query.now.warehouse c.args.query.now.threshold i in
-          let so_far = c.loop-item.invariant.counted t scale s (may_be_before t c.loop-item.reads c.count_once.new.reads s c.count_once.ensures.keeps h) in
-          let one = ap {B = ℕ} (λ b. cond b 0 (cond (low item) 1 0)) (sym (c.loop-item.invariant.held_once item is_item)) ∙ c.in-Ok.ensures.low t scale s h in
-          counted_after items at c.loop-item-test.true low c.args.scale.now.items is_item.0 is_item.1 ∙ (λ i. so_far i + one i);
-      few = omega (arith, c.in-Ok.ensures.range, c.loop-item.invariant.few);
-      within = λ before. c.in-Ok.ensures.within (c.loop-item.invariant.within before);
-      keeps = λ n v found. c.in-Ok.ensures.keeps n v (c.loop-item.invariant.keeps n v found);
-      chain = λ first start. c.in-Ok.ensures.chain first (c.loop-item.invariant.chain first start);
-      grown = λ first start. c.in-Ok.ensures.grown_since first (c.loop-item.invariant.grown first start);
-      limit = omega (arith, c.in-Ok.ensures.limit, c.loop-item.invariant.limit);
+      read_once = λ j is. held_after items at c.loop-item-test.true j (is_some (held old.reads (stock_number t0.scale query j))) (is_some (held new.reads (stock_number t0.scale query j)))
+          (i.read_once j is) (λ same. subst (λ (k : ℕ). is_some (held new.reads (stock_number t0.scale query k)) ≡ true) (sym same) c.in_ok-low.ensures.holds)
+          (λ apart. ap is_some (c.count_once.ensures.others j is apart));
+      counted = λ t h.
+          let low : ℕ → Bool = λ j. is_low t query.warehouse query.threshold j in
+          let so_far = i.counted t (may_be_still t0 old new 1 more t h) in
+          let one = ap {B = ℕ} (λ b. cond b 0 (cond (low item) 1 0)) (sym (i.read_once item is_item)) ∙ c.in_ok-low.ensures.low t h in
+          counted_after items at c.loop-item-test.true low t0.scale.items is_item.0 is_item.1 ∙ (λ j. so_far j + one j);
+      few = omega (arith, c.in_ok-low.ensures.range, i.few);
+      reads = reads_twice c.args.transaction.now old new at 1 (at + 1) i.reads more (omega arith);
     }
 
 pub returns-clause-low : goal.returns-clause-low
-returns-clause-low g c = λ t scale s h.
+returns-clause-low g c = λ t h.
     let all = take_all c.loop-item.item-index c.args.items.now (omega (arith, c.loop-item-test.false)) in
-    subst (λ (items : List ℕ). length (filter (λ i. list_any (λ j. j == i) items && is_low s c.args.query.now.warehouse c.args.query.now.threshold i) (range_with_len 1 c.args.scale.now.items)) ≡ c.loop-item.low) all
-    (c.loop-item.invariant.counted t scale s h)
+    subst (λ (items : List ℕ). length (filter (λ i. list_any (λ j. j == i) items && is_low t c.args.query.now.warehouse c.args.query.now.threshold i) (range_with_len 1 g.K.Start.tables.scale.items)) ≡ c.loop-item.low) all
+    (c.loop-item.invariant.counted t h)

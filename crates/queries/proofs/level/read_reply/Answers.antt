@@ -1,0 +1,36 @@
+use Rattle.std.proofs.Common.{◌≡◌, ℕ, ◌==◌, ◌&&◌, List, length, filter, ap, ◌∙◌, subst}
+use Rattle.std.specs.List.{list_any, range_with_len}
+use Rattle.tables.specs.Records.{number_of_key}
+use Rattle.tables.specs.Database.{Database}
+use Rattle.tables.specs.StockLevel.{is_sold, is_low}
+use Rattle.tables.specs.declared.keys.DistrictKey.{DistrictKey}
+use Rattle.tables.specs.declared.keys.StockKey.{StockKey}
+use Rattle.tables.specs.declared.records.RecordKey.TheVariants as key
+use Rattle.readset.specs.Reads.{ReadSetView, held}
+use Rattle.readset.specs.Explains.{MayBe}
+use Rattle.readset.proofs.UnderWay.{may_be_still}
+use Rattle.queries.proofs.LevelExplained.{explains}
+use Rattle.queries.proofs.level.read_reply.Goals as goal
+
+pub count_low-requires-clause-no_stock : goal.count_low-requires-clause-no_stock
+count_low-requires-clause-no_stock g c = λ i is.
+    let k : StockKey = record { warehouse = c.args.query.now.warehouse; item = i } in
+    let home = c.requires.input.warehouse in
+    c.sold_items.ensures.no_stock k (home, is) ∙ c.read_next_order.ensures.no_stock k (home, is)
+    ∙ ap (λ (r : ReadSetView). held r (number_of_key g.K.Start.tables.scale (key.Stock k))) c.requires.none
+
+pub returns-clause-reply : goal.returns-clause-reply
+returns-clause-reply g c =
+    let t0 = g.K.Start.tables in
+    let x = c.args.query.now in
+    let first = c.read_next_order.new.transaction in
+    let second = c.sold_items.new.transaction in
+    let last = c.count_low.new.transaction in
+    let home : DistrictKey = record { warehouse = x.warehouse; district = x.district } in
+    let items : List ℕ = c.in_ok-items.items.items in
+    let sold : (t : Database) → MayBe t0 last.reads t → (i : ℕ) → is_sold t home i ≡ list_any (λ j. j == i) items = λ t h.
+    let before = may_be_still t0 second last _ c.count_low.ensures.reads t h in
+    c.in_ok-items.ensures.sold t before (c.in_ok-next.ensures.next t (may_be_still t0 first second _ c.sold_items.ensures.reads t before)) in
+    let counted : (t : Database) → MayBe t0 last.reads t → length (filter (λ i. list_any (λ j. j == i) items && is_low t x.warehouse x.threshold i) (range_with_len 1 t0.scale.items)) ≡ c.in_ok-low.low = λ t h.
+    subst (λ (xs : List ℕ). length (filter (λ i. list_any (λ j. j == i) xs && is_low t x.warehouse x.threshold i) (range_with_len 1 t0.scale.items)) ≡ c.in_ok-low.low) c.as_slice.ensures.value (c.in_ok-low.ensures.low t h) in
+    explains t0 x last.reads items c.in_ok-low.low sold counted

@@ -1,0 +1,67 @@
+-- A transaction under way (Silo, section 4.4): what it has read and is to write so far, and what its steps say.
+use Rattle.std.specs.Prelude.{◌≡◌, ◌⊎◌, ℕ, ◌+◌, ◌≤◌, ⊤, Result, Ok, Err, IfOk, IfErr, length}
+use Rattle.money.specs.declared.refusal.Refusal.{Refusal}
+use Rattle.money.specs.declared.refusal.Refusal.TheVariants.{OutOfMemory, Stale}
+use Rattle.tables.specs.Database.{Database}
+use Rattle.tables.specs.declared.input.Input.{Input}
+use Rattle.cells.specs.Records.{ReaderView, HasGrown}
+use Rattle.readset.specs.Reads.{ReadSetView, Keeps, AreWithin, AreRead}
+use Rattle.readset.specs.Writes.{WriteSetView}
+use Rattle.readset.specs.Explains.{MayBe, NoneMayBe, Explains, WritesAreRead, IsWithinLimits}
+use Rattle.readset.specs.declared.work.Work.{Work}
+
+-- what contracts see of it
+pub record TransactionView : Type 0 where
+  pub reads : ReadSetView
+  pub writes : WriteSetView
+
+-- what its type keeps, of its reader's state at its start and now: what was read is what the reader's loads gave, of
+-- records that have a cell, and no record is written that wasn't read
+pub record IsUnderWay (start now : ReaderView) (x : TransactionView) : Type 0 where
+  pub read : AreRead start now x.reads
+  pub grown : HasGrown start now
+  pub within : AreWithin (length start.cells) x.reads
+  pub writes_read : WritesAreRead x.writes x.reads
+
+-- a step that reads at most so many records more, and writes none
+pub record ReadsMore (most : ℕ) (old new : TransactionView) : Type 0 where
+  pub keeps : Keeps old.reads new.reads
+  pub limit : length new.reads ≤ length old.reads + most
+  pub writes : new.writes ≡ old.writes
+
+-- steps that read at most so many records more, write at most so many more, and add no HISTORY row
+pub record GoesOn (reads writes : ℕ) (old new : TransactionView) : Type 0 where
+  pub keeps : Keeps old.reads new.reads
+  pub limit : length new.reads ≤ length old.reads + reads
+  pub written : length new.writes.values ≤ length old.writes.values + writes
+  pub history : new.writes.history_row ≡ old.writes.history_row
+
+-- so at all tables at which it may have read
+abbrev pub AtAll : Database → TransactionView → (Database → Type 0) → Type 0
+AtAll t0 x P = (t : Database) → MayBe t0 x.reads t → P t
+
+-- why a step is refused: for want of memory, or since there are no such tables
+abbrev pub IsStepRefusal : Database → TransactionView → Refusal → Type 0
+IsStepRefusal t0 x OutOfMemory = ⊤
+IsStepRefusal t0 x Stale = NoneMayBe t0 x.reads
+IsStepRefusal t0 x _ = ⊥
+
+-- what a step has found is so at all such tables, or it is refused
+abbrev pub Finds : {X : Type 0} → Database → TransactionView → Result X Refusal → (X → Database → Type 0) → Type 0
+Finds t0 x (Ok found) P = AtAll t0 x (P found)
+Finds t0 x (Err refusal) P = IsStepRefusal t0 x refusal
+
+-- how an execution without refusals of its own is refused: for want of memory, or since there are no tables at which it
+-- may have read
+abbrev pub IsReadRefusal : Database → ReaderView → ReaderView → Refusal → Type 0
+IsReadRefusal t0 old new refusal =
+    (refusal ≡ OutOfMemory) ⊎ ((refusal ≡ Stale) × ((reads : ReadSetView) × AreRead old new reads × NoneMayBe t0 reads))
+
+-- an execution of this input, from one state of its reader to another
+pub record IsExecuted (t0 : Database) (x : Input) (old new : ReaderView) (result : Result Work Refusal) : Type 0 where
+  pub input : IfOk result (λ work. work.input ≡ x)
+  pub read : IfOk result (λ work. AreRead old new work.reads)
+  pub explains : IfOk result (λ work. Explains t0 x work.reads work.writes work.reply)
+  pub limits : IfOk result (λ work. IsWithinLimits (length old.cells) work.reads work.writes)
+  pub grown : HasGrown old new
+  pub refused : IfErr result (IsReadRefusal t0 old new)

@@ -1,0 +1,215 @@
+//! A transaction under way, from its first read to its work.
+ghost use Rattle.std.specs.Prelude.{◌≡◌, ◌≢◌, ◌≤◌, ℕ, [], Some, IsSome, is_some, length, OnOk, OnErr, IfErr};
+ghost use Rattle.money.specs.declared.refusal.Refusal.TheVariants.{OutOfMemory};
+ghost use Rattle.tables.specs.Database.{Database};
+ghost use Rattle.tables.specs.Records.{IsRecordKey, number_of_key, record_count};
+ghost use Rattle.tables.specs.Rows.{row_at};
+ghost use Rattle.population.specs.Initial.{initial};
+ghost use Rattle.cells.specs.Records.{ReaderView};
+ghost use Rattle.readset.specs.declared.limits.TheConstants.{MAX_READS, MAX_WRITES};
+ghost use Rattle.readset.specs.Reads.{held};
+ghost use Rattle.readset.specs.Writes.{no_writes, puts, left_at};
+ghost use Rattle.readset.specs.Commit.{IsCommitOf};
+ghost use Rattle.readset.specs.Transaction.{ReadsMore, GoesOn, Finds, IsExecuted};
+
+use crate::reads::{ReadSet, value_of};
+use crate::work::Work;
+use crate::writes::WriteSet;
+use cells::{Cells, Reader};
+use money::Refusal;
+use population::Population;
+use std::alloc::Global;
+use std::marker::{Brand, Model, PhantomData};
+use std::sync::Wait;
+use tables::{History, Input, RecordKey, Reply, Scale, number_of_key};
+
+/// Names where one transaction starts: its population's tables, and what its reader knows then.
+pub trait Start {
+    ghost use Rattle.tables.specs.Database.{Database};
+    ghost use Rattle.cells.specs.Records.{ReaderView};
+
+    /// The tables of the population.
+    ghost tables: { Database };
+
+    /// What the reader knows at the start.
+    ghost reader: { ReaderView };
+}
+
+/// Only so that there is one: a call at `Brand` names its own start.
+impl Start for Brand {
+    ghost use Rattle.std.specs.Prelude.{[]};
+    ghost use Rattle.tables.specs.Sizes.{sizes};
+    ghost use Rattle.tables.specs.Database.{empty_database};
+
+    ghost tables = { empty_database (sizes 1 1 10 20 10 1) };
+
+    ghost reader = { record { cells = []; seen = []; loads = [] } };
+}
+
+/// A transaction that reads records, each at most once, and says what they are to hold (Silo, section 4.4). Contracts
+/// see what it has read and is to write so far; the type keeps that this is what its reader's loads gave.
+#[derive(Drop)]
+pub struct Transaction<'a, K: Start> {
+    cells: &'a Cells,
+    population: &'a Population,
+    reader: Reader,
+    reads: ReadSet,
+    writes: WriteSet,
+    start: PhantomData<K>,
+}
+
+impl<'a, K: Start> Model for Transaction<'a, K> {
+    ghost use Rattle.std.specs.Prelude.{◌≡◌, length};
+    ghost use Rattle.tables.specs.Records.{record_count};
+    ghost use Rattle.population.specs.Initial.{initial};
+    ghost use Rattle.readset.specs.Transaction.{TransactionView, IsUnderWay};
+
+    ghost Value = { TransactionView };
+
+    ghost view = { λ x. record { reads = x.reads; writes = x.writes } };
+
+    ghost invariant = { λ x. (initial x.population.now ≡ K.tables) × (x.cells.now ≡ K.reader.cells)
+        × (length x.cells.now ≡ record_count K.tables.scale)
+        × IsUnderWay K.reader x.reader (record { reads = x.reads; writes = x.writes }) };
+}
+
+impl<'a, K: Start> Transaction<'a, K> {
+    /// A transaction that has read nothing. Takes no memory.
+    pub fn begin(
+        alloc: Global,
+        cells: &'a Cells,
+        population: &'a Population,
+        reader: Reader,
+    ) -> Transaction<'a, K>
+        requires tables { initial population.now ≡ K.tables }
+        requires reader { reader ≡ K.reader }
+        requires own { reader.cells ≡ cells.now }
+        requires cells { length cells.now ≡ record_count K.tables.scale }
+        ensures { result ≡ record { reads = []; writes = no_writes } }
+    {
+        Transaction {
+            cells,
+            population,
+            reader,
+            reads: ReadSet::new(alloc),
+            writes: WriteSet::new(alloc),
+            start: PhantomData,
+        }
+    }
+
+    /// The scale of the tables.
+    pub fn scale(&self) -> Scale
+        ensures { result ≡ K.tables.scale }
+    {
+        self.population.scale()
+    }
+
+    /// The population.
+    pub fn population(&self) -> &Population
+        ensures { initial result.now ≡ K.tables }
+    {
+        self.population
+    }
+
+    /// Whether the record was read. Costs the logarithm of the number of records read.
+    pub fn has_read(&self, key: RecordKey) -> bool
+        requires { IsRecordKey K.tables.scale key }
+        ensures { result ≡ is_some (held self.now.reads (number_of_key K.tables.scale key)) }
+    {
+        self.reads.held(number_of_key(&self.scale(), key)).is_some()
+    }
+
+    /// The words of a record, or nothing where it is absent: as it was read before, or else by a load. Costs the
+    /// logarithm of the number of records read.
+    ///
+    /// # Errors
+    ///
+    /// `OutOfMemory`, and no other. Nothing is read then.
+    pub fn read<R: Wait>(&mut self, rt: &R, key: RecordKey) -> Result<Option<[u64; 7]>, Refusal>
+        requires { IsRecordKey K.tables.scale key }
+        ensures words { Finds K.tables self.new result (λ words t. row_at t key ≡ words) }
+        ensures holds { OnOk result (IsSome (held self.new.reads (number_of_key K.tables.scale key))) }
+        ensures others { (n : ℕ) → n ≢ number_of_key K.tables.scale key
+            → held self.new.reads n ≡ held self.old.reads n }
+        ensures reads { ReadsMore 1 self.old self.new }
+        ensures only_memory { IfErr result (λ refusal. refusal ≡ OutOfMemory) }
+    {
+        let number = number_of_key(&self.scale(), key);
+        let version = self.reads.get(rt, self.cells, &mut self.reader, number)?;
+        Ok(value_of(&version))
+    }
+
+    /// What the transaction leaves of a record: what it is to write there, or else what it has read there. Costs the
+    /// logarithms of the numbers of records written and read.
+    pub fn left(&self, key: RecordKey) -> Option<[u64; 7]>
+        requires { IsRecordKey K.tables.scale key }
+        ensures { result ≡ left_at self.now.writes self.now.reads (number_of_key K.tables.scale key) }
+    {
+        self.writes
+            .left(&self.reads, number_of_key(&self.scale(), key))
+    }
+
+    /// Says what a record that was read is to hold, in the place of what was said of it before. Costs the logarithm of
+    /// the number of records written.
+    ///
+    /// # Errors
+    ///
+    /// `OutOfMemory`, and no other. What was said is then as before.
+    pub fn put(&mut self, key: RecordKey, value: Option<[u64; 7]>) -> Result<(), Refusal>
+        requires key { IsRecordKey K.tables.scale key }
+        requires read { IsSome (held self.old.reads (number_of_key K.tables.scale key)) }
+        ensures reads { self.new.reads ≡ self.old.reads }
+        ensures puts { OnOk result (self.new.writes
+            ≡ puts self.old.writes (number_of_key K.tables.scale key) value) }
+        ensures kept { OnErr result (self.new.writes ≡ self.old.writes) }
+        ensures goes_on { GoesOn 0 1 self.old self.new }
+        ensures only_memory { IfErr result (λ refusal. refusal ≡ OutOfMemory) }
+    {
+        let number = number_of_key(&self.scale(), key);
+        self.writes.put(number, value)
+    }
+
+    /// Says which row HISTORY is to get, in the place of the row said before.
+    pub fn put_history_row(&mut self, row: History)
+        ensures { self.new ≡ record {
+          reads = self.old.reads;
+          writes
+              = record { values = self.old.writes.values; history_row = Some row };
+        } }
+    {
+        self.writes.put_history_row(row);
+    }
+
+    /// The reader as it is now, and the work, where the reply was found; else the refusal.
+    pub fn finish(
+        self,
+        input: Input,
+        reply: Result<Reply, Refusal>,
+    ) -> (Reader, Result<Work, Refusal>)
+        requires reply { Finds K.tables self reply (λ told t. IsCommitOf t input self.writes told) }
+        requires reads { length self.reads ≤ MAX_READS }
+        requires writes { length self.writes.values ≤ MAX_WRITES }
+        ensures { IsExecuted K.tables input K.reader result.0 result.1 }
+    {
+        let Transaction {
+            cells: _,
+            population: _,
+            reader,
+            reads,
+            writes,
+            start: _,
+        } = self;
+        match reply {
+            Ok(reply) => (
+                reader,
+                Ok(Work {
+                    input,
+                    reads,
+                    writes,
+                    reply,
+                }),
+            ),
+            Err(refusal) => (reader, Err(refusal)),
+        }
+    }
+}
