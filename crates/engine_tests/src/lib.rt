@@ -22,7 +22,7 @@ mod payment_tests;
 #[cfg(test)]
 mod payments;
 #[cfg(test)]
-mod queries;
+mod query_inputs;
 #[cfg(test)]
 mod query_tests;
 #[cfg(test)]

@@ -7,7 +7,7 @@ use crate::deliveries::delivery;
 use crate::engine::{Executed, both_of, execute_at, parts};
 use crate::new_orders::{five, new_order};
 use crate::payments::payment;
-use crate::queries::{order_status, stock_level};
+use crate::query_inputs::{order_status, stock_level};
 use crate::told::{Told, told_of};
 use book::{Engine, Parts, Run, Seat};
 use money::Refusal;

@@ -6,7 +6,7 @@ ghost use Rattle.population.specs.Initial.{initial};
 use crate::new_orders::order_told;
 use crate::pairs::{Asked, Committed, input_of, outcome_of};
 use crate::payments::payment_told;
-use crate::queries::status_told;
+use crate::query_inputs::status_told;
 use crate::stage::{Stage, open, store};
 use crate::told::{Told, told_of};
 use money::{MAX_MONEY, Refusal};
