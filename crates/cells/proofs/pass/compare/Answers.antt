@@ -1,6 +1,5 @@
-use Rattle.std.proofs.Common.{rules, sym, ◌∙◌}
+use Rattle.std.proofs.Common.{rules}
 use Rattle.cells.proofs.Moves.{hears}
-use Rattle.cells.proofs.Known.{compared_pen}
 use Rattle.cells.proofs.pass.compare.Goals as goal
 
 pub join_pass-requires : goal.join_pass-requires

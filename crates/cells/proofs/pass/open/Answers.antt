@@ -1,5 +1,4 @@
-use Rattle.std.proofs.Common.{[], rules, ap, ◌∙◌, zero-le}
-use Rattle.cells.specs.declared.rule.View.{View}
+use Rattle.std.proofs.Common.{rules}
 use Rattle.cells.proofs.Moves.{begins}
 use Rattle.cells.proofs.pass.open.Goals as goal
 
