@@ -263,22 +263,23 @@ def scales_at_their_limits_are_taken():
 @shows
 def a_scale_outside_its_limits_is_refused():
     scales = [
-        "--warehouses 0",
-        "--warehouses 9",
-        "--districts 0",
-        "--districts 11",
-        "--customers 9",
-        "--customers 3001",
-        "--items 19",
-        "--items 100001",
-        "--customers 10 --orders 9",
-        "--orders 100001",
-        "--commits 0",
-        "--commits 600001",
+        ("--warehouses 0", "--warehouses is 0: it is to be from 1 to 8"),
+        ("--warehouses 9", "--warehouses is 9: it is to be from 1 to 8"),
+        ("--districts 0", "--districts is 0: it is to be from 1 to 10"),
+        ("--districts 11", "--districts is 11: it is to be from 1 to 10"),
+        ("--customers 9", "--customers is 9: it is to be from 10 to 3000"),
+        ("--customers 3001", "--customers is 3001: it is to be from 10 to 3000"),
+        ("--items 19", "--items is 19: it is to be from 20 to 100000"),
+        ("--items 100001", "--items is 100001: it is to be from 20 to 100000"),
+        ("--customers 10 --orders 9", "--orders is 9: it is to be from 10 (the customers) to 100000"),
+        ("--orders 100001", "--orders is 100001: it is to be from 100 (the customers) to 100000"),
+        ("--commits 0", "--commits is 0: it is to be from 1 to 600000"),
+        ("--commits 4294967295", "--commits is 4294967295: it is to be from 1 to 600000"),
+        ("--commits 600001 --items 1", "--items is 1: it is to be from 20 to 100000"),
     ]
-    for words in scales:
+    for words, detail in scales:
         ran = run(["script", *words.split()], b"show warehouse 1\n")
-        ends(f"of {words}", ran, 2, err=b"13 BadScale\n")
+        ends(f"of {words}", ran, 2, err=b"13 BadScale\n%s\n" % detail.encode())
 
 
 # ---- Devices and memory
@@ -290,12 +291,12 @@ def an_output_that_fails_ends_the_run():
     os.close(reader)
     ran = run(SMALL, b"show warehouse 1\n", stdout=writer)
     os.close(writer)
-    ends("at a closed pipe", ran, 1, err=b"9 Device\n")
+    ends("at a closed pipe", ran, 1, err=b"9 Device\nstandard output: Broken pipe (os error 32)\n")
     with open("/dev/full", "wb") as full:
         ran = run(SMALL, b"show warehouse 1\n", stdout=full)
-    ends("at a full device", ran, 1, err=b"9 Device\n")
+    ends("at a full device", ran, 1, err=b"9 Device\nstandard output: No space left on device (os error 28)\n")
     ran = run(SMALL, b"show warehouse 1\n", stdout=None, before=lambda: os.close(1))
-    ends("with no output", ran, 1, err=b"9 Device\n")
+    ends("with no output", ran, 1, err=b"9 Device\nstandard output: Bad file descriptor (os error 9)\n")
 
 
 @shows
@@ -303,9 +304,9 @@ def an_input_that_fails_ends_the_run():
     folder = os.open("/", os.O_RDONLY)
     ran = run(SMALL, stdin=folder)
     os.close(folder)
-    ends("of a directory", ran, 1, err=b"9 Device\n")
+    ends("of a directory", ran, 1, err=b"9 Device\nstandard input: Is a directory (os error 21)\n")
     ran = run(SMALL, before=lambda: os.close(0))
-    ends("with no input", ran, 1, err=b"9 Device\n")
+    ends("with no input", ran, 1, err=b"9 Device\nstandard input: Bad file descriptor (os error 9)\n")
 
 
 @shows
