@@ -26,7 +26,8 @@ nothing_begun old new begun = go begun.0 begun.1 begun.2 begun.3
     go (b ∷ front) rest is wrote = absurd cc
 
 -- a beginning of a text is one of any text that goes on from it
-pub begins_longer : (text more : List ℕ) (old new : Option (List ℕ)) → WritesBeginning text old new → WritesBeginning (text ++ more) old new
+pub begins_longer : (text more : List ℕ) (old new : Option (List ℕ)) → WritesBeginning text old new
+    → WritesBeginning (text ++ more) old new
 begins_longer text more old new begun = (
   begun.0,
   begun.1 ++ more,
@@ -35,7 +36,8 @@ begins_longer text more old new begun = (
 )
 
 -- two parts were written
-pub both_written : (old mid new : Option (List ℕ)) (first second : List ℕ) → Appends old mid first → Appends mid new second → WritesBeginning (first ++ second) old new
+pub both_written : (old mid new : Option (List ℕ)) (first second : List ℕ) → Appends old mid first
+    → Appends mid new second → WritesBeginning (first ++ second) old new
 both_written old mid new first second one two = (
   first ++ second,
   [],
@@ -44,7 +46,8 @@ both_written old mid new first second one two = (
 )
 
 -- what goes on from a text may be anything, where nothing was to go on from it
-pub begins_any : (text more : List ℕ) (old new : Option (List ℕ)) → WritesBeginning (text ++ []) old new → WritesBeginning (text ++ more) old new
+pub begins_any : (text more : List ℕ) (old new : Option (List ℕ)) → WritesBeginning (text ++ []) old new
+    → WritesBeginning (text ++ more) old new
 begins_any text more old new begun =
     let begins : List ℕ → Type 0 = λ t. WritesBeginning t old new in
     begins_longer text more old new (subst begins (append-nil text) begun)

@@ -1,12 +1,15 @@
 -- What was wrong, in a line behind a refusal's.
-use Rattle.std.specs.Prelude.{◌≡◌, ◌⊎◌, ◌++◌, ◌&&◌, ℕ, Bool, List, [], codes, nat_le, if◌then◌else◌}
+use Rattle.std.specs.Prelude.{◌≡◌, ◌++◌, ◌&&◌, ℕ, Bool, List, [], Option, Some, None, codes, nat_le, if◌then◌else◌}
 use Rattle.std.specs.Fmt.{decimal}
+use Rattle.std.specs.declared.io.Error.{Error}
 use Rattle.money.specs.declared.refusal.Refusal.{Refusal}
 use Rattle.money.specs.declared.refusal.Refusal.TheVariants.{Device, BadScale}
-use Rattle.tables.specs.declared.limits.TheConstants.{MAX_WAREHOUSES, MAX_DISTRICTS, MIN_CUSTOMERS, MAX_CUSTOMERS, MIN_ITEMS, MAX_ITEMS, MAX_ORDERS, MAX_COMMITS}
+use Rattle.tables.specs.declared.limits.TheConstants.{MAX_WAREHOUSES, MAX_DISTRICTS, MIN_CUSTOMERS, MAX_CUSTOMERS}
+use Rattle.tables.specs.declared.limits.TheConstants.{MIN_ITEMS, MAX_ITEMS, MAX_ORDERS, MAX_COMMITS}
 use Rattle.tables.specs.Sizes.{Sizes}
 
--- `--orders is 9: it is to be from 10 (the customers) to 100000`, with a line feed. The note says whose number the lower limit is
+-- `--orders is 9: it is to be from 10 (the customers) to 100000`, with a line feed. The note says whose number the lower
+-- limit is
 abbrev pub limit_line : List ℕ → ℕ → ℕ → List ℕ → ℕ → List ℕ
 limit_line option number low note high =
     codes "--" ++ (option ++ (codes " is " ++ (decimal number ++ (codes ": it is to be from "
@@ -31,13 +34,18 @@ scale_line s =
     (limited (codes "orders") s.orders s.customers (codes " (the customers)") MAX_ORDERS
     (limited (codes "commits") s.commits 1 [] MAX_COMMITS [])))))
 
--- nothing, or a stream's name with the reason for which a call on it failed, which is the system's
+-- a stream's name, and why a call on it failed, which is the system's to say
 abbrev pub IsStreamLine : List ℕ → List ℕ → Type 0
-IsStreamLine name line =
-    (line ≡ []) ⊎ ((reason : List ℕ) × (line ≡ name ++ (codes ": " ++ (reason ++ codes "\n"))))
+IsStreamLine name line = (reason : List ℕ) × (line ≡ name ++ (codes ": " ++ (reason ++ codes "\n")))
+
+-- the line on the stream on which the last call failed, by the errors of the last calls on the input and on the output
+abbrev pub IsDeviceLine : Option Error → Option Error → List ℕ → Type 0
+IsDeviceLine (Some error) _ line = IsStreamLine (codes "standard input") line
+IsDeviceLine None (Some error) line = IsStreamLine (codes "standard output") line
+IsDeviceLine None None line = line ≡ []
 
 -- what is told behind a refusal's line, over this scale
-abbrev pub IsDetail : Sizes → Refusal → List ℕ → Type 0
-IsDetail s BadScale line = line ≡ scale_line s
-IsDetail s Device line = IsStreamLine (codes "standard input") line ⊎ IsStreamLine (codes "standard output") line
-IsDetail s _ line = line ≡ []
+abbrev pub IsDetail : Sizes → Option Error → Option Error → Refusal → List ℕ → Type 0
+IsDetail s input output BadScale line = line ≡ scale_line s
+IsDetail s input output Device line = IsDeviceLine input output line
+IsDetail s input output _ line = line ≡ []

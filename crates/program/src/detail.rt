@@ -1,6 +1,6 @@
 //! What was wrong, in a line behind a refusal's.
 
-ghost use Rattle.std.specs.Prelude.{◌≡◌, ◌++◌, IfOk, string_bytes, codes, ℕ, List};
+ghost use Rattle.std.specs.Prelude.{◌≡◌, IfOk, string_bytes};
 ghost use Rattle.program.specs.Detail.{IsDetail, IsStreamLine, limit_line, scale_line};
 ghost use Rattle.program.specs.Run.{scale_of};
 
@@ -16,7 +16,8 @@ use tables::limits::{
 };
 
 /// The line on what was wrong where a run was refused, with its line feed: of a scale, on the first option that is
-/// outside its limits; of a device, on the stream that failed and why; else, or where that isn't known, nothing.
+/// outside its limits; of a device, on the stream on which the last call failed, and why; else, or where that
+/// isn't known, nothing.
 pub(crate) fn detail_of<R, W>(
     alloc: Global,
     options: &Options,
@@ -24,13 +25,15 @@ pub(crate) fn detail_of<R, W>(
     input: &Watched<R>,
     output: &Watched<W>,
 ) -> Result<String, AllocError>
-    ensures { IfOk result (λ line. IsDetail (scale_of options.now) refusal (string_bytes line)) }
+    ensures { IfOk result (λ line. IsDetail (scale_of options.now) input.now.failure output.now.failure refusal
+        (string_bytes line)) }
 {
     match refusal {
         Refusal::BadScale => scale_detail(alloc, options),
-        Refusal::Device => match input.failure() {
-            Some(error) => stream_detail(alloc, "standard input", Some(error)),
-            None => stream_detail(alloc, "standard output", output.failure()),
+        Refusal::Device => match (input.failure(), output.failure()) {
+            (Some(error), _) => stream_detail(alloc, "standard input", error),
+            (None, Some(error)) => stream_detail(alloc, "standard output", error),
+            (None, None) => Ok(String::new(alloc)),
         },
         _ => Ok(String::new(alloc)),
     }
@@ -86,15 +89,10 @@ fn limit_detail(
     format!(in alloc; "--{option} is {number}: it is to be from {low}{note} to {high}\n")
 }
 
-/// The line on a stream of this name, the last call on which failed for this reason, or nothing where it didn't fail.
-fn stream_detail(alloc: Global, name: &str, failure: Option<Error>) -> Result<String, AllocError>
+/// The line on a stream of this name, on which a call failed by this error.
+fn stream_detail(alloc: Global, name: &str, error: Error) -> Result<String, AllocError>
     ensures { IfOk result (λ line. IsStreamLine name.now (string_bytes line)) }
 {
-    match failure {
-        Some(error) => {
-            let reason = format!(in alloc; "{error}")?;
-            format!(in alloc; "{name}: {reason}\n")
-        }
-        None => Ok(String::new(alloc)),
-    }
+    let reason = format!(in alloc; "{error}")?;
+    format!(in alloc; "{name}: {reason}\n")
 }

@@ -36,7 +36,8 @@ pub fn finish<E: Write>(outcome: Result<&Report, Refusal>, errors: &mut E) -> u8
 /// Writes a refusal's line, and then the one on what was wrong, and answers the exit status, as `finish` does.
 pub(crate) fn finish_refused<E: Write>(refusal: Refusal, detail: &str, errors: &mut E) -> u8
     ensures status { IsRefusedStatus refusal result }
-    ensures lines { WritesBeginning (refusal_line refusal ++ detail.now) (E.contents errors.old) (E.contents errors.new) }
+    ensures lines { WritesBeginning (refusal_line refusal ++ detail.now)
+        (E.contents errors.old) (E.contents errors.new) }
 {
     let _ = tell_refused(refusal, detail, errors);
     match refusal {

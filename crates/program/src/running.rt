@@ -29,7 +29,7 @@ pub fn run<T: Wait, R: Read, O: Write, E: Write>(
 ) -> u8
     ensures { (bytes : List ℕ) → R.remaining input.old.stream ≡ Some bytes
         → IsRun (map string_bytes words.now) bytes (O.contents output.old.stream) (O.contents output.new.stream)
-        (E.contents errors.old) (E.contents errors.new) result }
+        (E.contents errors.old) (E.contents errors.new) input.new.failure output.new.failure result }
 {
     let asked = match options(alloc, words) {
         Ok(asked) => asked,

@@ -47,8 +47,7 @@ fn stock_levels(rt: HostRuntime) -> Result<(), Fail> {
     assert_answers(&rt, &lines, &answers, 4)
 }
 
-/// The answer to a Stock-Level behind an order that leaves 10 of item 20 and so many orders of one of each of items 1 to
-/// 5.
+/// The answer to a Stock-Level behind an order that leaves 10 of item 20, and so many more orders, of items 1 to 5.
 fn level_behind<T: Wait>(rt: &T, alloc: Global, orders: u32) -> Result<String, Fail> {
     let mut input = String::from_str(
         alloc,

@@ -22,7 +22,7 @@ returns-in-Ok-detail_of g c = λ bytes left.
 
 pub returns-in-Err-detail_of : goal.returns-in-Err-detail_of
 returns-in-Err-detail_of g c = λ bytes left.
-    let told = some_detail (scale_of c.in-Ok.asked) c.in-Err-answer.refusal in
+    let told = some_detail (scale_of c.in-Ok.asked) c.answer.new.input.failure c.answer.new.output.failure c.in-Err-answer.refusal in
     refused c.in-Ok.asked c.in-Err-answer.refusal told.0 c.in-Ok.ensures.asked (c.in-Err-answer.ensures.refused bytes left) told.1
     (begins_any (refusal_line c.in-Err-answer.refusal) told.0 (g.E.Write.contents c.args.errors.now) (g.E.Write.contents c.finish_refused-in-Err-detail_of.new.errors) c.finish_refused-in-Err-detail_of.ensures.lines)
     c.finish_refused-in-Err-detail_of.ensures.status
