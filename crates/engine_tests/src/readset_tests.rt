@@ -4,6 +4,7 @@ ghost use Rattle.std.specs.Prelude.{◌≡◌, length};
 use crate::payments::history_row;
 use crate::stage::{Stage, WAREHOUSE, open};
 use money::Refusal;
+use readset::limits::{MAX_READS, MAX_WRITES};
 use readset::{ReadSet, WriteSet};
 use std::alloc::Global;
 use std::sync::Wait;
@@ -138,4 +139,10 @@ fn a_list_has_the_writes_in_order(rt: HostRuntime) -> Result<(), Fail> {
     };
     assert_eq!(rt; seen, expected);
     Ok(())
+}
+
+/// Proofs and code have these from one place, so a proof sees no other number there.
+#[test]
+fn how_much_one_transaction_reads_and_writes(rt: HostRuntime) {
+    assert_eq!(rt; [MAX_READS, MAX_WRITES], [1_024, 200]);
 }

@@ -1,6 +1,7 @@
 -- What a run of the program comes to: from its words and its input to its output, its errors and its exit status.
-use Rattle.std.specs.Prelude.{◌≡◌, ◌⊎◌, ℕ, List, [], Option, Err}
+use Rattle.std.specs.Prelude.{◌≡◌, ◌⊎◌, ◌++◌, ℕ, List, [], Option}
 use Rattle.std.specs.Io.KnownBytes.{Appends}
+use Rattle.std.specs.declared.io.Error.{Error as IoError}
 use Rattle.clap.specs.declared.error.Error.{Error}
 use Rattle.money.specs.declared.refusal.Refusal.{Refusal}
 use Rattle.money.specs.declared.refusal.Refusal.TheVariants.{OutOfMemory, BadInput, Device, BadScale}
@@ -13,7 +14,8 @@ use Rattle.book.specs.declared.entry.Done.{Done}
 use Rattle.script.specs.Written.{IsWhole, IsBeginning}
 use Rattle.command_line.specs.CommandLine.{IsAskedBy, IsRefusalOf}
 use Rattle.command_line.specs.declared.asked.Options.{Options}
-use Rattle.program.specs.Status.{IsStatusOf, refusal_line, WritesBeginning}
+use Rattle.program.specs.Status.{IsRefusedStatus, refusal_line, WritesBeginning}
+use Rattle.program.specs.Detail.{IsDetail}
 
 -- the scale that options ask for
 abbrev pub scale_of : Options → Sizes
@@ -35,8 +37,18 @@ pub data IsRefusedRun (o : Options) (bytes : List ℕ) (old new : Option (List �
   memory : refusal ≡ OutOfMemory → Appends old new [] → IsRefusedRun o bytes old new refusal
   begun : IsLawful (scale_of o) → (tables : Database) (front : List ℕ) → IsPlain (scale_of o) tables → (refusal ≡ OutOfMemory) ⊎ (refusal ≡ BadInput) ⊎ (refusal ≡ Device) → Appends old new front → IsBeginning tables bytes front → IsRefusedRun o bytes old new refusal
 
--- a run of the program: its words' fault, or the help that they ask for, goes to the errors alone; a script's text goes to the output, and a refusal's line to the errors
-pub data IsRun (words : List (List ℕ)) (bytes : List ℕ) (output written errors told : Option (List ℕ)) (status : ℕ) : Type 0 where
-  fault : (error : Error) (text : List ℕ) → IsRefusalOf words error → Appends output written [] → Appends errors told text → status ≡ 2 → IsRun words bytes output written errors told status
-  answered : (o : Options) (report : Report) → IsAskedBy words o → IsWholeRun o bytes output written report → Appends errors told [] → (IsGood report → status ≡ 0) → ((IsGood report → ⊥) → status ≡ 1) → IsRun words bytes output written errors told status
-  refused : (o : Options) (refusal : Refusal) → IsAskedBy words o → IsRefusedRun o bytes output written refusal → WritesBeginning (refusal_line refusal) errors told → IsStatusOf (Err refusal) status → IsRun words bytes output written errors told status
+-- a run of the program, after which the last calls on its input and its output have these errors, where they failed:
+-- its words' fault, or the help that they ask for, goes to the errors alone; a script's text goes to the output, and a
+-- refusal's line to the errors, with a line behind it on what was wrong
+pub data IsRun (words : List (List ℕ)) (bytes : List ℕ) (output written errors told : Option (List ℕ))
+    (in_error out_error : Option IoError) (status : ℕ) : Type 0 where
+  fault : (error : Error) (text : List ℕ) → IsRefusalOf words error → Appends output written []
+      → Appends errors told text → status ≡ 2
+      → IsRun words bytes output written errors told in_error out_error status
+  answered : (o : Options) (report : Report) → IsAskedBy words o → IsWholeRun o bytes output written report
+      → Appends errors told [] → (IsGood report → status ≡ 0) → ((IsGood report → ⊥) → status ≡ 1)
+      → IsRun words bytes output written errors told in_error out_error status
+  refused : (o : Options) (refusal : Refusal) (detail : List ℕ) → IsAskedBy words o
+      → IsRefusedRun o bytes output written refusal → IsDetail (scale_of o) in_error out_error refusal detail
+      → WritesBeginning (refusal_line refusal ++ detail) errors told → IsRefusedStatus refusal status
+      → IsRun words bytes output written errors told in_error out_error status

@@ -8,11 +8,15 @@ use Rattle.conditions.specs.declared.report.Report.{Report}
 use Rattle.std.specs.Io.KnownBytes.{Appends}
 use Rattle.money.specs.Refusal.{refusal_text}
 
--- 0 where the report is good, 2 where the scale was refused, and else 1
+-- 2 where the scale was refused, and 1 for any other refusal
+abbrev pub IsRefusedStatus : Refusal → ℕ → Type 0
+IsRefusedStatus BadScale status = status ≡ 2
+IsRefusedStatus _ status = status ≡ 1
+
+-- 0 where the report is good, 1 where it isn't, and else that of the refusal
 abbrev pub IsStatusOf : Result (Bor Report) Refusal → ℕ → Type 0
 IsStatusOf (Ok report) status = (IsGood report.now → status ≡ 0) × ((IsGood report.now → ⊥) → status ≡ 1)
-IsStatusOf (Err BadScale) status = status ≡ 2
-IsStatusOf (Err _) status = status ≡ 1
+IsStatusOf (Err refusal) status = IsRefusedStatus refusal status
 
 -- a refusal's line
 abbrev pub refusal_line : Refusal → List ℕ

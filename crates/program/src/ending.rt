@@ -1,8 +1,8 @@
 //! How the program ends.
 
-ghost use Rattle.std.specs.Prelude.{OnOk, IsErr};
+ghost use Rattle.std.specs.Prelude.{◌++◌, OnOk, IsErr};
 ghost use Rattle.std.specs.Io.KnownBytes.{Appends};
-ghost use Rattle.program.specs.Status.{IsStatusOf, line_of, refusal_line, WritesBeginning};
+ghost use Rattle.program.specs.Status.{IsRefusedStatus, IsStatusOf, line_of, refusal_line, WritesBeginning};
 
 use conditions::Report;
 use itoa::Buffer;
@@ -29,14 +29,30 @@ pub fn finish<E: Write>(outcome: Result<&Report, Refusal>, errors: &mut E) -> u8
     match outcome {
         Ok(report) if report.is_good() => GOOD,
         Ok(_) => FAILED,
-        Err(refusal) => {
-            let _ = write_refusal(refusal, errors);
-            match refusal {
-                Refusal::BadScale => USAGE_FAULT,
-                _ => FAILED,
-            }
-        }
+        Err(refusal) => finish_refused(refusal, "", errors),
     }
+}
+
+/// Writes a refusal's line, and then the one on what was wrong, and answers the exit status, as `finish` does.
+pub(crate) fn finish_refused<E: Write>(refusal: Refusal, detail: &str, errors: &mut E) -> u8
+    ensures status { IsRefusedStatus refusal result }
+    ensures lines { WritesBeginning (refusal_line refusal ++ detail.now)
+        (E.contents errors.old) (E.contents errors.new) }
+{
+    let _ = tell_refused(refusal, detail, errors);
+    match refusal {
+        Refusal::BadScale => USAGE_FAULT,
+        _ => FAILED,
+    }
+}
+
+/// Writes a refusal's line, and then the one on what was wrong.
+fn tell_refused<E: Write>(refusal: Refusal, detail: &str, errors: &mut E) -> Result<(), Refusal>
+    ensures { WritesBeginning (refusal_line refusal ++ detail.now) (E.contents errors.old) (E.contents errors.new) }
+{
+    write_refusal(refusal, errors)?;
+    write_text(errors, detail.as_bytes())?;
+    Ok(())
 }
 
 /// Writes a refusal's line.

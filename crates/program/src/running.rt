@@ -3,7 +3,9 @@ ghost use Rattle.std.specs.Prelude.{◌≡◌, ℕ, List, Some, [], IfOk, IfErr,
 ghost use Rattle.std.specs.Io.KnownBytes.{Appends};
 ghost use Rattle.program.specs.Run.{IsRun, IsWholeRun, IsRefusedRun};
 
-use crate::ending::{USAGE_FAULT, finish};
+use crate::detail::detail_of;
+use crate::ending::{USAGE_FAULT, finish, finish_refused};
+use crate::watched::Watched;
 use clap::Error;
 use command_line::{Options, Subcommand, options};
 use conditions::Report;
@@ -16,18 +18,18 @@ use std::sync::Wait;
 
 /// Does what the words of a command line ask for, the first of which is the program's own name, from `input` to
 /// `output`, and answers the exit status. A fault of the words, or the help that they ask for, goes to `errors`, and
-/// so does a refusal's line. May wait, as `script` does.
+/// so does a refusal's line, with one more on what was wrong, where that is known. May wait, as `script` does.
 pub fn run<T: Wait, R: Read, O: Write, E: Write>(
     rt: &T,
     alloc: Global,
     words: &[String],
-    input: &mut R,
-    output: &mut O,
+    input: &mut Watched<R>,
+    output: &mut Watched<O>,
     errors: &mut E,
 ) -> u8
-    ensures { (bytes : List ℕ) → R.remaining input.old ≡ Some bytes
-        → IsRun (map string_bytes words.now) bytes (O.contents output.old) (O.contents output.new)
-        (E.contents errors.old) (E.contents errors.new) result }
+    ensures { (bytes : List ℕ) → R.remaining input.old.stream ≡ Some bytes
+        → IsRun (map string_bytes words.now) bytes (O.contents output.old.stream) (O.contents output.new.stream)
+        (E.contents errors.old) (E.contents errors.new) input.new.failure output.new.failure result }
 {
     let asked = match options(alloc, words) {
         Ok(asked) => asked,
@@ -38,7 +40,10 @@ pub fn run<T: Wait, R: Read, O: Write, E: Write>(
     };
     match answer(rt, alloc, &asked, input, output) {
         Ok(report) => finish(Ok(&report), errors),
-        Err(refusal) => finish(Err(refusal), errors),
+        Err(refusal) => match detail_of(alloc, &asked, refusal, input, output) {
+            Ok(detail) => finish_refused(refusal, detail.as_str(), errors),
+            Err(_) => finish_refused(refusal, "", errors),
+        },
     }
 }
 

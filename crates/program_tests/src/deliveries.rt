@@ -56,6 +56,26 @@ fn a_new_order_is_delivered(rt: HostRuntime) -> Result<(), Fail> {
     assert_answers(&rt, &lines, &answers, 6)
 }
 
+/// The carriers are numbered from 1 to 10.
+#[test]
+fn the_first_and_the_last_carrier(rt: HostRuntime) -> Result<(), Fail> {
+    let lines = [
+        "delivery 1 1",
+        "delivery 1 10",
+        "show order 1 1 8",
+        "show order 1 1 9",
+        "delivery 1 11",
+    ];
+    let answers = [
+        "delivery 1 1:8 2:8",
+        "delivery 1 1:9 2:9",
+        "order 1 1 8 customer 8 carrier 1 lines 5 local 1",
+        "order 1 1 9 customer 9 carrier 10 lines 5 local 1",
+        "2 line 5",
+    ];
+    assert_answers(&rt, &lines, &answers, 2)
+}
+
 #[test]
 fn refused_lines(rt: HostRuntime) -> Result<(), Fail> {
     let refused = [

@@ -1,7 +1,7 @@
 ghost use Rattle.std.specs.Prelude.{◌<◌};
 
 use conditions::Report;
-use lines::{Answer, LineBuffer, MAX_LINE, Request, print_report, read_request};
+use lines::{Answer, LineBuffer, Request, print_report, read_request};
 use money::{Cents, Rate, Refusal};
 use std::alloc::Global;
 use std::process::Abort;
@@ -394,10 +394,10 @@ fn lines_are_cut(rt: HostRuntime) -> Result<(), Fail> {
         let empty = line_lengths(rt.alloc(), b"\n\na\n", piece_size)?;
         assert_eq!(rt; empty.as_slice(), [0, 0, 1].as_slice());
     }
-    let longest = vec![in rt.alloc(); b'a'; MAX_LINE]?;
+    let longest = vec![in rt.alloc(); b'a'; 1_024]?;
     let lengths = line_lengths(rt.alloc(), &longest, 100)?;
-    assert_eq!(rt; lengths.as_slice(), [MAX_LINE].as_slice());
-    let longer = vec![in rt.alloc(); b'a'; MAX_LINE + 1]?;
+    assert_eq!(rt; lengths.as_slice(), [1_024].as_slice());
+    let longer = vec![in rt.alloc(); b'a'; 1_025]?;
     let lengths = line_lengths(rt.alloc(), &longer, 100)?;
     assert_eq!(rt; lengths.as_slice(), [9999].as_slice());
     Ok(())

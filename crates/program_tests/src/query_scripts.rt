@@ -1,6 +1,8 @@
 //! Whole scripts of Order-Status and Stock-Level, and of customers by last name, by what they write.
 
-use crate::small_scripts::{assert_answers, assert_answers_over, assert_refused};
+use crate::small_scripts::{assert_answers, assert_answers_over, assert_refused, written};
+use std::alloc::Global;
+use std::sync::Wait;
 use std::test::Fail;
 use tables::Scale;
 
@@ -43,6 +45,35 @@ fn stock_levels(rt: HostRuntime) -> Result<(), Fail> {
         "level 1 1 threshold 20 low 2",
     ];
     assert_answers(&rt, &lines, &answers, 4)
+}
+
+/// The answer to a Stock-Level behind an order that leaves 10 of item 20, and so many more orders, of items 1 to 5.
+fn level_behind<T: Wait>(rt: &T, alloc: Global, orders: u32) -> Result<String, Fail> {
+    let mut input = String::from_str(
+        alloc,
+        "neworder 1 1 1 20:1:10 20:1:10 20:1:10 20:1:10 1:1:1\n",
+    )?;
+    for _ in 0..orders {
+        input.push_str("neworder 1 1 1 1:1:1 2:1:1 3:1:1 4:1:1 5:1:1\n")?;
+    }
+    input.push_str("level 1 1 20\n")?;
+    let written = written(rt, alloc, (1, 40, 1_000), input.as_str())?;
+    let answers = str::from_utf8(written.as_slice()).map_err(|_| "not a text")?;
+    match answers.lines().find(|line| line.starts_with("level")) {
+        Some(line) => Ok(String::from_str(alloc, line)?),
+        None => Err("no answer to the level".into()),
+    }
+}
+
+/// A district's last 20 orders are looked at: those from the next order's number less 20 on.
+#[test]
+fn the_last_twenty_orders(rt: HostRuntime) -> Result<(), Fail> {
+    for (orders, low) in [(0, 1), (19, 1), (20, 0)] {
+        let level = level_behind(&rt, rt.alloc(), orders)?;
+        let expected = format!(in rt.alloc(); "level 1 1 threshold 20 low {low}")?;
+        assert_eq!(rt; level, expected, "behind {orders} orders");
+    }
+    Ok(())
 }
 
 /// Customer 6 has the last name of number 5, and customer 7 that of number 6.

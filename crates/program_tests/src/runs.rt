@@ -1,8 +1,8 @@
 //! Whole runs of the program over words, an input and two writers.
 
-use program::run;
+use program::{Watched, run};
 use std::alloc::{AllocError, Global};
-use std::io::{self, ErrorKind, Read};
+use std::io::{self, Read, Write};
 use std::sync::Wait;
 use std::test::Fail;
 
@@ -27,15 +27,18 @@ struct Outcome {
     status: u8,
 }
 
-fn run_on<R: Read, T: Wait>(
+fn run_on<R: Read + Drop, T: Wait>(
     rt: &T,
     alloc: Global,
     words: &str,
-    input: &mut R,
+    input: R,
 ) -> Result<Outcome, AllocError> {
     let words = words_of(alloc, words)?;
-    let (mut output, mut errors) = (Vec::new(alloc), Vec::new(alloc));
-    let status = run(rt, alloc, words.as_slice(), input, &mut output, &mut errors);
+    let (mut input, mut output) = (Watched::new(input), Watched::new(Vec::new(alloc)));
+    let mut errors = Vec::new(alloc);
+    let words = words.as_slice();
+    let status = run(rt, alloc, words, &mut input, &mut output, &mut errors);
+    let output = Vec::from_slice(alloc, output.stream().as_slice())?;
     Ok(Outcome {
         output,
         errors,
@@ -45,10 +48,10 @@ fn run_on<R: Read, T: Wait>(
 
 #[test]
 fn a_script_at_its_options(rt: HostRuntime) -> Result<(), Fail> {
-    let mut input = b"payment 2 3 2 3 12 1.00\nshow warehouse 2\npayment 3 1 1 1 1 1.00\n\
+    let input = b"payment 2 3 2 3 12 1.00\nshow warehouse 2\npayment 3 1 1 1 1 1.00\n\
         payment 1 1 1 1 1 1.00\npayment 1 1 1 1 1 1.00\nshow customer 2 3 13\n"
         .as_slice();
-    let ran = run_on(&rt, rt.alloc(), TWO, &mut input)?;
+    let ran = run_on(&rt, rt.alloc(), TWO, input)?;
     let expected = "payment 2 3 customer 2 3 12 balance -11.00\nwarehouse 2 ytd 361.00\n2 line 3\n\
         payment 1 1 customer 1 1 1 balance -11.00\n7 line 5\n2 line 6\n\
         commits 2\nC1 ok\nC2 ok\nC3 ok\nC4 ok\nC5 ok\nC6 ok\nC7 ok\nC8 ok\nC9 ok\nC10 ok\nC12 ok\n";
@@ -70,8 +73,8 @@ fn faults_of_the_words(rt: HostRuntime) -> Result<(), Fail> {
         "tpcc script --help",
     ];
     for words in faulty {
-        let mut input = b"show warehouse 1\n".as_slice();
-        let ran = run_on(&rt, rt.alloc(), words, &mut input)?;
+        let input = b"show warehouse 1\n".as_slice();
+        let ran = run_on(&rt, rt.alloc(), words, input)?;
         assert_eq!(rt; ran.status, 2, "on {words}");
         assert!(rt; ran.output.is_empty(), "on {words}");
         assert!(rt; !ran.errors.is_empty(), "on {words}");
@@ -81,29 +84,100 @@ fn faults_of_the_words(rt: HostRuntime) -> Result<(), Fail> {
 
 #[test]
 fn a_scale_outside_its_limits(rt: HostRuntime) -> Result<(), Fail> {
-    let words = "tpcc script --customers 10 --orders 9";
-    let ran = run_on(&rt, rt.alloc(), words, &mut b"".as_slice())?;
-    assert_eq!(rt; ran.status, 2);
-    assert!(rt; ran.output.is_empty());
-    assert_eq!(rt; ran.errors.as_slice(), b"13 BadScale\n".as_slice());
+    let scales = [
+        (
+            "--warehouses 9",
+            "--warehouses is 9: it is to be from 1 to 8",
+        ),
+        (
+            "--customers 0",
+            "--customers is 0: it is to be from 10 to 3000",
+        ),
+        (
+            "--items 19 --customers 3001",
+            "--customers is 3001: it is to be from 10 to 3000",
+        ),
+        (
+            "--customers 10 --orders 9",
+            "--orders is 9: it is to be from 10 (the customers) to 100000",
+        ),
+        (
+            "--commits 0",
+            "--commits is 0: it is to be from 1 to 600000",
+        ),
+    ];
+    for (options, detail) in scales {
+        let words = format!(in rt.alloc(); "tpcc script {options}")?;
+        let ran = run_on(&rt, rt.alloc(), words.as_str(), b"".as_slice())?;
+        assert_eq!(rt; ran.status, 2, "on {options}");
+        assert!(rt; ran.output.is_empty(), "on {options}");
+        let expected = format!(in rt.alloc(); "13 BadScale\n{detail}\n")?;
+        assert_eq!(rt; ran.errors.as_slice(), expected.as_bytes(), "on {options}");
+    }
     Ok(())
 }
 
-/// A reader that always fails.
+/// A stream that fails, with this error, after a line that comes and no bytes that go.
 #[derive(Drop)]
-struct Broken;
+struct Broken {
+    left: &'static [u8],
+    error: io::Error,
+}
 
 impl Read for Broken {
-    fn read(&mut self, _buf: &mut [u8]) -> io::Result<usize> {
-        Err(io::Error::from(ErrorKind::Other))
+    fn read(&mut self, buf: &mut [u8]) -> io::Result<usize> {
+        if self.left.is_empty() {
+            return Err(self.error);
+        }
+        self.left.read(buf)
+    }
+}
+
+impl Write for Broken {
+    fn write(&mut self, _buf: &[u8]) -> io::Result<usize> {
+        Err(self.error)
+    }
+
+    fn flush(&mut self) -> io::Result<()> {
+        Ok(())
+    }
+}
+
+/// One that fails as a system tells it, after a line.
+fn failing(code: i32) -> Broken {
+    Broken {
+        left: b"show warehouse 1\n",
+        error: io::Error::from_raw_os_error(code),
     }
 }
 
 #[test]
 fn an_input_that_fails(rt: HostRuntime) -> Result<(), Fail> {
-    let ran = run_on(&rt, rt.alloc(), TWO, &mut Broken)?;
+    let ran = run_on(&rt, rt.alloc(), TWO, failing(21))?;
     assert_eq!(rt; ran.status, 1);
-    assert!(rt; ran.output.is_empty());
-    assert_eq!(rt; ran.errors.as_slice(), b"9 Device\n".as_slice());
+    assert_eq!(rt;
+        ran.output.as_slice(),
+        b"warehouse 1 ytd 360.00\n".as_slice()
+    );
+    let expected = b"9 Device\nstandard input: Is a directory (os error 21)\n".as_slice();
+    assert_eq!(rt; ran.errors.as_slice(), expected);
+    Ok(())
+}
+
+#[test]
+fn an_output_that_fails(rt: HostRuntime) -> Result<(), Fail> {
+    let words = words_of(rt.alloc(), TWO)?;
+    let (mut input, mut output) = (Watched::new(b"".as_slice()), Watched::new(failing(32)));
+    let mut errors = Vec::new(rt.alloc());
+    let words = words.as_slice();
+    let status = run(&rt, rt.alloc(), words, &mut input, &mut output, &mut errors);
+    assert_eq!(rt; status, 1);
+    let expected = b"9 Device\nstandard output: Broken pipe (os error 32)\n".as_slice();
+    assert_eq!(rt; errors.as_slice(), expected);
+    assert_eq!(rt;
+        output.failure().and_then(|error| error.raw_os_error()),
+        Some(32)
+    );
+    assert_eq!(rt; input.failure().is_none(), true);
     Ok(())
 }

@@ -8,6 +8,8 @@ mod conditions_tests;
 #[cfg(test)]
 mod decoding_tests;
 #[cfg(test)]
+mod limits_tests;
+#[cfg(test)]
 mod money_tests;
 #[cfg(test)]
 mod new_order_tests;

@@ -2,7 +2,7 @@
 #![tactic(auto)]
 
 use money::Refusal;
-use program::{USAGE_FAULT, finish, run};
+use program::{USAGE_FAULT, Watched, finish, run};
 use std::env;
 use std::process::ExitCode;
 
@@ -18,6 +18,14 @@ fn main(rt: HostRuntime) -> ExitCode {
             return ExitCode::from(USAGE_FAULT);
         }
     };
-    let (input, output, errors) = (&mut rt.stdin(), &mut rt.stdout(), &mut rt.stderr());
-    ExitCode::from(run(&rt, rt.alloc(), words.as_slice(), input, output, errors))
+    let (mut input, mut output) = (Watched::new(rt.stdin()), Watched::new(rt.stdout()));
+    let status = run(
+        &rt,
+        rt.alloc(),
+        words.as_slice(),
+        &mut input,
+        &mut output,
+        &mut rt.stderr(),
+    );
+    ExitCode::from(status)
 }

@@ -2,7 +2,7 @@ use Rattle.std.proofs.Common.{subst}
 use Rattle.tables.specs.Sizes.{Sizes}
 use Rattle.population.specs.Initial.{initial}
 use Rattle.population.specs.Plain.{IsPlain}
-use Rattle.program.specs.Run.{IsWholeRun, begun, scale_of}
+use Rattle.program.specs.Run.{begun}
 use Rattle.program.proofs.running.answer.Goals as goal
 
 pub returns-clause-whole : goal.returns-clause-whole

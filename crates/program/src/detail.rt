@@ -1,0 +1,98 @@
+//! What was wrong, in a line behind a refusal's.
+
+ghost use Rattle.std.specs.Prelude.{◌≡◌, IfOk, string_bytes};
+ghost use Rattle.program.specs.Detail.{IsDetail, IsStreamLine, limit_line, scale_line};
+ghost use Rattle.program.specs.Run.{scale_of};
+
+use crate::watched::Watched;
+use command_line::Options;
+use money::Refusal;
+use std::alloc::{AllocError, Global};
+use std::io::Error;
+use tables::is_between;
+use tables::limits::{
+    MAX_COMMITS, MAX_CUSTOMERS, MAX_DISTRICTS, MAX_ITEMS, MAX_ORDERS, MAX_WAREHOUSES,
+    MIN_CUSTOMERS, MIN_ITEMS,
+};
+
+/// The line on what was wrong where a run was refused, with its line feed: of a scale, on the first option that is
+/// outside its limits; of a device, on the stream on which the last call failed, and why; else, or where that
+/// isn't known, nothing.
+pub(crate) fn detail_of<R, W>(
+    alloc: Global,
+    options: &Options,
+    refusal: Refusal,
+    input: &Watched<R>,
+    output: &Watched<W>,
+) -> Result<String, AllocError>
+    ensures { IfOk result (λ line. IsDetail (scale_of options.now) input.now.failure output.now.failure refusal
+        (string_bytes line)) }
+{
+    match refusal {
+        Refusal::BadScale => scale_detail(alloc, options),
+        Refusal::Device => match (input.failure(), output.failure()) {
+            (Some(error), _) => stream_detail(alloc, "standard input", error),
+            (None, Some(error)) => stream_detail(alloc, "standard output", error),
+            (None, None) => Ok(String::new(alloc)),
+        },
+        _ => Ok(String::new(alloc)),
+    }
+}
+
+/// The line on the first option of a scale that is outside its limits, or nothing where none is.
+fn scale_detail(alloc: Global, options: &Options) -> Result<String, AllocError>
+    ensures { IfOk result (λ line. string_bytes line ≡ scale_line (scale_of options.now)) }
+{
+    let Options {
+        warehouses,
+        districts,
+        customers,
+        items,
+        orders,
+        commits,
+        ..
+    } = *options;
+    if !is_between(1, MAX_WAREHOUSES, warehouses) {
+        return limit_detail(alloc, "warehouses", warehouses, (1, ""), MAX_WAREHOUSES);
+    }
+    if !is_between(1, MAX_DISTRICTS, districts) {
+        return limit_detail(alloc, "districts", districts, (1, ""), MAX_DISTRICTS);
+    }
+    if !is_between(MIN_CUSTOMERS, MAX_CUSTOMERS, customers) {
+        let least = (MIN_CUSTOMERS, "");
+        return limit_detail(alloc, "customers", customers, least, MAX_CUSTOMERS);
+    }
+    if !is_between(MIN_ITEMS, MAX_ITEMS, items) {
+        return limit_detail(alloc, "items", items, (MIN_ITEMS, ""), MAX_ITEMS);
+    }
+    if !is_between(customers, MAX_ORDERS, orders) {
+        let least = (customers, " (the customers)");
+        return limit_detail(alloc, "orders", orders, least, MAX_ORDERS);
+    }
+    if !is_between(1, MAX_COMMITS, commits) {
+        return limit_detail(alloc, "commits", commits, (1, ""), MAX_COMMITS);
+    }
+    Ok(String::new(alloc))
+}
+
+/// The line on an option whose number is outside its limits, the least of which has a note.
+fn limit_detail(
+    alloc: Global,
+    option: &str,
+    number: u32,
+    low: (u32, &str),
+    high: u32,
+) -> Result<String, AllocError>
+    ensures { IfOk result (λ line. string_bytes line ≡ limit_line option.now number low.entry.0 low.entry.1.now high) }
+{
+    let (low, note) = low;
+    format!(in alloc; "--{option} is {number}: it is to be from {low}{note} to {high}\n")
+}
+
+/// The line on a stream of this name, on which a call failed by this error.
+fn stream_detail(alloc: Global, name: &str, error: Error) -> Result<String, AllocError>
+    ensures { IfOk result (λ line. IsStreamLine name.now (string_bytes line)) }
+{
+    let reason = format!(in alloc; "{error}")?;
+    format!(in alloc; "{name}: {reason}\n")
+}

@@ -1,0 +1,345 @@
+#!/usr/bin/env python3
+"""Tests the built program as a process: what each stream gets, byte for byte, and the exit status.
+
+    python3 tests/program.py [PROGRAM]
+
+PROGRAM is crates/tpcc/out/tpcc where none is named: `rt ci` leaves it there, and so does `rt run` in crates/tpcc.
+Prints a line for each check that failed, and at last `N passed, M failed`; exits with 1 where one failed.
+"""
+
+import os
+import resource
+import subprocess
+import sys
+import tempfile
+import threading
+from collections import namedtuple
+from pathlib import Path
+
+BUILT = Path(__file__).resolve().parent.parent / "crates" / "tpcc" / "out" / "tpcc"
+
+# How long a run may take, with room for a slow machine.
+SECONDS = 60
+
+SHOWN = []
+
+
+def shows(function):
+    """Marks a function that shows what its name says."""
+    SHOWN.append(function)
+    return function
+
+
+class Checks:
+    """What was checked: the program, the function that is checking, and how many checks passed and failed."""
+
+    program = BUILT
+    showing = ""
+    passed = 0
+    failed = 0
+
+
+def fail(text):
+    Checks.failed += 1
+    print(f"FAILED {Checks.showing}: {text}", flush=True)
+
+
+def brief(value):
+    text = repr(value)
+    return text if len(text) <= 400 else f"{text[:200]} .. {text[-200:]}"
+
+
+def same(what, seen, wanted):
+    """One check: that what was seen is what was wanted."""
+    if seen == wanted:
+        Checks.passed += 1
+    else:
+        fail(f"{what} is {brief(seen)}, and not {brief(wanted)}")
+
+
+# ---- The program as a process
+
+Ran = namedtuple("Ran", "status out err")
+
+
+def start(args, **how):
+    """Starts the program on these words, which are text or bytes. Its own name is tpcc, wherever it lies."""
+    return subprocess.Popen(["tpcc", *args], executable=Checks.program, **how)
+
+
+def run(args, input=b"", *, stdin=None, stdout=subprocess.PIPE, before=None, seconds=SECONDS):
+    """Runs the program on these words to its end. Its input is these bytes, or what `stdin` is; its output is given
+    back, or goes where `stdout` says; `before` is called in the new process."""
+    with tempfile.TemporaryFile() as given:
+        given.write(input)
+        given.seek(0)
+        process = start(
+            args, stdin=given if stdin is None else stdin, stdout=stdout, stderr=subprocess.PIPE, preexec_fn=before
+        )
+        try:
+            out, err = process.communicate(timeout=seconds)
+        except subprocess.TimeoutExpired:
+            process.kill()
+            process.communicate()
+            raise
+    return Ran(process.returncode, out or b"", err)
+
+
+def ends(what, ran, status, out=b"", err=b""):
+    """Three checks: how a run ended, and what its streams got."""
+    same(f"the status {what}", ran.status, status)
+    same(f"the output {what}", ran.out, out)
+    same(f"the errors {what}", ran.err, err)
+
+
+# ---- Scripts
+
+SMALL = "script --warehouses 1 --districts 2 --customers 10 --items 20 --orders 30 --commits 1000".split()
+
+REPORT = b"C1 ok\nC2 ok\nC3 ok\nC4 ok\nC5 ok\nC6 ok\nC7 ok\nC8 ok\nC9 ok\nC10 ok\nC12 ok\n"
+
+
+def whole(answers, commits):
+    """What a script writes where every condition holds."""
+    return answers + b"commits %d\n" % commits + REPORT
+
+
+ORDER = b"neworder 1 1 1 1:1:1 2:1:1 3:1:1 4:1:1 5:1:1\n"
+
+
+@shows
+def a_script_is_answered_and_reported():
+    lines = b"payment 1 1 1 1 3 12.34\nshow warehouse 1\nshow customer 1 1 3\n" + ORDER + b"delivery 1 10\n"
+    answers = (
+        b"payment 1 1 customer 1 1 3 balance -22.34\nwarehouse 1 ytd 212.34\n"
+        b"customer 1 1 3 balance -22.34 paid 22.34 payments 2 deliveries 0\n"
+        b"neworder 1 1 11 customer 1 lines 15.00 total 15.52 1:1:49:1.00 2:1:49:2.00 3:1:49:3.00 4:1:49:4.00"
+        b" 5:1:49:5.00\ndelivery 1 1:8 2:8\n"
+    )
+    ends("of a script", run(SMALL, lines), 0, whole(answers, 3))
+    ends("of no lines", run(SMALL), 0, whole(b"", 0))
+    ends("of the default scale", run(["script"]), 0, whole(b"", 0))
+
+
+@shows
+def lines_of_any_bytes_are_answered():
+    nines = b"9" * (1024 - 21)
+    lines = [
+        b"",
+        b"\0",
+        b"\xff\xfe",
+        b"show warehouse 1\r",
+        b"payment 1 1 1 1 3 " + nines + b".00",
+        b"payment 1 1 1 1 3 9" + nines + b".00",
+        b"show warehouse 1",
+    ]
+    answers = b"14 line 1\n14 line 2\n14 line 3\n14 line 4\n2 line 5\n14 line 6\nwarehouse 1 ytd 200.00\n"
+    ends("of lines", run(SMALL, b"\n".join(lines) + b"\n"), 0, whole(answers, 0))
+    ends("with no last line feed", run(SMALL, b"\n".join(lines)), 0, whole(answers, 0))
+
+
+@shows
+def refused_lines_are_answers():
+    refused = [
+        (SMALL, b"hello\n", b"14 line 1\n"),
+        (SMALL, b"delivery 1 11\n", b"2 line 1\n"),
+        (SMALL, b"neworder 1 1 1 1:1:1 2:1:1 3:1:1 4:1:1 21:1:1\n", b"5 line 1 item 21\n"),
+        (["script", "--customers", "10", "--orders", "10"], ORDER, b"6 line 1\n"),
+    ]
+    for args, line, answer in refused:
+        ends(f"of {line!r}", run(args, line), 0, whole(answer, 0))
+    line = b"payment 1 1 1 1 3 1.00\n"
+    answers = b"payment 1 1 customer 1 1 3 balance -11.00\n7 line 2\n"
+    ends("at the commit cap", run(["script", "--commits", "1"], line * 2), 0, whole(answers, 1))
+
+
+@shows
+def an_answer_is_out_before_the_next_line_comes():
+    process = start(SMALL, stdin=subprocess.PIPE, stdout=subprocess.PIPE, stderr=subprocess.PIPE)
+    timer = threading.Timer(SECONDS, process.kill)
+    timer.start()
+    try:
+        for line, answer in [(b"show warehouse 1\n", b"warehouse 1 ytd 200.00\n"), (b"hello\n", b"14 line 2\n")]:
+            process.stdin.write(line)
+            process.stdin.flush()
+            same(f"the answer to {line!r}", process.stdout.readline(), answer)
+        out, err = process.communicate()
+        ends("then", Ran(process.returncode, out, err), 0, whole(b"", 0))
+    finally:
+        timer.cancel()
+        process.kill()
+
+
+@shows
+def a_million_lines_are_answered():
+    lines, answers, commits = [], [], 0
+    for number in range(1, 1_000_001):
+        if number % 2 == 0:
+            lines.append(b"hello\n")
+            answers.append(b"14 line %d\n" % number)
+            continue
+        lines.append(b"payment 1 1 1 1 3 1.00\n")
+        if commits < 100_000:
+            commits += 1
+            answers.append(b"payment 1 1 customer 1 1 3 balance -%d.00\n" % (10 + commits))
+        else:
+            answers.append(b"7 line %d\n" % number)
+    ran = run(["script"], b"".join(lines), seconds=120)
+    same("the number of lines", ran.out.count(b"\n"), 1_000_012)
+    ends("of a million lines", ran, 0, whole(b"".join(answers), commits))
+
+
+# ---- Words
+
+HELP = b"""TPC-C on Silo's commit, with proofs
+
+Usage: tpcc <COMMAND>
+
+Commands:
+  script  Answers the lines of standard input, then reports the consistency conditions
+  help    Print this message or the help of the given subcommand(s)
+
+Options:
+  -h, --help  Print help
+"""
+
+SCRIPT_HELP = b"""Answers the lines of standard input, then reports the consistency conditions
+
+Usage: tpcc script [OPTIONS]
+
+Options:
+      --warehouses <N>     The number of warehouses, 1 to 8 [default: 1]
+      --districts <N>      Districts of a warehouse, 1 to 10 [default: 10]
+      --customers <N>      Customers of a district, 10 to 3000 [default: 100]
+      --items <N>          The number of items, 20 to 100000 [default: 1000]
+      --orders <N>         The order cap of a district, from the customers to 100000 [default: 3000]
+      --commits <N>        The commit cap, 1 to 600000 [default: 100000]
+      --population <SEED>  The population: 0 is the plain one [default: 0]
+  -h, --help               Print help
+"""
+
+MORE = b"\n\nFor more information, try '--help'.\n"
+
+
+@shows
+def help_goes_to_the_errors():
+    for args in ([], ["--help"], ["-h"], ["help"]):
+        ends(f"of {args}", run(args), 2, err=HELP)
+    for args in (["script", "--help"], ["help", "script"]):
+        ends(f"of {args}", run(args), 2, err=SCRIPT_HELP)
+
+
+@shows
+def faults_of_the_words_go_to_the_errors():
+    faults = [
+        ("scribe", b"error: unrecognized subcommand 'scribe'\n\n  tip: a similar subcommand exists: 'script'\n\n"
+                   b"Usage: tpcc <COMMAND>"),
+        ("script --warehouse 1", b"error: unexpected argument '--warehouse' found\n\n"
+                                 b"  tip: a similar argument exists: '--warehouses'\n\n"
+                                 b"Usage: tpcc script --warehouses <N>"),
+        ("script more", b"error: unexpected argument 'more' found\n\nUsage: tpcc script [OPTIONS]"),
+        ("script --items x", b"error: invalid value 'x' for '--items <N>': invalid digit found in string"),
+        ("script --items", b"error: a value is required for '--items <N>' but none was supplied"),
+    ]
+    for words, text in faults:
+        ends(f"of {words!r}", run(words.split(), b"show warehouse 1\n"), 2, err=text + MORE)
+
+
+@shows
+def words_that_are_no_text_go_to_the_errors():
+    for args in ([b"\xff"], [b"script", b"--items", b"2\xff0"]):
+        ends(f"of {args}", run(args), 2, err=b"error: the command line can't be read: invalid data\n")
+
+
+@shows
+def scales_at_their_limits_are_taken():
+    least = "script --warehouses 1 --districts 1 --customers 10 --items 20 --orders 10 --commits 1"
+    most = "script --warehouses=8 --districts=10 --customers=10 --items=20 --orders=10 --commits=600000"
+    ends("at the least scale", run(least.split()), 0, whole(b"", 0))
+    shown = run(most.split(), b"show district 8 10\nshow district 9 1\nshow district 8 11\n")
+    ends("at eight warehouses", shown, 0, whole(b"district 8 10 ytd 100.00 next 11\n2 line 2\n2 line 3\n", 0))
+
+
+@shows
+def a_scale_outside_its_limits_is_refused():
+    scales = [
+        ("--warehouses 0", "--warehouses is 0: it is to be from 1 to 8"),
+        ("--warehouses 9", "--warehouses is 9: it is to be from 1 to 8"),
+        ("--districts 0", "--districts is 0: it is to be from 1 to 10"),
+        ("--districts 11", "--districts is 11: it is to be from 1 to 10"),
+        ("--customers 9", "--customers is 9: it is to be from 10 to 3000"),
+        ("--customers 3001", "--customers is 3001: it is to be from 10 to 3000"),
+        ("--items 19", "--items is 19: it is to be from 20 to 100000"),
+        ("--items 100001", "--items is 100001: it is to be from 20 to 100000"),
+        ("--customers 10 --orders 9", "--orders is 9: it is to be from 10 (the customers) to 100000"),
+        ("--orders 100001", "--orders is 100001: it is to be from 100 (the customers) to 100000"),
+        ("--commits 0", "--commits is 0: it is to be from 1 to 600000"),
+        ("--commits 4294967295", "--commits is 4294967295: it is to be from 1 to 600000"),
+        ("--commits 600001 --items 1", "--items is 1: it is to be from 20 to 100000"),
+    ]
+    for words, detail in scales:
+        ran = run(["script", *words.split()], b"show warehouse 1\n")
+        ends(f"of {words}", ran, 2, err=b"13 BadScale\n%s\n" % detail.encode())
+
+
+# ---- Devices and memory
+
+
+@shows
+def an_output_that_fails_ends_the_run():
+    reader, writer = os.pipe()
+    os.close(reader)
+    ran = run(SMALL, b"show warehouse 1\n", stdout=writer)
+    os.close(writer)
+    ends("at a closed pipe", ran, 1, err=b"9 Device\nstandard output: Broken pipe (os error 32)\n")
+    with open("/dev/full", "wb") as full:
+        ran = run(SMALL, b"show warehouse 1\n", stdout=full)
+    ends("at a full device", ran, 1, err=b"9 Device\nstandard output: No space left on device (os error 28)\n")
+    ran = run(SMALL, b"show warehouse 1\n", stdout=None, before=lambda: os.close(1))
+    ends("with no output", ran, 1, err=b"9 Device\nstandard output: Bad file descriptor (os error 9)\n")
+
+
+@shows
+def an_input_that_fails_ends_the_run():
+    folder = os.open("/", os.O_RDONLY)
+    ran = run(SMALL, stdin=folder)
+    os.close(folder)
+    ends("of a directory", ran, 1, err=b"9 Device\nstandard input: Is a directory (os error 21)\n")
+    ran = run(SMALL, before=lambda: os.close(0))
+    ends("with no input", ran, 1, err=b"9 Device\nstandard input: Bad file descriptor (os error 9)\n")
+
+
+@shows
+def errors_that_can_not_be_written_change_no_status():
+    ends("of a bad scale", run(["script", "--items", "1"], before=lambda: os.close(2)), 2)
+    ends("of help", run(["--help"], before=lambda: os.close(2)), 2)
+    ends("of a good run", run(SMALL, before=lambda: os.close(2)), 0, whole(b"", 0))
+
+
+# The scale's records take 4,000 MB, and the program's own start a few.
+@shows
+def want_of_memory_is_a_refusal():
+    limit = 256 * 1024 * 1024
+    ran = run(
+        ["script", "--orders", "100000"],
+        b"show warehouse 1\n",
+        before=lambda: resource.setrlimit(resource.RLIMIT_AS, (limit, limit)),
+    )
+    ends("of a large scale", ran, 1, err=b"1 OutOfMemory\n")
+
+
+def main():
+    if len(sys.argv) > 1:
+        Checks.program = Path(sys.argv[1]).resolve()
+    for function in SHOWN:
+        Checks.showing = function.__name__
+        try:
+            function()
+        except (OSError, subprocess.SubprocessError) as error:
+            fail(f"{error}")
+    print(f"{Checks.passed} passed, {Checks.failed} failed")
+    return 1 if Checks.failed else 0
+
+
+if __name__ == "__main__":
+    sys.exit(main())
