@@ -19,10 +19,10 @@ use Rattle.tables.specs.declared.new_order.NewOrderInput.{NewOrderInput}
 use Rattle.tables.specs.declared.new_order.SuppliedLine.{SuppliedLine}
 use Rattle.tables.specs.declared.input.Input.TheVariants as input
 use Rattle.tables.specs.declared.reply.Reply.TheVariants as reply
-use Rattle.readset.specs.Reads.{ReadSetView}
-use Rattle.readset.specs.Writes.{WriteSetView, added}
+use Rattle.readset.specs.Writes.{added}
 use Rattle.readset.specs.Commit.{IsCommitOf}
-use Rattle.readset.specs.Explains.{MayBe, Explains}
+use Rattle.readset.specs.Explains.{MayBe}
+use Rattle.readset.specs.Transaction.{TransactionView, AtAll}
 use Rattle.neworder.specs.Steps.{AreTaken}
 use Rattle.neworder.specs.Priced.{ArePriced}
 use Rattle.neworder.specs.Replied.{reply_of}
@@ -54,10 +54,10 @@ items_there t (l ∷ ls) within none asked = go (is_some (get t.items l.item)) r
     go true e h rest = All-cons (λ l. IsRequestedLine t.scale l × IsItemKey t.scale l.item) l ls (All-head (IsRequestedLine t.scale) l ls asked, within l.item e) (rest h)
     go false e h rest = absurd cc
 
-module _ (t0 : Database) (x : NewOrderInput) (k : OrderKey) (reads : ReadSetView) (writes : WriteSetView) (supplied : List SuppliedLine) (priced : Priced)
-    (prices : ArePriced t0 x.lines priced) (taken : AreTaken t0 x k x.lines reads writes supplied) (is_key : IsOrderKey t0.scale k)
+module _ (t0 : Database) (x : NewOrderInput) (k : OrderKey) (under_way : TransactionView) (supplied : List SuppliedLine) (priced : Priced)
+    (prices : ArePriced t0 x.lines priced) (taken : AreTaken t0 x k x.lines under_way supplied) (is_key : IsOrderKey t0.scale k) (no_history : under_way.writes.history_row ≡ None)
   where
-    module _ (t : Database) (h : MayBe t0 reads t) where
+    module _ (t : Database) (h : MayBe t0 under_way.reads t) where
       number : next_order t (home x) ≡ k.order
       number = ap (λ (j : OrderKey). j.order) (taken.at_order t h)
 
@@ -79,15 +79,15 @@ module _ (t0 : Database) (x : NewOrderInput) (k : OrderKey) (reads : ReadSetView
           }
 
       -- no item is missing, so it commits
-      commit : first_missing t x.lines ≡ None → IsCommitOf t (input.NewOrder x) writes (reply.NewOrder (reply_of t0 x k priced.sum supplied))
+      commit : first_missing t x.lines ≡ None → IsCommitOf t (input.NewOrder x) under_way.writes (reply.NewOrder (reply_of t0 x k priced.sum supplied))
       commit missing =
           let left : after t (input.NewOrder x) ≡ after_new_order t x = ap (λ (m : Option ℕ). left_by t (order_unless m t x)) missing in
           record {
             commits = ap (λ (m : Option ℕ). order_unless m t x) missing ∙ (λ i. Committed (sym left i) (reply.NewOrder (replies i)));
             numbered = subst (λ (q : ℕ × Sizes). q.0 ≤ q.1.orders) (λ i. (sym number i, sym h.of_population.scale i)) is_key.2.1;
             rows = λ n small. ap (λ (d : Database). rows d n) left ∙ (taken.holds t h).put_in n small;
-            history = ap (λ (d : Database). d.history) left ∙ sym (append-nil t.history) ∙ ap (λ q. t.history ++ added q) (sym taken.no_history);
+            history = ap (λ (d : Database). d.history) left ∙ sym (append-nil t.history) ∙ ap (λ q. t.history ++ added q) (sym no_history);
           }
 
-    pub explains : Explains t0 (input.NewOrder x) reads writes (reply.NewOrder (reply_of t0 x k priced.sum supplied))
-    explains t h = commit t h (same_missing t0 t x.lines h.of_population.items ∙ prices.none_missing)
+    pub commits : AtAll t0 under_way (λ t. IsCommitOf t (input.NewOrder x) under_way.writes (reply.NewOrder (reply_of t0 x k priced.sum supplied)))
+    commits t h = commit t h (same_missing t0 t x.lines h.of_population.items ∙ prices.none_missing)

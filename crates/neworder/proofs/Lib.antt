@@ -11,3 +11,4 @@ mod Begun
 mod Columns
 mod Explained
 mod Refusals
+mod Ended

@@ -91,7 +91,7 @@ module _ (t : Database) (x : NewOrderInput) where
         ] refl
 
     -- the records that it changes
-    pub opened : (r : District) → get t.districts (home x) ≡ Some r → Says (row_at (after_lines t x [])) (opening x (new_key t x) r)
+    pub opened : (r : District) → get t.districts (home x) ≡ Some r → Says (row_at (after_lines t x [])) (opening x (new_key t x) (district_words (numbered_district r)))
     opened r found = (
       touched exact_district district_words t.districts (is_district x.warehouse x.district) numbered_district (home x) (λ i. self x.warehouse i && self x.district i)
           ∙ ap (option_map (λ r. district_words (numbered_district r))) found,
@@ -118,5 +118,5 @@ module _ (t : Database) (x : NewOrderInput) where
     others (key.Oldest k) a b c d = ap (λ n. Some (number_words n)) (oldest_kept k)
     others (key.Last k) a b c d = ap (λ n. Some (number_words n)) (last_other k (λ e. d (ap key.Last e)))
 
-    pub opened_others : (r : District) (j : RecordKey) → Apart j (opening x (new_key t x) r) → row_at (after_lines t x []) j ≡ row_at t j
+    pub opened_others : (r : District) (j : RecordKey) → Apart j (opening x (new_key t x) (district_words (numbered_district r))) → row_at (after_lines t x []) j ≡ row_at t j
     opened_others r j apart = others j apart.0 apart.1.0 apart.1.1.0 apart.1.1.1.0

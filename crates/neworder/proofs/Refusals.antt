@@ -1,20 +1,24 @@
 -- How an order is refused: by its items, and by what was read.
-use Rattle.std.proofs.Common.{◌≡◌, ◌≢◌, ◌⊎◌, inl, inr, ℕ, Option, Some, None, sym, ap, ◌∙◌, subst}
+use Rattle.std.proofs.Common.{◌≡◌, ℕ, Option, Some, None, List, Result, Ok, Err, OnOk, IfErr, refl, sym, ap, ◌∙◌, subst}
 use Rattle.money.specs.declared.refusal.Refusal.{Refusal}
 use Rattle.money.specs.declared.refusal.Refusal.TheVariants.{OutOfMemory, Stale, OrdersFull}
 use Rattle.tables.specs.Sizes.{Sizes}
 use Rattle.tables.specs.Database.{Database}
 use Rattle.tables.specs.Constant.{IsOf}
-use Rattle.tables.specs.NewOrder.{first_missing}
+use Rattle.tables.specs.Records.{number_of_key}
+use Rattle.tables.specs.NewOrder.{first_missing, home}
 use Rattle.tables.specs.Apply.{RolledBack, apply, order_unless}
 use Rattle.tables.specs.declared.new_order.NewOrderInput.{NewOrderInput}
 use Rattle.tables.specs.declared.input.Input.TheVariants as input
+use Rattle.tables.specs.declared.records.RecordKey.TheVariants as key
 use Rattle.cells.specs.Records.{ReaderView}
-use Rattle.readset.specs.Reads.{ReadSetView, Keeps, AreRead}
+use Rattle.readset.specs.Reads.{ReadSetView, Keeps}
 use Rattle.readset.specs.Commit.{IsCommitted}
 use Rattle.readset.specs.Explains.{NoneMayBe}
 use Rattle.readset.specs.Refused.{NoneMissing, SaysAbove, IsAboveCap, IsRefusal}
-use Rattle.neworder.specs.Opening.{IsWithinCap}
+use Rattle.readset.specs.Transaction.{TransactionView, IsUnderWay, HasRead, IsStepRefusal}
+use Rattle.neworder.specs.Opening.{IsWithinCap, IsNumberTaken, IsOrderRefusal}
+use Rattle.neworder.specs.declared.opening.Taken.{Taken}
 use Rattle.neworder.proofs.Explained.{same_missing}
 
 -- a missing item is missing at all tables of the population
@@ -26,23 +30,45 @@ pub none_missing : (t0 : Database) (x : NewOrderInput) → first_missing t0 x.li
 none_missing t0 x none t o =
     subst (λ (m : Option ℕ). IsCommitted (order_unless m t x)) (sym (same_missing t0 t x.lines o.items ∙ none)) tt
 
--- a number that was read as within the cap stays so, and isn't above it
+-- a version that was read still was, after more reads
 pub still_within : (s : Sizes) (x : NewOrderInput) (reads more : ReadSetView) → Keeps reads more → IsWithinCap s x reads → IsWithinCap s x more
-still_within s x reads more keeps within = (within.0, keeps _ within.0 within.1, within.2)
+still_within s x reads more keeps within = let was = within.1 in (within.0, (was.0, keeps _ was.0 was.1, was.2), within.2)
 
+-- a number that was read as within the cap isn't above it
 pub not_above : (s : Sizes) (x : NewOrderInput) (reads : ReadSetView) → IsWithinCap s x reads → ¬ IsAboveCap s (input.NewOrder x) reads
 not_above s x reads within above =
-    let both : Some above.0 ≡ Some within.0 = sym above.1 ∙ within.1 in
-    let same : above.0 ≡ within.0 = cc in
-    within.2 (subst (SaysAbove s.orders) same above.2)
+    let was = within.1 in
+    let both : Some above.0 ≡ Some was.0 = sym above.1 ∙ was.1 in
+    let same : above.0 ≡ was.0 = cc in
+    let says : SaysAbove s.orders was.0 = subst (SaysAbove s.orders) same above.2 in
+    within.2 (says.0, was.2 ∙ says.1, says.2)
 
--- how an order that couldn't be taken is refused
-pub refusal_of : (t0 : Database) (x : NewOrderInput) (old new : ReaderView) (refusal : Refusal) (reads : ReadSetView) → first_missing t0 x.lines ≡ None
-    → (refusal ≡ OutOfMemory) ⊎ (refusal ≡ OrdersFull) ⊎ (refusal ≡ Stale) → (refusal ≢ OutOfMemory → AreRead old new reads)
-    → (refusal ≡ OrdersFull → IsAboveCap t0.scale (input.NewOrder x) reads) → (refusal ≡ Stale → IsWithinCap t0.scale x reads) → (refusal ≡ Stale → NoneMayBe t0 reads)
-    → IsRefusal t0 (input.NewOrder x) old new refusal
-refusal_of t0 x old new refusal reads none (inl memory) read full within stale = subst (IsRefusal t0 (input.NewOrder x) old new) (sym memory) tt
-refusal_of t0 x old new refusal reads none (inr (inl is)) read full within stale =
-    subst (IsRefusal t0 (input.NewOrder x) old new) (sym is) (none_missing t0 x none, (reads, read (λ memory. cc), full is))
-refusal_of t0 x old new refusal reads none (inr (inr is)) read full within stale =
-    subst (IsRefusal t0 (input.NewOrder x) old new) (sym is) (none_missing t0 x none, (reads, read (λ memory. cc), not_above t0.scale x reads (within is), stale is))
+-- why no number was taken
+pub number_refused : (t0 : Database) (x : NewOrderInput) (under_way : TransactionView) (words : Option (List ℕ)) (result : Result Taken Refusal)
+    → HasRead under_way.reads (number_of_key t0.scale (key.District (home x))) words → IsNumberTaken t0.scale.orders words result
+    → (result ≡ Err Stale → NoneMayBe t0 under_way.reads) → IfErr result (IsOrderRefusal t0 x under_way)
+number_refused t0 x under_way words (Ok taken) read why none = tt
+number_refused t0 x under_way words (Err OutOfMemory) read why none = tt
+number_refused t0 x under_way words (Err OrdersFull) read why none = (read.0, read.1, (why.0, sym read.2 ∙ why.1, why.2))
+number_refused t0 x under_way words (Err Stale) read why none = (not_above t0.scale x under_way.reads (words, read, why), none refl)
+number_refused t0 x under_way words (Err _) read why none = absurd why
+
+pub number_within : (s : Sizes) (x : NewOrderInput) (reads : ReadSetView) (words : Option (List ℕ)) (result : Result Taken Refusal)
+    → HasRead reads (number_of_key s (key.District (home x))) words → IsNumberTaken s.orders words result → OnOk result (IsWithinCap s x reads)
+number_within s x reads words (Ok taken) read why = (words, read, why.1)
+number_within s x reads words (Err refusal) read why = tt
+
+-- a step once the number was taken
+pub step_refused : (t0 : Database) (x : NewOrderInput) (under_way : TransactionView) (refusal : Refusal) → IsWithinCap t0.scale x under_way.reads
+    → IsStepRefusal t0 under_way refusal → IsOrderRefusal t0 x under_way refusal
+step_refused t0 x under_way OutOfMemory within why = tt
+step_refused t0 x under_way Stale within why = (not_above t0.scale x under_way.reads within, why)
+step_refused t0 x under_way _ within why = absurd why
+
+-- how an order whose items are all there is refused
+pub order_refused : (t0 : Database) (x : NewOrderInput) (old new : ReaderView) (under_way : TransactionView) (refusal : Refusal) → NoneMissing t0 (input.NewOrder x)
+    → IsUnderWay old new under_way → IsOrderRefusal t0 x under_way refusal → IsRefusal t0 (input.NewOrder x) old new refusal
+order_refused t0 x old new under_way OutOfMemory none h why = tt
+order_refused t0 x old new under_way OrdersFull none h why = (none, (under_way.reads, h.read, why))
+order_refused t0 x old new under_way Stale none h why = (none, (under_way.reads, h.read, why.0, why.1))
+order_refused t0 x old new under_way _ none h why = absurd why

@@ -1,8 +1,6 @@
 -- How far a loop over the lines of an order has come.
-use Rattle.std.proofs.Common.{◌≡◌, ◌≢◌, ◌⊎◌, inl, inr, ℕ, ◌+◌, ◌<◌, ℤ, List, Result, Err, length, map, take, get_or, sym, ap, ◌∙◌, arith}
+use Rattle.std.proofs.Common.{◌≡◌, ℕ, ◌+◌, ◌<◌, ℤ, List, length, map, take, get_or, sym, ap, ◌∙◌, arith}
 use Rattle.std.proofs.lemmas.List.{get_or-map, length-take-le}
-use Rattle.money.specs.declared.refusal.Refusal.{Refusal}
-use Rattle.money.specs.declared.refusal.Refusal.TheVariants.{OutOfMemory, Stale}
 use Rattle.tables.specs.Database.{Database}
 use Rattle.tables.specs.NewOrder.{line_amount}
 use Rattle.tables.specs.declared.new_order.RequestedLine.{RequestedLine}
@@ -15,16 +13,3 @@ so_far ls number i same more = ap (λ n. n + 1) (same ∙ sym (length-take-le i 
 pub priced_at : (t : Database) (ls : List RequestedLine) (amounts : List ℤ) (number i : ℕ) (z : ℤ) (d : RequestedLine) → amounts ≡ map (line_amount t) ls → number ≡ i → i < length ls
     → get_or amounts number z ≡ line_amount t (get_or ls i d)
 priced_at t ls amounts number i z d priced same more = (λ j. get_or (priced j) (same j) z) ∙ get_or-map (line_amount t) ls i d z more
-
--- a refusal is the same in any result
-pub same_refusal : {A B : Type 0} (e f : Refusal) → ◌≡◌ {A = Result A Refusal} (Err e) (Err f) → ◌≡◌ {A = Result B Refusal} (Err e) (Err f)
-same_refusal e f h = let q : e ≡ f = cc in ap Err q
-
--- equal errors have equal refusals
-pub same_error : {A : Type 0} (e f : Refusal) → ◌≡◌ {A = Result A Refusal} (Err e) (Err f) → e ≡ f
-same_error e f h = cc
-
--- a refusal that isn't one of memory
-pub unless_memory : {A : Type 0} (r : Refusal) → (r ≡ OutOfMemory) ⊎ (r ≡ Stale) → r ≢ OutOfMemory → ◌≡◌ {A = Result A Refusal} (Err r) (Err Stale)
-unless_memory r (inl memory) not = absurd (not memory)
-unless_memory r (inr stale) not = ap Err stale

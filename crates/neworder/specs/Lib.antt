@@ -3,3 +3,4 @@ pub mod Drawn
 pub mod Opening
 pub mod Priced
 pub mod Replied
+pub mod Executed

@@ -1,20 +1,23 @@
--- How an order is opened: the number that it takes, and the records that this changes.
-use Rattle.std.specs.Prelude.{◌≡◌, ◌<◌, Some, Result, Ok, Err, List, ℕ}
+-- How an order is opened: the number that it takes, and how it may be refused.
+use Rattle.std.specs.Prelude.{◌≡◌, ◌<◌, ⊤, Option, Some, Result, Ok, Err, List, ℕ, slice_index}
+use Rattle.std.specs.FinMap.{get}
 use Rattle.money.specs.declared.refusal.Refusal.{Refusal}
-use Rattle.money.specs.declared.refusal.Refusal.TheVariants.{OrdersFull}
-use Rattle.tables.specs.Sizes.{Sizes}
+use Rattle.money.specs.declared.refusal.Refusal.TheVariants.{OutOfMemory, OrdersFull, Stale}
+use Rattle.tables.specs.Sizes.{Sizes, IsNumber}
 use Rattle.tables.specs.Records.{number_of_key}
-use Rattle.tables.specs.Rows.{district_words, new_order_words, order_words, number_words}
-use Rattle.tables.specs.NewOrder.{home, buyer, numbered_district, order_row}
-use Rattle.tables.specs.declared.keys.OrderKey.{OrderKey}
+use Rattle.tables.specs.Database.{Database}
+use Rattle.tables.specs.OrderNumbers.{next_order}
+use Rattle.tables.specs.Conditions.{Condition2At}
+use Rattle.tables.specs.Rows.{district_words}
+use Rattle.tables.specs.NewOrder.{home, numbered_district}
 use Rattle.tables.specs.declared.rows.District.{District}
 use Rattle.tables.specs.declared.new_order.NewOrderInput.{NewOrderInput}
+use Rattle.tables.specs.declared.input.Input.TheVariants as input
 use Rattle.tables.specs.declared.records.RecordKey.TheVariants as key
-use Rattle.cells.specs.declared.cells.Version.{Version}
-use Rattle.readset.specs.Reads.{ReadSetView, held}
-use Rattle.readset.specs.Writes.{WriteSetView, no_writes, puts}
-use Rattle.readset.specs.Refused.{SaysAbove}
-use Rattle.neworder.specs.declared.opening.Places.{Places}
+use Rattle.readset.specs.Reads.{ReadSetView}
+use Rattle.readset.specs.Explains.{NoneMayBe}
+use Rattle.readset.specs.Refused.{IsAboveCap}
+use Rattle.readset.specs.Transaction.{TransactionView, HasRead}
 use Rattle.neworder.specs.declared.opening.Taken.{Taken}
 
 -- what a district's row gives an order: its D_NEXT_O_ID and the district's new words, or the refusal above the order cap
@@ -22,20 +25,36 @@ abbrev pub IsTakenOf : ℕ → District → Result Taken Refusal → Type 0
 IsTakenOf cap r (Ok taken) = (taken.order ≡ r.next_order) × (taken.district ≡ district_words (numbered_district r))
 IsTakenOf cap r (Err refusal) = (refusal ≡ OrdersFull) × (cap < r.next_order)
 
--- the numbers of the records that opening an order of this key changes
-pub record ArePlaces (s : Sizes) (x : NewOrderInput) (k : OrderKey) (places : Places) : Type 0 where
-  pub district : places.district ≡ number_of_key s (key.District (home x))
-  pub new_order : places.new_order ≡ number_of_key s (key.NewOrder k)
-  pub order : places.order ≡ number_of_key s (key.Order k)
-  pub last : places.last ≡ number_of_key s (key.Last (buyer x))
+-- a district's words say that D_NEXT_O_ID, the second, is above the cap
+abbrev pub IsAbove : ℕ → Option (List ℕ) → Type 0
+IsAbove cap words = (ws : List ℕ) × (words ≡ Some ws) × (cap < slice_index ws 1)
 
--- what it writes, where the district gets these words
-abbrev pub opening_writes : NewOrderInput → OrderKey → Places → List ℕ → WriteSetView
-opening_writes x k places district =
-    puts (puts (puts (puts no_writes places.district (Some district)) places.new_order (Some (new_order_words (record {})))) places.order (Some (order_words (order_row x))))
-    places.last (Some (number_words k.order))
+-- whatever they are: a number within the cap is taken, and one above it refused
+abbrev pub IsNumberTaken : ℕ → Option (List ℕ) → Result Taken Refusal → Type 0
+IsNumberTaken cap words (Ok taken) = IsNumber cap taken.order × ¬ IsAbove cap words
+IsNumberTaken cap words (Err OrdersFull) = IsAbove cap words
+IsNumberTaken cap words (Err Stale) = ¬ IsAbove cap words
+IsNumberTaken cap words (Err _) = ⊥
+
+-- the number taken is D_NEXT_O_ID of the order's district at these tables, which meet condition 2 there
+pub record IsHomeTaken (x : NewOrderInput) (taken : Taken) (t : Database) : Type 0 where
+  pub row : District
+  pub at : get t.districts (home x) ≡ Some row
+  pub number : taken.order ≡ row.next_order
+  pub district : taken.district ≡ district_words (numbered_district row)
+  pub next : next_order t (home x) ≡ row.next_order
+  pub condition_2 : Condition2At t (home x)
 
 -- the record of the order's district was read, and doesn't say that D_NEXT_O_ID is above the order cap
 abbrev pub IsWithinCap : Sizes → NewOrderInput → ReadSetView → Type 0
 IsWithinCap s x reads =
-    (v : Version) × (held reads (number_of_key s (key.District (home x))) ≡ Some v) × ¬ SaysAbove s.orders v
+    (words : Option (List ℕ)) × HasRead reads (number_of_key s (key.District (home x))) words × ¬ IsAbove s.orders words
+
+-- why an order is refused: for want of memory, since its number as read is above the order cap, or since there are no
+-- tables at which it may have read
+abbrev pub IsOrderRefusal : Database → NewOrderInput → TransactionView → Refusal → Type 0
+IsOrderRefusal t0 x under_way OutOfMemory = ⊤
+IsOrderRefusal t0 x under_way OrdersFull = IsAboveCap t0.scale (input.NewOrder x) under_way.reads
+IsOrderRefusal t0 x under_way Stale =
+    (¬ IsAboveCap t0.scale (input.NewOrder x) under_way.reads) × NoneMayBe t0 under_way.reads
+IsOrderRefusal t0 x under_way _ = ⊥

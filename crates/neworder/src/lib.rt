@@ -8,7 +8,6 @@ mod prices;
 mod reply;
 mod rows;
 mod stock;
-mod taking;
 mod transaction;
 
 pub use transaction::execute;

@@ -1,45 +1,31 @@
 //! Opening an order on record cells (TPC-C 2.4.2.2): it takes its number, and gets its rows of ORDER and NEW-ORDER.
-ghost use Rattle.std.specs.Prelude.{◌≡◌, ◌≢◌, ◌+◌, ◌<◌, ◌≤◌, ◌⊎◌, [], length, IsSome, Some, Err, IfOk, IfErr, OnOk};
+ghost use Rattle.std.specs.Prelude.{◌≡◌, ◌≤◌, [], length, IsSome, Some, IfOk, IfErr, OnOk};
 ghost use Rattle.tables.specs.Sizes.{IsNumber};
-ghost use Rattle.tables.specs.Keys.{IsOrderKey};
-ghost use Rattle.tables.specs.Records.{number_of_key, record_count};
-ghost use Rattle.tables.specs.Database.{Database};
-ghost use Rattle.tables.specs.NewOrder.{IsNewOrder, home};
+ghost use Rattle.tables.specs.Keys.{IsCustomerKey, IsOrderKey};
+ghost use Rattle.tables.specs.Records.{number_of_key};
+ghost use Rattle.tables.specs.NewOrder.{IsNewOrder, home, buyer};
 ghost use Rattle.tables.specs.Rows.{district_words};
 ghost use Rattle.tables.specs.declared.rows.District.{District};
-ghost use Rattle.tables.specs.declared.keys.OrderKey.{OrderKey as Key};
-ghost use Rattle.tables.specs.declared.records.RecordKey.TheVariants as key;
-ghost use Rattle.tables.specs.declared.input.Input.TheVariants as input_variants;
-ghost use Rattle.money.specs.declared.refusal.Refusal.TheVariants.{OutOfMemory, OrdersFull, Stale};
-ghost use Rattle.cells.specs.Records.{ReaderView, HasGrown};
-ghost use Rattle.readset.specs.Reads.{value_of, held, Keeps, AreWithin, AreRead};
+ghost use Rattle.tables.specs.declared.records.RecordKey.TheVariants as key_variants;
+ghost use Rattle.money.specs.declared.refusal.Refusal.TheVariants.{OutOfMemory};
+ghost use Rattle.readset.specs.Reads.{held};
 ghost use Rattle.readset.specs.Writes.{no_writes};
-ghost use Rattle.readset.specs.Explains.{NoneMayBe};
-ghost use Rattle.readset.specs.Refused.{SaysAbove, IsAboveCap};
-ghost use Rattle.neworder.specs.Steps.{AreTaken};
-ghost use Rattle.neworder.specs.Opening.{IsTakenOf, IsWithinCap, ArePlaces, opening_writes};
+ghost use Rattle.readset.specs.Changes.{puts_all};
+ghost use Rattle.readset.specs.Transaction.{ReadsMore, GoesOn, AtAll};
+ghost use Rattle.neworder.specs.Steps.{AreTaken, opening};
+ghost use Rattle.neworder.specs.Opening.{IsTakenOf, IsNumberTaken, IsHomeTaken, IsWithinCap, IsOrderRefusal};
 
 use crate::rows::order_words;
-use cells::{Cells, Reader, Version};
 use money::Refusal;
-use readset::{ReadSet, WriteSet, value_of};
+use readset::{Start, Transaction};
 use std::sync::Wait;
-use tables::{CustomerKey, DistrictKey, NewOrderInput, OrderKey, RecordKey, Scale, number_of_key};
+use tables::{CustomerKey, DistrictKey, NewOrderInput, OrderKey, RecordKey};
 
 /// The number that an order takes, and its district's words then.
 #[derive(Clone, Copy)]
 pub(crate) struct Taken {
     pub order: u32,
     pub district: [u64; 7],
-}
-
-/// The numbers of the records that opening an order changes.
-#[derive(Clone, Copy)]
-pub(crate) struct Places {
-    pub district: u32,
-    pub new_order: u32,
-    pub order: u32,
-    pub last: u32,
 }
 
 /// Opens an order: reads its district's record and takes D_NEXT_O_ID from it, reads the absent records of its rows and
@@ -49,56 +35,54 @@ pub(crate) struct Places {
 ///
 /// `OrdersFull` exactly where D_NEXT_O_ID as read is above the order cap; `Stale` only where no tables at which the
 /// transaction may have read have the versions read; `OutOfMemory`.
-pub(crate) fn open_order<R: Wait>(
+pub(crate) fn open_order<R: Wait, K: Start>(
     rt: &R,
-    cells: &Cells,
-    reader: &mut Reader,
-    reads: &mut ReadSet,
-    writes: &mut WriteSet,
-    scale: &Scale,
+    transaction: &mut Transaction<'_, K>,
     order: &NewOrderInput,
 ) -> Result<OrderKey, Refusal>
-    requires own { reader.old.cells ≡ cells.now }
-    requires cells { length cells.now ≡ record_count scale.now }
-    requires input { IsNewOrder scale.now order.now }
-    requires none_read { reads.old ≡ [] }
-    requires none_written { writes.old ≡ no_writes }
-    ensures opened { IfOk result (λ k. (t : Database) → t.scale ≡ scale.now
-        → AreTaken t order.now k [] reads.new writes.new []) }
-    ensures key { IfOk result (IsOrderKey scale.now) }
-    ensures within_cap { OnOk result (IsWithinCap scale.now order.now reads.new) }
-    ensures full { result ≡ Err OrdersFull → IsAboveCap scale.now (input_variants.NewOrder order.now) reads.new }
-    ensures stale_within_cap { result ≡ Err Stale → IsWithinCap scale.now order.now reads.new }
-    ensures stale { result ≡ Err Stale → (t : Database) → t.scale ≡ scale.now → NoneMayBe t reads.new }
-    ensures refused { IfErr result (λ refusal. (refusal ≡ OutOfMemory) ⊎ (refusal ≡ OrdersFull) ⊎ (refusal ≡ Stale)) }
-    ensures within { AreWithin (length cells.now) reads.new }
-    ensures read { OnOk result (AreRead reader.old reader.new reads.new) }
-    ensures refused_read { IfErr result (λ refusal. refusal ≢ OutOfMemory → AreRead reader.old reader.new reads.new) }
-    ensures grown { HasGrown reader.old reader.new }
-    ensures limit { length reads.new ≤ 4 }
+    requires input { IsNewOrder K.tables.scale order.now }
+    requires begun { transaction.old ≡ record { reads = []; writes = no_writes } }
+    ensures opened { IfOk result (λ k. AreTaken K.tables order.now k [] transaction.new []) }
+    ensures key { IfOk result (IsOrderKey K.tables.scale) }
+    ensures within_cap { OnOk result (IsWithinCap K.tables.scale order.now transaction.new.reads) }
+    ensures refused { IfErr result (IsOrderRefusal K.tables order.now transaction.new) }
+    ensures goes_on { GoesOn 4 4 transaction.old transaction.new }
 {
-    let home = DistrictKey {
-        warehouse: order.warehouse,
-        district: order.district,
-    };
-    let district = number_of_key(scale, RecordKey::District(home));
-    let version = match reads.get(rt, cells, reader, district) {
-        Ok(version) => version,
-        Err(refusal) => return Err(refusal),
-    };
-    let taken = match take_number(&version, scale.orders()) {
-        Ok(taken) => taken,
-        Err(refusal) => return Err(refusal),
-    };
+    let taken = take_number(rt, transaction, order)?;
     let key = OrderKey {
         warehouse: order.warehouse,
         district: order.district,
         order: taken.order,
     };
-    let places = places_of(scale, order, key);
-    read_places(rt, cells, reader, reads, places)?;
-    write_places(writes, places, taken, order)?;
+    let buyer = CustomerKey {
+        warehouse: order.warehouse,
+        district: order.district,
+        customer: order.customer,
+    };
+    read_rows(rt, transaction, key, buyer)?;
+    write_rows(transaction, order, key, taken.district)?;
     Ok(key)
+}
+
+/// Reads the record of an order's district, and takes D_NEXT_O_ID from it.
+fn take_number<R: Wait, K: Start>(
+    rt: &R,
+    transaction: &mut Transaction<'_, K>,
+    order: &NewOrderInput,
+) -> Result<Taken, Refusal>
+    requires input { IsNewOrder K.tables.scale order.now }
+    ensures taken { IfOk result (λ taken. AtAll K.tables transaction.new (IsHomeTaken order.now taken)) }
+    ensures number { IfOk result (λ taken. IsNumber K.tables.scale.orders taken.order) }
+    ensures within_cap { OnOk result (IsWithinCap K.tables.scale order.now transaction.new.reads) }
+    ensures refused { IfErr result (IsOrderRefusal K.tables order.now transaction.new) }
+    ensures reads { ReadsMore 1 transaction.old transaction.new }
+{
+    let home = DistrictKey {
+        warehouse: order.warehouse,
+        district: order.district,
+    };
+    let words = transaction.read(rt, RecordKey::District(home))?;
+    number_taken(words, transaction.scale().orders())
 }
 
 /// The number that an order takes: D_NEXT_O_ID of its district's record, and the district's words with the next one.
@@ -106,16 +90,12 @@ pub(crate) fn open_order<R: Wait>(
 /// # Errors
 ///
 /// `OrdersFull` where the number is above this cap; `Stale` where the record is absent or its number 0.
-fn take_number(version: &Version, cap: u32) -> Result<Taken, Refusal>
-    ensures number { IfOk result (λ taken. IsNumber cap taken.order) }
-    ensures row { (r : District) → 1 ≤ r.next_order → value_of version.now ≡ Some (district_words r)
+fn number_taken(words: Option<[u64; 7]>, cap: u32) -> Result<Taken, Refusal>
+    ensures taken { IsNumberTaken cap words result }
+    ensures row { (r : District) → 1 ≤ r.next_order → words ≡ Some (district_words r)
         → IsTakenOf cap r result }
-    ensures within_cap { OnOk result (¬ SaysAbove cap version.now) }
-    ensures full { result ≡ Err OrdersFull → SaysAbove cap version.now }
-    ensures stale_within_cap { result ≡ Err Stale → ¬ SaysAbove cap version.now }
-    ensures refused { IfErr result (λ refusal. (refusal ≡ OrdersFull) ⊎ (refusal ≡ Stale)) }
 {
-    let Some(words) = value_of(version) else {
+    let Some(words) = words else {
         return Err(Refusal::Stale);
     };
     let next = words[1];
@@ -131,13 +111,53 @@ fn take_number(version: &Version, cap: u32) -> Result<Taken, Refusal>
     })
 }
 
-/// The records that opening an order of this key changes.
-fn places_of(scale: &Scale, order: &NewOrderInput, key: OrderKey) -> Places
-    requires input { IsNewOrder scale.now order.now }
-    requires key { IsOrderKey scale.now key }
-    ensures places { ArePlaces scale.now order.now key result }
-    ensures are_records { (result.district < record_count scale.now) × (result.new_order < record_count scale.now)
-        × (result.order < record_count scale.now) × (result.last < record_count scale.now) }
+/// Reads the records of an order's two rows, which are absent, and its buyer's LAST.
+fn read_rows<R: Wait, K: Start>(
+    rt: &R,
+    transaction: &mut Transaction<'_, K>,
+    key: OrderKey,
+    buyer: CustomerKey,
+) -> Result<(), Refusal>
+    requires key { IsOrderKey K.tables.scale key }
+    requires buyer { IsCustomerKey K.tables.scale buyer }
+    ensures holds_new_order { OnOk result
+        (IsSome (held transaction.new.reads (number_of_key K.tables.scale (key_variants.NewOrder key)))) }
+    ensures holds_order { OnOk result
+        (IsSome (held transaction.new.reads (number_of_key K.tables.scale (key_variants.Order key)))) }
+    ensures holds_last { OnOk result
+        (IsSome (held transaction.new.reads (number_of_key K.tables.scale (key_variants.Last buyer)))) }
+    ensures reads { ReadsMore 3 transaction.old transaction.new }
+    ensures only_memory { IfErr result (λ refusal. refusal ≡ OutOfMemory) }
+{
+    transaction.read(rt, RecordKey::NewOrder(key))?;
+    transaction.read(rt, RecordKey::Order(key))?;
+    transaction.read(rt, RecordKey::Last(buyer))?;
+    Ok(())
+}
+
+/// Says what the four records are to hold: the district's words, the order's two rows, and its number as its buyer's
+/// last.
+fn write_rows<K: Start>(
+    transaction: &mut Transaction<'_, K>,
+    order: &NewOrderInput,
+    key: OrderKey,
+    district: [u64; 7],
+) -> Result<(), Refusal>
+    requires input { IsNewOrder K.tables.scale order.now }
+    requires key { IsOrderKey K.tables.scale key }
+    requires holds_district { IsSome (held transaction.old.reads
+        (number_of_key K.tables.scale (key_variants.District (home order.now)))) }
+    requires holds_new_order { IsSome (held transaction.old.reads
+        (number_of_key K.tables.scale (key_variants.NewOrder key))) }
+    requires holds_order { IsSome (held transaction.old.reads
+        (number_of_key K.tables.scale (key_variants.Order key))) }
+    requires holds_last { IsSome (held transaction.old.reads
+        (number_of_key K.tables.scale (key_variants.Last (buyer order.now)))) }
+    ensures written { OnOk result (transaction.new.writes
+        ≡ puts_all K.tables.scale transaction.old.writes (opening order.now key district)) }
+    ensures reads { transaction.new.reads ≡ transaction.old.reads }
+    ensures goes_on { GoesOn 0 4 transaction.old transaction.new }
+    ensures only_memory { IfErr result (λ refusal. refusal ≡ OutOfMemory) }
 {
     let home = DistrictKey {
         warehouse: order.warehouse,
@@ -148,61 +168,9 @@ fn places_of(scale: &Scale, order: &NewOrderInput, key: OrderKey) -> Places
         district: order.district,
         customer: order.customer,
     };
-    Places {
-        district: number_of_key(scale, RecordKey::District(home)),
-        new_order: number_of_key(scale, RecordKey::NewOrder(key)),
-        order: number_of_key(scale, RecordKey::Order(key)),
-        last: number_of_key(scale, RecordKey::Last(buyer)),
-    }
-}
-
-/// Reads the records but the district's, of which the two rows are absent.
-fn read_places<R: Wait>(
-    rt: &R,
-    cells: &Cells,
-    reader: &mut Reader,
-    reads: &mut ReadSet,
-    places: Places,
-) -> Result<(), Refusal>
-    requires own { reader.old.cells ≡ cells.now }
-    requires are_records { (places.new_order < length cells.now) × (places.order < length cells.now)
-        × (places.last < length cells.now) }
-    ensures holds_new_order { OnOk result (IsSome (held reads.new places.new_order)) }
-    ensures holds_order { OnOk result (IsSome (held reads.new places.order)) }
-    ensures holds_last { OnOk result (IsSome (held reads.new places.last)) }
-    ensures keeps { Keeps reads.old reads.new }
-    ensures within { AreWithin (length cells.now) reads.old → AreWithin (length cells.now) reads.new }
-    ensures chain { (first : ReaderView) → AreRead first reader.old reads.old
-        → OnOk result (AreRead first reader.new reads.new) }
-    ensures grown_since { (first : ReaderView) → HasGrown first reader.old → HasGrown first reader.new }
-    ensures limit { length reads.new ≤ length reads.old + 3 }
-    ensures only_memory { IfErr result (λ refusal. refusal ≡ OutOfMemory) }
-{
-    reads.get(rt, cells, reader, places.new_order)?;
-    reads.get(rt, cells, reader, places.order)?;
-    reads.get(rt, cells, reader, places.last)?;
-    Ok(())
-}
-
-/// Says what the records are to hold: the district's words, the order's two rows, and its number as its buyer's last.
-fn write_places(
-    writes: &mut WriteSet,
-    places: Places,
-    taken: Taken,
-    order: &NewOrderInput,
-) -> Result<(), Refusal>
-    requires lines { length order.now.lines ≤ 15 }
-    requires none_written { writes.old ≡ no_writes }
-    ensures written { OnOk result ((k : Key) → k.order ≡ taken.order
-        → writes.new ≡ opening_writes order.now k places taken.district) }
-    ensures only_memory { IfErr result (λ refusal. refusal ≡ OutOfMemory) }
-{
-    writes.put(places.district, Some(taken.district))?;
-    writes.put(places.new_order, Some([0; 7]))?;
-    writes.put(places.order, Some(order_words(order)))?;
-    writes.put(
-        places.last,
-        Some([u64::from(taken.order), 0, 0, 0, 0, 0, 0]),
-    )?;
-    Ok(())
+    let number = u64::from(key.order);
+    transaction.put(RecordKey::District(home), Some(district))?;
+    transaction.put(RecordKey::NewOrder(key), Some([0; 7]))?;
+    transaction.put(RecordKey::Order(key), Some(order_words(order)))?;
+    transaction.put(RecordKey::Last(buyer), Some([number, 0, 0, 0, 0, 0, 0]))
 }

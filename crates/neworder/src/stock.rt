@@ -15,12 +15,13 @@ use tables::limits::{MAX_STOCK, MIN_STOCK, RESTOCK};
 /// by 91 less that where less than 10 would be left; S_YTD rises by it, S_ORDER_CNT by 1, and S_REMOTE_CNT by 1 where
 /// another warehouse supplies the line. None only where no stock of well-formed tables has these words, nor one from
 /// which 14 lines of the same order were drawn before.
-pub(crate) fn drawn(words: &[u64; 7], home: u32, line: &RequestedLine) -> Option<[u64; 7]>
+pub(crate) fn drawn(stock: Option<[u64; 7]>, home: u32, line: &RequestedLine) -> Option<[u64; 7]>
     requires { line.now.quantity ≤ MAX_QUANTITY }
     ensures small { IfSome result (λ words. slice_index words 0 < 2 ^ 32) }
-    ensures drawn { (r : Stock) → IsStockUpTo (MAX_COUNT + MAX_COUNT_STEP) r → words.now ≡ stock_words r
+    ensures drawn { (r : Stock) → IsStockUpTo (MAX_COUNT + MAX_COUNT_STEP) r → stock ≡ Some (stock_words r)
         → result ≡ Some (stock_words (drawn home line.now r)) }
 {
+    let words = stock?;
     Some([
         quantity_left(words[0], line.quantity)?,
         count_raised(words[1], line.quantity)?,

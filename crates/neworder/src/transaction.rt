@@ -1,6 +1,7 @@
 //! A New-Order on record cells.
-ghost use Rattle.std.specs.Prelude.{◌≡◌, length, IfOk, IfErr, OnOk};
-ghost use Rattle.tables.specs.NewOrder.{IsNewOrder};
+ghost use Rattle.std.specs.Prelude.{◌≡◌, ◌≤◌, [], length, All, OnOk, IfOk, IfErr};
+ghost use Rattle.tables.specs.Keys.{IsItemKey};
+ghost use Rattle.tables.specs.NewOrder.{IsNewOrder, IsRequestedLine};
 ghost use Rattle.tables.specs.Records.{record_count};
 ghost use Rattle.tables.specs.declared.input.Input.TheVariants as input_variants;
 ghost use Rattle.population.specs.Initial.{initial};
@@ -8,15 +9,22 @@ ghost use Rattle.cells.specs.Records.{HasGrown};
 ghost use Rattle.readset.specs.Reads.{AreRead};
 ghost use Rattle.readset.specs.Explains.{Explains, IsWithinLimits};
 ghost use Rattle.readset.specs.Refused.{NoneMissing, IsAboveCap, IsRefusal};
+ghost use Rattle.readset.specs.Writes.{no_writes};
+ghost use Rattle.neworder.specs.Opening.{IsOrderRefusal};
+ghost use Rattle.neworder.specs.Priced.{ArePriced};
+ghost use Rattle.neworder.specs.Executed.{IsOrderExecuted, IsReplyOf, IsWorkOf};
 
-use crate::prices::{Pricing, price_lines};
+use crate::lines::take_lines;
+use crate::opening::open_order;
+use crate::prices::{Priced, Pricing, price_lines};
 use crate::reply::reply_to;
-use crate::taking::take_order;
 use cells::{Cells, Reader};
 use money::Refusal;
 use population::Population;
-use readset::{ReadSet, Work, WriteSet};
+use readset::{ReadSet, Start, Transaction, Work, WriteSet};
 use std::alloc::{AllocError, Global};
+use std::marker::Brand;
+use std::mem;
 use std::sync::Wait;
 use tables::{Input, NewOrderInput, Reply};
 
@@ -53,37 +61,78 @@ pub fn execute<R: Wait>(
     ensures refused { IfErr result
         (IsRefusal (initial population.now) (input_variants.NewOrder order.now) reader.old reader.new) }
 {
+    let taken = mem::replace(reader, Reader::new(alloc));
+    let (after, work) = run::<Brand, R>(rt, alloc, cells, taken, population, order);
+    *reader = after;
+    work
+}
+
+/// The same of a reader of its own.
+fn run<K: Start, R: Wait>(
+    rt: &R,
+    alloc: Global,
+    cells: &Cells,
+    reader: Reader,
+    population: &Population,
+    order: &NewOrderInput,
+) -> (Reader, Result<Work, Refusal>)
+    requires input { IsNewOrder K.tables.scale order.now }
+    requires tables { initial population.now ≡ K.tables }
+    requires reader { reader ≡ K.reader }
+    requires own { reader.cells ≡ cells.now }
+    requires cells { length cells.now ≡ record_count K.tables.scale }
+    ensures { IsOrderExecuted K.tables order.now K.reader result.0 result.1 }
+{
     let priced = match price_lines(alloc, population, order.lines.as_slice()) {
         Pricing::Priced(priced) => priced,
-        Pricing::ItemMissing(item) => return Err(Refusal::ItemNotValid { item }),
-        Pricing::OutOfMemory => return Err(Refusal::OutOfMemory),
+        Pricing::ItemMissing(item) => return (reader, Err(Refusal::ItemNotValid { item })),
+        Pricing::OutOfMemory => return (reader, Err(Refusal::OutOfMemory)),
     };
-    let mut reads = ReadSet::new(alloc);
-    let mut writes = WriteSet::new(alloc);
-    let (scale, amounts) = (population.scale(), priced.amounts.as_slice());
-    let taken = match take_order(
-        rt,
-        alloc,
-        cells,
-        reader,
-        &mut reads,
-        &mut writes,
-        &scale,
-        order,
-        amounts,
-    ) {
-        Ok(taken) => taken,
-        Err(refusal) => return Err(refusal),
-    };
-    let Ok(input) = copied(order) else {
-        return Err(Refusal::OutOfMemory);
-    };
-    let reply = reply_to(population, order, taken.key, priced.sum, taken.supplied);
+    let mut transaction = Transaction::<K>::begin(alloc, cells, population, reader);
+    let reply = take_order(rt, alloc, &mut transaction, order, &priced);
+    let (reader, reads, writes) = transaction.into_parts();
+    (reader, work_of(order, reads, writes, reply))
+}
+
+/// Opens the order, takes its lines, and replies.
+fn take_order<R: Wait, K: Start>(
+    rt: &R,
+    alloc: Global,
+    transaction: &mut Transaction<'_, K>,
+    order: &NewOrderInput,
+    priced: &Priced,
+) -> Result<Reply, Refusal>
+    requires input { IsNewOrder K.tables.scale order.now }
+    requires lines { All (λ l. IsRequestedLine K.tables.scale l × IsItemKey K.tables.scale l.item) order.now.lines }
+    requires priced { ArePriced K.tables order.now.lines priced.now }
+    requires begun { transaction.old ≡ record { reads = []; writes = no_writes } }
+    ensures reply { IfOk result (IsReplyOf K.tables order.now transaction.new) }
+    ensures refused { IfErr result (IsOrderRefusal K.tables order.now transaction.new) }
+    ensures reads { length transaction.new.reads ≤ 34 }
+    ensures writes { length transaction.new.writes.values ≤ 34 }
+{
+    let key = open_order(rt, transaction, order)?;
+    let amounts = priced.amounts.as_slice();
+    let supplied = take_lines(rt, alloc, transaction, order, key, amounts)?;
+    Ok(Reply::NewOrder(reply_to(transaction.population(), order, key, priced.sum, supplied)))
+}
+
+/// The work of an order that has this reply, if it has one. Costs a copy of its input.
+fn work_of(
+    order: &NewOrderInput,
+    reads: ReadSet,
+    writes: WriteSet,
+    reply: Result<Reply, Refusal>,
+) -> Result<Work, Refusal>
+    ensures { IsWorkOf order.now reads writes reply result }
+{
+    let reply = reply?;
+    let input = Input::NewOrder(copied(order)?);
     Ok(Work {
-        input: Input::NewOrder(input),
+        input,
         reads,
         writes,
-        reply: Reply::NewOrder(reply),
+        reply,
     })
 }
 

@@ -1,5 +1,5 @@
 -- A transaction under way, after a step.
-use Rattle.std.proofs.Common.{◌≡◌, ℕ, ◌+◌, ◌≤◌, Bool, Option, Some, None, Result, Ok, Err, OnOk, OnErr, IsSome, is_some, Bor, List, length, inl, inr, refl, sym, ap, ◌∙◌, subst, arith}
+use Rattle.std.proofs.Common.{◌≡◌, ℕ, ◌+◌, ◌≤◌, Bool, Option, Some, None, Result, Ok, Err, OnOk, OnErr, IsSome, is_some, Bor, List, length, refl, sym, ap, ◌∙◌, subst, arith}
 use Rattle.std.specs.Option.{option_copied}
 use Rattle.tables.specs.Sizes.{Sizes}
 use Rattle.tables.specs.Database.{Database}
@@ -9,7 +9,6 @@ use Rattle.tables.specs.declared.records.RecordKey.{RecordKey}
 use Rattle.tables.specs.declared.input.Input.{Input}
 use Rattle.tables.specs.declared.reply.Reply.{Reply}
 use Rattle.money.specs.declared.refusal.Refusal.{Refusal}
-use Rattle.money.specs.declared.refusal.Refusal.TheVariants.{OutOfMemory, Stale}
 use Rattle.cells.specs.Records.{ReaderView, HasGrown}
 use Rattle.cells.specs.declared.cells.Version.{Version}
 use Rattle.readset.specs.Reads.{ReadSetView, Keeps, AreWithin, AreRead, held, value_of}
@@ -17,7 +16,7 @@ use Rattle.readset.specs.Writes.{WriteSetView, puts}
 use Rattle.readset.specs.Commit.{IsCommitOf}
 use Rattle.readset.specs.declared.limits.TheConstants.{MAX_READS, MAX_WRITES}
 use Rattle.readset.specs.Explains.{MayBe}
-use Rattle.readset.specs.Transaction.{TransactionView, IsUnderWay, ReadsMore, GoesOn, IsStepRefusal, IsReadRefusal, IsExecuted}
+use Rattle.readset.specs.Transaction.{TransactionView, IsUnderWay, ReadsMore, GoesOn, IsExecuted}
 use Rattle.readset.proofs.LeftIs.{row_read}
 use Rattle.readset.proofs.MoreReads.{may_be_before}
 use Rattle.readset.proofs.WrittenRecords.{keeps_read, length-insert_entry, puts_read, written_within}
@@ -76,16 +75,6 @@ executed t0 x start now reads writes told h explains few_reads few_writes = reco
   grown = h.grown;
   refused = tt;
 }
-
--- and of one that was refused
-pub refused_executed : (t0 : Database) (x : Input) (start now : ReaderView) (under_way : TransactionView) (refusal : Refusal) → IsUnderWay start now under_way → IsStepRefusal t0 under_way refusal
-    → IsExecuted t0 x start now (Err refusal)
-refused_executed t0 x start now under_way refusal h why = record { input = tt; read = tt; explains = tt; limits = tt; grown = h.grown; refused = go refusal why }
-  where
-    go : (r : Refusal) → IsStepRefusal t0 under_way r → IsReadRefusal t0 start now r
-    go OutOfMemory w = inl refl
-    go Stale w = inr (refl, (under_way.reads, h.read, w))
-    go _ w = absurd w
 
 -- steps in a row
 pub reads_none : (most : ℕ) (x : TransactionView) → ReadsMore most x x

@@ -1,5 +1,5 @@
 //! A transaction under way, from its first read to its work.
-ghost use Rattle.std.specs.Prelude.{◌≡◌, ◌≢◌, ◌≤◌, ℕ, [], Some, IsSome, is_some, length, OnOk, OnErr, IfErr};
+ghost use Rattle.std.specs.Prelude.{◌≡◌, ◌≢◌, ◌≤◌, ℕ, [], Some, IsSome, is_some, length, OnOk, OnErr, IfOk, IfErr};
 ghost use Rattle.money.specs.declared.refusal.Refusal.TheVariants.{OutOfMemory};
 ghost use Rattle.tables.specs.Database.{Database};
 ghost use Rattle.tables.specs.Records.{IsRecordKey, number_of_key, record_count};
@@ -10,7 +10,7 @@ ghost use Rattle.readset.specs.declared.limits.TheConstants.{MAX_READS, MAX_WRIT
 ghost use Rattle.readset.specs.Reads.{held};
 ghost use Rattle.readset.specs.Writes.{no_writes, puts, left_at};
 ghost use Rattle.readset.specs.Commit.{IsCommitOf};
-ghost use Rattle.readset.specs.Transaction.{ReadsMore, GoesOn, Finds, IsExecuted};
+ghost use Rattle.readset.specs.Transaction.{HasRead, IsUnderWay, ReadsMore, GoesOn, Finds, IsExecuted};
 
 use crate::reads::{ReadSet, value_of};
 use crate::work::Work;
@@ -129,6 +129,7 @@ impl<'a, K: Start> Transaction<'a, K> {
         requires { IsRecordKey K.tables.scale key }
         ensures words { Finds K.tables self.new result (λ words t. row_at t key ≡ words) }
         ensures holds { OnOk result (IsSome (held self.new.reads (number_of_key K.tables.scale key))) }
+        ensures version { IfOk result (HasRead self.new.reads (number_of_key K.tables.scale key)) }
         ensures others { (n : ℕ) → n ≢ number_of_key K.tables.scale key
             → held self.new.reads n ≡ held self.old.reads n }
         ensures reads { ReadsMore 1 self.old self.new }
@@ -180,6 +181,23 @@ impl<'a, K: Start> Transaction<'a, K> {
         self.writes.put_history_row(row);
     }
 
+    /// Its reader as it is now, what it has read, and what it is to write.
+    pub fn into_parts(self) -> (Reader, ReadSet, WriteSet)
+        ensures under_way { IsUnderWay K.reader result.0 self.entry }
+        ensures reads { result.1 ≡ self.entry.reads }
+        ensures writes { result.2 ≡ self.entry.writes }
+    {
+        let Transaction {
+            cells: _,
+            population: _,
+            reader,
+            reads,
+            writes,
+            start: _,
+        } = self;
+        (reader, reads, writes)
+    }
+
     /// The reader as it is now, and the work, where the reply was found; else the refusal.
     pub fn finish(
         self,
@@ -191,14 +209,7 @@ impl<'a, K: Start> Transaction<'a, K> {
         requires writes { length self.writes.values ≤ MAX_WRITES }
         ensures { IsExecuted K.tables input K.reader result.0 result.1 }
     {
-        let Transaction {
-            cells: _,
-            population: _,
-            reader,
-            reads,
-            writes,
-            start: _,
-        } = self;
+        let (reader, reads, writes) = self.into_parts();
         match reply {
             Ok(reply) => (
                 reader,

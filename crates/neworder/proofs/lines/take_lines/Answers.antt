@@ -1,61 +1,35 @@
-use Rattle.std.proofs.Common.{◌≡◌, ◌+◌, [], ◌∷◌, ◌++◌, take, sym, ap, ◌∙◌, subst, arith}
-use Rattle.std.proofs.lemmas.List.{take_more, take_all}
+use Rattle.std.proofs.Common.{rules, ◌+◌, ◌*◌, ◌<◌, List, [], ◌∷◌, ◌++◌, length, take, get_or, sym, ap, ◌∙◌, subst, arith}
+use Rattle.std.proofs.lemmas.List.{take_more}
+use Rattle.tables.specs.declared.new_order.RequestedLine.{RequestedLine}
+use Rattle.readset.specs.Transaction.{IsStepRefusal}
+use Rattle.readset.proofs.UnderWay.{goes_on_twice}
 use Rattle.neworder.specs.Steps.{AreTaken}
-use Rattle.neworder.proofs.SoFar.{so_far, priced_at, same_refusal}
+use Rattle.neworder.proofs.SoFar.{so_far}
 use Rattle.neworder.proofs.lines.take_lines.Goals as goal
 
-pub returns-in-Err-clause-stale : goal.returns-in-Err-clause-stale
-returns-in-Err-clause-stale g c = λ t x scale priced start stale.
+pub returns-in_err-taken-clause-refused : goal.returns-in_err-taken-clause-refused
+returns-in_err-taken-clause-refused g c =
     let i = c.loop-line.line-index in
-    c.in-Err.ensures.stale t x (take i c.args.lines.now) c.loop-line.supplied.items scale
-    (c.index-amounts-number.is ∙ priced_at t c.args.lines.now c.args.amounts.now c.loop-line.number i _ _ priced c.loop-line.invariant.number c.loop-line-test.true)
-    (so_far c.args.lines.now c.loop-line.number i c.loop-line.invariant.number c.loop-line-test.true)
-    (c.loop-line.invariant.taken t x scale priced start) (same_refusal _ _ stale)
-
-pub returns-in-Err-clause-keeps : goal.returns-in-Err-clause-keeps
-returns-in-Err-clause-keeps g c = λ n v found. c.in-Err.ensures.keeps n v (c.loop-line.invariant.keeps n v found)
-
-pub returns-in-Err-clause-stale_chain : goal.returns-in-Err-clause-stale_chain
-returns-in-Err-clause-stale_chain g c = λ stale first start. c.in-Err.ensures.stale_chain (same_refusal _ _ stale) first (c.loop-line.invariant.chain first start)
-
-pub returns-in-Err-clause-grown_since : goal.returns-in-Err-clause-grown_since
-returns-in-Err-clause-grown_since g c = λ first start. c.in-Err.ensures.grown_since first (c.loop-line.invariant.grown first start)
-
-pub returns-in_default-clause-grown_since : goal.returns-in_default-clause-grown_since
-returns-in_default-clause-grown_since g c = λ first start. c.in-Ok.ensures.grown_since first (c.loop-line.invariant.grown first start)
+    let lines = c.args.order.now.lines in
+    let why : IsStepRefusal g.K.Start.tables c.take_line.new.transaction c.in_err-taken.field-0.0 =
+    c.in_err-taken.ensures.taken (take i lines) c.loop-line.supplied.items
+    (so_far lines c.loop-line.number i c.loop-line.invariant.number (subst (λ (ls : List RequestedLine). i < length ls) c.as_slice-line-items.ensures c.loop-line-test.true)) c.loop-line.invariant.taken in
+    search (rules, why)
 
 pub loop-line-preserved : goal.loop-line-preserved
 loop-line-preserved g c =
     let i = c.loop-line.line-index in
+    let so = c.loop-line.invariant in
+    let x = c.args.order.now in
+    let t0 = g.K.Start.tables in
+    let now = c.take_line.new.transaction in
+    let none : RequestedLine = record { item = 0; supply_warehouse = 0; quantity = 0 } in
+    let more = subst (λ (ls : List RequestedLine). i < length ls) c.as_slice-line-items.ensures c.loop-line-test.true in
     record {
-      own = c.in-Ok.ensures.grown.cells ∙ c.loop-line.invariant.own;
-      number = ap (λ n. n + 1) c.loop-line.invariant.number;
-      taken = λ t x scale priced start.
-          let pushed : c.loop-line.supplied.items ++ c.in-Ok.taken ∷ [] ≡ c.push.new.self.items = sym c.in-Ok-push.ensures.items in
-          let more = sym (take_more c.args.lines.now i _ c.loop-line-test.true) in
-          subst (λ ns. AreTaken t x c.args.order (take (i + 1) c.args.lines.now) c.take_next.new.reads c.take_next.new.writes ns) pushed
-          (subst (λ ls. AreTaken t x c.args.order ls c.take_next.new.reads c.take_next.new.writes (c.loop-line.supplied.items ++ c.in-Ok.taken ∷ [])) more
-          (c.in-Ok.ensures.taken t x (take i c.args.lines.now) c.loop-line.supplied.items scale
-          (c.index-amounts-number.is ∙ priced_at t c.args.lines.now c.args.amounts.now c.loop-line.number i _ _ priced c.loop-line.invariant.number c.loop-line-test.true)
-          (so_far c.args.lines.now c.loop-line.number i c.loop-line.invariant.number c.loop-line-test.true)
-          (c.loop-line.invariant.taken t x scale priced start)));
-      within = λ before. c.in-Ok.ensures.within (c.loop-line.invariant.within before);
-      keeps = λ n v found. c.in-Ok.ensures.keeps n v (c.loop-line.invariant.keeps n v found);
-      chain = λ first start. c.in-Ok.ensures.chain first (c.loop-line.invariant.chain first start);
-      grown = λ first start. c.in-Ok.ensures.grown_since first (c.loop-line.invariant.grown first start);
-      limit = omega (arith, c.in-Ok.ensures.limit, c.loop-line.invariant.limit);
+      number = ap (λ n. n + 1) so.number;
+      taken =
+          subst (λ told. AreTaken t0 x c.args.key (take (i + 1) x.lines) now told) (sym c.in_ok-push.ensures.items)
+          (subst (λ ls. AreTaken t0 x c.args.key ls now (c.loop-line.supplied.items ++ c.in_ok-taken.taken ∷ [])) (sym (take_more x.lines i none more ∙ ap (λ (ls : List RequestedLine). take i x.lines ++ get_or ls i none ∷ []) (sym c.as_slice-line-items.ensures)))
+          (c.in_ok-taken.ensures.taken (take i x.lines) c.loop-line.supplied.items (so_far x.lines c.loop-line.number i so.number more) so.taken));
+      goes_on = goes_on_twice c.args.transaction.now c.loop-line.transaction now (2 * i) (2 * i) 2 2 (2 * (i + 1)) (2 * (i + 1)) so.goes_on c.take_line.ensures.goes_on (omega arith) (omega arith);
     }
-
-pub returns-clause-taken : goal.returns-clause-taken
-returns-clause-taken g c = λ t x scale priced start.
-    let all = take_all c.loop-line.line-index c.args.lines.now (omega (arith, c.loop-line-test.false)) in
-    subst (λ ls. AreTaken t x c.args.order ls c.loop-line.reads c.loop-line.writes c.loop-line.supplied.items) all (c.loop-line.invariant.taken t x scale priced start)
-
-pub returns-in-Err-clause-within : goal.returns-in-Err-clause-within
-returns-in-Err-clause-within g c = λ before. c.in-Err.ensures.within (c.loop-line.invariant.within before)
-
-pub returns-in_default-clause-keeps : goal.returns-in_default-clause-keeps
-returns-in_default-clause-keeps g c = λ n v found. c.in-Ok.ensures.keeps n v (c.loop-line.invariant.keeps n v found)
-
-pub returns-in_default-clause-within : goal.returns-in_default-clause-within
-returns-in_default-clause-within g c = λ before. c.in-Ok.ensures.within (c.loop-line.invariant.within before)

@@ -1,7 +1,7 @@
-use Rattle.std.proofs.Common.{ap, sym, ◌∙◌}
+use Rattle.std.proofs.Common.{ap, ◌∙◌}
 use Rattle.tables.specs.Sizes.{Sizes}
 use Rattle.tables.specs.Records.{number_of_key}
-use Rattle.readset.specs.Reads.{ReadSetView, held}
+use Rattle.readset.specs.Reads.{held}
 use Rattle.readset.specs.Transaction.{TransactionView}
 use Rattle.readset.proofs.UnderWay.{found_is}
 use Rattle.readset.proofs.transaction.Transaction.has_read.Goals as goal

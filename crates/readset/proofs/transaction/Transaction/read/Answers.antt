@@ -1,4 +1,4 @@
-use Rattle.std.proofs.Common.{◌∙◌, ap, sym, subst, length, IsSome}
+use Rattle.std.proofs.Common.{◌∙◌, ap, subst, length, IsSome}
 use Rattle.tables.specs.Sizes.{Sizes}
 use Rattle.tables.specs.Records.{number_of_key}
 use Rattle.readset.specs.Reads.{held}

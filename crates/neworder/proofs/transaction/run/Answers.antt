@@ -1,0 +1,33 @@
+use Rattle.std.proofs.Common.{List, subst}
+use Rattle.tables.specs.Database.{Database}
+use Rattle.tables.specs.Keys.{IsItemKey}
+use Rattle.tables.specs.Maps.{RowsWithin}
+use Rattle.tables.specs.declared.new_order.RequestedLine.{RequestedLine}
+use Rattle.readset.specs.Reads.{ReadSetView}
+use Rattle.readset.specs.Writes.{WriteSetView}
+use Rattle.neworder.specs.Priced.{ArePriced}
+use Rattle.neworder.specs.Executed.{IsWorkOf}
+use Rattle.neworder.proofs.Ended.{order_ended}
+use Rattle.neworder.proofs.Explained.{items_there}
+use Rattle.neworder.proofs.Refusals.{none_missing}
+use Rattle.neworder.proofs.transaction.run.Goals as goal
+
+pub take_order-reply-requires-clause-lines : goal.take_order-reply-requires-clause-lines
+take_order-reply-requires-clause-lines g c =
+    let x = c.args.order.now in
+    let prices = subst (λ (ls : List RequestedLine). ArePriced g.K.Start.tables ls c.in-Priced.priced) c.as_slice.ensures
+    (subst (λ (t : Database). ArePriced t c.as_slice.result.now c.in-Priced.priced) c.requires.tables c.in-Priced.ensures) in
+    items_there g.K.Start.tables x.lines (subst (λ (t : Database). RowsWithin (IsItemKey t.scale) t.items) c.requires.tables c.args.population.now.well_formed.items) prices.none_missing c.requires.input.lines
+
+pub returns : goal.returns
+returns g c =
+    let t0 = g.K.Start.tables in
+    let x = c.args.order.now in
+    let last = c.take_order-reply.new.transaction in
+    let parts = c.into_parts-reader.result in
+    let is = c.into_parts-reader.ensures in
+    let prices = subst (λ (ls : List RequestedLine). ArePriced t0 ls c.in-Priced.priced) c.as_slice.ensures
+    (subst (λ (t : Database). ArePriced t c.as_slice.result.now c.in-Priced.priced) c.requires.tables c.in-Priced.ensures) in
+    order_ended t0 x g.K.Start.reader parts.0 last (none_missing t0 x prices.none_missing) is.under_way c.take_order-reply.ensures.reads c.take_order-reply.ensures.writes
+    c.take_order-reply.result c.work_of.result c.take_order-reply.ensures.reply c.take_order-reply.ensures.refused
+    (subst (λ (q : ReadSetView × WriteSetView). IsWorkOf x q.0 q.1 c.take_order-reply.result c.work_of.result) (λ i. (is.reads i, is.writes i)) c.work_of.ensures)
