@@ -51,7 +51,8 @@ module _ (t0 : Database) (x : NewOrderInput) (under_way : TransactionView) (word
         let found = there (IsDistrictKey t.scale) t.districts h.well_formed.districts (home x) at_home in
         let next : next_order t (home x) ≡ found.0.next_order = ap (λ (o : Option District). option_map_or (λ r. r.next_order) o 0) found.1 in
         let second : Condition2At t (home x) =
-        (h.numbered (home x) at_home (subst (λ (q : Sizes). IsSome (held under_way.reads (number_of_key q (key.District (home x))))) (sym s) is_held)).condition_2 in
+        (h.numbered (home x) at_home
+        (subst (λ (q : Sizes). IsSome (held under_way.reads (number_of_key q (key.District (home x))))) (sym s) is_held)).condition_2 in
         let last : greatest (numbers_in (home x) t.orders) + 1 ≡ next_order t (home x) = second.0 in
         record {
           row = found.0;
@@ -62,25 +63,26 @@ module _ (t0 : Database) (x : NewOrderInput) (under_way : TransactionView) (word
           condition_2 = second;
         }
 
-    module _ (result : Result Taken Refusal) (row : (r : District) → 1 ≤ r.next_order → words ≡ Some (district_words r) → IsTakenOf t0.scale.orders r result) where
-      taken_of : (t : Database) (h : MayBe t0 under_way.reads t) → IsTakenOf t0.scale.orders (home_of t h).row result
-      taken_of t h = let r = home_of t h in row r.row r.positive r.is
+    module _ (result : Result Taken Refusal) (row : (r : District) → 1 ≤ r.next_order → words ≡ Some (district_words r) → IsTakenOf t0.scale.orders r result)
+      where
+        taken_of : (t : Database) (h : MayBe t0 under_way.reads t) → IsTakenOf t0.scale.orders (home_of t h).row result
+        taken_of t h = let r = home_of t h in row r.row r.positive r.is
 
-      -- an order is refused for its district's row only where there are no such tables
-      pub none_opened : result ≡ Err Stale → NoneMayBe t0 under_way.reads
-      none_opened stale t h = let p : (Stale ≡ OrdersFull) × _ = subst (IsTakenOf t0.scale.orders (home_of t h).row) stale (taken_of t h) in absurd cc
+        -- an order is refused for its district's row only where there are no such tables
+        pub none_opened : result ≡ Err Stale → NoneMayBe t0 under_way.reads
+        none_opened stale t h = let p : (Stale ≡ OrdersFull) × _ = subst (IsTakenOf t0.scale.orders (home_of t h).row) stale (taken_of t h) in absurd cc
 
-      -- and else takes its number
-      pub home_taken : IfOk result (λ taken. AtAll t0 under_way (IsHomeTaken x taken))
-      home_taken = go result taken_of
-        where
-          go : (r : Result Taken Refusal) → ((t : Database) (h : MayBe t0 under_way.reads t) → IsTakenOf t0.scale.orders (home_of t h).row r)
-              → IfOk r (λ taken. AtAll t0 under_way (IsHomeTaken x taken))
-          go (Ok taken) made = λ t h.
-              let r = home_of t h in
-              let is = made t h in
-              record { row = r.row; at = r.at; number = is.0; district = is.1; next = r.next; condition_2 = r.condition_2 }
-          go (Err refusal) made = tt
+        -- and else takes its number
+        pub home_taken : IfOk result (λ taken. AtAll t0 under_way (IsHomeTaken x taken))
+        home_taken = go result taken_of
+          where
+            go : (r : Result Taken Refusal) → ((t : Database) (h : MayBe t0 under_way.reads t) → IsTakenOf t0.scale.orders (home_of t h).row r)
+                → IfOk r (λ taken. AtAll t0 under_way (IsHomeTaken x taken))
+            go (Ok taken) made = λ t h.
+                let r = home_of t h in
+                let is = made t h in
+                record { row = r.row; at = r.at; number = is.0; district = is.1; next = r.next; condition_2 = r.condition_2 }
+            go (Err refusal) made = tt
 
 -- an order is opened by the writes of its four records
 module _ (t0 : Database) (x : NewOrderInput) (taken : Taken) (valid : IsNewOrder t0.scale x) (within : IsNumber t0.scale.orders taken.order)
@@ -102,12 +104,15 @@ module _ (t0 : Database) (x : NewOrderInput) (taken : Taken) (valid : IsNewOrder
         let w : district_words (numbered_district r.row) ≡ taken.district = sym r.district in
         subst (λ (writes : WriteSetView). Holds t writes (row_at (after_lines t x [])))
         (λ i. puts_all (s i) no_writes (opening x (e i) (w i)))
-        (holds_opened t x no_writes r.row h.well_formed r.condition_2 number (v.warehouse, v.district) (v.warehouse, v.district, v.customer) r.at (holds_first t no_writes (λ n. refl)))
+        (holds_opened t x no_writes r.row h.well_formed r.condition_2 number (v.warehouse, v.district) (v.warehouse, v.district, v.customer) r.at
+        (holds_first t no_writes (λ n. refl)))
 
-    pub opened_taken : (last : TransactionView) → Keeps first.reads last.reads → last.writes ≡ puts_all t0.scale no_writes (opening x k taken.district) → AreTaken t0 x k [] last []
+    pub opened_taken : (last : TransactionView) → Keeps first.reads last.reads → last.writes ≡ puts_all t0.scale no_writes (opening x k taken.district)
+        → AreTaken t0 x k [] last []
     opened_taken last keeps written = record {
       requested = All-nil (IsRequestedLine t0.scale);
       at_order = λ t h. named t (may_be_before t0 first.reads last.reads t keeps h);
-      holds = λ t h. subst (λ (w : WriteSetView). Holds t w (row_at (after_lines t x []))) (sym written) (held_rows t (may_be_before t0 first.reads last.reads t keeps h));
+      holds = λ t h. subst (λ (w : WriteSetView). Holds t w (row_at (after_lines t x []))) (sym written)
+          (held_rows t (may_be_before t0 first.reads last.reads t keeps h));
       supplied = λ t h. refl;
     }

@@ -9,7 +9,8 @@ use Rattle.tables.proofs.Orders.{IsExact}
 use Rattle.tables.proofs.LookUps.{found}
 use Rattle.tables.proofs.Views.{get-view}
 
-module _ {K X : Type 0} {R : K → K → Ordering} (o : IsExact R) (f : X → ℕ) (m : BTreeMap K X) (n : FinMap R X) (is : from_entries {R = R} m.entries ≡ n) (k : K) where
+module _ {K X : Type 0} {R : K → K → Ordering} (o : IsExact R) (f : X → ℕ) (m : BTreeMap K X) (n : FinMap R X) (is : from_entries {R = R} m.entries ≡ n)
+    (k : K) where
   pub column_some : (r : X) → Some r ≡ tree.get R m k → f r ≡ option_map_or f (get n k) 0
   column_some r e = sym (ap (λ (w : Option X). option_map_or f w 0) (ap (λ (q : FinMap R X). get q k) (sym is) ∙ found o m k r e))
 

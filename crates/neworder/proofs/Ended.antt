@@ -14,14 +14,16 @@ use Rattle.neworder.specs.Opening.{IsOrderRefusal}
 use Rattle.neworder.specs.Executed.{IsReplyOf, IsWorkOf, IsOrderExecuted}
 use Rattle.neworder.proofs.Refusals.{order_refused}
 
-module _ (t0 : Database) (x : NewOrderInput) (old new : ReaderView) (under_way : TransactionView) (none : NoneMissing t0 (inputs.NewOrder x)) (h : IsUnderWay old new under_way)
+module _ (t0 : Database) (x : NewOrderInput) (old new : ReaderView) (under_way : TransactionView) (none : NoneMissing t0 (inputs.NewOrder x))
+    (h : IsUnderWay old new under_way)
     (few_reads : length under_way.reads ≤ 34) (few_writes : length under_way.writes.values ≤ 34)
   where
     -- with a reply
     replied : (told : Reply) → IsReplyOf t0 x under_way told
         → IsOrderExecuted t0 x old new (Ok (record { input = inputs.NewOrder x; reads = under_way.reads; writes = under_way.writes; reply = told }))
     replied told reply =
-        let done = executed t0 (inputs.NewOrder x) old new under_way.reads under_way.writes told h reply.commits (omega (arith, few_reads)) (omega (arith, few_writes)) in
+        let done = executed t0 (inputs.NewOrder x) old new under_way.reads under_way.writes told h reply.commits (omega (arith, few_reads))
+        (omega (arith, few_writes)) in
         record {
           input = refl;
           none_missing = none;
@@ -36,7 +38,8 @@ module _ (t0 : Database) (x : NewOrderInput) (old new : ReaderView) (under_way :
     refused_so : (refusal : Refusal) → IsRefusal t0 (inputs.NewOrder x) old new refusal → IsOrderExecuted t0 x old new (Err refusal)
     refused_so refusal why = record { input = tt; none_missing = tt; within_cap = tt; read = tt; explains = tt; limits = tt; grown = h.grown; refused = why }
 
-    pub order_ended : (reply : Result Reply Refusal) (result : Result Work Refusal) → IfOk reply (IsReplyOf t0 x under_way) → IfErr reply (IsOrderRefusal t0 x under_way)
+    pub order_ended : (reply : Result Reply Refusal) (result : Result Work Refusal) → IfOk reply (IsReplyOf t0 x under_way)
+        → IfErr reply (IsOrderRefusal t0 x under_way)
         → IsWorkOf x under_way.reads under_way.writes reply result → IsOrderExecuted t0 x old new result
     order_ended reply (Ok work) told refused is =
         let made : work ≡ record { input = inputs.NewOrder x; reads = under_way.reads; writes = under_way.writes; reply = work.reply } =
@@ -44,6 +47,7 @@ module _ (t0 : Database) (x : NewOrderInput) (old new : ReaderView) (under_way :
         subst (λ (w : Work). IsOrderExecuted t0 x old new (Ok w)) (sym made)
         (replied work.reply (subst (λ (r : Result Reply Refusal). IfOk r (IsReplyOf t0 x under_way)) is.0 told))
     order_ended reply (Err refusal) told refused (inl is) =
-        refused_so refusal (order_refused t0 x old new under_way refusal none h (subst (λ (r : Result Reply Refusal). IfErr r (IsOrderRefusal t0 x under_way)) is refused))
+        refused_so refusal (order_refused t0 x old new under_way refusal none h
+        (subst (λ (r : Result Reply Refusal). IfErr r (IsOrderRefusal t0 x under_way)) is refused))
     order_ended reply (Err refusal) told refused (inr memory) =
         refused_so refusal (subst (IsRefusal t0 (inputs.NewOrder x) old new) (sym memory) tt)

@@ -1,5 +1,6 @@
 -- An order whose lines are all taken is explained by what was read.
-use Rattle.std.proofs.Common.{◌≡◌, ℕ, pos, ◌≤◌, ◌+ℤ◌, ◌*ℤ◌, cond, is_some, Option, Some, None, List, [], ◌∷◌, ◌++◌, fold, All, refl, sym, ap, ◌∙◌, subst, Bool, true, false}
+use Rattle.std.proofs.Common.{◌≡◌, ℕ, pos, ◌≤◌, ◌+ℤ◌, ◌*ℤ◌, cond, is_some, Option, Some, None, List, [], ◌∷◌, ◌++◌, fold, All, refl, sym, ap, ◌∙◌, subst, Bool}
+use Rattle.std.proofs.Common.{true, false}
 use Rattle.std.proofs.lemmas.List.{append-nil}
 use Rattle.std.proofs.lemmas.List.Elements.{All-nil, All-cons, All-head, All-tail}
 use Rattle.std.specs.Option.{option_map, option_map_or}
@@ -11,7 +12,8 @@ use Rattle.tables.specs.Maps.{RowsWithin}
 use Rattle.tables.specs.Database.{Database}
 use Rattle.tables.specs.OrderNumbers.{next_order}
 use Rattle.tables.specs.Rows.{rows}
-use Rattle.tables.specs.NewOrder.{IsRequestedLine, first_missing, home, buyer, lines_amount, discount, warehouse_tax, district_tax, new_order_reply, after_new_order}
+use Rattle.tables.specs.NewOrder.{IsRequestedLine, first_missing, home, buyer, lines_amount, discount, warehouse_tax, district_tax, new_order_reply}
+use Rattle.tables.specs.NewOrder.{after_new_order}
 use Rattle.tables.specs.Apply.{Committed, order_unless, left_by, after}
 use Rattle.tables.specs.declared.keys.OrderKey.{OrderKey}
 use Rattle.tables.specs.declared.new_order.RequestedLine.{RequestedLine}
@@ -44,18 +46,23 @@ same_column f (Some r) None e = absurd cc
 same_column f (Some r) (Some s) e = cc
 
 -- lines of which no item is missing name items of the scale
-pub items_there : (t : Database) (ls : List RequestedLine) → RowsWithin (IsItemKey t.scale) t.items → first_missing t ls ≡ None → All (IsRequestedLine t.scale) ls
+pub items_there : (t : Database) (ls : List RequestedLine) → RowsWithin (IsItemKey t.scale) t.items → first_missing t ls ≡ None
+    → All (IsRequestedLine t.scale) ls
     → All (λ l. IsRequestedLine t.scale l × IsItemKey t.scale l.item) ls
 items_there t [] within none asked = All-nil _
-items_there t (l ∷ ls) within none asked = go (is_some (get t.items l.item)) refl none (λ h. items_there t ls within h (All-tail (IsRequestedLine t.scale) l ls asked))
+items_there t (l ∷ ls) within none asked =
+    go (is_some (get t.items l.item)) refl none (λ h. items_there t ls within h (All-tail (IsRequestedLine t.scale) l ls asked))
   where
     go : (b : Bool) → is_some (get t.items l.item) ≡ b → cond b (first_missing t ls) (Some l.item) ≡ None
-        → (first_missing t ls ≡ None → All (λ l. IsRequestedLine t.scale l × IsItemKey t.scale l.item) ls) → All (λ l. IsRequestedLine t.scale l × IsItemKey t.scale l.item) (l ∷ ls)
-    go true e h rest = All-cons (λ l. IsRequestedLine t.scale l × IsItemKey t.scale l.item) l ls (All-head (IsRequestedLine t.scale) l ls asked, within l.item e) (rest h)
+        → (first_missing t ls ≡ None → All (λ l. IsRequestedLine t.scale l × IsItemKey t.scale l.item) ls)
+        → All (λ l. IsRequestedLine t.scale l × IsItemKey t.scale l.item) (l ∷ ls)
+    go true e h rest = All-cons (λ l. IsRequestedLine t.scale l × IsItemKey t.scale l.item) l ls
+        (All-head (IsRequestedLine t.scale) l ls asked, within l.item e) (rest h)
     go false e h rest = absurd cc
 
 module _ (t0 : Database) (x : NewOrderInput) (k : OrderKey) (under_way : TransactionView) (supplied : List SuppliedLine) (priced : Priced)
-    (prices : ArePriced t0 x.lines priced) (taken : AreTaken t0 x k x.lines under_way supplied) (is_key : IsOrderKey t0.scale k) (no_history : under_way.writes.history_row ≡ None)
+    (prices : ArePriced t0 x.lines priced) (taken : AreTaken t0 x k x.lines under_way supplied) (is_key : IsOrderKey t0.scale k)
+    (no_history : under_way.writes.history_row ≡ None)
   where
     module _ (t : Database) (h : MayBe t0 under_way.reads t) where
       number : next_order t (home x) ≡ k.order
@@ -65,9 +72,12 @@ module _ (t0 : Database) (x : NewOrderInput) (k : OrderKey) (under_way : Transac
       replies =
           let o = h.of_population in
           let sum : lines_amount t x.lines ≡ priced.sum = same_sum t0 t x.lines o.items ∙ sym prices.sum in
-          let less : discount t (buyer x) ≡ discount t0 (buyer x) = same_column (λ r. r.discount) (get t.customers (buyer x)) (get t0.customers (buyer x)) (o.discounts (buyer x)) in
-          let at_warehouse : warehouse_tax t x.warehouse ≡ warehouse_tax t0 x.warehouse = same_column (λ r. r.tax) (get t.warehouses x.warehouse) (get t0.warehouses x.warehouse) (o.warehouse_taxes x.warehouse) in
-          let at_district : district_tax t (home x) ≡ district_tax t0 (home x) = same_column (λ r. r.tax) (get t.districts (home x)) (get t0.districts (home x)) (o.district_taxes (home x)) in
+          let less : discount t (buyer x) ≡ discount t0 (buyer x) = same_column (λ r. r.discount) (get t.customers (buyer x)) (get t0.customers (buyer x))
+          (o.discounts (buyer x)) in
+          let at_warehouse : warehouse_tax t x.warehouse ≡ warehouse_tax t0 x.warehouse = same_column (λ r. r.tax) (get t.warehouses x.warehouse)
+          (get t0.warehouses x.warehouse) (o.warehouse_taxes x.warehouse) in
+          let at_district : district_tax t (home x) ≡ district_tax t0 (home x) = same_column (λ r. r.tax) (get t.districts (home x)) (get t0.districts (home x))
+          (o.district_taxes (home x)) in
           λ i. record {
             warehouse = x.warehouse;
             district = x.district;

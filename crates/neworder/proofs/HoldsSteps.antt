@@ -29,8 +29,10 @@ module _ (t : Database) (x : NewOrderInput) where
       (at_home.0, at_home.1, (omega arith, number))
 
   -- once the order is opened
-  pub holds_opened : (writes : WriteSetView) (r : District) → IsWellFormed t → Condition2At t (home x) → HasNumber t x → IsDistrictKey t.scale (home x) → IsCustomerKey t.scale (buyer x)
-      → get t.districts (home x) ≡ Some r → Holds t writes (row_at t) → Holds t (puts_all t.scale writes (opening x (new_key t x) (district_words (numbered_district r)))) (row_at (after_lines t x []))
+  pub holds_opened : (writes : WriteSetView) (r : District) → IsWellFormed t → Condition2At t (home x) → HasNumber t x → IsDistrictKey t.scale (home x)
+      → IsCustomerKey t.scale (buyer x)
+      → get t.districts (home x) ≡ Some r → Holds t writes (row_at t)
+      → Holds t (puts_all t.scale writes (opening x (new_key t x) (district_words (numbered_district r)))) (row_at (after_lines t x []))
   holds_opened writes r wf second number at_home at_buyer found h =
       let at_key : IsOrderKey t.scale (new_key t x) = new_key_there at_home second number in
       holds-changes t (opening x (new_key t x) (district_words (numbered_district r))) writes (row_at t) (row_at (after_lines t x [])) h
@@ -42,9 +44,11 @@ module _ (t : Database) (x : NewOrderInput) where
   pub holds_lined : (writes : WriteSetView) (ls : List RequestedLine) (l : RequestedLine) (r : Stock)
       → IsOrderKey t.scale (new_key t x) → IsNumber MAX_ORDER_LINES (length ls + 1) → IsStockKey t.scale (stock_key l)
       → get (after_lines t x ls).stock (stock_key l) ≡ Some r → Holds t writes (row_at (after_lines t x ls))
-      → Holds t (puts_all t.scale writes (lining (new_key t x) (length ls + 1) l (line_row t l) (stock_words (drawn x.warehouse l r)))) (row_at (after_lines t x (ls ++ l ∷ [])))
+      → Holds t (puts_all t.scale writes (lining (new_key t x) (length ls + 1) l (line_row t l) (stock_words (drawn x.warehouse l r))))
+      (row_at (after_lines t x (ls ++ l ∷ [])))
   holds_lined writes ls l r at_key at_line at_stock found h =
-      holds-changes t (lining (new_key t x) (length ls + 1) l (line_row t l) (stock_words (drawn x.warehouse l r))) writes (row_at (after_lines t x ls)) (row_at (after_lines t x (ls ++ l ∷ []))) h
+      holds-changes t (lining (new_key t x) (length ls + 1) l (line_row t l) (stock_words (drawn x.warehouse l r))) writes (row_at (after_lines t x ls))
+      (row_at (after_lines t x (ls ++ l ∷ []))) h
       ((at_key.0, at_key.1, at_key.2, at_line), (at_stock, tt))
       (lined t x ls l r found)
       (λ j _ apart. lined_others t x ls l r j apart)

@@ -42,7 +42,8 @@ module _ (t : Database) (x : NewOrderInput) where
     stock = (after_lines t x ls).stock
 
     lines_after : (after_lines t x (ls ++ l ∷ [])).lines ≡ insert lines (line_key (new_key t x) (length ls + 1)) (line_row t l)
-    lines_after = with_lines-push t (new_key t x) 1 ls l t.lines ∙ ap (λ i. insert lines (line_key (new_key t x) i) (line_row t l)) (let e : 1 + length ls ≡ length ls + 1 = omega arith in e)
+    lines_after = with_lines-push t (new_key t x) 1 ls l t.lines ∙ ap (λ i. insert lines (line_key (new_key t x) i) (line_row t l))
+        (let e : 1 + length ls ≡ length ls + 1 = omega arith in e)
 
     stock_after : (after_lines t x (ls ++ l ∷ [])).stock ≡ draw x.warehouse stock l
     stock_after = fold_push (draw x.warehouse) t.stock ls l
@@ -53,9 +54,11 @@ module _ (t : Database) (x : NewOrderInput) where
         ∙ inserted exact_line line_words lines (line_key (new_key t x) (length ls + 1)) (line_row t l)
 
     -- the stock's, which takes what the lines before it left
-    pub lined_stock : row_at (after_lines t x (ls ++ l ∷ [])) (key.Stock (stock_key l)) ≡ option_map (λ r. stock_words (drawn x.warehouse l r)) (get (after_lines t x ls).stock (stock_key l))
+    pub lined_stock : row_at (after_lines t x (ls ++ l ∷ [])) (key.Stock (stock_key l)) ≡ option_map (λ r. stock_words (drawn x.warehouse l r))
+        (get (after_lines t x ls).stock (stock_key l))
     lined_stock = ap (λ (m : FinMap stock_cmp Stock). option_map stock_words (get m (stock_key l))) stock_after
-        ∙ touched exact_stock stock_words stock (is_stock l.supply_warehouse l.item) (drawn x.warehouse l) (stock_key l) (λ i. self l.supply_warehouse i && self l.item i)
+        ∙ touched exact_stock stock_words stock (is_stock l.supply_warehouse l.item) (drawn x.warehouse l) (stock_key l)
+        (λ i. self l.supply_warehouse i && self l.item i)
 
     -- both, where a stock stands
     pub lined : (r : Stock) → get (after_lines t x ls).stock (stock_key l) ≡ Some r

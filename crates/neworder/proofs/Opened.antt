@@ -1,5 +1,6 @@
 -- Opening an order changes four records: its district's, its own two, and its buyer's LAST.
-use Rattle.std.proofs.Common.{◌≡◌, ◌≢◌, ℕ, ◌+◌, ◌≤◌, min, Bool, true, false, ◌==◌, ◌&&◌, true≢false, Option, Some, None, List, [], ◌∷◌, refl, sym, ap, ◌∙◌, arith}
+use Rattle.std.proofs.Common.{◌≡◌, ◌≢◌, ℕ, ◌+◌, ◌≤◌, min, Bool, true, false, ◌==◌, ◌&&◌, true≢false, Option, Some, None, List, [], ◌∷◌, refl, sym, ap, ◌∙◌}
+use Rattle.std.proofs.Common.{arith}
 use Rattle.std.proofs.lemmas.Bool.{eqb-true}
 use Rattle.std.specs.Option.{ForSome, option_map, option_map_or, unwrap_or}
 use Rattle.std.specs.FinMap.{get}
@@ -49,7 +50,12 @@ module _ (t : Database) (x : NewOrderInput) where
   customer_named k h =
       let p = both ((x.warehouse == k.warehouse) && (x.district == k.district)) (x.customer == k.customer) h in
       let q = both (x.warehouse == k.warehouse) (x.district == k.district) p.0 in
-      sym (λ i. record { warehouse = eqb-true x.warehouse k.warehouse q.0 i; district = eqb-true x.district k.district q.1 i; customer = eqb-true x.customer k.customer p.1 i })
+      sym (λ i. record {
+        warehouse = eqb-true x.warehouse k.warehouse q.0 i;
+        district = eqb-true x.district k.district q.1 i;
+        customer =
+            eqb-true x.customer k.customer p.1 i;
+      })
 
   buyer_passes : of_customer (buyer x) (new_key t x, order_row x) ≡ true
   buyer_passes i = (self x.warehouse i && self x.district i) && self x.customer i
@@ -63,7 +69,8 @@ module _ (t : Database) (x : NewOrderInput) where
     last_before : last t (buyer x) + 1 ≤ next_order t (home x)
     last_before =
         let next : greatest (numbers_in (home x) t.orders) + 1 ≡ next_order t (home x) = second.0 in
-        let within : last t (buyer x) ≤ greatest (numbers_in (home x) t.orders) = greatest-within (of_customer (buyer x)) (greatest (numbers_in (home x) t.orders)) t.orders
+        let within : last t (buyer x) ≤ greatest (numbers_in (home x) t.orders) =
+        greatest-within (of_customer (buyer x)) (greatest (numbers_in (home x) t.orders)) t.orders
         (λ k r found passes. greatest-each (in_district (home x)) t.orders k r found (both _ _ passes).0) in
         omega arith
 
@@ -71,29 +78,36 @@ module _ (t : Database) (x : NewOrderInput) where
     last_buyer = last_after (buyer x) ∙ ap (λ b. with_greater b (next_order t (home x)) (last t (buyer x))) buyer_passes ∙ omega (arith, last_before)
 
     last_other : (k : CustomerKey) → k ≢ buyer x → last (after_lines t x []) k ≡ last t k
-    last_other k other = last_after k ∙ elim (of_customer k (new_key t x, order_row x)) as (λ b. of_customer k (new_key t x, order_row x) ≡ b → with_greater b (next_order t (home x)) (last t k) ≡ last t k) [
-      | true ↦ λ e. absurd (other (customer_named k e))
-      | false ↦ λ e. refl
-    ] refl
+    last_other k other = last_after k
+        ∙ elim (of_customer k (new_key t x, order_row x)) as
+        (λ b. of_customer k (new_key t x, order_row x) ≡ b → with_greater b (next_order t (home x)) (last t k) ≡ last t k) [
+          | true ↦ λ e. absurd (other (customer_named k e))
+          | false ↦ λ e. refl
+        ] refl
 
     -- OLDEST of each district stays
     oldest_kept : (k : DistrictKey) → oldest (after_lines t x []) k ≡ oldest t k
     oldest_kept k =
-        ap (λ l. unwrap_or l (next_order (after_lines t x []) k)) (least-insert (in_district k) t.new_orders (new_key t x) (record {}) (no_new_order t x wf second))
+        ap (λ l. unwrap_or l (next_order (after_lines t x []) k))
+        (least-insert (in_district k) t.new_orders (new_key t x) (record {}) (no_new_order t x wf second))
         ∙ elim (is_district x.warehouse x.district k) as (λ b. is_district x.warehouse x.district k ≡ b
         → unwrap_or (with_lesser b (next_order t (home x)) (least (numbers_in k t.new_orders))) (next_order (after_lines t x []) k) ≡ oldest t k) [
-          | true ↦ λ e. ap (λ (j : DistrictKey). unwrap_or (with_lesser true (next_order t (home x)) (least (numbers_in j t.new_orders))) 0) (sym (district_named x.warehouse x.district k e))
+          | true ↦ λ e. ap (λ (j : DistrictKey). unwrap_or (with_lesser true (next_order t (home x)) (least (numbers_in j t.new_orders))) 0)
+              (sym (district_named x.warehouse x.district k e))
               ∙ least_up_to (numbers_in (home x) t.new_orders) (next_order t (home x)) second.1
               ∙ ap (oldest t) (district_named x.warehouse x.district k e)
           | false ↦ λ e. ap (unwrap_or (least (numbers_in k t.new_orders)))
-              (kept-update_where exact_district (is_district x.warehouse x.district) numbered_district (λ (w : Option District). option_map_or (λ r. r.next_order) w 0) t.districts k
+              (kept-update_where exact_district (is_district x.warehouse x.district) numbered_district
+              (λ (w : Option District). option_map_or (λ r. r.next_order) w 0) t.districts k
               (λ h _. absurd (true≢false (sym h ∙ e))))
         ] refl
 
     -- the records that it changes
-    pub opened : (r : District) → get t.districts (home x) ≡ Some r → Says (row_at (after_lines t x [])) (opening x (new_key t x) (district_words (numbered_district r)))
+    pub opened : (r : District) → get t.districts (home x) ≡ Some r
+        → Says (row_at (after_lines t x [])) (opening x (new_key t x) (district_words (numbered_district r)))
     opened r found = (
-      touched exact_district district_words t.districts (is_district x.warehouse x.district) numbered_district (home x) (λ i. self x.warehouse i && self x.district i)
+      touched exact_district district_words t.districts (is_district x.warehouse x.district) numbered_district (home x)
+          (λ i. self x.warehouse i && self x.district i)
           ∙ ap (option_map (λ r. district_words (numbered_district r))) found,
       (
         inserted exact_order new_order_words t.new_orders (new_key t x) (record {}),
@@ -118,5 +132,6 @@ module _ (t : Database) (x : NewOrderInput) where
     others (key.Oldest k) a b c d = ap (λ n. Some (number_words n)) (oldest_kept k)
     others (key.Last k) a b c d = ap (λ n. Some (number_words n)) (last_other k (λ e. d (ap key.Last e)))
 
-    pub opened_others : (r : District) (j : RecordKey) → Apart j (opening x (new_key t x) (district_words (numbered_district r))) → row_at (after_lines t x []) j ≡ row_at t j
+    pub opened_others : (r : District) (j : RecordKey) → Apart j (opening x (new_key t x) (district_words (numbered_district r)))
+        → row_at (after_lines t x []) j ≡ row_at t j
     opened_others r j apart = others j apart.0 apart.1.0 apart.1.1.0 apart.1.1.1.0

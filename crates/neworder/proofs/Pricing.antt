@@ -1,5 +1,6 @@
 -- The amounts of an order's lines, one line after the other.
-use Rattle.std.proofs.Common.{◌≡◌, ℕ, ◌+◌, ◌*◌, ◌<◌, ℤ, pos, ◌+ℤ◌, ◌≤ℤ◌, true, false, cond, is_some, Some, List, [], ◌∷◌, ◌++◌, length, map, take, drop, get_or, refl, sym, ap, ◌∙◌, arith}
+use Rattle.std.proofs.Common.{◌≡◌, ℕ, ◌+◌, ◌*◌, ◌<◌, ℤ, pos, ◌+ℤ◌, ◌≤ℤ◌, true, false, cond, is_some, Some, List, [], ◌∷◌, ◌++◌, length, map, take, drop, get_or}
+use Rattle.std.proofs.Common.{refl, sym, ap, ◌∙◌, arith}
 use Rattle.std.proofs.lemmas.Int.{ints}
 use Rattle.std.proofs.lemmas.List.{take_more, drop_more, map-append}
 use Rattle.std.proofs.lemmas.List.Sums.{fold_push}
@@ -33,7 +34,8 @@ module _ (t : Database) (ls : List RequestedLine) (i : ℕ) (amounts : List ℤ)
     front : take (i + 1) ls ≡ take i ls ++ l ∷ []
     front = take_more ls i d small ∙ ap (λ (x : RequestedLine). take i ls ++ x ∷ []) (sym is)
 
-    pub priced_next : is_some (get t.items l.item) ≡ true → (a : ℤ) → a ≡ line_amount t l → pos 0 ≤ℤ a → a ≤ℤ pos 100000 → IsPricedTo t ls (i + 1) (amounts ++ a ∷ []) (sum +ℤ a)
+    pub priced_next : is_some (get t.items l.item) ≡ true → (a : ℤ) → a ≡ line_amount t l → pos 0 ≤ℤ a → a ≤ℤ pos 100000
+        → IsPricedTo t ls (i + 1) (amounts ++ a ∷ []) (sum +ℤ a)
     priced_next e a a_is low high = record {
       left = here ∙ ap (λ b. cond b (first_missing t (drop (i + 1) ls)) (Some l.item)) e;
       amounts_are = ap (λ (front : List ℤ). front ++ a ∷ []) p.amounts_are ∙ ap (λ (x : ℤ). map (line_amount t) (take i ls) ++ x ∷ []) a_is

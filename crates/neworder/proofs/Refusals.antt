@@ -66,7 +66,8 @@ step_refused t0 x under_way Stale within why = (not_above t0.scale x under_way.r
 step_refused t0 x under_way _ within why = absurd why
 
 -- how an order whose items are all there is refused
-pub order_refused : (t0 : Database) (x : NewOrderInput) (old new : ReaderView) (under_way : TransactionView) (refusal : Refusal) → NoneMissing t0 (input.NewOrder x)
+pub order_refused : (t0 : Database) (x : NewOrderInput) (old new : ReaderView) (under_way : TransactionView) (refusal : Refusal)
+    → NoneMissing t0 (input.NewOrder x)
     → IsUnderWay old new under_way → IsOrderRefusal t0 x under_way refusal → IsRefusal t0 (input.NewOrder x) old new refusal
 order_refused t0 x old new under_way OutOfMemory none h why = tt
 order_refused t0 x old new under_way OrdersFull none h why = (none, (under_way.reads, h.read, why))

@@ -10,6 +10,7 @@ pub so_far : (ls : List RequestedLine) (number i : ℕ) → number ≡ i → i <
 so_far ls number i same more = ap (λ n. n + 1) (same ∙ sym (length-take-le i ls (omega (arith, more))))
 
 -- its amount
-pub priced_at : (t : Database) (ls : List RequestedLine) (amounts : List ℤ) (number i : ℕ) (z : ℤ) (d : RequestedLine) → amounts ≡ map (line_amount t) ls → number ≡ i → i < length ls
+pub priced_at : (t : Database) (ls : List RequestedLine) (amounts : List ℤ) (number i : ℕ) (z : ℤ) (d : RequestedLine) → amounts ≡ map (line_amount t) ls
+    → number ≡ i → i < length ls
     → get_or amounts number z ≡ line_amount t (get_or ls i d)
 priced_at t ls amounts number i z d priced same more = (λ j. get_or (priced j) (same j) z) ∙ get_or-map (line_amount t) ls i d z more

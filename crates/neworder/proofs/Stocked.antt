@@ -28,12 +28,14 @@ up_to a b r below h = record {
   remote_orders = omega (arith, below, h.remote_orders);
 }
 
-drawn_up_to : (s : Sizes) (w most : ℕ) (l : RequestedLine) (r : Stock) → IsRequestedLine s l → IsStockUpTo most r → IsStockUpTo (most + MAX_QUANTITY) (drawn w l r)
+drawn_up_to : (s : Sizes) (w most : ℕ) (l : RequestedLine) (r : Stock) → IsRequestedLine s l → IsStockUpTo most r
+    → IsStockUpTo (most + MAX_QUANTITY) (drawn w l r)
 drawn_up_to s w most l r ok h = record {
   quantity = left_in_range s l r ok h.quantity;
   year_to_date = omega (arith, h.year_to_date, ok.quantity.1);
   orders = omega (arith, h.orders);
-  remote_orders = elim (l.supply_warehouse == w) as (λ b. r.remote_orders + cond b 0 1 ≤ most + MAX_QUANTITY) [ true ↦ omega (arith, h.remote_orders) | false ↦ omega (arith, h.remote_orders) ];
+  remote_orders = elim (l.supply_warehouse == w) as (λ b. r.remote_orders + cond b 0 1 ≤ most + MAX_QUANTITY)
+      [ true ↦ omega (arith, h.remote_orders) | false ↦ omega (arith, h.remote_orders) ];
 }
 
 draws_up_to : (s : Sizes) (w most : ℕ) (ls : List RequestedLine) (m : FinMap stock_cmp Stock) → All (IsRequestedLine s) ls
@@ -42,7 +44,8 @@ draws_up_to s w most [] m ok each = λ k r found. up_to most (most + MAX_QUANTIT
 draws_up_to s w most (l ∷ ls) m ok each = λ k r found.
     up_to (most + MAX_QUANTITY + MAX_QUANTITY * length ls) (most + MAX_QUANTITY * suc (length ls)) r (omega arith)
     (draws_up_to s w (most + MAX_QUANTITY) ls (draw w m l) (All-tail (IsRequestedLine s) l ls ok)
-    (each_updated exact_stock (λ k r. IsStockUpTo most r) (λ k r. IsStockUpTo (most + MAX_QUANTITY) r) (λ k r. cond (is_stock l.supply_warehouse l.item k) (drawn w l r) r) m each
+    (each_updated exact_stock (λ k r. IsStockUpTo most r) (λ k r. IsStockUpTo (most + MAX_QUANTITY) r)
+    (λ k r. cond (is_stock l.supply_warehouse l.item k) (drawn w l r) r) m each
     (λ k r h. elim (is_stock l.supply_warehouse l.item k) as (λ b. IsStockUpTo (most + MAX_QUANTITY) (cond b (drawn w l r) r)) [
       | true ↦ drawn_up_to s w most l r (All-head (IsRequestedLine s) l ls ok) h
       | false ↦ up_to most (most + MAX_QUANTITY) r (omega arith) h
@@ -50,7 +53,8 @@ draws_up_to s w most (l ∷ ls) m ok each = λ k r found.
 
 module _ (t : Database) (x : NewOrderInput) (ls : List RequestedLine) (wf : IsWellFormed t) where
   -- a further line may draw from each stock
-  pub stock_up_to : All (IsRequestedLine t.scale) ls → length ls ≤ MAX_ORDER_LINES → EachRow (λ k r. IsStockUpTo (MAX_COUNT + MAX_COUNT_STEP) r) (after_lines t x ls).stock
+  pub stock_up_to : All (IsRequestedLine t.scale) ls → length ls ≤ MAX_ORDER_LINES
+      → EachRow (λ k r. IsStockUpTo (MAX_COUNT + MAX_COUNT_STEP) r) (after_lines t x ls).stock
   stock_up_to ok few k r found =
       let started : EachRow (λ k r. IsStockUpTo MAX_COUNT r) t.stock = λ k r found. let h = wf.stock_rows k r found in record {
         quantity = h.quantity;

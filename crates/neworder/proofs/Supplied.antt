@@ -26,7 +26,8 @@ abbrev pub told_line : RequestedLine → ℕ → ℤ → SuppliedLine
 told_line l stock amount = record { item = l.item; supply_warehouse = l.supply_warehouse; stock = stock; amount = amount }
 
 -- the stock that a line leaves
-pub drawn_there : (w : ℕ) (l : RequestedLine) (m : FinMap stock_cmp Stock) (r : Stock) → get m (stock_key l) ≡ Some r → get (draw w m l) (stock_key l) ≡ Some (drawn w l r)
+pub drawn_there : (w : ℕ) (l : RequestedLine) (m : FinMap stock_cmp Stock) (r : Stock) → get m (stock_key l) ≡ Some r
+    → get (draw w m l) (stock_key l) ≡ Some (drawn w l r)
 drawn_there w l m r found =
     get-map_rows exact_stock (λ j s. cond (is_stock l.supply_warehouse l.item j) (drawn w l s) s) m (stock_key l)
     ∙ (λ i. option_map (λ s. cond (self l.supply_warehouse i && self l.item i) (drawn w l s) s) (found i))

@@ -30,8 +30,10 @@ use Rattle.neworder.proofs.HoldsSteps.{holds_lined}
 use Rattle.neworder.proofs.Supplied.{supplied-push, same_amount, told_line, drawn_there}
 use Rattle.neworder.proofs.Stocked.{stock_up_to, stock_there}
 
-module _ (t0 : Database) (x : NewOrderInput) (order : OrderKey) (ls : List RequestedLine) (l : RequestedLine) (old read : TransactionView) (told : List SuppliedLine)
-    (taken : AreTaken t0 x order ls old told) (at_order : IsOrderKey t0.scale order) (at_line : IsNumber MAX_ORDER_LINES (length ls + 1)) (at_stock : IsStockKey t0.scale (stock_key l))
+module _ (t0 : Database) (x : NewOrderInput) (order : OrderKey) (ls : List RequestedLine) (l : RequestedLine) (old read : TransactionView)
+    (told : List SuppliedLine)
+    (taken : AreTaken t0 x order ls old told) (at_order : IsOrderKey t0.scale order) (at_line : IsNumber MAX_ORDER_LINES (length ls + 1))
+    (at_stock : IsStockKey t0.scale (stock_key l))
     (more : ReadsMore 2 old read) (is_held : IsSome (held read.reads (number_of_key t0.scale (key.Stock (stock_key l)))))
   where
     -- the numbers of the line's record and of its stock's
@@ -72,7 +74,8 @@ module _ (t0 : Database) (x : NewOrderInput) (order : OrderKey) (ls : List Reque
     -- and taken otherwise
     pub line_taken : IsRequestedLine t0.scale l → (amount : ℤ) → amount ≡ line_amount t0 l
         → (row : List ℕ) → ((t : Database) → amount ≡ line_amount t l → row ≡ line_words (line_row t l))
-        → (words : List ℕ) → ((r : Stock) → IsStockUpTo (MAX_COUNT + MAX_COUNT_STEP) r → left_at read.writes read.reads stock_number ≡ Some (stock_words r) → words ≡ stock_words (drawn order.warehouse l r))
+        → (words : List ℕ) → ((r : Stock) → IsStockUpTo (MAX_COUNT + MAX_COUNT_STEP) r → left_at read.writes read.reads stock_number ≡ Some (stock_words r)
+        → words ≡ stock_words (drawn order.warehouse l r))
         → (last : TransactionView) → last.reads ≡ read.reads → last.writes ≡ puts (puts read.writes row_number (Some row)) stock_number (Some words)
         → AreTaken t0 x order (ls ++ l ∷ []) last (told ++ told_line l (slice_index words 0) amount ∷ [])
     line_taken requested amount priced row rows words draws last reads written = record {
@@ -91,16 +94,19 @@ module _ (t0 : Database) (x : NewOrderInput) (order : OrderKey) (ls : List Reque
         same : (t : Database) → MayBe t0 read.reads t → amount ≡ line_amount t l
         same t h = priced ∙ sym (same_amount t0 t l h.of_population.items)
 
-        supplied_is : (t : Database) → MayBe t0 read.reads t → supplied_lines t x.warehouse t.stock (ls ++ l ∷ []) ≡ told ++ told_line l (slice_index words 0) amount ∷ []
+        supplied_is : (t : Database) → MayBe t0 read.reads t → supplied_lines t x.warehouse t.stock (ls ++ l ∷ []) ≡ told
+            ++ told_line l (slice_index words 0) amount ∷ []
         supplied_is t h =
             let m = met t h in
             let stock = (after_lines t x ls).stock in
             let quantity : option_map_or (λ r. r.quantity) (get (draw x.warehouse stock l) (stock_key l)) 0 ≡ slice_index words 0 =
-            ap (λ (o : Option Stock). option_map_or (λ r. r.quantity) o 0) (drawn_there x.warehouse l stock m.0 m.1) ∙ ap (λ (ws : List ℕ). slice_index ws 0) (drew t h) in
+            ap (λ (o : Option Stock). option_map_or (λ r. r.quantity) o 0) (drawn_there x.warehouse l stock m.0 m.1)
+            ∙ ap (λ (ws : List ℕ). slice_index ws 0) (drew t h) in
             supplied-push t x.warehouse t.stock ls l
             ∙ (λ i. taken.supplied t (before t h) i ++ told_line l (quantity i) (sym (same t h) i) ∷ [])
 
-        held_rows : (t : Database) → MayBe t0 read.reads t → Holds t (puts (puts read.writes row_number (Some row)) stock_number (Some words)) (row_at (after_lines t x (ls ++ l ∷ [])))
+        held_rows : (t : Database) → MayBe t0 read.reads t → Holds t (puts (puts read.writes row_number (Some row)) stock_number (Some words))
+            (row_at (after_lines t x (ls ++ l ∷ [])))
         held_rows t h =
             let s : t.scale ≡ t0.scale = h.of_population.scale in
             let m = met t h in
@@ -109,5 +115,6 @@ module _ (t0 : Database) (x : NewOrderInput) (order : OrderKey) (ls : List Reque
             let there : IsStockKey t.scale (stock_key l) = subst (λ (q : Sizes). IsStockKey q (stock_key l)) (sym s) at_stock in
             let row_is : line_words (line_row t l) ≡ row = sym (rows t (same t h)) in
             subst (λ (w : WriteSetView). Holds t w (row_at (after_lines t x (ls ++ l ∷ []))))
-            (λ i. puts (puts read.writes (number_of_key (s i) (key.OrderLine (line_key (named i) (length ls + 1)))) (Some (row_is i))) (number_of_key (s i) (key.Stock (stock_key l))) (Some (drew t h i)))
+            (λ i. puts (puts read.writes (number_of_key (s i) (key.OrderLine (line_key (named i) (length ls + 1)))) (Some (row_is i)))
+            (number_of_key (s i) (key.Stock (stock_key l))) (Some (drew t h i)))
             (holds_lined t x read.writes ls l m.0 at_key at_line there m.1 (still t h))

@@ -27,7 +27,8 @@ IsWorkOf x reads writes reply (Ok work) = (reply ≡ Ok work.reply) × (work.inp
 IsWorkOf x reads writes reply (Err refusal) = (reply ≡ Err refusal) ⊎ (refusal ≡ OutOfMemory)
 
 -- an execution of this order, from one state of its reader to another
-pub record IsOrderExecuted (t0 : Database) (x : NewOrderInput) (old new : ReaderView) (result : Result Work Refusal) : Type 0 where
+pub record IsOrderExecuted (t0 : Database) (x : NewOrderInput) (old new : ReaderView)
+    (result : Result Work Refusal) : Type 0 where
   pub input : IfOk result (λ work. work.input ≡ inputs.NewOrder x)
   pub none_missing : OnOk result (NoneMissing t0 (inputs.NewOrder x))
   pub within_cap : IfOk result (λ work. ¬ IsAboveCap t0.scale (inputs.NewOrder x) work.reads)

@@ -20,7 +20,8 @@ use Rattle.readset.specs.Refused.{IsAboveCap}
 use Rattle.readset.specs.Transaction.{TransactionView, HasRead}
 use Rattle.neworder.specs.declared.opening.Taken.{Taken}
 
--- what a district's row gives an order: its D_NEXT_O_ID and the district's new words, or the refusal above the order cap
+-- what a district's row gives an order: its D_NEXT_O_ID and the district's new words, or the refusal above the order
+-- cap
 abbrev pub IsTakenOf : ℕ → District → Result Taken Refusal → Type 0
 IsTakenOf cap r (Ok taken) = (taken.order ≡ r.next_order) × (taken.district ≡ district_words (numbered_district r))
 IsTakenOf cap r (Err refusal) = (refusal ≡ OrdersFull) × (cap < r.next_order)

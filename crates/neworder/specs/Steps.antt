@@ -4,7 +4,8 @@ use Rattle.std.specs.FinMap.{insert}
 use Rattle.tables.specs.Keys.{is_district}
 use Rattle.tables.specs.Maps.{update_where}
 use Rattle.tables.specs.Database.{Database}
-use Rattle.tables.specs.NewOrder.{IsRequestedLine, home, buyer, new_key, numbered_district, order_row, line_key, with_lines, stock_key, after_draws, supplied_lines}
+use Rattle.tables.specs.NewOrder.{IsRequestedLine, home, buyer, new_key, numbered_district, order_row, line_key}
+use Rattle.tables.specs.NewOrder.{with_lines, stock_key, after_draws, supplied_lines}
 use Rattle.tables.specs.Rows.{new_order_words, order_words, line_words, number_words, row_at}
 use Rattle.tables.specs.declared.keys.OrderKey.{OrderKey}
 use Rattle.tables.specs.declared.rows.OrderLine.{OrderLine}

@@ -1,5 +1,6 @@
 //! What the lines of an order cost (TPC-C 2.4.2.2).
-ghost use Rattle.std.specs.Prelude.{◌≡◌, ◌≤◌, ◌*ℤ◌, ◌≤ℤ◌, pos, true, false, is_some, length, None, Some, IfSome, IfNone, All};
+ghost use Rattle.std.specs.Prelude.{◌≡◌, ◌≤◌, ◌*ℤ◌, ◌≤ℤ◌, pos, true, false, is_some, length, None, Some, IfSome};
+ghost use Rattle.std.specs.Prelude.{IfNone, All};
 ghost use Rattle.std.specs.FinMap.{get};
 ghost use Rattle.tables.specs.NewOrder.{IsRequestedLine, line_amount};
 ghost use Rattle.tables.specs.declared.limits.TheConstants.{MAX_ORDER_LINES, MAX_PRICE, MAX_QUANTITY};

@@ -4,7 +4,8 @@ ghost use Rattle.tables.specs.Sizes.{IsBetween};
 ghost use Rattle.tables.specs.Rows.{stock_words};
 ghost use Rattle.tables.specs.NewOrder.{drawn};
 ghost use Rattle.tables.specs.declared.rows.Stock.{Stock};
-ghost use Rattle.tables.specs.declared.limits.TheConstants.{MAX_COUNT, MAX_COUNT_STEP, MAX_QUANTITY, MAX_STOCK, MIN_STOCK, RESTOCK};
+ghost use Rattle.tables.specs.declared.limits.TheConstants.{MAX_COUNT, MAX_COUNT_STEP, MAX_QUANTITY, MAX_STOCK};
+ghost use Rattle.tables.specs.declared.limits.TheConstants.{MIN_STOCK, RESTOCK};
 ghost use Rattle.neworder.specs.Drawn.{IsStockUpTo};
 
 use columns::count_raised;

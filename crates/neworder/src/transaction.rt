@@ -55,7 +55,9 @@ pub fn execute<R: Wait>(
     ensures within_cap { IfOk result (λ work.
         ¬ IsAboveCap (initial population.now).scale (input_variants.NewOrder order.now) work.reads) }
     ensures read { IfOk result (λ work. AreRead reader.old reader.new work.reads) }
-    ensures explains { IfOk result (λ work. Explains (initial population.now) (input_variants.NewOrder order.now) work.reads work.writes work.reply) }
+    ensures explains { IfOk result
+        (λ work. Explains (initial population.now) (input_variants.NewOrder order.now) work.reads work.writes
+        work.reply) }
     ensures limits { IfOk result (λ work. IsWithinLimits (length cells.now) work.reads work.writes) }
     ensures grown { HasGrown reader.old reader.new }
     ensures refused { IfErr result

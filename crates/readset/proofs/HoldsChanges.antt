@@ -44,7 +44,8 @@ module _ (t : Database) where
   pub holds-changes : (changes : Changes) (writes : WriteSetView) (old new : RecordKey → Option (List ℕ)) → Holds t writes old
       → AreKeys t.scale changes → Says new changes → ((j : RecordKey) → IsRecordKey t.scale j → Apart j changes → new j ≡ old j)
       → Holds t (puts_all t.scale writes changes) new
-  holds-changes [] writes old new h keys says others = record { put_in = λ n small. others (key_of t.scale n) (numbered t.scale n small).0 tt ∙ h.put_in n small }
+  holds-changes [] writes old new h keys says others =
+      record { put_in = λ n small. others (key_of t.scale n) (numbered t.scale n small).0 tt ∙ h.put_in n small }
   holds-changes (c ∷ cs) writes old new h keys says others =
       holds-changes cs (puts writes (number_of_key t.scale c.0) c.1) (with_row c.0 c.1 old) new (holds_put c.0 c.1 writes old h) keys.1 says.1
       (λ j is_key apart. let same = is_eq (nat_cmp (number_of_key t.scale j) (number_of_key t.scale c.0)) in

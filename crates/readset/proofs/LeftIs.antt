@@ -14,7 +14,8 @@ use Rattle.readset.specs.Explains.{Agrees}
 use Rattle.readset.specs.Changes.{Holds}
 
 -- a record that was read holds what the tables have
-read_is : (t : Database) (reads : ReadSetView) (n : ℕ) → Agrees t reads → (o : Option Version) → held reads n ≡ o → IsSome o → option_and_then value_of o ≡ rows t n
+read_is : (t : Database) (reads : ReadSetView) (n : ℕ) → Agrees t reads → (o : Option Version) → held reads n ≡ o → IsSome o
+    → option_and_then value_of o ≡ rows t n
 read_is t reads n agrees None e h = absurd (true≢false (sym h))
 read_is t reads n agrees (Some v) e h = agrees n v e
 
@@ -23,7 +24,8 @@ pub row_read : (t : Database) (reads : ReadSetView) (k : RecordKey) (n : ℕ) (v
     → IsRecordKey t.scale k → value_of v ≡ row_at t k
 row_read t reads k n v agrees found at is_key = agrees n v found ∙ ap (rows t) at ∙ ap (row_at t) (named t.scale k is_key).1
 
-pub left_is : (t : Database) (writes : WriteSetView) (reads : ReadSetView) (row : RecordKey → Option (List ℕ)) (k : RecordKey) → Agrees t reads → Holds t writes row
+pub left_is : (t : Database) (writes : WriteSetView) (reads : ReadSetView) (row : RecordKey → Option (List ℕ)) (k : RecordKey) → Agrees t reads
+    → Holds t writes row
     → IsRecordKey t.scale k → IsSome (held reads (number_of_key t.scale k)) → left_at writes reads (number_of_key t.scale k) ≡ row k
 left_is t writes reads row k agrees holds is_key is_read =
     let n = number_of_key t.scale k in

@@ -27,7 +27,8 @@ module _ (first old new : ReaderView) (reads more : ReadSetView) (n : ℕ) (v : 
     other_seen m apart = ap (λ seen. at seen m) load.others ∙ get_or-set_other old.seen n m (at new.seen n) [] apart
 
     -- what holds of the record loaded, and of each that was read before, holds of each that is read
-    each : (P : ℕ → Version → Type 0) → P n v → ((m : ℕ) (w : Version) → m ≢ n → held reads m ≡ Some w → P m w) → (m : ℕ) (w : Version) → held more m ≡ Some w → P m w
+    each : (P : ℕ → Version → Type 0) → P n v → ((m : ℕ) (w : Version) → m ≢ n → held reads m ≡ Some w → P m w) → (m : ℕ) (w : Version) → held more m ≡ Some w
+        → P m w
     each P loaded before m w found = ⊎_elim
         (λ (e : m ≡ n). subst (λ k. P k w) (sym e) (subst (P n) (same_version v w (sym here ∙ ap (held more) (sym e) ∙ found)) loaded))
         (λ (apart : m ≢ n). before m w apart (sym (others m apart) ∙ found))
@@ -57,7 +58,8 @@ module _ (first old new : ReaderView) (reads more : ReadSetView) (n : ℕ) (v : 
     }
 
 -- the same, of a set into which the version loaded is put
-pub load_put : (first old new : ReaderView) (reads : ReadSetView) (n : ℕ) (v : Version) → AreRead first old reads → LoadsRecord old new n (words_of v) → v.record ≡ n → held reads n ≡ None
+pub load_put : (first old new : ReaderView) (reads : ReadSetView) (n : ℕ) (v : Version) → AreRead first old reads → LoadsRecord old new n (words_of v)
+    → v.record ≡ n → held reads n ≡ None
     → AreRead first new (insert_entry nat_cmp reads n v)
 load_put first old new reads n v so_far load named absent =
     load_read first old new reads (insert_entry nat_cmp reads n v) n v so_far load named absent

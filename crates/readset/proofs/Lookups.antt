@@ -25,10 +25,12 @@ lookup-insert_entry m n v [] = refl
 lookup-insert_entry m n v (e ∷ es) =
     let rest = lookup (is_at (nat_cmp m)) es in
     let there = is_eq (nat_cmp m e.0) in
-    elim (nat_cmp n e.0) as (λ o. nat_cmp n e.0 ≡ o → lookup (is_at (nat_cmp m)) (match_ordering o ((n, v) ∷ e ∷ es) ((e.0, v) ∷ es) (e ∷ insert_entry nat_cmp es n v))
+    elim (nat_cmp n e.0) as (λ o. nat_cmp n e.0 ≡ o
+    → lookup (is_at (nat_cmp m)) (match_ordering o ((n, v) ∷ e ∷ es) ((e.0, v) ∷ es) (e ∷ insert_entry nat_cmp es n v))
     ≡ cond (is_eq (nat_cmp m n)) (Some v) (cond there (Some e.1) rest)) [
       | Less ↦ λ _. refl
-      | Equal ↦ λ q. twice there (Some v) (Some e.1) rest ∙ ap (λ k. cond (is_eq (nat_cmp m k)) (Some v) (cond there (Some e.1) rest)) (sym (same_number n e.0 (ap is_eq q)))
+      | Equal ↦ λ q. twice there (Some v) (Some e.1) rest ∙ ap (λ k. cond (is_eq (nat_cmp m k)) (Some v) (cond there (Some e.1) rest))
+          (sym (same_number n e.0 (ap is_eq q)))
       | Greater ↦ λ q. ap (cond there (Some e.1)) (lookup-insert_entry m n v es)
           ∙ swapped (is_eq (nat_cmp m n)) there (Some v) (Some e.1) rest
           (λ here at_e. absurd (true≢false (sym (same_test n e.0 (sym (same_number m n here) ∙ same_number m e.0 at_e)) ∙ ap is_eq q)))

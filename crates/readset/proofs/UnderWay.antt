@@ -1,5 +1,6 @@
 -- A transaction under way, after a step.
-use Rattle.std.proofs.Common.{◌≡◌, ℕ, ◌+◌, ◌≤◌, Bool, Option, Some, None, Result, Ok, Err, OnOk, OnErr, IsSome, is_some, Bor, List, length, refl, sym, ap, ◌∙◌, subst, arith}
+use Rattle.std.proofs.Common.{◌≡◌, ℕ, ◌+◌, ◌≤◌, Bool, Option, Some, None, Result, Ok, Err, OnOk, OnErr, IsSome, is_some, Bor, List, length, refl, sym, ap, ◌∙◌}
+use Rattle.std.proofs.Common.{subst, arith}
 use Rattle.std.specs.Option.{option_copied}
 use Rattle.tables.specs.Sizes.{Sizes}
 use Rattle.tables.specs.Database.{Database}
@@ -43,22 +44,28 @@ loaded_under_way start old new cells reads more writes h same chain grown within
 }
 
 -- what a version that was read says of its key's row
-pub row_told : (t0 : Database) (reads : ReadSetView) (k : RecordKey) (n : ℕ) (v : Version) (words : Option (List ℕ)) → n ≡ number_of_key t0.scale k → IsRecordKey t0.scale k
+pub row_told : (t0 : Database) (reads : ReadSetView) (k : RecordKey) (n : ℕ) (v : Version) (words : Option (List ℕ)) → n ≡ number_of_key t0.scale k
+    → IsRecordKey t0.scale k
     → held reads n ≡ Some v → words ≡ value_of v → (t : Database) → MayBe t0 reads t → row_at t k ≡ words
 row_told t0 reads k n v words at is_key found is t h =
     let same : t0.scale ≡ t.scale = sym h.of_population.scale in
     sym (is ∙ row_read t reads k n v h.agrees found (at ∙ ap (λ (q : Sizes). number_of_key q k) same) (subst (λ (q : Sizes). IsRecordKey q k) same is_key))
 
 -- after a write of a record that was read, or none for want of memory
-pub put_under_way : {X : Type 0} (start now : ReaderView) (reads : ReadSetView) (writes more : WriteSetView) (n : ℕ) (value : Option (List ℕ)) (result : Result X Refusal)
-    → IsUnderWay start now (record { reads = reads; writes = writes }) → IsSome (held reads n) → OnOk result (more ≡ puts writes n value) → OnErr result (more ≡ writes)
+pub put_under_way : {X : Type 0} (start now : ReaderView) (reads : ReadSetView) (writes more : WriteSetView) (n : ℕ) (value : Option (List ℕ))
+    (result : Result X Refusal)
+    → IsUnderWay start now (record { reads = reads; writes = writes }) → IsSome (held reads n) → OnOk result (more ≡ puts writes n value)
+    → OnErr result (more ≡ writes)
     → IsUnderWay start now (record { reads = reads; writes = more })
-put_under_way start now reads writes more n value (Ok x) h read put kept = subst (λ (w : WriteSetView). IsUnderWay start now (record { reads = reads; writes = w })) (sym put)
+put_under_way start now reads writes more n value (Ok x) h read put kept =
+    subst (λ (w : WriteSetView). IsUnderWay start now (record { reads = reads; writes = w })) (sym put)
     (record { read = h.read; grown = h.grown; within = h.within; writes_read = puts_read writes reads n value h.writes_read read })
-put_under_way start now reads writes more n value (Err e) h read put kept = subst (λ (w : WriteSetView). IsUnderWay start now (record { reads = reads; writes = w })) (sym kept) h
+put_under_way start now reads writes more n value (Err e) h read put kept =
+    subst (λ (w : WriteSetView). IsUnderWay start now (record { reads = reads; writes = w })) (sym kept) h
 
 -- the end of a transaction whose reply was found
-pub executed : (t0 : Database) (x : Input) (start now : ReaderView) (reads : ReadSetView) (writes : WriteSetView) (told : Reply) → IsUnderWay start now (record { reads = reads; writes = writes })
+pub executed : (t0 : Database) (x : Input) (start now : ReaderView) (reads : ReadSetView) (writes : WriteSetView) (told : Reply)
+    → IsUnderWay start now (record { reads = reads; writes = writes })
     → ((t : Database) → MayBe t0 reads t → IsCommitOf t x writes told) → length reads ≤ MAX_READS → length writes.values ≤ MAX_WRITES
     → IsExecuted t0 x start now (Ok (record { input = x; reads = reads; writes = writes; reply = told }))
 executed t0 x start now reads writes told h explains few_reads few_writes = record {
@@ -102,7 +109,8 @@ goes_on reads writes x y more = record {
 pub goes_on_none : (reads writes : ℕ) (x : TransactionView) → GoesOn reads writes x x
 goes_on_none reads writes x = record { keeps = λ n v found. found; limit = omega arith; written = omega arith; history = refl }
 
-pub goes_on_twice : (x y z : TransactionView) (a b c d reads writes : ℕ) → GoesOn a b x y → GoesOn c d y z → a + c ≤ reads → b + d ≤ writes → GoesOn reads writes x z
+pub goes_on_twice : (x y z : TransactionView) (a b c d reads writes : ℕ) → GoesOn a b x y → GoesOn c d y z → a + c ≤ reads → b + d ≤ writes
+    → GoesOn reads writes x z
 goes_on_twice x y z a b c d reads writes first then few_reads few_writes = record {
   keeps = λ n v found. then.keeps n v (first.keeps n v found);
   limit = omega (arith, first.limit, then.limit, few_reads);
@@ -118,7 +126,8 @@ put_goes_on x y n value (Ok r) reads put kept =
     record {
       keeps = λ m v found. ap (λ (r : ReadSetView). held r m) reads ∙ found;
       limit = let same : length y.reads ≡ length x.reads = ap length reads in omega (arith, same);
-      written = let same : length y.writes.values ≡ length (puts x.writes n value).values = ap (λ (w : WriteSetView). length w.values) put in omega (arith, same, one);
+      written = let same : length y.writes.values ≡ length (puts x.writes n value).values = ap (λ (w : WriteSetView). length w.values) put in
+          omega (arith, same, one);
       history = ap (λ (w : WriteSetView). w.history_row) put;
     }
 put_goes_on x y n value (Err e) reads put kept = record {
@@ -129,5 +138,6 @@ put_goes_on x y n value (Err e) reads put kept = record {
 }
 
 -- tables at which it may have read after steps are such before them
-pub may_be_then : (t0 : Database) (x y : TransactionView) (reads writes : ℕ) → GoesOn reads writes x y → (t : Database) → MayBe t0 y.reads t → MayBe t0 x.reads t
+pub may_be_then : (t0 : Database) (x y : TransactionView) (reads writes : ℕ) → GoesOn reads writes x y → (t : Database) → MayBe t0 y.reads t
+    → MayBe t0 x.reads t
 may_be_then t0 x y reads writes on t h = may_be_before t0 x.reads y.reads t on.keeps h

@@ -1,5 +1,6 @@
 -- What is so of each record written, after one write more.
-use Rattle.std.proofs.Common.{◌≡◌, ℕ, ◌+◌, ◌<◌, ◌≤◌, true, false, cond, List, [], ◌∷◌, Option, Some, None, IsSome, true≢false, length, refl, sym, ◌∙◌, subst, arith}
+use Rattle.std.proofs.Common.{◌≡◌, ℕ, ◌+◌, ◌<◌, ◌≤◌, true, false, cond, List, [], ◌∷◌, Option, Some, None, IsSome, true≢false, length, refl, sym, ◌∙◌, subst}
+use Rattle.std.proofs.Common.{arith}
 use Rattle.std.specs.Ordering.{nat_cmp, is_eq, match_ordering}
 use Rattle.std.specs.BTreeMap.{insert_entry}
 use Rattle.std.specs.declared.cmp.Ordering.TheVariants.{Less, Equal, Greater}
@@ -11,7 +12,8 @@ use Rattle.readset.proofs.Numbers.{same_number}
 use Rattle.readset.proofs.Lookups.{lookup-insert_entry}
 use Rattle.readset.proofs.MoreReads.{still_read}
 
-pub each_put : (P : ℕ → Type 0) (writes : WriteSetView) (n : ℕ) (value : Option (List ℕ)) → ((m : ℕ) (v : Option (List ℕ)) → value_for writes m ≡ Some v → P m) → P n
+pub each_put : (P : ℕ → Type 0) (writes : WriteSetView) (n : ℕ) (value : Option (List ℕ)) → ((m : ℕ) (v : Option (List ℕ)) → value_for writes m ≡ Some v → P m)
+    → P n
     → (m : ℕ) (v : Option (List ℕ)) → value_for (puts writes n value) m ≡ Some v → P m
 each_put P writes n value each here m v found =
     elim (is_eq (nat_cmp m n)) as (λ b. is_eq (nat_cmp m n) ≡ b → cond b (Some value) (value_for writes m) ≡ Some v → P m) [
@@ -30,7 +32,8 @@ length-insert_entry {X} n v (e ∷ es) =
     ]
 
 -- no write of a record that wasn't read: after one write more, and after reads more
-pub puts_read : (writes : WriteSetView) (reads : ReadSetView) (n : ℕ) (value : Option (List ℕ)) → WritesAreRead writes reads → IsSome (held reads n) → WritesAreRead (puts writes n value) reads
+pub puts_read : (writes : WriteSetView) (reads : ReadSetView) (n : ℕ) (value : Option (List ℕ)) → WritesAreRead writes reads → IsSome (held reads n)
+    → WritesAreRead (puts writes n value) reads
 puts_read writes reads n value = each_put (λ m. IsSome (held reads m)) writes n value
 
 pub keeps_read : (writes : WriteSetView) (reads more : ReadSetView) → Keeps reads more → WritesAreRead writes reads → WritesAreRead writes more
@@ -41,5 +44,6 @@ within : (reads : ReadSetView) (cells n : ℕ) (o : Option Version) → held rea
 within reads cells n None e h all = absurd (true≢false (sym h))
 within reads cells n (Some v) e h all = all n v e
 
-pub written_within : (writes : WriteSetView) (reads : ReadSetView) (cells : ℕ) → WritesAreRead writes reads → AreWithin cells reads → (n : ℕ) (value : Option (List ℕ)) → value_for writes n ≡ Some value → n < cells
+pub written_within : (writes : WriteSetView) (reads : ReadSetView) (cells : ℕ) → WritesAreRead writes reads → AreWithin cells reads
+    → (n : ℕ) (value : Option (List ℕ)) → value_for writes n ≡ Some value → n < cells
 written_within writes reads cells each all n value found = within reads cells n (held reads n) refl (each n value found) all

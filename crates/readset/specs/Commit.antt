@@ -13,7 +13,8 @@ abbrev pub IsCommitted : Outcome → Type 0
 IsCommitted (Committed tables told) = Unit {0}
 IsCommitted (RolledBack item) = ⊥
 
--- at these tables, the transaction commits with this reply, and these writes make its rows of theirs. If it makes an order, its number is within the order cap
+-- at these tables, the transaction commits with this reply, and these writes make its rows of theirs. If it makes an
+-- order, its number is within the order cap
 pub record IsCommitOf (t : Database) (x : Input) (writes : WriteSetView) (reply : Reply) : Type 0 where
   pub commits : apply t x ≡ Committed (after t x) reply
   pub numbered : HasOrderNumber t x

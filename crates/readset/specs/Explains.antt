@@ -28,11 +28,13 @@ pub record IsNumbered (t : Database) (k : DistrictKey) : Type 0 where
   pub condition_3 : Condition3At t k
   pub condition_6 : (j : OrderKey) → is_district j.warehouse j.district k ≡ true → Condition6At t j
 
--- the tables at which a transaction may have read: the population's, well-formed, as read, and with these conditions of each district read. All consistent, well-formed tables that agree with what was read are among them
+-- the tables at which a transaction may have read: the population's, well-formed, as read, and with these conditions of
+-- each district read. All consistent, well-formed tables that agree with what was read are among them
 pub record MayBe (t0 : Database) (reads : ReadSetView) (t : Database) : Type 0 where
   pub of_population : IsOf t0 t
   pub well_formed : IsWellFormed t
-  pub numbered : (k : DistrictKey) → IsDistrictKey t.scale k → IsSome (held reads (number_of_key t.scale (key.District k))) → IsNumbered t k
+  pub numbered : (k : DistrictKey) → IsDistrictKey t.scale k
+      → IsSome (held reads (number_of_key t.scale (key.District k))) → IsNumbered t k
   pub agrees : Agrees t reads
 
 -- at all such tables, the transaction has this reply and these writes

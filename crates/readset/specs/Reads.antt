@@ -27,7 +27,8 @@ Keeps reads more = (n : ℕ) (v : Version) → held reads n ≡ Some v → held 
 abbrev pub AreWithin : ℕ → ReadSetView → Type 0
 AreWithin cells reads = (n : ℕ) (v : Version) → held reads n ≡ Some v → n < cells
 
--- between these two states, a reader has loaded exactly the records of these versions, each once, and each version is what that load gave
+-- between these two states, a reader has loaded exactly the records of these versions, each once, and each version is
+-- what that load gave
 pub record AreRead (old new : ReaderView) (reads : ReadSetView) : Type 0 where
   pub cells : new.cells ≡ old.cells
   pub records : (n : ℕ) (v : Version) → held reads n ≡ Some v → v.record ≡ n

@@ -6,7 +6,8 @@ use Rattle.std.specs.BTreeMap.{is_at, insert_entry}
 use Rattle.tables.specs.declared.rows.History.{History}
 use Rattle.readset.specs.Reads.{ReadSetView, held, value_of}
 
--- what each record written is to hold, by record number in the order of the numbers, and the HISTORY row, if there is one
+-- what each record written is to hold, by record number in the order of the numbers, and the HISTORY row, if there is
+-- one
 pub record WriteSetView : Type 0 where
   pub values : List (ℕ × Option (List ℕ))
   pub history_row : Option History

@@ -15,7 +15,8 @@ pub returns-in_default-clause-taken : goal.returns-in_default-clause-taken
 returns-in_default-clause-taken g c = λ ls told number taken.
     let old = c.args.transaction.now in
     let read = c.read-2.new.self in
-    none_taken g.K.Start.tables c.args.order.now c.args.key ls c.args.line.now old read told taken c.requires.key (subst (IsNumber MAX_ORDER_LINES) number c.requires.number)
+    none_taken g.K.Start.tables c.args.order.now c.args.key ls c.args.line.now old read told taken c.requires.key
+    (subst (IsNumber MAX_ORDER_LINES) number c.requires.number)
     (c.requires.line.supply_warehouse, c.requires.item)
     (reads_twice old c.read.new.self read 1 1 2 c.read.ensures.reads c.read-2.ensures.reads (omega arith)) c.in_ok-read-2.ensures.holds
     (λ r range left. c.in_default.not-Some (stock_words (drawn c.args.key.warehouse c.args.line.now r)) (c.drawn.ensures.drawn r range (c.left.ensures ∙ left)))
@@ -30,7 +31,8 @@ pub returns-in_err-put-clause-goes_on : goal.returns-in_err-put-clause-goes_on
 returns-in_err-put-clause-goes_on g c =
     let old = c.args.transaction.now in
     let read = c.read-2.new.self in
-    goes_on_twice old read c.put.new.self 2 0 0 1 2 2 (goes_on 2 0 old read (reads_twice old c.read.new.self read 1 1 2 c.read.ensures.reads c.read-2.ensures.reads (omega arith)))
+    goes_on_twice old read c.put.new.self 2 0 0 1 2 2
+    (goes_on 2 0 old read (reads_twice old c.read.new.self read 1 1 2 c.read.ensures.reads c.read-2.ensures.reads (omega arith)))
     c.put.ensures.goes_on (omega arith) (omega arith)
 
 pub returns-in_err-put-2-clause-goes_on : goal.returns-in_err-put-2-clause-goes_on
@@ -38,7 +40,8 @@ returns-in_err-put-2-clause-goes_on g c =
     let old = c.args.transaction.now in
     let read = c.read-2.new.self in
     goes_on_twice old c.put.new.self c.put-2.new.self 2 1 0 1 2 2
-    (goes_on_twice old read c.put.new.self 2 0 0 1 2 1 (goes_on 2 0 old read (reads_twice old c.read.new.self read 1 1 2 c.read.ensures.reads c.read-2.ensures.reads (omega arith)))
+    (goes_on_twice old read c.put.new.self 2 0 0 1 2 1
+    (goes_on 2 0 old read (reads_twice old c.read.new.self read 1 1 2 c.read.ensures.reads c.read-2.ensures.reads (omega arith)))
     c.put.ensures.goes_on (omega arith) (omega arith))
     c.put-2.ensures.goes_on (omega arith) (omega arith)
 
@@ -59,13 +62,15 @@ returns-clause-taken g c = λ ls told number taken.
     (λ r range left. same_Some _ _ (sym c.in-Some.is ∙ c.drawn.ensures.drawn r range (c.left.ensures ∙ left)))
     c.put-2.new.self (c.put-2.ensures.reads ∙ c.put.ensures.reads)
     (c.in_ok-put-2.ensures.puts ∙ ap (λ (w : WriteSetView). puts w stock_number (Some words))
-    (c.in_ok-put.ensures.puts ∙ ap (λ n. let w : WriteSetView = puts read.writes (number_of_key t0.scale (key.OrderLine (line_key k n))) (Some row) in w) number))
+    (c.in_ok-put.ensures.puts ∙ ap (λ n. let w : WriteSetView = puts read.writes (number_of_key t0.scale (key.OrderLine (line_key k n))) (Some row) in w)
+    number))
 
 pub returns-clause-goes_on : goal.returns-clause-goes_on
 returns-clause-goes_on g c =
     let old = c.args.transaction.now in
     let read = c.read-2.new.self in
     goes_on_twice old c.put.new.self c.put-2.new.self 2 1 0 1 2 2
-    (goes_on_twice old read c.put.new.self 2 0 0 1 2 1 (goes_on 2 0 old read (reads_twice old c.read.new.self read 1 1 2 c.read.ensures.reads c.read-2.ensures.reads (omega arith)))
+    (goes_on_twice old read c.put.new.self 2 0 0 1 2 1
+    (goes_on 2 0 old read (reads_twice old c.read.new.self read 1 1 2 c.read.ensures.reads c.read-2.ensures.reads (omega arith)))
     c.put.ensures.goes_on (omega arith) (omega arith))
     c.put-2.ensures.goes_on (omega arith) (omega arith)

@@ -8,7 +8,8 @@ use Rattle.neworder.proofs.opening.take_number.Goals as goal
 pub returns-clause-taken : goal.returns-clause-taken
 returns-clause-taken g c =
     let cap = c.orders.ensures.value ∙ ap (λ (s : Sizes). s.orders) c.scale.ensures in
-    home_taken g.K.Start.tables c.args.order.now c.read.new.self c.in_ok-words.words c.requires.input c.in_ok-words.ensures.words c.in_ok-words.ensures.holds c.number_taken.result
+    home_taken g.K.Start.tables c.args.order.now c.read.new.self c.in_ok-words.words c.requires.input c.in_ok-words.ensures.words c.in_ok-words.ensures.holds
+    c.number_taken.result
     (λ r positive is. subst (λ n. IsTakenOf n r c.number_taken.result) cap (c.number_taken.ensures.row r positive is))
 
 pub returns-clause-within_cap : goal.returns-clause-within_cap

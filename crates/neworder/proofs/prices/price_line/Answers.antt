@@ -31,4 +31,5 @@ returns-clause-amount c =
 
 pub returns-clause-there : goal.returns-clause-there
 returns-clause-there c =
-    ap is_some (item_found (initial c.args.population.now) c.tables.result.now c.tables.ensures c.args.line.now.item c.in_ok-item.item.now c.in_ok-item.ensures.value)
+    ap is_some (item_found (initial c.args.population.now) c.tables.result.now c.tables.ensures c.args.line.now.item c.in_ok-item.item.now
+    c.in_ok-item.ensures.value)

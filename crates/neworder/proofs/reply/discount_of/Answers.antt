@@ -8,8 +8,10 @@ use Rattle.neworder.proofs.reply.discount_of.Goals as goal
 
 pub returns-in-Some : goal.returns-in-Some
 returns-in-Some c =
-    column_some exact_customer (λ (r : Customer). r.discount) c.tables.result.now.customers (initial c.args.population.now).customers (ap (λ (t : Database). t.customers) c.tables.ensures) c.args.key.now c.in-Some.row.now c.in-Some.ensures.value
+    column_some exact_customer (λ (r : Customer). r.discount) c.tables.result.now.customers (initial c.args.population.now).customers
+    (ap (λ (t : Database). t.customers) c.tables.ensures) c.args.key.now c.in-Some.row.now c.in-Some.ensures.value
 
 pub returns-in-None : goal.returns-in-None
 returns-in-None c =
-    column_none exact_customer (λ (r : Customer). r.discount) c.tables.result.now.customers (initial c.args.population.now).customers (ap (λ (t : Database). t.customers) c.tables.ensures) c.args.key.now c.no_rate.result c.no_rate.ensures c.in-None.ensures.value
+    column_none exact_customer (λ (r : Customer). r.discount) c.tables.result.now.customers (initial c.args.population.now).customers
+    (ap (λ (t : Database). t.customers) c.tables.ensures) c.args.key.now c.no_rate.result c.no_rate.ensures c.in-None.ensures.value

@@ -8,8 +8,10 @@ use Rattle.neworder.proofs.reply.district_tax_of.Goals as goal
 
 pub returns-in-Some : goal.returns-in-Some
 returns-in-Some c =
-    column_some exact_district (λ (r : District). r.tax) c.tables.result.now.districts (initial c.args.population.now).districts (ap (λ (t : Database). t.districts) c.tables.ensures) c.args.key.now c.in-Some.row.now c.in-Some.ensures.value
+    column_some exact_district (λ (r : District). r.tax) c.tables.result.now.districts (initial c.args.population.now).districts
+    (ap (λ (t : Database). t.districts) c.tables.ensures) c.args.key.now c.in-Some.row.now c.in-Some.ensures.value
 
 pub returns-in-None : goal.returns-in-None
 returns-in-None c =
-    column_none exact_district (λ (r : District). r.tax) c.tables.result.now.districts (initial c.args.population.now).districts (ap (λ (t : Database). t.districts) c.tables.ensures) c.args.key.now c.no_rate.result c.no_rate.ensures c.in-None.ensures.value
+    column_none exact_district (λ (r : District). r.tax) c.tables.result.now.districts (initial c.args.population.now).districts
+    (ap (λ (t : Database). t.districts) c.tables.ensures) c.args.key.now c.no_rate.result c.no_rate.ensures c.in-None.ensures.value

@@ -17,7 +17,9 @@ take_order-reply-requires-clause-lines g c =
     let x = c.args.order.now in
     let prices = subst (λ (ls : List RequestedLine). ArePriced g.K.Start.tables ls c.in-Priced.priced) c.as_slice.ensures
     (subst (λ (t : Database). ArePriced t c.as_slice.result.now c.in-Priced.priced) c.requires.tables c.in-Priced.ensures) in
-    items_there g.K.Start.tables x.lines (subst (λ (t : Database). RowsWithin (IsItemKey t.scale) t.items) c.requires.tables c.args.population.now.well_formed.items) prices.none_missing c.requires.input.lines
+    items_there g.K.Start.tables x.lines
+    (subst (λ (t : Database). RowsWithin (IsItemKey t.scale) t.items) c.requires.tables c.args.population.now.well_formed.items) prices.none_missing
+    c.requires.input.lines
 
 pub returns : goal.returns
 returns g c =
@@ -28,6 +30,8 @@ returns g c =
     let is = c.into_parts-reader.ensures in
     let prices = subst (λ (ls : List RequestedLine). ArePriced t0 ls c.in-Priced.priced) c.as_slice.ensures
     (subst (λ (t : Database). ArePriced t c.as_slice.result.now c.in-Priced.priced) c.requires.tables c.in-Priced.ensures) in
-    order_ended t0 x g.K.Start.reader parts.0 last (none_missing t0 x prices.none_missing) is.under_way c.take_order-reply.ensures.reads c.take_order-reply.ensures.writes
+    order_ended t0 x g.K.Start.reader parts.0 last (none_missing t0 x prices.none_missing) is.under_way c.take_order-reply.ensures.reads
+    c.take_order-reply.ensures.writes
     c.take_order-reply.result c.work_of.result c.take_order-reply.ensures.reply c.take_order-reply.ensures.refused
-    (subst (λ (q : ReadSetView × WriteSetView). IsWorkOf x q.0 q.1 c.take_order-reply.result c.work_of.result) (λ i. (is.reads i, is.writes i)) c.work_of.ensures)
+    (subst (λ (q : ReadSetView × WriteSetView). IsWorkOf x q.0 q.1 c.take_order-reply.result c.work_of.result) (λ i. (is.reads i, is.writes i))
+    c.work_of.ensures)

@@ -16,7 +16,8 @@ returns-clause-reply g c =
     let k = c.in_ok-key.key in
     let last = c.take_lines.new.transaction in
     let supplied = c.in_ok-supplied.supplied.items in
-    let no_history = c.take_lines.ensures.goes_on.history ∙ c.open_order.ensures.goes_on.history ∙ ap (λ (y : TransactionView). y.writes.history_row) c.requires.begun in
+    let no_history = c.take_lines.ensures.goes_on.history ∙ c.open_order.ensures.goes_on.history
+    ∙ ap (λ (y : TransactionView). y.writes.history_row) c.requires.begun in
     let told = c.reply_to.ensures ∙ ap (λ (t : Database). reply_of t x k c.args.priced.now.sum supplied) c.population.ensures in
     subst (λ (r : NewOrderReply). IsReplyOf t0 x last (reply.NewOrder r)) (sym told) (record {
       commits = commits t0 x k last supplied c.args.priced.now c.requires.priced c.in_ok-supplied.ensures.taken c.in_ok-key.ensures.key no_history;

@@ -16,6 +16,7 @@ returns-in-Ok g c =
     let view : c.args.self ≡ record { reads = parts.1; writes = parts.2 } = λ i. record { reads = sym is.reads i; writes = sym is.writes i } in
     executed t0 c.args.input first parts.0 parts.1 parts.2 c.in-Ok.reply
     (subst (IsUnderWay first parts.0) view is.under_way)
-    (subst (λ (q : TransactionView × Result Reply Refusal). Finds t0 q.0 q.1 (λ told t. IsCommitOf t c.args.input q.0.writes told)) (λ i. (view i, c.in-Ok.is i)) c.requires.reply)
+    (subst (λ (q : TransactionView × Result Reply Refusal). Finds t0 q.0 q.1 (λ told t. IsCommitOf t c.args.input q.0.writes told))
+    (λ i. (view i, c.in-Ok.is i)) c.requires.reply)
     (subst (λ (x : TransactionView). length x.reads ≤ MAX_READS) view c.requires.reads)
     (subst (λ (x : TransactionView). length x.writes.values ≤ MAX_WRITES) view c.requires.writes)

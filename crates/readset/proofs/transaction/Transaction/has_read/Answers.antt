@@ -10,4 +10,5 @@ pub returns : goal.returns
 returns g c =
     let at = c.number_of_key.ensures.value ∙ ap (λ (q : Sizes). number_of_key q c.args.key) c.scale.ensures in
     found_is c.held.result c.is_some.result _ c.is_some.ensures
-    (c.held.ensures ∙ ap (held c.self.inside.reads) at ∙ ap (λ (x : TransactionView). held x.reads (number_of_key g.K.Start.tables.scale c.args.key)) c.self.view_is)
+    (c.held.ensures ∙ ap (held c.self.inside.reads) at ∙ ap (λ (x : TransactionView). held x.reads (number_of_key g.K.Start.tables.scale c.args.key))
+    c.self.view_is)

@@ -14,7 +14,8 @@ invariant_of-self g c =
       i.0,
       i.1,
       i.2,
-      put_under_way g.K.Start.reader c.self.inside.reader c.self.inside.reads c.self.inside.writes c.put.new.self c.number_of_key-number.result c.args.value c.put.result i.3
+      put_under_way g.K.Start.reader c.self.inside.reader c.self.inside.reads c.self.inside.writes c.put.new.self c.number_of_key-number.result c.args.value
+          c.put.result i.3
           (subst (λ n. IsSome (held c.self.inside.reads n)) (sym at) read) c.put.ensures.puts c.put.ensures.kept,
     )
 
@@ -22,4 +23,5 @@ pub returns-clause-goes_on : goal.returns-clause-goes_on
 returns-clause-goes_on g c =
     let y : TransactionView = record { reads = c.self.inside.reads; writes = c.put.new.self } in
     subst (λ (x : TransactionView). GoesOn 0 1 x y) c.self.view_is
-    (put_goes_on (record { reads = c.self.inside.reads; writes = c.self.inside.writes }) y c.number_of_key-number.result c.args.value c.put.result refl c.put.ensures.puts c.put.ensures.kept)
+    (put_goes_on (record { reads = c.self.inside.reads; writes = c.self.inside.writes }) y c.number_of_key-number.result c.args.value c.put.result refl
+    c.put.ensures.puts c.put.ensures.kept)

@@ -12,14 +12,16 @@ invariant_of-self-2 g c =
       i.0,
       i.1,
       i.2,
-      loaded_under_way g.K.Start.reader c.self.inside.reader c.get.new.reader (length c.self.inside.cells.now) c.self.inside.reads c.get.new.self c.self.inside.writes
+      loaded_under_way g.K.Start.reader c.self.inside.reader c.get.new.reader (length c.self.inside.cells.now) c.self.inside.reads c.get.new.self
+          c.self.inside.writes
           i.3 (ap length i.1) loaded.chain loaded.grown_since loaded.within loaded.keeps,
     )
 
 pub returns-clause-words : goal.returns-clause-words
 returns-clause-words g c =
     let at = c.number_of_key-number.ensures.value ∙ ap (λ (q : Sizes). number_of_key q c.args.key) c.scale.ensures in
-    row_told g.K.Start.tables c.get.new.self c.args.key c.number_of_key-number.result c.in_ok-version.version c.value_of.result at c.requires c.in_ok-version.ensures.holds c.value_of.ensures
+    row_told g.K.Start.tables c.get.new.self c.args.key c.number_of_key-number.result c.in_ok-version.version c.value_of.result at c.requires
+    c.in_ok-version.ensures.holds c.value_of.ensures
 
 pub returns-clause-holds : goal.returns-clause-holds
 returns-clause-holds g c =
