@@ -15,4 +15,11 @@ returns-clause-found g c = λ t h.
 pub returns-clause-reads : goal.returns-clause-reads
 returns-clause-reads g c =
     reads_twice c.args.transaction.now c.read-2.new.self c.read-3.new.self 2 1 3
-    (reads_twice c.args.transaction.now c.read.new.self c.read-2.new.self 1 1 2 c.read.ensures.reads c.read-2.ensures.reads (omega arith)) c.read-3.ensures.reads (omega arith)
+    (reads_twice c.args.transaction.now c.read.new.self c.read-2.new.self 1 1 2 c.read.ensures.reads c.read-2.ensures.reads (omega arith))
+    c.read-3.ensures.reads (omega arith)
+
+pub returns-in_err-customer-clause-reads : goal.returns-in_err-customer-clause-reads
+returns-in_err-customer-clause-reads g c =
+    reads_twice c.args.transaction.now c.read-2.new.self c.read-3.new.self 2 1 3
+    (reads_twice c.args.transaction.now c.read.new.self c.read-2.new.self 1 1 2 c.read.ensures.reads c.read-2.ensures.reads (omega arith))
+    c.read-3.ensures.reads (omega arith)
