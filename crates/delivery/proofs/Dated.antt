@@ -8,7 +8,7 @@ use Rattle.tables.specs.Database.{Database}
 use Rattle.tables.specs.Records.{IsRecordKey}
 use Rattle.tables.specs.NewOrder.{line_key}
 use Rattle.tables.specs.Rows.{row_at, line_words}
-use Rattle.tables.specs.Delivery.{is_taken, dated, after_districts}
+use Rattle.tables.specs.Delivery.{dated}
 use Rattle.tables.specs.declared.keys.OrderKey.{OrderKey}
 use Rattle.tables.specs.declared.keys.LineKey.{LineKey}
 use Rattle.tables.specs.declared.rows.OrderLine.{OrderLine}
@@ -20,7 +20,7 @@ use Rattle.laws.proofs.Touched.{self}
 use Rattle.laws.proofs.Updates.{get-map_rows}
 use Rattle.laws.proofs.OrderAmount.{order_named}
 use Rattle.readset.specs.Changes.{Changes, Says, Apart}
-use Rattle.delivery.specs.Steps.{next_key, is_among, with_dates}
+use Rattle.delivery.specs.Steps.{next_key, is_among, with_dates, is_taken_by, after_districts}
 use Rattle.delivery.proofs.Taking.{is_taken_before, up_to_next}
 
 module _ (t : Database) (x : DeliveryInput) (n o : ℕ) where
@@ -28,13 +28,15 @@ module _ (t : Database) (x : DeliveryInput) (n o : ℕ) where
   k = next_key x n o
 
   abbrev test : ℕ → LineKey → Bool
-  test m j = is_taken t x n (order_of j) || is_among k m j
+  test m j = is_taken_by t x n (order_of j) || is_among k m j
 
   line_at : (m : ℕ) (j : LineKey) → get (with_dates t x n k m).lines j ≡ option_map (λ l. cond (test m j) (dated x l) l) (get t.lines j)
   line_at m j = get-map_rows exact_line (λ q l. cond (test m q) (dated x l) l) t.lines j
 
-  same_lines : (a b : ℕ) (j : LineKey) → is_among k a j ≡ is_among k b j → row_at (with_dates t x n k a) (key.OrderLine j) ≡ row_at (with_dates t x n k b) (key.OrderLine j)
-  same_lines a b j same = ap (option_map line_words) (line_at a j ∙ ap (λ c. option_map (λ l. cond (is_taken t x n (order_of j) || c) (dated x l) l) (get t.lines j)) same ∙ sym (line_at b j))
+  same_lines : (a b : ℕ) (j : LineKey) → is_among k a j ≡ is_among k b j → row_at (with_dates t x n k a) (key.OrderLine j) ≡ row_at (with_dates t x n k b)
+      (key.OrderLine j)
+  same_lines a b j same = ap (option_map line_words)
+      (line_at a j ∙ ap (λ c. option_map (λ l. cond (is_taken_by t x n (order_of j) || c) (dated x l) l) (get t.lines j)) same ∙ sym (line_at b j))
 
   -- before the first line
   none_among : (j : LineKey) → 1 ≤ j.line → is_among k 0 j ≡ false
@@ -53,8 +55,10 @@ module _ (t : Database) (x : DeliveryInput) (n o : ℕ) where
   begun (key.NewOrder j) is = refl
   begun (key.Order j) is = refl
   begun (key.OrderLine j) is =
-      ap (option_map line_words) (line_at 0 j ∙ ap (λ b. option_map (λ l. cond b (dated x l) l) (get t.lines j)) (or_none (is_taken t x n (order_of j)) (is_among k 0 j) (none_among j is.3.0))
-      ∙ sym (get-map_rows exact_line (λ q l. cond (is_taken t x n (order_of q)) (dated x l) l) t.lines j))
+      ap (option_map line_words)
+      (line_at 0 j ∙ ap (λ b. option_map (λ l. cond b (dated x l) l) (get t.lines j))
+      (or_none (is_taken_by t x n (order_of j)) (is_among k 0 j) (none_among j is.3.0))
+      ∙ sym (get-map_rows exact_line (λ q l. cond (is_taken_by t x n (order_of q)) (dated x l) l) t.lines j))
   begun (key.Stock h) is = refl
   begun (key.Oldest h) is = refl
   begun (key.Last c) is = refl
@@ -71,7 +75,9 @@ module _ (t : Database) (x : DeliveryInput) (n o : ℕ) where
 
     pub dated_line : Says (row_at (with_dates t x n k (m + 1))) (dating m (get t.lines (line_key k (m + 1))))
     dated_line = (
-      ap (option_map line_words) (line_at (m + 1) (line_key k (m + 1)) ∙ (λ i. option_map (λ l. cond (is_taken_before t x n o i || last_among i) (dated x l) l) (get t.lines (line_key k (m + 1)))))
+      ap (option_map line_words)
+          (line_at (m + 1) (line_key k (m + 1))
+          ∙ (λ i. option_map (λ l. cond (is_taken_before t x n o i || last_among i) (dated x l) l) (get t.lines (line_key k (m + 1)))))
           ∙ composed (get t.lines (line_key k (m + 1))),
       tt,
     )
@@ -81,12 +87,14 @@ module _ (t : Database) (x : DeliveryInput) (n o : ℕ) where
         composed (Some l) = refl
 
     other_line : (j : LineKey) → j ≢ line_key k (m + 1) → is_among k (m + 1) j ≡ is_among k m j
-    other_line j apart = elim (is_order k.warehouse k.district k.order (order_of j)) as (λ b. is_order k.warehouse k.district k.order (order_of j) ≡ b → (b && nat_le j.line (m + 1)) ≡ (b && nat_le j.line m)) [
-      | true ↦ λ e.
-          let named : k ≡ order_of j = order_named x.warehouse (n + 1) o (order_of j) e in
-          up_to_next j.line m (λ same. apart (λ i. record { warehouse = (sym named i).warehouse; district = (sym named i).district; order = (sym named i).order; line = same i }))
-      | false ↦ λ e. refl
-    ] refl
+    other_line j apart = elim (is_order k.warehouse k.district k.order (order_of j)) as
+        (λ b. is_order k.warehouse k.district k.order (order_of j) ≡ b → (b && nat_le j.line (m + 1)) ≡ (b && nat_le j.line m)) [
+          | true ↦ λ e.
+              let named : k ≡ order_of j = order_named x.warehouse (n + 1) o (order_of j) e in
+              up_to_next j.line m (λ same. apart
+              (λ i. record { warehouse = (sym named i).warehouse; district = (sym named i).district; order = (sym named i).order; line = same i }))
+          | false ↦ λ e. refl
+        ] refl
 
     pub dated_others : (l : Option OrderLine) (j : RecordKey) → Apart j (dating m l) → row_at (with_dates t x n k (m + 1)) j ≡ row_at (with_dates t x n k m) j
     dated_others l (key.Warehouse w) apart = refl

@@ -1,5 +1,6 @@
 -- From one district to the next: an order's lines are begun, and the district is ended.
-use Rattle.std.proofs.Common.{◌≡◌, ℕ, suc, zero, ◌+◌, ◌-◌, ◌≤◌, ℤ, pos, ◌+ℤ◌, List, [], Result, Ok, Err, OnOk, Some, None, IsSome, refl, sym, ap, ◌∙◌, subst, arith}
+use Rattle.std.proofs.Common.{◌≡◌, ℕ, suc, zero, ◌+◌, ◌-◌, ◌≤◌, ℤ, pos, ◌+ℤ◌, List, [], Result, Ok, Err, OnOk, Some, None, IsSome, refl, sym, ap, ◌∙◌, subst}
+use Rattle.std.proofs.Common.{arith}
 use Rattle.std.specs.FinMap.{get}
 use Rattle.tables.specs.Sizes.{Sizes}
 use Rattle.tables.specs.Keys.{IsOrderKey, IsCustomerKey}
@@ -8,7 +9,7 @@ use Rattle.tables.specs.Database.{Database}
 use Rattle.tables.specs.Conditions.{Condition2At, Condition3At}
 use Rattle.tables.specs.Records.{number_of_key}
 use Rattle.tables.specs.Rows.{row_at, order_words, customer_words, number_words}
-use Rattle.tables.specs.Delivery.{order_amount, carried, credited, after_districts}
+use Rattle.tables.specs.Delivery.{order_amount, carried, credited}
 use Rattle.tables.specs.declared.keys.DistrictKey.{DistrictKey}
 use Rattle.tables.specs.declared.keys.OrderKey.{OrderKey}
 use Rattle.tables.specs.declared.delivery.DeliveryInput.{DeliveryInput}
@@ -23,21 +24,24 @@ use Rattle.readset.specs.Explains.{MayBe, IsNumbered}
 use Rattle.readset.proofs.HoldsChanges.{holds-changes}
 use Rattle.readset.specs.Transaction.{TransactionView, AtAll, ReadsMore}
 use Rattle.readset.proofs.UnderWay.{may_be_still}
-use Rattle.delivery.specs.Steps.{next_home, next_key, with_dates, amount_up_to, AreDone, AreDated}
+use Rattle.delivery.specs.Steps.{next_home, next_key, with_dates, amount_up_to, AreDone, AreDated, after_districts}
 use Rattle.delivery.specs.Ending.{Waits, IsCarried, IsCredited, buyer_of, ending_changes}
 use Rattle.delivery.specs.declared.change.Carried.{Carried}
 use Rattle.delivery.proofs.Dated.{begun}
 use Rattle.delivery.proofs.Done.{ending, ended, ended_others, none_changed}
 
 -- more reads leave what is done
-pub done_with_more : (t0 : Database) (x : DeliveryInput) (n : ℕ) (old new : TransactionView) (most : ℕ) → AreDone t0 x n old → ReadsMore most old new → AreDone t0 x n new
+pub done_with_more : (t0 : Database) (x : DeliveryInput) (n : ℕ) (old new : TransactionView) (most : ℕ) → AreDone t0 x n old → ReadsMore most old new
+    → AreDone t0 x n new
 done_with_more t0 x n old new most done more t h =
     subst (λ (w : WriteSetView). Holds t w (row_at (after_districts t x n))) (sym more.writes) (done t (may_be_still t0 old new most more t h))
 
 -- before the first line of an order
-pub none_dated_yet : (t0 : Database) (x : DeliveryInput) (n o : ℕ) (old new : TransactionView) (most : ℕ) → AreDone t0 x n old → ReadsMore most old new → AreDated t0 x n o 0 new (pos 0)
+pub none_dated_yet : (t0 : Database) (x : DeliveryInput) (n o : ℕ) (old new : TransactionView) (most : ℕ) → AreDone t0 x n old → ReadsMore most old new
+    → AreDated t0 x n o 0 new (pos 0)
 none_dated_yet t0 x n o old new most done more = record {
-  holds = λ t h. holds-changes t [] new.writes (row_at (after_districts t x n)) (row_at (with_dates t x n (next_key x n o) 0)) (done_with_more t0 x n old new most done more t h) tt tt (λ j is _. begun t x n o j is);
+  holds = λ t h. holds-changes t [] new.writes (row_at (after_districts t x n)) (row_at (with_dates t x n (next_key x n o) 0))
+      (done_with_more t0 x n old new most done more t h) tt tt (λ j is _. begun t x n o j is);
   sum_is = λ t h. refl;
 }
 
@@ -45,22 +49,27 @@ none_dated_yet t0 x n o old new most done more = record {
 pub none_to_do : (t0 : Database) (x : DeliveryInput) (n : ℕ) (old new : TransactionView) (most : ℕ) → AreDone t0 x n old → ReadsMore most old new
     → AtAll t0 new (λ t. Rattle.tables.specs.Delivery.waiting t (next_home x n) ≡ None) → AreDone t0 x (n + 1) new
 none_to_do t0 x n old new most done more none t h =
-    holds-changes t [] new.writes (row_at (after_districts t x n)) (row_at (after_districts t x (n + 1))) (done_with_more t0 x n old new most done more t h) tt tt (λ j is _. none_changed t x n (none t h) j)
+    holds-changes t [] new.writes (row_at (after_districts t x n)) (row_at (after_districts t x (n + 1))) (done_with_more t0 x n old new most done more t h) tt
+    tt (λ j is _. none_changed t x n (none t h) j)
 
 same_amount : (t : Database) (k : OrderKey) (m : ℕ) → amount_up_to t k m ≡ amount_to t.lines k m
 same_amount t k zero = refl
-same_amount t k (suc m) = ap (λ a. a +ℤ Rattle.tables.specs.Maps.column (λ r. r.amount) t.lines (Rattle.tables.specs.NewOrder.line_key k (suc m))) (same_amount t k m)
+same_amount t k (suc m) = ap (λ a. a +ℤ Rattle.tables.specs.Maps.column (λ r. r.amount) t.lines (Rattle.tables.specs.NewOrder.line_key k (suc m)))
+    (same_amount t k m)
 
 -- once an order's lines all have their dates, its customer is credited and the next order waits
-module _ (t0 : Database) (x : DeliveryInput) (n : ℕ) (k : OrderKey) (named : k ≡ next_key x n k.order) (old new : TransactionView) (sum : ℤ) (order : Carried) (words : List ℕ)
+module _ (t0 : Database) (x : DeliveryInput) (n : ℕ) (k : OrderKey) (named : k ≡ next_key x n k.order) (old new : TransactionView) (sum : ℤ) (order : Carried)
+    (words : List ℕ)
     (dated : AreDated t0 x n k.order order.line_count old sum) (more : ReadsMore 1 old new) (is_key : IsOrderKey t0.scale k)
-    (carried_at : AtAll t0 old (IsCarried x k order)) (buyer_key : IsCustomerKey t0.scale (buyer_of k order)) (credited_at : AtAll t0 new (IsCredited (buyer_of k order) sum words))
+    (carried_at : AtAll t0 old (IsCarried x k order)) (buyer_key : IsCustomerKey t0.scale (buyer_of k order))
+    (credited_at : AtAll t0 new (IsCredited (buyer_of k order) sum words))
     (waits : AtAll t0 old (λ t. Waits t x n k.order))
   where
     abbrev o : ℕ
     o = k.order
 
-    held_rows : (t : Database) → MayBe t0 new.reads t → Holds t (puts_all t0.scale new.writes (ending_changes (next_key x n o) order words)) (row_at (after_districts t x (n + 1)))
+    held_rows : (t : Database) → MayBe t0 new.reads t → Holds t (puts_all t0.scale new.writes (ending_changes (next_key x n o) order words))
+        (row_at (after_districts t x (n + 1)))
     held_rows t h =
         let before : MayBe t0 old.reads t = may_be_still t0 old new 1 more t h in
         let s : t.scale ≡ t0.scale = h.of_population.scale in
@@ -75,7 +84,8 @@ module _ (t0 : Database) (x : DeliveryInput) (n : ℕ) (k : OrderKey) (named : k
         let gapless : IsGapless (next_order t (next_home x n)) (numbers_in (next_home x n) t.new_orders) = (w.condition_2.1, w.condition_3) in
         let key_there : IsOrderKey t.scale j = subst (λ (q : Sizes × OrderKey). IsOrderKey q.0 q.1) (λ i. (sym s i, named i)) is_key in
         let buyer_there : IsCustomerKey t.scale (record { warehouse = x.warehouse; district = n + 1; customer = r.0.customer }) =
-        subst (λ (q : Sizes × OrderKey × ℕ). IsCustomerKey q.0 (record { warehouse = q.1.warehouse; district = q.1.district; customer = q.2 })) (λ i. (sym s i, named i, customer i)) buyer_key in
+        subst (λ (q : Sizes × OrderKey × ℕ). IsCustomerKey q.0 (record { warehouse = q.1.warehouse; district = q.1.district; customer = q.2 }))
+        (λ i. (sym s i, named i, customer i)) buyer_key in
         let so_far = subst (λ (q : WriteSetView). Holds t q (row_at (with_dates t x n j order.line_count))) (sym more.writes) (dated.holds t before) in
         let rows : Holds t (puts_all t.scale new.writes (ending t x n o w.first r.0 c.0)) (row_at (after_districts t x (n + 1))) =
         holds-changes t (ending t x n o w.first r.0 c.0) new.writes (row_at (with_dates t x n j r.0.line_count)) (row_at (after_districts t x (n + 1)))
@@ -83,26 +93,34 @@ module _ (t0 : Database) (x : DeliveryInput) (n : ℕ) (k : OrderKey) (named : k
         (key_there, (key_there, (buyer_there, ((key_there.0, key_there.1), tt))))
         (ended t x n o w.first r.0 c.0 r.1 his gapless)
         (λ i _ apart. ended_others t x n o w.first r.0 c.0 r.1 his gapless h.well_formed i apart) in
-        let amount : order_amount t j ≡ sum = order_amount-counted t h.well_formed j r.0 r.1 ∙ sym (same_amount t j r.0.line_count) ∙ ap (amount_up_to t j) (sym count) ∙ dated.sum_is t before in
+        let amount : order_amount t j ≡ sum = order_amount-counted t h.well_formed j r.0 r.1 ∙ sym (same_amount t j r.0.line_count)
+        ∙ ap (amount_up_to t j) (sym count) ∙ dated.sum_is t before in
         let order_is : order_words (carried x r.0) ≡ order.words = ap (λ (q : Carried). q.words) (sym r.2) in
-        let buyer_is : customer_words (credited t j c.0) ≡ words = ap (λ a. customer_words (record c.0 { balance = c.0.balance +ℤ a; deliveries = c.0.deliveries + 1 })) amount ∙ sym c.2 in
+        let buyer_is : customer_words (credited t j c.0) ≡ words =
+        ap (λ a. customer_words (record c.0 { balance = c.0.balance +ℤ a; deliveries = c.0.deliveries + 1 })) amount ∙ sym c.2 in
         subst (λ (q : WriteSetView). Holds t q (row_at (after_districts t x (n + 1))))
         (λ i. puts (puts (puts (puts new.writes (number_of_key (s i) (key.NewOrder j)) None) (number_of_key (s i) (key.Order j)) (Some (order_is i)))
-        (number_of_key (s i) (key.Customer (record { warehouse = x.warehouse; district = n + 1; customer = sym customer i }))) (Some (buyer_is i))) (number_of_key (s i) (key.Oldest (next_home x n))) (Some (number_words (o + 1))))
+        (number_of_key (s i) (key.Customer (record { warehouse = x.warehouse; district = n + 1; customer = sym customer i }))) (Some (buyer_is i)))
+        (number_of_key (s i) (key.Oldest (next_home x n))) (Some (number_words (o + 1))))
         rows
 
-    pub done_next : (last : TransactionView) → last.reads ≡ new.reads → last.writes ≡ puts_all t0.scale new.writes (ending_changes k order words) → AreDone t0 x (n + 1) last
+    pub done_next : (last : TransactionView) → last.reads ≡ new.reads → last.writes ≡ puts_all t0.scale new.writes (ending_changes k order words)
+        → AreDone t0 x (n + 1) last
     done_next last same written t h =
-        subst (λ (w : WriteSetView). Holds t w (row_at (after_districts t x (n + 1)))) (ap (λ (j : OrderKey). puts_all t0.scale new.writes (ending_changes j order words)) (sym named) ∙ sym written)
+        subst (λ (w : WriteSetView). Holds t w (row_at (after_districts t x (n + 1))))
+        (ap (λ (j : OrderKey). puts_all t0.scale new.writes (ending_changes j order words)) (sym named) ∙ sym written)
         (held_rows t (subst (λ (r : ReadSetView). MayBe t0 r t) same h))
 
 -- the order that waits has its row
-pub order_waits : (t : Database) (x : DeliveryInput) (n : ℕ) (k : OrderKey) → Rattle.tables.specs.WellFormed.IsWellFormed t → k ≡ next_key x n k.order → Waits t x n k.order → IsSome (get t.orders k)
+pub order_waits : (t : Database) (x : DeliveryInput) (n : ℕ) (k : OrderKey) → Rattle.tables.specs.WellFormed.IsWellFormed t → k ≡ next_key x n k.order
+    → Waits t x n k.order → IsSome (get t.orders k)
 order_waits t x n k wf named w =
-    subst (λ (j : OrderKey). IsSome (get t.orders j)) (sym named) (wf.new_order_orders (next_key x n k.order) (least_row (next_home x n) t.new_orders k.order w.first))
+    subst (λ (j : OrderKey). IsSome (get t.orders j)) (sym named)
+    (wf.new_order_orders (next_key x n k.order) (least_row (next_home x n) t.new_orders k.order w.first))
 
 -- an order that waits in a district, which is the next
-pub waits_at : (t : Database) (x : DeliveryInput) (n o : ℕ) (home : DistrictKey) → home ≡ next_home x n → Rattle.tables.specs.Delivery.waiting t home ≡ Some o → IsNumbered t home → Waits t x n o
+pub waits_at : (t : Database) (x : DeliveryInput) (n o : ℕ) (home : DistrictKey) → home ≡ next_home x n → Rattle.tables.specs.Delivery.waiting t home ≡ Some o
+    → IsNumbered t home → Waits t x n o
 waits_at t x n o home is waits numbered = record {
   first = ap (Rattle.tables.specs.Delivery.waiting t) (sym is) ∙ waits;
   condition_2 = subst (Condition2At t) is numbered.condition_2;
@@ -111,7 +129,8 @@ waits_at t x n o home is waits numbered = record {
 
 -- an order of the warehouse, as one of the district after those before its own
 pub next_is : (x : DeliveryInput) (k : OrderKey) → k.warehouse ≡ x.warehouse → 1 ≤ k.district → k ≡ next_key x (k.district - 1) k.order
-next_is x k home first = let next : k.district ≡ k.district - 1 + 1 = omega (arith, first) in λ i. record { warehouse = home i; district = next i; order = k.order }
+next_is x k home first = let next : k.district ≡ k.district - 1 + 1 = omega (arith, first) in
+    λ i. record { warehouse = home i; district = next i; order = k.order }
 
 -- what follows where a step succeeds
 pub on_ok : {X E P Q : Type 0} (result : Result X E) → (P → Q) → OnOk result P → OnOk result Q

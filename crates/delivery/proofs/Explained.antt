@@ -17,23 +17,27 @@ use Rattle.readset.specs.Changes.{Holds}
 use Rattle.readset.specs.Explains.{MayBe}
 use Rattle.readset.specs.Transaction.{TransactionView, AtAll}
 use Rattle.tables.specs.Rows.{row_at}
-use Rattle.tables.specs.Delivery.{after_districts}
-use Rattle.delivery.specs.Steps.{AreDone, AreTold}
+use Rattle.delivery.specs.Steps.{AreDone, AreTold, after_districts}
+use Rattle.delivery.proofs.AllDone.{all_done}
 
 module _ (t0 : Database) (x : DeliveryInput) (under_way : TransactionView) (orders : List DeliveredOrder)
-    (done : AreDone t0 x t0.scale.districts under_way) (no_history : under_way.writes.history_row ≡ None) (told : AreTold t0 x t0.scale.districts under_way orders)
+    (done : AreDone t0 x t0.scale.districts under_way) (no_history : under_way.writes.history_row ≡ None)
+    (told : AreTold t0 x t0.scale.districts under_way orders)
   where
     module _ (t : Database) (h : MayBe t0 under_way.reads t) where
       replies : delivery_reply t x ≡ record { warehouse = x.warehouse; orders = orders }
       replies =
           let f : ℕ → DeliveredOrder = λ d. record { district = d; order = waiting t (record { warehouse = x.warehouse; district = d }) } in
-          let same : map f (range_with_len 1 t.scale.districts) ≡ orders = ap (λ (s : Sizes). map f (range_with_len 1 s.districts)) h.of_population.scale ∙ told t h in
+          let same : map f (range_with_len 1 t.scale.districts) ≡ orders = ap (λ (s : Sizes). map f (range_with_len 1 s.districts)) h.of_population.scale
+          ∙ told t h in
           ap (λ (os : List DeliveredOrder). record { warehouse = x.warehouse; orders = os }) same
 
       holds : Holds t under_way.writes (row_at (after_delivery t x))
-      holds = subst (λ (s : Sizes). Holds t under_way.writes (row_at (after_districts t x s.districts))) (sym h.of_population.scale) (done t h)
+      holds = subst (λ (d : Database). Holds t under_way.writes (row_at d)) (all_done t x h.well_formed)
+          (subst (λ (s : Sizes). Holds t under_way.writes (row_at (after_districts t x s.districts))) (sym h.of_population.scale) (done t h))
 
-    pub commits : AtAll t0 under_way (λ t. IsCommitOf t (input.Delivery x) under_way.writes (reply.Delivery (record { warehouse = x.warehouse; orders = orders })))
+    pub commits : AtAll t0 under_way
+        (λ t. IsCommitOf t (input.Delivery x) under_way.writes (reply.Delivery (record { warehouse = x.warehouse; orders = orders })))
     commits t h = record {
       commits = ap (λ (r : DeliveryReply). Committed (after_delivery t x) (reply.Delivery r)) (replies t h);
       numbered = tt;

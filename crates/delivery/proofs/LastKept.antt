@@ -6,7 +6,8 @@ use Rattle.tables.specs.Maps.{map_rows, map_entries}
 use Rattle.tables.specs.OrderNumbers.{greatest, order_numbers}
 use Rattle.tables.specs.Database.{Database}
 use Rattle.tables.specs.Rows.{last}
-use Rattle.tables.specs.Delivery.{is_taken, carried, after_districts}
+use Rattle.tables.specs.Delivery.{carried}
+use Rattle.delivery.specs.Steps.{is_taken_by, after_districts}
 use Rattle.tables.specs.declared.keys.CustomerKey.{CustomerKey}
 use Rattle.tables.specs.declared.keys.OrderKey.{OrderKey}
 use Rattle.tables.specs.declared.rows.Order.{Order}
@@ -33,7 +34,10 @@ module _ {X : Type 0} (p : OrderKey × X → Bool) (g : OrderKey → X → X) (s
 
 pub last_kept : (t : Database) (x : DeliveryInput) (n : ℕ) (k : CustomerKey) → last (after_districts t x n) k ≡ last t k
 last_kept t x n k =
-    ap greatest (order_numbers-map_rows (λ (e : OrderKey × Order). (e.0.warehouse == k.warehouse) && (e.0.district == k.district) && (e.1.customer == k.customer))
-    (λ j r. cond (is_taken t x n j) (carried x r) r)
-    (λ j r. elim (is_taken t x n j) as (λ b. ((j.warehouse == k.warehouse) && (j.district == k.district) && ((cond b (carried x r) r).customer == k.customer)) ≡ ((j.warehouse == k.warehouse) && (j.district == k.district) && (r.customer == k.customer))) [ true ↦ refl | false ↦ refl ])
+    ap greatest (order_numbers-map_rows (λ (e : OrderKey × Order). (e.0.warehouse == k.warehouse) && (e.0.district == k.district)
+    && (e.1.customer == k.customer))
+    (λ j r. cond (is_taken_by t x n j) (carried x r) r)
+    (λ j r. elim (is_taken_by t x n j) as
+    (λ b. ((j.warehouse == k.warehouse) && (j.district == k.district) && ((cond b (carried x r) r).customer == k.customer)) ≡ ((j.warehouse == k.warehouse)
+    && (j.district == k.district) && (r.customer == k.customer))) [ true ↦ refl | false ↦ refl ])
     t.orders)

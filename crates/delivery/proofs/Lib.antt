@@ -12,3 +12,4 @@ mod Waiting
 mod First
 mod Told
 mod Explained
+mod AllDone

@@ -24,7 +24,8 @@ pub next_least : (next o : ℕ) (ns : List ℕ) → Rises ns → IsGapless next 
 next_least next o [] rise gapless is = absurd cc
 next_least next o (n ∷ ns) rise gapless is =
     let first : n ≡ o = same_Some _ _ (sym (least_first n ns rise) ∙ is) in
-    ap (λ w. unwrap_or (least (left_of w (n ∷ ns))) next) (sym is) ∙ ap (λ l. unwrap_or (least l) next) (rest_left n ns rise) ∙ next_of_rest next n ns rise gapless ∙ ap (λ a. a + 1) first
+    ap (λ w. unwrap_or (least (left_of w (n ∷ ns))) next) (sym is) ∙ ap (λ l. unwrap_or (least l) next) (rest_left n ns rise)
+    ∙ next_of_rest next n ns rise gapless ∙ ap (λ a. a + 1) first
 
 -- OLDEST tells whether an order waits: it is below D_NEXT_O_ID exactly where one does
 module _ (t : Database) (k : DistrictKey) where
@@ -42,7 +43,8 @@ module _ (t : Database) (k : DistrictKey) where
       least_within [] o e = absurd cc
       least_within (n ∷ ns) o e = reached n (least ns) refl (same_Some _ _ e)
         where
-          reached : (n : ℕ) (w : Option ℕ) → least ns ≡ w → Rattle.std.specs.Option.option_map_or (Rattle.std.proofs.Common.min n) w n ≡ o → o ≤ greatest (n ∷ ns)
+          reached : (n : ℕ) (w : Option ℕ) → least ns ≡ w → Rattle.std.specs.Option.option_map_or (Rattle.std.proofs.Common.min n) w n ≡ o
+              → o ≤ greatest (n ∷ ns)
           reached n None is same = omega (arith, same)
           reached n (Some m) is same = omega (arith, same)
 

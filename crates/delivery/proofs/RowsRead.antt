@@ -23,7 +23,8 @@ use Rattle.delivery.specs.Ending.{IsCarried, IsCredited}
 use Rattle.delivery.specs.declared.change.Carried.{Carried}
 
 -- an order's
-module _ (t0 : Database) (k : OrderKey) (under_way : TransactionView) (value : Option (List ℕ)) (read : AtAll t0 under_way (λ t. row_at t (key.Order k) ≡ value)) where
+module _ (t0 : Database) (k : OrderKey) (under_way : TransactionView) (value : Option (List ℕ))
+    (read : AtAll t0 under_way (λ t. row_at t (key.Order k) ≡ value)) where
   -- absent, where there is one at all such tables
   pub order_there : value ≡ None → AtAll t0 under_way (λ t. IsSome (get t.orders k)) → NoneMayBe t0 under_way.reads
   order_there none each t h = gone (get t.orders k) (each t h) (read t h ∙ none)
@@ -32,7 +33,8 @@ module _ (t0 : Database) (k : OrderKey) (under_way : TransactionView) (value : O
       gone None is e = true≢false (sym is)
       gone (Some r) is e = cc
 
-  row_found : (t : Database) (w : Option Order) → get t.orders k ≡ w → (words : List ℕ) → Some words ≡ option_map order_words w → (r : Order) × (get t.orders k ≡ Some r) × (words ≡ order_words r)
+  row_found : (t : Database) (w : Option Order) → get t.orders k ≡ w → (words : List ℕ) → Some words ≡ option_map order_words w → (r : Order)
+      × (get t.orders k ≡ Some r) × (words ≡ order_words r)
   row_found t None is words e = absurd cc
   row_found t (Some r) is words e = (r, is, same_Some _ _ e)
 
@@ -40,7 +42,9 @@ module _ (t0 : Database) (k : OrderKey) (under_way : TransactionView) (value : O
       (gives : (r : Order) → IsNumber t0.scale.customers r.customer → r.line_count ≤ MAX_ORDER_LINES → words ≡ order_words r
       → result ≡ Some (record { words = order_words (carried x r); customer = r.customer; line_count = r.line_count }))
     where
-      carried_at : AtAll t0 under_way (λ t. (r : Order) × (get t.orders k ≡ Some r) × (result ≡ Some (record { words = order_words (carried x r); customer = r.customer; line_count = r.line_count })))
+      carried_at : AtAll t0 under_way
+          (λ t. (r : Order) × (get t.orders k ≡ Some r)
+          × (result ≡ Some (record { words = order_words (carried x r); customer = r.customer; line_count = r.line_count })))
       carried_at t h =
           let r = row_found t (get t.orders k) refl words (sym (read t h ∙ value_is)) in
           let s : t.scale ≡ t0.scale = h.of_population.scale in
@@ -54,7 +58,8 @@ module _ (t0 : Database) (k : OrderKey) (under_way : TransactionView) (value : O
       carried_of c is t h = let p = carried_at t h in (p.0, p.1, same_Some _ _ (sym is ∙ p.2))
 
 -- a customer's
-module _ (t0 : Database) (k : CustomerKey) (under_way : TransactionView) (value : Option (List ℕ)) (is_key : IsCustomerKey t0.scale k) (read : AtAll t0 under_way (λ t. row_at t (key.Customer k) ≡ value)) where
+module _ (t0 : Database) (k : CustomerKey) (under_way : TransactionView) (value : Option (List ℕ)) (is_key : IsCustomerKey t0.scale k)
+    (read : AtAll t0 under_way (λ t. row_at t (key.Customer k) ≡ value)) where
   customer_is : AtAll t0 under_way (λ t. (r : Customer) × (get t.customers k ≡ Some r) × (value ≡ Some (customer_words r)) × IsCustomerRow r)
   customer_is t h =
       let s : t.scale ≡ t0.scale = h.of_population.scale in
@@ -65,7 +70,8 @@ module _ (t0 : Database) (k : CustomerKey) (under_way : TransactionView) (value 
   customer_there none t h = let r = customer_is t h in absurd cc
 
   module _ (sum : ℤ) (words : List ℕ) (value_is : value ≡ Some words) (result : Option (List ℕ))
-      (gives : (r : Customer) → IsCustomerRow r → words ≡ customer_words r → result ≡ Some (customer_words (record r { balance = r.balance +ℤ sum; deliveries = r.deliveries + 1 })))
+      (gives : (r : Customer) → IsCustomerRow r → words ≡ customer_words r
+      → result ≡ Some (customer_words (record r { balance = r.balance +ℤ sum; deliveries = r.deliveries + 1 })))
     where
       pub none_credited : result ≡ None → NoneMayBe t0 under_way.reads
       none_credited none t h = let r = customer_is t h in let given = gives r.0 r.3 (same_Some _ _ (sym value_is ∙ r.2)) in absurd cc

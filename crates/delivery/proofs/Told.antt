@@ -17,8 +17,10 @@ range_push a (suc n) =
     let same : a + 1 + n ≡ a + suc n = omega arith in
     ap (λ l. a ∷ l) (range_push (a + 1) n ∙ ap (λ b. range_with_len (a + 1) n ++ b ∷ []) same)
 
-pub told_next : (t0 : Database) (x : DeliveryInput) (n : ℕ) (old more : TransactionView) (orders : List DeliveredOrder) (o : DeliveredOrder) → AreTold t0 x n old orders → GoesOn 20 19 old more
-    → ((t : Database) → MayBe t0 more.reads t → o ≡ record { district = n + 1; order = waiting t (record { warehouse = x.warehouse; district = n + 1 }) }) → AreTold t0 x (n + 1) more (orders ++ o ∷ [])
+pub told_next : (t0 : Database) (x : DeliveryInput) (n : ℕ) (old more : TransactionView) (orders : List DeliveredOrder) (o : DeliveredOrder)
+    → AreTold t0 x n old orders → GoesOn 20 19 old more
+    → ((t : Database) → MayBe t0 more.reads t → o ≡ record { district = n + 1; order = waiting t (record { warehouse = x.warehouse; district = n + 1 }) })
+    → AreTold t0 x (n + 1) more (orders ++ o ∷ [])
 told_next t0 x n old more orders o told keeps is t h =
     let f : ℕ → DeliveredOrder = λ d. record { district = d; order = waiting t (record { warehouse = x.warehouse; district = d }) } in
     let next : n + 1 ≡ suc n = omega arith in

@@ -24,7 +24,8 @@ module _ (t0 : Database) (home : DistrictKey) (under_way : TransactionView) (fir
     (own_held : IsSome (held under_way.reads (number_of_key t0.scale (key.District home))))
     (first_read : AtAll t0 under_way (λ t. row_at t (key.Oldest home) ≡ first)) (own_read : AtAll t0 under_way (λ t. row_at t (key.District home) ≡ own))
     (result : Option (Option ℕ))
-    (waits : (o : ℕ) (r : District) → first ≡ Some (number_words o) → own ≡ Some (district_words r) → o < r.next_order → IsNumber t0.scale.orders o → result ≡ Some (Some o))
+    (waits : (o : ℕ) (r : District) → first ≡ Some (number_words o) → own ≡ Some (district_words r) → o < r.next_order → IsNumber t0.scale.orders o
+    → result ≡ Some (Some o))
     (none : (o : ℕ) (r : District) → first ≡ Some (number_words o) → own ≡ Some (district_words r) → r.next_order ≤ o → result ≡ Some None)
   where
     home_at : (t : Database) → t.scale ≡ t0.scale → IsDistrictKey t.scale home
@@ -50,7 +51,8 @@ module _ (t0 : Database) (home : DistrictKey) (under_way : TransactionView) (fir
               let below : oldest t home < next_order t home = grind (arith, nat_tests) in
               let waiting_is = one_waits t home below in
               let row = h.well_formed.new_orders _ (least_row home t.new_orders (oldest t home) waiting_is) in
-              waits (oldest t home) r.0 first_is own_is (omega (arith, below, next)) (subst (λ (q : Sizes). IsNumber q.orders (oldest t home)) s row.2) ∙ ap Some (sym waiting_is)
+              waits (oldest t home) r.0 first_is own_is (omega (arith, below, next)) (subst (λ (q : Sizes). IsNumber q.orders (oldest t home)) s row.2)
+              ∙ ap Some (sym waiting_is)
         ] refl
 
     pub waiting_read : (w : Option ℕ) → result ≡ Some w → AtAll t0 under_way (λ t. (waiting t home ≡ w) × IsNumbered t home)

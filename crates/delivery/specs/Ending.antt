@@ -23,12 +23,14 @@ pub record Waits (t : Database) (x : DeliveryInput) (n o : ℕ) : Type 0 where
 
 -- this is the order's row with its carrier
 abbrev pub IsCarried : DeliveryInput → OrderKey → Carried → Database → Type 0
-IsCarried x k c t = (r : Order) × (get t.orders k ≡ Some r) × (c ≡ record { words = order_words (carried x r); customer = r.customer; line_count = r.line_count })
+IsCarried x k c t = (r : Order) × (get t.orders k ≡ Some r)
+    × (c ≡ record { words = order_words (carried x r); customer = r.customer; line_count = r.line_count })
 
 -- these are the customer's words, raised by this sum
 abbrev pub IsCredited : CustomerKey → ℤ → List ℕ → Database → Type 0
 IsCredited k sum words t =
-    (r : Customer) × (get t.customers k ≡ Some r) × (words ≡ customer_words (record r { balance = r.balance +ℤ sum; deliveries = r.deliveries + 1 }))
+    (r : Customer) × (get t.customers k ≡ Some r)
+    × (words ≡ customer_words (record r { balance = r.balance +ℤ sum; deliveries = r.deliveries + 1 }))
 
 -- the customer of an order
 abbrev pub buyer_of : OrderKey → Carried → CustomerKey

@@ -1,12 +1,15 @@
 -- The steps of a Delivery (TPC-C 2.7.4.2): the tables when it has come so far.
-use Rattle.std.specs.Prelude.{◌≡◌, ℕ, ◌+◌, nat_le, ℤ, pos, ◌+ℤ◌, Bool, ◌&&◌, ◌||◌, zero, suc, List, map}
+use Rattle.std.specs.Prelude.{◌≡◌, ℕ, ◌+◌, nat_le, ℤ, pos, ◌+ℤ◌, Bool, false, not, ◌==◌, ◌&&◌, ◌||◌, cond, zero, suc}
+use Rattle.std.specs.Prelude.{Option, None, List, map}
 use Rattle.std.specs.List.{range_with_len}
+use Rattle.std.specs.Option.{option_map_or}
+use Rattle.std.specs.FinMap.{retain_keys}
 use Rattle.tables.specs.Keys.{is_order, order_of}
-use Rattle.tables.specs.Maps.{update_where, column}
+use Rattle.tables.specs.Maps.{map_rows, update_where, column}
 use Rattle.tables.specs.Database.{Database}
 use Rattle.tables.specs.NewOrder.{line_key}
 use Rattle.tables.specs.Rows.{row_at}
-use Rattle.tables.specs.Delivery.{waiting, is_taken, dated, after_districts}
+use Rattle.tables.specs.Delivery.{waiting, carried, dated, after_taken}
 use Rattle.tables.specs.declared.keys.DistrictKey.{DistrictKey}
 use Rattle.tables.specs.declared.keys.OrderKey.{OrderKey}
 use Rattle.tables.specs.declared.keys.LineKey.{LineKey}
@@ -23,13 +26,34 @@ next_home x n = record { warehouse = x.warehouse; district = n + 1 }
 abbrev pub next_key : DeliveryInput → ℕ → ℕ → OrderKey
 next_key x n o = record { warehouse = x.warehouse; district = n + 1; order = o }
 
+-- the order that it has taken in a district once the first n districts are done
+abbrev pub taken_by : Database → DeliveryInput → ℕ → DistrictKey → Option ℕ
+taken_by t x n k = cond ((k.warehouse == x.warehouse) && nat_le k.district n) (waiting t k) None
+
+-- whether it has taken this order then
+abbrev pub is_taken_by : Database → DeliveryInput → ℕ → OrderKey → Bool
+is_taken_by t x n k =
+    option_map_or (λ o. o == k.order) (taken_by t x n (record { warehouse = k.warehouse; district = k.district })) false
+
+-- the tables then. With all districts they are those after it
+abbrev pub after_districts : Database → DeliveryInput → ℕ → Database
+after_districts t x n = record t {
+  customers =
+      map_rows (λ c r. after_taken t c (taken_by t x n (record { warehouse = c.warehouse; district = c.district })) r)
+      t.customers;
+  new_orders = retain_keys t.new_orders (λ k. not (is_taken_by t x n k));
+  orders = update_where (is_taken_by t x n) (carried x) t.orders;
+  lines = update_where (λ j. is_taken_by t x n (order_of j)) (dated x) t.lines;
+}
+
 -- whether a line is one of the first m of an order
 abbrev pub is_among : OrderKey → ℕ → LineKey → Bool
 is_among k m j = is_order k.warehouse k.district k.order (order_of j) && nat_le j.line m
 
 -- the tables once the first n districts are done, and OL_DELIVERY_D of the first m lines of order k is set
 abbrev pub with_dates : Database → DeliveryInput → ℕ → OrderKey → ℕ → Database
-with_dates t x n k m = record (after_districts t x n) { lines = update_where (λ j. is_taken t x n (order_of j) || is_among k m j) (dated x) t.lines }
+with_dates t x n k m = record (after_districts t x n)
+    { lines = update_where (λ j. is_taken_by t x n (order_of j) || is_among k m j) (dated x) t.lines }
 
 -- the sum of OL_AMOUNT over the first m lines of an order
 abbrev pub amount_up_to : Database → OrderKey → ℕ → ℤ
@@ -42,11 +66,13 @@ abbrev pub AreDone : Database → DeliveryInput → ℕ → TransactionView → 
 AreDone t0 x n under_way = AtAll t0 under_way (λ t. Holds t under_way.writes (row_at (after_districts t x n)))
 
 -- and the first m lines of order o of the next district have their dates, and this sum
-pub record AreDated (t0 : Database) (x : DeliveryInput) (n o m : ℕ) (under_way : TransactionView) (sum : ℤ) : Type 0 where
-  pub holds : AtAll t0 under_way (λ t. Holds t under_way.writes (row_at (with_dates t x n (next_key x n o) m)))
-  pub sum_is : AtAll t0 under_way (λ t. amount_up_to t (next_key x n o) m ≡ sum)
+pub record AreDated (t0 : Database) (x : DeliveryInput) (n o m : ℕ) (under_way : TransactionView) (sum : ℤ) : Type 0
+  where
+    pub holds : AtAll t0 under_way (λ t. Holds t under_way.writes (row_at (with_dates t x n (next_key x n o) m)))
+    pub sum_is : AtAll t0 under_way (λ t. amount_up_to t (next_key x n o) m ≡ sum)
 
 -- these are the first n lines of its reply
 abbrev pub AreTold : Database → DeliveryInput → ℕ → TransactionView → List DeliveredOrder → Type 0
 AreTold t0 x n under_way orders = AtAll t0 under_way (λ t.
-    map (λ d. record { district = d; order = waiting t (record { warehouse = x.warehouse; district = d }) }) (range_with_len 1 n) ≡ orders)
+    map (λ d. record { district = d; order = waiting t (record { warehouse = x.warehouse; district = d }) })
+    (range_with_len 1 n) ≡ orders)

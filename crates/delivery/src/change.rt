@@ -61,7 +61,11 @@ pub(crate) fn date(value: Option<[u64; 7]>, date: u32) -> Option<Dated>
     ensures range { IfSome result (λ d. (pos 0 ≤ℤ d.amount) × (d.amount ≤ℤ MAX_LINE_AMOUNT)) }
     ensures dated { (x : DeliveryInput) (w : Option OrderLine) → x.date ≡ date
         → ForSome w (λ r. (pos 0 ≤ℤ r.amount) × (r.amount ≤ℤ MAX_LINE_AMOUNT)) → value ≡ option_map line_words w
-        → result ≡ Some (record { words = option_map (λ r. line_words (dated x r)) w; amount = option_map_or (λ r. r.amount) w (pos 0) }) }
+        → result ≡ Some (record {
+          words = option_map (λ r. line_words (dated x r)) w;
+          amount =
+              option_map_or (λ r. r.amount) w (pos 0);
+        }) }
 {
     let Some(words) = value else {
         return Some(Dated {

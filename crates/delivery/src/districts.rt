@@ -40,7 +40,8 @@ pub(crate) fn deliver_districts<R: Wait, K: Start>(
     ensures told { IfOk result (λ orders.
         AreTold K.tables delivery.now K.tables.scale.districts transaction.new orders.items) }
     ensures refused { IfErr result (IsStepRefusal K.tables transaction.new) }
-    ensures goes_on { GoesOn (20 * K.tables.scale.districts) (19 * K.tables.scale.districts) transaction.old transaction.new }
+    ensures goes_on { GoesOn (20 * K.tables.scale.districts) (19 * K.tables.scale.districts) transaction.old
+        transaction.new }
     ensures few { K.tables.scale.districts ≤ MAX_DISTRICTS }
 {
     let mut orders = Vec::new(alloc);

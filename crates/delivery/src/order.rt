@@ -120,7 +120,8 @@ fn end_order<K: Start>(
     requires customer { IsNumber K.tables.scale.customers order.now.customer }
     requires holds_new_order { IsSome (held transaction.old.reads (number_of_key K.tables.scale (key_variants.NewOrder key))) }
     requires holds_order { IsSome (held transaction.old.reads (number_of_key K.tables.scale (key_variants.Order key))) }
-    requires holds_buyer { IsSome (held transaction.old.reads (number_of_key K.tables.scale (key_variants.Customer (buyer_of key order.now)))) }
+    requires holds_buyer { IsSome
+        (held transaction.old.reads (number_of_key K.tables.scale (key_variants.Customer (buyer_of key order.now)))) }
     requires holds_oldest { IsSome (held transaction.old.reads (number_of_key K.tables.scale
         (key_variants.Oldest (record { warehouse = key.warehouse; district = key.district })))) }
     ensures written { OnOk result (transaction.new.writes

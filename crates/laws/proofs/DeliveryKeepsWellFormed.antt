@@ -9,7 +9,7 @@ use Rattle.tables.specs.Sizes.{IsNumber}
 use Rattle.tables.specs.Keys.{order_cmp, order_of, IsCustomerKey, IsOrderKey, IsLineKey}
 use Rattle.tables.specs.Maps.{RowsWithin, EachRow}
 use Rattle.tables.specs.Database.{Database}
-use Rattle.tables.specs.Delivery.{IsDelivery, taken, is_taken, carried, dated, order_amount, is_order_of, credited, after_taken, after_districts, after_delivery}
+use Rattle.tables.specs.Delivery.{IsDelivery, taken, is_taken, carried, dated, order_amount, is_order_of, credited, after_taken, after_delivery}
 use Rattle.tables.specs.WellFormed.{IsWellFormed, HasRoom, IsDate, IsCustomerRow, IsOrderRow, IsLineRow, IsMoneyFor, IsCountFor, orderer}
 use Rattle.tables.specs.declared.limits.TheConstants.{MAX_CARRIER}
 use Rattle.tables.specs.declared.keys.CustomerKey.{CustomerKey}
@@ -20,7 +20,7 @@ use Rattle.tables.specs.declared.rows.Order.{Order}
 use Rattle.tables.specs.declared.rows.OrderLine.{OrderLine}
 use Rattle.tables.specs.declared.delivery.DeliveryInput.{DeliveryInput}
 use Rattle.tables.proofs.Orders.{IsExact, exact_customer, exact_order, exact_line}
-use Rattle.laws.proofs.DeliveryKeepsConstants.{districts_keep_constants}
+use Rattle.laws.proofs.DeliveryKeepsConstants.{kept_constants}
 use Rattle.laws.proofs.NamesKept.{IsOf-itself, last_names_stay}
 use Rattle.laws.proofs.OrderAmount.{order_amount-within}
 use Rattle.laws.proofs.Room.{money_stays, count_stays, is_money, is_count, room_stays}
@@ -40,20 +40,22 @@ module _ {K X : Type 0} {R : K → K → Ordering} (o : IsExact R) where
         | false ↦ λ none. absurd (true≢false (sym none))
       ] (subst IsSome (get-retain_keys m p q (λ j tie. ap p (sym (o.same q j tie)))) some)
 
-module _ (t : Database) (x : DeliveryInput) (districts : ℕ) where
+module _ (t : Database) (x : DeliveryInput) where
   abbrev credits : CustomerKey → Customer → Customer
-  credits c r = after_taken t c (taken t x districts (record { warehouse = c.warehouse; district = c.district })) r
+  credits c r = after_taken t c (taken t x (record { warehouse = c.warehouse; district = c.district })) r
 
   abbrev carries : OrderKey → Order → Order
-  carries k r = cond (is_taken t x districts k) (carried x r) r
+  carries k r = cond (is_taken t x k) (carried x r) r
 
   abbrev dates : LineKey → OrderLine → OrderLine
-  dates j r = cond (is_taken t x districts (order_of j)) (dated x r) r
+  dates j r = cond (is_taken t x (order_of j)) (dated x r) r
 
   -- what holds of a customer's row that no order is credited to and of one that one order is
-  each_customer : (P Q : Customer → Type 0) → EachRow (λ c r. P r) t.customers → ((r : Customer) → P r → Q r) → ((k : OrderKey) (r : Customer) → P r → Q (credited t k r))
-      → EachRow (λ c r. Q r) (after_districts t x districts).customers
-  each_customer P Q each same credit = each_updated exact_customer (λ c r. P r) (λ c r. Q r) credits t.customers each (λ c r h. once c (taken t x districts (record { warehouse = c.warehouse; district = c.district })) r h)
+  each_customer : (P Q : Customer → Type 0) → EachRow (λ c r. P r) t.customers → ((r : Customer) → P r → Q r)
+      → ((k : OrderKey) (r : Customer) → P r → Q (credited t k r))
+      → EachRow (λ c r. Q r) (after_delivery t x).customers
+  each_customer P Q each same credit = each_updated exact_customer (λ c r. P r) (λ c r. Q r) credits t.customers each
+      (λ c r h. once c (taken t x (record { warehouse = c.warehouse; district = c.district })) r h)
     where
       once : (c : CustomerKey) (w : Option ℕ) (r : Customer) → P r → Q (after_taken t c w r)
       once c None r h = same r h
@@ -69,21 +71,23 @@ module _ (t : Database) (x : DeliveryInput) (districts : ℕ) where
     counts : (c : ℕ) → IsCountFor (n + 1) c → IsCountFor n (c + 1)
     counts c h = omega (arith, h)
 
-    pub districts_keep_room : HasRoom n (after_districts t x districts)
-    districts_keep_room = let stays = room_stays n t room in record {
+    pub kept_room : HasRoom n (after_delivery t x)
+    kept_room = let stays = room_stays n t room in record {
       warehouses = stays.warehouses;
       districts = stays.districts;
-      balances = each_customer (λ r. IsMoneyFor (n + 1) r.balance) (λ r. IsMoneyFor n r.balance) room.balances (λ r h. money_stays n r.balance h) (λ k r h. rises k r.balance h);
+      balances = each_customer (λ r. IsMoneyFor (n + 1) r.balance) (λ r. IsMoneyFor n r.balance) room.balances (λ r h. money_stays n r.balance h)
+          (λ k r h. rises k r.balance h);
       paid = each_customer (λ r. IsMoneyFor n r.paid) (λ r. IsMoneyFor n r.paid) stays.paid (λ r h. h) (λ k r h. h);
       payments = each_customer (λ r. IsCountFor n r.payments) (λ r. IsCountFor n r.payments) stays.payments (λ r h. h) (λ k r h. h);
-      deliveries = each_customer (λ r. IsCountFor (n + 1) r.deliveries) (λ r. IsCountFor n r.deliveries) room.deliveries (λ r h. count_stays n r.deliveries h) (λ k r h. counts r.deliveries h);
+      deliveries = each_customer (λ r. IsCountFor (n + 1) r.deliveries) (λ r. IsCountFor n r.deliveries) room.deliveries (λ r h. count_stays n r.deliveries h)
+          (λ k r h. counts r.deliveries h);
       supplied = stays.supplied;
       orders = stays.orders;
       remote_orders = stays.remote_orders;
     }
 
     module _ (ok : IsDelivery t.scale x) where
-      customer_rows : EachRow (λ c r. IsCustomerRow r) (after_districts t x districts).customers
+      customer_rows : EachRow (λ c r. IsCustomerRow r) (after_delivery t x).customers
       customer_rows = each_customer
           (λ r. IsCustomerRow r × IsMoneyFor (n + 1) r.balance × IsCountFor (n + 1) r.deliveries) IsCustomerRow
           (λ c r f. (wf.customer_rows c r f, room.balances c r f, room.deliveries c r f))
@@ -95,16 +99,21 @@ module _ (t : Database) (x : DeliveryInput) (districts : ℕ) where
             deliveries = is_count n _ (counts r.deliveries h.2);
           })
 
-      order_rows : EachRow (λ k r. IsOrderRow r) (after_districts t x districts).orders
+      order_rows : EachRow (λ k r. IsOrderRow r) (after_delivery t x).orders
       order_rows = each_updated exact_order (λ k r. IsOrderRow r) (λ k r. IsOrderRow r) carries t.orders wf.order_rows
-          (λ k r h. elim (is_taken t x districts k) as (λ b. IsOrderRow (cond b (carried x r) r)) [
-            | true ↦ record { entry_date = h.entry_date; carrier = λ c is. subst (IsNumber MAX_CARRIER) (same_Some _ _ is) ok.carrier; line_count = h.line_count }
+          (λ k r h. elim (is_taken t x k) as (λ b. IsOrderRow (cond b (carried x r) r)) [
+            | true ↦ record {
+              entry_date = h.entry_date;
+              carrier = λ c is. subst (IsNumber MAX_CARRIER) (same_Some _ _ is) ok.carrier;
+              line_count =
+                  h.line_count;
+            }
             | false ↦ h
           ])
 
-      line_rows : EachRow (λ j r. IsLineRow t.scale r) (after_districts t x districts).lines
+      line_rows : EachRow (λ j r. IsLineRow t.scale r) (after_delivery t x).lines
       line_rows = each_updated exact_line (λ j r. IsLineRow t.scale r) (λ j r. IsLineRow t.scale r) dates t.lines wf.line_rows
-          (λ j r h. elim (is_taken t x districts (order_of j)) as (λ b. IsLineRow t.scale (cond b (dated x r) r)) [
+          (λ j r h. elim (is_taken t x (order_of j)) as (λ b. IsLineRow t.scale (cond b (dated x r) r)) [
             | true ↦ record {
               item = h.item;
               supply_warehouse = h.supply_warehouse;
@@ -117,36 +126,38 @@ module _ (t : Database) (x : DeliveryInput) (districts : ℕ) where
           ])
 
       -- the customer of an order is there still
-      order_customers : EachRow (λ k r. IsSome (get (after_districts t x districts).customers (orderer k r))) (after_districts t x districts).orders
-      order_customers = each_updated exact_order (λ k r. IsSome (get t.customers (orderer k r))) (λ k r. IsSome (get (after_districts t x districts).customers (orderer k r))) carries t.orders wf.order_customers
-          (λ k r h. elim (is_taken t x districts k) as (λ b. IsSome (get (after_districts t x districts).customers (orderer k (cond b (carried x r) r)))) [
+      order_customers : EachRow (λ k r. IsSome (get (after_delivery t x).customers (orderer k r))) (after_delivery t x).orders
+      order_customers = each_updated exact_order (λ k r. IsSome (get t.customers (orderer k r)))
+          (λ k r. IsSome (get (after_delivery t x).customers (orderer k r))) carries t.orders wf.order_customers
+          (λ k r h. elim (is_taken t x k) as (λ b. IsSome (get (after_delivery t x).customers (orderer k (cond b (carried x r) r)))) [
             | true ↦ still (orderer k r) h
             | false ↦ still (orderer k r) h
           ])
         where
-          still : (c : CustomerKey) → IsSome (get t.customers c) → IsSome (get (after_districts t x districts).customers c)
+          still : (c : CustomerKey) → IsSome (get t.customers c) → IsSome (get (after_delivery t x).customers c)
           still c some = subst (λ b. b ≡ true) (sym (is_some-map_rows exact_customer credits t.customers c)) some
 
       -- and so is the order of a line, with the same count of lines
-      line_orders : EachRow (λ j r. IsWithinOrder (after_districts t x districts).orders j) (after_districts t x districts).lines
-      line_orders = each_updated exact_line (λ j r. IsWithinOrder t.orders j) (λ j r. IsWithinOrder (after_districts t x districts).orders j) dates t.lines wf.line_orders
+      line_orders : EachRow (λ j r. IsWithinOrder (after_delivery t x).orders j) (after_delivery t x).lines
+      line_orders = each_updated exact_line (λ j r. IsWithinOrder t.orders j) (λ j r. IsWithinOrder (after_delivery t x).orders j) dates t.lines wf.line_orders
           (λ j r h. (
             carries (order_of j) h.0,
             get-map_rows exact_order carries t.orders (order_of j) ∙ ap (option_map (carries (order_of j))) h.1,
-            elim (is_taken t x districts (order_of j)) as (λ b. j.line ≤ (cond b (carried x h.0) h.0).line_count) [ true ↦ h.2 | false ↦ h.2 ],
+            elim (is_taken t x (order_of j)) as (λ b. j.line ≤ (cond b (carried x h.0) h.0).line_count) [ true ↦ h.2 | false ↦ h.2 ],
           ))
 
-      new_order_orders : (k : OrderKey) → IsSome (get (after_districts t x districts).new_orders k) → IsSome (get (after_districts t x districts).orders k)
-      new_order_orders k some = subst (λ b. b ≡ true) (sym (is_some-map_rows exact_order carries t.orders k)) (wf.new_order_orders k (was_there exact_order _ t.new_orders k some))
+      new_order_orders : (k : OrderKey) → IsSome (get (after_delivery t x).new_orders k) → IsSome (get (after_delivery t x).orders k)
+      new_order_orders k some = subst (λ b. b ≡ true) (sym (is_some-map_rows exact_order carries t.orders k))
+          (wf.new_order_orders k (was_there exact_order _ t.new_orders k some))
 
-      order_keys : RowsWithin (IsOrderKey t.scale) (after_districts t x districts).orders
+      order_keys : RowsWithin (IsOrderKey t.scale) (after_delivery t x).orders
       order_keys k some = wf.orders k (subst (λ b. b ≡ true) (is_some-map_rows exact_order carries t.orders k) some)
 
-      line_keys : RowsWithin (IsLineKey t.scale) (after_districts t x districts).lines
+      line_keys : RowsWithin (IsLineKey t.scale) (after_delivery t x).lines
       line_keys j some = wf.lines j (subst (λ b. b ≡ true) (is_some-map_rows exact_line dates t.lines j) some)
 
-      pub districts_keep_well_formed : IsWellFormed (after_districts t x districts)
-      districts_keep_well_formed = record {
+      pub kept_well_formed : IsWellFormed (after_delivery t x)
+      kept_well_formed = record {
         warehouses = wf.warehouses;
         districts = wf.districts;
         customers = updated_rows exact_customer (IsCustomerKey t.scale) credits t.customers wf.customers;
@@ -166,11 +177,13 @@ module _ (t : Database) (x : DeliveryInput) (districts : ℕ) where
         order_customers = order_customers;
         new_order_orders = new_order_orders;
         line_orders = line_orders;
-        last_names = last_names_stay t (after_districts t x districts) (districts_keep_constants t x districts t (IsOf-itself t)) wf.last_names;
+        last_names = last_names_stay t (after_delivery t x) (kept_constants t x t (IsOf-itself t)) wf.last_names;
       }
 
-pub delivery_keeps_room : (t : Database) (x : DeliveryInput) (n : ℕ) → IsDelivery t.scale x → IsWellFormed t → HasRoom (n + 1) t → HasRoom n (after_delivery t x)
-delivery_keeps_room t x n ok wf room = districts_keep_room t x t.scale.districts n wf room
+pub delivery_keeps_room : (t : Database) (x : DeliveryInput) (n : ℕ) → IsDelivery t.scale x → IsWellFormed t → HasRoom (n + 1) t
+    → HasRoom n (after_delivery t x)
+delivery_keeps_room t x n ok wf room = kept_room t x n wf room
 
-pub delivery_keeps_well_formed : (t : Database) (x : DeliveryInput) (n : ℕ) → IsDelivery t.scale x → IsWellFormed t → HasRoom (n + 1) t → IsWellFormed (after_delivery t x)
-delivery_keeps_well_formed t x n ok wf room = districts_keep_well_formed t x t.scale.districts n wf room ok
+pub delivery_keeps_well_formed : (t : Database) (x : DeliveryInput) (n : ℕ) → IsDelivery t.scale x → IsWellFormed t → HasRoom (n + 1) t
+    → IsWellFormed (after_delivery t x)
+delivery_keeps_well_formed t x n ok wf room = kept_well_formed t x n wf room ok

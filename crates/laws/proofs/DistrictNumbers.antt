@@ -25,7 +25,8 @@ module _ {X : Type 0} (k : DistrictKey) where
   entries_updated g [] = refl
   entries_updated g (e ∷ es) =
       let new : OrderKey × X = (e.0, g e.0 e.1) in
-      elim (within e) as (λ b. map number (cond b (new ∷ filter within (map_entries g es)) (filter within (map_entries g es))) ≡ map number (cond b (e ∷ filter within es) (filter within es))) [
+      elim (within e) as (λ b. map number (cond b (new ∷ filter within (map_entries g es)) (filter within (map_entries g es))) ≡ map number
+      (cond b (e ∷ filter within es) (filter within es))) [
         | true ↦ ap (λ l. e.0.order ∷ l) (entries_updated g es)
         | false ↦ entries_updated g es
       ]
@@ -42,10 +43,12 @@ module _ {X : Type 0} (k : DistrictKey) where
     entries_left [] = refl
     entries_left (e ∷ es) =
         let rest = entries_left es in
-        elim (within e) as (λ b. within e ≡ b → numbers (cond (keep e.0) (e ∷ kept es) (kept es)) ≡ left_of w (map number (cond b (e ∷ filter within es) (filter within es)))) [
+        elim (within e) as (λ b. within e ≡ b → numbers (cond (keep e.0) (e ∷ kept es) (kept es)) ≡ left_of w
+        (map number (cond b (e ∷ filter within es) (filter within es)))) [
           | true ↦ λ t.
               ap (λ b. numbers (cond b (e ∷ kept es) (kept es))) (at e.0 t)
-              ∙ elim (is_left w e.0.order) as (λ b. numbers (cond b (e ∷ kept es) (kept es)) ≡ cond b (e.0.order ∷ left_of w (numbers es)) (left_of w (numbers es))) [
+              ∙ elim (is_left w e.0.order) as
+              (λ b. numbers (cond b (e ∷ kept es) (kept es)) ≡ cond b (e.0.order ∷ left_of w (numbers es)) (left_of w (numbers es))) [
                 | true ↦ ap (λ b. map number (cond b (e ∷ filter within (kept es)) (filter within (kept es)))) t ∙ ap (λ l. e.0.order ∷ l) rest
                 | false ↦ rest
               ]

@@ -14,7 +14,8 @@ collected-put : {K X A : Type 0} (R : K → K → Ordering) (F : List (K × X) �
     → (k : K) (v : X) (es : List (K × X)) → find R k es ≡ None → F (put R k v es) ≡ op (k, v) (F es)
 collected-put R F op step swap k v [] none = step (k, v) []
 collected-put R F op step swap k v (e ∷ es) none =
-    elim (R k e.0) as (λ r. cond (is_eq r) (Some e.1) (find R k es) ≡ None → F (by_order r ((k, v) ∷ e ∷ es) ((e.0, v) ∷ es) (e ∷ put R k v es)) ≡ op (k, v) (F (e ∷ es))) [
+    elim (R k e.0) as (λ r. cond (is_eq r) (Some e.1) (find R k es) ≡ None → F (by_order r ((k, v) ∷ e ∷ es) ((e.0, v) ∷ es) (e ∷ put R k v es)) ≡ op (k, v)
+    (F (e ∷ es))) [
       | Less ↦ λ n. step (k, v) (e ∷ es)
       | Equal ↦ λ n. cc
       | Greater ↦ λ n. step e (put R k v es) ∙ ap (op e) (collected-put R F op step swap k v es n) ∙ swap e (k, v) (F es) ∙ ap (op (k, v)) (sym (step e es))

@@ -23,14 +23,17 @@ use Rattle.laws.proofs.Room.{room_stays}
 use Rattle.laws.proofs.PaymentKeeps.{payment_keeps_well_formed, payment_keeps_room, payment_keeps_consistent, payment_keeps_constants}
 
 payer_is_number : (t : Database) (x : PaymentInput) → IsPayment t.scale x → IsWellFormed t → IsNumber t.scale.customers (payer_number t x)
-payer_is_number t x ok wf = is_number_of t (record { warehouse = x.customer_warehouse; district = x.customer_district }) x.who wf (ok.customer_warehouse, ok.customer_district) ok.who
+payer_is_number t x ok wf = is_number_of t (record { warehouse = x.customer_warehouse; district = x.customer_district }) x.who wf
+    (ok.customer_warehouse, ok.customer_district) ok.who
 
-pub after-IsWellFormed : (t : Database) (x : Input) (n : ℕ) → IsInput t.scale x → HasOrderNumber t x → IsWellFormed t → IsConsistent t → HasRoom (n + 1) t → IsWellFormed (after t x)
+pub after-IsWellFormed : (t : Database) (x : Input) (n : ℕ) → IsInput t.scale x → HasOrderNumber t x → IsWellFormed t → IsConsistent t → HasRoom (n + 1) t
+    → IsWellFormed (after t x)
 after-IsWellFormed t (Payment x) n ok number wf con room = payment_keeps_well_formed t x (payer_number t x) n ok (payer_is_number t x ok wf) wf room
-after-IsWellFormed t (NewOrder x) n ok number wf con room = elim (first_missing t x.lines) as (λ missing. first_missing t x.lines ≡ missing → IsWellFormed (left_by t (order_unless missing t x))) [
-  | None ↦ λ none. new_order_keeps_well_formed t x n ok room wf number con none
-  | Some item ↦ λ _. wf
-] refl
+after-IsWellFormed t (NewOrder x) n ok number wf con room =
+    elim (first_missing t x.lines) as (λ missing. first_missing t x.lines ≡ missing → IsWellFormed (left_by t (order_unless missing t x))) [
+      | None ↦ λ none. new_order_keeps_well_formed t x n ok room wf number con none
+      | Some item ↦ λ _. wf
+    ] refl
 after-IsWellFormed t (Delivery x) n ok number wf con room = delivery_keeps_well_formed t x n ok wf room
 after-IsWellFormed t (OrderStatus x) n ok number wf con room = wf
 after-IsWellFormed t (StockLevel x) n ok number wf con room = wf

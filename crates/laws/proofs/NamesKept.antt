@@ -29,14 +29,26 @@ bare r = record { first_name = r.first_name; last_name = r.last_name; credit = G
 bared : FinMap customer_cmp Customer → FinMap customer_cmp Customer
 bared m = map_rows (λ k r. bare r) m
 
-same_bare : (a b : Option Customer) → option_map (λ r. r.first_name) a ≡ option_map (λ r. r.first_name) b → option_map (λ r. r.last_name) a ≡ option_map (λ r. r.last_name) b → option_map bare a ≡ option_map bare b
+same_bare : (a b : Option Customer) → option_map (λ r. r.first_name) a ≡ option_map (λ r. r.first_name) b
+    → option_map (λ r. r.last_name) a ≡ option_map (λ r. r.last_name) b → option_map bare a ≡ option_map bare b
 unfolding bare
 same_bare None None f l = refl
 same_bare None (Some s) f l = absurd cc
 same_bare (Some r) None f l = absurd cc
-same_bare (Some r) (Some s) f l = λ i. Some (record { first_name = same_Some _ _ f i; last_name = same_Some _ _ l i; credit = Good; discount = 0; balance = pos 0; paid = pos 0; payments = 0; deliveries = 0 })
+same_bare (Some r) (Some s) f l =
+    λ i. Some (record {
+      first_name = same_Some _ _ f i;
+      last_name = same_Some _ _ l i;
+      credit = Good;
+      discount = 0;
+      balance = pos 0;
+      paid = pos 0;
+      payments = 0;
+      deliveries = 0;
+    })
 
-names_listed : (es : List (CustomerKey × Customer)) → map {B = NameKey × Unit {0}} (λ (e : CustomerKey × Customer). (name_of e.0 e.1, tt)) (map_entries (λ k r. bare r) es) ≡ map (λ (e : CustomerKey × Customer). (name_of e.0 e.1, tt)) es
+names_listed : (es : List (CustomerKey × Customer)) → map {B = NameKey × Unit {0}} (λ (e : CustomerKey × Customer). (name_of e.0 e.1, tt))
+    (map_entries (λ k r. bare r) es) ≡ map (λ (e : CustomerKey × Customer). (name_of e.0 e.1, tt)) es
 unfolding bare
 names_listed [] = refl
 names_listed (e ∷ es) = ap (λ l. (name_of e.0 e.1, tt) ∷ l) (names_listed es)
@@ -44,14 +56,16 @@ names_listed (e ∷ es) = ap (λ l. (name_of e.0 e.1, tt) ∷ l) (names_listed e
 names_bared : (m : FinMap customer_cmp Customer) → names (bared m) ≡ names m
 unfolding bared
 names_bared m =
-    ap (λ es. keys (from_entries {X = Unit {0}} {R = name_cmp} (map (λ (e : CustomerKey × Customer). (name_of e.0 e.1, tt)) es))) (entries-map_rows (λ k r. bare r) m)
+    ap (λ es. keys (from_entries {X = Unit {0}} {R = name_cmp} (map (λ (e : CustomerKey × Customer). (name_of e.0 e.1, tt)) es)))
+    (entries-map_rows (λ k r. bare r) m)
     ∙ ap (λ es. keys (from_entries {X = Unit {0}} {R = name_cmp} es)) (names_listed (entries m))
 
 pub same_names : (t0 t : Database) → IsOf t0 t → names t.customers ≡ names t0.customers
 unfolding bared
 same_names t0 t h =
     let rows : bared t.customers ≡ bared t0.customers = same_map exact_customer.total exact_customer.same (bared t.customers) (bared t0.customers)
-    (λ k. get-map_rows exact_customer (λ _ r. bare r) t.customers k ∙ same_bare (get t.customers k) (get t0.customers k) (h.first_names k) (h.last_names k) ∙ sym (get-map_rows exact_customer (λ _ r. bare r) t0.customers k)) in
+    (λ k. get-map_rows exact_customer (λ _ r. bare r) t.customers k ∙ same_bare (get t.customers k) (get t0.customers k) (h.first_names k) (h.last_names k)
+    ∙ sym (get-map_rows exact_customer (λ _ r. bare r) t0.customers k)) in
     sym (names_bared t.customers) ∙ ap names rows ∙ names_bared t0.customers
 
 pub last_names_stay : (t0 t : Database) → IsOf t0 t → HasLastNames t0 → HasLastNames t
@@ -60,7 +74,17 @@ last_names_stay t0 t h there d is n below name =
 
 -- a database is of itself
 pub IsOf-itself : (t : Database) → IsOf t t
-IsOf-itself t = record { scale = refl; warehouse_taxes = λ w. refl; district_taxes = λ k. refl; first_names = λ k. refl; last_names = λ k. refl; credit = λ k. refl; discounts = λ k. refl; items = refl }
+IsOf-itself t = record {
+  scale = refl;
+  warehouse_taxes = λ w. refl;
+  district_taxes = λ k. refl;
+  first_names = λ k. refl;
+  last_names = λ k. refl;
+  credit =
+      λ k. refl;
+  discounts = λ k. refl;
+  items = refl;
+}
 
 -- whom a terminal means is the same customer
 pub same_number : (t0 t : Database) (d : DistrictKey) (who : Who) → IsOf t0 t → customer_number t d who ≡ customer_number t0 d who
@@ -68,7 +92,8 @@ same_number t0 t d (Id c) h = refl
 same_number t0 t d (Last n) h = ap (λ ks. unwrap_or (customer_named ks d n) 0) (same_names t0 t h)
 
 -- and a customer of the scale
-pub is_number_of : (t : Database) (d : DistrictKey) (who : Who) → IsWellFormed t → IsDistrictKey t.scale d → IsWho t.scale who → IsNumber t.scale.customers (customer_number t d who)
+pub is_number_of : (t : Database) (d : DistrictKey) (who : Who) → IsWellFormed t → IsDistrictKey t.scale d → IsWho t.scale who
+    → IsNumber t.scale.customers (customer_number t d who)
 is_number_of t d (Id c) wf is who = who
 is_number_of t d (Last n) wf is who = go (customer_named (names t.customers) d n) refl (wf.last_names d is n who.0 who.1)
   where

@@ -28,10 +28,12 @@ module _ (t : Database) (x : NewOrderInput) (wf : IsWellFormed t) (last : Condit
   pub no_order : get t.orders (new_key t x) ≡ None
   no_order =
       let next : greatest (numbers_in (home x) t.orders) + 1 ≡ next_order t (home x) = last.0 in
-      none_above (λ (e : OrderKey × Order). is_district e.0.warehouse e.0.district (home x)) t.orders (new_key t x) (omega arith) (λ r. is_district-key x.warehouse x.district (home x) ∙ (eq_by_cmp_equiv exact_district.total).refl (home x))
+      none_above (λ (e : OrderKey × Order). is_district e.0.warehouse e.0.district (home x)) t.orders (new_key t x) (omega arith)
+      (λ r. is_district-key x.warehouse x.district (home x) ∙ (eq_by_cmp_equiv exact_district.total).refl (home x))
 
   pub no_new_order : get t.new_orders (new_key t x) ≡ None
-  no_new_order = absent t.new_orders (new_key t x) (λ r found. missing (get t.orders (new_key t x)) no_order (wf.new_order_orders (new_key t x) (ap is_some found)))
+  no_new_order = absent t.new_orders (new_key t x)
+      (λ r found. missing (get t.orders (new_key t x)) no_order (wf.new_order_orders (new_key t x) (ap is_some found)))
 
   -- an order that is there has another key
   pub other_order : (k : OrderKey) (order : Order) → get t.orders k ≡ Some order → eq_by_cmp order_cmp k (new_key t x) ≡ false
@@ -46,7 +48,8 @@ module _ (t : Database) (x : NewOrderInput) (wf : IsWellFormed t) (last : Condit
   of_other j line found = let order = wf.line_orders j line found in other_order (order_of j) order.0 order.1
 
   pub no_line : (i : ℕ) → get t.lines (line_key (new_key t x) i) ≡ None
-  no_line i = absent t.lines (line_key (new_key t x) i) (λ line found. true≢false (sym ((eq_by_cmp_equiv exact_order.total).refl (new_key t x)) ∙ of_other (line_key (new_key t x) i) line found))
+  no_line i = absent t.lines (line_key (new_key t x) i)
+      (λ line found. true≢false (sym ((eq_by_cmp_equiv exact_order.total).refl (new_key t x)) ∙ of_other (line_key (new_key t x) i) line found))
 
   -- the order of a line that was there
   pub order_stays : (j : LineKey) (line : OrderLine) → get t.lines j ≡ Some line → get (after_new_order t x).orders (order_of j) ≡ get t.orders (order_of j)

@@ -19,7 +19,8 @@ use Rattle.laws.proofs.Inserts.{total-insert}
 
 module _ (t : Database) (k : OrderKey) where
   -- what holds of each row and of the new lines, numbered from n on, holds of each row after them
-  pub each-with_lines : (P : LineKey → OrderLine → Type 0) (Q : RequestedLine → Type 0) (n : ℕ) (ls : List RequestedLine) (m : FinMap line_cmp OrderLine) → EachRow P m → All Q ls
+  pub each-with_lines : (P : LineKey → OrderLine → Type 0) (Q : RequestedLine → Type 0) (n : ℕ) (ls : List RequestedLine) (m : FinMap line_cmp OrderLine)
+      → EachRow P m → All Q ls
       → ((i : ℕ) (l : RequestedLine) → n ≤ i → i < n + length ls → Q l → P (line_key k i) (line_row t l)) → EachRow P (with_lines t k n ls m)
   each-with_lines P Q n [] m each all new = each
   each-with_lines P Q n (l ∷ ls) m each all new =
@@ -44,7 +45,8 @@ module _ (t : Database) (k : OrderKey) where
   total-with_lines f counts n (l ∷ ls) m adds free =
       total-with_lines f counts (n + 1) ls (insert m (line_key k n) (line_row t l)) adds
       (λ i above. get-insert_other exact_line m (line_key k n) (line_row t l) (line_key k i) (other_number i n above) ∙ free i (omega arith))
-      ∙ ap (λ a. a +ℤ cond counts (pos (length ls)) (pos 0)) (total-insert exact_line f m (line_key k n) (line_row t l) (free n (omega arith)) ∙ ap (λ a. a +ℤ total f m) (adds n l))
+      ∙ ap (λ a. a +ℤ cond counts (pos (length ls)) (pos 0)) (total-insert exact_line f m (line_key k n) (line_row t l) (free n (omega arith))
+      ∙ ap (λ a. a +ℤ total f m) (adds n l))
       ∙ regrouped counts (total f m) (length ls)
     where
       regrouped : (b : Bool) (a : ℤ) (c : ℕ) → (cond b (pos 1) (pos 0) +ℤ a) +ℤ cond b (pos c) (pos 0) ≡ a +ℤ cond b (pos (suc c)) (pos 0)

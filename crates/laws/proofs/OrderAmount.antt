@@ -1,5 +1,6 @@
 -- The sum of OL_AMOUNT over an order's lines: by the lines' numbers, and its range.
-use Rattle.std.proofs.Common.{◌≡◌, ℕ, zero, suc, ◌+◌, ◌<◌, ◌≤◌, ℤ, pos, ◌+ℤ◌, ◌*ℤ◌, ◌≤ℤ◌, true, false, cond, T, ◌==◌, ◌&&◌, true≢false, List, [], ◌∷◌, Option, Some, None, is_some, refl, sym, ap, ◌∙◌, subst, arith}
+use Rattle.std.proofs.Common.{◌≡◌, ℕ, zero, suc, ◌+◌, ◌<◌, ◌≤◌, ℤ, pos, ◌+ℤ◌, ◌*ℤ◌, ◌≤ℤ◌, true, false, cond, T, ◌==◌, ◌&&◌, true≢false, List, [], ◌∷◌, Option}
+use Rattle.std.proofs.Common.{Some, None, is_some, refl, sym, ap, ◌∙◌, subst, arith}
 use Rattle.std.proofs.lemmas.Int.{ints}
 use Rattle.std.proofs.lemmas.Bool.{eqb-true}
 use Rattle.std.proofs.lemmas.Bool.Decides.{nat_tests}
@@ -96,29 +97,37 @@ module _ (k : OrderKey) where
   -- an entry of another key isn't found
   passed : (j : LineKey) (r : OrderLine) (es : List (LineKey × OrderLine)) (i : ℕ) → (line_key k i ≡ j → ⊥) → found_amount ((j, r) ∷ es) i ≡ found_amount es i
   passed j r es i apart =
-      elim (eq_by_cmp line_cmp (line_key k i) j) as (λ b. eq_by_cmp line_cmp (line_key k i) j ≡ b → option_map_or (λ (r : OrderLine). r.amount) (cond b (Some r) (find line_cmp (line_key k i) es)) (pos 0) ≡ found_amount es i) [
+      elim (eq_by_cmp line_cmp (line_key k i) j) as
+      (λ b. eq_by_cmp line_cmp (line_key k i) j ≡ b → option_map_or (λ (r : OrderLine). r.amount) (cond b (Some r) (find line_cmp (line_key k i) es))
+      (pos 0) ≡ found_amount es i) [
         | true ↦ λ tie. absurd (apart (exact_line.same (line_key k i) j (tied _ tie)))
         | false ↦ λ tie. refl
       ] refl
 
   entries_numbered : (n : ℕ) (es : List (LineKey × OrderLine)) → T (is_sorted line_cmp es)
-      → ((j : LineKey) (r : OrderLine) → find line_cmp j es ≡ Some r → order_of j ≡ k → IsNumber n j.line) → sum_entries in_order es ≡ sum_to (found_amount es) n
+      → ((j : LineKey) (r : OrderLine) → find line_cmp j es ≡ Some r → order_of j ≡ k → IsNumber n j.line)
+      → sum_entries in_order es ≡ sum_to (found_amount es) n
   entries_numbered n [] h within = sym (sum_zero n)
   entries_numbered n (e ∷ es) h within =
-      let rest : sum_entries in_order es ≡ sum_to (found_amount es) n = entries_numbered n es (second _ _ h) (λ j r found. within j r (found_after exact_line j r e es (first _ _ h) found)) in
-      elim (is_order e.0.warehouse e.0.district e.0.order k) as (λ b. is_order e.0.warehouse e.0.district e.0.order k ≡ b → cond b e.1.amount (pos 0) +ℤ sum_entries in_order es ≡ sum_to (found_amount (e ∷ es)) n) [
+      let rest : sum_entries in_order es ≡ sum_to (found_amount es) n =
+      entries_numbered n es (second _ _ h) (λ j r found. within j r (found_after exact_line j r e es (first _ _ h) found)) in
+      elim (is_order e.0.warehouse e.0.district e.0.order k) as
+      (λ b. is_order e.0.warehouse e.0.district e.0.order k ≡ b → cond b e.1.amount (pos 0) +ℤ sum_entries in_order es ≡ sum_to (found_amount (e ∷ es)) n) [
         | true ↦ λ t.
             let order : order_of e.0 ≡ k = order_named e.0.warehouse e.0.district e.0.order k t in
             let key : e.0 ≡ line_key k e.0.line = ap (λ o. line_key o e.0.line) order in
             let amount : OrderLine → ℤ = λ r. r.amount in
-            let now : found_amount (e ∷ es) e.0.line ≡ e.1.amount = ap (λ w. option_map_or amount w (pos 0)) (subst (λ j. find line_cmp j (e ∷ es) ≡ Some e.1) key (found_first exact_line e es)) in
-            let before : found_amount es e.0.line ≡ pos 0 = ap (λ w. option_map_or amount w (pos 0)) (subst (λ j. find line_cmp j es ≡ None) key (absent_below exact_line e.0 es (first _ _ h))) in
+            let now : found_amount (e ∷ es) e.0.line ≡ e.1.amount =
+            ap (λ w. option_map_or amount w (pos 0)) (subst (λ j. find line_cmp j (e ∷ es) ≡ Some e.1) key (found_first exact_line e es)) in
+            let before : found_amount es e.0.line ≡ pos 0 =
+            ap (λ w. option_map_or amount w (pos 0)) (subst (λ j. find line_cmp j es ≡ None) key (absent_below exact_line e.0 es (first _ _ h))) in
             ap (λ a. e.1.amount +ℤ a) rest ∙ swapped e.1.amount (sum_to (found_amount es) n)
             ∙ sym (sum_added (found_amount (e ∷ es)) (found_amount es) e.0.line e.1.amount (now ∙ from_zero e.1.amount (found_amount es e.0.line) before)
             (λ i other. passed e.0 e.1 es i (λ same. true≢false (sym (self i) ∙ ap (λ (j : LineKey). i == j.line) same ∙ other)))
             n (within e.0 e.1 (found_first exact_line e es) order))
         | false ↦ λ t.
-            let other : (i : ℕ) → line_key k i ≡ e.0 → ⊥ = λ i same. true≢false (sym (order_itself k) ∙ ap (λ (j : LineKey). is_order j.warehouse j.district j.order k) same ∙ t) in
+            let other : (i : ℕ) → line_key k i ≡ e.0
+            → ⊥ = λ i same. true≢false (sym (order_itself k) ∙ ap (λ (j : LineKey). is_order j.warehouse j.district j.order k) same ∙ t) in
             dropped (sum_entries in_order es) ∙ rest ∙ sym (λ x. sum_to (λ i. passed e.0 e.1 es i (other i) x) n)
       ] refl
     where
@@ -147,7 +156,8 @@ module _ (k : OrderKey) where
       let one = within (get m (line_key k (suc n))) refl in
       (omega (arith, ints, rest.0, one.0), omega (arith, ints, rest.1, one.1))
     where
-      within : (w : Option OrderLine) → get m (line_key k (suc n)) ≡ w → (pos 0 ≤ℤ option_map_or (λ r. r.amount) w (pos 0)) × (option_map_or (λ r. r.amount) w (pos 0) ≤ℤ MAX_LINE_AMOUNT)
+      within : (w : Option OrderLine) → get m (line_key k (suc n)) ≡ w → (pos 0 ≤ℤ option_map_or (λ r. r.amount) w (pos 0))
+          × (option_map_or (λ r. r.amount) w (pos 0) ≤ℤ MAX_LINE_AMOUNT)
       within None e = (omega (arith, ints), omega (arith, ints))
       within (Some r) e = each (line_key k (suc n)) r e
 

@@ -45,26 +45,36 @@ module _ {X : Type 0} (p : OrderKey × X → Bool) where
   numbers es = map (λ (e : OrderKey × X). e.0.order) (filter p es)
 
   greatest-cons : (e : OrderKey × X) (es : List (OrderKey × X)) → greatest (numbers (e ∷ es)) ≡ with_greater (p e) e.0.order (greatest (numbers es))
-  greatest-cons e es = elim (p e) as (λ b. greatest (map (λ (e : OrderKey × X). e.0.order) (cond b (e ∷ filter p es) (filter p es))) ≡ with_greater b e.0.order (greatest (numbers es))) [ true ↦ refl | false ↦ refl ]
+  greatest-cons e es = elim (p e) as
+      (λ b. greatest (map (λ (e : OrderKey × X). e.0.order) (cond b (e ∷ filter p es) (filter p es))) ≡ with_greater b e.0.order (greatest (numbers es)))
+      [ true ↦ refl | false ↦ refl ]
 
   least-cons : (e : OrderKey × X) (es : List (OrderKey × X)) → least (numbers (e ∷ es)) ≡ with_lesser (p e) e.0.order (least (numbers es))
-  least-cons e es = elim (p e) as (λ b. least (map (λ (e : OrderKey × X). e.0.order) (cond b (e ∷ filter p es) (filter p es))) ≡ with_lesser b e.0.order (least (numbers es))) [ true ↦ refl | false ↦ refl ]
+  least-cons e es = elim (p e) as
+      (λ b. least (map (λ (e : OrderKey × X). e.0.order) (cond b (e ∷ filter p es) (filter p es))) ≡ with_lesser b e.0.order (least (numbers es)))
+      [ true ↦ refl | false ↦ refl ]
 
   length-cons : (e : OrderKey × X) (es : List (OrderKey × X)) → length (numbers (e ∷ es)) ≡ with_one (p e) (length (numbers es))
-  length-cons e es = elim (p e) as (λ b. length (map (λ (e : OrderKey × X). e.0.order) (cond b (e ∷ filter p es) (filter p es))) ≡ with_one b (length (numbers es))) [ true ↦ omega arith | false ↦ refl ]
+  length-cons e es = elim (p e) as
+      (λ b. length (map (λ (e : OrderKey × X). e.0.order) (cond b (e ∷ filter p es) (filter p es))) ≡ with_one b (length (numbers es)))
+      [ true ↦ omega arith | false ↦ refl ]
 
   pub greatest-insert : (m : FinMap order_cmp X) (k : OrderKey) (v : X) → get m k ≡ None
       → greatest (order_numbers p (insert m k v)) ≡ with_greater (p (k, v)) k.order (greatest (order_numbers p m))
-  greatest-insert m k v none = collected-insert exact_order (λ es. greatest (numbers es)) (λ e g. with_greater (p e) e.0.order g) greatest-cons (λ a b g. with_greater-swap (p a) (p b) a.0.order b.0.order g) m k v none
+  greatest-insert m k v none = collected-insert exact_order (λ es. greatest (numbers es)) (λ e g. with_greater (p e) e.0.order g) greatest-cons
+      (λ a b g. with_greater-swap (p a) (p b) a.0.order b.0.order g) m k v none
 
   pub least-insert : (m : FinMap order_cmp X) (k : OrderKey) (v : X) → get m k ≡ None
       → least (order_numbers p (insert m k v)) ≡ with_lesser (p (k, v)) k.order (least (order_numbers p m))
-  least-insert m k v none = collected-insert exact_order (λ es. least (numbers es)) (λ e l. with_lesser (p e) e.0.order l) least-cons (λ a b l. with_lesser-swap (p a) (p b) a.0.order b.0.order l) m k v none
+  least-insert m k v none = collected-insert exact_order (λ es. least (numbers es)) (λ e l. with_lesser (p e) e.0.order l) least-cons
+      (λ a b l. with_lesser-swap (p a) (p b) a.0.order b.0.order l) m k v none
 
   pub length-insert : (m : FinMap order_cmp X) (k : OrderKey) (v : X) → get m k ≡ None
       → length (order_numbers p (insert m k v)) ≡ with_one (p (k, v)) (length (order_numbers p m))
-  length-insert m k v none = collected-insert exact_order (λ es. length (numbers es)) (λ e c. with_one (p e) c) length-cons (λ a b c. with_one-swap (p a) (p b) c) m k v none
+  length-insert m k v none = collected-insert exact_order (λ es. length (numbers es)) (λ e c. with_one (p e) c) length-cons
+      (λ a b c. with_one-swap (p a) (p b) c) m k v none
 
   -- a number above the greatest is new
   pub none_above : (m : FinMap order_cmp X) (k : OrderKey) → greatest (order_numbers p m) < k.order → ((r : X) → p (k, r) ≡ true) → get m k ≡ None
-  none_above m k above passes = absent m k (λ r found. let h : k.order ≤ greatest (order_numbers p m) = greatest-each p m k r found (passes r) in absurd (omega arith))
+  none_above m k above passes =
+      absent m k (λ r found. let h : k.order ≤ greatest (order_numbers p m) = greatest-each p m k r found (passes r) in absurd (omega arith))

@@ -1,6 +1,7 @@
 -- DELETE .. WHERE: the rows whose keys stay.
 use Rattle.std.proofs.Common.{◌≡◌, Bool, cond, Option, None, sym, ap, ◌∙◌}
-use Rattle.std.specs.FinMap.{FinMap, entries, entries_sorted, entries-from_sorted, from_sorted, get, get-entries, get-from_sorted, get-retain_keys, retain_keys, same_map}
+use Rattle.std.specs.FinMap.{FinMap, entries, entries_sorted, entries-from_sorted, from_sorted, get, get-entries, get-from_sorted, get-retain_keys, retain_keys}
+use Rattle.std.specs.FinMap.{same_map}
 use Rattle.std.specs.FinMap.Entries.{where_key, find-where_key, is_sorted-where_key}
 use Rattle.std.specs.declared.cmp.Ordering.{Ordering}
 use Rattle.tables.proofs.Orders.{IsExact}

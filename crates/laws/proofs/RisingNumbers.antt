@@ -1,5 +1,6 @@
 -- The order numbers of a district's rows rise strictly, and each is the number of a row.
-use Rattle.std.proofs.Common.{◌≡◌, ℕ, ◌<◌, min, Bool, true, false, cond, T, List, [], ◌∷◌, map, filter, Option, Some, None, IsSome, is_some, refl, sym, ap, ◌∙◌, subst, arith}
+use Rattle.std.proofs.Common.{◌≡◌, ℕ, ◌<◌, min, Bool, true, false, cond, T, List, [], ◌∷◌, map, filter, Option, Some, None, IsSome, is_some, refl, sym, ap, ◌∙◌}
+use Rattle.std.proofs.Common.{subst, arith}
 use Rattle.std.proofs.lemmas.Bool.Decides.{nat_tests}
 use Rattle.std.proofs.lemmas.Option.{same_Some}
 use Rattle.std.specs.List.{AllByRecursion}
@@ -48,7 +49,8 @@ less Equal p = absurd p
 less Greater p = absurd p
 
 -- a key that is below all of some entries is below each that is found there
-below_found : {K X : Type 0} {R : K → K → Ordering} → IsExact R → (k q : K) (r : X) (es : List (K × X)) → T (below_all R k es) → find R q es ≡ Some r → R k q ≡ Less
+below_found : {K X : Type 0} {R : K → K → Ordering} → IsExact R → (k q : K) (r : X) (es : List (K × X)) → T (below_all R k es) → find R q es ≡ Some r
+    → R k q ≡ Less
 below_found o k q r [] h found = cc
 below_found {R = R} o k q r (e ∷ es) h found =
     elim (eq_by_cmp R q e.0) as (λ b. eq_by_cmp R q e.0 ≡ b → cond b (Some e.1) (find R q es) ≡ Some r → R k q ≡ Less) [
@@ -60,11 +62,14 @@ number_less : (a b : ℕ) → nat_cmp a b ≡ Less → a < b
 number_less a b h = grind (arith, nat_tests)
 
 -- in one district the order of the keys is that of their numbers
-number_rises : (k : DistrictKey) (a b : OrderKey) → is_district a.warehouse a.district k ≡ true → is_district b.warehouse b.district k ≡ true → order_cmp a b ≡ Less → a.order < b.order
+number_rises : (k : DistrictKey) (a b : OrderKey) → is_district a.warehouse a.district k ≡ true → is_district b.warehouse b.district k ≡ true
+    → order_cmp a b ≡ Less → a.order < b.order
 number_rises k a b at bt less =
-    let same : ◌≡◌ {A = DistrictKey} (record { warehouse = a.warehouse; district = a.district }) (record { warehouse = b.warehouse; district = b.district }) = district_named a.warehouse a.district k at ∙ sym (district_named b.warehouse b.district k bt) in
+    let same : ◌≡◌ {A = DistrictKey} (record { warehouse = a.warehouse; district = a.district }) (record { warehouse = b.warehouse; district = b.district }) =
+    district_named a.warehouse a.district k at ∙ sym (district_named b.warehouse b.district k bt) in
     number_less a.order b.order (
-    (λ i. ordering_then (sym (tied_itself exact_number.total b.warehouse) i) (ordering_then (sym (tied_itself exact_number.total b.district) i) (nat_cmp a.order b.order)))
+    (λ i. ordering_then (sym (tied_itself exact_number.total b.warehouse) i)
+    (ordering_then (sym (tied_itself exact_number.total b.district) i) (nat_cmp a.order b.order)))
     ∙ (λ i. ordering_then (nat_cmp (sym same i).warehouse b.warehouse) (ordering_then (nat_cmp (sym same i).district b.district) (nat_cmp a.order b.order)))
     ∙ less
     )
@@ -92,7 +97,11 @@ module _ {X : Type 0} (k : DistrictKey) where
   entries_rise (e ∷ es) h =
       let rest = entries_rise es (second _ _ h) in
       elim (within e) as (λ b. within e ≡ b → Rises (map (λ (e : OrderKey × X). e.0.order) (cond b (e ∷ filter within es) (filter within es)))) [
-        | true ↦ λ t. (entries_within (λ m. e.0.order < m) es (second _ _ h) (λ j r found u. number_rises k e.0 j t u (below_found exact_order e.0 j r es (first _ _ h) found)), rest)
+        | true ↦ λ t. (
+          entries_within (λ m. e.0.order < m) es (second _ _ h)
+              (λ j r found u. number_rises k e.0 j t u (below_found exact_order e.0 j r es (first _ _ h) found)),
+          rest,
+        )
         | false ↦ λ t. rest
       ] refl
 
@@ -100,7 +109,8 @@ module _ {X : Type 0} (k : DistrictKey) where
   numbers_rise m = entries_rise (entries m) (entries_sorted m)
 
   -- the row that the least is the number of
-  pub least_row : (m : FinMap order_cmp X) (o : ℕ) → least (numbers_in k m) ≡ Some o → IsSome (get m (record { warehouse = k.warehouse; district = k.district; order = o }))
+  pub least_row : (m : FinMap order_cmp X) (o : ℕ) → least (numbers_in k m) ≡ Some o
+      → IsSome (get m (record { warehouse = k.warehouse; district = k.district; order = o }))
   least_row m = least_holds (λ o. IsSome (get m (record { warehouse = k.warehouse; district = k.district; order = o }))) (numbers_in k m) (numbers_rise m)
       (entries_within _ (entries m) (entries_sorted m) (λ j r found at.
       let named = district_named j.warehouse j.district k at in

@@ -1,5 +1,5 @@
 -- The order that a Delivery takes in a district waits to be delivered: it has a NEW-ORDER row, and none of its lines is delivered.
-use Rattle.std.proofs.Common.{◌≡◌, ℕ, nat_le, Bool, true, false, cond, ◌==◌, ◌&&◌, true≢false, is_none, Option, Some, None, IsSome, refl, sym, ap, ◌∙◌, subst}
+use Rattle.std.proofs.Common.{◌≡◌, ℕ, Bool, true, false, cond, ◌==◌, true≢false, is_none, Option, Some, None, IsSome, refl, sym, ap, ◌∙◌, subst}
 use Rattle.std.proofs.lemmas.Bool.{eqb-true}
 use Rattle.std.specs.Option.{option_map_or}
 use Rattle.std.specs.FinMap.{get}
@@ -19,11 +19,11 @@ use Rattle.laws.proofs.RisingNumbers.{least_row}
 abbrev numbered : OrderKey → ℕ → OrderKey
 numbered j o = record { warehouse = j.warehouse; district = j.district; order = o }
 
-module _ (t : Database) (x : DeliveryInput) (n : ℕ) where
-  taken_waits : (j : OrderKey) → is_taken t x n j ≡ true → IsSome (get t.new_orders j)
+module _ (t : Database) (x : DeliveryInput) where
+  taken_waits : (j : OrderKey) → is_taken t x j ≡ true → IsSome (get t.new_orders j)
   taken_waits j =
       let home : DistrictKey = record { warehouse = j.warehouse; district = j.district } in
-      waits ((j.warehouse == x.warehouse) && nat_le j.district n) (waiting t home) (least_row home t.new_orders)
+      waits (j.warehouse == x.warehouse) (waiting t home) (least_row home t.new_orders)
     where
       waits : (b : Bool) (w : Option ℕ) → ((o : ℕ) → w ≡ Some o → IsSome (get t.new_orders (numbered j o)))
           → option_map_or (λ o. o == j.order) (cond b w None) false ≡ true → IsSome (get t.new_orders j)
@@ -32,7 +32,8 @@ module _ (t : Database) (x : DeliveryInput) (n : ℕ) where
       waits true (Some o) there is = subst (λ a. IsSome (get t.new_orders (numbered j a))) (eqb-true o j.order is) (there o refl)
 
   -- by conditions 5 and 7
-  pub not_delivered : IsWellFormed t → IsConsistent t → (j : LineKey) (line : OrderLine) → get t.lines j ≡ Some line → is_taken t x n (order_of j) ≡ true → is_none line.delivery_date ≡ true
+  pub not_delivered : IsWellFormed t → IsConsistent t → (j : LineKey) (line : OrderLine) → get t.lines j ≡ Some line → is_taken t x (order_of j) ≡ true
+      → is_none line.delivery_date ≡ true
   not_delivered wf con j line found is =
       let order = wf.line_orders j line found in
       con.condition_7 j line found

@@ -1,5 +1,6 @@
 -- UPDATE .. WHERE: what it leaves at a key, and in a sum over all rows.
-use Rattle.std.proofs.Common.{◌≡◌, ℤ, pos, ◌+ℤ◌, ◌-ℤ◌, Bool, true, false, cond, T, List, [], ◌∷◌, Option, Some, None, is_some, refl, sym, ap, ◌∙◌, subst, arith, ◌&&◌}
+use Rattle.std.proofs.Common.{◌≡◌, ℤ, pos, ◌+ℤ◌, ◌-ℤ◌, Bool, true, false, cond, T, List, [], ◌∷◌, Option, Some, None, is_some, refl, sym, ap, ◌∙◌, subst, arith}
+use Rattle.std.proofs.Common.{◌&&◌}
 use Rattle.std.proofs.lemmas.Int.{ints}
 use Rattle.std.proofs.lemmas.Option.{same_Some}
 use Rattle.std.specs.Option.{option_map, option_map_or}
@@ -35,31 +36,36 @@ module _ {K X : Type 0} {R : K → K → Ordering} (o : IsExact R) where
   find-map_entries : (g : K → X → X) (q : K) (es : List (K × X)) → find R q (map_entries g es) ≡ option_map (g q) (find R q es)
   find-map_entries g q [] = refl
   find-map_entries g q (e ∷ es) =
-      elim (eq_by_cmp R q e.0) as (λ b. eq_by_cmp R q e.0 ≡ b → cond b (Some (g e.0 e.1)) (find R q (map_entries g es)) ≡ option_map (g q) (cond b (Some e.1) (find R q es))) [
+      elim (eq_by_cmp R q e.0) as
+      (λ b. eq_by_cmp R q e.0 ≡ b → cond b (Some (g e.0 e.1)) (find R q (map_entries g es)) ≡ option_map (g q) (cond b (Some e.1) (find R q es))) [
         | true ↦ λ t. ap (λ k. Some (g k e.1)) (sym (o.same q e.0 (tied _ t)))
         | false ↦ λ t. find-map_entries g q es
       ] refl
 
   -- the row at a key
   pub get-map_rows : (g : K → X → X) (m : FinMap R X) (q : K) → get (map_rows g m) q ≡ option_map (g q) (get m q)
-  get-map_rows g m q = get-entries (map_rows g m) q ∙ ap (find R q) (entries-map_rows g m) ∙ find-map_entries g q (entries m) ∙ sym (ap (option_map (g q)) (get-entries m q))
+  get-map_rows g m q = get-entries (map_rows g m) q ∙ ap (find R q) (entries-map_rows g m) ∙ find-map_entries g q (entries m)
+      ∙ sym (ap (option_map (g q)) (get-entries m q))
 
   -- where no key is k, an update at k changes nothing
   sum_untouched : (f : K → X → ℤ) (p : K → Bool) (g : X → X) (k : K) → ((j : K) → p j ≡ eq_by_cmp R k j) → (es : List (K × X)) → find R k es ≡ None
       → sum_entries f (map_entries (λ j r. cond (p j) (g r) r) es) ≡ sum_entries f es
   sum_untouched f p g k at [] none = refl
   sum_untouched f p g k at (e ∷ es) none =
-      elim (eq_by_cmp R k e.0) as (λ b. eq_by_cmp R k e.0 ≡ b → cond b (Some e.1) (find R k es) ≡ None → f e.0 (cond (p e.0) (g e.1) e.1) +ℤ sum_entries f (map_entries (λ j r. cond (p j) (g r) r) es) ≡ f e.0 e.1 +ℤ sum_entries f es) [
+      elim (eq_by_cmp R k e.0) as (λ b. eq_by_cmp R k e.0 ≡ b → cond b (Some e.1) (find R k es) ≡ None
+      → f e.0 (cond (p e.0) (g e.1) e.1) +ℤ sum_entries f (map_entries (λ j r. cond (p j) (g r) r) es) ≡ f e.0 e.1 +ℤ sum_entries f es) [
         | true ↦ λ t n. cc
         | false ↦ λ t n. λ i. f e.0 (cond ((at e.0 ∙ t) i) (g e.1) e.1) +ℤ sum_untouched f p g k at es n i
       ] refl none
 
-  sum_updated : (f : K → X → ℤ) (p : K → Bool) (g : X → X) (k : K) (r : X) → ((j : K) → p j ≡ eq_by_cmp R k j) → (es : List (K × X)) → T (is_sorted R es) → find R k es ≡ Some r
+  sum_updated : (f : K → X → ℤ) (p : K → Bool) (g : X → X) (k : K) (r : X) → ((j : K) → p j ≡ eq_by_cmp R k j) → (es : List (K × X)) → T (is_sorted R es)
+      → find R k es ≡ Some r
       → sum_entries f (map_entries (λ j s. cond (p j) (g s) s) es) ≡ sum_entries f es +ℤ (f k (g r) -ℤ f k r)
   sum_updated f p g k r at [] h found = cc
   sum_updated f p g k r at (e ∷ es) h found =
       elim (eq_by_cmp R k e.0) as (λ b. eq_by_cmp R k e.0 ≡ b → cond b (Some e.1) (find R k es) ≡ Some r
-      → f e.0 (cond (p e.0) (g e.1) e.1) +ℤ sum_entries f (map_entries (λ j s. cond (p j) (g s) s) es) ≡ (f e.0 e.1 +ℤ sum_entries f es) +ℤ (f k (g r) -ℤ f k r)) [
+      → f e.0 (cond (p e.0) (g e.1) e.1) +ℤ sum_entries f (map_entries (λ j s. cond (p j) (g s) s) es) ≡ (f e.0 e.1 +ℤ sum_entries f es)
+      +ℤ (f k (g r) -ℤ f k r)) [
         | true ↦ λ t n.
             let key : k ≡ e.0 = o.same k e.0 (tied _ t) in
             let row : e.1 ≡ r = same_Some _ _ n in
@@ -98,12 +104,14 @@ module _ {K X : Type 0} {R : K → K → Ordering} (o : IsExact R) where
   total-kept f g m same = ap (sum_entries f) (entries-map_rows g m) ∙ sum_mapped f g (entries m) ∙ total-alike o (λ k r. f k (g k r)) f m (λ k r _. same k r)
 
   -- a column after an update
-  pub column-update_where : (f : X → ℤ) (p : K → Bool) (g : X → X) (m : FinMap R X) (q : K) (r : X) → get m q ≡ Some r → column f (update_where p g m) q ≡ f (cond (p q) (g r) r)
+  pub column-update_where : (f : X → ℤ) (p : K → Bool) (g : X → X) (m : FinMap R X) (q : K) (r : X) → get m q ≡ Some r
+      → column f (update_where p g m) q ≡ f (cond (p q) (g r) r)
   column-update_where f p g m q r found =
       ap (λ (w : Option X). option_map_or f w (pos 0)) (get-map_rows (λ j s. cond (p j) (g s) s) m q ∙ ap (option_map (λ s. cond (p q) (g s) s)) found)
 
   -- an update keeps of a row what it keeps of each row that it touches
-  pub kept-update_where : {Y : Type 0} (p : K → Bool) (g : X → X) (f : Option X → Y) (m : FinMap R X) (q : K) → (p q ≡ true → (r : X) → f (Some (g r)) ≡ f (Some r)) → f (get (update_where p g m) q) ≡ f (get m q)
+  pub kept-update_where : {Y : Type 0} (p : K → Bool) (g : X → X) (f : Option X → Y) (m : FinMap R X) (q : K)
+      → (p q ≡ true → (r : X) → f (Some (g r)) ≡ f (Some r)) → f (get (update_where p g m) q) ≡ f (get m q)
   kept-update_where p g f m q same = ap f (get-map_rows (λ j s. cond (p j) (g s) s) m q) ∙ go (get m q) (p q) same
     where
       go : (w : Option X) (b : Bool) → (b ≡ true → (r : X) → f (Some (g r)) ≡ f (Some r)) → f (option_map (λ s. cond b (g s) s) w) ≡ f w
@@ -128,7 +136,8 @@ module _ {K X : Type 0} {R : K → K → Ordering} (o : IsExact R) where
       before (Some r) is e = (r, is, sym (same_Some _ _ e))
 
   -- an update of the one row at k puts its new row there
-  pub update_where-insert : (p : K → Bool) (g : X → X) (k : K) (r : X) (m : FinMap R X) → ((j : K) → p j ≡ eq_by_cmp R k j) → get m k ≡ Some r → update_where p g m ≡ insert m k (g r)
+  pub update_where-insert : (p : K → Bool) (g : X → X) (k : K) (r : X) (m : FinMap R X) → ((j : K) → p j ≡ eq_by_cmp R k j) → get m k ≡ Some r
+      → update_where p g m ≡ insert m k (g r)
   update_where-insert p g k r m at found = same_map o.total o.same _ _ (λ q.
       get-map_rows (λ j s. cond (p j) (g s) s) m q ∙ put q
       ∙ ap (λ b. cond b (Some (g r)) (get m q)) ((eq_by_cmp_equiv o.total).symm k q) ∙ sym (get-insert o.total m k (g r) q))

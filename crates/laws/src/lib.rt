@@ -21,7 +21,8 @@ pub fn transactions_keep_tables_well_formed()
 
 /// Each transaction keeps the consistency conditions (TPC-C 3.3.2) of well-formed tables.
 pub fn transactions_keep_tables_consistent()
-    ensures { (t : Database) (x : Input) → IsInput t.scale x → IsWellFormed t → IsConsistent t → IsConsistent (after t x) }
+    ensures { (t : Database) (x : Input) → IsInput t.scale x → IsWellFormed t → IsConsistent t
+        → IsConsistent (after t x) }
 {}
 
 /// No transaction changes the scale, ITEM, or a column that never changes: what is of a population stays so.

@@ -1,5 +1,5 @@
 -- Delivery (TPC-C 2.7): the ranges of its input, what it does to the tables, and its reply. It does all districts of its warehouse in one transaction.
-use Rattle.std.specs.Prelude.{ℕ, ◌+◌, nat_le, ℤ, pos, ◌+ℤ◌, Bool, false, not, ◌==◌, ◌&&◌, cond, Option, None, Some, map}
+use Rattle.std.specs.Prelude.{ℕ, ◌+◌, ℤ, pos, ◌+ℤ◌, Bool, false, not, ◌==◌, cond, Option, None, Some, map}
 use Rattle.std.specs.List.{range_with_len}
 use Rattle.std.specs.Option.{option_map_or}
 use Rattle.std.specs.FinMap.{get, retain_keys}
@@ -28,13 +28,14 @@ pub record IsDelivery (s : Sizes) (x : DeliveryInput) : Type 0 where
 abbrev pub waiting : Database → DistrictKey → Option ℕ
 waiting t k = least (numbers_in k t.new_orders)
 
--- the order that a Delivery takes in a district, once it has done the first n districts of its warehouse
-abbrev pub taken : Database → DeliveryInput → ℕ → DistrictKey → Option ℕ
-taken t x n k = cond ((k.warehouse == x.warehouse) && nat_le k.district n) (waiting t k) None
+-- the order that a Delivery takes in a district: the one that waits there, in each district of its warehouse
+abbrev pub taken : Database → DeliveryInput → DistrictKey → Option ℕ
+taken t x k = cond (k.warehouse == x.warehouse) (waiting t k) None
 
--- whether it has taken this order
-abbrev pub is_taken : Database → DeliveryInput → ℕ → OrderKey → Bool
-is_taken t x n k = option_map_or (λ o. o == k.order) (taken t x n (record { warehouse = k.warehouse; district = k.district })) false
+-- whether it takes this order
+abbrev pub is_taken : Database → DeliveryInput → OrderKey → Bool
+is_taken t x k =
+    option_map_or (λ o. o == k.order) (taken t x (record { warehouse = k.warehouse; district = k.district })) false
 
 -- O_CARRIER_ID and OL_DELIVERY_D are set
 abbrev pub carried : DeliveryInput → Order → Order
@@ -62,18 +63,15 @@ after_taken t c (Some o) r =
     let k : OrderKey = record { warehouse = c.warehouse; district = c.district; order = o } in
     cond (is_order_of t k c.customer) (credited t k r) r
 
--- the tables once it has done the first n districts: all that it does goes by the tables at its start
-abbrev pub after_districts : Database → DeliveryInput → ℕ → Database
-after_districts t x n = record t {
-  customers = map_rows (λ c r. after_taken t c (taken t x n (record { warehouse = c.warehouse; district = c.district })) r) t.customers;
-  new_orders = retain_keys t.new_orders (λ k. not (is_taken t x n k));
-  orders = update_where (is_taken t x n) (carried x) t.orders;
-  lines = update_where (λ j. is_taken t x n (order_of j)) (dated x) t.lines;
-}
-
--- the tables after it (TPC-C 2.7.4.2)
+-- the tables after it (TPC-C 2.7.4.2): all that it does goes by the tables before
 abbrev pub after_delivery : Database → DeliveryInput → Database
-after_delivery t x = after_districts t x t.scale.districts
+after_delivery t x = record t {
+  customers = map_rows (λ c r. after_taken t c (taken t x (record { warehouse = c.warehouse; district = c.district })) r)
+      t.customers;
+  new_orders = retain_keys t.new_orders (λ k. not (is_taken t x k));
+  orders = update_where (is_taken t x) (carried x) t.orders;
+  lines = update_where (λ j. is_taken t x (order_of j)) (dated x) t.lines;
+}
 
 -- its reply: for each district of the warehouse, from 1 on, the order taken, if there was one
 abbrev pub delivery_reply : Database → DeliveryInput → DeliveryReply

@@ -16,7 +16,8 @@ returns-in_default-clause-done g c =
 
 pub deliver_order-requires-clause-done : goal.deliver_order-requires-clause-done
 deliver_order-requires-clause-done g c =
-    done_with_more g.K.Start.tables c.args.delivery.now (c.args.district - 1) c.args.transaction.now c.read_waiting.new.transaction 2 c.requires.done c.read_waiting.ensures.reads
+    done_with_more g.K.Start.tables c.args.delivery.now (c.args.district - 1) c.args.transaction.now c.read_waiting.new.transaction 2 c.requires.done
+    c.read_waiting.ensures.reads
 
 pub returns-in_err-deliver_order-clause-goes_on : goal.returns-in_err-deliver_order-clause-goes_on
 returns-in_err-deliver_order-clause-goes_on g c =
@@ -25,7 +26,8 @@ returns-in_err-deliver_order-clause-goes_on g c =
 
 pub returns-clause-told : goal.returns-clause-told
 returns-clause-told g c = λ t h.
-    let waits = c.in_ok-number.ensures.waits t (may_be_then g.K.Start.tables c.read_waiting.new.transaction c.deliver_order.new.transaction 18 19 c.deliver_order.ensures.goes_on t h) in
+    let waits = c.in_ok-number.ensures.waits t
+    (may_be_then g.K.Start.tables c.read_waiting.new.transaction c.deliver_order.new.transaction 18 19 c.deliver_order.ensures.goes_on t h) in
     ap {B = DeliveredOrder} (λ (o : Option ℕ). record { district = c.args.district; order = o }) (sym (waits.0 ∙ c.in-Some.is))
 
 pub returns-clause-goes_on : goal.returns-clause-goes_on

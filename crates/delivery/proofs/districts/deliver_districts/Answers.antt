@@ -21,13 +21,16 @@ loop-done-preserved g c =
     record {
       done = c.in_ok-order.ensures.done;
       told = subst (λ (os : List DeliveredOrder). AreTold t0 x (done + 1) c.deliver_district.new.transaction os) (sym c.in_ok-push.ensures.items)
-          (told_next t0 x done c.loop-done.transaction c.deliver_district.new.transaction c.loop-done.orders.items c.in_ok-order.order i.told c.deliver_district.ensures.goes_on c.in_ok-order.ensures.told);
-      goes_on = goes_on_twice c.args.transaction.now c.loop-done.transaction c.deliver_district.new.transaction (20 * done) (19 * done) 20 19 (20 * (done + 1)) (19 * (done + 1)) i.goes_on c.deliver_district.ensures.goes_on
+          (told_next t0 x done c.loop-done.transaction c.deliver_district.new.transaction c.loop-done.orders.items c.in_ok-order.order i.told
+          c.deliver_district.ensures.goes_on c.in_ok-order.ensures.told);
+      goes_on = goes_on_twice c.args.transaction.now c.loop-done.transaction c.deliver_district.new.transaction (20 * done) (19 * done) 20 19 (20 * (done + 1))
+          (19 * (done + 1)) i.goes_on c.deliver_district.ensures.goes_on
           (omega arith) (omega arith);
     }
 
 pub returns-clause-done : goal.returns-clause-done
 returns-clause-done g c =
     let cap : c.scale.result.districts ≡ g.K.Start.tables.scale.districts = ap (λ (s : Sizes). s.districts) c.scale.ensures in
-    let all : c.loop-done.done ≡ g.K.Start.tables.scale.districts = omega (arith, c.loop-done.auto.done-end, c.loop-done-test.false, c.districts-done-end.ensures.value, cap) in
+    let all : c.loop-done.done ≡ g.K.Start.tables.scale.districts =
+    omega (arith, c.loop-done.auto.done-end, c.loop-done-test.false, c.districts-done-end.ensures.value, cap) in
     subst (λ n. AreDone g.K.Start.tables c.args.delivery.now n c.loop-done.transaction) all c.loop-done.invariant.done

@@ -7,19 +7,25 @@ use Rattle.delivery.proofs.districts.read_waiting.Goals as goal
 pub returns-in-Some-clause-waits : goal.returns-in-Some-clause-waits
 returns-in-Some-clause-waits g c =
     waiting_read g.K.Start.tables c.args.home c.read-2.new.self c.in_ok-oldest.oldest c.in_ok-district.district c.requires c.in_ok-district.ensures.holds
-    (λ t h. c.in_ok-oldest.ensures.words t (may_be_still g.K.Start.tables c.read.new.self c.read-2.new.self 1 c.read-2.ensures.reads t h)) c.in_ok-district.ensures.words c.first_waiting.result
-    (λ o r one two below number. c.first_waiting.ensures.waits o r one two below (subst (λ n. IsNumber n o) (ap (λ (s : Sizes). s.orders) (sym c.scale.ensures) ∙ sym c.orders.ensures.value) number))
+    (λ t h. c.in_ok-oldest.ensures.words t (may_be_still g.K.Start.tables c.read.new.self c.read-2.new.self 1 c.read-2.ensures.reads t h))
+    c.in_ok-district.ensures.words c.first_waiting.result
+    (λ o r one two below number. c.first_waiting.ensures.waits o r one two below
+    (subst (λ n. IsNumber n o) (ap (λ (s : Sizes). s.orders) (sym c.scale.ensures) ∙ sym c.orders.ensures.value) number))
     c.first_waiting.ensures.none c.in-Some.order c.in-Some.is
 
 pub returns-in-Some-clause-reads : goal.returns-in-Some-clause-reads
-returns-in-Some-clause-reads g c = reads_twice c.args.transaction.now c.read.new.self c.read-2.new.self 1 1 2 c.read.ensures.reads c.read-2.ensures.reads (omega arith)
+returns-in-Some-clause-reads g c = reads_twice c.args.transaction.now c.read.new.self c.read-2.new.self 1 1 2 c.read.ensures.reads c.read-2.ensures.reads
+    (omega arith)
 
 pub returns-in-None-clause-waits : goal.returns-in-None-clause-waits
 returns-in-None-clause-waits g c =
     none_read g.K.Start.tables c.args.home c.read-2.new.self c.in_ok-oldest.oldest c.in_ok-district.district c.requires c.in_ok-district.ensures.holds
-    (λ t h. c.in_ok-oldest.ensures.words t (may_be_still g.K.Start.tables c.read.new.self c.read-2.new.self 1 c.read-2.ensures.reads t h)) c.in_ok-district.ensures.words c.first_waiting.result
-    (λ o r one two below number. c.first_waiting.ensures.waits o r one two below (subst (λ n. IsNumber n o) (ap (λ (s : Sizes). s.orders) (sym c.scale.ensures) ∙ sym c.orders.ensures.value) number))
+    (λ t h. c.in_ok-oldest.ensures.words t (may_be_still g.K.Start.tables c.read.new.self c.read-2.new.self 1 c.read-2.ensures.reads t h))
+    c.in_ok-district.ensures.words c.first_waiting.result
+    (λ o r one two below number. c.first_waiting.ensures.waits o r one two below
+    (subst (λ n. IsNumber n o) (ap (λ (s : Sizes). s.orders) (sym c.scale.ensures) ∙ sym c.orders.ensures.value) number))
     c.first_waiting.ensures.none c.in-None.is
 
 pub returns-in-None-clause-reads : goal.returns-in-None-clause-reads
-returns-in-None-clause-reads g c = reads_twice c.args.transaction.now c.read.new.self c.read-2.new.self 1 1 2 c.read.ensures.reads c.read-2.ensures.reads (omega arith)
+returns-in-None-clause-reads g c = reads_twice c.args.transaction.now c.read.new.self c.read-2.new.self 1 1 2 c.read.ensures.reads c.read-2.ensures.reads
+    (omega arith)

@@ -34,4 +34,5 @@ returns-clause-dated g c = λ sum so_far.
     n c.args.transaction.now sum
     (subst (λ m. IsLineKey t0.scale (line_key k m)) next (c.requires.order.0, c.requires.order.1, c.requires.order.2, c.requires.number))
     (next_is x k c.requires.home c.requires.order.1.0) so_far c.read.ensures.reads c.in-Some.dated c.in-Some.is c.put.new.self c.put.ensures.reads
-    (c.in_ok-put.ensures.puts ∙ ap (λ m. let w : WriteSetView = puts c.read.new.self.writes (number_of_key t0.scale (key.OrderLine (line_key k m))) c.in-Some.dated.words in w) next))
+    (c.in_ok-put.ensures.puts
+    ∙ ap (λ m. let w : WriteSetView = puts c.read.new.self.writes (number_of_key t0.scale (key.OrderLine (line_key k m))) c.in-Some.dated.words in w) next))

@@ -16,5 +16,8 @@ deliver_districts-requires-clause-done g c =
 pub returns-clause-reply : goal.returns-clause-reply
 returns-clause-reply g c =
     let no_history = c.deliver_districts.ensures.goes_on.history ∙ ap (λ (x : TransactionView). x.writes.history_row) c.requires.begun in
-    subst (λ (os : List DeliveredOrder). AtAll g.K.Start.tables c.deliver_districts.new.transaction (λ t. IsCommitOf t (input.Delivery c.args.delivery.now) c.deliver_districts.new.transaction.writes (reply.Delivery (record { warehouse = c.args.delivery.now.warehouse; orders = os }))))
-    (sym c.new.ensures) (commits g.K.Start.tables c.args.delivery.now c.deliver_districts.new.transaction c.in_ok-orders.orders.items c.in_ok-orders.ensures.done no_history c.in_ok-orders.ensures.told)
+    subst (λ (os : List DeliveredOrder). AtAll g.K.Start.tables c.deliver_districts.new.transaction
+    (λ t. IsCommitOf t (input.Delivery c.args.delivery.now) c.deliver_districts.new.transaction.writes
+    (reply.Delivery (record { warehouse = c.args.delivery.now.warehouse; orders = os }))))
+    (sym c.new.ensures) (commits g.K.Start.tables c.args.delivery.now c.deliver_districts.new.transaction c.in_ok-orders.orders.items
+    c.in_ok-orders.ensures.done no_history c.in_ok-orders.ensures.told)
