@@ -1,5 +1,6 @@
 -- Tables whose records follow one another: each number has its table and place, and each place of a table its number.
-use Rattle.std.proofs.Common.{◌≡◌, ℕ, zero, suc, ◌+◌, ◌-◌, ◌<◌, ◌≤◌, nat_lt, Bool, true, false, cond, List, [], ◌∷◌, length, get_or, refl, sym, ap, ◌∙◌, subst, arith, rules, not-suc-le-zero, ◌⊎◌, inl, inr, ⊎_elim, zero-le, drop}
+use Rattle.std.proofs.Common.{◌≡◌, ℕ, zero, suc, ◌+◌, ◌-◌, ◌<◌, ◌≤◌, nat_lt, Bool, true, false, cond, List, [], ◌∷◌, length, get_or, refl, sym, ap, ◌∙◌, subst}
+use Rattle.std.proofs.Common.{arith, rules, not-suc-le-zero, ◌⊎◌, inl, inr, ⊎_elim, zero-le, drop}
 use Rattle.std.specs.List.{filter, sum_by}
 use Rattle.std.proofs.lemmas.List.Sums.{sum_by-cons}
 use Rattle.std.proofs.lemmas.List.{drop_all}
@@ -61,19 +62,26 @@ module _ (s : Sizes) where
   abbrev start_among : List Table → Table → ℕ
   start_among ts t = sum_by (size s) (filter (λ u. nat_lt (table_number u) (table_number t)) ts)
 
-  start_more : (u t : Table) (ts : List Table) (b : Bool) → nat_lt (table_number u) (table_number t) ≡ b → start_among (u ∷ ts) t ≡ sum_by (size s) (cond b (u ∷ filter (λ v. nat_lt (table_number v) (table_number t)) ts) (filter (λ v. nat_lt (table_number v) (table_number t)) ts))
-  start_more u t ts b e = ap (λ q. sum_by (size s) (cond q (u ∷ filter (λ v. nat_lt (table_number v) (table_number t)) ts) (filter (λ v. nat_lt (table_number v) (table_number t)) ts))) e
+  start_more : (u t : Table) (ts : List Table) (b : Bool) → nat_lt (table_number u) (table_number t) ≡ b
+      → start_among (u ∷ ts) t ≡ sum_by (size s)
+      (cond b (u ∷ filter (λ v. nat_lt (table_number v) (table_number t)) ts) (filter (λ v. nat_lt (table_number v) (table_number t)) ts))
+  start_more u t ts b e = ap
+      (λ q. sum_by (size s) (cond q (u ∷ filter (λ v. nat_lt (table_number v) (table_number t)) ts)
+      (filter (λ v. nat_lt (table_number v) (table_number t)) ts))) e
 
   -- none of those from m on
   none_before : (m : ℕ) (ts : List Table) (t : Table) → Rise m ts → table_number t ≤ m → start_among ts t ≡ 0
   none_before m [] t r h = refl
-  none_before m (u ∷ ts) t r h = start_more u t ts false (not_below (table_number u) (table_number t) (omega (arith, r.0))) ∙ none_before (table_number u + 1) ts t r.1 (omega (arith, r.0))
+  none_before m (u ∷ ts) t r h = start_more u t ts false (not_below (table_number u) (table_number t) (omega (arith, r.0)))
+      ∙ none_before (table_number u + 1) ts t r.1 (omega (arith, r.0))
 
   start_self : (m : ℕ) (ts : List Table) (t : Table) → Rise m (t ∷ ts) → start_among (t ∷ ts) t ≡ 0
-  start_self m ts t r = start_more t t ts false (not_below (table_number t) (table_number t) (omega arith)) ∙ none_before (table_number t + 1) ts t r.1 (omega arith)
+  start_self m ts t r = start_more t t ts false (not_below (table_number t) (table_number t) (omega arith))
+      ∙ none_before (table_number t + 1) ts t r.1 (omega arith)
 
   start_later : (u t : Table) (ts : List Table) → table_number u < table_number t → start_among (u ∷ ts) t ≡ size s u + start_among ts t
-  start_later u t ts h = start_more u t ts true (below (table_number u) (table_number t) h) ∙ sum_by-cons (size s) u (filter (λ v. nat_lt (table_number v) (table_number t)) ts)
+  start_later u t ts h = start_more u t ts true (below (table_number u) (table_number t) h)
+      ∙ sum_by-cons (size s) u (filter (λ v. nat_lt (table_number v) (table_number t)) ts)
 
   start_not_later : (u t : Table) (ts : List Table) → table_number t ≤ table_number u → start_among (u ∷ ts) t ≡ start_among ts t
   start_not_later u t ts h = start_more u t ts false (not_below (table_number u) (table_number t) h)
@@ -119,11 +127,13 @@ module _ (s : Sizes) where
   found_again : (m n : ℕ) (ts : List Table) (t : Table) (p : ℕ) → IsAt n ts t p → IsFound m n ts t p → IsFound m n ts (table_among s ts n) (place_among s ts n)
   found_again m n ts t p i f = subst (λ (q : Table × ℕ). IsFound m n ts q.0 q.1) (λ j. (sym i.table j, sym i.place j)) f
 
-  first_found : (m n : ℕ) (t : Table) (ts : List Table) → Rise m (t ∷ ts) → n < size s t → IsFound m n (t ∷ ts) (table_among s (t ∷ ts) n) (place_among s (t ∷ ts) n)
+  first_found : (m n : ℕ) (t : Table) (ts : List Table) → Rise m (t ∷ ts) → n < size s t
+      → IsFound m n (t ∷ ts) (table_among s (t ∷ ts) n) (place_among s (t ∷ ts) n)
   first_found m n t ts r h =
       found_again m n (t ∷ ts) t n (first_is n t ts h) (record { later = r.0; within = h; same = ap (λ q. q + n) (start_self m ts t r) ∙ zero_plus n })
 
-  later_found : (m n : ℕ) (t : Table) (ts : List Table) → m ≤ table_number t → size s t ≤ n → IsFound (table_number t + 1) (n - size s t) ts (table_among s ts (n - size s t)) (place_among s ts (n - size s t))
+  later_found : (m n : ℕ) (t : Table) (ts : List Table) → m ≤ table_number t → size s t ≤ n
+      → IsFound (table_number t + 1) (n - size s t) ts (table_among s ts (n - size s t)) (place_among s ts (n - size s t))
       → IsFound m n (t ∷ ts) (table_among s (t ∷ ts) n) (place_among s (t ∷ ts) n)
   later_found m n t ts r h f =
       let u = table_among s ts (n - size s t) in
@@ -145,21 +155,25 @@ module _ (s : Sizes) where
   at_least : (m i : ℕ) (ts : List Table) → Rise m ts → i < length ts → m ≤ table_number (get_or ts i table.Last)
   at_least m i [] r h = absurd (not-suc-le-zero h)
   at_least m zero (t ∷ ts) r h = r.0
-  at_least m (suc i) (t ∷ ts) r h = let k : table_number t + 1 ≤ table_number (get_or ts i table.Last) = at_least (table_number t + 1) i ts r.1 (omega arith) in let l = r.0 in omega arith
+  at_least m (suc i) (t ∷ ts) r h = let k : table_number t + 1 ≤ table_number (get_or ts i table.Last) = at_least (table_number t + 1) i ts r.1 (omega arith) in
+      let l = r.0 in omega arith
 
   -- a place's number
   pub record IsNumbered (n : ℕ) (ts : List Table) (t : Table) (p : ℕ) : Type 0 where
     pub at : IsAt n ts t p
     pub below : n < sum_by (size s) ts
 
-  numbered_at : (m i p : ℕ) (ts : List Table) (t : Table) → Rise m ts → i < length ts → get_or ts i table.Last ≡ t → p < size s t → IsNumbered (start_among ts t + p) ts t p
+  numbered_at : (m i p : ℕ) (ts : List Table) (t : Table) → Rise m ts → i < length ts → get_or ts i table.Last ≡ t → p < size s t
+      → IsNumbered (start_among ts t + p) ts t p
   numbered_at m i p [] t r h e k = absurd (not-suc-le-zero h)
   numbered_at m zero p (u ∷ ts) t r h e k =
       subst (λ (v : Table). IsNumbered (start_among (u ∷ ts) v + p) (u ∷ ts) v p) e
       (subst (λ (n : ℕ). IsNumbered n (u ∷ ts) u p) (sym (ap (λ q. q + p) (start_self m ts u r) ∙ zero_plus p))
-      (let small : p < size s u = subst (λ (v : Table). p < size s v) (sym e) k in record { at = first_is p u ts small; below = let all = sum_by-cons (size s) u ts in omega (arith, small) }))
+      (let small : p < size s u = subst (λ (v : Table). p < size s v) (sym e) k in
+      record { at = first_is p u ts small; below = let all = sum_by-cons (size s) u ts in omega (arith, small) }))
   numbered_at m (suc i) p (u ∷ ts) t r h e k =
-      let later : table_number u < table_number t = subst (λ (v : Table). table_number u < table_number v) e (omega (arith, at_least (table_number u + 1) i ts r.1 (omega arith))) in
+      let later : table_number u < table_number t = subst (λ (v : Table). table_number u < table_number v) e
+      (omega (arith, at_least (table_number u + 1) i ts r.1 (omega arith))) in
       let n = start_among ts t + p in
       let f = numbered_at (table_number u + 1) i p ts t r.1 (omega arith) e k in
       let left : size s u + n - size s u ≡ n = omega arith in

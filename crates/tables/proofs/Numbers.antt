@@ -3,7 +3,9 @@ use Rattle.std.proofs.Common.{◌≡◌, ℕ, ◌+◌, ◌-◌, ◌*◌, ◌/◌
 use Rattle.std.proofs.lemmas.Nat.{div-mul-add, mod-mul-add, mul-add-lt, div-add-mod', div_below, mod_below}
 use Rattle.tables.specs.Sizes.{Sizes, IsNumber}
 use Rattle.tables.specs.Keys.{IsWarehouseKey, IsDistrictKey, IsCustomerKey, IsOrderKey, IsLineKey, IsStockKey, order_of}
-use Rattle.tables.specs.Records.{size, start, table_number, IsRowKey, record_number, record_count, table_of, place_of, district_place, customer_place, order_place, number_of_key, IsRecordKey, district_at, customer_at, order_at, line_at, stock_at, key_at, table_at, place_at, key_of, NumbersNameKeys, NumbersNamePlaces}
+use Rattle.tables.specs.Records.{size, start, table_number, IsRowKey, record_number, record_count, table_of, place_of, district_place, customer_place}
+use Rattle.tables.specs.Records.{order_place, number_of_key, IsRecordKey, district_at, customer_at, order_at, line_at, stock_at, key_at, table_at, place_at}
+use Rattle.tables.specs.Records.{key_of, NumbersNameKeys, NumbersNamePlaces}
 use Rattle.tables.specs.declared.limits.TheConstants.{MAX_ORDER_LINES}
 use Rattle.tables.proofs.InTurn.{located, found_among, earlier}
 use Rattle.tables.specs.declared.keys.DistrictKey.{DistrictKey}
@@ -62,21 +64,25 @@ filled rows width place h =
 
 module _ (s : Sizes) where
   -- a district
-  pub district_there : (k : DistrictKey) → IsDistrictKey s k → (district_place s k.warehouse k.district < s.warehouses * s.districts) × (district_at s (district_place s k.warehouse k.district) ≡ k)
+  pub district_there : (k : DistrictKey) → IsDistrictKey s k → (district_place s k.warehouse k.district < s.warehouses * s.districts)
+      × (district_at s (district_place s k.warehouse k.district) ≡ k)
   district_there k h =
       let p = placed s.warehouses s.districts (k.warehouse - 1) k.district (under k.warehouse s.warehouses h.0.0 h.0.1) h.1 in
       (p.below, λ i. record { warehouse = (ap (λ q. q + 1) p.row ∙ up k.warehouse h.0.0) i; district = p.column i })
 
-  district_back : (p : ℕ) → p < s.warehouses * s.districts → IsDistrictKey s (district_at s p) × (district_place s (district_at s p).warehouse (district_at s p).district ≡ p)
+  district_back : (p : ℕ) → p < s.warehouses * s.districts → IsDistrictKey s (district_at s p)
+      × (district_place s (district_at s p).warehouse (district_at s p).district ≡ p)
   district_back p h = let f = filled s.warehouses s.districts p h in
       ((over (p / s.districts) s.warehouses f.row, f.column), ap (λ q. q * s.districts + (p % s.districts + 1 - 1)) (down (p / s.districts)) ∙ f.same)
 
   -- a customer
-  pub customer_there : (k : CustomerKey) → IsCustomerKey s k → (customer_place s k < s.warehouses * s.districts * s.customers) × (customer_at s (customer_place s k) ≡ k)
+  pub customer_there : (k : CustomerKey) → IsCustomerKey s k → (customer_place s k < s.warehouses * s.districts * s.customers)
+      × (customer_at s (customer_place s k) ≡ k)
   customer_there k h =
       let d = district_there (record { warehouse = k.warehouse; district = k.district }) (h.0, h.1) in
       let p = placed (s.warehouses * s.districts) s.customers (district_place s k.warehouse k.district) k.customer d.0 h.2 in
-      let there : district_at s (customer_place s k / s.customers) ≡ record { warehouse = k.warehouse; district = k.district } = ap (district_at s) p.row ∙ d.1 in
+      let there : district_at s (customer_place s k / s.customers) ≡ record { warehouse = k.warehouse; district = k.district } = ap (district_at s) p.row
+      ∙ d.1 in
       (p.below, λ i. record { warehouse = (there i).warehouse; district = (there i).district; customer = p.column i })
 
   customer_back : (p : ℕ) → p < s.warehouses * s.districts * s.customers → IsCustomerKey s (customer_at s p) × (customer_place s (customer_at s p) ≡ p)
@@ -100,21 +106,25 @@ module _ (s : Sizes) where
       ((d.0.0, d.0.1, f.column), ap (λ q. q * s.orders + (p % s.orders + 1 - 1)) d.1 ∙ f.same)
 
   -- a line of an order
-  pub line_there : (k : LineKey) → IsLineKey s k → (order_place s (order_of k) * MAX_ORDER_LINES + (k.line - 1) < s.warehouses * s.districts * s.orders * MAX_ORDER_LINES) × (line_at s (order_place s (order_of k) * MAX_ORDER_LINES + (k.line - 1)) ≡ k)
+  pub line_there : (k : LineKey) → IsLineKey s k
+      → (order_place s (order_of k) * MAX_ORDER_LINES + (k.line - 1) < s.warehouses * s.districts * s.orders * MAX_ORDER_LINES)
+      × (line_at s (order_place s (order_of k) * MAX_ORDER_LINES + (k.line - 1)) ≡ k)
   line_there k h =
       let o = order_there (order_of k) (h.0, h.1, h.2) in
       let p = placed (s.warehouses * s.districts * s.orders) MAX_ORDER_LINES (order_place s (order_of k)) k.line o.0 h.3 in
       let there : order_at s ((order_place s (order_of k) * MAX_ORDER_LINES + (k.line - 1)) / MAX_ORDER_LINES) ≡ order_of k = ap (order_at s) p.row ∙ o.1 in
       (p.below, λ i. record { warehouse = (there i).warehouse; district = (there i).district; order = (there i).order; line = p.column i })
 
-  line_back : (p : ℕ) → p < s.warehouses * s.districts * s.orders * MAX_ORDER_LINES → IsLineKey s (line_at s p) × (order_place s (order_of (line_at s p)) * MAX_ORDER_LINES + ((line_at s p).line - 1) ≡ p)
+  line_back : (p : ℕ) → p < s.warehouses * s.districts * s.orders * MAX_ORDER_LINES → IsLineKey s (line_at s p)
+      × (order_place s (order_of (line_at s p)) * MAX_ORDER_LINES + ((line_at s p).line - 1) ≡ p)
   line_back p h =
       let f = filled (s.warehouses * s.districts * s.orders) MAX_ORDER_LINES p h in
       let o = order_back (p / MAX_ORDER_LINES) f.row in
       ((o.0.0, o.0.1, o.0.2, f.column), ap (λ q. q * MAX_ORDER_LINES + (p % MAX_ORDER_LINES + 1 - 1)) o.1 ∙ f.same)
 
   -- an item of a warehouse
-  pub stock_there : (k : StockKey) → IsStockKey s k → ((k.warehouse - 1) * s.items + (k.item - 1) < s.warehouses * s.items) × (stock_at s ((k.warehouse - 1) * s.items + (k.item - 1)) ≡ k)
+  pub stock_there : (k : StockKey) → IsStockKey s k → ((k.warehouse - 1) * s.items + (k.item - 1) < s.warehouses * s.items)
+      × (stock_at s ((k.warehouse - 1) * s.items + (k.item - 1)) ≡ k)
   stock_there k h =
       let p = placed s.warehouses s.items (k.warehouse - 1) k.item (under k.warehouse s.warehouses h.0.0 h.0.1) h.1 in
       (p.below, λ i. record { warehouse = (ap (λ q. q + 1) p.row ∙ up k.warehouse h.0.0) i; item = p.column i })
@@ -170,7 +180,8 @@ module _ (s : Sizes) where
   pub one_to_one : NumbersNameKeys s
   one_to_one = (named, numbered)
 
-  apart : (t u : Table) (p q : ℕ) → p < size s t → q < size s u → (record_number s t p < record_count s) × (record_number s t p ≡ record_number s u q → (t ≡ u) × (p ≡ q))
+  apart : (t u : Table) (p q : ℕ) → p < size s t → q < size s u → (record_number s t p < record_count s)
+      × (record_number s t p ≡ record_number s u q → (t ≡ u) × (p ≡ q))
   apart t u p q hp hq =
       let k = located s t p hp in
       let l = located s u q hq in

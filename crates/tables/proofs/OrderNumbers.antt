@@ -1,5 +1,6 @@
 -- The numbers of the orders that pass a test: the greatest and the least of them.
-use Rattle.std.proofs.Common.{◌≡◌, ℕ, ◌≤◌, min, Bool, true, false, cond, T, ◌==◌, ◌||◌, true≢false, List, [], ◌∷◌, map, filter, Option, Some, None, refl, sym, ap, ◌∙◌, subst, arith}
+use Rattle.std.proofs.Common.{◌≡◌, ℕ, ◌≤◌, min, Bool, true, false, cond, T, ◌==◌, ◌||◌, true≢false, List, [], ◌∷◌, map, filter, Option, Some, None, refl, sym}
+use Rattle.std.proofs.Common.{ap, ◌∙◌, subst, arith}
 use Rattle.std.specs.List.{list_any, AllByRecursion}
 use Rattle.std.specs.Option.{option_map_or}
 use Rattle.std.specs.Ordering.{eq_by_cmp}
@@ -75,10 +76,12 @@ module _ {X : Type 0} (p : OrderKey × X → Bool) where
       ] refl
 
   -- a row that passes is among the numbers
-  entries_reach : (k : OrderKey) (r : X) (es : List (OrderKey × X)) → p (k, r) ≡ true → find order_cmp k es ≡ Some r → list_any (λ n. n == k.order) (map number (filter p es)) ≡ true
+  entries_reach : (k : OrderKey) (r : X) (es : List (OrderKey × X)) → p (k, r) ≡ true → find order_cmp k es ≡ Some r
+      → list_any (λ n. n == k.order) (map number (filter p es)) ≡ true
   entries_reach k r [] passes found = cc
   entries_reach k r (e ∷ es) passes found =
-      elim (eq_by_cmp order_cmp k e.0) as (λ b. eq_by_cmp order_cmp k e.0 ≡ b → cond b (Some e.1) (find order_cmp k es) ≡ Some r → list_any (λ n. n == k.order) (map number (filter p (e ∷ es))) ≡ true) [
+      elim (eq_by_cmp order_cmp k e.0) as (λ b. eq_by_cmp order_cmp k e.0 ≡ b → cond b (Some e.1) (find order_cmp k es) ≡ Some r
+      → list_any (λ n. n == k.order) (map number (filter p (e ∷ es))) ≡ true) [
         | true ↦ λ t f. this (exact_order.same k e.0 (tied _ t)) (same_Some _ _ f)
         | false ↦ λ t f. later (p e) (entries_reach k r es passes f)
       ] refl found
@@ -88,7 +91,8 @@ module _ {X : Type 0} (p : OrderKey × X → Bool) where
           ap (λ b. list_any (λ n. n == k.order) (map number (cond b (e ∷ filter p es) (filter p es)))) ((λ i. p (sym key i, row i)) ∙ passes)
           ∙ or_left _ _ (ap (λ (j : OrderKey). j.order == k.order) (sym key) ∙ grind (arith, nat_tests))
 
-      later : (b : Bool) → list_any (λ n. n == k.order) (map number (filter p es)) ≡ true → list_any (λ n. n == k.order) (map number (cond b (e ∷ filter p es) (filter p es))) ≡ true
+      later : (b : Bool) → list_any (λ n. n == k.order) (map number (filter p es)) ≡ true
+          → list_any (λ n. n == k.order) (map number (cond b (e ∷ filter p es) (filter p es))) ≡ true
       later true h = or_right _ _ h
       later false h = h
 
@@ -100,13 +104,18 @@ module _ {X : Type 0} (p : OrderKey × X → Bool) where
   greatest-each m k r found passes = greatest_reaches k.order (order_numbers p m) (reached m k r found passes)
 
   -- the least is at most each of them
-  pub least-each : (m : FinMap order_cmp X) (k : OrderKey) (r : X) → get m k ≡ Some r → p (k, r) ≡ true → (x : ℕ) × (least (order_numbers p m) ≡ Some x) × (x ≤ k.order)
+  pub least-each : (m : FinMap order_cmp X) (k : OrderKey) (r : X) → get m k ≡ Some r → p (k, r) ≡ true → (x : ℕ) × (least (order_numbers p m) ≡ Some x)
+      × (x ≤ k.order)
   least-each m k r found passes = least_reaches k.order (order_numbers p m) (reached m k r found passes)
 
   -- the greatest is at most what each of them is at most
   pub greatest-within : (high : ℕ) (m : FinMap order_cmp X) → EachRow (λ k r. p (k, r) ≡ true → k.order ≤ high) m → greatest (order_numbers p m) ≤ high
-  greatest-within high m within = greatest_up_to high (order_numbers p m) (entries_within (λ n. n ≤ high) (entries m) (entries_sorted m) (λ k r found. within k r (get-entries m k ∙ found)))
+  greatest-within high m within =
+      greatest_up_to high (order_numbers p m)
+      (entries_within (λ n. n ≤ high) (entries m) (entries_sorted m) (λ k r found. within k r (get-entries m k ∙ found)))
 
   -- the least is at least what each of them is at least
-  pub least-within : (low : ℕ) (m : FinMap order_cmp X) → EachRow (λ k r. p (k, r) ≡ true → low ≤ k.order) m → (x : ℕ) → least (order_numbers p m) ≡ Some x → low ≤ x
-  least-within low m within = least_from low (order_numbers p m) (entries_within (λ n. low ≤ n) (entries m) (entries_sorted m) (λ k r found. within k r (get-entries m k ∙ found)))
+  pub least-within : (low : ℕ) (m : FinMap order_cmp X) → EachRow (λ k r. p (k, r) ≡ true → low ≤ k.order) m → (x : ℕ) → least (order_numbers p m) ≡ Some x
+      → low ≤ x
+  least-within low m within =
+      least_from low (order_numbers p m) (entries_within (λ n. low ≤ n) (entries m) (entries_sorted m) (λ k r found. within k r (get-entries m k ∙ found)))

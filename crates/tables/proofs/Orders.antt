@@ -61,24 +61,42 @@ exact_stock = record {
 
 pub exact_customer : IsExact customer_cmp
 exact_customer = record {
-  total = then_total (on_total (λ (k : CustomerKey). k.warehouse) nat_cmp_total) (then_total (on_total (λ (k : CustomerKey). k.district) nat_cmp_total) (on_total (λ (k : CustomerKey). k.customer) nat_cmp_total));
-  same = λ a b h. ap (λ (p : ℕ × (ℕ × ℕ)). record { warehouse = p.0; district = p.1.0; customer = p.1.1 }) (exact_three (a.warehouse, (a.district, a.customer)) (b.warehouse, (b.district, b.customer)) h);
+  total = then_total (on_total (λ (k : CustomerKey). k.warehouse) nat_cmp_total)
+      (then_total (on_total (λ (k : CustomerKey). k.district) nat_cmp_total) (on_total (λ (k : CustomerKey). k.customer) nat_cmp_total));
+  same = λ a b h. ap (λ (p : ℕ × (ℕ × ℕ)). record { warehouse = p.0; district = p.1.0; customer = p.1.1 })
+      (exact_three (a.warehouse, (a.district, a.customer)) (b.warehouse, (b.district, b.customer)) h);
 }
 
 pub exact_order : IsExact order_cmp
 exact_order = record {
-  total = then_total (on_total (λ (k : OrderKey). k.warehouse) nat_cmp_total) (then_total (on_total (λ (k : OrderKey). k.district) nat_cmp_total) (on_total (λ (k : OrderKey). k.order) nat_cmp_total));
-  same = λ a b h. ap (λ (p : ℕ × (ℕ × ℕ)). record { warehouse = p.0; district = p.1.0; order = p.1.1 }) (exact_three (a.warehouse, (a.district, a.order)) (b.warehouse, (b.district, b.order)) h);
+  total = then_total (on_total (λ (k : OrderKey). k.warehouse) nat_cmp_total)
+      (then_total (on_total (λ (k : OrderKey). k.district) nat_cmp_total) (on_total (λ (k : OrderKey). k.order) nat_cmp_total));
+  same = λ a b h. ap (λ (p : ℕ × (ℕ × ℕ)). record { warehouse = p.0; district = p.1.0; order = p.1.1 })
+      (exact_three (a.warehouse, (a.district, a.order)) (b.warehouse, (b.district, b.order)) h);
 }
 
 pub exact_line : IsExact line_cmp
 exact_line = record {
-  total = then_total (on_total (λ (k : LineKey). k.warehouse) nat_cmp_total) (then_total (on_total (λ (k : LineKey). k.district) nat_cmp_total) (then_total (on_total (λ (k : LineKey). k.order) nat_cmp_total) (on_total (λ (k : LineKey). k.line) nat_cmp_total)));
-  same = λ a b h. ap (λ (p : ℕ × (ℕ × (ℕ × ℕ))). record { warehouse = p.0; district = p.1.0; order = p.1.1.0; line = p.1.1.1 }) (exact_four (a.warehouse, (a.district, (a.order, a.line))) (b.warehouse, (b.district, (b.order, b.line))) h);
+  total = then_total (on_total (λ (k : LineKey). k.warehouse) nat_cmp_total)
+      (then_total (on_total (λ (k : LineKey). k.district) nat_cmp_total)
+      (then_total (on_total (λ (k : LineKey). k.order) nat_cmp_total) (on_total (λ (k : LineKey). k.line) nat_cmp_total)));
+  same = λ a b h. ap (λ (p : ℕ × (ℕ × (ℕ × ℕ))). record { warehouse = p.0; district = p.1.0; order = p.1.1.0; line = p.1.1.1 })
+      (exact_four (a.warehouse, (a.district, (a.order, a.line))) (b.warehouse, (b.district, (b.order, b.line))) h);
 }
 
 pub exact_name : IsExact name_cmp
 exact_name = record {
-  total = then_total (on_total (λ (k : NameKey). k.warehouse) nat_cmp_total) (then_total (on_total (λ (k : NameKey). k.district) nat_cmp_total) (then_total (on_total (λ (k : NameKey). k.last_name) nat_cmp_total) (then_total (on_total (λ (k : NameKey). k.first_name) nat_cmp_total) (on_total (λ (k : NameKey). k.customer) nat_cmp_total))));
-  same = λ a b h. ap (λ (p : ℕ × (ℕ × (ℕ × (ℕ × ℕ)))). record { warehouse = p.0; district = p.1.0; last_name = p.1.1.0; first_name = p.1.1.1.0; customer = p.1.1.1.1 }) (exact_five (a.warehouse, (a.district, (a.last_name, (a.first_name, a.customer)))) (b.warehouse, (b.district, (b.last_name, (b.first_name, b.customer)))) h);
+  total = then_total (on_total (λ (k : NameKey). k.warehouse) nat_cmp_total)
+      (then_total (on_total (λ (k : NameKey). k.district) nat_cmp_total)
+      (then_total (on_total (λ (k : NameKey). k.last_name) nat_cmp_total)
+      (then_total (on_total (λ (k : NameKey). k.first_name) nat_cmp_total) (on_total (λ (k : NameKey). k.customer) nat_cmp_total))));
+  same = λ a b h. ap (λ (p : ℕ × (ℕ × (ℕ × (ℕ × ℕ)))). record {
+    warehouse = p.0;
+    district = p.1.0;
+    last_name = p.1.1.0;
+    first_name = p.1.1.1.0;
+    customer =
+        p.1.1.1.1;
+  }) (exact_five (a.warehouse, (a.district, (a.last_name, (a.first_name, a.customer))))
+      (b.warehouse, (b.district, (b.last_name, (b.first_name, b.customer)))) h);
 }

@@ -6,7 +6,8 @@ use Rattle.std.specs.List.Sorted.{IsStrictlySortedBy}
 use Rattle.std.specs.Map.{keys_of}
 use Rattle.std.specs.BTreeMap as tree
 use Rattle.std.specs.BTreeMap.{BTreeMap}
-use Rattle.std.specs.FinMap.{FinMap, entries, entries_sorted, from_entries, from_sorted, entries-from_sorted, get-entries, get-from_entries, get-from_sorted, same_map, find, is_sorted}
+use Rattle.std.specs.FinMap.{FinMap, entries, entries_sorted, from_entries, from_sorted, entries-from_sorted, get-entries, get-from_entries, get-from_sorted}
+use Rattle.std.specs.FinMap.{same_map, find, is_sorted}
 use Rattle.std.specs.FinMap.Entries.{below_all}
 use Rattle.std.specs.declared.cmp.Ordering.{Ordering}
 use Rattle.std.specs.declared.cmp.Ordering.TheVariants.{Less}
@@ -45,11 +46,13 @@ module _ {K X : Type 0} {R : K → K → Ordering} (o : IsExact R) where
   unfolding total
   total-view f m h = ap (sum_entries f) (entries-view m h)
 
-  entries_alike : (f g : K → X → ℤ) (es : List (K × X)) → T (is_sorted R es) → ((k : K) (r : X) → find R k es ≡ Some r → f k r ≡ g k r) → sum_entries f es ≡ sum_entries g es
+  entries_alike : (f g : K → X → ℤ) (es : List (K × X)) → T (is_sorted R es) → ((k : K) (r : X) → find R k es ≡ Some r → f k r ≡ g k r)
+      → sum_entries f es ≡ sum_entries g es
   entries_alike f g [] h same = refl
   entries_alike f g (e ∷ es) h same =
       let here : f e.0 e.1 ≡ g e.0 e.1 = same e.0 e.1 (found_first o e es) in
-      let rest : sum_entries f es ≡ sum_entries g es = entries_alike f g es (second _ _ h) (λ k r found. same k r (found_after o k r e es (first _ _ h) found)) in
+      let rest : sum_entries f es ≡ sum_entries g es = entries_alike f g es (second _ _ h) (λ k r found. same k r (found_after o k r e es (first _ _ h) found))
+      in
       λ i. here i +ℤ rest i
 
   -- sums of what is the same at each row

@@ -12,7 +12,8 @@ use Rattle.tables.specs.declared.input.Input.TheVariants as input
 use Rattle.tables.specs.declared.reply.Reply.{Reply}
 use Rattle.tables.specs.declared.reply.Reply.TheVariants as reply
 
--- the tables and the reply of a transaction that commits, or the first item of one that is rolled back, which isn't in ITEM (TPC-C 2.4.2.3)
+-- the tables and the reply of a transaction that commits, or the first item of one that is rolled back, which isn't in
+-- ITEM (TPC-C 2.4.2.3)
 pub data Outcome : Type 0 where
   Committed : (tables : Database) → (told : Reply) → Outcome
   RolledBack : (item : ℕ) → Outcome

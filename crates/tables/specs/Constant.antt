@@ -9,10 +9,16 @@ use Rattle.tables.specs.declared.keys.CustomerKey.{CustomerKey}
 -- tables that a population's may become: the scale and the columns that never change are the population's
 pub record IsOf (t0 t : Database) : Type 0 where
   pub scale : t.scale ≡ t0.scale
-  pub warehouse_taxes : (w : ℕ) → option_map (λ r. r.tax) (get t.warehouses w) ≡ option_map (λ r. r.tax) (get t0.warehouses w)
-  pub district_taxes : (k : DistrictKey) → option_map (λ r. r.tax) (get t.districts k) ≡ option_map (λ r. r.tax) (get t0.districts k)
-  pub first_names : (k : CustomerKey) → option_map (λ r. r.first_name) (get t.customers k) ≡ option_map (λ r. r.first_name) (get t0.customers k)
-  pub last_names : (k : CustomerKey) → option_map (λ r. r.last_name) (get t.customers k) ≡ option_map (λ r. r.last_name) (get t0.customers k)
-  pub credit : (k : CustomerKey) → option_map (λ r. r.credit) (get t.customers k) ≡ option_map (λ r. r.credit) (get t0.customers k)
-  pub discounts : (k : CustomerKey) → option_map (λ r. r.discount) (get t.customers k) ≡ option_map (λ r. r.discount) (get t0.customers k)
+  pub warehouse_taxes : (w : ℕ) → option_map (λ r. r.tax) (get t.warehouses w) ≡ option_map (λ r. r.tax)
+      (get t0.warehouses w)
+  pub district_taxes : (k : DistrictKey) → option_map (λ r. r.tax) (get t.districts k) ≡ option_map (λ r. r.tax)
+      (get t0.districts k)
+  pub first_names : (k : CustomerKey) → option_map (λ r. r.first_name) (get t.customers k) ≡ option_map
+      (λ r. r.first_name) (get t0.customers k)
+  pub last_names : (k : CustomerKey) → option_map (λ r. r.last_name) (get t.customers k) ≡ option_map (λ r. r.last_name)
+      (get t0.customers k)
+  pub credit : (k : CustomerKey) → option_map (λ r. r.credit) (get t.customers k) ≡ option_map (λ r. r.credit)
+      (get t0.customers k)
+  pub discounts : (k : CustomerKey) → option_map (λ r. r.discount) (get t.customers k) ≡ option_map (λ r. r.discount)
+      (get t0.customers k)
   pub items : t.items ≡ t0.items

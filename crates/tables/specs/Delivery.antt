@@ -1,11 +1,12 @@
--- Delivery (TPC-C 2.7): the ranges of its input, what it does to the tables, and its reply. It does all districts of its warehouse in one transaction.
-use Rattle.std.specs.Prelude.{ℕ, ◌+◌, ℤ, pos, ◌+ℤ◌, Bool, false, not, ◌==◌, cond, Option, None, Some, map}
+-- Delivery (TPC-C 2.7): the ranges of its input, what it does to the tables, and its reply. It does all districts of
+-- its warehouse in one transaction.
+use Rattle.std.specs.Prelude.{ℕ, ◌+◌, ℤ, ◌+ℤ◌, Bool, false, not, ◌==◌, cond, Option, None, Some, map}
 use Rattle.std.specs.List.{range_with_len}
 use Rattle.std.specs.Option.{option_map_or}
 use Rattle.std.specs.FinMap.{get, retain_keys}
 use Rattle.tables.specs.Sizes.{Sizes, IsBetween, IsNumber}
 use Rattle.tables.specs.Keys.{is_order, order_of}
-use Rattle.tables.specs.Maps.{total, map_rows, update_where}
+use Rattle.tables.specs.Maps.{sum_where, map_rows, update_where}
 use Rattle.tables.specs.OrderNumbers.{least, numbers_in}
 use Rattle.tables.specs.Database.{Database}
 use Rattle.tables.specs.declared.limits.TheConstants.{MAX_DATE, MAX_CARRIER}
@@ -46,7 +47,7 @@ dated x r = record r { delivery_date = Some x.date }
 
 -- the sum of OL_AMOUNT over an order's lines
 abbrev pub order_amount : Database → OrderKey → ℤ
-order_amount t k = total (λ j line. cond (is_order j.warehouse j.district j.order k) line.amount (pos 0)) t.lines
+order_amount t k = sum_where (λ j line. is_order j.warehouse j.district j.order k) (λ line. line.amount) t.lines
 
 -- whether an order is this customer's
 abbrev pub is_order_of : Database → OrderKey → ℕ → Bool
@@ -66,7 +67,8 @@ after_taken t c (Some o) r =
 -- the tables after it (TPC-C 2.7.4.2): all that it does goes by the tables before
 abbrev pub after_delivery : Database → DeliveryInput → Database
 after_delivery t x = record t {
-  customers = map_rows (λ c r. after_taken t c (taken t x (record { warehouse = c.warehouse; district = c.district })) r)
+  customers = map_rows (λ c r. after_taken t c (taken t x (record { warehouse = c.warehouse; district = c.district }))
+      r)
       t.customers;
   new_orders = retain_keys t.new_orders (λ k. not (is_taken t x k));
   orders = update_where (is_taken t x) (carried x) t.orders;
@@ -77,5 +79,6 @@ after_delivery t x = record t {
 abbrev pub delivery_reply : Database → DeliveryInput → DeliveryReply
 delivery_reply t x = record {
   warehouse = x.warehouse;
-  orders = map (λ d. record { district = d; order = waiting t (record { warehouse = x.warehouse; district = d }) }) (range_with_len 1 t.scale.districts);
+  orders = map (λ d. record { district = d; order = waiting t (record { warehouse = x.warehouse; district = d }) })
+      (range_with_len 1 t.scale.districts);
 }

@@ -15,13 +15,16 @@ abbrev pub district_cmp : DistrictKey → DistrictKey → Ordering
 district_cmp a b = ordering_then (nat_cmp a.warehouse b.warehouse) (nat_cmp a.district b.district)
 
 abbrev pub customer_cmp : CustomerKey → CustomerKey → Ordering
-customer_cmp a b = ordering_then (nat_cmp a.warehouse b.warehouse) (ordering_then (nat_cmp a.district b.district) (nat_cmp a.customer b.customer))
+customer_cmp a b = ordering_then (nat_cmp a.warehouse b.warehouse)
+    (ordering_then (nat_cmp a.district b.district) (nat_cmp a.customer b.customer))
 
 abbrev pub order_cmp : OrderKey → OrderKey → Ordering
-order_cmp a b = ordering_then (nat_cmp a.warehouse b.warehouse) (ordering_then (nat_cmp a.district b.district) (nat_cmp a.order b.order))
+order_cmp a b = ordering_then (nat_cmp a.warehouse b.warehouse)
+    (ordering_then (nat_cmp a.district b.district) (nat_cmp a.order b.order))
 
 abbrev pub line_cmp : LineKey → LineKey → Ordering
-line_cmp a b = ordering_then (nat_cmp a.warehouse b.warehouse) (ordering_then (nat_cmp a.district b.district) (ordering_then (nat_cmp a.order b.order) (nat_cmp a.line b.line)))
+line_cmp a b = ordering_then (nat_cmp a.warehouse b.warehouse)
+    (ordering_then (nat_cmp a.district b.district) (ordering_then (nat_cmp a.order b.order) (nat_cmp a.line b.line)))
 
 abbrev pub stock_cmp : StockKey → StockKey → Ordering
 stock_cmp a b = ordering_then (nat_cmp a.warehouse b.warehouse) (nat_cmp a.item b.item)
@@ -34,13 +37,15 @@ abbrev pub IsDistrictKey : Sizes → DistrictKey → Type 0
 IsDistrictKey s k = IsNumber s.warehouses k.warehouse × IsNumber s.districts k.district
 
 abbrev pub IsCustomerKey : Sizes → CustomerKey → Type 0
-IsCustomerKey s k = IsNumber s.warehouses k.warehouse × IsNumber s.districts k.district × IsNumber s.customers k.customer
+IsCustomerKey s k = IsNumber s.warehouses k.warehouse × IsNumber s.districts k.district
+    × IsNumber s.customers k.customer
 
 abbrev pub IsOrderKey : Sizes → OrderKey → Type 0
 IsOrderKey s k = IsNumber s.warehouses k.warehouse × IsNumber s.districts k.district × IsNumber s.orders k.order
 
 abbrev pub IsLineKey : Sizes → LineKey → Type 0
-IsLineKey s k = IsNumber s.warehouses k.warehouse × IsNumber s.districts k.district × IsNumber s.orders k.order × IsNumber MAX_ORDER_LINES k.line
+IsLineKey s k = IsNumber s.warehouses k.warehouse × IsNumber s.districts k.district × IsNumber s.orders k.order
+    × IsNumber MAX_ORDER_LINES k.line
 
 abbrev pub IsItemKey : Sizes → ℕ → Type 0
 IsItemKey s i = IsNumber s.items i

@@ -22,9 +22,13 @@ module _ {K X : Type 0} {R : K → K → Ordering} where
   unfoldable pub total : (K → X → ℤ) → FinMap R X → ℤ
   total f m = sum_entries f (entries m)
 
+  -- the sum of a column over the rows that pass a test, as by SELECT SUM .. WHERE
+  abbrev pub sum_where : (K → X → Bool) → (X → ℤ) → FinMap R X → ℤ
+  sum_where p f m = total (λ k r. cond (p k r) (f r) (pos 0)) m
+
   -- how many rows pass a test
   abbrev pub count : (K → X → Bool) → FinMap R X → ℤ
-  count p m = total (λ k r. cond (p k r) (pos 1) (pos 0)) m
+  count p m = sum_where p (λ r. pos 1) m
 
   -- each row changed by g
   unfoldable pub map_rows : (K → X → X) → FinMap R X → FinMap R X

@@ -16,14 +16,23 @@ abbrev pub name_cmp : NameKey → NameKey → Ordering
 name_cmp a b =
     ordering_then (nat_cmp a.warehouse b.warehouse)
     (ordering_then (nat_cmp a.district b.district)
-    (ordering_then (nat_cmp a.last_name b.last_name) (ordering_then (nat_cmp a.first_name b.first_name) (nat_cmp a.customer b.customer))))
+    (ordering_then (nat_cmp a.last_name b.last_name)
+    (ordering_then (nat_cmp a.first_name b.first_name) (nat_cmp a.customer b.customer))))
 
 abbrev pub name_of : CustomerKey → Customer → NameKey
-name_of k r = record { warehouse = k.warehouse; district = k.district; last_name = r.last_name; first_name = r.first_name; customer = k.customer }
+name_of k r = record {
+  warehouse = k.warehouse;
+  district = k.district;
+  last_name = r.last_name;
+  first_name =
+      r.first_name;
+  customer = k.customer;
+}
 
 -- the names of all customers, in their order
 abbrev pub names : FinMap customer_cmp Customer → List NameKey
-names customers = keys (from_entries {X = Unit {0}} {R = name_cmp} (map (λ (e : CustomerKey × Customer). (name_of e.0 e.1, tt)) (entries customers)))
+names customers = keys (from_entries {X = Unit {0}} {R = name_cmp}
+    (map (λ (e : CustomerKey × Customer). (name_of e.0 e.1, tt)) (entries customers)))
 
 -- those of a district with a last name: they stand in the order of C_FIRST, and where that is the same of C_ID
 abbrev pub named : List NameKey → DistrictKey → ℕ → List NameKey

@@ -1,5 +1,6 @@
 -- New-Order (TPC-C 2.4): the ranges of its input, what it does to the tables, and its reply.
-use Rattle.std.specs.Prelude.{ℕ, ◌+◌, ◌-◌, ◌≤◌, nat_le, ℤ, pos, ◌+ℤ◌, ◌*ℤ◌, ◌==◌, cond, Option, None, Some, is_some, List, [], ◌∷◌, length, fold, All}
+use Rattle.std.specs.Prelude.{ℕ, ◌+◌, ◌-◌, ◌≤◌, nat_le, ℤ, pos, ◌+ℤ◌, ◌*ℤ◌, ◌==◌, cond, Option, None, Some, is_some}
+use Rattle.std.specs.Prelude.{List, [], ◌∷◌, length, fold, All}
 use Rattle.std.specs.List.{list_all}
 use Rattle.std.specs.Option.{option_map_or}
 use Rattle.std.specs.FinMap.{FinMap, get, insert}
@@ -9,7 +10,8 @@ use Rattle.tables.specs.Keys.{line_cmp, stock_cmp, is_district, is_stock}
 use Rattle.tables.specs.Maps.{update_where}
 use Rattle.tables.specs.OrderNumbers.{next_order}
 use Rattle.tables.specs.Database.{Database}
-use Rattle.tables.specs.declared.limits.TheConstants.{MAX_DATE, MIN_ORDER_LINES, MAX_ORDER_LINES, MAX_REQUESTED_ITEM, MAX_QUANTITY, MIN_STOCK, RESTOCK}
+use Rattle.tables.specs.declared.limits.TheConstants.{MAX_DATE, MIN_ORDER_LINES, MAX_ORDER_LINES, MAX_REQUESTED_ITEM}
+use Rattle.tables.specs.declared.limits.TheConstants.{MAX_QUANTITY, MIN_STOCK, RESTOCK}
 use Rattle.tables.specs.declared.keys.DistrictKey.{DistrictKey}
 use Rattle.tables.specs.declared.keys.CustomerKey.{CustomerKey}
 use Rattle.tables.specs.declared.keys.OrderKey.{OrderKey}
@@ -84,10 +86,18 @@ abbrev pub line_key : OrderKey → ℕ → LineKey
 line_key k n = record { warehouse = k.warehouse; district = k.district; order = k.order; line = n }
 
 abbrev pub line_row : Database → RequestedLine → OrderLine
-line_row t l = record { item = l.item; supply_warehouse = l.supply_warehouse; delivery_date = None; quantity = l.quantity; amount = line_amount t l }
+line_row t l = record {
+  item = l.item;
+  supply_warehouse = l.supply_warehouse;
+  delivery_date = None;
+  quantity =
+      l.quantity;
+  amount = line_amount t l;
+}
 
 -- ORDER-LINE with rows for these lines of an order, numbered from n on
-abbrev pub with_lines : Database → OrderKey → ℕ → List RequestedLine → FinMap line_cmp OrderLine → FinMap line_cmp OrderLine
+abbrev pub with_lines : Database → OrderKey → ℕ → List RequestedLine → FinMap line_cmp OrderLine
+    → FinMap line_cmp OrderLine
 with_lines t k n [] m = m
 with_lines t k n (l ∷ ls) m = with_lines t k (n + 1) ls (insert m (line_key k n) (line_row t l))
 
@@ -95,10 +105,12 @@ with_lines t k n (l ∷ ls) m = with_lines t k (n + 1) ls (insert m (line_key k 
 abbrev pub stock_key : RequestedLine → StockKey
 stock_key l = record { warehouse = l.supply_warehouse; item = l.item }
 
--- a stock after a line of an order of warehouse w (TPC-C 2.4.2.2): S_QUANTITY falls by the line's quantity, and rises by 91 where less than 10 would be left
+-- a stock after a line of an order of warehouse w (TPC-C 2.4.2.2): S_QUANTITY falls by the line's quantity, and rises
+-- by 91 where less than 10 would be left
 abbrev pub drawn : ℕ → RequestedLine → Stock → Stock
 drawn w l r = record {
-  quantity = cond (nat_le (l.quantity + MIN_STOCK) r.quantity) (r.quantity - l.quantity) (r.quantity + RESTOCK - l.quantity);
+  quantity = cond (nat_le (l.quantity + MIN_STOCK) r.quantity) (r.quantity - l.quantity)
+      (r.quantity + RESTOCK - l.quantity);
   year_to_date = r.year_to_date + l.quantity;
   orders = r.orders + 1;
   remote_orders = r.remote_orders + cond (l.supply_warehouse == w) 0 1;
@@ -157,6 +169,7 @@ new_order_reply t x = record {
   order = next_order t (home x);
   customer = x.customer;
   amount = lines_amount t x.lines;
-  total = total_amount (lines_amount t x.lines) (discount t (buyer x)) (warehouse_tax t x.warehouse) (district_tax t (home x));
+  total = total_amount (lines_amount t x.lines) (discount t (buyer x)) (warehouse_tax t x.warehouse)
+      (district_tax t (home x));
   lines = supplied_lines t x.warehouse t.stock x.lines;
 }

@@ -40,7 +40,8 @@ last_key t k = record { warehouse = k.warehouse; district = k.district; order = 
 
 -- an order's lines, in the order of their numbers, as ORDER-LINE is in the order of its keys
 abbrev pub lines_of : Database → OrderKey → List OrderLine
-lines_of t k = map (λ (e : LineKey × OrderLine). e.1) (filter (λ (e : LineKey × OrderLine). is_order k.warehouse k.district k.order (order_of e.0)) (entries t.lines))
+lines_of t k = map (λ (e : LineKey × OrderLine). e.1)
+    (filter (λ (e : LineKey × OrderLine). is_order k.warehouse k.district k.order (order_of e.0)) (entries t.lines))
 
 -- what is told of an order
 abbrev pub told_of : Database → OrderKey → Order → LastOrder

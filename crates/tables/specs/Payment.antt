@@ -42,7 +42,8 @@ raised_district amount r = record r { year_to_date = r.year_to_date +ℤ amount 
 
 -- C_BALANCE lowered by H_AMOUNT, C_YTD_PAYMENT raised by it, and C_PAYMENT_CNT raised by 1
 abbrev pub charged_customer : ℤ → Customer → Customer
-charged_customer amount r = record r { balance = r.balance -ℤ amount; paid = r.paid +ℤ amount; payments = r.payments + 1 }
+charged_customer amount r =
+    record r { balance = r.balance -ℤ amount; paid = r.paid +ℤ amount; payments = r.payments + 1 }
 
 -- the HISTORY row that is added where customer c pays
 abbrev pub history_row : PaymentInput → ℕ → History
@@ -61,7 +62,8 @@ abbrev pub after_payment_of : Database → PaymentInput → ℕ → Database
 after_payment_of t x c = record t {
   warehouses = update_where (λ w. x.warehouse == w) (raised_warehouse x.amount) t.warehouses;
   districts = update_where (is_district x.warehouse x.district) (raised_district x.amount) t.districts;
-  customers = update_where (is_customer x.customer_warehouse x.customer_district c) (charged_customer x.amount) t.customers;
+  customers = update_where (is_customer x.customer_warehouse x.customer_district c) (charged_customer x.amount)
+      t.customers;
   history = t.history ++ history_row x c ∷ [];
 }
 

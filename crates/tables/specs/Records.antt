@@ -15,7 +15,8 @@ use Rattle.tables.specs.declared.records.RecordKey.{RecordKey}
 use Rattle.tables.specs.declared.records.RecordKey.TheVariants as key
 
 abbrev pub tables : List Table
-tables = table.Warehouse ∷ table.District ∷ table.Customer ∷ table.History ∷ table.NewOrder ∷ table.Order ∷ table.OrderLine ∷ table.Item ∷ table.Stock ∷ table.Oldest ∷ table.Last ∷ []
+tables = table.Warehouse ∷ table.District ∷ table.Customer ∷ table.History ∷ table.NewOrder ∷ table.Order
+    ∷ table.OrderLine ∷ table.Item ∷ table.Stock ∷ table.Oldest ∷ table.Last ∷ []
 
 abbrev pub table_number : Table → ℕ
 table_number table.Warehouse = 1
@@ -163,12 +164,16 @@ IsRowKey (key.Oldest k) = ⊥
 IsRowKey (key.Last k) = ⊥
 IsRowKey k = Unit {0}
 
--- the keys of a scale and the numbers below `record_count` are one to one: each key's number has that key, and each number's key has that number
+-- the keys of a scale and the numbers below `record_count` are one to one: each key's number has that key, and each
+-- number's key has that number
 abbrev pub NumbersNameKeys : Sizes → Type 0
-NumbersNameKeys s = ((k : RecordKey) → IsRecordKey s k → (number_of_key s k < record_count s) × (key_of s (number_of_key s k) ≡ k))
+NumbersNameKeys s = ((k : RecordKey) → IsRecordKey s k → (number_of_key s k < record_count s)
+    × (key_of s (number_of_key s k) ≡ k))
     × ((n : ℕ) → n < record_count s → IsRecordKey s (key_of s n) × (number_of_key s (key_of s n) ≡ n))
 
--- the places of a scale's tables and those numbers are one to one too: two places have two numbers, and each number has its place
+-- the places of a scale's tables and those numbers are one to one too: two places have two numbers, and each number has
+-- its place
 abbrev pub NumbersNamePlaces : Sizes → Type 0
-NumbersNamePlaces s = ((t u : Table) (p q : ℕ) → p < size s t → q < size s u → (record_number s t p < record_count s) × (record_number s t p ≡ record_number s u q → (t ≡ u) × (p ≡ q)))
+NumbersNamePlaces s = ((t u : Table) (p q : ℕ) → p < size s t → q < size s u → (record_number s t p < record_count s)
+    × (record_number s t p ≡ record_number s u q → (t ≡ u) × (p ≡ q)))
     × ((n : ℕ) → n < record_count s → (t : Table) × (p : ℕ) × (p < size s t) × (record_number s t p ≡ n))

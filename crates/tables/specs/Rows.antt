@@ -60,7 +60,8 @@ oldest t k = unwrap_or (least (numbers_in k t.new_orders)) (next_order t k)
 
 -- the greatest O_ID of a customer, or 0
 abbrev pub last : Database → CustomerKey → ℕ
-last t k = greatest (order_numbers (λ e. (e.0.warehouse == k.warehouse) && (e.0.district == k.district) && (e.1.customer == k.customer)) t.orders)
+last t k = greatest (order_numbers (λ e. (e.0.warehouse == k.warehouse) && (e.0.district == k.district)
+    && (e.1.customer == k.customer)) t.orders)
 
 -- what the record of a key holds
 abbrev pub row_at : Database → RecordKey → Option (List ℕ)

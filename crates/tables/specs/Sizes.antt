@@ -1,8 +1,10 @@
 -- How large a database is (TPC-C 1.2), and within which limits.
 use Rattle.std.specs.Prelude.{ℕ, ◌≤◌}
-use Rattle.tables.specs.declared.limits.TheConstants.{MAX_WAREHOUSES, MAX_DISTRICTS, MIN_CUSTOMERS, MAX_CUSTOMERS, MIN_ITEMS, MAX_ITEMS, MAX_ORDERS, MAX_COMMITS}
+use Rattle.tables.specs.declared.limits.TheConstants.{MAX_WAREHOUSES, MAX_DISTRICTS, MIN_CUSTOMERS, MAX_CUSTOMERS}
+use Rattle.tables.specs.declared.limits.TheConstants.{MIN_ITEMS, MAX_ITEMS, MAX_ORDERS, MAX_COMMITS}
 
--- the numbers of warehouses, districts a warehouse, customers a district and items, the greatest order number of a district, and the greatest number of commits
+-- the numbers of warehouses, districts a warehouse, customers a district and items, the greatest order number of a
+-- district, and the greatest number of commits
 pub record Sizes : Type 0 where
   pub warehouses : ℕ
   pub districts : ℕ
@@ -12,7 +14,15 @@ pub record Sizes : Type 0 where
   pub commits : ℕ
 
 abbrev pub sizes : ℕ → ℕ → ℕ → ℕ → ℕ → ℕ → Sizes
-sizes warehouses districts customers items orders commits = record { warehouses = warehouses; districts = districts; customers = customers; items = items; orders = orders; commits = commits }
+sizes warehouses districts customers items orders commits =
+    record {
+      warehouses = warehouses;
+      districts = districts;
+      customers = customers;
+      items = items;
+      orders = orders;
+      commits = commits;
+    }
 
 abbrev pub IsBetween : ℕ → ℕ → ℕ → Type 0
 IsBetween low high n = (low ≤ n) × (n ≤ high)

@@ -1,14 +1,19 @@
--- Which tables are well-formed: keys within the scale, columns within their ranges, and no row that names a missing one.
+-- Which tables are well-formed: keys within the scale, columns within their ranges, and no row that names a missing
+-- one.
 use Rattle.std.specs.Prelude.{◌≡◌, ℕ, ◌+◌, ◌*◌, ◌<◌, ◌≤◌, ℤ, pos, neg_ℤ, ◌+ℤ◌, ◌-ℤ◌, ◌≤ℤ◌, Some, IsSome, All}
 use Rattle.std.specs.Option.{ForSome}
 use Rattle.std.specs.FinMap.{get}
 use Rattle.tables.specs.Sizes.{Sizes, IsBetween, IsNumber}
-use Rattle.tables.specs.Keys.{IsWarehouseKey, IsDistrictKey, IsCustomerKey, IsOrderKey, IsLineKey, IsItemKey, IsStockKey, order_of}
+use Rattle.tables.specs.Keys.{IsWarehouseKey, IsDistrictKey, IsCustomerKey, IsOrderKey, IsLineKey, IsItemKey}
+use Rattle.tables.specs.Keys.{IsStockKey, order_of}
 use Rattle.tables.specs.Maps.{RowsAt, RowsWithin, EachRow}
 use Rattle.tables.specs.Names.{names, customer_named}
 use Rattle.tables.specs.Database.{Database}
 use Rattle.money.specs.declared.cents.TheConstants.{MAX_MONEY}
-use Rattle.tables.specs.declared.limits.TheConstants.{MAX_DATE, MAX_COUNT, MAX_MONEY_STEP, MAX_COUNT_STEP, MIN_PAYMENT, MAX_PAYMENT, MIN_ORDER_LINES, MAX_ORDER_LINES, MAX_QUANTITY, MAX_LINE_AMOUNT, MAX_CARRIER, MIN_STOCK, MAX_STOCK, MAX_PRICE, LAST_NAMES}
+use Rattle.tables.specs.declared.limits.TheConstants.{MAX_DATE, MAX_COUNT, MAX_MONEY_STEP, MAX_COUNT_STEP, MIN_PAYMENT}
+use Rattle.tables.specs.declared.limits.TheConstants.{MAX_PAYMENT, MIN_ORDER_LINES, MAX_ORDER_LINES, MAX_QUANTITY}
+use Rattle.tables.specs.declared.limits.TheConstants.{MAX_LINE_AMOUNT, MAX_CARRIER, MIN_STOCK, MAX_STOCK, MAX_PRICE}
+use Rattle.tables.specs.declared.limits.TheConstants.{LAST_NAMES}
 use Rattle.tables.specs.declared.keys.DistrictKey.{DistrictKey}
 use Rattle.tables.specs.declared.keys.OrderKey.{OrderKey}
 use Rattle.tables.specs.declared.keys.CustomerKey.{CustomerKey}
@@ -83,7 +88,8 @@ orderer k r = record { warehouse = k.warehouse; district = k.district; customer 
 
 -- each last name below the lesser of the number of customers and 1,000 is somebody's in each district (TPC-C 4.3.3.1)
 abbrev pub HasLastNames : Database → Type 0
-HasLastNames t = (d : DistrictKey) → IsDistrictKey t.scale d → (n : ℕ) → n < t.scale.customers → n < LAST_NAMES → IsSome (customer_named (names t.customers) d n)
+HasLastNames t = (d : DistrictKey) → IsDistrictKey t.scale d → (n : ℕ) → n < t.scale.customers → n < LAST_NAMES
+    → IsSome (customer_named (names t.customers) d n)
 
 pub record IsWellFormed (t : Database) : Type 0 where
   -- a row of WAREHOUSE, DISTRICT, CUSTOMER and STOCK for each key of the scale
@@ -106,14 +112,17 @@ pub record IsWellFormed (t : Database) : Type 0 where
   pub line_rows : EachRow (λ k r. IsLineRow t.scale r) t.lines
   pub item_rows : EachRow (λ k r. IsItemRow r) t.items
   pub stock_rows : EachRow (λ k r. IsStockRow r) t.stock
-  -- every order names a customer, every NEW-ORDER row and every line has its order, and a line's number is at most its order's O_OL_CNT
+  -- every order names a customer, every NEW-ORDER row and every line has its order, and a line's number is at most its
+  -- order's O_OL_CNT
   pub order_customers : EachRow (λ k r. IsSome (get t.customers (orderer k r))) t.orders
   pub new_order_orders : (k : OrderKey) → IsSome (get t.new_orders k) → IsSome (get t.orders k)
-  pub line_orders : EachRow (λ k r. (order : Order) × (get t.orders (order_of k) ≡ Some order) × (k.line ≤ order.line_count)) t.lines
+  pub line_orders : EachRow (λ k r. (order : Order) × (get t.orders (order_of k) ≡ Some order)
+      × (k.line ≤ order.line_count)) t.lines
   -- each last name that a terminal may ask for is somebody's
   pub last_names : HasLastNames t
 
--- a column that stays within its range for n more commits, of which each moves money by at most 15,000,000 cents and raises a count by at most 150
+-- a column that stays within its range for n more commits, of which each moves money by at most 15,000,000 cents and
+-- raises a count by at most 150
 abbrev pub IsMoneyFor : ℕ → ℤ → Type 0
 IsMoneyFor n z = (neg_ℤ MAX_MONEY ≤ℤ (z -ℤ pos (MAX_MONEY_STEP * n))) × ((z +ℤ pos (MAX_MONEY_STEP * n)) ≤ℤ MAX_MONEY)
 

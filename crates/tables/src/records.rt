@@ -5,7 +5,9 @@
 ghost use Rattle.std.specs.Prelude.{◌≡◌, ◌+◌, ◌-◌, ◌*◌, ◌<◌, ◌≤◌, ◌^◌};
 ghost use Rattle.tables.specs.Sizes.{Sizes};
 ghost use Rattle.tables.specs.Keys.{IsDistrictKey, IsCustomerKey, IsOrderKey, IsLineKey, IsStockKey};
-ghost use Rattle.tables.specs.Records.{size, start, record_number, record_count, IsRecordKey, number_of_key, district_place, customer_place, order_place, place_of, NumbersNameKeys, NumbersNamePlaces};
+ghost use Rattle.tables.specs.Records.{size, start, record_number, record_count, IsRecordKey, number_of_key};
+ghost use Rattle.tables.specs.Records.{district_place, customer_place, order_place, place_of, NumbersNameKeys};
+ghost use Rattle.tables.specs.Records.{NumbersNamePlaces};
 ghost use Rattle.tables.specs.declared.records.Table.TheVariants as table;
 ghost use Rattle.tables.specs.declared.records.RecordKey.TheVariants as record_key;
 

@@ -39,7 +39,15 @@ impl Model for Scale {
 
     ghost invariant = { λ s. IsLawful (sizes s.warehouses s.districts s.customers s.items s.orders s.commits) };
 
-    ghost inverse = { λ s. record { warehouses = s.warehouses; districts = s.districts; customers = s.customers; items = s.items; orders = s.orders; commits = s.commits } };
+    ghost inverse = { λ s. record {
+      warehouses = s.warehouses;
+      districts = s.districts;
+      customers = s.customers;
+      items =
+          s.items;
+      orders = s.orders;
+      commits = s.commits;
+    } };
 }
 
 impl Scale {

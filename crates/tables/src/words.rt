@@ -2,7 +2,8 @@
 //! 0.
 
 ghost use Rattle.std.specs.Prelude.{◌≡◌};
-ghost use Rattle.tables.specs.Rows.{money_word, money_of, warehouse_words, district_words, customer_words, new_order_words, order_words, line_words, stock_words};
+ghost use Rattle.tables.specs.Rows.{money_word, money_of, warehouse_words, district_words, customer_words};
+ghost use Rattle.tables.specs.Rows.{new_order_words, order_words, line_words, stock_words};
 
 use crate::rows::{Customer, District, NewOrder, Order, OrderLine, Stock, Warehouse};
 use money::Cents;

@@ -9,4 +9,5 @@ pub returns-in-None : goal.returns-in-None
 returns-in-None c = sym (ap (option_map new_order_words) (get-view exact_order c.args.tables.now.new_orders c.args.key ∙ sym c.in-None.ensures.value))
 
 pub returns-in-Some : goal.returns-in-Some
-returns-in-Some c = ap Some c.words.ensures ∙ sym (ap (option_map new_order_words) (get-view exact_order c.args.tables.now.new_orders c.args.key ∙ sym c.in-Some.ensures.value))
+returns-in-Some c = ap Some c.words.ensures
+    ∙ sym (ap (option_map new_order_words) (get-view exact_order c.args.tables.now.new_orders c.args.key ∙ sym c.in-Some.ensures.value))
