@@ -11,5 +11,8 @@ mod Runs
 mod Showing
 pub mod Replaying
 mod Committed
+mod NextCommit
+mod NumberLeft
+mod RefusedThere
 mod Opened
 pub mod Executed

@@ -1,6 +1,7 @@
 pub mod History
 pub mod Stamps
 pub mod Book
+pub mod Next
 pub mod Ready
 pub mod Shows
 pub mod Share

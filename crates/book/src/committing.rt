@@ -1,5 +1,6 @@
 //! Committing a transaction.
-ghost use Rattle.std.specs.Prelude.{◌≡◌, ◌≢◌, ℕ, ◌+◌, ◌<◌, ◌≤◌, ◌⊎◌, Some, None, IsSome, length, MatchResult, IfErr};
+ghost use Rattle.std.specs.Prelude.{◌≡◌, ◌≢◌, ℕ, ◌+◌, ◌<◌, ◌≤◌, ◌⊎◌, Some, None, IsSome, length};
+ghost use Rattle.std.specs.Prelude.{MatchResult, IfOk, IfErr};
 ghost use Rattle.money.specs.declared.refusal.Refusal.TheVariants.{OutOfMemory, Conflict, CommitsFull, EpochFull};
 ghost use Rattle.commit.specs.Machine.{Machine};
 ghost use Rattle.cells.specs.Records.{HasGrown};
@@ -7,6 +8,7 @@ ghost use Rattle.book.specs.History.{replay, IsDone};
 ghost use Rattle.book.specs.Stamps.{tid_for};
 ghost use Rattle.book.specs.declared.epoch.TheConstants.{EPOCH as the_epoch};
 ghost use Rattle.book.specs.Book.{AreLatest, HasConflict, HasSeen, IsWorkOf, Commits, entry_of};
+ghost use Rattle.book.specs.Next.{IsNextCommit, IsRefusedAt};
 ghost use Rattle.book.specs.Shows.{Shows, IsRun, IsRefusedRun, reads_of};
 
 use crate::book::Book;
@@ -28,8 +30,8 @@ impl<K: Run> Book<K> {
     ///
     /// Where the versions read are the latest, the transaction is done at the committed tables: its reply and its
     /// writes are those of its definition there, though it may be refused. Its TID is the least of the epoch that is
-    /// larger than all TIDs that it has read and than its terminal's last (`next_tid`). After Ok the reader has seen
-    /// the versions stored.
+    /// larger than all TIDs that it has read and than its terminal's last (`next_tid`). After Ok its input is the next
+    /// commit, and the reader has seen the versions stored.
     ///
     /// To a machine of the commit protocol that shows the book to the terminal as any one of its workers, the commit is
     /// a run: the worker locks what it writes, reads the epoch, validates, takes this TID and installs, or fails at the
@@ -71,6 +73,9 @@ impl<K: Run> Book<K> {
             × (tid_for self.old.history share.old.terminal the_epoch work.reads ≡ None))
             ⊎ ((refusal ≡ OutOfMemory) × (length self.old.history < K.first.scale.commits)
             × IsSome (tid_for self.old.history share.old.terminal the_epoch work.reads)))))) }
+        ensures next { IfOk result (IsNextCommit K.first self.old.history self.new.history work.input) }
+        ensures refused { IfErr result (λ refusal. (refusal ≡ Conflict) ⊎ (refusal ≡ OutOfMemory)
+            ⊎ IsRefusedAt (replay K.first self.old.history) (length self.old.history) work.input refusal) }
         ensures section { (m : Machine) (w : ℕ) → Shows self.old share.old.terminal the_epoch work.reads m w
             → MatchResult result
             (λ done. IsRun m w (reads_of work.reads) work.writes.values done.tid self.new.written)

@@ -6,6 +6,7 @@
 
 mod book;
 mod committing;
+mod confirming;
 mod decided;
 mod engine;
 mod entry;

@@ -2,9 +2,8 @@
 ghost use Rattle.std.specs.Prelude.{◌≡◌, length};
 ghost use Rattle.book.specs.Parts.{IsFresh, first_of, cells_of, ledger_name, ledger_parts};
 
-use crate::engine::{Executed, both_of, parts, pay};
+use crate::engine::{Committed, Executed, both_of, commit_executed, parts, pay};
 use crate::payments::{history_row, payment_told};
-use crate::told::{Told, told_of};
 use book::{Engine, Parts, Run, Seat};
 use cells::Reader;
 use money::Refusal;
@@ -119,30 +118,6 @@ fn both_executed<K: Run>(
     Some((third?, fourth?))
 }
 
-/// A commit's number, its TID's word, and what is told.
-type Committed = (u32, u64, Told);
-
-/// Commits a Payment that a terminal has executed, and tells of it.
-fn commit_executed<K: Run, R: Wait>(
-    rt: &R,
-    engine: &Engine<K>,
-    executed: Executed<K>,
-) -> (Seat<K>, Result<Committed, Refusal>)
-    ensures { result.0.reader.cells ≡ K.cells }
-{
-    let Executed {
-        mut seat,
-        input: _,
-        work,
-    } = executed;
-    let mut book = engine.lock(rt);
-    let committed = book
-        .commit(rt, engine.cells(), &mut seat.reader, &mut seat.share, work)
-        .map(|done| (done.number(), done.tid().word(), told_of(done.reply())));
-    drop(book);
-    (seat, committed)
-}
-
 /// How many have committed, W_YTD in the committed tables, and the TID words and first words of the warehouse, the
 /// district and customers 3 and 4.
 #[derive(Clone, Copy, Debug, PartialEq, Eq)]
@@ -228,9 +203,9 @@ fn commit_both<K: Run, R: Wait>(
 ) -> Result<Commits, Refusal>
     requires count { length K.cells ≡ 1085 }
 {
-    let (mut left, first) = commit_executed(rt, engine, third);
+    let (mut left, _, first) = commit_executed(rt, engine, third);
     let before = standing_of(rt, engine, &mut left.reader);
-    let (right, second) = commit_executed(rt, engine, fourth);
+    let (right, _, second) = commit_executed(rt, engine, fourth);
     let after = standing_of(rt, engine, &mut left.reader);
     let again = pay_again(rt, alloc, engine, right)?;
     let end = standing_of(rt, engine, &mut left.reader);
@@ -252,7 +227,7 @@ fn pay_again<K: Run, R: Wait>(
     requires reader { seat.reader.cells ≡ K.cells }
 {
     let executed = pay(rt, alloc, engine, seat, 4)?;
-    let (_, committed) = commit_executed(rt, engine, executed);
+    let (_, _, committed) = commit_executed(rt, engine, executed);
     Ok(committed)
 }
 

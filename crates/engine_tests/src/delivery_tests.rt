@@ -9,10 +9,10 @@ use crate::stage::{Stage, open};
 use crate::told::{Told, told_of};
 use money::Refusal;
 use readset::{Work, WriteSet};
-use session::execute;
 use std::alloc::Global;
 use std::sync::Wait;
 use std::test::Fail;
+use transactions::execute;
 
 /// What was seen of a Delivery that was executed: what it is told, how many records it reads and writes, and what some
 /// of each district are to hold.

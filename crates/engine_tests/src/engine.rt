@@ -1,18 +1,19 @@
-//! An engine with two terminals over the small population, and a transaction that one of them has executed.
+//! An engine with two terminals over the small population: a transaction that one of them has executed, and its commit.
 ghost use Rattle.std.specs.Prelude.{◌≡◌, length, IfOk, IfSome};
 ghost use Rattle.tables.specs.Inputs.{IsInput};
 ghost use Rattle.book.specs.Parts.{IsFresh, cells_of};
 
 use crate::payments::payment;
 use crate::stage::small;
-use book::{Engine, Parts, Run, Seat, Seats};
+use crate::told::{Told, told_of};
+use book::{Done, Engine, Parts, Run, Seat, Seats};
 use money::Refusal;
 use readset::Work;
-use session::execute;
 use std::alloc::Global;
 use std::marker::Model;
 use std::sync::Wait;
 use tables::Input;
+use transactions::execute;
 
 pub(crate) fn parts<R: Wait>(rt: &R, alloc: Global) -> Result<Parts, Refusal>
     ensures fresh { IfOk result IsFresh }
@@ -81,4 +82,55 @@ pub(crate) fn pay<K: Run, R: Wait>(
     let scale = engine.population().scale();
     let input = Input::payment(&scale, payment(customer, 100))?;
     execute_at(rt, alloc, engine, seat, input)
+}
+
+/// A commit's number, its TID's word, and what is told.
+pub(crate) type Committed = (u32, u64, Told);
+
+/// Commits a transaction that a terminal has executed, and gives the seat and the input back.
+pub(crate) fn commit_executed<K: Run, R: Wait>(
+    rt: &R,
+    engine: &Engine<K>,
+    executed: Executed<K>,
+) -> (Seat<K>, Input, Result<Committed, Refusal>)
+    ensures reader { result.0.reader.cells ≡ K.cells }
+    ensures input { IsInput K.first.scale result.1 }
+{
+    let Executed {
+        mut seat,
+        input,
+        work,
+    } = executed;
+    let mut book = engine.lock(rt);
+    let committed = book
+        .commit(rt, engine.cells(), &mut seat.reader, &mut seat.share, work)
+        .map(|done| told_at(&done));
+    drop(book);
+    (seat, input, committed)
+}
+
+fn told_at(done: &Done) -> Committed {
+    (done.number(), done.tid().word(), told_of(done.reply()))
+}
+
+/// Executes a transaction while the book is free. Then, under its lock, commits it, or confirms that it is refused.
+pub(crate) fn attempt<K: Run, R: Wait>(
+    rt: &R,
+    alloc: Global,
+    engine: &Engine<K>,
+    seat: &mut Seat<K>,
+    input: &Input,
+) -> Result<Committed, Refusal>
+    requires reader { seat.old.reader.cells ≡ K.cells }
+    requires input { IsInput K.first.scale input.now }
+    ensures reader { seat.new.reader.cells ≡ K.cells }
+{
+    let (cells, population) = (engine.cells(), engine.population());
+    match execute(rt, alloc, cells, &mut seat.reader, population, input) {
+        Ok(work) => engine
+            .lock(rt)
+            .commit(rt, cells, &mut seat.reader, &mut seat.share, work)
+            .map(|done| told_at(&done)),
+        Err(refusal) => Err(engine.lock(rt).confirmed(input, refusal)),
+    }
 }

@@ -1,4 +1,4 @@
-//! Tests of `cells`, `readset`, the transactions, `book` and `session`, over the plain population of one warehouse.
+//! Tests of `cells`, `readset`, the transactions and `book`, over the plain population of one warehouse.
 #![tactic(auto)]
 
 #[cfg(test)]
@@ -27,8 +27,6 @@ mod query_inputs;
 mod query_tests;
 #[cfg(test)]
 mod readset_tests;
-#[cfg(test)]
-mod session_tests;
 #[cfg(test)]
 mod stage;
 #[cfg(test)]

@@ -4,7 +4,7 @@ ghost use Rattle.tables.specs.Records.{record_count};
 ghost use Rattle.population.specs.Initial.{initial};
 ghost use Rattle.book.specs.Parts.{IsFresh, first_of, cells_of, ledger_name, ledger_parts};
 
-use crate::engine::parts;
+use crate::engine::{attempt, parts};
 use crate::new_orders::{five, line, new_order, order_told};
 use crate::pairs::{Asked, Committed, outcome_of};
 use crate::stage::{Stage, open};
@@ -13,12 +13,12 @@ use book::{Engine, Parts, Run, Seat};
 use money::Refusal;
 use population::Population;
 use readset::Work;
-use session::{execute, persist};
 use std::alloc::Global;
 use std::marker::Brand;
 use std::sync::Wait;
 use std::test::Fail;
 use tables::{Reply, RequestedLine, Scale};
+use transactions::execute;
 
 /// What was seen of an order that was executed: what it is told, S_QUANTITY after each line, how many records it reads
 /// and writes, and what some of them are to hold.
@@ -140,9 +140,8 @@ fn commit<K: Run, R: Wait>(
 {
     let scale = engine.population().scale();
     let input = new_order(alloc, &scale, 3, lines)?;
-    let mut book = engine.lock(rt);
-    let done = persist(rt, alloc, engine, &mut book, seat, &input, None)?;
-    Ok((done.number(), told_of(done.reply())))
+    let (number, _, told) = attempt(rt, alloc, engine, seat, &input)?;
+    Ok((number, told))
 }
 
 /// What came of an order of item 21, which isn't in ITEM, how much has committed then, and what came of an order of

@@ -4,14 +4,13 @@ ghost use Rattle.tables.specs.Inputs.{IsInput};
 ghost use Rattle.book.specs.Parts.{IsFresh, first_of, cells_of, ledger_name, ledger_parts};
 
 use crate::deliveries::delivery;
-use crate::engine::{Executed, both_of, execute_at, parts};
+use crate::engine::{self, Executed, both_of, commit_executed, execute_at, parts};
 use crate::new_orders::{five, new_order};
 use crate::payments::payment;
 use crate::query_inputs::{order_status, stock_level};
-use crate::told::{Told, told_of};
+use crate::told::Told;
 use book::{Engine, Parts, Run, Seat};
 use money::Refusal;
-use session::persist;
 use std::alloc::Global;
 use std::marker::Brand;
 use std::sync::Wait;
@@ -58,32 +57,37 @@ pub(crate) struct Outcome {
     pub(crate) is_good: bool,
 }
 
-/// Commits what a terminal has executed. Where that is refused, executes it again.
+/// Commits what a terminal has executed. Where that is refused, executes it again, without the lock, and commits that.
 fn commit<K: Run, R: Wait>(
     rt: &R,
     alloc: Global,
     engine: &Engine<K>,
     executed: Executed<K>,
 ) -> Result<Committed, Refusal> {
-    let Executed {
-        mut seat,
-        input,
-        work,
-    } = executed;
-    let mut book = engine.lock(rt);
-    let cells = engine.cells();
-    let (refusal, done) = match book.commit(rt, cells, &mut seat.reader, &mut seat.share, work) {
-        Ok(done) => (None, done),
-        Err(refusal) => {
-            let done = persist(rt, alloc, engine, &mut book, &mut seat, &input, None)?;
-            (Some(refusal), done)
-        }
+    let (seat, input, outcome) = commit_executed(rt, engine, executed);
+    let (refusal, (number, _, told)) = match outcome {
+        Ok(committed) => (None, committed),
+        Err(refusal) => (Some(refusal), commit_again(rt, alloc, engine, seat, input)?),
     };
     Ok(Committed {
         refusal,
-        number: done.number(),
-        told: told_of(done.reply()),
+        number,
+        told,
     })
+}
+
+fn commit_again<K: Run, R: Wait>(
+    rt: &R,
+    alloc: Global,
+    engine: &Engine<K>,
+    seat: Seat<K>,
+    input: Input,
+) -> Result<engine::Committed, Refusal>
+    requires reader { seat.reader.cells ≡ K.cells }
+    requires input { IsInput K.first.scale input }
+{
+    let executed = execute_at(rt, alloc, engine, seat, input)?;
+    commit_executed(rt, engine, executed).2
 }
 
 fn commit_both<K: Run, R: Wait>(

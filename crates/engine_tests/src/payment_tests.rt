@@ -1,4 +1,5 @@
-//! Payments of the third customer, which is record 5, on the small population's cells.
+//! Payments on the small population: of the third customer, which is record 5, on its cells, and at an engine's
+//! terminals.
 ghost use Rattle.std.specs.Prelude.{◌≡◌, ℕ, ◌<◌, length, OnOk};
 ghost use Rattle.tables.specs.Payment.{IsPayment};
 ghost use Rattle.cells.specs.Records.{at};
@@ -6,6 +7,7 @@ ghost use Rattle.cells.specs.Versions.{last_tid};
 ghost use Rattle.tables.specs.Records.{record_count};
 ghost use Rattle.population.specs.Initial.{initial};
 
+use crate::pairs::{Asked, Committed, outcome_of};
 use crate::payments::{history_row, payment, payment_told};
 use crate::stage::{CUSTOMER, DISTRICT, Stage, open, store};
 use crate::told::{Told, told_of};
@@ -265,5 +267,24 @@ fn versions_that_no_tables_have(rt: HostRuntime) -> Result<(), Fail> {
     assert!(rt; is_stale(&rt, rt.alloc(), 0, Some([limit + 1, 0, 0, 0, 0, 0, 0]))?);
     assert!(rt; !is_stale(&rt, rt.alloc(), 0, Some([limit, 0, 0, 0, 0, 0, 0]))?);
     assert!(rt; !is_stale(&rt, rt.alloc(), 6, None)?);
+    Ok(())
+}
+
+/// What came of a Payment of 1.00 by this customer.
+fn paid(refusal: Option<Refusal>, number: u32, customer: u32) -> Committed {
+    Committed {
+        refusal,
+        number,
+        told: payment_told(customer, -1_100),
+    }
+}
+
+#[test]
+fn a_conflict_is_executed_again(rt: HostRuntime) -> Result<(), Fail> {
+    let asked = (Asked::Payment(3), Asked::Payment(4));
+    let outcome = outcome_of(&rt, rt.alloc(), asked)?;
+    assert_eq!(rt; outcome.first, paid(None, 1, 3));
+    assert_eq!(rt; outcome.second, paid(Some(Refusal::Conflict), 2, 4));
+    assert!(rt; outcome.is_good);
     Ok(())
 }

@@ -10,10 +10,10 @@ use crate::query_inputs::status_told;
 use crate::stage::{Stage, open, store};
 use crate::told::{Told, told_of};
 use money::{MAX_MONEY, Refusal};
-use session::execute;
 use std::alloc::Global;
 use std::sync::Wait;
 use std::test::Fail;
+use transactions::execute;
 
 /// The record of customer 3.
 const CUSTOMER: u32 = 5;

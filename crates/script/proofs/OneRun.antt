@@ -10,7 +10,7 @@ use Rattle.lines.specs.Requests.{HasNumbers, IsWithinReach, IsRefused, request_t
 use Rattle.lines.specs.declared.request.Request.{Request}
 use Rattle.lines.specs.declared.answer.Answer.{Answer}
 use Rattle.lines.proofs.OneText.{one_line_one_request}
-use Rattle.session.specs.Session.{IsRefusedAt}
+use Rattle.book.specs.Next.{IsRefusedAt}
 use Rattle.script.specs.Turns.{State, Turn, committed, IsInputTurn, bad, declined, done, IsShowTurn, beyond, row, input_of, IsTurnOf, IsRequestTurn, IsLineTurn, long, unread, read, AreTurns, refused}
 
 abbrev told_by : Reply → Outcome → Reply

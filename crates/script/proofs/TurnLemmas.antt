@@ -20,7 +20,8 @@ use Rattle.lines.specs.declared.answer.Answer.TheVariants as answer
 use Rattle.book.specs.declared.entry.Done.{Done}
 use Rattle.book.specs.History.{replay}
 use Rattle.book.proofs.Replaying.{replay-scale}
-use Rattle.session.specs.Session.{SessionView, IsNext, IsRefusedAt}
+use Rattle.book.specs.Next.{IsNextCommit, IsRefusedAt}
+use Rattle.session.specs.Session.{SessionView}
 use Rattle.script.specs.Answered.{state_of, IsMade}
 use Rattle.script.specs.Turns.{State, Turn, Commit, commits_of, IsInputTurn, bad, declined, done, IsRequestTurn, IsLineTurn, unread, read, answer_of, input_of, IsTurnOf}
 
@@ -31,7 +32,7 @@ answered_turn P Q (Err refusal) is leads = tt
 
 -- what a commit leaves
 pub committed_turn : (t0 : Database) (old new : SessionView) (n : ℕ) (x : Input) (d : Done) (told : Answer) → told ≡ answer_of d.reply → length old.dones ≡ length old.history → new.dones ≡ old.dones ++ d ∷ []
-    → IsInput t0.scale x → IsNext t0 old.history new.history x d → IsInputTurn (state_of t0 old) n x (record { answer = told; state = state_of t0 new })
+    → IsInput t0.scale x → IsNextCommit t0 old.history new.history x d → IsInputTurn (state_of t0 old) n x (record { answer = told; state = state_of t0 new })
 committed_turn t0 old new n x d told says count dones is next =
     let scale : (replay t0 old.history).scale ≡ t0.scale = replay-scale t0 old.history in
     let number : d.number ≡ length old.dones + 1 = next.number ∙ (ap length next.entry.1 ∙ length_push old.history next.entry.0) ∙ ap (λ m. m + 1) (sym count) in

@@ -24,7 +24,7 @@ use Rattle.lines.specs.declared.request.Request.TheVariants as request
 use Rattle.lines.specs.declared.answer.Answer.{Answer}
 use Rattle.lines.specs.declared.answer.Answer.TheVariants as answer
 use Rattle.book.specs.declared.entry.Done.{Done}
-use Rattle.session.specs.Session.{IsRefusedAt}
+use Rattle.book.specs.Next.{IsRefusedAt}
 
 -- what a terminal is told of a commit: its number and its reply. Its TID, which it is told too, is the engine's own
 pub record Commit : Type 0 where

@@ -1,11 +1,7 @@
-//! One input of a terminal: which crate executes it, the attempt to execute and commit it, and the session of a
-//! terminal that has the book to itself.
+//! The session of a terminal that has the book to itself: each input is executed and committed in its turn.
 #![tactic(auto)]
 
 mod attempting;
-mod executing;
 mod session;
 
-pub use attempting::attempt;
-pub use executing::execute;
-pub use session::{Session, persist};
+pub use session::Session;

@@ -1,6 +1,6 @@
 //! A terminal that has the book to itself.
 
-ghost use Rattle.std.specs.Prelude.{◌≡◌, ◌⊎◌, ◌↔◌, ◌<◌, [], ◌∷◌, ◌++◌, length, Err, IsTrue, IfOk, IfErr, OnOk, OnErr};
+ghost use Rattle.std.specs.Prelude.{◌≡◌, ◌⊎◌, ◌<◌, [], ◌∷◌, ◌++◌, length, IfOk, IfErr, OnOk, OnErr};
 ghost use Rattle.tables.specs.Inputs.{IsInput};
 ghost use Rattle.tables.specs.Records.{record_count};
 ghost use Rattle.tables.specs.Rows.{rows};
@@ -8,18 +8,15 @@ ghost use Rattle.tables.specs.WellFormed.{IsWellFormed};
 ghost use Rattle.population.specs.Initial.{initial};
 ghost use Rattle.conditions.specs.Report.{IsReportOf};
 ghost use Rattle.book.specs.History.{replay};
-ghost use Rattle.std.specs.Option.{ForSome};
-ghost use Rattle.book.specs.Book.{IsWorkOf};
+ghost use Rattle.book.specs.Next.{IsNextCommit, IsRefusedAt};
 ghost use Rattle.book.specs.declared.entry.Done.{Done as DoneValue};
-ghost use Rattle.session.specs.Session.{IsNext, IsRefusedAt};
-ghost use Rattle.money.specs.declared.refusal.Refusal.TheVariants.{OutOfMemory, Conflict, Stale};
+ghost use Rattle.money.specs.declared.refusal.Refusal.TheVariants.{OutOfMemory};
 
-use crate::attempting::{attempt, commit_work};
+use crate::attempting::persist;
 use book::{Book, Done, Engine, Run, Seat};
 use conditions::Report;
 use money::Refusal;
 use population::Population;
-use readset::Work;
 use std::alloc::Global;
 use std::marker::Model;
 use std::sync::{MutexGuard, Wait};
@@ -101,7 +98,8 @@ impl<'e, K: Run> Session<'e, K> {
     /// at any time. A refusal leaves all as it was.
     pub fn commit<R: Wait>(&mut self, rt: &R, input: &Input) -> Result<(), Refusal>
         requires input { IsInput K.first.scale input.now }
-        ensures next { OnOk result ((done : DoneValue) × IsNext K.first self.old.history self.new.history input.now done
+        ensures next { OnOk result ((done : DoneValue)
+            × IsNextCommit K.first self.old.history self.new.history input.now done
             × (self.new.dones ≡ self.old.dones ++ done ∷ [])) }
         ensures count { length self.old.dones ≡ length self.old.history }
         ensures refusals { IfErr result (λ refusal. (refusal ≡ OutOfMemory)
@@ -110,15 +108,7 @@ impl<'e, K: Run> Session<'e, K> {
     {
         self.dones.reserve(1)?;
         let (alloc, engine) = (self.alloc, self.engine);
-        let done = persist(
-            rt,
-            alloc,
-            engine,
-            &mut self.book,
-            &mut self.seat,
-            input,
-            None,
-        )?;
+        let done = persist(rt, alloc, engine, &mut self.book, &mut self.seat, input)?;
         self.dones.push_reserved(done);
         Ok(())
     }
@@ -146,74 +136,4 @@ impl<'e, K: Run> Session<'e, K> {
         let report = book.report(alloc)?;
         Ok((report, dones))
     }
-}
-
-/// Executes a transaction and commits it, again and again for as long as what it read isn't the latest. It begins with
-/// what was executed before, if anything was. For a terminal that shares the book with others: it need not hold the
-/// book while it executes for the first time.
-///
-/// # Errors
-///
-/// As `Session::commit`: `ItemNotValid`, `OrdersFull` and `CommitsFull` at the committed tables, and `OutOfMemory`. The
-/// history is then as it was.
-pub fn persist<K: Run, R: Wait>(
-    rt: &R,
-    alloc: Global,
-    engine: &Engine<K>,
-    book: &mut Book<K>,
-    seat: &mut Seat<K>,
-    input: &Input,
-    executed: Option<Work>,
-) -> Result<Done, Refusal>
-    requires input { IsInput K.first.scale input.now }
-    requires reader { seat.old.reader.cells ≡ K.cells }
-    requires begun { ForSome executed (λ work.
-        IsWorkOf K.first (length K.cells) seat.old.reader work × (work.input ≡ input.now)) }
-    ensures reader { seat.new.reader.cells ≡ K.cells }
-    ensures commits { IfOk result (IsNext K.first book.old.history book.new.history input.now) }
-    ensures refusals { IfErr result (λ refusal. (refusal ≡ OutOfMemory)
-        ⊎ IsRefusedAt (replay K.first book.old.history) (length book.old.history) input.now refusal) }
-    ensures err { OnErr result (book.new ≡ book.old) }
-{
-    let mut executed = executed;
-    for _ in rt.forever() {
-        let outcome = try_once(rt, alloc, engine, book, seat, input, executed.take());
-        if !is_retried(&outcome) {
-            return outcome;
-        }
-    }
-    unreachable!()
-}
-
-/// One try: commits what was executed before, or else executes the transaction and commits it.
-fn try_once<K: Run, R: Wait>(
-    rt: &R,
-    alloc: Global,
-    engine: &Engine<K>,
-    book: &mut Book<K>,
-    seat: &mut Seat<K>,
-    input: &Input,
-    executed: Option<Work>,
-) -> Result<Done, Refusal>
-    requires input { IsInput K.first.scale input.now }
-    requires reader { seat.old.reader.cells ≡ K.cells }
-    requires begun { ForSome executed (λ work.
-        IsWorkOf K.first (length K.cells) seat.old.reader work × (work.input ≡ input.now)) }
-    ensures reader { seat.new.reader.cells ≡ K.cells }
-    ensures commits { IfOk result (IsNext K.first book.old.history book.new.history input.now) }
-    ensures refusals { IfErr result (λ refusal. (refusal ≡ Stale) ⊎ (refusal ≡ Conflict) ⊎ (refusal ≡ OutOfMemory)
-        ⊎ IsRefusedAt (replay K.first book.old.history) (length book.old.history) input.now refusal) }
-    ensures err { OnErr result (book.new ≡ book.old) }
-{
-    match executed {
-        Some(work) => commit_work(rt, engine, book, seat, work),
-        None => attempt(rt, alloc, engine, book, seat, input),
-    }
-}
-
-/// Whether a transaction is tried again after this outcome: exactly where what it read wasn't or isn't the latest.
-fn is_retried(outcome: &Result<Done, Refusal>) -> bool
-    ensures { IsTrue result ↔ (outcome.now ≡ Err Stale) ⊎ (outcome.now ≡ Err Conflict) }
-{
-    matches!(outcome, Err(Refusal::Stale | Refusal::Conflict))
 }

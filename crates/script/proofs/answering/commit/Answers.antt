@@ -2,7 +2,7 @@ use Rattle.std.proofs.Common.{length, subst, sym, ◌∙◌}
 use Rattle.tables.specs.Inputs.{IsInput}
 use Rattle.tables.specs.declared.input.Input.{Input}
 use Rattle.book.specs.History.{replay}
-use Rattle.session.specs.Session.{IsRefusedAt}
+use Rattle.book.specs.Next.{IsRefusedAt}
 use Rattle.script.specs.Answered.{state_of, IsMade}
 use Rattle.script.specs.Turns.{IsInputTurn}
 use Rattle.script.proofs.TurnLemmas.{answered_turn, committed_turn, bad_turn, declined_turn, but_memory}

@@ -25,6 +25,8 @@ use Rattle.book.proofs.Sound.{done_there}
 use Rattle.book.proofs.Stamped.{lasts_next}
 use Rattle.book.proofs.Taken.{same_next, there_is, taken_above, next_kept}
 use Rattle.book.proofs.Committed.{read_by_more}
+use Rattle.book.proofs.NextCommit.{is_next}
+use Rattle.book.proofs.RefusedThere.{refused_there}
 use Rattle.book.specs.declared.entry.Entry.{Entry}
 use Rattle.book.specs.declared.entry.Done.{Done}
 use Rattle.book.specs.declared.epoch.TheConstants.{EPOCH}
@@ -196,6 +198,18 @@ returns-clause-answer g c =
       c.store.ensures.seen,
       done_there g.K.Run.first g.K.Run.cells (kept c.self.inside.pen items) (replay g.K.Run.first items) c.self.invariant.0 c.self.invariant.1 c.args.reader.now c.args.work c.requires.work found.0,
     )
+
+pub returns-clause-next : goal.returns-clause-next
+returns-clause-next g c =
+    let answer = returns-clause-answer g c in
+    is_next g.K.Run.first c.args.self.now.history c.push_reserved.new.self.items c.args.share.now.terminal c.args.work c.of.result
+    answer.3.history answer.4 answer.5 answer.8 answer.1
+
+pub returns-in-Err-clause-refused : goal.returns-in-Err-clause-refused
+returns-in-Err-clause-refused g c =
+    refused_there g.K.Run.first c.args.self.now.history c.args.work c.in-Err.refusal
+    (tid_for c.args.self.now.history c.args.share.now.terminal EPOCH c.args.work.reads)
+    (returns-in-Err-clause-cap_first g c) (returns-in-Err-clause-answer g c).2
 
 pub returns-in_default-clause-section : goal.returns-in_default-clause-section
 returns-in_default-clause-section g c m w shows =

@@ -1,24 +1,20 @@
-//! Which crate executes an input, and which inputs make an order: one arm a transaction.
-ghost use Rattle.std.specs.Prelude.{◌≡◌, length, IfOk, IfErr, OnOk, MatchBool};
+//! Which crate executes an input: one arm a transaction.
+ghost use Rattle.std.specs.Prelude.{◌≡◌, length, IfOk, IfErr, OnOk};
 ghost use Rattle.tables.specs.Inputs.{IsInput};
-ghost use Rattle.tables.specs.Apply.{HasOrderNumber};
-ghost use Rattle.tables.specs.NewOrder.{IsNewOrder, HasNumber};
 ghost use Rattle.tables.specs.Records.{record_count};
 ghost use Rattle.population.specs.Initial.{initial};
 ghost use Rattle.cells.specs.Records.{HasGrown};
 ghost use Rattle.readset.specs.Reads.{AreRead};
 ghost use Rattle.readset.specs.Explains.{Explains, IsWithinLimits};
 ghost use Rattle.readset.specs.Refused.{NoneMissing, IsAboveCap, IsRefusal};
-ghost use Rattle.book.specs.History.{replay};
 
-use book::{Book, Run};
 use cells::{Cells, Reader};
 use money::Refusal;
 use population::Population;
 use readset::Work;
 use std::alloc::Global;
 use std::sync::Wait;
-use tables::{DistrictKey, Input, NewOrderInput, RecordKey, Scale, number_of_key};
+use tables::Input;
 
 /// Executes a transaction: reads its records once each, and says what it is to write and to reply if it commits. No
 /// cell changes. Costs what its kind costs.
@@ -62,39 +58,5 @@ pub fn execute<R: Wait>(
         Input::StockLevel(query) => queries::stock_level(
             rt, alloc, cells, reader, population, query,
         ),
-    }
-}
-
-/// Whether a transaction has an order number at the committed tables, where it makes an order. Constant time, no
-/// memory.
-pub(crate) fn has_order_number<K: Run>(book: &Book<K>, scale: &Scale, input: &Input) -> bool
-    requires scale { scale.now ≡ K.first.scale }
-    requires input { IsInput K.first.scale input.now }
-    ensures { MatchBool result
-        (HasOrderNumber (replay K.first book.now.history) input.now)
-        (¬ HasOrderNumber (replay K.first book.now.history) input.now) }
-{
-    match input {
-        Input::NewOrder(order) => has_number(book, scale, order),
-        Input::Payment(_) | Input::Delivery(_) | Input::OrderStatus(_) | Input::StockLevel(_) =>
-            true,
-    }
-}
-
-/// Whether D_NEXT_O_ID of an order's district is within the order cap.
-fn has_number<K: Run>(book: &Book<K>, scale: &Scale, order: &NewOrderInput) -> bool
-    requires scale { scale.now ≡ K.first.scale }
-    requires input { IsNewOrder K.first.scale order.now }
-    ensures { MatchBool result
-        (HasNumber (replay K.first book.now.history) order.now)
-        (¬ HasNumber (replay K.first book.now.history) order.now) }
-{
-    let home = DistrictKey {
-        warehouse: order.warehouse,
-        district: order.district,
-    };
-    match book.record(number_of_key(scale, RecordKey::District(home))) {
-        Some(words) => words[1] <= u64::from(scale.orders()),
-        None => true,
     }
 }

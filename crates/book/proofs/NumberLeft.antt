@@ -31,7 +31,8 @@ within_is a b = ⊎_elim
 module _ (s : Sizes) (t : Database) (x : NewOrderInput) (scale : t.scale ≡ s) (is : IsNewOrder s x) where
   next_read : (words : Option (List ℕ)) → words ≡ rows t (number_of_key s (key.District (home x))) → next_in words ≡ next_order t (home x)
   next_read words read =
-      ap next_in (read ∙ ap (λ (q : Sizes). row_at t (key_of q (number_of_key s (key.District (home x))))) scale ∙ ap (row_at t) (named s (key.District (home x)) (is.warehouse, is.district)).1)
+      ap next_in (read ∙ ap (λ (q : Sizes). row_at t (key_of q (number_of_key s (key.District (home x))))) scale
+      ∙ ap (row_at t) (named s (key.District (home x)) (is.warehouse, is.district)).1)
       ∙ next_of (get t.districts (home x))
 
   pub number_by : (words : List ℕ) (cap : ℕ) → Some words ≡ rows t (number_of_key s (key.District (home x))) → cap ≡ s.orders

@@ -6,8 +6,8 @@ use Rattle.tables.specs.Rows.{rows}
 use Rattle.tables.specs.declared.records.RecordKey.TheVariants as key
 use Rattle.book.specs.History.{replay}
 use Rattle.book.proofs.Replaying.{replay-scale}
-use Rattle.session.proofs.NumberLeft.{number_by, number_at_none}
-use Rattle.session.proofs.executing.has_number.Goals as goal
+use Rattle.book.proofs.NumberLeft.{number_by, number_at_none}
+use Rattle.book.proofs.confirming.has_number.Goals as goal
 
 pub returns-in-Some : goal.returns-in-Some
 returns-in-Some g c =

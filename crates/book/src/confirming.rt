@@ -1,0 +1,80 @@
+//! Refusals of executions, as they are at the committed tables.
+ghost use Rattle.std.specs.Prelude.{◌≡◌, ◌⊎◌, length, MatchBool};
+ghost use Rattle.money.specs.declared.refusal.Refusal.TheVariants.{OutOfMemory, OrdersFull, Stale};
+ghost use Rattle.tables.specs.Inputs.{IsInput};
+ghost use Rattle.tables.specs.Apply.{HasOrderNumber};
+ghost use Rattle.tables.specs.NewOrder.{IsNewOrder, HasNumber};
+ghost use Rattle.cells.specs.Records.{ReaderView};
+ghost use Rattle.readset.specs.Refused.{IsRefusal};
+ghost use Rattle.book.specs.History.{replay};
+ghost use Rattle.book.specs.Next.{IsRefusedAt};
+
+use crate::book::Book;
+use crate::run::Run;
+use money::Refusal;
+use tables::{DistrictKey, Input, NewOrderInput, RecordKey, Scale, number_of_key};
+
+impl<K: Run> Book<K> {
+    /// A refusal of an execution as it is at the committed tables. That no order number is left may have been read at
+    /// older ones, so it is looked up there: where one is left, what was read is stale. Constant time, no memory.
+    pub fn confirmed(&self, input: &Input, refusal: Refusal) -> Refusal
+        requires input { IsInput K.first.scale input.now }
+        requires refusal { (old : ReaderView) × ((new : ReaderView) × IsRefusal K.first input.now old new refusal) }
+        ensures there { (result ≡ Stale) ⊎ (result ≡ OutOfMemory)
+            ⊎ IsRefusedAt (replay K.first self.now.history) (length self.now.history) input.now result }
+        ensures stale { result ≡ Stale → (refusal ≡ Stale)
+            ⊎ ((refusal ≡ OrdersFull) × HasOrderNumber (replay K.first self.now.history) input.now) }
+        ensures memory { result ≡ OutOfMemory → refusal ≡ OutOfMemory }
+    {
+        match refusal {
+            Refusal::OrdersFull => {
+                if has_order_number(self, &self.scale(), input) {
+                    Refusal::Stale
+                } else {
+                    Refusal::OrdersFull
+                }
+            }
+            refusal => refusal,
+        }
+    }
+
+    /// The scale of the run.
+    fn scale(&self) -> Scale
+        ensures { result ≡ K.first.scale }
+    {
+        self.population.scale()
+    }
+}
+
+/// Whether a transaction has an order number at the committed tables, where it makes an order.
+fn has_order_number<K: Run>(book: &Book<K>, scale: &Scale, input: &Input) -> bool
+    requires scale { scale.now ≡ K.first.scale }
+    requires input { IsInput K.first.scale input.now }
+    ensures { MatchBool result
+        (HasOrderNumber (replay K.first book.now.history) input.now)
+        (¬ HasOrderNumber (replay K.first book.now.history) input.now) }
+{
+    match input {
+        Input::NewOrder(order) => has_number(book, scale, order),
+        Input::Payment(_) | Input::Delivery(_) | Input::OrderStatus(_) | Input::StockLevel(_) =>
+            true,
+    }
+}
+
+/// Whether D_NEXT_O_ID of an order's district is within the order cap.
+fn has_number<K: Run>(book: &Book<K>, scale: &Scale, order: &NewOrderInput) -> bool
+    requires scale { scale.now ≡ K.first.scale }
+    requires input { IsNewOrder K.first.scale order.now }
+    ensures { MatchBool result
+        (HasNumber (replay K.first book.now.history) order.now)
+        (¬ HasNumber (replay K.first book.now.history) order.now) }
+{
+    let home = DistrictKey {
+        warehouse: order.warehouse,
+        district: order.district,
+    };
+    match book.record(number_of_key(scale, RecordKey::District(home))) {
+        Some(words) => words[1] <= u64::from(scale.orders()),
+        None => true,
+    }
+}

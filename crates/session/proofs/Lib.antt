@@ -1,3 +1,0 @@
-mod Commits
-mod NumberLeft
-mod RefusedThere
