@@ -17,12 +17,12 @@ use Rattle.book.specs.Book.{BookView, IsSound}
 use Rattle.book.specs.Ready.{IsReady, AreNewest}
 use Rattle.book.proofs.Replaying.{replay-history}
 
-module _ (t0 : Database) (run_cells : List TableId) (k : BookView) (t : Database) (newest : List Newest) (sound : IsSound t0 run_cells k t) (ready : IsReady t0 run_cells k t) (are : AreNewest k.written newest) where
+module _ (t0 : Database) (run_cells : List TableId) (k : BookView) (t : Database) (newest : List Newest) (sound : IsSound t0 k t) (ready : IsReady t0 run_cells k t) (are : AreNewest k.written newest) where
   pub counted : length newest ≡ record_count t0.scale
   counted = are.count ∙ ap length ready.cells ∙ ready.count
 
   pub value_held : (n : ℕ) → n < record_count t0.scale → value_at newest n ≡ rows t n
-  value_held n h = sound.latest n (subst (λ m. n < m) (sym ready.count) h) (words_at newest n) (are.last n (subst (λ m. n < m) (sym counted) h))
+  value_held n h = sound.latest n h (words_at newest n) (are.last n (subst (λ m. n < m) (sym counted) h))
 
   rows_first : row_count t0.scale ≤ record_count t0.scale
   rows_first = omega arith

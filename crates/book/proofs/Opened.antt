@@ -58,14 +58,14 @@ module _ (t0 : Database) (run_cells : List TableId) (pen : PenView) (newest : Li
       last = λ n h. ([], only n h);
     }
 
-    pub first_sound : IsWellFormed t0 → IsConsistent t0 → IsSound t0 run_cells (record { written = pen; history = [] }) t0
+    pub first_sound : IsWellFormed t0 → IsConsistent t0 → IsSound t0 (record { written = pen; history = [] }) t0
     first_sound well_formed consistent = record {
       legal = record { replays = tt; end = refl };
       stamped = tt;
       well_formed = well_formed;
       consistent = consistent;
-      versions = first;
-      latest = λ n h v e. ap value_in (last_one e.0 [] v (first_version (rows t0 n)) (sym e.1 ∙ first n h)) ∙ first_value (rows t0 n);
+      versions = λ n h. first n (subst (λ m. n < m) (sym (count ∙ are.count)) h);
+      latest = λ n h v e. ap value_in (last_one e.0 [] v (first_version (rows t0 n)) (sym e.1 ∙ first n (subst (λ m. n < m) (sym (count ∙ are.count)) h))) ∙ first_value (rows t0 n);
     }
 
     pub first_ready : HasRoom MAX_COMMITS t0 → t0.scale.commits ≤ MAX_COMMITS → IsReady t0 run_cells (record { written = pen; history = [] }) t0

@@ -105,7 +105,7 @@ all_current m (read ∷ reads) all = All-cons (IsCurrent m) read reads
 each_current : (m : Machine) (reads : ReadSetView) → AreCurrent m (reads_of reads) → (n : ℕ) (v : Version) → held reads n ≡ Some v → tid_of (cell m n).word ≡ tid_of v.word
 each_current m reads all n v e = All-contains (IsCurrent m) reads (n, v) (all_current m reads all) (Contains-from_lookup {eq = λ x y. is_eq (nat_cmp x y)} same_key n v reads e)
 
-module _ (t0 : Database) (run_cells : List TableId) (k : BookView) (t : Database) (sound : IsSound t0 run_cells k t) (ready : IsReady t0 run_cells k t) (reader : ReaderView) (work : Work) (is_work : IsWorkOf t0 (length run_cells) reader work) (order : AreInOrder work.reads work.writes)
+module _ (t0 : Database) (run_cells : List TableId) (k : BookView) (t : Database) (sound : IsSound t0 k t) (ready : IsReady t0 run_cells k t) (reader : ReaderView) (work : Work) (is_work : IsWorkOf t0 (length run_cells) reader work) (order : AreInOrder work.reads work.writes)
     (terminal w : ℕ) (m : Machine) (shows : Shows k terminal EPOCH work.reads m w) where
   abbrev reads : Reads
   reads = reads_of work.reads
@@ -117,7 +117,7 @@ module _ (t0 : Database) (run_cells : List TableId) (k : BookView) (t : Database
   newest : (n : ℕ) → n < length run_cells → (v : List ℕ) × EndsWith (at k.written.all n) v
   newest n h =
       let it = last_version (first_version (rows t0 n)) (later_versions k.history n) in
-      (it.0, subst (λ (l : List (List ℕ)). EndsWith l it.0) (sym (sound.versions n h)) it.1)
+      (it.0, subst (λ (l : List (List ℕ)). EndsWith l it.0) (sym (sound.versions n (subst (λ m. n < m) ready.count h))) it.1)
 
   shown : (n : ℕ) → n < length run_cells → (v : List ℕ) → EndsWith (at k.written.all n) v → cell m n ≡ cell_of v
   shown n h = shows.records.newest n (subst (λ (l : List TableId). n < length l) (sym ready.cells) h)

@@ -73,9 +73,9 @@ last_one xs ys a b e = sym (end xs a) ∙ ap last_of e ∙ end ys b
 rest_of : (n : ℕ) → n < MAX_COMMITS → MAX_COMMITS - n ≡ MAX_COMMITS - (n + 1) + 1
 rest_of n h = omega arith
 
-module _ (t0 : Database) (run_cells : List TableId) (k : BookView) (t : Database) (sound : IsSound t0 run_cells k t) (ready : IsReady t0 run_cells k t) (reader : ReaderView) (work : Work) (is_work : IsWorkOf t0 (length run_cells) reader work) (latest : AreLatest k.written.all work.reads) where
+module _ (t0 : Database) (run_cells : List TableId) (k : BookView) (t : Database) (sound : IsSound t0 k t) (ready : IsReady t0 run_cells k t) (reader : ReaderView) (work : Work) (is_work : IsWorkOf t0 (length run_cells) reader work) (latest : AreLatest k.written.all work.reads) where
   agrees : Agrees t work.reads
-  agrees n v e = sound.latest n (is_work.read.within n v e) (words_of v) (latest n v e)
+  agrees n v e = sound.latest n (subst (λ m. n < m) ready.count (is_work.read.within n v e)) (words_of v) (latest n v e)
 
   commits_there : IsCommitOf t work.input work.writes work.reply
   commits_there = explains_where_consistent t0 work.input work.reads work.writes work.reply is_work.explained t ready.of_population sound.well_formed sound.consistent agrees
@@ -126,9 +126,9 @@ module _ (t0 : Database) (run_cells : List TableId) (k : BookView) (t : Database
     changed : (n : ℕ) (value : Option (List ℕ)) → value_for work.writes n ≡ Some value → at new.all n ≡ at k.written.all n ++ version_of tid_is value ∷ []
     changed n value some = stores n ∙ ap (λ w. at k.written.all n ++ option_map_or (λ x. version_of tid_is x ∷ []) w []) some
 
-    last_value : (n : ℕ) → n < length run_cells → (v : List ℕ) → EndsWith (at new.all n) v → value_in v ≡ rows (after t work.input) n
+    last_value : (n : ℕ) → n < record_count t0.scale → (v : List ℕ) → EndsWith (at new.all n) v → value_in v ≡ rows (after t work.input) n
     last_value n h v e =
-        let small : n < record_count t.scale = subst (λ (s : Sizes). n < record_count s) (sym ready.of_population.scale) (subst (λ m. n < m) ready.count h) in
+        let small : n < record_count t.scale = subst (λ (s : Sizes). n < record_count s) (sym ready.of_population.scale) h in
         let leaves : rows (after t work.input) n ≡ rows_with work.writes (rows t) n = commits_there.rows n small in
         elim (value_for work.writes n) as (λ w. value_for work.writes n ≡ w → value_in v ≡ rows (after t work.input) n) [
           | None ↦ λ none. sound.latest n h v (subst (λ (l : List (List ℕ)). EndsWith l v) (unchanged n none) e) ∙ sym (leaves ∙ ap (λ w. unwrap_or w (rows t n)) none)
@@ -178,7 +178,7 @@ module _ (t0 : Database) (run_cells : List TableId) (k : BookView) (t : Database
     from_epoch : EPOCH ≤ tid_is / 2 ^ 32
     from_epoch = omega (arith, in_epoch)
 
-    pub next_sound : IsSound t0 run_cells kept (after t work.input)
+    pub next_sound : IsSound t0 kept (after t work.input)
     next_sound = record {
       legal = legal;
       stamped = all_stamped EPOCH k kept entry refl from_epoch above_last above_records written_records grows within.bits sound.stamped ready.passed;

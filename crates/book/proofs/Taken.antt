@@ -29,7 +29,7 @@ use Rattle.book.proofs.Sound.{read_within, next_sound, next_ready}
 pub whole : (n : ℕ) → n % 8 ≡ 0 → tid_of n ≡ n
 whole n even = omega (arith, even)
 
-module _ (t0 : Database) (run_cells : List TableId) (k : BookView) (t : Database) (sound : IsSound t0 run_cells k t) (ready : IsReady t0 run_cells k t) (reader : ReaderView) (work : Work) (is_work : IsWorkOf t0 (length run_cells) reader work) (latest : AreLatest k.written.all work.reads)
+module _ (t0 : Database) (run_cells : List TableId) (k : BookView) (t : Database) (sound : IsSound t0 k t) (ready : IsReady t0 run_cells k t) (reader : ReaderView) (work : Work) (is_work : IsWorkOf t0 (length run_cells) reader work) (latest : AreLatest k.written.all work.reads)
     (terminal seen last : ℕ) (is_read : IsRead work.reads seen) (greatest : seen ≡ greatest_tid work.reads) (last_is : last ≡ last_of terminal k.history) where
   seen_within : IsWithin EPOCH (length k.history) seen
   seen_within = read_within t0 run_cells k t sound ready reader work is_work latest seen is_read
@@ -77,7 +77,7 @@ module _ (t0 : Database) (run_cells : List TableId) (k : BookView) (t : Database
     -- so the book is sound and ready behind a commit that takes it
     pub next_kept : (new : PenView) → length k.history < t0.scale.commits → new.cells ≡ k.written.cells
         → ((n : ℕ) → at new.all n ≡ at k.written.all n ++ new_versions tid work.writes.values n)
-        → IsSound t0 run_cells (record { written = new; history = k.history ++ entry_of (length k.history + 1) tid terminal work ∷ [] }) (after t work.input)
+        → IsSound t0 (record { written = new; history = k.history ++ entry_of (length k.history + 1) tid terminal work ∷ [] }) (after t work.input)
         × IsReady t0 run_cells (record { written = new; history = k.history ++ entry_of (length k.history + 1) tid terminal work ∷ [] }) (after t work.input)
     next_kept new below cells stores = (
       next_sound t0 run_cells k t sound ready reader work is_work latest terminal tid new below cells taken_within lawful.in_epoch taken_above_last taken_above stores,

@@ -4,9 +4,9 @@ use Rattle.std.specs.Ordering.{nat_cmp}
 use Rattle.std.specs.List.{All}
 use Rattle.std.specs.List.Sorted.{IsStrictlySortedBy}
 use Rattle.std.specs.Map.{keys_of}
-use Rattle.atomic_table.specs.Seated.{TableId}
 use Rattle.tables.specs.Database.{Database}
 use Rattle.tables.specs.Inputs.{IsInput}
+use Rattle.tables.specs.Records.{record_count}
 use Rattle.tables.specs.Rows.{rows}
 use Rattle.tables.specs.Conditions.{IsConsistent}
 use Rattle.tables.specs.WellFormed.{IsWellFormed}
@@ -28,7 +28,7 @@ pub record BookView : Type 0 where
   pub history : List Entry
 
 -- what is so whenever the book's lock is free, t0 being the tables that the run began with and t the committed ones
-pub record IsSound (t0 : Database) (run_cells : List TableId) (k : BookView) (t : Database) : Type 0 where
+pub record IsSound (t0 : Database) (k : BookView) (t : Database) : Type 0 where
   -- the committed tables are the history's serial replay, with every reply the same
   pub legal : IsLegal t0 k.history t
   -- its TIDs rise by record and by terminal, and its epochs don't fall
@@ -36,8 +36,8 @@ pub record IsSound (t0 : Database) (run_cells : List TableId) (k : BookView) (t 
   pub well_formed : IsWellFormed t
   pub consistent : IsConsistent t
   -- each record's versions are the values that it had along the history, and the last is what the tables have
-  pub versions : (n : ℕ) → n < length run_cells → at k.written.all n ≡ all_versions t0 k.history n
-  pub latest : (n : ℕ) → n < length run_cells → (v : List ℕ) → EndsWith (at k.written.all n) v → value_in v ≡ rows t n
+  pub versions : (n : ℕ) → n < record_count t0.scale → at k.written.all n ≡ all_versions t0 k.history n
+  pub latest : (n : ℕ) → n < record_count t0.scale → (v : List ℕ) → EndsWith (at k.written.all n) v → value_in v ≡ rows t n
 
 -- each version is of its record, which has a cell, and is one that the reader has seen
 pub record IsReadBy (cells : ℕ) (reader : ReaderView) (reads : ReadSetView) : Type 0 where

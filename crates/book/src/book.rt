@@ -42,7 +42,7 @@ impl<K: Run> Model for Book<K> {
     ghost view = { λ b. record { written = b.pen; history = b.history.items } };
 
     ghost invariant = { λ b. let kept : BookView = record { written = b.pen; history = b.history.items } in
-        IsSound K.first K.cells kept (replay K.first b.history.items)
+        IsSound K.first kept (replay K.first b.history.items)
         × IsReady K.first K.cells kept (replay K.first b.history.items)
         × AreNewest b.pen b.newest.items × (initial (arc_value b.population) ≡ K.first)
         × (b.shares.total ≡ length b.history.items)
@@ -65,7 +65,7 @@ impl<K: Run> Book<K> {
     /// its transaction has at its place in the order.
     pub fn history(&self) -> &[Entry]
         ensures history { result.now ≡ self.now.history }
-        ensures sound { IsSound K.first K.cells self.now (replay K.first self.now.history) }
+        ensures sound { IsSound K.first self.now (replay K.first self.now.history) }
     {
         self.history.as_slice()
     }
@@ -83,7 +83,7 @@ impl<K: Run> Book<K> {
     /// the history. `OutOfMemory` is the only refusal.
     pub fn tables(&self) -> Result<Tables, Refusal>
         ensures tables { IfOk result (λ tables. database tables ≡ replay K.first self.now.history) }
-        ensures sound { IfOk result (λ tables. IsSound K.first K.cells self.now (database tables)) }
+        ensures sound { IfOk result (λ tables. IsSound K.first self.now (database tables)) }
         ensures only_memory { IfErr result (λ refusal. refusal ≡ OutOfMemory) }
     {
         let alloc = *self.history.allocator();

@@ -150,7 +150,7 @@ invariant_of-self-2 g c =
     c.push_reserved.ensures.items ∙ (λ i. c.prepare.ensures.history i ++ record { number = next i; tid = c.in-Ok.prepared.tid; terminal = c.share.inside.terminal; input = c.args.work.input; reply = c.args.work.reply; writes = c.in-Ok.ensures.writes i } ∷ []) in
     let led : after (replay g.K.Run.first items) c.args.work.input ≡ replay g.K.Run.first c.push_reserved.new.self.items =
     sym (replay_push g.K.Run.first items (entry_of (length items + 1) c.in-Ok.prepared.tid c.share.inside.terminal c.args.work)) ∙ ap (replay g.K.Run.first) (sym history) in (
-      subst (λ (q : List Entry × Database). IsSound g.K.Run.first g.K.Run.cells (record { written = c.store.new.pen; history = q.0 }) q.1) (λ i. (sym history i, led i)) made.0,
+      subst (λ (q : List Entry × Database). IsSound g.K.Run.first (record { written = c.store.new.pen; history = q.0 }) q.1) (λ i. (sym history i, led i)) made.0,
       subst (λ (q : List Entry × Database). IsReady g.K.Run.first g.K.Run.cells (record { written = c.store.new.pen; history = q.0 }) q.1) (λ i. (sym history i, led i)) made.1,
       subst (AreNewest c.store.new.pen) (sym (given_back c.self.inside.newest.len c.store.new.newest c.self.inside.newest.items c.self.inside.newest.ok.0
           (c.store.ensures.newest.count ∙ ap length cells ∙ sym c.self.invariant.2.count))) c.store.ensures.newest,

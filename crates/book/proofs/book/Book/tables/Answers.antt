@@ -41,6 +41,6 @@ returns-clause-tables g c =
 pub returns-clause-sound : goal.returns-clause-sound
 returns-clause-sound g c =
     IfOk-weaker c.tables_of.result _ _
-    (λ made is. subst (IsSound g.K.Run.first g.K.Run.cells c.args.self.now) (sym is)
-    (subst (λ (q : BookView). IsSound g.K.Run.first g.K.Run.cells q (replay g.K.Run.first q.history)) c.self.view_is c.self.invariant.0))
+    (λ made is. subst (IsSound g.K.Run.first c.args.self.now) (sym is)
+    (subst (λ (q : BookView). IsSound g.K.Run.first q (replay g.K.Run.first q.history)) c.self.view_is c.self.invariant.0))
     (returns-clause-tables g c)

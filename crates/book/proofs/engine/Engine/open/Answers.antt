@@ -23,8 +23,8 @@ invariant_of-book g c =
     let few : t0.scale.commits ≤ MAX_COMMITS = omega (arith, c.commits.ensures.value, c.commits.ensures.limits, ap (λ (s : Sizes). s.commits) (c.scale.ensures ∙ ap (λ (p : Population). (initial p).scale) c.deref.ensures)) in
     let sound = first_sound t0 parts.cells parts.pen parts.newest.items fresh.newest fresh.count fresh.pen population.well_formed population.consistent in
     let ready = first_ready t0 parts.cells parts.pen parts.newest.items fresh.newest fresh.count fresh.pen population.room few in (
-      subst (λ (q : Database × List TableId × List Entry). IsSound q.0 q.1 (record { written = c.args.parts.pen; history = q.2 }) (replay q.0 q.2))
-          (λ i. (c.requires.run.0 i, c.requires.run.1 i, sym fresh.history i)) sound,
+      subst (λ (q : Database × List Entry). IsSound q.0 (record { written = c.args.parts.pen; history = q.1 }) (replay q.0 q.1))
+          (λ i. (c.requires.run.0 i, sym fresh.history i)) sound,
       subst (λ (q : Database × List TableId × List Entry). IsReady q.0 q.1 (record { written = c.args.parts.pen; history = q.2 }) (replay q.0 q.2))
           (λ i. (c.requires.run.0 i, c.requires.run.1 i, sym fresh.history i)) ready,
       first_newest t0 parts.cells parts.pen parts.newest.items fresh.newest fresh.count fresh.pen,
