@@ -20,8 +20,13 @@ use Rattle.tables.specs.declared.order_status.LastOrder.{LastOrder}
 use Rattle.tables.specs.declared.order_status.OrderStatusReply.{OrderStatusReply}
 use Rattle.tables.specs.declared.stock_level.StockLevelReply.{StockLevelReply}
 use Rattle.tables.specs.declared.delivery.DeliveryReply.{DeliveryReply}
+use Rattle.tables.specs.declared.payment.PaymentReply.{PaymentReply}
+use Rattle.tables.specs.declared.reply.Reply.{Reply}
+use Rattle.tables.specs.declared.reply.Reply.TheVariants as reply
+use Rattle.lines.specs.declared.shown.ShownRow.{ShownRow}
+use Rattle.lines.specs.declared.shown.ShownRow.TheVariants as shown
 use Rattle.lines.specs.declared.answer.Answer.{Answer}
-use Rattle.lines.specs.declared.answer.Answer.TheVariants.{Payment, NewOrder, Delivery, OrderStatus, StockLevel, Warehouse, District, Customer, Stock, Order, Refused}
+use Rattle.lines.specs.declared.answer.Answer.TheVariants as answer
 
 -- the item that a refusal names
 abbrev pub refused_item : Refusal → Option ℕ
@@ -35,7 +40,8 @@ item_words None = []
 
 -- the words of a refused line
 abbrev pub refused_words : Refusal → ℕ → List (List ℕ)
-refused_words refusal line = decimal (refusal_number refusal) ∷ codes "line" ∷ decimal line ∷ item_words (refused_item refusal)
+refused_words refusal line =
+    decimal (refusal_number refusal) ∷ codes "line" ∷ decimal line ∷ item_words (refused_item refusal)
 
 -- the words of a row of CUSTOMER
 abbrev pub customer_words : CustomerKey → CustomerRow → List (List ℕ)
@@ -64,11 +70,13 @@ order_row_words (Some row) =
 order_row_words None = codes "none" ∷ []
 
 abbrev pub order_words : OrderKey → Option OrderRow → List (List ℕ)
-order_words key row = codes "order" ∷ decimal key.warehouse ∷ decimal key.district ∷ decimal key.order ∷ order_row_words row
+order_words key row =
+    codes "order" ∷ decimal key.warehouse ∷ decimal key.district ∷ decimal key.order ∷ order_row_words row
 
 -- the word of a line of an order: its item, its supplying warehouse, the stock after it, and its amount
 abbrev pub supplied_word : SuppliedLine → List ℕ
-supplied_word l = join_with_byte 58 (decimal l.item ∷ decimal l.supply_warehouse ∷ decimal l.stock ∷ money_text l.amount ∷ [])
+supplied_word l =
+    join_with_byte 58 (decimal l.item ∷ decimal l.supply_warehouse ∷ decimal l.stock ∷ money_text l.amount ∷ [])
 
 -- those words, each behind a space
 abbrev pub supplied_text : List SuppliedLine → List ℕ
@@ -96,9 +104,12 @@ delivered_text os = flat_map (λ o. 32 ∷ delivered_word o) os
 abbrev pub delivery_words : DeliveryReply → List (List ℕ)
 delivery_words reply = codes "delivery" ∷ decimal reply.warehouse ∷ map delivered_word reply.orders
 
--- the word of a line of a customer's last order: its item, its supplying warehouse, its quantity, its amount, and when it was delivered
+-- the word of a line of a customer's last order: its item, its supplying warehouse, its quantity, its amount, and when
+-- it was delivered
 abbrev pub told_word : OrderLineRow → List ℕ
-told_word l = join_with_byte 58 (decimal l.item ∷ decimal l.supply_warehouse ∷ decimal l.quantity ∷ money_text l.amount ∷ nullable_word l.delivery_date ∷ [])
+told_word l =
+    join_with_byte 58 (decimal l.item ∷ decimal l.supply_warehouse ∷ decimal l.quantity ∷ money_text l.amount
+    ∷ nullable_word l.delivery_date ∷ [])
 
 -- those words, each behind a space
 abbrev pub told_text : List OrderLineRow → List ℕ
@@ -111,7 +122,9 @@ balance_words reply =
     ∷ codes "balance" ∷ money_text reply.balance ∷ codes "order" ∷ []
 
 abbrev pub last_words : OrderStatusReply → LastOrder → List (List ℕ)
-last_words reply o = balance_words reply ++ decimal o.order ∷ codes "date" ∷ decimal o.entry_date ∷ codes "carrier" ∷ nullable_word o.carrier ∷ []
+last_words reply o =
+    balance_words reply
+    ++ decimal o.order ∷ codes "date" ∷ decimal o.entry_date ∷ codes "carrier" ∷ nullable_word o.carrier ∷ []
 
 abbrev pub status_words : OrderStatusReply → Option LastOrder → List (List ℕ)
 status_words reply (Some o) = last_words reply o ++ map told_word o.lines
@@ -123,24 +136,36 @@ level_words reply =
     codes "level" ∷ decimal reply.warehouse ∷ decimal reply.district
     ∷ codes "threshold" ∷ decimal reply.threshold ∷ codes "low" ∷ decimal reply.low ∷ []
 
--- the words of an answer
-abbrev pub answer_words : Answer → List (List ℕ)
-answer_words (Payment reply) =
+-- the words of a Payment's reply
+abbrev pub payment_words : PaymentReply → List (List ℕ)
+payment_words reply =
     codes "payment" ∷ decimal reply.warehouse ∷ decimal reply.district
     ∷ codes "customer" ∷ decimal reply.customer_warehouse ∷ decimal reply.customer_district ∷ decimal reply.customer
     ∷ codes "balance" ∷ money_text reply.balance ∷ []
-answer_words (NewOrder reply) = new_order_words reply
-answer_words (Delivery reply) = delivery_words reply
-answer_words (OrderStatus reply) = status_words reply reply.order
-answer_words (StockLevel reply) = level_words reply
-answer_words (Warehouse warehouse row) = codes "warehouse" ∷ decimal warehouse ∷ codes "ytd" ∷ money_text row.year_to_date ∷ []
-answer_words (District key row) =
+
+-- the words of a reply
+abbrev pub reply_words : Reply → List (List ℕ)
+reply_words (reply.Payment r) = payment_words r
+reply_words (reply.NewOrder r) = new_order_words r
+reply_words (reply.Delivery r) = delivery_words r
+reply_words (reply.OrderStatus r) = status_words r r.order
+reply_words (reply.StockLevel r) = level_words r
+
+-- the words of a row with its key
+abbrev pub row_words : ShownRow → List (List ℕ)
+row_words (shown.Warehouse w row) = codes "warehouse" ∷ decimal w ∷ codes "ytd" ∷ money_text row.year_to_date ∷ []
+row_words (shown.District key row) =
     codes "district" ∷ decimal key.warehouse ∷ decimal key.district
     ∷ codes "ytd" ∷ money_text row.year_to_date ∷ codes "next" ∷ decimal row.next_order ∷ []
-answer_words (Customer key row) = customer_words key row
-answer_words (Stock key row) = stock_words key row
-answer_words (Order key row) = order_words key row
-answer_words (Refused refusal line) = refused_words refusal line
+row_words (shown.Customer key row) = customer_words key row
+row_words (shown.Stock key row) = stock_words key row
+row_words (shown.Order key row) = order_words key row
+
+-- the words of an answer
+abbrev pub answer_words : Answer → List (List ℕ)
+answer_words (answer.Reply r) = reply_words r
+answer_words (answer.Row row) = row_words row
+answer_words (answer.Refused refusal line) = refused_words refusal line
 
 -- an answer, without its line feed
 abbrev pub answer_text : Answer → List ℕ

@@ -1,13 +1,20 @@
 -- Which lines are requests, and which refusal any other line gets.
-use Rattle.std.specs.Prelude.{◌≡◌, ◌⊎◌, ◌<◌, ◌^◌, ⊤, List, [], ◌∷◌, ◌++◌, map, ℕ, Result, Ok, Err, codes}
+use Rattle.std.specs.Prelude.{◌≡◌, ◌≢◌, ◌⊎◌, ◌<◌, ◌^◌, ⊤, List, [], ◌∷◌, ◌++◌, map, ℕ, Result, Ok, Err, codes}
 use Rattle.std.specs.Fmt.{decimal}
 use Rattle.std.specs.List.{All, join_with_byte}
 use Rattle.money.specs.Money.{IsWithinLimit}
 use Rattle.money.specs.declared.refusal.Refusal.{Refusal}
 use Rattle.money.specs.declared.refusal.Refusal.TheVariants.{BadInput, BadLine, OutOfMemory}
+use Rattle.tables.specs.Sizes.{Sizes}
+use Rattle.tables.specs.Keys.{IsWarehouseKey, IsDistrictKey, IsCustomerKey, IsOrderKey, IsStockKey}
+use Rattle.tables.specs.Inputs.{IsInput}
+use Rattle.tables.specs.declared.input.Input.{Input}
+use Rattle.tables.specs.declared.input.Input.TheVariants.{Payment, NewOrder, Delivery, OrderStatus, StockLevel}
 use Rattle.tables.specs.declared.new_order.RequestedLine.{RequestedLine}
 use Rattle.lines.specs.declared.request.Request.{Request}
-use Rattle.lines.specs.declared.request.Request.TheVariants.{Payment, NewOrder, Delivery, OrderStatus, StockLevel, ShowWarehouse, ShowDistrict, ShowCustomer, ShowStock, ShowOrder}
+use Rattle.lines.specs.declared.request.Request.TheVariants.{Transaction, Show}
+use Rattle.lines.specs.declared.request.ShowKey.{ShowKey}
+use Rattle.lines.specs.declared.request.ShowKey.TheVariants.{Warehouse, District, Customer, Stock, Order}
 use Rattle.lines.specs.Amount.{amount_text}
 use Rattle.lines.specs.LastNames.{who_word, HasWho}
 
@@ -15,19 +22,30 @@ use Rattle.lines.specs.LastNames.{who_word, HasWho}
 abbrev pub line_word : RequestedLine → List ℕ
 line_word l = join_with_byte 58 (decimal l.item ∷ decimal l.supply_warehouse ∷ decimal l.quantity ∷ [])
 
+-- the words that ask for a transaction. Its date isn't among them
+abbrev pub input_words : Input → List (List ℕ)
+input_words (Payment x) =
+    codes "payment" ∷ decimal x.warehouse ∷ decimal x.district
+    ∷ decimal x.customer_warehouse ∷ decimal x.customer_district ∷ who_word x.who ∷ amount_text x.amount ∷ []
+input_words (NewOrder x) =
+    codes "neworder" ∷ decimal x.warehouse ∷ decimal x.district ∷ decimal x.customer ∷ map line_word x.lines
+input_words (Delivery x) = codes "delivery" ∷ decimal x.warehouse ∷ decimal x.carrier ∷ []
+input_words (OrderStatus x) = codes "status" ∷ decimal x.warehouse ∷ decimal x.district ∷ who_word x.who ∷ []
+input_words (StockLevel x) =
+    codes "level" ∷ decimal x.warehouse ∷ decimal x.district ∷ decimal x.threshold ∷ []
+
+-- the words behind `show`
+abbrev pub key_words : ShowKey → List (List ℕ)
+key_words (Warehouse w) = codes "warehouse" ∷ decimal w ∷ []
+key_words (District k) = codes "district" ∷ decimal k.warehouse ∷ decimal k.district ∷ []
+key_words (Customer k) = codes "customer" ∷ decimal k.warehouse ∷ decimal k.district ∷ decimal k.customer ∷ []
+key_words (Stock k) = codes "stock" ∷ decimal k.warehouse ∷ decimal k.item ∷ []
+key_words (Order k) = codes "order" ∷ decimal k.warehouse ∷ decimal k.district ∷ decimal k.order ∷ []
+
 -- the words of a request's line
 abbrev pub words_of : Request → List (List ℕ)
-words_of (Payment w d cw cd who z) =
-    codes "payment" ∷ decimal w ∷ decimal d ∷ decimal cw ∷ decimal cd ∷ who_word who ∷ amount_text z ∷ []
-words_of (NewOrder w d c ls) = codes "neworder" ∷ decimal w ∷ decimal d ∷ decimal c ∷ map line_word ls
-words_of (Delivery w c) = codes "delivery" ∷ decimal w ∷ decimal c ∷ []
-words_of (OrderStatus w d who) = codes "status" ∷ decimal w ∷ decimal d ∷ who_word who ∷ []
-words_of (StockLevel w d h) = codes "level" ∷ decimal w ∷ decimal d ∷ decimal h ∷ []
-words_of (ShowWarehouse w) = codes "show" ∷ codes "warehouse" ∷ decimal w ∷ []
-words_of (ShowDistrict w d) = codes "show" ∷ codes "district" ∷ decimal w ∷ decimal d ∷ []
-words_of (ShowCustomer w d c) = codes "show" ∷ codes "customer" ∷ decimal w ∷ decimal d ∷ decimal c ∷ []
-words_of (ShowStock w i) = codes "show" ∷ codes "stock" ∷ decimal w ∷ decimal i ∷ []
-words_of (ShowOrder w d o) = codes "show" ∷ codes "order" ∷ decimal w ∷ decimal d ∷ decimal o ∷ []
+words_of (Transaction x) = input_words x
+words_of (Show key) = codes "show" ∷ key_words key
 
 -- the one line of a request
 abbrev pub request_text : Request → List ℕ
@@ -37,43 +55,78 @@ request_text request = join_with_byte 32 (words_of request)
 abbrev pub HasLineNumbers : RequestedLine → Type 0
 HasLineNumbers l = (l.item < 2 ^ 32) × (l.supply_warehouse < 2 ^ 32) × (l.quantity < 2 ^ 32)
 
--- each number of the request is one of 32 bits, and a last name is one of the 1,000
-abbrev pub HasNumbers : Request → Type 0
-HasNumbers (Payment w d cw cd who z) = (w < 2 ^ 32) × (d < 2 ^ 32) × (cw < 2 ^ 32) × (cd < 2 ^ 32) × HasWho who
-HasNumbers (NewOrder w d c ls) = (w < 2 ^ 32) × (d < 2 ^ 32) × (c < 2 ^ 32) × All HasLineNumbers ls
-HasNumbers (Delivery w c) = (w < 2 ^ 32) × (c < 2 ^ 32)
-HasNumbers (OrderStatus w d who) = (w < 2 ^ 32) × (d < 2 ^ 32) × HasWho who
-HasNumbers (StockLevel w d h) = (w < 2 ^ 32) × (d < 2 ^ 32) × (h < 2 ^ 32)
-HasNumbers (ShowWarehouse w) = w < 2 ^ 32
-HasNumbers (ShowDistrict w d) = (w < 2 ^ 32) × (d < 2 ^ 32)
-HasNumbers (ShowCustomer w d c) = (w < 2 ^ 32) × (d < 2 ^ 32) × (c < 2 ^ 32)
-HasNumbers (ShowStock w i) = (w < 2 ^ 32) × (i < 2 ^ 32)
-HasNumbers (ShowOrder w d o) = (w < 2 ^ 32) × (d < 2 ^ 32) × (o < 2 ^ 32)
+-- the input has this date, each other number is one of 32 bits, and a last name is one of the 1,000
+abbrev pub IsInputAt : ℕ → Input → Type 0
+IsInputAt date (Payment x) =
+    (x.date ≡ date) × (x.warehouse < 2 ^ 32) × (x.district < 2 ^ 32)
+    × (x.customer_warehouse < 2 ^ 32) × (x.customer_district < 2 ^ 32) × HasWho x.who
+IsInputAt date (NewOrder x) =
+    (x.date ≡ date) × (x.warehouse < 2 ^ 32) × (x.district < 2 ^ 32) × (x.customer < 2 ^ 32)
+    × All HasLineNumbers x.lines
+IsInputAt date (Delivery x) = (x.date ≡ date) × (x.warehouse < 2 ^ 32) × (x.carrier < 2 ^ 32)
+IsInputAt date (OrderStatus x) =
+    (x.date ≡ date) × (x.warehouse < 2 ^ 32) × (x.district < 2 ^ 32) × HasWho x.who
+IsInputAt date (StockLevel x) =
+    (x.date ≡ date) × (x.warehouse < 2 ^ 32) × (x.district < 2 ^ 32) × (x.threshold < 2 ^ 32)
+
+-- each number of a key is one of 32 bits
+abbrev pub HasKeyNumbers : ShowKey → Type 0
+HasKeyNumbers (Warehouse w) = w < 2 ^ 32
+HasKeyNumbers (District k) = (k.warehouse < 2 ^ 32) × (k.district < 2 ^ 32)
+HasKeyNumbers (Customer k) = (k.warehouse < 2 ^ 32) × (k.district < 2 ^ 32) × (k.customer < 2 ^ 32)
+HasKeyNumbers (Stock k) = (k.warehouse < 2 ^ 32) × (k.item < 2 ^ 32)
+HasKeyNumbers (Order k) = (k.warehouse < 2 ^ 32) × (k.district < 2 ^ 32) × (k.order < 2 ^ 32)
+
+-- a request that a line of this date can ask
+abbrev pub IsRequestAt : ℕ → Request → Type 0
+IsRequestAt date (Transaction x) = IsInputAt date x
+IsRequestAt date (Show key) = HasKeyNumbers key
 
 -- the request's amount, if it has one, is within the limit
 abbrev pub IsWithinReach : Request → Type 0
-IsWithinReach (Payment w d cw cd who z) = IsWithinLimit z
+IsWithinReach (Transaction (Payment x)) = IsWithinLimit x.amount
 IsWithinReach _ = ⊤
 
--- what asks these requests gets this refusal: `BadInput` where one has its amount beyond the limit, `BadLine` where there is none
-abbrev pub IsRefusalOf : (Request → Type 0) → Refusal → Type 0
-IsRefusalOf IsAsked BadInput = (request : Request) × HasNumbers request × IsAsked request × ¬ IsWithinReach request
-IsRefusalOf IsAsked BadLine = (request : Request) → HasNumbers request → ¬ IsAsked request
-IsRefusalOf IsAsked _ = ⊥
+-- what asks these requests gets this refusal: `BadInput` where one has its amount beyond the limit, `BadLine` where
+-- there is none
+abbrev pub IsRefusalOf : ℕ → (Request → Type 0) → Refusal → Type 0
+IsRefusalOf date IsAsked BadInput =
+    (request : Request) × IsRequestAt date request × IsAsked request × ¬ IsWithinReach request
+IsRefusalOf date IsAsked BadLine = (request : Request) → IsRequestAt date request → ¬ IsAsked request
+IsRefusalOf date IsAsked _ = ⊥
 
--- a line gets this refusal
-abbrev pub IsRefused : List ℕ → Refusal → Type 0
-IsRefused line = IsRefusalOf (λ request. line ≡ request_text request)
+-- a line of this date gets this refusal
+abbrev pub IsRefused : ℕ → List ℕ → Refusal → Type 0
+IsRefused date line = IsRefusalOf date (λ request. line ≡ request_text request)
+
+-- the keys of rows that a scale has
+abbrev pub IsShown : Sizes → ShowKey → Type 0
+IsShown s (Warehouse w) = IsWarehouseKey s w
+IsShown s (District k) = IsDistrictKey s k
+IsShown s (Customer k) = IsCustomerKey s k
+IsShown s (Stock k) = IsStockKey s k
+IsShown s (Order k) = IsOrderKey s k
+
+-- each number of the request is within its range at this scale
+abbrev pub IsInRange : Sizes → Request → Type 0
+IsInRange s (Transaction x) = IsInput s x
+IsInRange s (Show key) = IsShown s key
 
 -- the line begins as a New-Order's
 abbrev pub BeginsNewOrder : List ℕ → Type 0
 BeginsNewOrder line = (behind : List ℕ) × (line ≡ codes "neworder " ++ behind)
 
--- the words of a line get this answer
-abbrev pub Answers : List (List ℕ) → Result Request Refusal → Type 0
-Answers ws (Ok request) = (ws ≡ words_of request) × HasNumbers request × IsWithinReach request
-Answers ws (Err refusal) = IsRefusalOf (λ request. ws ≡ words_of request) refusal
+-- the words of a line of this date get this answer
+abbrev pub Answers : ℕ → List (List ℕ) → Result Request Refusal → Type 0
+Answers date ws (Ok request) = (ws ≡ words_of request) × IsRequestAt date request × IsWithinReach request
+Answers date ws (Err refusal) = IsRefusalOf date (λ request. ws ≡ words_of request) refusal
 
 -- the same, or there is no memory for it
-abbrev pub AnswersOrNoMemory : List (List ℕ) → Result Request Refusal → Type 0
-AnswersOrNoMemory ws answer = (answer ≡ Err OutOfMemory) ⊎ Answers ws answer
+abbrev pub AnswersOrNoMemory : ℕ → List (List ℕ) → Result Request Refusal → Type 0
+AnswersOrNoMemory date ws answer = (answer ≡ Err OutOfMemory) ⊎ Answers date ws answer
+
+-- the words behind `show` get this answer
+abbrev pub AnswersKey : List (List ℕ) → Result ShowKey Refusal → Type 0
+AnswersKey ws (Ok key) = (ws ≡ key_words key) × HasKeyNumbers key
+AnswersKey ws (Err refusal) =
+    (refusal ≡ BadLine) × ((key : ShowKey) → HasKeyNumbers key → ws ≢ key_words key)

@@ -4,7 +4,8 @@ use crate::shown::Nullable;
 use std::fmt::{self, Display};
 use tables::{DeliveredOrder, DeliveryReply};
 
-/// A Delivery's reply.
+/// A Delivery's reply (TPC-C 2.7.3), as `delivery 1 1:8 2:-`: each district of the warehouse with the order that was
+/// delivered there, or with `-` where none waited.
 #[derive(Clone, Copy)]
 pub(crate) struct DeliveryAnswer<'a> {
     pub(crate) reply: &'a DeliveryReply,

@@ -3,7 +3,8 @@
 use std::fmt::{self, Display};
 use tables::{NewOrderReply, SuppliedLine};
 
-/// A New-Order's reply.
+/// A New-Order's reply (TPC-C 2.4.3.3), as `neworder 1 1 11 customer 3 lines 50.00 total 51.75 1:1:40:10.00
+/// 2:1:40:40.00`: each line with its item, its supplying warehouse, the stock after it and its amount.
 #[derive(Clone, Copy)]
 pub(crate) struct OrderAnswer<'a> {
     pub(crate) reply: &'a NewOrderReply,

@@ -4,7 +4,9 @@ use crate::shown::Nullable;
 use std::fmt::{self, Display};
 use tables::{LastOrder, OrderLine, OrderStatusReply, StockLevelReply};
 
-/// An Order-Status's reply.
+/// An Order-Status's reply (TPC-C 2.6.3.3), as `status 1 1 3 balance -10.00 order 11 date 1 carrier -
+/// 1:1:10:10.00:-`: each line of the customer's last order with its item, its supplying warehouse, its quantity, its
+/// amount and its delivery date; or `status 1 1 3 balance -10.00 order none`.
 #[derive(Clone, Copy)]
 pub(crate) struct StatusAnswer<'a> {
     pub(crate) reply: &'a OrderStatusReply,
@@ -110,7 +112,7 @@ impl Display for ToldLines<'_> {
     }
 }
 
-/// A Stock-Level's reply.
+/// A Stock-Level's reply (TPC-C 2.8.3.3), as `level 1 1 threshold 20 low 2`.
 #[derive(Clone, Copy)]
 pub(crate) struct LevelAnswer {
     pub(crate) reply: StockLevelReply,

@@ -1,48 +1,81 @@
 //! How a line is read as a request.
-ghost use Rattle.std.specs.Prelude.{◌≡◌, ◌⊎◌, ◌∷◌, codes, Err, IfOk, IfErr};
+ghost use Rattle.std.specs.Prelude.{◌≡◌, ◌⊎◌, ◌∷◌, ℕ, codes, Err, IfOk, IfErr, MatchResult};
+ghost use Rattle.tables.specs.Inputs.{IsInput};
 ghost use Rattle.lines.specs.declared.request.Request.{Request};
 ghost use Rattle.lines.specs.Words.{words};
-ghost use Rattle.lines.specs.Requests.{Answers, BeginsNewOrder, AnswersOrNoMemory, HasNumbers, request_text, IsWithinReach, IsRefused};
+ghost use Rattle.lines.specs.Requests.{request_text, IsRequestAt, IsWithinReach, IsRefused, IsInRange};
+ghost use Rattle.lines.specs.Requests.{Answers, AnswersOrNoMemory, AnswersKey, BeginsNewOrder};
 
-use crate::Request;
 use crate::amount::read_amount;
 use crate::last_names::{last_who, take_who};
 use crate::order_words::read_order;
 use crate::words::{last_number, take_number, take_word};
+use crate::{Request, ShowKey};
 use money::Refusal;
 use std::alloc::Global;
+use tables::{
+    CustomerKey, DeliveryInput, DistrictKey, Input, NewOrderInput, OrderKey, OrderStatusInput,
+    PaymentInput, Scale, StockKey, StockLevelInput,
+};
 
-/// The request that a line, without its line feed, asks: `BadInput` for a payment of an amount further than
-/// 10,000,000,000,000 cents from zero, `BadLine` for a line that is no request's, and `OutOfMemory` where there is
-/// none left for an order's lines, which alone take memory. The caller tests the other ranges. Costs a pass over
-/// the line.
-pub fn read_request(alloc: Global, line: &[u8]) -> Result<Request, Refusal>
+/// The request that a line, without its line feed, asks, with this date if it is a transaction: `BadInput` for a
+/// payment of an amount further than 10,000,000,000,000 cents from zero, `BadLine` for a line that is no request's, and
+/// `OutOfMemory` where there is none left for an order's lines, which alone take memory. [`in_range`] tests the other
+/// ranges. Costs a pass over the line.
+pub fn read_request(alloc: Global, line: &[u8], date: u32) -> Result<Request, Refusal>
     ensures request { IfOk result (λ request. line.now ≡ request_text request) }
-    ensures numbers { IfOk result HasNumbers }
+    ensures numbers { IfOk result (IsRequestAt date) }
     ensures reach { IfOk result IsWithinReach }
-    ensures refusal { IfErr result (λ refusal. (refusal ≡ Refusal.OutOfMemory) ⊎ IsRefused line.now refusal) }
+    ensures refusal { IfErr result (λ refusal. (refusal ≡ Refusal.OutOfMemory) ⊎ IsRefused date line.now refusal) }
     ensures memory { result ≡ Err Refusal.OutOfMemory → BeginsNewOrder line.now }
 {
     let (verb, rest) = take_word(line)?;
     match verb {
-        b"payment" => read_payment(rest),
-        b"neworder" => read_new_order(alloc, rest),
-        b"delivery" => read_delivery(rest),
-        b"status" => read_status(rest),
-        b"level" => read_level(rest),
-        b"show" => read_show(rest),
+        b"payment" => read_payment(rest, date),
+        b"neworder" => read_new_order(alloc, rest, date),
+        b"delivery" => read_delivery(rest, date),
+        b"status" => read_status(rest, date),
+        b"level" => read_level(rest, date),
+        b"show" => Ok(Request::Show(read_show(rest)?)),
         _ => Err(Refusal::BadLine),
     }
 }
 
-/// No two requests have the same line, so the request that is read from a line is the one that asks it.
+/// No two requests of one date have the same line, so the request that is read from a line is the one that asks it.
 pub fn one_line_one_request()
-    ensures { (a b : Request) → HasNumbers a → HasNumbers b → request_text a ≡ request_text b
+    ensures { (date : ℕ) (a b : Request) → IsRequestAt date a → IsRequestAt date b → request_text a ≡ request_text b
         → a ≡ b }
 {}
 
-fn read_payment(text: &[u8]) -> Result<Request, Refusal>
-    ensures { Answers (codes "payment" ∷ words text.now) result }
+/// A request, or `BadInput` exactly where one of its numbers is outside its range at this scale. Costs a look at each
+/// line of an order.
+pub fn in_range(scale: &Scale, request: Request) -> Result<Request, Refusal>
+    ensures ranges { MatchResult result (λ same. (same ≡ request) × IsInRange scale.now request)
+        (λ refusal. (refusal ≡ Refusal.BadInput) × ¬ IsInRange scale.now request) }
+{
+    match request {
+        Request::Transaction(input) => Ok(Request::Transaction(input_in_range(scale, input)?)),
+        Request::Show(key) if key.is_in_range(scale) => Ok(Request::Show(key)),
+        Request::Show(_) => Err(Refusal::BadInput),
+    }
+}
+
+fn input_in_range(scale: &Scale, input: Input) -> Result<Input, Refusal>
+    ensures { MatchResult result (λ same. (same ≡ input) × IsInput scale.now input)
+        (λ refusal. (refusal ≡ Refusal.BadInput) × ¬ IsInput scale.now input) }
+{
+    match input {
+        Input::Payment(payment) => Input::payment(scale, payment),
+        Input::NewOrder(new_order) => Input::new_order(scale, new_order),
+        Input::Delivery(delivery) => Input::delivery(scale, delivery),
+        Input::OrderStatus(query) => Input::order_status(scale, query),
+        Input::StockLevel(query) => Input::stock_level(scale, query),
+    }
+}
+
+/// A Payment (TPC-C 2.5): `payment W D CW CD WHO AMOUNT`.
+fn read_payment(text: &[u8], date: u32) -> Result<Request, Refusal>
+    ensures { Answers date (codes "payment" ∷ words text.now) result }
 {
     let (warehouse, rest) = take_number(text)?;
     let (district, rest) = take_number(rest)?;
@@ -50,66 +83,79 @@ fn read_payment(text: &[u8]) -> Result<Request, Refusal>
     let (customer_district, rest) = take_number(rest)?;
     let (who, rest) = take_who(rest)?;
     let amount = read_amount(rest)?;
-    Ok(Request::Payment {
+    Ok(Request::Transaction(Input::Payment(PaymentInput {
+        date,
         warehouse,
         district,
         customer_warehouse,
         customer_district,
         who,
         amount,
-    })
+    })))
 }
 
-fn read_new_order(alloc: Global, text: &[u8]) -> Result<Request, Refusal>
-    ensures { AnswersOrNoMemory (codes "neworder" ∷ words text.now) result }
+/// A New-Order (TPC-C 2.4): `neworder W D C LINE LINE ..`, each LINE `ITEM:SUPPLY:QUANTITY`, in any number.
+fn read_new_order(alloc: Global, text: &[u8], date: u32) -> Result<Request, Refusal>
+    ensures { AnswersOrNoMemory date (codes "neworder" ∷ words text.now) result }
 {
     let (warehouse, rest) = take_number(text)?;
     let (district, rest) = take_number(rest)?;
     let (customer, lines) = read_order(alloc, rest)?;
-    Ok(Request::NewOrder {
+    Ok(Request::Transaction(Input::NewOrder(NewOrderInput {
+        date,
         warehouse,
         district,
         customer,
         lines,
-    })
+    })))
 }
 
-fn read_delivery(text: &[u8]) -> Result<Request, Refusal>
-    ensures { Answers (codes "delivery" ∷ words text.now) result }
+/// A Delivery (TPC-C 2.7): `delivery W CARRIER`.
+fn read_delivery(text: &[u8], date: u32) -> Result<Request, Refusal>
+    ensures { Answers date (codes "delivery" ∷ words text.now) result }
 {
     let (warehouse, rest) = take_number(text)?;
     let carrier = last_number(rest)?;
-    Ok(Request::Delivery { warehouse, carrier })
+    Ok(Request::Transaction(Input::Delivery(DeliveryInput {
+        date,
+        warehouse,
+        carrier,
+    })))
 }
 
-fn read_status(text: &[u8]) -> Result<Request, Refusal>
-    ensures { Answers (codes "status" ∷ words text.now) result }
+/// An Order-Status (TPC-C 2.6): `status W D WHO`.
+fn read_status(text: &[u8], date: u32) -> Result<Request, Refusal>
+    ensures { Answers date (codes "status" ∷ words text.now) result }
 {
     let (warehouse, rest) = take_number(text)?;
     let (district, rest) = take_number(rest)?;
     let who = last_who(rest)?;
-    Ok(Request::OrderStatus {
+    Ok(Request::Transaction(Input::OrderStatus(OrderStatusInput {
+        date,
         warehouse,
         district,
         who,
-    })
+    })))
 }
 
-fn read_level(text: &[u8]) -> Result<Request, Refusal>
-    ensures { Answers (codes "level" ∷ words text.now) result }
+/// A Stock-Level (TPC-C 2.8): `level W D THRESHOLD`.
+fn read_level(text: &[u8], date: u32) -> Result<Request, Refusal>
+    ensures { Answers date (codes "level" ∷ words text.now) result }
 {
     let (warehouse, rest) = take_number(text)?;
     let (district, rest) = take_number(rest)?;
     let threshold = last_number(rest)?;
-    Ok(Request::StockLevel {
+    Ok(Request::Transaction(Input::StockLevel(StockLevelInput {
+        date,
         warehouse,
         district,
         threshold,
-    })
+    })))
 }
 
-fn read_show(text: &[u8]) -> Result<Request, Refusal>
-    ensures { Answers (codes "show" ∷ words text.now) result }
+/// The key of a row, behind `show`.
+fn read_show(text: &[u8]) -> Result<ShowKey, Refusal>
+    ensures { AnswersKey (words text.now) result }
 {
     let (table, key) = take_word(text)?;
     match table {
@@ -122,54 +168,54 @@ fn read_show(text: &[u8]) -> Result<Request, Refusal>
     }
 }
 
-fn show_warehouse(key: &[u8]) -> Result<Request, Refusal>
-    ensures { Answers (codes "show" ∷ codes "warehouse" ∷ words key.now) result }
+fn show_warehouse(key: &[u8]) -> Result<ShowKey, Refusal>
+    ensures { AnswersKey (codes "warehouse" ∷ words key.now) result }
 {
     let warehouse = last_number(key)?;
-    Ok(Request::ShowWarehouse { warehouse })
+    Ok(ShowKey::Warehouse(warehouse))
 }
 
-fn show_district(key: &[u8]) -> Result<Request, Refusal>
-    ensures { Answers (codes "show" ∷ codes "district" ∷ words key.now) result }
+fn show_district(key: &[u8]) -> Result<ShowKey, Refusal>
+    ensures { AnswersKey (codes "district" ∷ words key.now) result }
 {
     let (warehouse, key) = take_number(key)?;
     let district = last_number(key)?;
-    Ok(Request::ShowDistrict {
+    Ok(ShowKey::District(DistrictKey {
         warehouse,
         district,
-    })
+    }))
 }
 
-fn show_customer(key: &[u8]) -> Result<Request, Refusal>
-    ensures { Answers (codes "show" ∷ codes "customer" ∷ words key.now) result }
+fn show_customer(key: &[u8]) -> Result<ShowKey, Refusal>
+    ensures { AnswersKey (codes "customer" ∷ words key.now) result }
 {
     let (warehouse, key) = take_number(key)?;
     let (district, key) = take_number(key)?;
     let customer = last_number(key)?;
-    Ok(Request::ShowCustomer {
+    Ok(ShowKey::Customer(CustomerKey {
         warehouse,
         district,
         customer,
-    })
+    }))
 }
 
-fn show_stock(key: &[u8]) -> Result<Request, Refusal>
-    ensures { Answers (codes "show" ∷ codes "stock" ∷ words key.now) result }
+fn show_stock(key: &[u8]) -> Result<ShowKey, Refusal>
+    ensures { AnswersKey (codes "stock" ∷ words key.now) result }
 {
     let (warehouse, key) = take_number(key)?;
     let item = last_number(key)?;
-    Ok(Request::ShowStock { warehouse, item })
+    Ok(ShowKey::Stock(StockKey { warehouse, item }))
 }
 
-fn show_order(key: &[u8]) -> Result<Request, Refusal>
-    ensures { Answers (codes "show" ∷ codes "order" ∷ words key.now) result }
+fn show_order(key: &[u8]) -> Result<ShowKey, Refusal>
+    ensures { AnswersKey (codes "order" ∷ words key.now) result }
 {
     let (warehouse, key) = take_number(key)?;
     let (district, key) = take_number(key)?;
     let order = last_number(key)?;
-    Ok(Request::ShowOrder {
+    Ok(ShowKey::Order(OrderKey {
         warehouse,
         district,
         order,
-    })
+    }))
 }

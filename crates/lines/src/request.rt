@@ -1,70 +1,61 @@
 //! What a line of a script asks.
 
-use money::Cents;
-use tables::{Lines, RequestedLine, Who};
+use tables::{CustomerKey, DistrictKey, Input, OrderKey, Scale, StockKey, is_between};
 
 /// What a line of a script asks. Its words are parted by one space each, its numbers are written without a
 /// leading zero, and its amount with two digits behind a point. WHO is the number of a customer, or a last name in
 /// capital letters (TPC-C 4.3.2.3), such as `BAROUGHTESE` for 15.
 #[derive(Debug, Drop, PartialEq)]
 pub enum Request {
-    /// A Payment (TPC-C 2.5): `payment W D CW CD WHO AMOUNT`.
-    Payment {
-        warehouse: u32,
-        district: u32,
-        customer_warehouse: u32,
-        customer_district: u32,
-        who: Who,
-        amount: Cents,
-    },
-    /// A New-Order (TPC-C 2.4): `neworder W D C LINE LINE ..`, each LINE `ITEM:SUPPLY:QUANTITY`, in any number.
-    NewOrder {
-        warehouse: u32,
-        district: u32,
-        customer: u32,
-        lines: Lines<RequestedLine>,
-    },
-    /// A Delivery (TPC-C 2.7): `delivery W CARRIER`.
-    Delivery {
-        warehouse: u32,
-        carrier: u32,
-    },
-    /// An Order-Status (TPC-C 2.6): `status W D WHO`.
-    OrderStatus {
-        warehouse: u32,
-        district: u32,
-        who: Who,
-    },
-    /// A Stock-Level (TPC-C 2.8): `level W D THRESHOLD`.
-    StockLevel {
-        warehouse: u32,
-        district: u32,
-        threshold: u32,
-    },
+    /// A transaction, whose date is the number of the line.
+    Transaction(Input),
+    /// A row.
+    Show(ShowKey),
+}
+
+/// The key of a row that can be shown.
+#[derive(Clone, Copy, Debug, PartialEq, Eq)]
+pub enum ShowKey {
     /// A row of WAREHOUSE: `show warehouse W`.
-    ShowWarehouse {
-        warehouse: u32,
-    },
+    Warehouse(u32),
     /// A row of DISTRICT: `show district W D`.
-    ShowDistrict {
-        warehouse: u32,
-        district: u32,
-    },
+    District(DistrictKey),
     /// A row of CUSTOMER: `show customer W D C`.
-    ShowCustomer {
-        warehouse: u32,
-        district: u32,
-        customer: u32,
-    },
+    Customer(CustomerKey),
     /// A row of STOCK: `show stock W I`.
-    ShowStock {
-        warehouse: u32,
-        item: u32,
-    },
+    Stock(StockKey),
     /// A row of ORDER: `show order W D O`.
-    ShowOrder {
-        warehouse: u32,
-        district: u32,
-        order: u32,
-    },
+    Order(OrderKey),
+}
+
+impl ShowKey {
+    ghost use Rattle.std.specs.Prelude.{◌↔◌, IsTrue};
+    ghost use Rattle.lines.specs.Requests.{IsShown};
+
+    /// Whether the key is one of the scale.
+    pub(crate) fn is_in_range(&self, scale: &Scale) -> bool
+        ensures { IsTrue result ↔ IsShown scale.now self.now }
+    {
+        match self {
+            ShowKey::Warehouse(warehouse) => is_between(1, scale.warehouses(), *warehouse),
+            ShowKey::District(key) => {
+                is_between(1, scale.warehouses(), key.warehouse)
+                    && is_between(1, scale.districts(), key.district)
+            }
+            ShowKey::Customer(key) => {
+                is_between(1, scale.warehouses(), key.warehouse)
+                    && is_between(1, scale.districts(), key.district)
+                    && is_between(1, scale.customers(), key.customer)
+            }
+            ShowKey::Stock(key) => {
+                is_between(1, scale.warehouses(), key.warehouse)
+                    && is_between(1, scale.items(), key.item)
+            }
+            ShowKey::Order(key) => {
+                is_between(1, scale.warehouses(), key.warehouse)
+                    && is_between(1, scale.districts(), key.district)
+                    && is_between(1, scale.orders(), key.order)
+            }
+        }
+    }
 }

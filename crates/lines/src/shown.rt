@@ -2,13 +2,56 @@
 ghost use Rattle.std.specs.Prelude.{◌≡◌, codes};
 
 use std::fmt::{self, Display};
-use tables::{Customer, CustomerKey, Order, OrderKey, Stock, StockKey};
+use tables::{
+    Customer, CustomerKey, District, DistrictKey, Order, OrderKey, Stock, StockKey, Warehouse,
+};
+
+/// A row with its key, as it is shown.
+#[derive(Clone, Copy, Debug, PartialEq, Eq)]
+pub enum ShownRow {
+    /// A row of WAREHOUSE, as `warehouse 1 ytd 212.34`.
+    Warehouse { warehouse: u32, row: Warehouse },
+    /// A row of DISTRICT, as `district 1 1 ytd 112.34 next 11`.
+    District { key: DistrictKey, row: District },
+    /// A row of CUSTOMER, as `customer 1 1 3 balance -22.34 paid 22.34 payments 2 deliveries 0`.
+    Customer { key: CustomerKey, row: Customer },
+    /// A row of STOCK, as `stock 1 2 quantity 100 ytd 41 orders 5 remote 0`.
+    Stock { key: StockKey, row: Stock },
+    /// A row of ORDER, as `order 1 1 7 customer 7 carrier 1 lines 5 local 1`, with `-` for the carrier of an order that
+    /// isn't delivered; or that there is no such order, as `order 1 1 12 none`.
+    Order { key: OrderKey, row: Option<Order> },
+}
+
+impl Display for ShownRow {
+    ghost use Rattle.std.specs.Prelude.{Some};
+    ghost use Rattle.std.specs.List.{join_with_byte};
+    ghost use Rattle.lines.specs.Output.{row_words};
+
+    ghost output = { λ shown. Some (join_with_byte 32 (row_words shown)) };
+
+    fn fmt<W: fmt::Write>(&self, f: &mut fmt::Formatter<W>) -> fmt::Result {
+        match *self {
+            ShownRow::Warehouse { warehouse, row } => {
+                let year_to_date = row.year_to_date;
+                write!(f, "warehouse {warehouse} ytd {year_to_date}")
+            }
+            ShownRow::District { key, row } => write!(
+                f,
+                "district {} {} ytd {} next {}",
+                key.warehouse, key.district, row.year_to_date, row.next_order
+            ),
+            ShownRow::Customer { key, row } => CustomerLine { key, row }.fmt(f),
+            ShownRow::Stock { key, row } => StockLine { key, row }.fmt(f),
+            ShownRow::Order { key, row } => OrderLine { key, row }.fmt(f),
+        }
+    }
+}
 
 /// A row of CUSTOMER.
 #[derive(Clone, Copy)]
-pub(crate) struct CustomerLine {
-    pub(crate) key: CustomerKey,
-    pub(crate) row: Customer,
+struct CustomerLine {
+    key: CustomerKey,
+    row: Customer,
 }
 
 impl Display for CustomerLine {
@@ -36,9 +79,9 @@ impl Display for CustomerLine {
 
 /// A row of STOCK.
 #[derive(Clone, Copy)]
-pub(crate) struct StockLine {
-    pub(crate) key: StockKey,
-    pub(crate) row: Stock,
+struct StockLine {
+    key: StockKey,
+    row: Stock,
 }
 
 impl Display for StockLine {
@@ -60,9 +103,9 @@ impl Display for StockLine {
 
 /// A row of ORDER, or that there is none.
 #[derive(Clone, Copy)]
-pub(crate) struct OrderLine {
-    pub(crate) key: OrderKey,
-    pub(crate) row: Option<Order>,
+struct OrderLine {
+    key: OrderKey,
+    row: Option<Order>,
 }
 
 impl Display for OrderLine {

@@ -1,55 +1,67 @@
 ghost use Rattle.std.specs.Prelude.{◌<◌};
 
 use conditions::Report;
-use lines::{Answer, LineBuffer, Request, print_report, read_request};
+use lines::{Answer, LineBuffer, Request, ShowKey, ShownRow, print_report, read_request};
 use money::{Cents, Rate, Refusal};
 use std::alloc::Global;
 use std::process::Abort;
 use std::test::Fail;
 use tables::{
-    Credit, Customer, CustomerKey, DeliveredOrder, DeliveryReply, District, DistrictKey, LineKey,
-    Lines, NewOrderReply, OrderKey, PaymentReply, RequestedLine, SuppliedLine, Warehouse, Who,
+    Credit, Customer, CustomerKey, DeliveredOrder, DeliveryInput, DeliveryReply, District,
+    DistrictKey, Input, LineKey, Lines, NewOrderInput, NewOrderReply, OrderKey, PaymentInput,
+    PaymentReply, Reply, RequestedLine, StockKey, SuppliedLine, Warehouse, Who,
 };
+
+/// The date of the requests here.
+const DATE: u32 = 7;
 
 #[test]
 fn requests_are_read(rt: HostRuntime) {
-    let payment = Request::Payment {
+    let payment = Request::Transaction(Input::Payment(PaymentInput {
+        date: DATE,
         warehouse: 1,
         district: 1,
         customer_warehouse: 1,
         customer_district: 1,
         who: Who::Id(3),
         amount: Cents::new(1234),
-    };
+    }));
     let alloc = rt.alloc();
     assert_eq!(rt;
-        read_request(alloc, b"payment 1 1 1 1 3 12.34"),
+        read_request(alloc, b"payment 1 1 1 1 3 12.34", DATE),
         Ok(payment)
     );
-    let warehouse = Request::ShowWarehouse { warehouse: 1 };
-    assert_eq!(rt; read_request(alloc, b"show warehouse 1"), Ok(warehouse));
-    let district = Request::ShowDistrict {
+    assert_shows(&rt, b"show warehouse 1", ShowKey::Warehouse(1));
+    let district = DistrictKey {
         warehouse: 1,
         district: 1,
     };
-    assert_eq!(rt; read_request(alloc, b"show district 1 1"), Ok(district));
-    let customer = Request::ShowCustomer {
+    assert_shows(&rt, b"show district 1 1", ShowKey::District(district));
+    let customer = CustomerKey {
         warehouse: 1,
         district: 1,
         customer: 3,
     };
-    assert_eq!(rt; read_request(alloc, b"show customer 1 1 3"), Ok(customer));
-    let stock = Request::ShowStock {
+    assert_shows(&rt, b"show customer 1 1 3", ShowKey::Customer(customer));
+    let stock = StockKey {
         warehouse: 1,
         item: 4294967295,
     };
-    assert_eq!(rt; read_request(alloc, b"show stock 1 4294967295"), Ok(stock));
-    let order = Request::ShowOrder {
+    assert_shows(&rt, b"show stock 1 4294967295", ShowKey::Stock(stock));
+    let order = OrderKey {
         warehouse: 1,
         district: 2,
         order: 0,
     };
-    assert_eq!(rt; read_request(alloc, b"show order 1 2 0"), Ok(order));
+    assert_shows(&rt, b"show order 1 2 0", ShowKey::Order(order));
+}
+
+/// Tests that a line asks for the row at a key.
+fn assert_shows(rt: &(impl Abort + AllocGlobal), line: &[u8], key: ShowKey) {
+    assert_eq!(rt;
+        read_request(rt.alloc(), line, DATE),
+        Ok(Request::Show(key))
+    );
 }
 
 fn requested(item: u32, supply_warehouse: u32, quantity: u32) -> RequestedLine {
@@ -63,21 +75,25 @@ fn requested(item: u32, supply_warehouse: u32, quantity: u32) -> RequestedLine {
 /// An order of customer 3 of the first district.
 fn order_of(alloc: Global, lines: &[RequestedLine]) -> Result<Request, Fail> {
     let lines = Vec::from_slice(alloc, lines)?;
-    Ok(Request::NewOrder {
+    Ok(Request::Transaction(Input::NewOrder(NewOrderInput {
+        date: DATE,
         warehouse: 1,
         district: 1,
         customer: 3,
         lines: Lines::new(lines),
-    })
+    })))
 }
 
 #[test]
 fn orders_are_read(rt: HostRuntime) -> Result<(), Fail> {
     let alloc = rt.alloc();
     let none = order_of(alloc, &[])?;
-    assert_eq!(rt; read_request(alloc, b"neworder 1 1 3"), Ok(none));
+    assert_eq!(rt; read_request(alloc, b"neworder 1 1 3", DATE), Ok(none));
     let one = order_of(alloc, &[requested(21, 2, 10)])?;
-    assert_eq!(rt; read_request(alloc, b"neworder 1 1 3 21:2:10"), Ok(one));
+    assert_eq!(rt;
+        read_request(alloc, b"neworder 1 1 3 21:2:10", DATE),
+        Ok(one)
+    );
     let (zero, largest) = (
         requested(0, 0, 0),
         requested(4294967295, 4294967295, 4294967295),
@@ -85,7 +101,7 @@ fn orders_are_read(rt: HostRuntime) -> Result<(), Fail> {
     let three = order_of(alloc, &[largest, zero, largest])?;
     let line =
         b"neworder 1 1 3 4294967295:4294967295:4294967295 0:0:0 4294967295:4294967295:4294967295";
-    assert_eq!(rt; read_request(alloc, line), Ok(three));
+    assert_eq!(rt; read_request(alloc, line, DATE), Ok(three));
     Ok(())
 }
 
@@ -98,24 +114,25 @@ fn an_order_of_sixteen_lines_is_read(rt: HostRuntime) -> Result<(), Fail> {
         line.push_str(" 7:1:2")?;
     }
     let sixteen = order_of(alloc, &[requested(7, 1, 2); 16])?;
-    assert_eq!(rt; read_request(alloc, line.as_bytes()), Ok(sixteen));
+    assert_eq!(rt; read_request(alloc, line.as_bytes(), DATE), Ok(sixteen));
     Ok(())
 }
 
 #[test]
 fn a_delivery_is_read(rt: HostRuntime) {
-    let delivery = Request::Delivery {
+    let delivery = Request::Transaction(Input::Delivery(DeliveryInput {
+        date: DATE,
         warehouse: 1,
         carrier: 4294967295,
-    };
+    }));
     assert_eq!(rt;
-        read_request(rt.alloc(), b"delivery 1 4294967295"),
+        read_request(rt.alloc(), b"delivery 1 4294967295", DATE),
         Ok(delivery)
     );
 }
 
 fn is_bad_line(alloc: Global, line: &[u8]) -> bool {
-    read_request(alloc, line) == Err(Refusal::BadLine)
+    read_request(alloc, line, DATE) == Err(Refusal::BadLine)
 }
 
 #[test]
@@ -192,7 +209,10 @@ fn other_deliveries_are_bad(rt: HostRuntime) {
 #[test]
 fn amounts_beyond_the_limit_are_bad_input(rt: HostRuntime) {
     let line = b"payment 1 1 1 1 3 99999999999999999999.00";
-    assert_eq!(rt; read_request(rt.alloc(), line), Err(Refusal::BadInput));
+    assert_eq!(rt;
+        read_request(rt.alloc(), line, DATE),
+        Err(Refusal::BadInput)
+    );
 }
 
 fn printed(rt: &(impl Abort + AllocGlobal), answer: Answer) -> String {
@@ -203,7 +223,7 @@ fn printed(rt: &(impl Abort + AllocGlobal), answer: Answer) -> String {
 
 #[test]
 fn answers_are_printed(rt: HostRuntime) {
-    let payment = Answer::Payment(PaymentReply {
+    let payment = Reply::Payment(PaymentReply {
         warehouse: 1,
         district: 1,
         customer_warehouse: 1,
@@ -211,7 +231,7 @@ fn answers_are_printed(rt: HostRuntime) {
         customer: 3,
         balance: Cents::new(-2234),
     });
-    let text = printed(&rt, payment);
+    let text = printed(&rt, Answer::Reply(payment));
     assert_eq!(rt;
         text.as_str(),
         "payment 1 1 customer 1 1 3 balance -22.34\n"
@@ -241,7 +261,7 @@ fn supplied(item: u32, stock: u32) -> SuppliedLine {
 #[test]
 fn an_order_is_printed(rt: HostRuntime) -> Result<(), Fail> {
     let lines = Vec::from_slice(rt.alloc(), &[supplied(1, 40), supplied(7, 91)])?;
-    let order = Answer::NewOrder(NewOrderReply {
+    let order = Reply::NewOrder(NewOrderReply {
         warehouse: 1,
         district: 1,
         order: 11,
@@ -251,7 +271,7 @@ fn an_order_is_printed(rt: HostRuntime) -> Result<(), Fail> {
         lines: Lines::new(lines),
     });
     let expected = "neworder 1 1 11 customer 3 lines 20.00 total 20.70 1:2:40:10.00 7:2:91:10.00\n";
-    assert_eq!(rt; printed(&rt, order).as_str(), expected);
+    assert_eq!(rt; printed(&rt, Answer::Reply(order)).as_str(), expected);
     Ok(())
 }
 
@@ -264,18 +284,21 @@ fn delivered(district: u32, order: Option<u32>) -> DeliveredOrder {
 fn a_delivery_is_printed(rt: HostRuntime) -> Result<(), Fail> {
     let orders = [delivered(1, Some(8)), delivered(2, None)];
     let orders = Vec::from_slice(rt.alloc(), &orders)?;
-    let delivery = Answer::Delivery(DeliveryReply {
+    let delivery = Reply::Delivery(DeliveryReply {
         warehouse: 3,
         orders: Lines::new(orders),
     });
-    assert_eq!(rt; printed(&rt, delivery).as_str(), "delivery 3 1:8 2:-\n");
+    assert_eq!(rt;
+        printed(&rt, Answer::Reply(delivery)).as_str(),
+        "delivery 3 1:8 2:-\n"
+    );
     Ok(())
 }
 
 #[test]
 fn rows_are_printed(rt: HostRuntime) {
     let tax = Rate::new(1000).expect(&rt, "a rate");
-    let warehouse = Answer::Warehouse {
+    let warehouse = ShownRow::Warehouse {
         warehouse: 1,
         row: Warehouse {
             tax,
@@ -283,10 +306,10 @@ fn rows_are_printed(rt: HostRuntime) {
         },
     };
     assert_eq!(rt;
-        printed(&rt, warehouse).as_str(),
+        printed(&rt, Answer::Row(warehouse)).as_str(),
         "warehouse 1 ytd 212.34\n"
     );
-    let district = Answer::District {
+    let district = ShownRow::District {
         key: DistrictKey {
             warehouse: 1,
             district: 1,
@@ -298,10 +321,10 @@ fn rows_are_printed(rt: HostRuntime) {
         },
     };
     assert_eq!(rt;
-        printed(&rt, district).as_str(),
+        printed(&rt, Answer::Row(district)).as_str(),
         "district 1 1 ytd 112.34 next 11\n"
     );
-    let customer = Answer::Customer {
+    let customer = ShownRow::Customer {
         key: CustomerKey {
             warehouse: 1,
             district: 1,
@@ -319,7 +342,7 @@ fn rows_are_printed(rt: HostRuntime) {
         },
     };
     let text = "customer 1 1 3 balance -22.34 paid 22.34 payments 2 deliveries 0\n";
-    assert_eq!(rt; printed(&rt, customer).as_str(), text);
+    assert_eq!(rt; printed(&rt, Answer::Row(customer)).as_str(), text);
 }
 
 #[test]

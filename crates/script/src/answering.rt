@@ -1,27 +1,23 @@
 //! How a session answers a line.
 
 ghost use Rattle.std.specs.Prelude.{◌≡◌, ◌≢◌, ◌<◌, ℕ, List, [], ◌∷◌, ◌++◌, length, IfErr, IfOk};
-ghost use Rattle.book.specs.declared.entry.Done.{Done as DoneValue};
 ghost use Rattle.std.specs.Option.{option_copied};
-ghost use Rattle.std.specs.Result.{ForOk};
 ghost use Rattle.money.specs.declared.refusal.Refusal.TheVariants.{OutOfMemory};
+ghost use Rattle.tables.specs.Inputs.{IsInput};
+ghost use Rattle.book.specs.declared.entry.Done.{Done as DoneValue};
 ghost use Rattle.lines.specs.Lines.{held};
 ghost use Rattle.lines.specs.declared.answer.Answer.TheVariants as answer;
-ghost use Rattle.lines.specs.declared.request.Request.{Request as RequestValue};
-ghost use Rattle.tables.specs.Inputs.{IsInput};
-ghost use Rattle.tables.specs.declared.input.Input.{Input as InputValue};
-ghost use Rattle.script.specs.Answered.{state_of, IsMade, Shows};
-ghost use Rattle.script.specs.Turns.{State, IsInputTurn, IsShowTurn, IsRequestTurn, IsLineTurn, answer_of};
+ghost use Rattle.script.specs.Answered.{state_of};
+ghost use Rattle.script.specs.Turns.{IsInputTurn, IsRequestTurn, IsLineTurn};
 
-use crate::asking::{Asked, asked_by};
 use crate::showing::show;
 use book::{Done, Run};
-use lines::{Answer, Request, read_request};
+use lines::{Answer, Request, in_range, read_request};
 use money::Refusal;
 use session::Session;
 use std::alloc::Global;
 use std::sync::Wait;
-use tables::{Input, Reply};
+use tables::Input;
 
 /// Answers the line of a script that has this number, which is its date too. `None` is a line that is too
 /// long. What the line asks is done or refused, and the answer tells which; only want of memory is a
@@ -35,18 +31,19 @@ pub fn answer_line<K: Run, R: Wait>(
 ) -> Result<Answer, Refusal>
     ensures memory { IfErr result (λ refusal. refusal ≡ OutOfMemory) }
     ensures turn { IfOk result (λ answer. (bytes : List ℕ) → option_copied line.entry ≡ held bytes
-        → IsLineTurn (state_of K.first session.old) number bytes (record { answer = answer; state = state_of K.first session.new })) }
+        → IsLineTurn (state_of K.first session.old) number bytes
+        (record { answer = answer; state = state_of K.first session.new })) }
 {
     let Some(text) = line else {
         return Ok(refused(Refusal::BadLine, number));
     };
-    match read_request(alloc, text) {
+    match read_request(alloc, text, number) {
         Ok(request) => answer_request(rt, session, request, number),
         Err(refusal) => declined(refusal, number),
     }
 }
 
-/// Answers a request.
+/// Answers a request, or refuses it outside its ranges.
 fn answer_request<K: Run, R: Wait>(
     rt: &R,
     session: &mut Session<'_, K>,
@@ -54,37 +51,30 @@ fn answer_request<K: Run, R: Wait>(
     number: u32,
 ) -> Result<Answer, Refusal>
     ensures memory { IfErr result (λ refusal. refusal ≡ OutOfMemory) }
-    ensures turn { IfOk result (λ answer.
-        IsRequestTurn (state_of K.first session.old) number request (record { answer = answer; state = state_of K.first session.new })) }
+    ensures turn { IfOk result (λ answer. IsRequestTurn (state_of K.first session.old) number request
+        (record { answer = answer; state = state_of K.first session.new })) }
 {
     let scale = session.population().scale();
-    match asked_by(&scale, request, number) {
-        Asked::Transaction(made) => commit(rt, session, made, number),
-        Asked::Row(asked) => {
-            let row = show(session, &asked);
-            Ok(row_or_refused(row, number))
-        }
+    match in_range(&scale, request) {
+        Ok(Request::Transaction(input)) => commit(rt, session, &input, number),
+        Ok(Request::Show(key)) => Ok(Answer::Row(show(session, key))),
+        Err(refusal) => Ok(refused(refusal, number)),
     }
 }
 
-/// Commits an input, which was made of a request's fields, or refuses the line. Memory for the answer is taken after
-/// the commit.
+/// Commits an input, or refuses the line. Memory for the answer is taken after the commit.
 fn commit<K: Run, R: Wait>(
     rt: &R,
     session: &mut Session<'_, K>,
-    made: Result<Input, Refusal>,
+    input: &Input,
     number: u32,
 ) -> Result<Answer, Refusal>
-    requires { ForOk made (λ input. IsInput K.first.scale input) }
+    requires { IsInput K.first.scale input.now }
     ensures memory { IfErr result (λ refusal. refusal ≡ OutOfMemory) }
-    ensures turn { IfOk result (λ answer. (x : InputValue) → IsMade K.first.scale x made
-        → IsInputTurn (state_of K.first session.old) number x (record { answer = answer; state = state_of K.first session.new })) }
+    ensures turn { IfOk result (λ answer. IsInputTurn (state_of K.first session.old) number input.now
+        (record { answer = answer; state = state_of K.first session.new })) }
 {
-    let input = match made {
-        Ok(input) => input,
-        Err(refusal) => return Ok(refused(refusal, number)),
-    };
-    match session.commit(rt, &input) {
+    match session.commit(rt, input) {
         Ok(()) => answered(session.dones()),
         Err(refusal) => declined(refusal, number),
     }
@@ -94,24 +84,11 @@ fn commit<K: Run, R: Wait>(
 fn answered(dones: &[Done]) -> Result<Answer, Refusal>
     requires { 0 < length dones.now }
     ensures last { (before : List DoneValue) (done : DoneValue) → dones.now ≡ before ++ done ∷ []
-        → IfOk result (λ answer. answer ≡ answer_of done.reply) }
+        → IfOk result (λ told. told ≡ answer.Reply done.reply) }
     ensures memory { IfErr result (λ refusal. refusal ≡ OutOfMemory) }
 {
     let done = &dones[dones.len() - 1];
-    Ok(told(done.reply().copied()?))
-}
-
-/// What a terminal is told of a reply.
-fn told(reply: Reply) -> Answer
-    ensures { result ≡ answer_of reply }
-{
-    match reply {
-        Reply::Payment(reply) => Answer::Payment(reply),
-        Reply::NewOrder(reply) => Answer::NewOrder(reply),
-        Reply::Delivery(reply) => Answer::Delivery(reply),
-        Reply::OrderStatus(reply) => Answer::OrderStatus(reply),
-        Reply::StockLevel(reply) => Answer::StockLevel(reply),
-    }
+    Ok(Answer::Reply(done.reply().copied()?))
 }
 
 /// The answer to a line whose request or input was refused. Want of memory isn't answered.
@@ -131,15 +108,5 @@ fn refused(refusal: Refusal, number: u32) -> Answer
     Answer::Refused {
         refusal,
         line: u64::from(number),
-    }
-}
-
-fn row_or_refused(row: Option<Answer>, number: u32) -> Answer
-    ensures { (s : State) (show : RequestValue) → Shows s.tables show row
-        → IsShowTurn s number show (record { answer = result; state = s }) }
-{
-    match row {
-        Some(answer) => answer,
-        None => refused(Refusal::BadInput, number),
     }
 }

@@ -2,7 +2,6 @@
 #![tactic(auto)]
 
 mod answering;
-mod asking;
 mod running;
 mod showing;
 mod turns;

@@ -8,4 +8,4 @@ pub returns-in_err-district : goal.returns-in_err-district
 returns-in_err-district c =
     let is : c.from_residual-in_err-district.result ≡ Err BadLine = search rules in
     let first = c.in_ok-warehouse.ensures in
-    rw is (no_level _ (λ w d k small_w small_d small_k e. c.in_err-district.ensures.1 d small_d (decimal k) [] cc))
+    rw is (no_level c.args.date _ (λ w d k small_w small_d small_k e. c.in_err-district.ensures.1 d small_d (decimal k) [] cc))

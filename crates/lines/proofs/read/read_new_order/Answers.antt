@@ -9,4 +9,4 @@ pub returns-in_err-district : goal.returns-in_err-district
 returns-in_err-district c =
     let is : c.from_residual-in_err-district.result ≡ Err BadLine = search rules in
     let first = c.in_ok-warehouse.ensures in
-    rw is (inr (no_new_order _ (λ w d k ls small_w small_d e. c.in_err-district.ensures.1 d small_d (decimal k) (map line_word ls) cc)))
+    rw is (inr (no_new_order c.args.date _ (λ w d k ls small_w small_d e. c.in_err-district.ensures.1 d small_d (decimal k) (map line_word ls) cc)))
