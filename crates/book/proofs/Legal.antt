@@ -17,9 +17,9 @@ use Rattle.readset.specs.Explains.{Agrees}
 use Rattle.readset.specs.declared.work.Work.{Work}
 use Rattle.commit.specs.Machine as machine
 use Rattle.commit.specs.Turns.{Transaction}
-use Rattle.commit.specs.Serial.{overwritten, now, IsSerial, AreStamped, NeverFall, first_versions}
+use Rattle.commit.specs.Serial.{overwritten, now, IsSerial, HaveLawfulTids, NeverFall, first_versions}
 use Rattle.commit.specs.declared.worker.Version as noted
-use Rattle.book.specs.History.{replay, IsDone, Replays}
+use Rattle.book.specs.History.{replay, CommitsAt, Replays}
 use Rattle.book.specs.Decided.{HoldsRows, IsTransactionOf, AreTransactionsOf, LeadsTo, entry_after, history_of}
 use Rattle.book.specs.declared.entry.Entry.{Entry}
 use Rattle.book.proofs.Replaying.{replay_push, replays_push}
@@ -41,7 +41,7 @@ value_left v tid None = refl
 -- one transaction more, which read the versions that the earlier ones leave
 module _ (t0 t : Database) (versions : ℕ → noted.Version) (left : ℕ) (stands : Stands t0 t versions (left + 1))
     (work : Work) (transaction : Transaction) (is : IsTransactionOf t0 work transaction)
-    (serial : (r : ℕ) (v : noted.Version) → machine.held transaction.reads r ≡ Some v → versions r ≡ v) where
+    (serial : (r : ℕ) (v : noted.Version) → machine.note_at transaction.reads r ≡ Some v → versions r ≡ v) where
   agrees : Agrees t work.reads
   agrees n v e =
       sym (is.reads n v e).2 ∙ ap (λ (x : noted.Version). x.value) (sym (serial n (is.reads n v e).0 (is.reads n v e).1)) ∙ sym (stands.values n (is.within n v e))
@@ -49,17 +49,17 @@ module _ (t0 t : Database) (versions : ℕ → noted.Version) (left : ℕ) (stan
   input_of : IsInput t.scale work.input
   input_of = subst (λ s. IsInput s work.input) (sym stands.of_population.scale) is.input
 
-  done_there : IsDone t work.input work.writes work.reply
+  done_there : CommitsAt t work.input work.writes work.reply
   done_there = record { input = input_of; commit = is.explained t stands.of_population stands.well_formed stands.consistent agrees }
 
-  value_next : (n : ℕ) → n < record_count t0.scale → rows (after t work.input) n ≡ (overwritten (versions n) transaction.tid (machine.held transaction.writes n)).value
+  value_next : (n : ℕ) → n < record_count t0.scale → rows (after t work.input) n ≡ (overwritten (versions n) transaction.tid (machine.note_at transaction.writes n)).value
   value_next n small =
       done_there.commit.rows n (subst (λ (s : Sizes). n < record_count s) (sym stands.of_population.scale) small)
       ∙ ap (λ w. unwrap_or w (rows t n)) (sym (is.writes n))
-      ∙ ap (λ row. unwrap_or (machine.held transaction.writes n) row) (stands.values n small)
-      ∙ value_left (versions n) transaction.tid (machine.held transaction.writes n)
+      ∙ ap (λ row. unwrap_or (machine.note_at transaction.writes n) row) (stands.values n small)
+      ∙ value_left (versions n) transaction.tid (machine.note_at transaction.writes n)
 
-  stands_next : Stands t0 (after t work.input) (λ n. overwritten (versions n) transaction.tid (machine.held transaction.writes n)) left
+  stands_next : Stands t0 (after t work.input) (λ n. overwritten (versions n) transaction.tid (machine.note_at transaction.writes n)) left
   stands_next = record {
     of_population = after-IsOf t0 t work.input stands.of_population;
     well_formed = after-IsWellFormed t work.input left input_of done_there.commit.numbered stands.well_formed stands.consistent stands.room;
@@ -87,15 +87,15 @@ record Comes (t0 : Database) (history : List Entry) (versions : ℕ → noted.Ve
 -- one entry more
 module _ (t0 : Database) (works : List Work) (earlier : List Transaction) (versions : ℕ → noted.Version) (left : ℕ) (are : AreTransactionsOf t0 works earlier) (before : Comes t0 (history_of works earlier) versions (left + 1))
     (work : Work) (transaction : Transaction) (is : IsTransactionOf t0 work transaction)
-    (serial : (r : ℕ) (v : noted.Version) → machine.held transaction.reads r ≡ Some v → versions r ≡ v) where
+    (serial : (r : ℕ) (v : noted.Version) → machine.note_at transaction.reads r ≡ Some v → versions r ≡ v) where
   numbered : (n m : ℕ) → m ≡ n → n + 1 ≡ 1 + m
   numbered n m e = omega (arith, e)
 
-  comes_next : Comes t0 (history_of (work ∷ works) (transaction ∷ earlier)) (λ n. overwritten (versions n) transaction.tid (machine.held transaction.writes n)) left
+  comes_next : Comes t0 (history_of (work ∷ works) (transaction ∷ earlier)) (λ n. overwritten (versions n) transaction.tid (machine.note_at transaction.writes n)) left
   comes_next = record {
     replays = replays_push 1 t0 (history_of works earlier) (entry_after works work transaction) before.replays (numbered (length works) (length (history_of works earlier)) (entries_of t0 works earlier are))
         (done_there t0 (replay t0 (history_of works earlier)) versions left before.stands work transaction is serial);
-    stands = subst (λ t. Stands t0 t (λ n. overwritten (versions n) transaction.tid (machine.held transaction.writes n)) left) (sym (replay_push t0 (history_of works earlier) (entry_after works work transaction)))
+    stands = subst (λ t. Stands t0 t (λ n. overwritten (versions n) transaction.tid (machine.note_at transaction.writes n)) left) (sym (replay_push t0 (history_of works earlier) (entry_after works work transaction)))
         (stands_next t0 (replay t0 (history_of works earlier)) versions left before.stands work transaction is serial);
   }
 
@@ -116,7 +116,7 @@ comes t0 first (work ∷ works) [] left opens are serial = elim are [ ]
 pub leads_to : (t0 : Database) (opening : machine.Machine) (epoch : ℕ) (works : List Work) (transactions : List Transaction)
     → IsWellFormed t0 → IsConsistent t0 → HasRoom MAX_COMMITS t0 → HoldsRows t0 opening
     → AreTransactionsOf t0 works transactions → length works ≤ MAX_COMMITS
-    → IsSerial (first_versions opening) transactions → AreStamped (first_versions opening) transactions → NeverFall epoch transactions
+    → IsSerial (first_versions opening) transactions → HaveLawfulTids (first_versions opening) transactions → NeverFall epoch transactions
     → LeadsTo t0 (history_of works transactions) (now (first_versions opening) transactions)
 leads_to t0 opening epoch works transactions well_formed consistent room holds are few serial stamped fall = record {
   legal = record { replays = led.replays; end = refl };

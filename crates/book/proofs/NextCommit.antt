@@ -4,7 +4,7 @@ use Rattle.std.proofs.lemmas.List.{length_push}
 use Rattle.tables.specs.Database.{Database}
 use Rattle.tables.specs.Apply.{Committed, after}
 use Rattle.readset.specs.declared.work.Work.{Work}
-use Rattle.book.specs.History.{replay, IsDone}
+use Rattle.book.specs.History.{replay, CommitsAt}
 use Rattle.book.specs.Book.{entry_of}
 use Rattle.book.specs.Next.{IsNextCommit}
 use Rattle.book.specs.declared.entry.Entry.{Entry}
@@ -14,7 +14,7 @@ use Rattle.book.proofs.Replaying.{replay_push}
 module _ (t0 : Database) (old new : List Entry) (terminal : ℕ) (work : Work) (done : Done)
     (one_more : new ≡ old ++ entry_of (length old + 1) done.tid terminal work ∷ [])
     (number : done.number ≡ length old + 1) (reply : done.reply ≡ work.reply)
-    (is_done : IsDone (replay t0 old) work.input work.writes work.reply)
+    (is_done : CommitsAt (replay t0 old) work.input work.writes work.reply)
   where
     longer : length new ≡ length old + 1
     longer = ap length one_more ∙ length_push old (entry_of (length old + 1) done.tid terminal work)

@@ -10,7 +10,7 @@ use Rattle.cells.specs.Records.{ReaderView}
 use Rattle.readset.specs.Commit.{IsCommitted}
 use Rattle.readset.specs.Refused.{IsRefusal}
 use Rattle.readset.specs.declared.work.Work.{Work}
-use Rattle.book.specs.History.{replay, IsDone}
+use Rattle.book.specs.History.{replay, CommitsAt}
 use Rattle.book.specs.declared.entry.Entry.{Entry}
 use Rattle.book.proofs.Replaying.{replay-IsOf, replay-scale}
 use Rattle.book.specs.Next.{IsRefusedAt}
@@ -31,7 +31,7 @@ module _ (t0 : Database) (history : List Entry) (x : Input) where
   as_refused old new _ h other = absurd h
 
 -- a work that is done there, and comes at the commit cap
-commits_full : (t0 : Database) (history : List Entry) (work : Work) → IsDone (replay t0 history) work.input work.writes work.reply
+commits_full : (t0 : Database) (history : List Entry) (work : Work) → CommitsAt (replay t0 history) work.input work.writes work.reply
     → t0.scale.commits ≤ length history → IsRefusedAt (replay t0 history) (length history) work.input CommitsFull
 commits_full t0 history work done cap = (
   subst IsCommitted (sym done.commit.commits) tt,
@@ -41,7 +41,7 @@ commits_full t0 history work done cap = (
 
 -- a refusal of a commit, by what its clauses say of each
 pub refused_there : (t0 : Database) (history : List Entry) (work : Work) (refusal : Refusal) (next : Option ℕ) {C L : Type 0} → refusal ≢ EpochFull
-    → ((refusal ≡ Conflict) × C) ⊎ (L × IsDone (replay t0 history) work.input work.writes work.reply
+    → ((refusal ≡ Conflict) × C) ⊎ (L × CommitsAt (replay t0 history) work.input work.writes work.reply
     × (((refusal ≡ CommitsFull) × (t0.scale.commits ≤ length history))
     ⊎ ((refusal ≡ EpochFull) × (length history < t0.scale.commits) × (next ≡ None))
     ⊎ ((refusal ≡ OutOfMemory) × (length history < t0.scale.commits) × IsSome next)))

@@ -7,7 +7,7 @@ use Rattle.tables.specs.Constant.{IsOf}
 use Rattle.laws.proofs.NamesKept.{IsOf-itself}
 use Rattle.laws.proofs.Kept.{after-IsOf}
 use Rattle.readset.specs.Writes.{added}
-use Rattle.book.specs.History.{replay, rows_added, IsDone, Replays}
+use Rattle.book.specs.History.{replay, rows_added, CommitsAt, Replays}
 use Rattle.book.specs.declared.entry.Entry.{Entry}
 
 -- one entry more
@@ -15,7 +15,7 @@ pub replay_push : (t : Database) (es : List Entry) (e : Entry) → replay t (es 
 replay_push t [] e = refl
 replay_push t (f ∷ es) e = replay_push (after t f.input) es e
 
-pub replays_push : (n : ℕ) (t : Database) (es : List Entry) (e : Entry) → Replays n t es → e.number ≡ n + length es → IsDone (replay t es) e.input e.writes e.reply → Replays n t (es ++ e ∷ [])
+pub replays_push : (n : ℕ) (t : Database) (es : List Entry) (e : Entry) → Replays n t es → e.number ≡ n + length es → CommitsAt (replay t es) e.input e.writes e.reply → Replays n t (es ++ e ∷ [])
 replays_push n t [] e h number done = (number ∙ add-zero n, done, tt)
 replays_push n t (f ∷ es) e h number done = (h.0, h.1, replays_push (n + 1) (after t f.input) es e h.2 (number ∙ shifted n (length es)) done)
   where
@@ -23,7 +23,7 @@ replays_push n t (f ∷ es) e h number done = (h.0, h.1, replays_push (n + 1) (a
     shifted n m = omega arith
 
 -- the last entry is done where the others lead
-pub replays_last : (n : ℕ) (t : Database) (es : List Entry) (e : Entry) → Replays n t (es ++ e ∷ []) → IsDone (replay t es) e.input e.writes e.reply
+pub replays_last : (n : ℕ) (t : Database) (es : List Entry) (e : Entry) → Replays n t (es ++ e ∷ []) → CommitsAt (replay t es) e.input e.writes e.reply
 replays_last n t [] e h = h.1
 replays_last n t (f ∷ es) e h = replays_last (n + 1) (after t f.input) es e h.2
 

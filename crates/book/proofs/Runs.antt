@@ -36,11 +36,11 @@ use Rattle.readset.specs.Reads.{ReadSetView, held}
 use Rattle.readset.specs.Writes.{value_for}
 use Rattle.readset.specs.declared.work.Work.{Work}
 use Rattle.readset.proofs.Numbers.{same_test, other_test, same_number as same_key}
-use Rattle.book.specs.History.{version_of, new_versions, later_versions}
+use Rattle.book.specs.History.{committed_version, new_versions, later_versions}
 use Rattle.book.specs.Stamps.{last_of, greatest_tid, tid_for}
 use Rattle.book.specs.Book.{BookView, IsSound, IsWorkOf, AreInOrder, AreLatest, HasConflict}
 use Rattle.book.specs.Ready.{IsReady, IsFree}
-use Rattle.book.specs.Shows.{reads_of, Shows, IsRun, IsFullRun, IsStaleRun}
+use Rattle.book.specs.Shows.{reads_of, Mirrors, IsCommitRun, IsFullRun, IsStaleRun}
 use Rattle.book.specs.declared.epoch.TheConstants.{EPOCH}
 use Rattle.book.proofs.Sound.{value_in_version, last_one}
 use Rattle.book.proofs.Taken.{whole}
@@ -52,7 +52,7 @@ same_number a b = ⊎_elim
     (λ (e : a ≢ b). ne_eqb a b e ∙ sym (other_test b a (λ q. e (sym q))))
     (cases_eq a b)
 
-found : {X : Type 0} (notes : List (ℕ × X)) (n : ℕ) → machine.held notes n ≡ lookup (is_at (nat_cmp n)) notes
+found : {X : Type 0} (notes : List (ℕ × X)) (n : ℕ) → machine.note_at notes n ≡ lookup (is_at (nat_cmp n)) notes
 found [] n = refl
 found (note ∷ notes) n = λ i. cond (same_number note.0 n i) (Some note.1) (found notes n i)
 
@@ -60,9 +60,9 @@ either : {X Y : Type 0} (b : Bool) (x : X) (y : Y) (xs : Option X) (ys : Option 
 either true x y xs ys same = refl
 either false x y xs ys same = same
 
-read_too : (reads : ReadSetView) (n : ℕ) → is_some (machine.held (reads_of reads) n) ≡ is_some (held reads n)
+read_too : (reads : ReadSetView) (n : ℕ) → is_some (machine.note_at (reads_of reads) n) ≡ is_some (held reads n)
 read_too [] n = refl
-read_too (read ∷ reads) n = either (read.0 == n) _ read.1 (machine.held (reads_of reads) n) (held reads n) (read_too reads n) ∙ ap (λ b. is_some (cond b (Some read.1) (held reads n))) (same_number read.0 n)
+read_too (read ∷ reads) n = either (read.0 == n) _ read.1 (machine.note_at (reads_of reads) n) (held reads n) (read_too reads n) ∙ ap (λ b. is_some (cond b (Some read.1) (held reads n))) (same_number read.0 n)
 
 same_numbers : (reads : ReadSetView) → keys_of (reads_of reads) ≡ keys_of reads
 same_numbers [] = refl
@@ -89,7 +89,7 @@ last_version v (w ∷ vs) = let it = last_version w vs in (it.0, (v ∷ it.1.0, 
 abbrev cell_of : List ℕ → Cell
 cell_of v = record { word = slice_index v 0; value = value_in v }
 
-installed_cell : (tid : ℕ) (value : Option (List ℕ)) → tid % 8 ≡ 0 → ◌≡◌ {A = Cell} (record { word = installed_word tid value; value = value }) (cell_of (version_of tid value))
+installed_cell : (tid : ℕ) (value : Option (List ℕ)) → tid % 8 ≡ 0 → ◌≡◌ {A = Cell} (record { word = installed_word tid value; value = value }) (cell_of (committed_version tid value))
 installed_cell tid value bits = λ i. record { word = installed_word tid value; value = sym (value_in_version tid value bits) i }
 
 -- where all reads are current, so is each
@@ -106,7 +106,7 @@ each_current : (m : Machine) (reads : ReadSetView) → AreCurrent m (reads_of re
 each_current m reads all n v e = All-contains (IsCurrent m) reads (n, v) (all_current m reads all) (Contains-from_lookup {eq = λ x y. is_eq (nat_cmp x y)} same_key n v reads e)
 
 module _ (t0 : Database) (run_cells : List TableId) (k : BookView) (t : Database) (sound : IsSound t0 k t) (ready : IsReady t0 run_cells k t) (reader : ReaderView) (work : Work) (is_work : IsWorkOf t0 (length run_cells) reader work) (order : AreInOrder work.reads work.writes)
-    (terminal w : ℕ) (m : Machine) (shows : Shows k terminal EPOCH work.reads m w) where
+    (terminal w : ℕ) (m : Machine) (shows : Mirrors k terminal EPOCH work.reads m w) where
   abbrev reads : Reads
   reads = reads_of work.reads
 
@@ -166,8 +166,8 @@ module _ (t0 : Database) (run_cells : List TableId) (k : BookView) (t : Database
     current = All-map (λ read. tid_of (cell m read.0).word ≡ read.1.tid) _ work.reads (All-weaker (λ (e : ℕ × Version). held work.reads e.0 ≡ Some e.1) (λ (e : ℕ × Version). tid_of (cell m e.0).word ≡ tid_of e.1.word)
         (λ e is. same_tid e.0 (is_work.read.within e.0 e.1 is) ∙ last_tid-last (at k.written.all e.0) (words_of e.1) (latest e.0 e.1 is)) work.reads order.reads_found)
 
-    all_read : All (λ (write : ℕ × Option (List ℕ)). IsSome (machine.held reads write.0)) writes
-    all_read = All-weaker (λ (e : ℕ × Option (List ℕ)). value_for work.writes e.0 ≡ Some e.1) (λ (e : ℕ × Option (List ℕ)). IsSome (machine.held reads e.0))
+    all_read : All (λ (write : ℕ × Option (List ℕ)). IsSome (machine.note_at reads write.0)) writes
+    all_read = All-weaker (λ (e : ℕ × Option (List ℕ)). value_for work.writes e.0 ≡ Some e.1) (λ (e : ℕ × Option (List ℕ)). IsSome (machine.note_at reads e.0))
         (λ e is. read_too work.reads e.0 ∙ is_work.limits.writes_read e.0 e.1 is) writes order.writes_found
 
     next_is : next_for m w reads writes ≡ tid_for k.history terminal EPOCH work.reads
@@ -180,20 +180,20 @@ module _ (t0 : Database) (run_cells : List TableId) (k : BookView) (t : Database
         let fails = sections.full reads has_read current (next_is ∙ none) in
         record { enabled = fails.0; failed = fails.1; woven = woven m w (full_section w reads writes) (full_section_own w reads writes) fails.0 }
 
-    module _ (tid : ℕ) (new : PenView) (bits : tid % 8 ≡ 0) (after : Machine) (cells : (n : ℕ) → cell after n ≡ written_cell (cell m n) tid (machine.held writes n))
+    module _ (tid : ℕ) (new : PenView) (bits : tid % 8 ≡ 0) (after : Machine) (cells : (n : ℕ) → cell after n ≡ written_cell (cell m n) tid (machine.note_at writes n))
         (stores : (n : ℕ) → at new.all n ≡ at k.written.all n ++ new_versions tid work.writes.values n) where
       -- the newest versions after the commit are the records after the run
       newest_again : (n : ℕ) → n < length run_cells → (v : List ℕ) → EndsWith (at new.all n) v → cell after n ≡ cell_of v
       newest_again n h v e =
           elim (value_for work.writes n) as (λ o. value_for work.writes n ≡ o → cell after n ≡ cell_of v) [
             | None ↦ λ none. cells n ∙ ap (written_cell (cell m n) tid) (found writes n ∙ none)
-                ∙ shown n h v (subst (λ (l : List (List ℕ)). EndsWith l v) (stores n ∙ ap (λ (o : Option (Option (List ℕ))). at k.written.all n ++ option_map_or (λ value. version_of tid value ∷ []) o []) none ∙ append-nil (at k.written.all n)) e)
+                ∙ shown n h v (subst (λ (l : List (List ℕ)). EndsWith l v) (stores n ∙ ap (λ (o : Option (Option (List ℕ))). at k.written.all n ++ option_map_or (λ value. committed_version tid value ∷ []) o []) none ∙ append-nil (at k.written.all n)) e)
             | Some value ↦ λ some. cells n ∙ ap (written_cell (cell m n) tid) (found writes n ∙ some) ∙ installed_cell tid value bits
-                ∙ ap cell_of (sym (last_one e.0 (at k.written.all n) v (version_of tid value) (sym e.1 ∙ stores n ∙ ap (λ (o : Option (Option (List ℕ))). at k.written.all n ++ option_map_or (λ x. version_of tid x ∷ []) o []) some)))
+                ∙ ap cell_of (sym (last_one e.0 (at k.written.all n) v (committed_version tid value) (sym e.1 ∙ stores n ∙ ap (λ (o : Option (Option (List ℕ))). at k.written.all n ++ option_map_or (λ x. committed_version tid x ∷ []) o []) some)))
           ] refl
 
     pub run : (tid : ℕ) (new : PenView) → tid_for k.history terminal EPOCH work.reads ≡ Some tid → tid % 8 ≡ 0 → new.cells ≡ k.written.cells
-        → ((n : ℕ) → at new.all n ≡ at k.written.all n ++ new_versions tid work.writes.values n) → IsRun m w reads writes tid new
+        → ((n : ℕ) → at new.all n ≡ at k.written.all n ++ new_versions tid work.writes.values n) → IsCommitRun m w reads writes tid new
     run tid new is bits cells stores =
         let commits = sections.ok reads tid has_read current (next_is ∙ is) in
         record {

@@ -5,7 +5,7 @@ use Rattle.std.proofs.Math.Seq.{get_or-append_seam}
 use Rattle.std.proofs.lemmas.List.{length-append, length-replicate}
 use Rattle.std.specs.List.{range_with_len}
 use Rattle.std.proofs.lemmas.List.FromFn.{get_or-map-range_with_len, length-map-range_with_len}
-use Rattle.commit.specs.Machine.{Machine, Worker, idle_worker, held, worker}
+use Rattle.commit.specs.Machine.{Machine, Worker, idle_worker, note_at, worker}
 use Rattle.commit.specs.declared.worker.Cell.{Cell}
 use Rattle.commit.specs.declared.worker.Phase.TheVariants.{Begun}
 use Rattle.cells.specs.Versions.{value_in}
@@ -13,7 +13,7 @@ use Rattle.cells.specs.Records.{at}
 use Rattle.readset.specs.Reads.{ReadSetView}
 use Rattle.book.specs.Stamps.{last_of}
 use Rattle.book.specs.Book.{BookView}
-use Rattle.book.specs.Shows.{reads_of, Shows}
+use Rattle.book.specs.Shows.{reads_of, Mirrors}
 
 -- the last of some versions
 abbrev newest_of : List (List ℕ) → List ℕ
@@ -56,7 +56,7 @@ module _ (k : BookView) (terminal epoch : ℕ) (read : ReadSetView) (w : ℕ) wh
       within : {n : ℕ} → n ≡ w + 1 → w < n
       within h = omega (arith, h)
 
-  pub shown : (m : Machine) × Shows k terminal epoch read m w
+  pub shown : (m : Machine) × Mirrors k terminal epoch read m w
   shown = (
     machine,
     record {
@@ -67,7 +67,7 @@ module _ (k : BookView) (terminal epoch : ℕ) (read : ReadSetView) (w : ℕ) wh
       present = small;
       begun = ap (λ (x : Worker). x.phase) own;
       lockless = ap (λ (x : Worker). x.locks) own;
-      reads = λ r. ap (λ (x : Worker). held x.reads r) own;
+      reads = λ r. ap (λ (x : Worker). note_at x.reads r) own;
       last = ap (λ (x : Worker). x.last) own;
       in_epoch = refl;
     },

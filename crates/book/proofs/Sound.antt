@@ -23,7 +23,7 @@ use Rattle.readset.specs.Writes.{rows_with, value_for}
 use Rattle.readset.specs.Commit.{IsCommitOf}
 use Rattle.readset.specs.Explains.{Agrees}
 use Rattle.readset.specs.declared.work.Work.{Work}
-use Rattle.book.specs.History.{replay, IsDone, IsLegal, version_of, new_versions, entry_versions, later_versions}
+use Rattle.book.specs.History.{replay, CommitsAt, IsLegal, committed_version, new_versions, entry_versions, later_versions}
 use Rattle.book.specs.Book.{BookView, IsSound, IsWorkOf, IsRead, AreLatest, entry_of}
 use Rattle.book.specs.Stamps.{last_of}
 use Rattle.book.specs.Ready.{IsReady, IsWithin, IsFree}
@@ -39,15 +39,15 @@ later_push [] e n = append-nil (entry_versions e n)
 later_push (f ∷ es) e n = ap (λ l. entry_versions f n ++ l) (later_push es e n) ∙ sym (append_assoc (entry_versions f n) (later_versions es n) (entry_versions e n))
 
 -- what a version that a commit stores says
-tid_version : (tid_is : ℕ) (value : Option (List ℕ)) → tid_is % 8 ≡ 0 → tid (version_of tid_is value) ≡ tid_is
+tid_version : (tid_is : ℕ) (value : Option (List ℕ)) → tid_is % 8 ≡ 0 → tid (committed_version tid_is value) ≡ tid_is
 tid_version tid_is value bits = installed-tid tid_is value bits
 
-pub value_in_version : (tid_is : ℕ) (value : Option (List ℕ)) → tid_is % 8 ≡ 0 → value_in (version_of tid_is value) ≡ value
+pub value_in_version : (tid_is : ℕ) (value : Option (List ℕ)) → tid_is % 8 ≡ 0 → value_in (committed_version tid_is value) ≡ value
 value_in_version tid_is (Some words) bits = ap (λ k. cond (k == 0) (Some words) None) (installed-present tid_is words bits)
 value_in_version tid_is None bits = ap (λ k. cond (k == 0) (Some (replicate 7 0)) None) (installed-absent (List ℕ) tid_is bits)
 
 -- and its word
-free_version : (tid_is : ℕ) (value : Option (List ℕ)) → tid_is % 8 ≡ 0 → IsFree (slice_index (version_of tid_is value) 0)
+free_version : (tid_is : ℕ) (value : Option (List ℕ)) → tid_is % 8 ≡ 0 → IsFree (slice_index (committed_version tid_is value) 0)
 free_version tid_is (Some words) bits = record {
   unlocked = ne_eqb ((tid_is + 2) % 2) 1 (λ (e : (tid_is + 2) % 2 ≡ 1). omega (arith, bits, e));
   latest = eq-eqb ((tid_is + 2) / 2 % 2) 1 (omega (arith, bits));
@@ -84,8 +84,8 @@ module _ (t0 : Database) (run_cells : List TableId) (k : BookView) (t : Database
   input_of = subst (λ s. IsInput s work.input) (sym ready.of_population.scale) is_work.input
 
   -- it is done at the tables that the history leads to, whether it commits or not
-  pub done_there : IsDone (replay t0 k.history) work.input work.writes work.reply
-  done_there = subst (λ s. IsDone s work.input work.writes work.reply) (sym sound.legal.end) (record { input = input_of; commit = commits_there })
+  pub done_there : CommitsAt (replay t0 k.history) work.input work.writes work.reply
+  done_there = subst (λ s. CommitsAt s work.input work.writes work.reply) (sym sound.legal.end) (record { input = input_of; commit = commits_there })
 
   -- a TID that a version read has is its record's last
   pub read_within : (seen : ℕ) → IsRead work.reads seen → IsWithin EPOCH (length k.history) seen
@@ -121,10 +121,10 @@ module _ (t0 : Database) (run_cells : List TableId) (k : BookView) (t : Database
 
     -- a record that isn't written, and one that is
     unchanged : (n : ℕ) → value_for work.writes n ≡ None → at new.all n ≡ at k.written.all n
-    unchanged n none = stores n ∙ ap (λ w. at k.written.all n ++ option_map_or (λ value. version_of tid_is value ∷ []) w []) none ∙ append-nil (at k.written.all n)
+    unchanged n none = stores n ∙ ap (λ w. at k.written.all n ++ option_map_or (λ value. committed_version tid_is value ∷ []) w []) none ∙ append-nil (at k.written.all n)
 
-    changed : (n : ℕ) (value : Option (List ℕ)) → value_for work.writes n ≡ Some value → at new.all n ≡ at k.written.all n ++ version_of tid_is value ∷ []
-    changed n value some = stores n ∙ ap (λ w. at k.written.all n ++ option_map_or (λ x. version_of tid_is x ∷ []) w []) some
+    changed : (n : ℕ) (value : Option (List ℕ)) → value_for work.writes n ≡ Some value → at new.all n ≡ at k.written.all n ++ committed_version tid_is value ∷ []
+    changed n value some = stores n ∙ ap (λ w. at k.written.all n ++ option_map_or (λ x. committed_version tid_is x ∷ []) w []) some
 
     last_value : (n : ℕ) → n < record_count t0.scale → (v : List ℕ) → EndsWith (at new.all n) v → value_in v ≡ rows (after t work.input) n
     last_value n h v e =
@@ -132,7 +132,7 @@ module _ (t0 : Database) (run_cells : List TableId) (k : BookView) (t : Database
         let leaves : rows (after t work.input) n ≡ rows_with work.writes (rows t) n = commits_there.rows n small in
         elim (value_for work.writes n) as (λ w. value_for work.writes n ≡ w → value_in v ≡ rows (after t work.input) n) [
           | None ↦ λ none. sound.latest n h v (subst (λ (l : List (List ℕ)). EndsWith l v) (unchanged n none) e) ∙ sym (leaves ∙ ap (λ w. unwrap_or w (rows t n)) none)
-          | Some value ↦ λ some. ap value_in (last_one e.0 (at k.written.all n) v (version_of tid_is value) (sym e.1 ∙ changed n value some)) ∙ value_in_version tid_is value within.bits
+          | Some value ↦ λ some. ap value_in (last_one e.0 (at k.written.all n) v (committed_version tid_is value) (sym e.1 ∙ changed n value some)) ∙ value_in_version tid_is value within.bits
               ∙ sym (leaves ∙ ap (λ w. unwrap_or w (rows t n)) some)
         ] refl
 
@@ -140,11 +140,11 @@ module _ (t0 : Database) (run_cells : List TableId) (k : BookView) (t : Database
     last_free n h v e =
         elim (value_for work.writes n) as (λ w. value_for work.writes n ≡ w → IsFree (slice_index v 0)) [
           | None ↦ λ none. ready.free n h v (subst (λ (l : List (List ℕ)). EndsWith l v) (unchanged n none) e)
-          | Some value ↦ λ some. subst (λ (u : List ℕ). IsFree (slice_index u 0)) (sym (last_one e.0 (at k.written.all n) v (version_of tid_is value) (sym e.1 ∙ changed n value some))) (free_version tid_is value within.bits)
+          | Some value ↦ λ some. subst (λ (u : List ℕ). IsFree (slice_index u 0)) (sym (last_one e.0 (at k.written.all n) v (committed_version tid_is value) (sym e.1 ∙ changed n value some))) (free_version tid_is value within.bits)
         ] refl
 
     written_tid : (n : ℕ) (value : Option (List ℕ)) → value_for work.writes n ≡ Some value → last_tid (at new.all n) ≡ tid_is
-    written_tid n value some = ap last_tid (changed n value some) ∙ last_tid-push (at k.written.all n) (version_of tid_is value) ∙ tid_version tid_is value within.bits
+    written_tid n value some = ap last_tid (changed n value some) ∙ last_tid-push (at k.written.all n) (committed_version tid_is value) ∙ tid_version tid_is value within.bits
 
     -- what holds of a record's last TID before, or of the commit's, holds of its last TID after
     by_record : (P : ℕ → Type 0) (n : ℕ) → (value_for work.writes n ≡ None → P (last_tid (at k.written.all n))) → ((value : Option (List ℕ)) → value_for work.writes n ≡ Some value → P tid_is) → P (last_tid (at new.all n))

@@ -5,9 +5,9 @@ use Rattle.std.proofs.lemmas.List.Elements.{All-head, All-tail, All-nil, All-pus
 use Rattle.tables.specs.Database.{Database}
 use Rattle.readset.specs.Writes.{value_for}
 use Rattle.readset.specs.declared.work.Work.{Work}
-use Rattle.commit.specs.Machine.{held}
+use Rattle.commit.specs.Machine.{note_at}
 use Rattle.commit.specs.Turns.{Transaction}
-use Rattle.commit.specs.Serial.{overwritten, now, AreStamped, NeverFall}
+use Rattle.commit.specs.Serial.{overwritten, now, HaveLawfulTids, NeverFall}
 use Rattle.commit.specs.declared.worker.Version.{Version}
 use Rattle.book.specs.Stamps as stamps
 use Rattle.book.specs.Decided.{IsTransactionOf, AreTransactionsOf, entry_after, history_of}
@@ -36,7 +36,7 @@ tid_grows v tid None larger = same v.tid
 -- an entry that comes after these transactions: of no earlier epoch, and of a larger TID than the versions of what it writes and than its terminal's transactions
 module _ (t0 : Database) (first : ℕ → Version) (last : Entry) where
   record IsBehind (transactions : List Transaction) : Type 0 where
-    stamped : AreStamped first transactions
+    stamped : HaveLawfulTids first transactions
     epochs : NeverFall (last.tid / 2 ^ 32) transactions
     larger : (n : ℕ) → IsSome (value_for last.writes n) → (now first transactions n).tid < last.tid
     rising : All (λ u. u.worker ≡ last.terminal → u.tid < last.tid) transactions
@@ -49,7 +49,7 @@ module _ (t0 : Database) (first : ℕ → Version) (last : Entry) where
   behind_earlier t earlier b = record {
     stamped = b.stamped.1;
     epochs = never_later earlier t.epoch (last.tid / 2 ^ 32) b.epochs.0 b.epochs.1;
-    larger = λ n writes. less (now first earlier n).tid (now first (t ∷ earlier) n).tid (tid_grows (now first earlier n) t.tid (held t.writes n) (b.stamped.0.above_replaced n)) (b.larger n writes);
+    larger = λ n writes. less (now first earlier n).tid (now first (t ∷ earlier) n).tid (tid_grows (now first earlier n) t.tid (note_at t.writes n) (b.stamped.0.above_replaced n)) (b.larger n writes);
     rising = All-tail (λ u. u.worker ≡ last.terminal → u.tid < last.tid) t earlier b.rising;
   }
     where
@@ -59,7 +59,7 @@ module _ (t0 : Database) (first : ℕ → Version) (last : Entry) where
   follows_one : (works : List Work) (work : Work) (t : Transaction) (earlier : List Transaction) → IsTransactionOf t0 work t → IsBehind (t ∷ earlier) → stamps.Follows (entry_after works work t) last
   follows_one works work t earlier is b = record {
     epochs = subst (λ n. n ≤ last.tid / 2 ^ 32) (sym b.stamped.0.in_epoch) b.epochs.0;
-    records = λ n wrote writes. subst (λ m. m < last.tid) (tid_written (now first earlier n) t.tid (held t.writes n) (subst IsSome (sym (is.writes n)) wrote)) (b.larger n writes);
+    records = λ n wrote writes. subst (λ m. m < last.tid) (tid_written (now first earlier n) t.tid (note_at t.writes n) (subst IsSome (sym (is.writes n)) wrote)) (b.larger n writes);
     terminals = All-head (λ u. u.worker ≡ last.terminal → u.tid < last.tid) t earlier b.rising;
   }
 
@@ -71,16 +71,16 @@ module _ (t0 : Database) (first : ℕ → Version) (last : Entry) where
   follows [] (t ∷ earlier) are b = elim are [ ]
   follows (work ∷ works) [] are b = elim are [ ]
 
-behind : (t0 : Database) (first : ℕ → Version) (works : List Work) (work : Work) (t : Transaction) (earlier : List Transaction) → IsTransactionOf t0 work t → AreStamped first (t ∷ earlier) → NeverFall t.epoch earlier
+behind : (t0 : Database) (first : ℕ → Version) (works : List Work) (work : Work) (t : Transaction) (earlier : List Transaction) → IsTransactionOf t0 work t → HaveLawfulTids first (t ∷ earlier) → NeverFall t.epoch earlier
     → IsBehind t0 first (entry_after works work t) earlier
 behind t0 first works work t earlier is stamped fall = record {
   stamped = stamped.1;
   epochs = subst (λ n. NeverFall n earlier) (sym stamped.0.in_epoch) fall;
-  larger = λ n writes. tid_replaced (now first earlier n) t.tid (held t.writes n) (stamped.0.above_replaced n) (subst IsSome (sym (is.writes n)) writes);
+  larger = λ n writes. tid_replaced (now first earlier n) t.tid (note_at t.writes n) (stamped.0.above_replaced n) (subst IsSome (sym (is.writes n)) writes);
   rising = stamped.0.above_own;
 }
 
-pub all_stamped : (t0 : Database) (first : ℕ → Version) (epoch : ℕ) (works : List Work) (transactions : List Transaction) → AreTransactionsOf t0 works transactions → AreStamped first transactions → NeverFall epoch transactions
+pub all_stamped : (t0 : Database) (first : ℕ → Version) (epoch : ℕ) (works : List Work) (transactions : List Transaction) → AreTransactionsOf t0 works transactions → HaveLawfulTids first transactions → NeverFall epoch transactions
     → stamps.AreStamped (history_of works transactions)
 all_stamped t0 first epoch [] [] are stamped fall = tt
 all_stamped t0 first epoch (work ∷ works) (t ∷ earlier) are stamped fall =

@@ -37,8 +37,8 @@ pub record IsTransactionOf (t0 : Database) (work : Work) (transaction : Transact
   pub input : IsInput t0.scale work.input
   pub explained : ExplainsWhereConsistent t0 work.input work.reads work.writes work.reply
   pub within : AreWithin (record_count t0.scale) work.reads
-  pub reads : (n : ℕ) (v : Version) → held work.reads n ≡ Some v → (read : noted.Version) × (machine.held transaction.reads n ≡ Some read) × (read.value ≡ value_of v)
-  pub writes : (n : ℕ) → machine.held transaction.writes n ≡ value_for work.writes n
+  pub reads : (n : ℕ) (v : Version) → held work.reads n ≡ Some v → (read : noted.Version) × (machine.note_at transaction.reads n ≡ Some read) × (read.value ≡ value_of v)
+  pub writes : (n : ℕ) → machine.note_at transaction.writes n ≡ value_for work.writes n
 
 -- the transactions are these works', one each, in the same order
 abbrev pub AreTransactionsOf : Database → List Work → List Transaction → Type 0

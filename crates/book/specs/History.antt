@@ -24,14 +24,14 @@ replay t [] = t
 replay t (e ∷ es) = replay (after t e.input) es
 
 -- a transaction is done at these tables: it commits there with this reply and these writes
-pub record IsDone (t : Database) (x : Input) (writes : WriteSetView) (reply : Reply) : Type 0 where
+pub record CommitsAt (t : Database) (x : Input) (writes : WriteSetView) (reply : Reply) : Type 0 where
   pub input : IsInput t.scale x
   pub commit : IsCommitOf t x writes reply
 
 -- the entries have the commit numbers from n on, and each is done at the tables that the entries before it leave
 abbrev pub Replays : ℕ → Database → List Entry → Type 0
 Replays n t [] = Unit {0}
-Replays n t (e ∷ es) = (e.number ≡ n) × IsDone t e.input e.writes e.reply × Replays (n + 1) (after t e.input) es
+Replays n t (e ∷ es) = (e.number ≡ n) × CommitsAt t e.input e.writes e.reply × Replays (n + 1) (after t e.input) es
 
 -- a history from t0 to t: numbers from 1 on, each entry done in its turn, and the end is t
 pub record IsLegal (t0 : Database) (history : List Entry) (t : Database) : Type 0 where
@@ -43,12 +43,12 @@ abbrev pub rows_added : List Entry → List History
 rows_added entries = flat_map (λ e. added e.writes.history_row) entries
 
 -- the version that a commit, by its TID, makes of a value
-abbrev pub version_of : ℕ → Option (List ℕ) → List ℕ
-version_of tid value = installed_word tid value ∷ unwrap_or value (replicate 7 0)
+abbrev pub committed_version : ℕ → Option (List ℕ) → List ℕ
+committed_version tid value = installed_word tid value ∷ unwrap_or value (replicate 7 0)
 
 -- the versions that these writes of a commit add to record n, and those of an entry: one or none
 abbrev pub new_versions : ℕ → List (ℕ × Option (List ℕ)) → ℕ → Versions
-new_versions tid values n = option_map_or (λ value. version_of tid value ∷ []) (lookup (is_at (nat_cmp n)) values) []
+new_versions tid values n = option_map_or (λ value. committed_version tid value ∷ []) (lookup (is_at (nat_cmp n)) values) []
 
 abbrev pub entry_versions : Entry → ℕ → Versions
 entry_versions e n = new_versions e.tid e.writes.values n

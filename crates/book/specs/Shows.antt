@@ -3,7 +3,7 @@ use Rattle.std.specs.Prelude.{◌≡◌, ℕ, ◌<◌, List, [], length, map, sl
 use Rattle.money.specs.declared.refusal.Refusal.{Refusal}
 use Rattle.money.specs.declared.refusal.Refusal.TheVariants.{Conflict, EpochFull}
 use Rattle.tidword.specs.TidWord.{tid_of}
-use Rattle.commit.specs.Machine.{Machine, held, cell, worker}
+use Rattle.commit.specs.Machine.{Machine, note_at, cell, worker}
 use Rattle.commit.specs.Events.{AreEnabled, after_all}
 use Rattle.commit.specs.Sections.{Reads, Writes, section, full_section, stale_section, IsStale, HasCommitted, HasFailed}
 use Rattle.commit.specs.Weaving.{MayBeWoven}
@@ -24,17 +24,17 @@ pub record HasNewest (m : Machine) (pen : PenView) : Type 0 where
   pub newest : (n : ℕ) → n < length pen.cells → (v : List ℕ) → EndsWith (at pen.all n) v → cell m n ≡ record { word = slice_index v 0; value = value_in v }
 
 -- a machine shows the book to a terminal that has read this, as its worker w: its records are the book's newest versions, and the worker has read the same, in whatever order, has no lock yet, and took its last TID for the terminal's last commit. All else of the machine may be anything
-pub record Shows (k : BookView) (terminal epoch : ℕ) (read : ReadSetView) (m : Machine) (w : ℕ) : Type 0 where
+pub record Mirrors (k : BookView) (terminal epoch : ℕ) (read : ReadSetView) (m : Machine) (w : ℕ) : Type 0 where
   pub records : HasNewest m k.written
   pub present : w < length m.workers
   pub begun : (worker m w).phase ≡ Begun
   pub lockless : (worker m w).locks ≡ []
-  pub reads : (r : ℕ) → held (worker m w).reads r ≡ held (reads_of read) r
+  pub reads : (r : ℕ) → note_at (worker m w).reads r ≡ note_at (reads_of read) r
   pub last : (worker m w).last ≡ last_of terminal k.history
   pub in_epoch : m.epoch ≡ epoch
 
 -- a commit with this TID is a run of the machine, with what others do between, which then has the newest versions again
-pub record IsRun (m : Machine) (w : ℕ) (reads : Reads) (writes : Writes) (tid : ℕ) (pen : PenView) : Type 0 where
+pub record IsCommitRun (m : Machine) (w : ℕ) (reads : Reads) (writes : Writes) (tid : ℕ) (pen : PenView) : Type 0 where
   pub enabled : AreEnabled m (section w reads writes)
   pub committed : HasCommitted m (after_all m (section w reads writes)) w writes tid
   pub newest : HasNewest (after_all m (section w reads writes)) pen
@@ -54,6 +54,6 @@ pub record IsStaleRun (m : Machine) (w : ℕ) (reads : Reads) (writes : Writes) 
   pub woven : MayBeWoven m w (stale_section w first.passed first.at writes)
 
 -- the refusals that are runs of the machine, which has no event for the others
-pub record IsRefusedRun (m : Machine) (w : ℕ) (reads : Reads) (writes : Writes) (refusal : Refusal) : Type 0 where
+pub record IsFailedRun (m : Machine) (w : ℕ) (reads : Reads) (writes : Writes) (refusal : Refusal) : Type 0 where
   pub conflict : refusal ≡ Conflict → IsStaleRun m w reads writes
   pub epoch_full : refusal ≡ EpochFull → IsFullRun m w reads writes

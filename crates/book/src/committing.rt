@@ -4,12 +4,12 @@ ghost use Rattle.std.specs.Prelude.{MatchResult, IfOk, IfErr};
 ghost use Rattle.money.specs.declared.refusal.Refusal.TheVariants.{OutOfMemory, Conflict, CommitsFull, EpochFull};
 ghost use Rattle.commit.specs.Machine.{Machine};
 ghost use Rattle.cells.specs.Records.{HasGrown};
-ghost use Rattle.book.specs.History.{replay, IsDone};
+ghost use Rattle.book.specs.History.{replay, CommitsAt};
 ghost use Rattle.book.specs.Stamps.{tid_for};
 ghost use Rattle.book.specs.declared.epoch.TheConstants.{EPOCH as the_epoch};
 ghost use Rattle.book.specs.Book.{AreLatest, HasConflict, HasSeen, IsWorkOf, Commits, entry_of};
 ghost use Rattle.book.specs.Next.{IsNextCommit, IsRefusedAt};
-ghost use Rattle.book.specs.Shows.{Shows, IsRun, IsRefusedRun, reads_of};
+ghost use Rattle.book.specs.Shows.{Mirrors, IsCommitRun, IsFailedRun, reads_of};
 
 use crate::book::Book;
 use crate::entry::{Done, Entry};
@@ -63,11 +63,11 @@ impl<K: Run> Book<K> {
             × (done.number ≡ length self.old.history + 1) × (done.reply ≡ work.reply)
             × (share.new ≡ record { terminal = share.old.terminal; parts = share.old.parts; commits = share.old.commits + 1 })
             × HasSeen reader.new self.new.written work.writes
-            × IsDone (replay K.first self.old.history) work.input work.writes work.reply)
+            × CommitsAt (replay K.first self.old.history) work.input work.writes work.reply)
             (λ refusal. (self.new ≡ self.old) × (share.new ≡ share.old)
             × (((refusal ≡ Conflict) × HasConflict self.old.written.all work.reads)
             ⊎ (AreLatest self.old.written.all work.reads
-            × IsDone (replay K.first self.old.history) work.input work.writes work.reply
+            × CommitsAt (replay K.first self.old.history) work.input work.writes work.reply
             × (((refusal ≡ CommitsFull) × (K.first.scale.commits ≤ length self.old.history))
             ⊎ ((refusal ≡ EpochFull) × (length self.old.history < K.first.scale.commits)
             × (tid_for self.old.history share.old.terminal the_epoch work.reads ≡ None))
@@ -76,10 +76,10 @@ impl<K: Run> Book<K> {
         ensures next { IfOk result (IsNextCommit K.first self.old.history self.new.history work.input) }
         ensures refused { IfErr result (λ refusal. (refusal ≡ Conflict) ⊎ (refusal ≡ OutOfMemory)
             ⊎ IsRefusedAt (replay K.first self.old.history) (length self.old.history) work.input refusal) }
-        ensures section { (m : Machine) (w : ℕ) → Shows self.old share.old.terminal the_epoch work.reads m w
+        ensures section { (m : Machine) (w : ℕ) → Mirrors self.old share.old.terminal the_epoch work.reads m w
             → MatchResult result
-            (λ done. IsRun m w (reads_of work.reads) work.writes.values done.tid self.new.written)
-            (λ refusal. IsRefusedRun m w (reads_of work.reads) work.writes.values refusal) }
+            (λ done. IsCommitRun m w (reads_of work.reads) work.writes.values done.tid self.new.written)
+            (λ refusal. IsFailedRun m w (reads_of work.reads) work.writes.values refusal) }
         ensures cap_first { IfErr result (λ refusal. refusal ≢ EpochFull) }
     {
         in_order(&work);

@@ -5,7 +5,7 @@ ghost use Rattle.cells.specs.Versions.{last_tid};
 ghost use Rattle.cells.specs.Records.{at, HasGrown, newest_words};
 ghost use Rattle.readset.specs.Writes.{value_for};
 ghost use Rattle.readset.specs.Explains.{WritesAreRead};
-ghost use Rattle.book.specs.History.{version_of, new_versions};
+ghost use Rattle.book.specs.History.{committed_version, new_versions};
 ghost use Rattle.book.specs.Stamps.{greatest_tid};
 ghost use Rattle.book.specs.Book.{AreInOrder, AreLatest, HasConflict, HasSeen, IsRead, IsReadBy};
 ghost use Rattle.book.specs.Ready.{AreNewest};
@@ -91,7 +91,7 @@ pub(crate) fn store<R: Wait>(
 /// The version that a commit with this TID makes of a value.
 fn version(tid: TidWord, value: &Option<[u64; 7]>) -> Newest
     requires no_bits { tid % 8 ≡ 0 }
-    ensures words { newest_words result ≡ version_of tid value.now }
+    ensures words { newest_words result ≡ committed_version tid value.now }
     ensures tid { tid_of result.word ≡ tid }
 {
     Newest {

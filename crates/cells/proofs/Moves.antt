@@ -6,25 +6,25 @@ use Rattle.crossbeam_utils.specs.Register.{Turns, Forks, Merges}
 use Rattle.atomic_table.proofs.Lists.{at_set, at_snoc, set_again}
 use Rattle.cells.specs.declared.rule.View.{View}
 use Rattle.cells.specs.Versions.{StartsWith, EndsWith, IsRising}
-use Rattle.cells.specs.Views.{pen_view, sight, heard, learnt, Fits, IsKept, Stored, Looked, looked}
+use Rattle.cells.specs.Views.{pen_view, sight, heard, learnt, FitsVersions, IsKept, Stored, Looked, looked}
 use Rattle.cells.proofs.Rising.{starts_self}
 
 off : {A : Type 0} → false ≡ true → A
 off e = absurd (true≢false (sym e))
 
-fits_set : (seat : ℕ) (all : List (List ℕ)) (views : List View) (by : ℕ) (w : View) → ((j : ℕ) (u : View) → j ≢ by → get_elem? views j ≡ some u → Fits seat all j u) → Fits seat all by w
-    → (j : ℕ) (u : View) → get_elem? (set views by w) j ≡ some u → Fits seat all j u
+fits_set : (seat : ℕ) (all : List (List ℕ)) (views : List View) (by : ℕ) (w : View) → ((j : ℕ) (u : View) → j ≢ by → get_elem? views j ≡ some u → FitsVersions seat all j u) → FitsVersions seat all by w
+    → (j : ℕ) (u : View) → get_elem? (set views by w) j ≡ some u → FitsVersions seat all j u
 fits_set seat all views by w others mine j u e =
     ⊎_elim
-    (λ (x : (j ≡ by) × (w ≡ u)). subst (λ (y : ℕ × View). Fits seat all y.0 y.1) (λ i. (sym x.0 i, x.1 i)) mine)
+    (λ (x : (j ≡ by) × (w ≡ u)). subst (λ (y : ℕ × View). FitsVersions seat all y.0 y.1) (λ i. (sym x.0 i, x.1 i)) mine)
     (λ (x : (j ≢ by) × (get_elem? views j ≡ some u)). others j u x.0 x.1)
     (at_set views by j w u e)
 
 -- a reader's view fits where the versions that it has seen are the first of all
-fits_sight : (seat : ℕ) (all seen : List (List ℕ)) (loads by : ℕ) → StartsWith all seen → Fits seat all by (sight seen loads)
+fits_sight : (seat : ℕ) (all seen : List (List ℕ)) (loads by : ℕ) → StartsWith all seen → FitsVersions seat all by (sight seen loads)
 fits_sight seat all seen loads by s = (s, (all, refl), λ p. off p)
 
-fits_pen : (seat : ℕ) (all : List (List ℕ)) (by : ℕ) → by ≡ seat → Fits seat all by (pen_view all)
+fits_pen : (seat : ℕ) (all : List (List ℕ)) (by : ℕ) → by ≡ seat → FitsVersions seat all by (pen_view all)
 fits_pen seat all by e = (starts_self all, (all, refl), λ _. (e, refl))
 
 starts_more : (all seen more : List (List ℕ)) → StartsWith all seen → StartsWith (all ++ more) seen
@@ -33,8 +33,8 @@ starts_more all seen more s = (s.0 ++ more, ap (λ (l : List (List ℕ)). l ++ m
 pub begins : (now : List ℕ) → IsKept now (pen_view [] ∷ [])
 begins now = (0, [], tt, inl refl, one)
   where
-    one : (by : ℕ) (v : View) → get_elem? (pen_view [] ∷ []) by ≡ some v → Fits 0 [] by v
-    one zero v e = subst (Fits 0 [] 0) (some-injective _ _ e) (fits_pen 0 [] 0 refl)
+    one : (by : ℕ) (v : View) → get_elem? (pen_view [] ∷ []) by ≡ some v → FitsVersions 0 [] by v
+    one zero v e = subst (FitsVersions 0 [] 0) (some-injective _ _ e) (fits_pen 0 [] 0 refl)
     one (suc by) v e = absurd (some-ne-none v (sym e))
 
 pub stores : (by : ℕ) (all : List (List ℕ)) (new : List ℕ) → IsRising (all ++ new ∷ []) → Turns IsKept by (pen_view all) (λ _. new) Stored
@@ -53,7 +53,7 @@ stores by all new rising now views h at =
         inr (log, refl),
         fits_set seat next views by w
             (λ j u apart e. let f = fits j u e in (starts_more log u.seen (new ∷ []) f.0, starts_more log u.told (new ∷ []) f.1, λ p. absurd (apart ((f.2 p).0 ∙ sym mine.0))))
-            (subst (λ (l : List (List ℕ)). Fits seat next by (pen_view l)) (ap (λ (l : List (List ℕ)). l ++ new ∷ []) (sym mine.1)) (fits_pen seat next by mine.0)),
+            (subst (λ (l : List (List ℕ)). FitsVersions seat next by (pen_view l)) (ap (λ (l : List (List ℕ)). l ++ new ∷ []) (sym mine.1)) (fits_pen seat next by mine.0)),
       ),
       refl,
     )
@@ -71,7 +71,7 @@ looks_pen by v pen now views h at =
     let w = pen_view v.seen in
     let is : w ≡ looked v v.seen = sym (ap (λ b. cond b w (sight v.seen (v.loads + 1))) pen) in (
       w,
-      (h.0, log, h.2, h.3, fits_set h.0 log views by w (λ j u _ e. fits j u e) (subst (λ (l : List (List ℕ)). Fits h.0 log by (pen_view l)) (sym known.1) (fits_pen h.0 log by known.0))),
+      (h.0, log, h.2, h.3, fits_set h.0 log views by w (λ j u _ e. fits j u e) (subst (λ (l : List (List ℕ)). FitsVersions h.0 log by (pen_view l)) (sym known.1) (fits_pen h.0 log by known.0))),
       subst (λ (l : List (List ℕ)). (w ≡ looked v v.seen) × StartsWith v.seen v.seen × StartsWith l v.told × IsRising l × ((l ≡ []) ⊎ EndsWith l now)) (sym known.1) (is, starts_self v.seen, mine.1, h.2, h.3),
     )
 
@@ -94,12 +94,12 @@ tells by v now views h at = (
   h.3,
   λ j u e. ⊎_elim
       (λ was. h.4 j u (subst (λ l. get_elem? l j ≡ some u) (set_again views by v at) was))
-      (λ (same : sight v.seen 0 ≡ u). subst (Fits h.0 h.1 j) same (fits_sight h.0 h.1 v.seen 0 j (h.4 by v at).0))
+      (λ (same : sight v.seen 0 ≡ u). subst (FitsVersions h.0 h.1 j) same (fits_sight h.0 h.1 v.seen 0 j (h.4 by v at).0))
       (at_snoc (set views by v) (sight v.seen 0) u j e),
 )
 
 -- two passes meet, and one has what they know
-merges : (by : ℕ) (v : View) (other : ℕ) (u w : View) → ((seat : ℕ) (all : List (List ℕ)) → Fits seat all by v → Fits seat all other u → Fits seat all by w) → Merges IsKept by v other u w (sight [] 0)
+merges : (by : ℕ) (v : View) (other : ℕ) (u w : View) → ((seat : ℕ) (all : List (List ℕ)) → FitsVersions seat all by v → FitsVersions seat all other u → FitsVersions seat all by w) → Merges IsKept by v other u w (sight [] 0)
 merges by v other u w both now views h at apart there =
     let theirs = ⊎_elim (λ (t : (other ≡ by) × (w ≡ u)). absurd (apart t.0)) (λ (t : (other ≢ by) × (get_elem? views other ≡ some u)). h.4 other u t.1) (at_set views by other w u there) in (
       h.0,

@@ -25,14 +25,14 @@ abbrev pub learnt : View → View → View
 learnt v w = record { pen = v.pen; seen = w.seen; told = v.told; loads = v.loads }
 
 -- a pass has seen the first versions of all, and the pen, of which there is one, has seen all
-abbrev pub Fits : ℕ → Versions → ℕ → View → Type 0
-Fits seat all by v = StartsWith all v.seen × StartsWith all v.told × (v.pen ≡ true → (by ≡ seat) × (v.seen ≡ all))
+abbrev pub FitsVersions : ℕ → Versions → ℕ → View → Type 0
+FitsVersions seat all by v = StartsWith all v.seen × StartsWith all v.told × (v.pen ≡ true → (by ≡ seat) × (v.seen ≡ all))
 
 -- the cell has the last of its versions, which rise
 abbrev pub IsKept : List ℕ → List View → Type 0
 IsKept now views =
     (seat : ℕ) × (all : Versions) × IsRising all × ((all ≡ []) ⊎ EndsWith all now)
-    × ((by : ℕ) (v : View) → get_elem? views by ≡ some v → Fits seat all by v)
+    × ((by : ℕ) (v : View) → get_elem? views by ≡ some v → FitsVersions seat all by v)
 
 -- the pen stores a version
 abbrev pub Stored : View → List ℕ → List ℕ → View → Type 0

@@ -8,7 +8,7 @@ use Rattle.std.proofs.lemmas.List.Folds.{find-append}
 use Rattle.clap.specs.Words.{Row, Rule, Text, one_of, read_as}
 use Rattle.clap.specs.Walk.{at_row, default_rows, has_row, more_values, row_text, reading_by, with_default}
 use Rattle.clap.specs.declared.parser.matches.ValueSource.TheVariants.{DefaultValue}
-use Rattle.command_line.specs.CommandLine.{Writes}
+use Rattle.command_line.specs.CommandLine.{WritesNumber}
 
 -- the row of an id
 abbrev at : Text → List Row → Option Row
@@ -90,21 +90,21 @@ default_found name d rows (x ∷ rules) a found defaults none =
 
 -- what the rows with defaults write, the given rows or the default write
 pub writes_given : (name d : Text) (rows : List Row) (rules : List Rule) (a : Rule) → find (λ x. bytes_eq x.id name) rules ≡ Some a → a.defaults ≡ d ∷ []
-    → read_as (reading_by a) d ≡ d → (bits n : ℕ) → Writes bits (one_of name (fold with_default rows rules)) n
-    → Writes bits (option_or (one_of name rows) (Some d)) n
+    → read_as (reading_by a) d ≡ d → (bits n : ℕ) → WritesNumber bits (one_of name (fold with_default rows rules)) n
+    → WritesNumber bits (option_or (one_of name rows) (Some d)) n
 writes_given name d rows rules a found defaults plain bits n writes = go (at name rows) refl
   where
-    with_row : (o : Option Text) → Writes bits o n → Writes bits (option_or o (Some d)) n
+    with_row : (o : Option Text) → WritesNumber bits o n → WritesNumber bits (option_or o (Some d)) n
     with_row None h = absurd h
     with_row (Some t) h = h
 
-    go : (o : Option Row) → at name rows ≡ o → Writes bits (option_or (option_and_then row_text (at name rows)) (Some d)) n
+    go : (o : Option Row) → at name rows ≡ o → WritesNumber bits (option_or (option_and_then row_text (at name rows)) (Some d)) n
     go None none =
         let read : one_of name (fold with_default rows rules) ≡ Some d =
         ap (option_and_then row_text) (default_found name d rows rules a found defaults none) ∙ ap Some plain in
         let is : option_or (option_and_then row_text (at name rows)) (Some d) ≡ Some d = ap (λ o. option_or (option_and_then row_text o) (Some d)) none in
-        subst (λ (o : Option Text). Writes bits o n) (read ∙ sym is) writes
+        subst (λ (o : Option Text). WritesNumber bits o n) (read ∙ sym is) writes
     go (Some r) has =
         let same : one_of name (fold with_default rows rules) ≡ one_of name rows =
         ap (option_and_then row_text) (all_kept name r rows rules has) ∙ sym (ap (option_and_then row_text) has) in
-        with_row (one_of name rows) (subst (λ (o : Option Text). Writes bits o n) same writes)
+        with_row (one_of name rows) (subst (λ (o : Option Text). WritesNumber bits o n) same writes)

@@ -20,7 +20,7 @@ use Rattle.clap.specs.declared.parser.matches.SubCommand.{SubCommand}
 use Rattle.clap.proofs.WalkLemmas.{one_text-rows}
 use Rattle.clap.proofs.OnLiterals.{clap_on_literals}
 use Rattle.command_line.specs.declared.asked.Options.{Options}
-use Rattle.command_line.specs.CommandLine.{AreWritten, IsAskedBy, Writes, built_script, given, program_app, script_rules, subcommand_words, text_for, text_in}
+use Rattle.command_line.specs.CommandLine.{AreWritten, IsAskedBy, WritesNumber, built_script, given, program_app, script_rules, subcommand_words, text_for, text_in}
 use Rattle.command_line.proofs.Defaults.{writes_given}
 
 pub program_is_simple : is_simple program_app ≡ true
@@ -65,11 +65,11 @@ entered_first s h name rows (Some p) named plain other is = go (answers_to p.0 (
 -- what a getter read is what the rows write
 pub written : (bits : ℕ) (f : Found) (name text : Text) (n : ℕ) → one_text f name ≡ Some text
     → (IsNumeral 10 (without_leading_plus text) × (digits_value 10 (without_leading_plus text) < 2 ^ bits)) × (n ≡ digits_value 10 (without_leading_plus text))
-    → Writes bits (one_of name (rows_of f)) n
+    → WritesNumber bits (one_of name (rows_of f)) n
 written bits f name text n is parsed =
     let rows : one_of name (rows_of f) ≡ Some text = sym (one_text-rows f name) ∙ is in
     let fits : n < 2 ^ bits = subst (λ (k : ℕ). k < 2 ^ bits) (sym parsed.1) parsed.0.1 in
-    subst (λ (o : Option Text). Writes bits o n) (sym rows) (parsed.0.0, parsed.1, fits)
+    subst (λ (o : Option Text). WritesNumber bits o n) (sym rows) (parsed.0.0, parsed.1, fits)
 
 -- the options that the rows with defaults write are those of the words after `script`
 pub asked_after : (after : List Text) (rows : List Row) (o : Options) → rows_after script_rules [] after ≡ rows → AreWritten (text_in rows) o

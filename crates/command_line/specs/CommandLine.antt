@@ -88,20 +88,20 @@ abbrev pub text_in : List Row → Text → Text → Option Text
 text_in rows name default = one_of name rows
 
 -- a text is there, and writes the number, which has so many bits
-abbrev pub Writes : ℕ → Option Text → ℕ → Type 0
-Writes bits None n = ⊥
-Writes bits (Some text) n = IsNumeral 10 (without_leading_plus text)
+abbrev pub WritesNumber : ℕ → Option Text → ℕ → Type 0
+WritesNumber bits None n = ⊥
+WritesNumber bits (Some text) n = IsNumeral 10 (without_leading_plus text)
     × (n ≡ digits_value 10 (without_leading_plus text)) × (n < 2 ^ bits)
 
 -- each option is the number that its text writes
 pub record AreWritten (text : Text → Text → Option Text) (o : Options) : Type 0 where
-  pub warehouses : Writes 32 (text (codes "warehouses") (codes "1")) o.warehouses
-  pub districts : Writes 32 (text (codes "districts") (codes "10")) o.districts
-  pub customers : Writes 32 (text (codes "customers") (codes "100")) o.customers
-  pub items : Writes 32 (text (codes "items") (codes "1000")) o.items
-  pub orders : Writes 32 (text (codes "orders") (codes "3000")) o.orders
-  pub commits : Writes 32 (text (codes "commits") (codes "100000")) o.commits
-  pub population : Writes 64 (text (codes "population") (codes "0")) o.population
+  pub warehouses : WritesNumber 32 (text (codes "warehouses") (codes "1")) o.warehouses
+  pub districts : WritesNumber 32 (text (codes "districts") (codes "10")) o.districts
+  pub customers : WritesNumber 32 (text (codes "customers") (codes "100")) o.customers
+  pub items : WritesNumber 32 (text (codes "items") (codes "1000")) o.items
+  pub orders : WritesNumber 32 (text (codes "orders") (codes "3000")) o.orders
+  pub commits : WritesNumber 32 (text (codes "commits") (codes "100000")) o.commits
+  pub population : WritesNumber 64 (text (codes "population") (codes "0")) o.population
   pub is_plain : o.population ≡ 0
 
 -- clap finds no fault with the words, they name `script`, and those after it write these options
@@ -113,5 +113,5 @@ pub record IsAskedBy (words : List Text) (o : Options) : Type 0 where
 
 -- memory ran out, or the error's kind is one of clap's faults with the words, or that of a value
 -- that can't be read
-abbrev pub IsRefusalOf : List Text → Error → Type 0
-IsRefusalOf words error = HasKind (InvalidValue ∷ fault_of program_app words) error
+abbrev pub IsOptionsRefusal : List Text → Error → Type 0
+IsOptionsRefusal words error = HasKind (InvalidValue ∷ fault_of program_app words) error

@@ -32,14 +32,14 @@ pub struct Options {
 
 impl Options {
     ghost use Rattle.std.specs.Prelude.{◌≡◌, MatchResult};
-    ghost use Rattle.tables.specs.Sizes.{IsLawful, sizes};
+    ghost use Rattle.tables.specs.Sizes.{IsScale, sizes};
     ghost use Rattle.money.specs.declared.refusal.Refusal.TheVariants.{BadScale};
 
     /// The scale that is asked for, or `BadScale` exactly where a number is outside its limits.
     pub fn scale(&self) -> Result<Scale, Refusal>
         ensures limits { let asked = sizes self.now.warehouses self.now.districts self.now.customers self.now.items self.now.orders self.now.commits in
             MatchResult result (λ scale. (scale ≡ asked)
-            × IsLawful asked) (λ refusal. (refusal ≡ BadScale) × ¬ IsLawful asked) }
+            × IsScale asked) (λ refusal. (refusal ≡ BadScale) × ¬ IsScale asked) }
     {
         Scale::new(
             self.warehouses,

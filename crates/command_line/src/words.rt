@@ -4,7 +4,7 @@ ghost use Rattle.clap.specs.Words.{found_of, kind_of, one_text, rows_of, rule_of
 ghost use Rattle.clap.specs.Kinds.{HasKind};
 ghost use Rattle.clap.specs.declared.builder.value_parser.ValueParser.TheVariants.{Unsigned};
 ghost use Rattle.clap.specs.declared.error.kind.ErrorKind.TheVariants.{InvalidValue};
-ghost use Rattle.command_line.specs.CommandLine.{AreWritten, HasApp, IsAskedBy, IsRefusalOf, number_option, option, program_app, script_app, text_in};
+ghost use Rattle.command_line.specs.CommandLine.{AreWritten, HasApp, IsAskedBy, IsOptionsRefusal, number_option, option, program_app, script_app, text_in};
 
 use crate::asked::{Options, Subcommand};
 use clap::error::ErrorKind;
@@ -17,7 +17,7 @@ use std::str::FromStr;
 /// words, or is the help that they ask for.
 pub fn options(alloc: Global, words: &[String]) -> Result<Options, Error>
     ensures asked { IfOk result (IsAskedBy (map string_bytes words.now)) }
-    ensures refused { IfErr result (IsRefusalOf (map string_bytes words.now)) }
+    ensures refused { IfErr result (IsOptionsRefusal (map string_bytes words.now)) }
 {
     let command = program(alloc)?;
     let matches = command.try_get_matches_from(words)?;

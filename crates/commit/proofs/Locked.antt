@@ -6,8 +6,8 @@ use Rattle.std.proofs.Math.ListN.{get_or-eq_default}
 use Rattle.std.specs.List.{AllByRecursion}
 use Rattle.tidword.specs.TidWord.{tid_of, is_locked, is_latest}
 use Rattle.tidword.specs.Lawful.{next}
-use Rattle.commit.specs.Machine.{Machine, Worker, no_cell, held, cell, worker}
-use Rattle.commit.specs.Events.{IsEnabled, after, after_all, still_holds, checked, validated_by, chosen, greatest_read, greatest_locked, seen_by, finished_by, written_cell}
+use Rattle.commit.specs.Machine.{Machine, Worker, no_cell, note_at, cell, worker}
+use Rattle.commit.specs.Events.{IsEnabled, after_event, after_all, still_holds, checked, validated_by, chosen, greatest_read, greatest_locked, seen_by, finished_by, written_cell}
 use Rattle.commit.specs.Sections.{Reads, Writes, locks_of, validations_of, installs_of, unlocks_of, beginning, section, full_section, stale_section, MayLock, HasRead, AreCurrent, IsStale, next_for, KeepsOthers, HasCommitted, HasFailed, AreSections}
 use Rattle.commit.specs.declared.worker.Phase.TheVariants.{Entered, Failed}
 use Rattle.commit.specs.declared.worker.Cell.{Cell}
@@ -21,7 +21,7 @@ use Rattle.commit.proofs.Stages.{locked_for, unlocked_for, lock_all, validate_al
 
 -- the machine once worker w has its locks
 abbrev Holding : Machine → ℕ → Writes → Machine → Type 0
-Holding m w writes n = Leaves w m n (record (worker m w) { locks = writes }) (λ r. locked_for (held writes r)) m.finished
+Holding m w writes n = Leaves w m n (record (worker m w) { locks = writes }) (λ r. locked_for (note_at writes r)) m.finished
 
 -- the worker that has its locks, has read the epoch and has validated what passed, with what is left yet to validate
 abbrev entered : Machine → ℕ → Writes → Reads → Reads → Worker
@@ -29,7 +29,7 @@ entered m w writes passed left = record (worker m w) { phase = Entered; reads = 
 
 -- the machine with that worker
 abbrev Entering : Machine → ℕ → Writes → Reads → Reads → Machine → Type 0
-Entering m w writes passed left n = Leaves w m n (entered m w writes passed left) (λ r. locked_for (held writes r)) m.finished
+Entering m w writes passed left n = Leaves w m n (entered m w writes passed left) (λ r. locked_for (note_at writes r)) m.finished
 
 -- what the worker still holds of what it has read, once this has passed
 abbrev left_by : Machine → ℕ → Reads → Reads
@@ -55,14 +55,14 @@ module _ (m : Machine) (w : ℕ) (writes : Writes) (may : MayLock m w writes) wh
   locks =
       let free : AllByRecursion (λ note. All (λ lock. lock.0 < note.0) (worker m w).locks) writes = always _ (λ note. subst (λ (l : Writes). All (λ lock. lock.0 < note.0) l) (sym may.lockless) (All-nil (λ (lock : ℕ × Option (List ℕ)). lock.0 < note.0))) writes in
       let open_to_lock : AllByRecursion (λ note. is_locked (cell m note.0).word ≡ false) writes = always _ (λ note. unlocked note.0) writes in
-      let run : Runs m (locks_of w writes) (λ n. Leaves w m n (record (worker m w) { locks = (worker m w).locks ++ writes }) (λ r. locked_for (held writes r)) m.finished) =
+      let run : Runs m (locks_of w writes) (λ n. Leaves w m n (record (worker m w) { locks = (worker m w).locks ++ writes }) (λ r. locked_for (note_at writes r)) m.finished) =
       lock_all w writes m (worker m w) refl may.begun may.present rises (recursion_from_All (λ note. note.0 < length m.records) writes may.within) free open_to_lock in
       (run.0, record { own = run.1.own ∙ ap (λ l. record (worker m w) { locks = l ++ writes }) may.lockless; cells = run.1.cells; finished = run.1.finished; rest = run.1.rest })
 
   begins : (passed rest : Reads) → HasRead m w (passed ++ rest) → AreCurrent m passed → Runs m (beginning w passed writes) (Entering m w writes passed (left_by m w passed))
   begins passed rest read current = runs_join m (locks_of w writes) (ReadEpoch w ∷ validations_of w passed) (Holding m w writes) (Entering m w writes passed (left_by m w passed)) locks
       (λ n left.
-      let e : Machine = after n (ReadEpoch w) in
+      let e : Machine = after_event n (ReadEpoch w) in
       let x : Worker = record (worker m w) { phase = Entered; epoch = m.epoch; validated = []; locks = writes } in
       let now : worker e w ≡ x = becomes w n e _ refl (present n left.rest) ∙ (λ i. record (left.own i) { phase = Entered; epoch = left.rest.epoch i; validated = [] }) in
       let kept : KeepsOthers n e w = keeps w n e _ refl refl refl in
@@ -84,12 +84,12 @@ module _ (m : Machine) (w : ℕ) (writes : Writes) (may : MayLock m w writes) wh
 
   -- what the worker chooses, of what it has validated and locked
   chooses : (reads : Reads) (n : Machine) → Entering m w writes reads [] n → (o : Option ℕ) → next_for m w reads writes ≡ o
-      → Leaves w m (after n (ChooseTid w)) (chosen (entered m w writes reads []) o) (λ r. locked_for (held writes r)) (finished_by m.finished (chosen (entered m w writes reads []) o))
+      → Leaves w m (after_event n (ChooseTid w)) (chosen (entered m w writes reads []) o) (λ r. locked_for (note_at writes r)) (finished_by m.finished (chosen (entered m w writes reads []) o))
   chooses reads n left o is =
-      let e : Machine = after n (ChooseTid w) in
+      let e : Machine = after_event n (ChooseTid w) in
       let x : Worker = entered m w writes reads [] in
       let greatest : greatest_locked n writes ≡ greatest_locked m writes =
-      same_greatest m n (λ r. ap (λ (c : Cell). tid_of c.word) (left.cells r) ∙ same_tid (held writes r) (cell m r) (unlocked r)) writes in
+      same_greatest m n (λ r. ap (λ (c : Cell). tid_of c.word) (left.cells r) ∙ same_tid (note_at writes r) (cell m r) (unlocked r)) writes in
       let picks : chosen (worker n w) (next (tid_of (seen_by n (worker n w))) (tid_of (worker n w).last) (worker n w).epoch) ≡ chosen x o =
       ap (λ (q : Worker). chosen q (next (tid_of (seen_by n q)) (tid_of q.last) q.epoch)) left.own
       ∙ ap (λ k. chosen x (next (tid_of (max (greatest_read reads) k)) (tid_of x.last) x.epoch)) greatest
@@ -105,14 +105,14 @@ module _ (m : Machine) (w : ℕ) (writes : Writes) (may : MayLock m w writes) wh
   may_choose reads n left = (present n left.rest, ap (λ (q : Worker). q.phase) left.own, ap (λ (q : Worker). q.reads) left.own)
 
   -- a worker that has failed lets its locks go, and every record has its value and its word again
-  gives_up : (e : Machine) (x : Worker) → Leaves w m e x (λ r. locked_for (held writes r)) m.finished → x.phase ≡ Failed → x.locks ≡ writes → x.last ≡ (worker m w).last
+  gives_up : (e : Machine) (x : Worker) → Leaves w m e x (λ r. locked_for (note_at writes r)) m.finished → x.phase ≡ Failed → x.locks ≡ writes → x.last ≡ (worker m w).last
       → Runs e (unlocks_of w writes) (λ q. HasFailed m q w)
   gives_up e x left failed locks last =
-      let later : Runs e (unlocks_of w writes) (λ q. Leaves w e q (record x { locks = [] }) (λ r. unlocked_for (held writes r)) e.finished) =
+      let later : Runs e (unlocks_of w writes) (λ q. Leaves w e q (record x { locks = [] }) (λ r. unlocked_for (note_at writes r)) e.finished) =
       unlock_all w writes e x left.own failed (present e left.rest) locks rises (within e left.rest) in (
         later.0,
         record {
-          cells = λ r. later.1.cells r ∙ ap (unlocked_for (held writes r)) (left.cells r) ∙ unlocked_again (held writes r) (cell m r);
+          cells = λ r. later.1.cells r ∙ ap (unlocked_for (note_at writes r)) (left.cells r) ∙ unlocked_again (note_at writes r) (cell m r);
           failed = ap (λ (q : Worker). q.phase) later.1.own ∙ failed;
           lockless = ap (λ (q : Worker). q.locks) later.1.own;
           last = ap (λ (q : Worker). q.last) later.1.own ∙ last;
@@ -132,14 +132,14 @@ module _ (m : Machine) (w : ℕ) (writes : Writes) (may : MayLock m w writes) wh
   commits reads tid read current is =
       runs_join m (beginning w reads writes) (ChooseTid w ∷ installs_of w writes) (Entering m w writes reads []) (λ n. HasCommitted m n w writes tid) (begins_all reads read current)
       (λ n before.
-      let e : Machine = after n (ChooseTid w) in
+      let e : Machine = after_event n (ChooseTid w) in
       let x : Worker = chosen (entered m w writes reads []) (Some tid) in
-      let left : Leaves w m e x (λ r. locked_for (held writes r)) (finished_by m.finished x) = chooses reads n before (Some tid) is in
-      let later : Runs e (installs_of w writes) (λ q. Leaves w e q (record x { locks = [] }) (λ r c. written_cell c tid (held writes r)) (finished_by m.finished (record x { locks = [] }))) =
+      let left : Leaves w m e x (λ r. locked_for (note_at writes r)) (finished_by m.finished x) = chooses reads n before (Some tid) is in
+      let later : Runs e (installs_of w writes) (λ q. Leaves w e q (record x { locks = [] }) (λ r c. written_cell c tid (note_at writes r)) (finished_by m.finished (record x { locks = [] }))) =
       install_all w m.finished writes e x left.own refl (present e left.rest) refl rises (within e left.rest) left.finished in (
         (may_choose reads n before, later.0),
         record {
-          cells = λ r. later.1.cells r ∙ ap (λ c. written_cell c tid (held writes r)) (left.cells r) ∙ written_over (held writes r) (cell m r) tid;
+          cells = λ r. later.1.cells r ∙ ap (λ c. written_cell c tid (note_at writes r)) (left.cells r) ∙ written_over (note_at writes r) (cell m r) tid;
           chosen = ap (λ (q : Worker). q.phase) later.1.own;
           lockless = ap (λ (q : Worker). q.locks) later.1.own;
           last = ap (λ (q : Worker). q.last) later.1.own;
@@ -152,20 +152,20 @@ module _ (m : Machine) (w : ℕ) (writes : Writes) (may : MayLock m w writes) wh
   finds_none reads read current is =
       runs_join m (beginning w reads writes) (ChooseTid w ∷ unlocks_of w writes) (Entering m w writes reads []) (λ n. HasFailed m n w) (begins_all reads read current)
       (λ n before.
-      let later : Runs (after n (ChooseTid w)) (unlocks_of w writes) (λ q. HasFailed m q w) =
-      gives_up (after n (ChooseTid w)) (chosen (entered m w writes reads []) None) (chooses reads n before None is) refl refl refl in
+      let later : Runs (after_event n (ChooseTid w)) (unlocks_of w writes) (λ q. HasFailed m q w) =
+      gives_up (after_event n (ChooseTid w)) (chosen (entered m w writes reads []) None) (chooses reads n before None is) refl refl refl in
       ((may_choose reads n before, later.0), later.1))
 
   -- the validation of a read that isn't current
-  refuses : (passed remaining : Reads) (r : ℕ) (v : Version) (n : Machine) → held remaining r ≡ Some v → Entering m w writes passed remaining n → tid_of (cell m r).word ≢ v.tid
-      → Leaves w m (after n (Validate w r)) (checked (entered m w writes passed remaining) r v false) (λ k. locked_for (held writes k)) m.finished
+  refuses : (passed remaining : Reads) (r : ℕ) (v : Version) (n : Machine) → note_at remaining r ≡ Some v → Entering m w writes passed remaining n → tid_of (cell m r).word ≢ v.tid
+      → Leaves w m (after_event n (Validate w r)) (checked (entered m w writes passed remaining) r v false) (λ k. locked_for (note_at writes k)) m.finished
   refuses passed remaining r v n is_held left other =
-      let e : Machine = after n (Validate w r) in
+      let e : Machine = after_event n (Validate w r) in
       let x : Worker = entered m w writes passed remaining in
-      let same : tid_of (cell n r).word ≡ tid_of (cell m r).word = ap (λ (c : Cell). tid_of c.word) (left.cells r) ∙ same_tid (held writes r) (cell m r) (unlocked r) in
+      let same : tid_of (cell n r).word ≡ tid_of (cell m r).word = ap (λ (c : Cell). tid_of c.word) (left.cells r) ∙ same_tid (note_at writes r) (cell m r) (unlocked r) in
       record {
         own = becomes w n e _ refl (present n left.rest)
-            ∙ ap (λ (q : Worker). validated_by q r (cell n r) (held q.reads r)) left.own
+            ∙ ap (λ (q : Worker). validated_by q r (cell n r) (note_at q.reads r)) left.own
             ∙ ap (validated_by x r (cell n r)) is_held
             ∙ ap (checked x r v) (falls x r v (cell n r) (λ q. other (sym same ∙ q)));
         cells = left.cells;
@@ -181,12 +181,12 @@ module _ (m : Machine) (w : ℕ) (writes : Writes) (may : MayLock m w writes) wh
       let others : Reads = (r, v) ∷ first.rest in
       let read : HasRead m w (passed ++ others) = subst (HasRead m w) first.split all in
       let remaining : Reads = left_by m w passed in
-      let is_held : held remaining r ≡ Some v = same_rest passed (worker m w).reads others read.all (ascend (passed ++ others) read.ascending) r ∙ held_first r v first.rest in
+      let is_held : note_at remaining r ≡ Some v = same_rest passed (worker m w).reads others read.all (ascend (passed ++ others) read.ascending) r ∙ held_first r v first.rest in
       runs_join m (beginning w passed writes) (Validate w r ∷ unlocks_of w writes) (Entering m w writes passed remaining) (λ n. HasFailed m n w) (begins passed others read first.current)
       (λ n before.
-      let has : IsSome (held (worker n w).reads r) = ap (λ (q : Worker). is_some (held q.reads r)) before.own ∙ ap is_some is_held in
-      let later : Runs (after n (Validate w r)) (unlocks_of w writes) (λ q. HasFailed m q w) =
-      gives_up (after n (Validate w r)) (checked (entered m w writes passed remaining) r v false) (refuses passed remaining r v n is_held before first.stale) refl refl refl in
+      let has : IsSome (note_at (worker n w).reads r) = ap (λ (q : Worker). is_some (note_at q.reads r)) before.own ∙ ap is_some is_held in
+      let later : Runs (after_event n (Validate w r)) (unlocks_of w writes) (λ q. HasFailed m q w) =
+      gives_up (after_event n (Validate w r)) (checked (entered m w writes passed remaining) r v false) (refuses passed remaining r v n is_held before first.stale) refl refl refl in
       (((present n before.rest, ap (λ (q : Worker). q.phase) before.own, has), later.0), later.1))
 
 pub are_sections : (m : Machine) (w : ℕ) (writes : Writes) → MayLock m w writes → AreSections m w writes

@@ -5,7 +5,7 @@ use Rattle.std.specs.List.{AllByRecursion}
 use Rattle.std.specs.List.Sorted.{IsStrictlySortedBy}
 use Rattle.std.specs.Ordering.{is_lt}
 use Rattle.std.specs.Map.{keys_of}
-use Rattle.commit.specs.Machine.{held, without}
+use Rattle.commit.specs.Machine.{note_at, without}
 
 -- what holds of each note holds of it otherwise too
 pub each : {X : Type 0} (P Q : X → Type 0) → ((x : X) → P x → Q x) → (xs : List X) → AllByRecursion P xs → AllByRecursion Q xs
@@ -49,13 +49,13 @@ unfolding IsStrictlySortedBy
 ascend [] h = tt
 ascend (note ∷ notes) h = (above note.0 notes h.0, ascend notes h.1)
 
-pub held_first : {X : Type 0} (r : ℕ) (x : X) (notes : List (ℕ × X)) → held ((r, x) ∷ notes) r ≡ Some x
-held_first r x notes = ap (λ b. cond b (Some x) (held notes r)) (eq-eqb r r refl)
+pub held_first : {X : Type 0} (r : ℕ) (x : X) (notes : List (ℕ × X)) → note_at ((r, x) ∷ notes) r ≡ Some x
+held_first r x notes = ap (λ b. cond b (Some x) (note_at notes r)) (eq-eqb r r refl)
 
-pub held_later : {X : Type 0} (r k : ℕ) (x : X) (notes : List (ℕ × X)) → k ≢ r → held ((r, x) ∷ notes) k ≡ held notes k
-held_later r k x notes other = ap (λ b. cond b (Some x) (held notes k)) (ne_eqb r k (λ e. other (sym e)))
+pub held_later : {X : Type 0} (r k : ℕ) (x : X) (notes : List (ℕ × X)) → k ≢ r → note_at ((r, x) ∷ notes) k ≡ note_at notes k
+held_later r k x notes other = ap (λ b. cond b (Some x) (note_at notes k)) (ne_eqb r k (λ e. other (sym e)))
 
-pub held_above : {X : Type 0} (r : ℕ) (notes : List (ℕ × X)) → Above r notes → held notes r ≡ None
+pub held_above : {X : Type 0} (r : ℕ) (notes : List (ℕ × X)) → Above r notes → note_at notes r ≡ None
 held_above r [] h = refl
 held_above r (note ∷ notes) h = held_later note.0 r note.1 notes (omega (arith, h.0)) ∙ held_above r notes h.1
 

@@ -1,9 +1,9 @@
 -- A worker's step keeps the order of the turns.
 use Rattle.std.proofs.Common.{◌≤◌, ◌≡◌, ◌≢◌, ℕ, ◌/◌, ◌%◌, ◌^◌, ◌<◌, ◌⊎◌, Bool, true, false, true≢false, Option, Some, None, List, [], ◌∷◌, refl, sym, ap, ◌∙◌, subst, inl, inr, ⊎_elim, le_refl}
 use Rattle.tidword.specs.TidWord.{tid_of}
-use Rattle.commit.specs.Machine.{Worker, IsIdle, held}
+use Rattle.commit.specs.Machine.{Worker, IsIdle, note_at}
 use Rattle.commit.specs.Events.{checked, chosen}
-use Rattle.commit.specs.Turns.{IsWaiting, Turn, transaction_of, decided, decide, give_up}
+use Rattle.commit.specs.Turns.{IsWaiting, Place, transaction_of, decided, decide, give_up}
 use Rattle.commit.specs.Turns.Turn.{Waiting}
 use Rattle.commit.specs.Serial.{now}
 use Rattle.commit.specs.declared.worker.Phase.{Phase}
@@ -32,7 +32,7 @@ failed p = apart_from p Failed refl
 pub idle : (x : Worker) → IsIdle x → x.phase ≡ Entered → ⊥
 idle x h = ⊎_elim (apart_from x.phase Idle refl) (λ (q : (x.phase ≡ Chosen) ⊎ (x.phase ≡ Failed)). ⊎_elim (chose x.phase) (failed x.phase) q) h.1
 
-module _ (first : ℕ → Version) (ws ws' : ℕ → Worker) (w : ℕ) (x : Worker) (change : Changes ws ws' w x) (no_smaller : tid_of (ws w).last ≤ tid_of x.last) (epoch : ℕ) (turns : List Turn) (h : AreOrdered first ws epoch turns) where
+module _ (first : ℕ → Version) (ws ws' : ℕ → Worker) (w : ℕ) (x : Worker) (change : Changes ws ws' w x) (no_smaller : tid_of (ws w).last ≤ tid_of x.last) (epoch : ℕ) (turns : List Place) (h : AreOrdered first ws epoch turns) where
   -- it has no turn
   pub order_aside : ((ws w).phase ≡ Entered → ⊥) → (x.phase ≡ Entered → ⊥) → AreOrdered first ws' epoch turns
   order_aside before later = record {
@@ -67,8 +67,8 @@ module _ (first : ℕ → Version) (ws ws' : ℕ → Worker) (w : ℕ) (x : Work
   }
 
 -- worker w has validated a read
-module _ (first : ℕ → Version) (ws ws' : ℕ → Worker) (w n : ℕ) (v : Version) (change : Changes ws ws' w (checked (ws w) n v true)) (epoch : ℕ) (turns : List Turn) (h : AreOrdered first ws epoch turns) where
-  pub order_checked : held (ws w).reads n ≡ Some v → ((k : ℕ) → k ≢ w → held (ws k).locks n ≡ None) → now first (decided turns) n ≡ v → AreOrdered first ws' epoch turns
+module _ (first : ℕ → Version) (ws ws' : ℕ → Worker) (w n : ℕ) (v : Version) (change : Changes ws ws' w (checked (ws w) n v true)) (epoch : ℕ) (turns : List Place) (h : AreOrdered first ws epoch turns) where
+  pub order_checked : note_at (ws w).reads n ≡ Some v → ((k : ℕ) → k ≢ w → note_at (ws k).locks n ≡ None) → now first (decided turns) n ≡ v → AreOrdered first ws' epoch turns
   order_checked read unlocked current = record {
     places = spread (λ k (x : Worker). x.phase ≡ Entered → IsWaiting k turns) change (h.places w) (λ k apart. h.places k);
     good = good_checked first ws ws' w n v change turns h.good read unlocked (λ _. current);
@@ -76,12 +76,12 @@ module _ (first : ℕ → Version) (ws ws' : ℕ → Worker) (w n : ℕ) (v : Ve
   }
 
 -- worker w has taken a TID
-module _ (first : ℕ → Version) (ws ws' : ℕ → Worker) (w tid : ℕ) (change : Changes ws ws' w (chosen (ws w) (Some tid))) (epoch : ℕ) (turns : List Turn) (h : AreOrdered first ws epoch turns) where
-  pub order_decided : ((k r : ℕ) (value other : Option (List ℕ)) → held (ws w).locks r ≡ Some value → held (ws k).locks r ≡ Some other → w ≡ k)
-      → ((k r : ℕ) (value : Option (List ℕ)) (v : Version) → (ws k).phase ≡ Entered → held (ws w).locks r ≡ Some value → held (ws k).reads r ≡ Some v → v.tid < tid)
-      → ((r : ℕ) (v : Version) → held (ws w).validated r ≡ Some v → v.tid < tid)
+module _ (first : ℕ → Version) (ws ws' : ℕ → Worker) (w tid : ℕ) (change : Changes ws ws' w (chosen (ws w) (Some tid))) (epoch : ℕ) (turns : List Place) (h : AreOrdered first ws epoch turns) where
+  pub order_decided : ((k r : ℕ) (value other : Option (List ℕ)) → note_at (ws w).locks r ≡ Some value → note_at (ws k).locks r ≡ Some other → w ≡ k)
+      → ((k r : ℕ) (value : Option (List ℕ)) (v : Version) → (ws k).phase ≡ Entered → note_at (ws w).locks r ≡ Some value → note_at (ws k).reads r ≡ Some v → v.tid < tid)
+      → ((r : ℕ) (v : Version) → note_at (ws w).validated r ≡ Some v → v.tid < tid)
       → tid / 2 ^ 32 ≡ (ws w).epoch → tid % 8 ≡ 0 → tid_of (ws w).last < tid
-      → ((r : ℕ) (value : Option (List ℕ)) → held (ws w).locks r ≡ Some value → (now first (decided turns) r).tid < tid)
+      → ((r : ℕ) (value : Option (List ℕ)) → note_at (ws w).locks r ≡ Some value → (now first (decided turns) r).tid < tid)
       → AreOrdered first ws' epoch (decide w (transaction_of w (chosen (ws w) (Some tid))) turns)
   order_decided single above above_read in_epoch bits above_last larger = record {
     places = spread (λ k (x : Worker). x.phase ≡ Entered → IsWaiting k (decide w (transaction_of w (chosen (ws w) (Some tid))) turns)) change

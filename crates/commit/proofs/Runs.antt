@@ -2,8 +2,8 @@
 use Rattle.std.proofs.Common.{◌≡◌, ◌≢◌, ℕ, ◌<◌, ⊎_elim, Option, Some, None, List, [], ◌∷◌, ◌++◌, length, slice_set, slice_index_or, refl, sym, ap, ◌∙◌, subst}
 use Rattle.std.proofs.lemmas.Bool.{cases_eq}
 use Rattle.std.proofs.lemmas.List.{get_or-set_same, get_or-set_other, length-set}
-use Rattle.commit.specs.Machine.{Machine, Worker, idle_worker, no_cell, held, cell, worker}
-use Rattle.commit.specs.Events.{AreEnabled, after, after_all}
+use Rattle.commit.specs.Machine.{Machine, Worker, idle_worker, no_cell, note_at, cell, worker}
+use Rattle.commit.specs.Events.{AreEnabled, after_event, after_all}
 use Rattle.commit.specs.Sections.{Writes, KeepsOthers}
 use Rattle.commit.specs.declared.worker.Cell.{Cell}
 use Rattle.commit.specs.declared.event.Event.{Event}
@@ -15,11 +15,11 @@ Runs m events P = AreEnabled m events × P (after_all m events)
 
 after_join : (events more : List Event) (m : Machine) → after_all m (events ++ more) ≡ after_all (after_all m events) more
 after_join [] more m = refl
-after_join (event ∷ events) more m = after_join events more (after m event)
+after_join (event ∷ events) more m = after_join events more (after_event m event)
 
 enabled_join : (events more : List Event) (m : Machine) → AreEnabled m events → AreEnabled (after_all m events) more → AreEnabled m (events ++ more)
 enabled_join [] more m h k = k
-enabled_join (event ∷ events) more m h k = (h.0, enabled_join events more (after m event) h.1 k)
+enabled_join (event ∷ events) more m h k = (h.0, enabled_join events more (after_event m event) h.1 k)
 
 pub runs_join : (m : Machine) (events more : List Event) (P Q : Machine → Type 0) → Runs m events P → ((n : Machine) → P n → Runs n more Q) → Runs m (events ++ more) Q
 runs_join m events more P Q first then =
@@ -71,10 +71,10 @@ module _ (r : ℕ) (a b : Machine) (c : Cell) (is : b.records ≡ slice_set a.re
 -- the first record of a list changes, and then the others
 pub sweep : (change : Option (Option (List ℕ)) → Cell → Cell) (old first all : ℕ → Cell) (r : ℕ) (value : Option (List ℕ)) (notes : Writes) → Above r notes
     → ((c : Cell) → change None c ≡ c)
-    → first r ≡ change (Some value) (old r) → ((k : ℕ) → k ≢ r → first k ≡ old k) → ((k : ℕ) → all k ≡ change (held notes k) (first k))
-    → (k : ℕ) → all k ≡ change (held ((r, value) ∷ notes) k) (old k)
+    → first r ≡ change (Some value) (old r) → ((k : ℕ) → k ≢ r → first k ≡ old k) → ((k : ℕ) → all k ≡ change (note_at notes k) (first k))
+    → (k : ℕ) → all k ≡ change (note_at ((r, value) ∷ notes) k) (old k)
 sweep change old first all r value notes above stays here elsewhere later k = ⊎_elim
-    (λ (e : k ≡ r). subst (λ q. all q ≡ change (held ((r, value) ∷ notes) q) (old q)) (sym e)
+    (λ (e : k ≡ r). subst (λ q. all q ≡ change (note_at ((r, value) ∷ notes) q) (old q)) (sym e)
     (later r ∙ ap (λ o. change o (first r)) (held_above r notes above) ∙ stays (first r) ∙ here ∙ ap (λ o. change o (old r)) (sym (held_first r value notes))))
     (λ (e : k ≢ r). later k ∙ (λ i. change (sym (held_later r k value notes e) i) (elsewhere k e i)))
     (cases_eq k r)

@@ -2,11 +2,11 @@
 use Rattle.std.proofs.Common.{◌≡◌, ℕ, ◌<◌, ◌≤◌, Option, Some, List, [], ◌∷◌, length, refl, sym, ap, subst, inl, ⊎_elim, le_trans, le_refl}
 use Rattle.std.proofs.lemmas.Bool.{cases_lt}
 use Rattle.std.proofs.lemmas.List.{get_or_past}
-use Rattle.commit.specs.Machine.{Machine, Worker, IsOpening, IsIdle, idle_worker, held, worker}
-use Rattle.commit.specs.Events.{AreEnabled, after}
-use Rattle.commit.specs.Turns.{Turn, Run, decided, turns_after, run, run_on}
+use Rattle.commit.specs.Machine.{Machine, Worker, IsOpening, IsIdle, idle_worker, note_at, worker}
+use Rattle.commit.specs.Events.{AreEnabled, after_event}
+use Rattle.commit.specs.Turns.{Place, Run, decided, turns_after, run, run_on}
 use Rattle.commit.specs.Turns.Turn.{Waiting, Decided}
-use Rattle.commit.specs.Serial.{IsSerial, AreStamped, NeverFall, first_versions, IsSerialRun}
+use Rattle.commit.specs.Serial.{IsSerial, HaveLawfulTids, NeverFall, first_versions, IsSerialRun}
 use Rattle.commit.specs.declared.worker.Version.{Version}
 use Rattle.commit.specs.declared.event.Event.{Event}
 use Rattle.commit.proofs.Held.{never_both}
@@ -31,31 +31,31 @@ opens_sound opening opens = record {
   };
   order = record { places = λ w e. absurd (idle (worker opening w) (opens_idle opening opens w) e); good = tt; epochs = tt };
   stores = record {
-    to_come = λ w r value e. absurd (no_lock w r value (pending_held (worker opening w).phase (held (worker opening w).locks r) value e));
+    to_come = λ w r value e. absurd (no_lock w r value (pending_held (worker opening w).phase (note_at (worker opening w).locks r) value e));
     settled = λ r _. refl;
   };
 }
   where
-    no_lock : (w r : ℕ) (value : Option (List ℕ)) → held (worker opening w).locks r ≡ Some value → ⊥
-    no_lock w r value e = never_both (ap (λ l. held l r) (opens_idle opening opens w).0) e
+    no_lock : (w r : ℕ) (value : Option (List ℕ)) → note_at (worker opening w).locks r ≡ Some value → ⊥
+    no_lock w r value e = never_both (ap (λ l. note_at l r) (opens_idle opening opens w).0) e
 
 sound_on : (first : ℕ → Version) (r : Run) (events : List Event) → Holds first r.machine r.turns → AreEnabled r.machine events → Holds first (run_on r events).machine (run_on r events).turns
 sound_on first r [] h enabled = h
 sound_on first r (event ∷ events) h enabled =
-    sound_on first (record { machine = after r.machine event; turns = turns_after r.machine event r.turns }) events (step first r.machine r.turns event enabled.0 h) enabled.1
+    sound_on first (record { machine = after_event r.machine event; turns = turns_after r.machine event r.turns }) events (step first r.machine r.turns event enabled.0 h) enabled.1
 
 -- what a reader of the theorem sees of the invariant
-are_serial : (first : ℕ → Version) (ws : ℕ → Worker) (turns : List Turn) → AreGood first ws turns → IsSerial first (decided turns)
+are_serial : (first : ℕ → Version) (ws : ℕ → Worker) (turns : List Place) → AreGood first ws turns → IsSerial first (decided turns)
 are_serial first ws [] h = tt
 are_serial first ws (Waiting w e ∷ turns) h = are_serial first ws turns h.1
 are_serial first ws (Decided t ∷ turns) h = (h.0.reads.found, are_serial first ws turns h.1)
 
-are_stamped : (first : ℕ → Version) (ws : ℕ → Worker) (turns : List Turn) → AreGood first ws turns → AreStamped first (decided turns)
+are_stamped : (first : ℕ → Version) (ws : ℕ → Worker) (turns : List Place) → AreGood first ws turns → HaveLawfulTids first (decided turns)
 are_stamped first ws [] h = tt
 are_stamped first ws (Waiting w e ∷ turns) h = are_stamped first ws turns h.1
 are_stamped first ws (Decided t ∷ turns) h = (h.0.stamp, are_stamped first ws turns h.1)
 
-never_fall : (turns : List Turn) (e f : ℕ) → e ≤ f → Falling e turns → NeverFall f (decided turns)
+never_fall : (turns : List Place) (e f : ℕ) → e ≤ f → Falling e turns → NeverFall f (decided turns)
 never_fall [] e f le h = tt
 never_fall (Waiting w g ∷ turns) e f le h = never_fall turns g f (le_trans h.0 le) h.1
 never_fall (Decided t ∷ turns) e f le h = (le_trans h.0 le, never_fall turns t.epoch t.epoch (le_refl t.epoch) h.1)

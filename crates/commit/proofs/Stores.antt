@@ -3,9 +3,9 @@ use Rattle.std.proofs.Common.{◌≡◌, ◌≢◌, ℕ, ◌%◌, ◌<◌, ◌�
 use Rattle.std.proofs.lemmas.Bool.{cases_eq}
 use Rattle.tidword.specs.TidWord.{is_locked}
 use Rattle.tidword.proofs.Words.{installed-tid}
-use Rattle.commit.specs.Machine.{Worker, IsIdle, held, without, version_of}
+use Rattle.commit.specs.Machine.{Worker, IsIdle, note_at, without, version_of}
 use Rattle.commit.specs.Events.{chosen, locked_cell, written_cell}
-use Rattle.commit.specs.Turns.{IsWaiting, Transaction, Turn, transaction_of, decided, decide}
+use Rattle.commit.specs.Turns.{IsWaiting, Transaction, Place, transaction_of, decided, decide}
 use Rattle.commit.specs.Serial.{now, pending, to_install}
 use Rattle.commit.specs.declared.worker.Phase.{Phase}
 use Rattle.commit.specs.declared.worker.Phase.TheVariants.{Idle, Begun, Entered, Chosen, Failed}
@@ -16,7 +16,7 @@ use Rattle.commit.proofs.Words.{locked_word, lock_keeps_tid}
 use Rattle.commit.proofs.Invariant.{AreGood, IsFresh, unchecked, to_check, HaveLocks, AreStored, Changes}
 use Rattle.commit.proofs.Turns.{spread, now_same, now_written}
 
--- what is pending is held
+-- what is pending is note_at
 pub pending_held : (p : Phase) (o : Option (Option (List ℕ))) (value : Option (List ℕ)) → pending p o ≡ Some value → o ≡ Some value
 pending_held Chosen o value h = h
 pending_held _ o value h = absurd (never_both refl h)
@@ -25,7 +25,7 @@ pub pending_none : (p : Phase) (o : Option (Option (List ℕ))) → o ≡ None �
 pending_none p o e = none_of (pending p o) (λ value h. never_both e (pending_held p o value h))
 
 pub nothing_entered : (x : Worker) (r : ℕ) → x.phase ≡ Entered → to_install x r ≡ None
-nothing_entered x r e = ap (λ p. pending p (held x.locks r)) e
+nothing_entered x r e = ap (λ p. pending p (note_at x.locks r)) e
 
 -- what may be validated was read
 pub unchecked_held : (p : Phase) (o : Option Version) (v : Version) → unchecked p o ≡ Some v → o ≡ Some v
@@ -41,7 +41,7 @@ nothing_idle x r h = ⊎_elim
     h.1
   where
     over : Phase → Option Version
-    over p = unchecked p (held x.reads r)
+    over p = unchecked p (note_at x.reads r)
 
 -- a record that changes to another with the same version
 pub versions_kept : {cs cs' : ℕ → Cell} {n : ℕ} {c : Cell} → Changes cs cs' n c → version_of c ≡ version_of (cs n) → (r : ℕ) → version_of (cs' r) ≡ version_of (cs r)
@@ -49,8 +49,8 @@ versions_kept {cs} {cs'} {n} {c} change same = spread (λ r (d : Cell). version_
 
 module _ (ws ws' : ℕ → Worker) (cs cs' : ℕ → Cell) (w : ℕ) (x : Worker) (change : Changes ws ws' w x) where
   -- no lock more
-  pub locks_kept : HaveLocks ws cs → ((r : ℕ) (value : Option (List ℕ)) → held x.locks r ≡ Some value → held (ws w).locks r ≡ Some value)
-      → ((k r : ℕ) (value : Option (List ℕ)) → held (ws' k).locks r ≡ Some value → is_locked (cs r).word ≡ true → is_locked (cs' r).word ≡ true)
+  pub locks_kept : HaveLocks ws cs → ((r : ℕ) (value : Option (List ℕ)) → note_at x.locks r ≡ Some value → note_at (ws w).locks r ≡ Some value)
+      → ((k r : ℕ) (value : Option (List ℕ)) → note_at (ws' k).locks r ≡ Some value → is_locked (cs r).word ≡ true → is_locked (cs' r).word ≡ true)
       → ((r : ℕ) (v : Version) → to_check x r ≡ Some v → IsFresh v (version_of (cs r)))
       → ((r : ℕ) (v : Version) → IsFresh v (version_of (cs r)) → IsFresh v (version_of (cs' r)))
       → HaveLocks ws' cs'
@@ -60,24 +60,24 @@ module _ (ws ws' : ℕ → Worker) (cs cs' : ℕ → Cell) (w : ℕ) (x : Worker
     fresh = λ k r v. spread (λ k (x : Worker). to_check x r ≡ Some v → IsFresh v (version_of (cs' r))) change (λ e. grown r v (reads r v e)) (λ k apart e. grown r v (h.fresh k r v e)) k;
   }
     where
-      had : (k r : ℕ) (value : Option (List ℕ)) → held (ws' k).locks r ≡ Some value → held (ws k).locks r ≡ Some value
-      had k r value = spread (λ k (x : Worker). held x.locks r ≡ Some value → held (ws k).locks r ≡ Some value) change (fewer r value) (λ k apart e. e) k
+      had : (k r : ℕ) (value : Option (List ℕ)) → note_at (ws' k).locks r ≡ Some value → note_at (ws k).locks r ≡ Some value
+      had k r value = spread (λ k (x : Worker). note_at x.locks r ≡ Some value → note_at (ws k).locks r ≡ Some value) change (fewer r value) (λ k apart e. e) k
 
 -- worker w locks record n, which isn't locked
 module _ (ws ws' : ℕ → Worker) (cs cs' : ℕ → Cell) (w n : ℕ) (locked_with : Option (List ℕ)) (change : Changes ws ws' w (record (ws w) { locks = (ws w).locks ++ (n, locked_with) ∷ [] })) (changed : Changes cs cs' n (locked_cell (cs n))) where
   pub locks_taken : HaveLocks ws cs → is_locked (cs n).word ≡ false → HaveLocks ws' cs'
   locks_taken h unlocked = record {
     locked = λ k r value e. ⊎_elim
-        (λ (q : (r ≢ n) × (held (ws k).locks r ≡ Some value)). ap (λ (c : Cell). is_locked c.word) (changed.there r q.0) ∙ h.locked k r value q.1)
+        (λ (q : (r ≢ n) × (note_at (ws k).locks r ≡ Some value)). ap (λ (c : Cell). is_locked c.word) (changed.there r q.0) ∙ h.locked k r value q.1)
         (λ (q : (r ≡ n) × (k ≡ w)). ap (λ j. is_locked (cs' j).word) q.0 ∙ ap (λ (c : Cell). is_locked c.word) changed.here ∙ locked_word (cs n).word unlocked)
         (had k r value e);
     single = λ k j r value other e f. ⊎_elim
-        (λ (q : (r ≢ n) × (held (ws k).locks r ≡ Some value)). ⊎_elim
-        (λ (p : (r ≢ n) × (held (ws j).locks r ≡ Some other)). h.single k j r value other q.1 p.1)
+        (λ (q : (r ≢ n) × (note_at (ws k).locks r ≡ Some value)). ⊎_elim
+        (λ (p : (r ≢ n) × (note_at (ws j).locks r ≡ Some other)). h.single k j r value other q.1 p.1)
         (λ (p : (r ≡ n) × (j ≡ w)). absurd (q.0 p.0))
         (had j r other f))
         (λ (q : (r ≡ n) × (k ≡ w)). ⊎_elim
-        (λ (p : (r ≢ n) × (held (ws j).locks r ≡ Some other)). absurd (p.0 q.0))
+        (λ (p : (r ≢ n) × (note_at (ws j).locks r ≡ Some other)). absurd (p.0 q.0))
         (λ (p : (r ≡ n) × (j ≡ w)). q.1 ∙ sym p.1)
         (had j r other f))
         (had k r value e);
@@ -88,13 +88,13 @@ module _ (ws ws' : ℕ → Worker) (cs cs' : ℕ → Cell) (w n : ℕ) (locked_w
       same : version_of (locked_cell (cs n)) ≡ version_of (cs n)
       same = ap (λ t. record { tid = t; value = (cs n).value }) (lock_keeps_tid (cs n).word unlocked)
 
-      elsewhere : (k r : ℕ) (value : Option (List ℕ)) → held (ws k).locks r ≡ Some value → r ≢ n
+      elsewhere : (k r : ℕ) (value : Option (List ℕ)) → note_at (ws k).locks r ≡ Some value → r ≢ n
       elsewhere k r value e q = true≢false (sym (h.locked k r value e) ∙ ap (λ j. is_locked (cs j).word) q ∙ unlocked)
 
-      had : (k r : ℕ) (value : Option (List ℕ)) → held (ws' k).locks r ≡ Some value → ((r ≢ n) × (held (ws k).locks r ≡ Some value)) ⊎ ((r ≡ n) × (k ≡ w))
-      had k r value = spread (λ k (x : Worker). held x.locks r ≡ Some value → ((r ≢ n) × (held (ws k).locks r ≡ Some value)) ⊎ ((r ≡ n) × (k ≡ w))) change
+      had : (k r : ℕ) (value : Option (List ℕ)) → note_at (ws' k).locks r ≡ Some value → ((r ≢ n) × (note_at (ws k).locks r ≡ Some value)) ⊎ ((r ≡ n) × (k ≡ w))
+      had k r value = spread (λ k (x : Worker). note_at x.locks r ≡ Some value → ((r ≢ n) × (note_at (ws k).locks r ≡ Some value)) ⊎ ((r ≡ n) × (k ≡ w))) change
           (λ e. ⊎_elim
-          (λ (q : held (ws w).locks r ≡ Some value). inl (elsewhere w r value q, q))
+          (λ (q : note_at (ws w).locks r ≡ Some value). inl (elsewhere w r value q, q))
           (λ (q : (n ≡ r) × (locked_with ≡ value)). inr (sym q.0, refl))
           (held_more (ws w).locks n locked_with r value e))
           (λ k apart e. inl (elsewhere k r value e, e))
@@ -125,8 +125,8 @@ module _ (first : ℕ → Version) (ws ws' : ℕ → Worker) (cs cs' : ℕ → C
 
 -- worker w has taken a TID
 module _ (first : ℕ → Version) (ws ws' : ℕ → Worker) (cs : ℕ → Cell) (w tid : ℕ) (change : Changes ws ws' w (chosen (ws w) (Some tid))) where
-  pub choice : (turns : List Turn) → AreStored first ws cs (decided turns) → HaveLocks ws cs → AreGood first ws turns → IsWaiting w turns → (ws w).phase ≡ Entered → tid % 8 ≡ 0
-      → ((r : ℕ) (value : Option (List ℕ)) → held (ws w).locks r ≡ Some value → (version_of (cs r)).tid < tid)
+  pub choice : (turns : List Place) → AreStored first ws cs (decided turns) → HaveLocks ws cs → AreGood first ws turns → IsWaiting w turns → (ws w).phase ≡ Entered → tid % 8 ≡ 0
+      → ((r : ℕ) (value : Option (List ℕ)) → note_at (ws w).locks r ≡ Some value → (version_of (cs r)).tid < tid)
       → AreStored first ws' cs (decided (decide w (transaction_of w (chosen (ws w) (Some tid))) turns))
   choice turns h locks good waits entered bits above = record {
     to_come = λ k r value. spread
@@ -135,8 +135,8 @@ module _ (first : ℕ → Version) (ws ws' : ℕ → Worker) (cs : ℕ → Cell)
         (λ e. (now_written first ws ws' w tid change turns r value good waits e, above r value e, bits))
         (λ k apart e.
         let old : (now first (decided turns) r ≡ record { tid = (ws k).last; value = value }) × ((version_of (cs r)).tid < (ws k).last) × ((ws k).last % 8 ≡ 0) = h.to_come k r value e in
-        let lock : held (ws k).locks r ≡ Some value = pending_held (ws k).phase (held (ws k).locks r) value e in
-        let none : held (ws w).locks r ≡ None = none_of (held (ws w).locks r) (λ u f. apart (locks.single k w r value u lock f)) in
+        let lock : note_at (ws k).locks r ≡ Some value = pending_held (ws k).phase (note_at (ws k).locks r) value e in
+        let none : note_at (ws w).locks r ≡ None = none_of (note_at (ws w).locks r) (λ u f. apart (locks.single k w r value u lock f)) in
         (now_same first ws ws' w tid change turns r (λ _. none) ∙ old.0, old.1, old.2))
         k;
     settled = λ r all. now_same first ws ws' w tid change turns r (λ _. sym (ap (λ (x : Worker). to_install x r) change.here) ∙ all w)
@@ -149,9 +149,9 @@ module _ (first : ℕ → Version) (ws ws' : ℕ → Worker) (cs : ℕ → Cell)
 -- worker w installs record n
 module _ (first : ℕ → Version) (ws ws' : ℕ → Worker) (cs cs' : ℕ → Cell) (w n : ℕ) (installed : Option (List ℕ))
     (change : Changes ws ws' w (record (ws w) { locks = without (ws w).locks n })) (changed : Changes cs cs' n (written_cell (cs n) (ws w).last (Some installed)))
-    (transactions : List Transaction) (h : AreStored first ws cs transactions) (locks : HaveLocks ws cs) (is_chosen : (ws w).phase ≡ Chosen) (lock : held (ws w).locks n ≡ Some installed) where
+    (transactions : List Transaction) (h : AreStored first ws cs transactions) (locks : HaveLocks ws cs) (is_chosen : (ws w).phase ≡ Chosen) (lock : note_at (ws w).locks n ≡ Some installed) where
   its : (now first transactions n ≡ record { tid = (ws w).last; value = installed }) × ((version_of (cs n)).tid < (ws w).last) × ((ws w).last % 8 ≡ 0)
-  its = h.to_come w n installed (ap (λ p. pending p (held (ws w).locks n)) is_chosen ∙ lock)
+  its = h.to_come w n installed (ap (λ p. pending p (note_at (ws w).locks n)) is_chosen ∙ lock)
 
   pub new_version : version_of (cs' n) ≡ record { tid = (ws w).last; value = installed }
   new_version = ap version_of changed.here ∙ ap (λ t. record { tid = t; value = installed }) (installed-tid (ws w).last installed its.2)
@@ -159,8 +159,8 @@ module _ (first : ℕ → Version) (ws ws' : ℕ → Worker) (cs cs' : ℕ → C
   -- nobody is to install it any more
   none_here : (k : ℕ) → to_install (ws' k) n ≡ None
   none_here = spread (λ k (x : Worker). to_install x n ≡ None) change
-      (pending_none (ws w).phase (held (without (ws w).locks n) n) (held_without (ws w).locks n))
-      (λ k apart. pending_none (ws k).phase (held (ws k).locks n) (none_of (held (ws k).locks n) (λ u e. apart (locks.single k w n u installed e lock))))
+      (pending_none (ws w).phase (note_at (without (ws w).locks n) n) (held_without (ws w).locks n))
+      (λ k apart. pending_none (ws k).phase (note_at (ws k).locks n) (none_of (note_at (ws k).locks n) (λ u e. apart (locks.single k w n u installed e lock))))
 
   as_before : (k r : ℕ) → r ≢ n → to_install (ws' k) r ≡ to_install (ws k) r
   as_before k r e = spread (λ k (x : Worker). to_install x r ≡ to_install (ws k) r) change (ap (pending (ws w).phase) (held_elsewhere (ws w).locks n r e)) (λ k apart. refl) k
@@ -195,9 +195,9 @@ module _ (first : ℕ → Version) (ws ws' : ℕ → Worker) (cs cs' : ℕ → C
       (cases_eq r n)
 
 -- worker w's lock of record n is gone, and nobody has another
-pub left : (ws ws' : ℕ → Worker) (cs : ℕ → Cell) (w n : ℕ) (mine : Option (List ℕ)) → Changes ws ws' w (record (ws w) { locks = without (ws w).locks n }) → HaveLocks ws cs → held (ws w).locks n ≡ Some mine
-    → (k r : ℕ) (value : Option (List ℕ)) → held (ws' k).locks r ≡ Some value → r ≢ n
-left ws ws' cs w n mine change h lock k r value = spread (λ k (x : Worker). held x.locks r ≡ Some value → r ≢ n) change
+pub left : (ws ws' : ℕ → Worker) (cs : ℕ → Cell) (w n : ℕ) (mine : Option (List ℕ)) → Changes ws ws' w (record (ws w) { locks = without (ws w).locks n }) → HaveLocks ws cs → note_at (ws w).locks n ≡ Some mine
+    → (k r : ℕ) (value : Option (List ℕ)) → note_at (ws' k).locks r ≡ Some value → r ≢ n
+left ws ws' cs w n mine change h lock k r value = spread (λ k (x : Worker). note_at x.locks r ≡ Some value → r ≢ n) change
     (λ e. (held_left (ws w).locks n r value e).0)
-    (λ k apart e q. apart (h.single k w n value mine (subst (λ j. held (ws k).locks j ≡ Some value) q e) lock))
+    (λ k apart e q. apart (h.single k w n value mine (subst (λ j. note_at (ws k).locks j ≡ Some value) q e) lock))
     k

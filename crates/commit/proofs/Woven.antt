@@ -4,9 +4,9 @@ use Rattle.std.proofs.lemmas.List.{get_or-set_same, get_or-set_other, length-set
 use Rattle.std.proofs.lemmas.List.Elements.{All-head, All-tail}
 use Rattle.tidword.specs.TidWord.{tid_of, is_locked}
 use Rattle.tidword.specs.Lawful.{next}
-use Rattle.commit.specs.Machine.{Machine, Worker, IsIdle, idle_worker, no_cell, held, without, worker, version_of}
-use Rattle.commit.specs.Events.{IsEnabled, AreEnabled, after, after_all, validated_by, chosen, greatest_read, greatest_locked, seen_by, locked_cell, unlocked_cell, written_cell}
-use Rattle.commit.specs.Weaving.{actor, AreOwn, IsBetween, ReadsEpoch, LooksSame, IsWoven, over, mine, between, MayBeWoven}
+use Rattle.commit.specs.Machine.{Machine, Worker, IsIdle, idle_worker, no_cell, note_at, without, worker, version_of}
+use Rattle.commit.specs.Events.{IsEnabled, AreEnabled, after_event, after_all, validated_by, chosen, greatest_read, greatest_locked, seen_by, locked_cell, unlocked_cell, written_cell}
+use Rattle.commit.specs.Weaving.{actor, AreOwn, IsOfOthers, ReadsEpoch, LooksSame, IsWoven, over, mine, between, MayBeWoven}
 use Rattle.commit.specs.declared.worker.Phase.TheVariants.{Begun, Entered, Chosen, Failed}
 use Rattle.commit.specs.declared.worker.Cell.{Cell}
 use Rattle.commit.specs.declared.event.Event.{Event}
@@ -28,13 +28,13 @@ Sight = ℕ × Worker × List Cell
 -- where an event may happen, by what its worker sees
 abbrev Ready : Event → ℕ → Sight → Type 0
 Ready (Begin k) w s = (w < s.0) × IsIdle s.1
-Ready (Read k r) w s = (w < s.0) × (r < length s.2) × (s.1.phase ≡ Begun) × (s.1.locks ≡ []) × (held s.1.reads r ≡ None)
+Ready (Read k r) w s = (w < s.0) × (r < length s.2) × (s.1.phase ≡ Begun) × (s.1.locks ≡ []) × (note_at s.1.reads r ≡ None)
 Ready (Lock k r value) w s = (w < s.0) × (r < length s.2) × (s.1.phase ≡ Begun) × All (λ lock. lock.0 < r) s.1.locks × (is_locked (at s.2 r).word ≡ false)
 Ready (ReadEpoch k) w s = (w < s.0) × (s.1.phase ≡ Begun)
-Ready (Validate k r) w s = (w < s.0) × (s.1.phase ≡ Entered) × IsSome (held s.1.reads r)
+Ready (Validate k r) w s = (w < s.0) × (s.1.phase ≡ Entered) × IsSome (note_at s.1.reads r)
 Ready (ChooseTid k) w s = (w < s.0) × (s.1.phase ≡ Entered) × (s.1.reads ≡ [])
-Ready (Install k r) w s = (w < s.0) × (s.1.phase ≡ Chosen) × IsSome (held s.1.locks r)
-Ready (Unlock k r) w s = (w < s.0) × (s.1.phase ≡ Failed) × IsSome (held s.1.locks r)
+Ready (Install k r) w s = (w < s.0) × (s.1.phase ≡ Chosen) × IsSome (note_at s.1.locks r)
+Ready (Unlock k r) w s = (w < s.0) × (s.1.phase ≡ Failed) × IsSome (note_at s.1.locks r)
 Ready AdvanceEpoch w s = Unit {0}
 
 module _ (w : ℕ) (a b : Machine) (same : LooksSame w a b) where
@@ -62,7 +62,7 @@ module _ (w : ℕ) (a b : Machine) (same : LooksSame w a b) where
 
 -- an event of the worker's own may happen in the second machine too, and leaves the two the same to it
 abbrev Steps : ℕ → Machine → Machine → Event → Type 0
-Steps w a b e = IsEnabled b e × LooksSame w (after a e) (after b e)
+Steps w a b e = IsEnabled b e × LooksSame w (after_event a e) (after_event b e)
 
 follow : (k w : ℕ) (a b : Machine) (e : Event) → Some k ≡ Some w → LooksSame w a b → (LooksSame k a b → Steps k a b e) → Steps w a b e
 follow k w a b e is same go = subst (λ q. Steps q a b e) (same_number k w is) (go (subst (λ q. LooksSame q a b) (sym (same_number k w is)) same))
@@ -70,46 +70,46 @@ follow k w a b e is same go = subst (λ q. Steps q a b e) (same_number k w is) (
 step : (e : Event) (w : ℕ) (a b : Machine) → actor e ≡ Some w → LooksSame w a b → IsEnabled a e → ReadsEpoch a.epoch b e → Steps w a b e
 step (Begin k) w a b is same h r = follow k w a b (Begin k) is same (λ s. (
   ready_too k a b s (Begin k) h,
-  moves k a b s _ _ (after a (Begin k)) (after b (Begin k)) h.0 refl refl (ap (λ (x : Worker). record x { phase = Begun; reads = [] }) s.own) s.records,
+  moves k a b s _ _ (after_event a (Begin k)) (after_event b (Begin k)) h.0 refl refl (ap (λ (x : Worker). record x { phase = Begun; reads = [] }) s.own) s.records,
 ))
 step (Read k r) w a b is same h e = follow k w a b (Read k r) is same (λ s. (
   ready_too k a b s (Read k r) h,
-  moves k a b s _ _ (after a (Read k r)) (after b (Read k r)) h.0 refl refl (λ i. record (s.own i) { reads = (s.own i).reads ++ (r, version_of (at (s.records i) r)) ∷ [] }) s.records,
+  moves k a b s _ _ (after_event a (Read k r)) (after_event b (Read k r)) h.0 refl refl (λ i. record (s.own i) { reads = (s.own i).reads ++ (r, version_of (at (s.records i) r)) ∷ [] }) s.records,
 ))
 step (Lock k r value) w a b is same h e = follow k w a b (Lock k r value) is same (λ s. (
   ready_too k a b s (Lock k r value) h,
-  moves k a b s _ _ (after a (Lock k r value)) (after b (Lock k r value)) h.0 refl refl
+  moves k a b s _ _ (after_event a (Lock k r value)) (after_event b (Lock k r value)) h.0 refl refl
       (ap (λ (x : Worker). record x { locks = x.locks ++ (r, value) ∷ [] }) s.own)
       (ap (λ (l : List Cell). slice_set l r (locked_cell (at l r))) s.records),
 ))
 step (ReadEpoch k) w a b is same h e = follow k w a b (ReadEpoch k) is same (λ s. (
   ready_too k a b s (ReadEpoch k) h,
-  moves k a b s _ _ (after a (ReadEpoch k)) (after b (ReadEpoch k)) h.0 refl refl (λ i. record (s.own i) { phase = Entered; epoch = e i; validated = [] }) s.records,
+  moves k a b s _ _ (after_event a (ReadEpoch k)) (after_event b (ReadEpoch k)) h.0 refl refl (λ i. record (s.own i) { phase = Entered; epoch = e i; validated = [] }) s.records,
 ))
 step (Validate k r) w a b is same h e = follow k w a b (Validate k r) is same (λ s. (
   ready_too k a b s (Validate k r) h,
-  moves k a b s _ _ (after a (Validate k r)) (after b (Validate k r)) h.0 refl refl (λ i. validated_by (s.own i) r (at (s.records i) r) (held (s.own i).reads r)) s.records,
+  moves k a b s _ _ (after_event a (Validate k r)) (after_event b (Validate k r)) h.0 refl refl (λ i. validated_by (s.own i) r (at (s.records i) r) (note_at (s.own i).reads r)) s.records,
 ))
 step (ChooseTid k) w a b is same h e = follow k w a b (ChooseTid k) is same (λ s. (
   ready_too k a b s (ChooseTid k) h,
-  moves k a b s _ _ (after a (ChooseTid k)) (after b (ChooseTid k)) h.0 refl refl (λ i. chosen (s.own i) (next (tid_of (same_seen k a b s i)) (tid_of (s.own i).last) (s.own i).epoch)) s.records,
+  moves k a b s _ _ (after_event a (ChooseTid k)) (after_event b (ChooseTid k)) h.0 refl refl (λ i. chosen (s.own i) (next (tid_of (same_seen k a b s i)) (tid_of (s.own i).last) (s.own i).epoch)) s.records,
 ))
 step (Install k r) w a b is same h e = follow k w a b (Install k r) is same (λ s. (
   ready_too k a b s (Install k r) h,
-  moves k a b s _ _ (after a (Install k r)) (after b (Install k r)) h.0 refl refl
+  moves k a b s _ _ (after_event a (Install k r)) (after_event b (Install k r)) h.0 refl refl
       (ap (λ (x : Worker). record x { locks = without x.locks r }) s.own)
-      (λ i. slice_set (s.records i) r (written_cell (at (s.records i) r) (s.own i).last (held (s.own i).locks r))),
+      (λ i. slice_set (s.records i) r (written_cell (at (s.records i) r) (s.own i).last (note_at (s.own i).locks r))),
 ))
 step (Unlock k r) w a b is same h e = follow k w a b (Unlock k r) is same (λ s. (
   ready_too k a b s (Unlock k r) h,
-  moves k a b s _ _ (after a (Unlock k r)) (after b (Unlock k r)) h.0 refl refl
+  moves k a b s _ _ (after_event a (Unlock k r)) (after_event b (Unlock k r)) h.0 refl refl
       (ap (λ (x : Worker). record x { locks = without x.locks r }) s.own)
       (ap (λ (l : List Cell). slice_set l r (unlocked_cell (at l r))) s.records),
 ))
 step AdvanceEpoch w a b is same h e = absurd (no_number w is)
 
 -- the worker's own events leave the epoch
-same_epoch : (e : Event) (w : ℕ) (a : Machine) → actor e ≡ Some w → (after a e).epoch ≡ a.epoch
+same_epoch : (e : Event) (w : ℕ) (a : Machine) → actor e ≡ Some w → (after_event a e).epoch ≡ a.epoch
 same_epoch (Begin k) w a is = refl
 same_epoch (Read k r) w a is = refl
 same_epoch (Lock k r value) w a is = refl
@@ -128,9 +128,9 @@ untouched w k a b c x same other is records = record {
   workers = ap (λ (l : List Worker). length l) is ∙ length-set b.workers k x ∙ same.workers;
 }
 
-pass : (e : Event) (w : ℕ) (a b : Machine) → IsBetween w e → LooksSame w a b → LooksSame w a (after b e)
-pass (Begin k) w a b other same = untouched w k a b (after b (Begin k)) _ same other refl refl
-pass (Read k r) w a b other same = untouched w k a b (after b (Read k r)) _ same other refl refl
+pass : (e : Event) (w : ℕ) (a b : Machine) → IsOfOthers w e → LooksSame w a b → LooksSame w a (after_event b e)
+pass (Begin k) w a b other same = untouched w k a b (after_event b (Begin k)) _ same other refl refl
+pass (Read k r) w a b other same = untouched w k a b (after_event b (Read k r)) _ same other refl refl
 pass (Lock k r value) w a b other same = absurd other
 pass (ReadEpoch k) w a b other same = absurd other
 pass (Validate k r) w a b other same = absurd other
@@ -148,10 +148,10 @@ go over a are_own is enabled same = (tt, same)
 go {w} {epoch} {b} (mine {event = e} {own = own} reads rest) a are_own is enabled same =
     let own_first : actor e ≡ Some w = All-head (λ event. actor event ≡ Some w) e own are_own in
     let first : Steps w a b e = step e w a b own_first same enabled.0 (reads_same e epoch a.epoch b is reads) in
-    let later : AreEnabled (after b e) _ × LooksSame w (after_all (after a e) own) _ = go rest (after a e) (All-tail (λ event. actor event ≡ Some w) e own are_own) (same_epoch e w a own_first ∙ is) enabled.1 first.1 in
+    let later : AreEnabled (after_event b e) _ × LooksSame w (after_all (after_event a e) own) _ = go rest (after_event a e) (All-tail (λ event. actor event ≡ Some w) e own are_own) (same_epoch e w a own_first ∙ is) enabled.1 first.1 in
     ((first.0, later.0), later.1)
 go {w} {epoch} {b} {own} (between {event = e} other may rest) a are_own is enabled same =
-    let later : AreEnabled (after b e) _ × LooksSame w (after_all a own) _ = go rest a are_own is enabled (pass e w a b other same) in
+    let later : AreEnabled (after_event b e) _ × LooksSame w (after_all a own) _ = go rest a are_own is enabled (pass e w a b other same) in
     ((may, later.0), later.1)
 
 pub woven : (m : Machine) (w : ℕ) (own : List Event) → AreOwn w own → AreEnabled m own → MayBeWoven m w own

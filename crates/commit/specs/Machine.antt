@@ -7,9 +7,9 @@ use Rattle.commit.specs.declared.worker.Cell.{Cell}
 use Rattle.commit.specs.declared.worker.Version.{Version}
 
 -- what a list of notes by record has of record r: the first note
-abbrev pub held : {X : Type 0} → List (ℕ × X) → ℕ → Option X
-held [] r = None
-held (note ∷ notes) r = if note.0 == r then Some note.1 else held notes r
+abbrev pub note_at : {X : Type 0} → List (ℕ × X) → ℕ → Option X
+note_at [] r = None
+note_at (note ∷ notes) r = if note.0 == r then Some note.1 else note_at notes r
 
 -- the notes without those of record r
 abbrev pub without : {X : Type 0} → List (ℕ × X) → ℕ → List (ℕ × X)

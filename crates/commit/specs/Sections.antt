@@ -6,7 +6,7 @@ use Rattle.std.specs.List.Sorted.{IsStrictlySortedBy}
 use Rattle.std.specs.Map.{keys_of}
 use Rattle.tidword.specs.TidWord.{tid_of, is_locked, is_latest}
 use Rattle.tidword.specs.Lawful.{next}
-use Rattle.commit.specs.Machine.{Machine, held, cell, worker}
+use Rattle.commit.specs.Machine.{Machine, note_at, cell, worker}
 use Rattle.commit.specs.Events.{AreEnabled, after_all, greatest_read, greatest_locked, written_cell}
 use Rattle.commit.specs.declared.worker.Phase.TheVariants.{Begun, Chosen, Failed}
 use Rattle.commit.specs.declared.worker.Version.{Version}
@@ -61,7 +61,7 @@ pub record MayLock (m : Machine) (w : ℕ) (writes : Writes) : Type 0 where
 
 -- worker w has read these and no others, in whatever order; they stand in ascending order of their records, by which it validates them
 pub record HasRead (m : Machine) (w : ℕ) (reads : Reads) : Type 0 where
-  pub all : (r : ℕ) → held (worker m w).reads r ≡ held reads r
+  pub all : (r : ℕ) → note_at (worker m w).reads r ≡ note_at reads r
   pub ascending : IsStrictlySortedBy nat_cmp (keys_of reads)
 
 -- each record still has the TID that was read
@@ -91,7 +91,7 @@ pub record KeepsOthers (before after : Machine) (w : ℕ) : Type 0 where
 
 -- worker w has committed these writes with this TID: each record written has its new value and its new word, unlocked, and no other record differs
 pub record HasCommitted (before after : Machine) (w : ℕ) (writes : Writes) (tid : ℕ) : Type 0 where
-  pub cells : (r : ℕ) → cell after r ≡ written_cell (cell before r) tid (held writes r)
+  pub cells : (r : ℕ) → cell after r ≡ written_cell (cell before r) tid (note_at writes r)
   pub chosen : (worker after w).phase ≡ Chosen
   pub lockless : (worker after w).locks ≡ []
   pub last : (worker after w).last ≡ tid

@@ -1,6 +1,6 @@
 -- What is true of every run: its transactions are serial in the order of their turns (Silo, section 4.4).
 use Rattle.std.specs.Prelude.{◌≡◌, ℕ, ◌≤◌, ◌<◌, ◌/◌, ◌%◌, ◌^◌, Option, Some, None, List, [], ◌∷◌, All}
-use Rattle.commit.specs.Machine.{Machine, Worker, held, cell, worker, version_of}
+use Rattle.commit.specs.Machine.{Machine, Worker, note_at, cell, worker, version_of}
 use Rattle.commit.specs.Turns.{Transaction, Run, IsWaiting, decided}
 use Rattle.commit.specs.declared.worker.Phase.{Phase}
 use Rattle.commit.specs.declared.worker.Phase.TheVariants.{Entered, Chosen}
@@ -14,24 +14,24 @@ overwritten v tid None = v
 -- the version of record r after these transactions, newest first, one after another, from these first versions
 abbrev pub now : (ℕ → Version) → List Transaction → ℕ → Version
 now first [] r = first r
-now first (t ∷ earlier) r = overwritten (now first earlier r) t.tid (held t.writes r)
+now first (t ∷ earlier) r = overwritten (now first earlier r) t.tid (note_at t.writes r)
 
 -- serial: each transaction read the versions that the earlier ones leave
 abbrev pub IsSerial : (ℕ → Version) → List Transaction → Type 0
 IsSerial first [] = Unit {0}
-IsSerial first (t ∷ earlier) = ((r : ℕ) (v : Version) → held t.reads r ≡ Some v → now first earlier r ≡ v) × IsSerial first earlier
+IsSerial first (t ∷ earlier) = ((r : ℕ) (v : Version) → note_at t.reads r ≡ Some v → now first earlier r ≡ v) × IsSerial first earlier
 
 -- a transaction's TID: no status bits, of its epoch, larger than those of the versions that it read and of those that it replaces, and than those of its worker's earlier transactions (Silo, section 4.2)
 pub record IsStamped (first : ℕ → Version) (t : Transaction) (earlier : List Transaction) : Type 0 where
   pub bits : t.tid % 8 ≡ 0
   pub in_epoch : t.tid / 2 ^ 32 ≡ t.epoch
-  pub above_read : (r : ℕ) (v : Version) → held t.reads r ≡ Some v → v.tid < t.tid
-  pub above_replaced : (r : ℕ) (value : Option (List ℕ)) → held t.writes r ≡ Some value → (now first earlier r).tid < t.tid
+  pub above_read : (r : ℕ) (v : Version) → note_at t.reads r ≡ Some v → v.tid < t.tid
+  pub above_replaced : (r : ℕ) (value : Option (List ℕ)) → note_at t.writes r ≡ Some value → (now first earlier r).tid < t.tid
   pub above_own : All (λ u. u.worker ≡ t.worker → u.tid < t.tid) earlier
 
-abbrev pub AreStamped : (ℕ → Version) → List Transaction → Type 0
-AreStamped first [] = Unit {0}
-AreStamped first (t ∷ earlier) = IsStamped first t earlier × AreStamped first earlier
+abbrev pub HaveLawfulTids : (ℕ → Version) → List Transaction → Type 0
+HaveLawfulTids first [] = Unit {0}
+HaveLawfulTids first (t ∷ earlier) = IsStamped first t earlier × HaveLawfulTids first earlier
 
 -- the epochs never fall along the order, and none is above this one
 abbrev pub NeverFall : ℕ → List Transaction → Type 0
@@ -44,7 +44,7 @@ pending Chosen value = value
 pending _ value = None
 
 abbrev pub to_install : Worker → ℕ → Option (Option (List ℕ))
-to_install x r = pending x.phase (held x.locks r)
+to_install x r = pending x.phase (note_at x.locks r)
 
 -- the last version v of record r is the record's, where no worker is still to install one; and it is what such a worker installs
 pub record IsSettled (m : Machine) (r : ℕ) (v : Version) : Type 0 where
@@ -58,7 +58,7 @@ first_versions opening r = version_of (cell opening r)
 -- where a run ends: its transactions are serial in the order of their turns, with lawful TIDs and epochs that never fall; whoever has read its epoch and hasn't decided has a turn, so that no transaction is left out; and the records are as the transactions leave them
 pub record IsSerialRun (opening : Machine) (end : Run) : Type 0 where
   pub serial : IsSerial (first_versions opening) (decided end.turns)
-  pub stamped : AreStamped (first_versions opening) (decided end.turns)
+  pub stamped : HaveLawfulTids (first_versions opening) (decided end.turns)
   pub epochs : NeverFall end.machine.epoch (decided end.turns)
   pub waiting : (w : ℕ) → (worker end.machine w).phase ≡ Entered → IsWaiting w end.turns
   pub settled : (r : ℕ) → IsSettled end.machine r (now (first_versions opening) (decided end.turns) r)

@@ -2,7 +2,7 @@
 use Rattle.std.specs.Prelude.{◌≡◌, ◌≢◌, ℕ, Option, Some, None, List, [], ◌∷◌, length}
 use Rattle.std.specs.List.{All}
 use Rattle.commit.specs.Machine.{Machine, worker}
-use Rattle.commit.specs.Events.{IsEnabled, AreEnabled, after, after_all}
+use Rattle.commit.specs.Events.{IsEnabled, AreEnabled, after_event, after_all}
 use Rattle.commit.specs.declared.event.Event.{Event}
 use Rattle.commit.specs.declared.event.Event.TheVariants.{Begin, Read, Lock, ReadEpoch, Validate, ChooseTid, Install, Unlock, AdvanceEpoch}
 
@@ -23,11 +23,11 @@ abbrev pub AreOwn : ℕ → List Event → Type 0
 AreOwn w events = All (λ event. actor event ≡ Some w) events
 
 -- what others may do between: they begin and read, and the epoch goes on
-abbrev pub IsBetween : ℕ → Event → Type 0
-IsBetween w (Begin k) = k ≢ w
-IsBetween w (Read k r) = k ≢ w
-IsBetween w AdvanceEpoch = Unit {0}
-IsBetween w _ = ⊥
+abbrev pub IsOfOthers : ℕ → Event → Type 0
+IsOfOthers w (Begin k) = k ≢ w
+IsOfOthers w (Read k r) = k ≢ w
+IsOfOthers w AdvanceEpoch = Unit {0}
+IsOfOthers w _ = ⊥
 
 -- the machine's epoch is this one where an event reads it
 abbrev pub ReadsEpoch : ℕ → Machine → Event → Type 0
@@ -43,8 +43,8 @@ pub record LooksSame (w : ℕ) (a b : Machine) : Type 0 where
 -- from machine m on, the events are worker w's own, in their order, and between them what others may do, each where it may happen; w reads this epoch
 pub data IsWoven (w epoch : ℕ) : Machine → List Event → List Event → Type 0 where
   over : {m : Machine} → IsWoven w epoch m [] []
-  mine : {m : Machine} {event : Event} {own events : List Event} → ReadsEpoch epoch m event → IsWoven w epoch (after m event) own events → IsWoven w epoch m (event ∷ own) (event ∷ events)
-  between : {m : Machine} {event : Event} {own events : List Event} → IsBetween w event → IsEnabled m event → IsWoven w epoch (after m event) own events → IsWoven w epoch m own (event ∷ events)
+  mine : {m : Machine} {event : Event} {own events : List Event} → ReadsEpoch epoch m event → IsWoven w epoch (after_event m event) own events → IsWoven w epoch m (event ∷ own) (event ∷ events)
+  between : {m : Machine} {event : Event} {own events : List Event} → IsOfOthers w event → IsEnabled m event → IsWoven w epoch (after_event m event) own events → IsWoven w epoch m own (event ∷ events)
 
 -- worker w's own events of a run from machine m may stand with what others do between them, from any machine that looks the same to w and in which w reads the same epoch: each may still happen, and the end looks the same to w
 abbrev pub MayBeWoven : Machine → ℕ → List Event → Type 0

@@ -1,10 +1,10 @@
 //! Lists of notes by record.
 ghost use Rattle.std.specs.Prelude.{◌≡◌};
-ghost use Rattle.commit.specs.Machine.{held, without};
+ghost use Rattle.commit.specs.Machine.{note_at, without};
 
 /// What the notes have of a record: the first note. Costs a pass over them.
 pub(crate) fn held<X: Copy>(notes: &[(u32, X)], number: u32) -> Option<X>
-    ensures { result ≡ held notes.now number }
+    ensures { result ≡ note_at notes.now number }
 {
     for note in notes {
         if note.0 == number {

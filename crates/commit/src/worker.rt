@@ -92,7 +92,7 @@ impl Model for Worker {
 impl Worker {
     ghost use Rattle.std.specs.Prelude.{[], IsTrue, ◌↔◌, ◌<◌, None, Some, IsSome, MatchOption, All};
     ghost use Rattle.commit.specs.declared.worker.Phase.TheVariants.{Begun, Entered, Chosen, Failed};
-    ghost use Rattle.commit.specs.Machine.{IsIdle, held, idle_worker};
+    ghost use Rattle.commit.specs.Machine.{IsIdle, note_at, idle_worker};
     ghost use Rattle.tidword.specs.TidWord.{installed_word};
     ghost use Rattle.tidword.specs.Lawful.{next};
 
@@ -127,7 +127,7 @@ impl Worker {
 
     /// Whether it may read this record. Costs a pass over what it has read.
     pub(crate) fn may_read(&self, number: u32) -> bool
-        ensures { IsTrue result ↔ ((self.now.phase ≡ Begun) × (self.now.locks ≡ []) × (held self.now.reads number ≡ None)) }
+        ensures { IsTrue result ↔ ((self.now.phase ≡ Begun) × (self.now.locks ≡ []) × (note_at self.now.reads number ≡ None)) }
     {
         self.phase == Phase::Begun && self.locks.is_empty() && held(&self.reads, number).is_none()
     }
@@ -149,8 +149,8 @@ impl Worker {
     /// What it may validate of this record. Costs a pass over what it has yet to validate.
     pub(crate) fn to_validate(&self, number: u32) -> Option<Version>
         ensures { MatchOption result
-            (¬ ((self.now.phase ≡ Entered) × IsSome (held self.now.reads number)))
-            (λ version. (self.now.phase ≡ Entered) × (held self.now.reads number ≡ Some version)) }
+            (¬ ((self.now.phase ≡ Entered) × IsSome (note_at self.now.reads number)))
+            (λ version. (self.now.phase ≡ Entered) × (note_at self.now.reads number ≡ Some version)) }
     {
         if self.phase != Phase::Entered {
             return None;
@@ -161,8 +161,8 @@ impl Worker {
     /// What it may install in this record. Costs a pass over what it has locked.
     pub(crate) fn to_install(&self, number: u32) -> Option<Option<[u64; 7]>>
         ensures { MatchOption result
-            (¬ ((self.now.phase ≡ Chosen) × IsSome (held self.now.locks number)))
-            (λ value. (self.now.phase ≡ Chosen) × (held self.now.locks number ≡ Some value)) }
+            (¬ ((self.now.phase ≡ Chosen) × IsSome (note_at self.now.locks number)))
+            (λ value. (self.now.phase ≡ Chosen) × (note_at self.now.locks number ≡ Some value)) }
     {
         if self.phase != Phase::Chosen {
             return None;
@@ -196,7 +196,7 @@ impl Worker {
 
     /// Whether it may unlock this record. Costs a pass over what it has locked.
     pub(crate) fn may_unlock(&self, number: u32) -> bool
-        ensures { IsTrue result ↔ ((self.now.phase ≡ Failed) × IsSome (held self.now.locks number)) }
+        ensures { IsTrue result ↔ ((self.now.phase ≡ Failed) × IsSome (note_at self.now.locks number)) }
     {
         self.phase == Phase::Failed && held(&self.locks, number).is_some()
     }

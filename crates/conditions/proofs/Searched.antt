@@ -14,7 +14,7 @@ use Rattle.std.specs.declared.cmp.Ordering.TheVariants.{Less, Equal, Greater}
 use Rattle.std.proofs.lemmas.Map.Keys.{sorted_head, sorted_tail}
 use Rattle.tables.proofs.Orders.{IsExact}
 use Rattle.tables.proofs.Views.{get-view}
-use Rattle.conditions.specs.Finds.{Finds}
+use Rattle.conditions.specs.Finds.{FindsLeast}
 
 -- T holds of each row that isn't left
 pub record IsSearched {K X : Type 0} (R : K → K → Ordering) (m : BTreeMap K X) (T : K → X → Type 0) (left : List (K × X)) : Type 0 where
@@ -78,7 +78,7 @@ module _ {K X : Type 0} {R : K → K → Ordering} (o : IsExact R) where
         missing e = cc
 
     -- the first that is left fails
-    pub searched_first : (left rest : List (K × X)) (k : K) (r : X) → left ≡ (k, r) ∷ rest → IsSearched R m T left → (T k r → ⊥) → Finds R (λ q. IsSome (tree.get R m q)) (λ q. ForSome (tree.get R m q) (T q)) (Some k)
+    pub searched_first : (left rest : List (K × X)) (k : K) (r : X) → left ≡ (k, r) ∷ rest → IsSearched R m T left → (T k r → ⊥) → FindsLeast R (λ q. IsSome (tree.get R m q)) (λ q. ForSome (tree.get R m q) (T q)) (Some k)
     searched_first left rest k r next before fails = (subst (λ (w : Option X). IsSome w) (sym at) refl, λ holds. fails (holds r at), earlier)
       where
         h : IsSearched R m T ((k, r) ∷ rest)
@@ -94,6 +94,6 @@ module _ {K X : Type 0} {R : K → K → Ordering} (o : IsExact R) where
             missing e = cc
 
   -- from `BTreeMap` to the finite map
-  pub finds-view : (m : BTreeMap K X) (T : K → X → Type 0) (found : Option K) → Finds R (λ k. IsSome (tree.get R m k)) (λ k. ForSome (tree.get R m k) (T k)) found
-      → Finds R (λ k. IsSome (get (from_entries {R = R} m.entries) k)) (λ k. ForSome (get (from_entries {R = R} m.entries) k) (T k)) found
-  finds-view m T found = subst (λ (row : K → Option X). Finds R (λ k. IsSome (row k)) (λ k. ForSome (row k) (T k)) found) (λ i k. sym (get-view o m k) i)
+  pub finds-view : (m : BTreeMap K X) (T : K → X → Type 0) (found : Option K) → FindsLeast R (λ k. IsSome (tree.get R m k)) (λ k. ForSome (tree.get R m k) (T k)) found
+      → FindsLeast R (λ k. IsSome (get (from_entries {R = R} m.entries) k)) (λ k. ForSome (get (from_entries {R = R} m.entries) k) (T k)) found
+  finds-view m T found = subst (λ (row : K → Option X). FindsLeast R (λ k. IsSome (row k)) (λ k. ForSome (row k) (T k)) found) (λ i k. sym (get-view o m k) i)

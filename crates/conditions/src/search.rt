@@ -7,7 +7,7 @@ ghost use Rattle.std.specs.BTreeMap as tree;
 ghost use Rattle.std.specs.FinMap.{get, IsAntisymmetric};
 ghost use Rattle.tables.specs.Keys.{district_cmp, customer_cmp, order_cmp, line_cmp, IsWarehouseKey, IsDistrictKey, IsCustomerKey};
 ghost use Rattle.tables.specs.Database.{database};
-ghost use Rattle.conditions.specs.Finds.{Finds};
+ghost use Rattle.conditions.specs.Finds.{FindsLeast};
 ghost use Rattle.conditions.specs.Sums.{AreSumsOf};
 ghost use Rattle.conditions.specs.Steps.{FindsDistrictOf, FindsCustomerOf};
 
@@ -20,7 +20,7 @@ use tables::{CustomerKey, DistrictKey, LineKey, Order, OrderKey, OrderLine, Tabl
 /// The least warehouse that breaks the condition.
 pub fn least_warehouse<C: Condition<u32>>(tables: &Tables, sums: &Sums) -> Option<u32>
     requires { AreSumsOf (database tables.now) sums.now }
-    ensures { Finds nat_cmp (IsWarehouseKey (database tables.now).scale) (C.holds_at (database tables.now)) result }
+    ensures { FindsLeast nat_cmp (IsWarehouseKey (database tables.now).scale) (C.holds_at (database tables.now)) result }
 {
     for warehouse in 1..=tables.scale.warehouses() {
         if !C::holds(tables, sums, &warehouse) {
@@ -36,7 +36,7 @@ pub fn least_district<C: Condition<DistrictKey>>(
     sums: &Sums,
 ) -> Option<DistrictKey>
     requires { AreSumsOf (database tables.now) sums.now }
-    ensures { Finds district_cmp (IsDistrictKey (database tables.now).scale) (C.holds_at (database tables.now)) result }
+    ensures { FindsLeast district_cmp (IsDistrictKey (database tables.now).scale) (C.holds_at (database tables.now)) result }
 {
     for warehouse in 1..=tables.scale.warehouses() {
         if let Some(key) = least_district_of::<C>(tables, sums, warehouse) {
@@ -73,7 +73,7 @@ pub fn least_customer<C: Condition<CustomerKey>>(
     sums: &Sums,
 ) -> Option<CustomerKey>
     requires { AreSumsOf (database tables.now) sums.now }
-    ensures { Finds customer_cmp (IsCustomerKey (database tables.now).scale) (C.holds_at (database tables.now)) result }
+    ensures { FindsLeast customer_cmp (IsCustomerKey (database tables.now).scale) (C.holds_at (database tables.now)) result }
 {
     for warehouse in 1..=tables.scale.warehouses() {
         for district in 1..=tables.scale.districts() {
@@ -114,7 +114,7 @@ pub fn least_order<C: RowCondition<OrderKey, Order>>(
     sums: &Sums,
 ) -> Option<OrderKey>
     requires { AreSumsOf (database tables.now) sums.now }
-    ensures { Finds order_cmp (λ k. IsSome (get (database tables.now).orders k))
+    ensures { FindsLeast order_cmp (λ k. IsSome (get (database tables.now).orders k))
         (λ k. ForSome (get (database tables.now).orders k) (C.holds_of (database tables.now) k)) result }
 {
     least_row::<OrderKey, Order, C>(tables, sums, &tables.orders)
@@ -126,7 +126,7 @@ pub fn least_line<C: RowCondition<LineKey, OrderLine>>(
     sums: &Sums,
 ) -> Option<LineKey>
     requires { AreSumsOf (database tables.now) sums.now }
-    ensures { Finds line_cmp (λ k. IsSome (get (database tables.now).lines k))
+    ensures { FindsLeast line_cmp (λ k. IsSome (get (database tables.now).lines k))
         (λ k. ForSome (get (database tables.now).lines k) (C.holds_of (database tables.now) k)) result }
 {
     least_row::<LineKey, OrderLine, C>(tables, sums, &tables.lines)
@@ -140,7 +140,7 @@ fn least_row<K: Ord + Copy, X, C: RowCondition<K, X>>(
 ) -> Option<K>
     requires sums { AreSumsOf (database tables.now) sums.now }
     requires exact { IsAntisymmetric K.cmp }
-    ensures { Finds K.cmp (λ k. IsSome (tree.get K.cmp rows.now k))
+    ensures { FindsLeast K.cmp (λ k. IsSome (tree.get K.cmp rows.now k))
         (λ k. ForSome (tree.get K.cmp rows.now k) (C.holds_of (database tables.now) k)) result }
 {
     for (key, row) in rows.iter() {

@@ -19,10 +19,10 @@ use Rattle.tables.specs.declared.records.RecordKey.TheVariants as key
 use Rattle.readset.specs.Reads.{ReadSetView}
 use Rattle.readset.specs.Writes.{WriteSetView, puts}
 use Rattle.readset.specs.Changes.{Holds}
-use Rattle.readset.specs.Explains.{MayBe, NoneMayBe}
+use Rattle.readset.specs.Explains.{IsCandidate, NoCandidate}
 use Rattle.readset.proofs.HoldsChanges.{holds-changes}
 use Rattle.readset.specs.Transaction.{TransactionView, AtAll, ReadsMore}
-use Rattle.readset.proofs.UnderWay.{may_be_still}
+use Rattle.readset.proofs.UnderWay.{candidate_still}
 use Rattle.delivery.specs.Steps.{next_key, with_dates, amount_up_to, AreDated}
 use Rattle.delivery.specs.declared.change.Dated.{Dated}
 use Rattle.delivery.proofs.Dated.{dated_line, dated_others}
@@ -49,7 +49,7 @@ module _ (t0 : Database) (x : DeliveryInput) (k : OrderKey) (m : ℕ) (more : Tr
     given t h = gives (get t.lines (line_key k (m + 1))) (λ r is. let row = h.well_formed.line_rows (line_key k (m + 1)) r is in (row.at_least, row.at_most))
         (sym (read t h))
 
-    pub none_dated : ((d : Dated) → result ≡ Some d → ⊥) → NoneMayBe t0 more.reads
+    pub none_dated : ((d : Dated) → result ≡ Some d → ⊥) → NoCandidate t0 more.reads
     none_dated none t h = none _ (given t h)
 
     module _ (n : ℕ) (old : TransactionView) (sum : ℤ) (is_key : IsLineKey t0.scale (line_key k (m + 1))) (named : k ≡ next_key x n k.order)
@@ -57,8 +57,8 @@ module _ (t0 : Database) (x : DeliveryInput) (k : OrderKey) (m : ℕ) (more : Tr
         (d : Dated) (is : result ≡ Some d) (put : TransactionView) (same_reads : put.reads ≡ more.reads)
         (puts_it : put.writes ≡ puts more.writes (number_of_key t0.scale (key.OrderLine (line_key k (m + 1)))) d.words)
       where
-        before : (t : Database) → MayBe t0 put.reads t → MayBe t0 more.reads t
-        before t h = subst (λ (r : ReadSetView). MayBe t0 r t) same_reads h
+        before : (t : Database) → IsCandidate t0 put.reads t → IsCandidate t0 more.reads t
+        before t h = subst (λ (r : ReadSetView). IsCandidate t0 r t) same_reads h
 
         pub one_more : AreDated t0 x n k.order (m + 1) put (sum +ℤ d.amount)
         one_more = record {
@@ -72,7 +72,7 @@ module _ (t0 : Database) (x : DeliveryInput) (k : OrderKey) (m : ℕ) (more : Tr
               } = same_Some _ _ (sym is ∙ given t now) in
               let there : IsLineKey t.scale (line_key k (m + 1)) = subst (λ (q : Sizes). IsLineKey q (line_key k (m + 1))) (sym s) is_key in
               let earlier = subst (λ (w : WriteSetView). Holds t w (row_at (with_dates t x n (next_key x n k.order) m))) (sym on.writes)
-              (so_far.holds t (may_be_still t0 old more 1 on t now)) in
+              (so_far.holds t (candidate_still t0 old more 1 on t now)) in
               let held_rows : Holds t (puts more.writes (number_of_key t.scale (key.OrderLine (line_key (next_key x n k.order) (m + 1))))
               (option_map (λ r. line_words (dated x r)) (get t.lines (line_key (next_key x n k.order) (m + 1)))))
               (row_at (with_dates t x n (next_key x n k.order) (m + 1))) =
@@ -97,6 +97,6 @@ module _ (t0 : Database) (x : DeliveryInput) (k : OrderKey) (m : ℕ) (more : Tr
               let now = before t h in
               let same : d.amount ≡ column (λ r. r.amount) t.lines (line_key k (m + 1)) = ap (λ (q : Dated). q.amount) (same_Some _ _ (sym is ∙ given t now)) in
               amount_next t (next_key x n k.order) m
-              ∙ (λ i. so_far.sum_is t (may_be_still t0 old more 1 on t now) i +ℤ column (λ r. r.amount) t.lines (line_key (sym named i) (m + 1)))
+              ∙ (λ i. so_far.sum_is t (candidate_still t0 old more 1 on t now) i +ℤ column (λ r. r.amount) t.lines (line_key (sym named i) (m + 1)))
               ∙ ap (λ a. sum +ℤ a) (sym same);
         }

@@ -20,10 +20,10 @@ use Rattle.laws.proofs.RisingNumbers.{least_row}
 use Rattle.readset.specs.Reads.{ReadSetView}
 use Rattle.readset.specs.Writes.{WriteSetView, puts}
 use Rattle.readset.specs.Changes.{Holds, puts_all}
-use Rattle.readset.specs.Explains.{MayBe, IsNumbered}
+use Rattle.readset.specs.Explains.{IsCandidate, HasOrderConditions}
 use Rattle.readset.proofs.HoldsChanges.{holds-changes}
 use Rattle.readset.specs.Transaction.{TransactionView, AtAll, ReadsMore}
-use Rattle.readset.proofs.UnderWay.{may_be_still}
+use Rattle.readset.proofs.UnderWay.{candidate_still}
 use Rattle.delivery.specs.Steps.{next_home, next_key, with_dates, amount_up_to, AreDone, AreDated, after_districts}
 use Rattle.delivery.specs.Ending.{Waits, IsCarried, IsCredited, buyer_of, ending_changes}
 use Rattle.delivery.specs.declared.change.Carried.{Carried}
@@ -34,7 +34,7 @@ use Rattle.delivery.proofs.Done.{ending, ended, ended_others, none_changed}
 pub done_with_more : (t0 : Database) (x : DeliveryInput) (n : ℕ) (old new : TransactionView) (most : ℕ) → AreDone t0 x n old → ReadsMore most old new
     → AreDone t0 x n new
 done_with_more t0 x n old new most done more t h =
-    subst (λ (w : WriteSetView). Holds t w (row_at (after_districts t x n))) (sym more.writes) (done t (may_be_still t0 old new most more t h))
+    subst (λ (w : WriteSetView). Holds t w (row_at (after_districts t x n))) (sym more.writes) (done t (candidate_still t0 old new most more t h))
 
 -- before the first line of an order
 pub none_dated_yet : (t0 : Database) (x : DeliveryInput) (n o : ℕ) (old new : TransactionView) (most : ℕ) → AreDone t0 x n old → ReadsMore most old new
@@ -68,10 +68,10 @@ module _ (t0 : Database) (x : DeliveryInput) (n : ℕ) (k : OrderKey) (named : k
     abbrev o : ℕ
     o = k.order
 
-    held_rows : (t : Database) → MayBe t0 new.reads t → Holds t (puts_all t0.scale new.writes (ending_changes (next_key x n o) order words))
+    held_rows : (t : Database) → IsCandidate t0 new.reads t → Holds t (puts_all t0.scale new.writes (ending_changes (next_key x n o) order words))
         (row_at (after_districts t x (n + 1)))
     held_rows t h =
-        let before : MayBe t0 old.reads t = may_be_still t0 old new 1 more t h in
+        let before : IsCandidate t0 old.reads t = candidate_still t0 old new 1 more t h in
         let s : t.scale ≡ t0.scale = h.of_population.scale in
         let w = waits t before in
         let j = next_key x n o in
@@ -109,7 +109,7 @@ module _ (t0 : Database) (x : DeliveryInput) (n : ℕ) (k : OrderKey) (named : k
     done_next last same written t h =
         subst (λ (w : WriteSetView). Holds t w (row_at (after_districts t x (n + 1))))
         (ap (λ (j : OrderKey). puts_all t0.scale new.writes (ending_changes j order words)) (sym named) ∙ sym written)
-        (held_rows t (subst (λ (r : ReadSetView). MayBe t0 r t) same h))
+        (held_rows t (subst (λ (r : ReadSetView). IsCandidate t0 r t) same h))
 
 -- the order that waits has its row
 pub order_waits : (t : Database) (x : DeliveryInput) (n : ℕ) (k : OrderKey) → Rattle.tables.specs.WellFormed.IsWellFormed t → k ≡ next_key x n k.order
@@ -120,7 +120,7 @@ order_waits t x n k wf named w =
 
 -- an order that waits in a district, which is the next
 pub waits_at : (t : Database) (x : DeliveryInput) (n o : ℕ) (home : DistrictKey) → home ≡ next_home x n → Rattle.tables.specs.Delivery.waiting t home ≡ Some o
-    → IsNumbered t home → Waits t x n o
+    → HasOrderConditions t home → Waits t x n o
 waits_at t x n o home is waits numbered = record {
   first = ap (Rattle.tables.specs.Delivery.waiting t) (sym is) ∙ waits;
   condition_2 = subst (Condition2At t) is numbered.condition_2;

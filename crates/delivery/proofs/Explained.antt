@@ -14,7 +14,7 @@ use Rattle.tables.specs.declared.reply.Reply.TheVariants as reply
 use Rattle.readset.specs.Writes.{added}
 use Rattle.readset.specs.Commit.{IsCommitOf}
 use Rattle.readset.specs.Changes.{Holds}
-use Rattle.readset.specs.Explains.{MayBe}
+use Rattle.readset.specs.Explains.{IsCandidate}
 use Rattle.readset.specs.Transaction.{TransactionView, AtAll}
 use Rattle.tables.specs.Rows.{row_at}
 use Rattle.delivery.specs.Steps.{AreDone, AreTold, after_districts}
@@ -24,7 +24,7 @@ module _ (t0 : Database) (x : DeliveryInput) (under_way : TransactionView) (orde
     (done : AreDone t0 x t0.scale.districts under_way) (no_history : under_way.writes.history_row ≡ None)
     (told : AreTold t0 x t0.scale.districts under_way orders)
   where
-    module _ (t : Database) (h : MayBe t0 under_way.reads t) where
+    module _ (t : Database) (h : IsCandidate t0 under_way.reads t) where
       replies : delivery_reply t x ≡ record { warehouse = x.warehouse; orders = orders }
       replies =
           let f : ℕ → DeliveredOrder = λ d. record { district = d; order = waiting t (record { warehouse = x.warehouse; district = d }) } in

@@ -17,7 +17,7 @@ use Rattle.tables.specs.declared.rows.Customer.{Customer}
 use Rattle.tables.specs.declared.delivery.DeliveryInput.{DeliveryInput}
 use Rattle.tables.specs.declared.records.RecordKey.TheVariants as key
 use Rattle.laws.proofs.Rows.{there}
-use Rattle.readset.specs.Explains.{NoneMayBe}
+use Rattle.readset.specs.Explains.{NoCandidate}
 use Rattle.readset.specs.Transaction.{TransactionView, AtAll}
 use Rattle.delivery.specs.Ending.{IsCarried, IsCredited}
 use Rattle.delivery.specs.declared.change.Carried.{Carried}
@@ -26,7 +26,7 @@ use Rattle.delivery.specs.declared.change.Carried.{Carried}
 module _ (t0 : Database) (k : OrderKey) (under_way : TransactionView) (value : Option (List ℕ))
     (read : AtAll t0 under_way (λ t. row_at t (key.Order k) ≡ value)) where
   -- absent, where there is one at all such tables
-  pub order_there : value ≡ None → AtAll t0 under_way (λ t. IsSome (get t.orders k)) → NoneMayBe t0 under_way.reads
+  pub order_there : value ≡ None → AtAll t0 under_way (λ t. IsSome (get t.orders k)) → NoCandidate t0 under_way.reads
   order_there none each t h = gone (get t.orders k) (each t h) (read t h ∙ none)
     where
       gone : (w : Option Order) → IsSome w → option_map order_words w ≡ None → ⊥
@@ -51,7 +51,7 @@ module _ (t0 : Database) (k : OrderKey) (under_way : TransactionView) (value : O
           let buyer = (h.well_formed.customers _).0 (h.well_formed.order_customers k r.0 r.1) in
           (r.0, r.1, gives r.0 (subst (λ (q : Sizes). IsNumber q.customers r.0.customer) s buyer.2) (h.well_formed.order_rows k r.0 r.1).line_count.1 r.2)
 
-      pub none_carried : result ≡ None → NoneMayBe t0 under_way.reads
+      pub none_carried : result ≡ None → NoCandidate t0 under_way.reads
       none_carried none t h = let c = carried_at t h in absurd cc
 
       pub carried_of : (c : Carried) → result ≡ Some c → AtAll t0 under_way (IsCarried x k c)
@@ -66,14 +66,14 @@ module _ (t0 : Database) (k : CustomerKey) (under_way : TransactionView) (value 
       let r = there (IsCustomerKey t.scale) t.customers h.well_formed.customers k (subst (λ (q : Sizes). IsCustomerKey q k) (sym s) is_key) in
       (r.0, r.1, sym (read t h) ∙ ap (option_map customer_words) r.1, h.well_formed.customer_rows k r.0 r.1)
 
-  pub customer_there : value ≡ None → NoneMayBe t0 under_way.reads
+  pub customer_there : value ≡ None → NoCandidate t0 under_way.reads
   customer_there none t h = let r = customer_is t h in absurd cc
 
   module _ (sum : ℤ) (words : List ℕ) (value_is : value ≡ Some words) (result : Option (List ℕ))
       (gives : (r : Customer) → IsCustomerRow r → words ≡ customer_words r
       → result ≡ Some (customer_words (record r { balance = r.balance +ℤ sum; deliveries = r.deliveries + 1 })))
     where
-      pub none_credited : result ≡ None → NoneMayBe t0 under_way.reads
+      pub none_credited : result ≡ None → NoCandidate t0 under_way.reads
       none_credited none t h = let r = customer_is t h in let given = gives r.0 r.3 (same_Some _ _ (sym value_is ∙ r.2)) in absurd cc
 
       pub credit_of : (raised : List ℕ) → result ≡ Some raised → AtAll t0 under_way (IsCredited k sum raised)

@@ -6,9 +6,9 @@ use Rattle.tables.specs.Database.{Database}
 use Rattle.tables.specs.Delivery.{waiting}
 use Rattle.tables.specs.declared.delivery.DeliveryInput.{DeliveryInput}
 use Rattle.tables.specs.declared.delivery.DeliveredOrder.{DeliveredOrder}
-use Rattle.readset.specs.Explains.{MayBe}
+use Rattle.readset.specs.Explains.{IsCandidate}
 use Rattle.readset.specs.Transaction.{TransactionView, GoesOn}
-use Rattle.readset.proofs.UnderWay.{may_be_then}
+use Rattle.readset.proofs.UnderWay.{candidate_then}
 use Rattle.delivery.specs.Steps.{AreTold}
 
 range_push : (a n : ℕ) → range_with_len a (suc n) ≡ range_with_len a n ++ (a + n) ∷ []
@@ -19,7 +19,7 @@ range_push a (suc n) =
 
 pub told_next : (t0 : Database) (x : DeliveryInput) (n : ℕ) (old more : TransactionView) (orders : List DeliveredOrder) (o : DeliveredOrder)
     → AreTold t0 x n old orders → GoesOn 20 19 old more
-    → ((t : Database) → MayBe t0 more.reads t → o ≡ record { district = n + 1; order = waiting t (record { warehouse = x.warehouse; district = n + 1 }) })
+    → ((t : Database) → IsCandidate t0 more.reads t → o ≡ record { district = n + 1; order = waiting t (record { warehouse = x.warehouse; district = n + 1 }) })
     → AreTold t0 x (n + 1) more (orders ++ o ∷ [])
 told_next t0 x n old more orders o told keeps is t h =
     let f : ℕ → DeliveredOrder = λ d. record { district = d; order = waiting t (record { warehouse = x.warehouse; district = d }) } in
@@ -27,4 +27,4 @@ told_next t0 x n old more orders o told keeps is t h =
     let last : 1 + n ≡ n + 1 = omega arith in
     ap (λ m. map f (range_with_len 1 m)) next ∙ ap (map f) (range_push 1 n ∙ ap (λ b. range_with_len 1 n ++ b ∷ []) last)
     ∙ map-append f (range_with_len 1 n) ((n + 1) ∷ [])
-    ∙ (λ i. told t (may_be_then t0 old more 20 19 keeps t h) i ++ sym (is t h) i ∷ [])
+    ∙ (λ i. told t (candidate_then t0 old more 20 19 keeps t h) i ++ sym (is t h) i ∷ [])

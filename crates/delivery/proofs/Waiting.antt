@@ -16,7 +16,7 @@ use Rattle.tables.specs.declared.records.RecordKey.TheVariants as key
 use Rattle.laws.proofs.Rows.{there}
 use Rattle.laws.proofs.RisingNumbers.{least_row}
 use Rattle.readset.specs.Reads.{held}
-use Rattle.readset.specs.Explains.{NoneMayBe, IsNumbered}
+use Rattle.readset.specs.Explains.{NoCandidate, HasOrderConditions}
 use Rattle.readset.specs.Transaction.{TransactionView, AtAll}
 use Rattle.delivery.proofs.NextOldest.{one_waits, none_waits}
 
@@ -31,7 +31,7 @@ module _ (t0 : Database) (home : DistrictKey) (under_way : TransactionView) (fir
     home_at : (t : Database) → t.scale ≡ t0.scale → IsDistrictKey t.scale home
     home_at t s = subst (λ (q : Sizes). IsDistrictKey q home) (sym s) is_home
 
-    numbered_at : AtAll t0 under_way (λ t. IsNumbered t home)
+    numbered_at : AtAll t0 under_way (λ t. HasOrderConditions t home)
     numbered_at t h =
         let s : t.scale ≡ t0.scale = h.of_population.scale in
         h.numbered home (home_at t s) (subst (λ (q : Sizes). IsSome (held under_way.reads (number_of_key q (key.District home)))) (sym s) own_held)
@@ -55,8 +55,8 @@ module _ (t0 : Database) (home : DistrictKey) (under_way : TransactionView) (fir
               ∙ ap Some (sym waiting_is)
         ] refl
 
-    pub waiting_read : (w : Option ℕ) → result ≡ Some w → AtAll t0 under_way (λ t. (waiting t home ≡ w) × IsNumbered t home)
+    pub waiting_read : (w : Option ℕ) → result ≡ Some w → AtAll t0 under_way (λ t. (waiting t home ≡ w) × HasOrderConditions t home)
     waiting_read w is t h = (same_Some _ _ (sym (waiting_at t h) ∙ is), numbered_at t h)
 
-    pub none_read : result ≡ None → NoneMayBe t0 under_way.reads
+    pub none_read : result ≡ None → NoCandidate t0 under_way.reads
     none_read is t h = let e = waiting_at t h in absurd cc

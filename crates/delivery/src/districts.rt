@@ -10,7 +10,7 @@ ghost use Rattle.tables.specs.declared.rows.District.{District};
 ghost use Rattle.tables.specs.declared.limits.TheConstants.{MAX_DISTRICTS};
 ghost use Rattle.tables.specs.declared.records.RecordKey.TheVariants as key_variants;
 ghost use Rattle.readset.specs.Reads.{held};
-ghost use Rattle.readset.specs.Explains.{IsNumbered};
+ghost use Rattle.readset.specs.Explains.{HasOrderConditions};
 ghost use Rattle.readset.specs.Transaction.{Finds, GoesOn, IsStepRefusal, ReadsMore};
 ghost use Rattle.delivery.specs.Steps.{AreDone, AreTold};
 
@@ -98,7 +98,7 @@ fn read_waiting<R: Wait, K: Start>(
     home: DistrictKey,
 ) -> Result<Option<u32>, Refusal>
     requires { IsDistrictKey K.tables.scale home }
-    ensures waits { Finds K.tables transaction.new result (λ order t. (waiting t home ≡ order) × IsNumbered t home) }
+    ensures waits { Finds K.tables transaction.new result (λ order t. (waiting t home ≡ order) × HasOrderConditions t home) }
     ensures number { IfOk result (λ order. ForSome order (λ o. IsNumber K.tables.scale.orders o)) }
     ensures holds { OnOk result
         (IsSome (held transaction.new.reads (number_of_key K.tables.scale (key_variants.Oldest home)))) }

@@ -6,7 +6,7 @@ use Rattle.std.proofs.lemmas.Bool.Decides.{Decides-eqb, nat_tests}
 use Rattle.std.proofs.lemmas.List.Elements.{All-nil, All-append}
 use Rattle.std.proofs.lemmas.List.Splits.{slice_split_at, slice_split_none, length-slice_split}
 use Rattle.lines.specs.declared.line_buffer.TheConstants.{MAX_LINE}
-use Rattle.lines.specs.Lines.{HasNoLineFeed, IsCut, held, held_after, last_line, lines_of, without_empty_last}
+use Rattle.lines.specs.Lines.{HasNoLineFeed, IsCut, buffered, held_after, last_line, text_lines, without_empty_last}
 
 no_feed_test : (bytes : List ℕ) → HasNoLineFeed bytes → All (λ b. eqb b 10 ≡ false) bytes
 no_feed_test bytes h k d below = false_from_ne_true _ (λ e. h k d below ((Decides-eqb (get_or bytes k d) 10).0 e))
@@ -16,25 +16,25 @@ more_parts part [] some = absurd (omega arith)
 more_parts part (next ∷ parts) some = refl
 
 -- a line and its line feed come first
-pub lines_first : (line rest : List ℕ) → HasNoLineFeed line → lines_of (line ++ (10 ∷ rest)) ≡ line ∷ lines_of rest
+pub lines_first : (line rest : List ℕ) → HasNoLineFeed line → text_lines (line ++ (10 ∷ rest)) ≡ line ∷ text_lines rest
 lines_first line rest h =
     ap without_empty_last (slice_split_at (λ b. eqb b 10) line 10 rest (no_feed_test line h) refl)
     ∙ more_parts line (slice_split (λ b. eqb b 10) rest) (omega (arith, length-slice_split (λ b. eqb b 10) rest))
 
 -- bytes without a line feed are the last line
-pub lines_last : (rest : List ℕ) → HasNoLineFeed rest → lines_of rest ≡ last_line rest
+pub lines_last : (rest : List ℕ) → HasNoLineFeed rest → text_lines rest ≡ last_line rest
 lines_last rest h = ap without_empty_last (slice_split_none (λ b. eqb b 10) rest (no_feed_test rest h))
 
-lines_joined : (lines : List (List ℕ)) (rest : List ℕ) → AllByRecursion HasNoLineFeed lines → HasNoLineFeed rest → lines_of (flat_map (λ line. line ++ (10 ∷ [])) lines ++ rest) ≡ lines ++ last_line rest
+lines_joined : (lines : List (List ℕ)) (rest : List ℕ) → AllByRecursion HasNoLineFeed lines → HasNoLineFeed rest → text_lines (flat_map (λ line. line ++ (10 ∷ [])) lines ++ rest) ≡ lines ++ last_line rest
 lines_joined [] rest each last = lines_last rest last
 lines_joined (line ∷ lines) rest each last =
     let later = flat_map (λ l. l ++ (10 ∷ [])) lines in
     let together : ((line ++ (10 ∷ [])) ++ later) ++ rest ≡ line ++ (10 ∷ (later ++ rest)) = simp append_assoc in
-    ap lines_of together ∙ lines_first line (later ++ rest) each.0 ∙ ap (λ l. line ∷ l) (lines_joined lines rest each.1 last)
+    ap text_lines together ∙ lines_first line (later ++ rest) each.0 ∙ ap (λ l. line ∷ l) (lines_joined lines rest each.1 last)
 
 -- the lines of a text that is cut
-pub lines_of_cut : (text : List ℕ) (lines : List (List ℕ)) (rest : List ℕ) → IsCut text lines rest → lines_of text ≡ lines ++ last_line rest
-lines_of_cut text lines rest cut = ap lines_of cut.whole ∙ lines_joined lines rest cut.each cut.last
+pub lines_of_cut : (text : List ℕ) (lines : List (List ℕ)) (rest : List ℕ) → IsCut text lines rest → text_lines text ≡ lines ++ last_line rest
+lines_of_cut text lines rest cut = ap text_lines cut.whole ∙ lines_joined lines rest cut.each cut.last
 
 flat_push : (lines : List (List ℕ)) (line : List ℕ) → flat_map (λ l. l ++ (10 ∷ [])) (lines ++ (line ∷ [])) ≡ flat_map (λ l. l ++ (10 ∷ [])) lines ++ (line ++ (10 ∷ []))
 flat_push [] line = append-nil (line ++ (10 ∷ []))
@@ -70,10 +70,10 @@ cut_more text lines rest more cut h = record {
 longer : (m n : ℕ) → m ≤ n → leb m MAX_LINE ≡ false → leb n MAX_LINE ≡ false
 longer m n le e = grind (arith, nat_tests)
 
--- what is held of a line, and of more of it
-pub held_more : (rest more : List ℕ) → held_after (held rest) more ≡ held (rest ++ more)
+-- what is buffered of a line, and of more of it
+pub held_more : (rest more : List ℕ) → held_after (buffered rest) more ≡ buffered (rest ++ more)
 held_more rest more = go (leb (length rest) MAX_LINE) refl
   where
-    go : (b : Bool) → leb (length rest) MAX_LINE ≡ b → held_after (cond b (Some rest) None) more ≡ held (rest ++ more)
+    go : (b : Bool) → leb (length rest) MAX_LINE ≡ b → held_after (cond b (Some rest) None) more ≡ buffered (rest ++ more)
     go true e = refl
     go false e = sym (ap (λ b. cond b (Some (rest ++ more)) None) (longer (length rest) (length (rest ++ more)) (omega (arith, length-append rest more)) e))

@@ -12,7 +12,7 @@ use Rattle.lines.specs.declared.request.ShowKey.TheVariants.{Warehouse, District
 use Rattle.lines.specs.Amount.{numeral, unsigned_amount_text, amount_text}
 use Rattle.lines.specs.Words.{words}
 use Rattle.tables.specs.Sizes.{Sizes}
-use Rattle.lines.specs.Requests.{IsInputAt, HasKeyNumbers, IsRequestAt, IsWithinReach, IsInRange, input_words, key_words, words_of, request_text}
+use Rattle.lines.specs.Requests.{IsInputAt, HasKeyNumbers, IsRequestAt, IsWithinReach, IsInRange, input_words, key_words, request_words, request_text}
 use Rattle.lines.proofs.Numerals.{numeral_of_some, numeral_zero, zero_from_first}
 use Rattle.lines.proofs.Amounts.{units_of, cents_of, no_sign}
 use Rattle.lines.proofs.LastNames.{who_at}
@@ -118,7 +118,7 @@ same_key (Order k) (Order l) h i e =
     λ j. Order (record { warehouse = same_w j; district = same_d j; order = same_o j })
 same_key a b h i e = absurd (let tables : ◌≡◌ {A = ℕ} (byte_of (key_words a) 0 0) (byte_of (key_words b) 0 0) = ap (λ ws. byte_of ws 0 0) e in omega arith)
 
-same_words : (date : ℕ) (a b : Request) → IsRequestAt date a → IsRequestAt date b → words_of a ≡ words_of b → a ≡ b
+same_words : (date : ℕ) (a b : Request) → IsRequestAt date a → IsRequestAt date b → request_words a ≡ request_words b → a ≡ b
 same_words date (Transaction x) (Transaction y) h i e = ap Transaction (same_input date x y h i e)
 same_words date (Transaction x) (Show key) h i e = absurd (no_input x (key_words key) (sym e))
 same_words date (Show key) (Transaction x) h i e = absurd (no_input x (key_words key) e)

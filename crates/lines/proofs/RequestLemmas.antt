@@ -19,7 +19,7 @@ use Rattle.lines.specs.declared.request.ShowKey.TheVariants.{Warehouse, District
 use Rattle.lines.specs.Amount.{amount_text}
 use Rattle.lines.specs.LastNames.{who_word, HasWho}
 use Rattle.lines.specs.Words.{words}
-use Rattle.lines.specs.Requests.{line_word, Answers, AnswersOrNoMemory, AnswersKey, HasKeyNumbers, IsRefused, input_words, key_words, words_of, request_text}
+use Rattle.lines.specs.Requests.{line_word, Answers, AnswersOrNoMemory, AnswersKey, HasKeyNumbers, IsRefusedLine, input_words, key_words, request_words, request_text}
 use Rattle.lines.proofs.Amounts.{amount_no_space}
 use Rattle.lines.proofs.LastNames.{who_no_space}
 use Rattle.lines.proofs.OrderLines.{lines_no_space}
@@ -100,27 +100,27 @@ pub no_payment : (date : ℕ) (ws : List (List ℕ))
     → Answers date (codes "payment" ∷ ws) (Err BadLine)
 no_payment date ws none (Transaction (Payment x)) h e =
     none x.warehouse x.district x.customer_warehouse x.customer_district x.who x.amount h.1 h.2 h.3 h.4 h.5 (ap (drop 1) e)
-no_payment date ws none other h e = let f : ◌≡◌ {A = ℕ} (256 * 97 + 112) (kind_of (words_of other)) = ap kind_of e in omega arith
+no_payment date ws none other h e = let f : ◌≡◌ {A = ℕ} (256 * 97 + 112) (kind_of (request_words other)) = ap kind_of e in omega arith
 
 -- words that are no New-Order's ask none
 pub no_new_order : (date : ℕ) (ws : List (List ℕ))
     → ((w d c : ℕ) (ls : List RequestedLine) → w < 2 ^ 32 → d < 2 ^ 32 → ws ≢ decimal w ∷ decimal d ∷ decimal c ∷ map line_word ls)
     → Answers date (codes "neworder" ∷ ws) (Err BadLine)
 no_new_order date ws none (Transaction (NewOrder x)) h e = none x.warehouse x.district x.customer x.lines h.1 h.2 (ap (drop 1) e)
-no_new_order date ws none other h e = let f : ◌≡◌ {A = ℕ} (256 * 101 + 110) (kind_of (words_of other)) = ap kind_of e in omega arith
+no_new_order date ws none other h e = let f : ◌≡◌ {A = ℕ} (256 * 101 + 110) (kind_of (request_words other)) = ap kind_of e in omega arith
 
 -- words that are no Order-Status's ask none
 pub no_status : (date : ℕ) (ws : List (List ℕ))
     → ((w d : ℕ) (who : Who) → w < 2 ^ 32 → d < 2 ^ 32 → HasWho who → ws ≢ decimal w ∷ decimal d ∷ who_word who ∷ [])
     → Answers date (codes "status" ∷ ws) (Err BadLine)
 no_status date ws none (Transaction (OrderStatus x)) h e = none x.warehouse x.district x.who h.1 h.2 h.3 (ap (drop 1) e)
-no_status date ws none other h e = let f : ◌≡◌ {A = ℕ} (256 * 116 + 115) (kind_of (words_of other)) = ap kind_of e in omega arith
+no_status date ws none other h e = let f : ◌≡◌ {A = ℕ} (256 * 116 + 115) (kind_of (request_words other)) = ap kind_of e in omega arith
 
 -- the same of a Stock-Level's
 pub no_level : (date : ℕ) (ws : List (List ℕ)) → ((w d h : ℕ) → w < 2 ^ 32 → d < 2 ^ 32 → h < 2 ^ 32 → ws ≢ decimal w ∷ decimal d ∷ decimal h ∷ [])
     → Answers date (codes "level" ∷ ws) (Err BadLine)
 no_level date ws none (Transaction (StockLevel x)) h e = none x.warehouse x.district x.threshold h.1 h.2 h.3 (ap (drop 1) e)
-no_level date ws none other h e = let f : ◌≡◌ {A = ℕ} (256 * 101 + 108) (kind_of (words_of other)) = ap kind_of e in omega arith
+no_level date ws none other h e = let f : ◌≡◌ {A = ℕ} (256 * 101 + 108) (kind_of (request_words other)) = ap kind_of e in omega arith
 
 -- what the last word says, where it may be an amount
 pub words_amount : (text : List ℕ) (z : ℤ) → text ≡ amount_text z → words text ≡ amount_text z ∷ []
@@ -155,7 +155,7 @@ words_input (Delivery x) = words_joined _ _ (input_no_space (Delivery x))
 words_input (OrderStatus x) = words_joined _ _ (input_no_space (OrderStatus x))
 words_input (StockLevel x) = words_joined _ _ (input_no_space (StockLevel x))
 
-pub words_request : (request : Request) → words (request_text request) ≡ words_of request
+pub words_request : (request : Request) → words (request_text request) ≡ request_words request
 words_request (Transaction x) = words_input x
 words_request (Show key) = words_joined _ _ (letters (codes "show") refl, key_no_space key)
 
@@ -167,16 +167,16 @@ behind_verb date line verb written rest answer parts is = subst (λ ws. AnswersO
 asked_line : (date : ℕ) (line : List ℕ) (answer : Result Request Refusal) → AnswersOrNoMemory date (words line) answer
     → IfOk answer (λ request. line ≡ request_text request)
 asked_line date line (Ok request) (inl none) = absurd (let no : Ok request ≡ Err OutOfMemory = none in cc)
-asked_line date line (Ok request) (inr h) = text_from_words line (words_of request) h.0
+asked_line date line (Ok request) (inr h) = text_from_words line (request_words request) h.0
 asked_line date line (Err e) h = tt
 
-words_refusal : (date : ℕ) (line : List ℕ) (refusal : Refusal) → Answers date (words line) (Err refusal) → IsRefused date line refusal
-words_refusal date line BadInput h = (h.0, h.1, text_from_words line (words_of h.0) h.2, h.3)
+words_refusal : (date : ℕ) (line : List ℕ) (refusal : Refusal) → Answers date (words line) (Err refusal) → IsRefusedLine date line refusal
+words_refusal date line BadInput h = (h.0, h.1, text_from_words line (request_words h.0) h.2, h.3)
 words_refusal date line BadLine h = λ request small e. h request small (ap words e ∙ words_request request)
 words_refusal date line _ h = h
 
 pub refused_line : (date : ℕ) (line : List ℕ) (answer : Result Request Refusal) → AnswersOrNoMemory date (words line) answer
-    → IfErr answer (λ refusal. (refusal ≡ OutOfMemory) ⊎ IsRefused date line refusal)
+    → IfErr answer (λ refusal. (refusal ≡ OutOfMemory) ⊎ IsRefusedLine date line refusal)
 refused_line date line (Ok request) h = tt
 refused_line date line (Err e) (inl none) = inl (let no : ◌≡◌ {A = Result Request Refusal} (Err e) (Err OutOfMemory) = none in cc)
 refused_line date line (Err e) (inr h) = inr (words_refusal date line e h)
@@ -187,7 +187,7 @@ module _ (date : ℕ) (line verb written : List ℕ) (rest : List (List ℕ)) (a
   pub line_request : AnswersOrNoMemory date (written ∷ rest) answer → IfOk answer (λ request. line ≡ request_text request)
   line_request h = asked_line date line answer (behind_verb date line verb written rest answer parts is h)
 
-  pub line_refusal : AnswersOrNoMemory date (written ∷ rest) answer → IfErr answer (λ refusal. (refusal ≡ OutOfMemory) ⊎ IsRefused date line refusal)
+  pub line_refusal : AnswersOrNoMemory date (written ∷ rest) answer → IfErr answer (λ refusal. (refusal ≡ OutOfMemory) ⊎ IsRefusedLine date line refusal)
   line_refusal h = refused_line date line answer (behind_verb date line verb written rest answer parts is h)
 
 -- a payment's words, one after another

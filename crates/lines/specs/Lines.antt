@@ -1,4 +1,4 @@
--- The lines of a text, and how much of one is held.
+-- The lines of a text, and how much of one is buffered.
 use Rattle.std.specs.Prelude.{◌≡◌, ◌≢◌, ℕ, ◌==◌, nat_le, if◌then◌else◌, Option, Some, None, List, [], ◌∷◌, ◌++◌, length}
 use Rattle.std.specs.List.{All, AllByRecursion, slice_split, flat_map}
 use Rattle.lines.specs.declared.line_buffer.TheConstants.{MAX_LINE}
@@ -14,16 +14,16 @@ without_empty_last (part ∷ []) = last_line part
 without_empty_last (part ∷ next ∷ parts) = part ∷ without_empty_last (next ∷ parts)
 
 -- the lines of a text, each without its line feed, which the last one may lack
-abbrev pub lines_of : List ℕ → List (List ℕ)
-lines_of text = without_empty_last (slice_split (λ b. b == 10) text)
+abbrev pub text_lines : List ℕ → List (List ℕ)
+text_lines text = without_empty_last (slice_split (λ b. b == 10) text)
 
--- the bytes of a line as far as they are held: none of them once they are more than 1,024 (MAX_LINE)
-abbrev pub held : List ℕ → Option (List ℕ)
-held bytes = if nat_le (length bytes) MAX_LINE then Some bytes else None
+-- the bytes of a line as far as they are buffered: none of them once they are more than 1,024 (MAX_LINE)
+abbrev pub buffered : List ℕ → Option (List ℕ)
+buffered bytes = if nat_le (length bytes) MAX_LINE then Some bytes else None
 
--- what is held after more bytes of the same line
+-- what is buffered after more bytes of the same line
 abbrev pub held_after : Option (List ℕ) → List ℕ → Option (List ℕ)
-held_after (Some bytes) more = held (bytes ++ more)
+held_after (Some bytes) more = buffered (bytes ++ more)
 held_after None more = None
 
 -- no byte is a line feed

@@ -44,15 +44,15 @@ refused_words refusal line =
     decimal (refusal_number refusal) ∷ codes "line" ∷ decimal line ∷ item_words (refused_item refusal)
 
 -- the words of a row of CUSTOMER
-abbrev pub customer_words : CustomerKey → CustomerRow → List (List ℕ)
-customer_words key row =
+abbrev pub shown_customer_words : CustomerKey → CustomerRow → List (List ℕ)
+shown_customer_words key row =
     codes "customer" ∷ decimal key.warehouse ∷ decimal key.district ∷ decimal key.customer
     ∷ codes "balance" ∷ money_text row.balance ∷ codes "paid" ∷ money_text row.paid
     ∷ codes "payments" ∷ decimal row.payments ∷ codes "deliveries" ∷ decimal row.deliveries ∷ []
 
 -- the words of a row of STOCK
-abbrev pub stock_words : StockKey → StockRow → List (List ℕ)
-stock_words key row =
+abbrev pub shown_stock_words : StockKey → StockRow → List (List ℕ)
+shown_stock_words key row =
     codes "stock" ∷ decimal key.warehouse ∷ decimal key.item
     ∷ codes "quantity" ∷ decimal row.quantity ∷ codes "ytd" ∷ decimal row.year_to_date
     ∷ codes "orders" ∷ decimal row.orders ∷ codes "remote" ∷ decimal row.remote_orders ∷ []
@@ -69,8 +69,8 @@ order_row_words (Some row) =
     ∷ codes "lines" ∷ decimal row.line_count ∷ codes "local" ∷ decimal (cond row.all_local 1 0) ∷ []
 order_row_words None = codes "none" ∷ []
 
-abbrev pub order_words : OrderKey → Option OrderRow → List (List ℕ)
-order_words key row =
+abbrev pub shown_order_words : OrderKey → Option OrderRow → List (List ℕ)
+shown_order_words key row =
     codes "order" ∷ decimal key.warehouse ∷ decimal key.district ∷ decimal key.order ∷ order_row_words row
 
 -- the word of a line of an order: its item, its supplying warehouse, the stock after it, and its amount
@@ -89,8 +89,8 @@ head_words reply =
     ∷ codes "customer" ∷ decimal reply.customer ∷ codes "lines" ∷ money_text reply.amount
     ∷ codes "total" ∷ money_text reply.total ∷ []
 
-abbrev pub new_order_words : NewOrderReply → List (List ℕ)
-new_order_words reply = head_words reply ++ map supplied_word reply.lines
+abbrev pub new_order_reply_words : NewOrderReply → List (List ℕ)
+new_order_reply_words reply = head_words reply ++ map supplied_word reply.lines
 
 -- the word of a district: its number, and the order delivered there, if one was
 abbrev pub delivered_word : DeliveredOrder → List ℕ
@@ -146,7 +146,7 @@ payment_words reply =
 -- the words of a reply
 abbrev pub reply_words : Reply → List (List ℕ)
 reply_words (reply.Payment r) = payment_words r
-reply_words (reply.NewOrder r) = new_order_words r
+reply_words (reply.NewOrder r) = new_order_reply_words r
 reply_words (reply.Delivery r) = delivery_words r
 reply_words (reply.OrderStatus r) = status_words r r.order
 reply_words (reply.StockLevel r) = level_words r
@@ -157,9 +157,9 @@ row_words (shown.Warehouse w row) = codes "warehouse" ∷ decimal w ∷ codes "y
 row_words (shown.District key row) =
     codes "district" ∷ decimal key.warehouse ∷ decimal key.district
     ∷ codes "ytd" ∷ money_text row.year_to_date ∷ codes "next" ∷ decimal row.next_order ∷ []
-row_words (shown.Customer key row) = customer_words key row
-row_words (shown.Stock key row) = stock_words key row
-row_words (shown.Order key row) = order_words key row
+row_words (shown.Customer key row) = shown_customer_words key row
+row_words (shown.Stock key row) = shown_stock_words key row
+row_words (shown.Order key row) = shown_order_words key row
 
 -- the words of an answer
 abbrev pub answer_words : Answer → List (List ℕ)

@@ -43,13 +43,13 @@ key_words (Stock k) = codes "stock" ∷ decimal k.warehouse ∷ decimal k.item �
 key_words (Order k) = codes "order" ∷ decimal k.warehouse ∷ decimal k.district ∷ decimal k.order ∷ []
 
 -- the words of a request's line
-abbrev pub words_of : Request → List (List ℕ)
-words_of (Transaction x) = input_words x
-words_of (Show key) = codes "show" ∷ key_words key
+abbrev pub request_words : Request → List (List ℕ)
+request_words (Transaction x) = input_words x
+request_words (Show key) = codes "show" ∷ key_words key
 
 -- the one line of a request
 abbrev pub request_text : Request → List ℕ
-request_text request = join_with_byte 32 (words_of request)
+request_text request = join_with_byte 32 (request_words request)
 
 -- each number of an order's line is one of 32 bits
 abbrev pub HasLineNumbers : RequestedLine → Type 0
@@ -89,15 +89,15 @@ IsWithinReach _ = ⊤
 
 -- what asks these requests gets this refusal: `BadInput` where one has its amount beyond the limit, `BadLine` where
 -- there is none
-abbrev pub IsRefusalOf : ℕ → (Request → Type 0) → Refusal → Type 0
-IsRefusalOf date IsAsked BadInput =
+abbrev pub IsLineRefusal : ℕ → (Request → Type 0) → Refusal → Type 0
+IsLineRefusal date IsAsked BadInput =
     (request : Request) × IsRequestAt date request × IsAsked request × ¬ IsWithinReach request
-IsRefusalOf date IsAsked BadLine = (request : Request) → IsRequestAt date request → ¬ IsAsked request
-IsRefusalOf date IsAsked _ = ⊥
+IsLineRefusal date IsAsked BadLine = (request : Request) → IsRequestAt date request → ¬ IsAsked request
+IsLineRefusal date IsAsked _ = ⊥
 
 -- a line of this date gets this refusal
-abbrev pub IsRefused : ℕ → List ℕ → Refusal → Type 0
-IsRefused date line = IsRefusalOf date (λ request. line ≡ request_text request)
+abbrev pub IsRefusedLine : ℕ → List ℕ → Refusal → Type 0
+IsRefusedLine date line = IsLineRefusal date (λ request. line ≡ request_text request)
 
 -- the keys of rows that a scale has
 abbrev pub IsShown : Sizes → ShowKey → Type 0
@@ -118,8 +118,8 @@ BeginsNewOrder line = (behind : List ℕ) × (line ≡ codes "neworder " ++ behi
 
 -- the words of a line of this date get this answer
 abbrev pub Answers : ℕ → List (List ℕ) → Result Request Refusal → Type 0
-Answers date ws (Ok request) = (ws ≡ words_of request) × IsRequestAt date request × IsWithinReach request
-Answers date ws (Err refusal) = IsRefusalOf date (λ request. ws ≡ words_of request) refusal
+Answers date ws (Ok request) = (ws ≡ request_words request) × IsRequestAt date request × IsWithinReach request
+Answers date ws (Err refusal) = IsLineRefusal date (λ request. ws ≡ request_words request) refusal
 
 -- the same, or there is no memory for it
 abbrev pub AnswersOrNoMemory : ℕ → List (List ℕ) → Result Request Refusal → Type 0

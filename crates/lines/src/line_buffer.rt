@@ -3,7 +3,7 @@ ghost use Rattle.std.specs.Prelude.{◌≡◌, ◌≤◌, ◌↔◌, ℕ, Option
 ghost use Rattle.std.specs.Option.{option_copied};
 ghost use Rattle.std.specs.Vec.{vec_len, vec_capacity};
 ghost use Rattle.lines.specs.declared.line_buffer.TheConstants.{MAX_LINE};
-ghost use Rattle.lines.specs.Lines.{HasNoLineFeed, IsCut, held, held_after, last_line, lines_of};
+ghost use Rattle.lines.specs.Lines.{HasNoLineFeed, IsCut, buffered, held_after, last_line, text_lines};
 
 use crate::cut::split_once;
 use money::Refusal;
@@ -115,7 +115,7 @@ pub fn cutting_laws()
     ensures more { (text : List ℕ) (lines : List (List ℕ)) (rest more : List ℕ)
         → IsCut text lines rest → HasNoLineFeed more
         → IsCut (text ++ more) lines (rest ++ more) }
-    ensures buffer { (rest more : List ℕ) → held_after (held rest) more ≡ held (rest ++ more) }
+    ensures buffer { (rest more : List ℕ) → held_after (buffered rest) more ≡ buffered (rest ++ more) }
     ensures lines { (text : List ℕ) (lines : List (List ℕ)) (rest : List ℕ) → IsCut text lines rest
-        → lines_of text ≡ lines ++ last_line rest }
+        → text_lines text ≡ lines ++ last_line rest }
 {}

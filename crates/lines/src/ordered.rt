@@ -13,9 +13,9 @@ pub(crate) struct OrderAnswer<'a> {
 impl Display for OrderAnswer<'_> {
     ghost use Rattle.std.specs.Prelude.{Some};
     ghost use Rattle.std.specs.List.{join_with_byte};
-    ghost use Rattle.lines.specs.Output.{new_order_words};
+    ghost use Rattle.lines.specs.Output.{new_order_reply_words};
 
-    ghost output = { λ answer. Some (join_with_byte 32 (new_order_words answer.reply.now)) };
+    ghost output = { λ answer. Some (join_with_byte 32 (new_order_reply_words answer.reply.now)) };
 
     fn fmt<W: fmt::Write>(&self, f: &mut fmt::Formatter<W>) -> fmt::Result {
         let reply = self.reply;

@@ -3,7 +3,7 @@ ghost use Rattle.std.specs.Prelude.{◌≡◌, ◌⊎◌, ◌∷◌, ℕ, codes,
 ghost use Rattle.tables.specs.Inputs.{IsInput};
 ghost use Rattle.lines.specs.declared.request.Request.{Request};
 ghost use Rattle.lines.specs.Words.{words};
-ghost use Rattle.lines.specs.Requests.{request_text, IsRequestAt, IsWithinReach, IsRefused, IsInRange};
+ghost use Rattle.lines.specs.Requests.{request_text, IsRequestAt, IsWithinReach, IsRefusedLine, IsInRange};
 ghost use Rattle.lines.specs.Requests.{Answers, AnswersOrNoMemory, AnswersKey, BeginsNewOrder};
 
 use crate::amount::read_amount;
@@ -26,7 +26,7 @@ pub fn read_request(alloc: Global, line: &[u8], date: u32) -> Result<Request, Re
     ensures request { IfOk result (λ request. line.now ≡ request_text request) }
     ensures numbers { IfOk result (IsRequestAt date) }
     ensures reach { IfOk result IsWithinReach }
-    ensures refusal { IfErr result (λ refusal. (refusal ≡ Refusal.OutOfMemory) ⊎ IsRefused date line.now refusal) }
+    ensures refusal { IfErr result (λ refusal. (refusal ≡ Refusal.OutOfMemory) ⊎ IsRefusedLine date line.now refusal) }
     ensures memory { result ≡ Err Refusal.OutOfMemory → BeginsNewOrder line.now }
 {
     let (verb, rest) = take_word(line)?;

@@ -57,9 +57,9 @@ struct CustomerLine {
 impl Display for CustomerLine {
     ghost use Rattle.std.specs.Prelude.{Some};
     ghost use Rattle.std.specs.List.{join_with_byte};
-    ghost use Rattle.lines.specs.Output.{customer_words};
+    ghost use Rattle.lines.specs.Output.{shown_customer_words};
 
-    ghost output = { λ shown. Some (join_with_byte 32 (customer_words shown.key shown.row)) };
+    ghost output = { λ shown. Some (join_with_byte 32 (shown_customer_words shown.key shown.row)) };
 
     fn fmt<W: fmt::Write>(&self, f: &mut fmt::Formatter<W>) -> fmt::Result {
         let (key, row) = (&self.key, &self.row);
@@ -87,9 +87,9 @@ struct StockLine {
 impl Display for StockLine {
     ghost use Rattle.std.specs.Prelude.{Some};
     ghost use Rattle.std.specs.List.{join_with_byte};
-    ghost use Rattle.lines.specs.Output.{stock_words};
+    ghost use Rattle.lines.specs.Output.{shown_stock_words};
 
-    ghost output = { λ shown. Some (join_with_byte 32 (stock_words shown.key shown.row)) };
+    ghost output = { λ shown. Some (join_with_byte 32 (shown_stock_words shown.key shown.row)) };
 
     fn fmt<W: fmt::Write>(&self, f: &mut fmt::Formatter<W>) -> fmt::Result {
         let (key, row) = (&self.key, &self.row);
@@ -111,9 +111,9 @@ struct OrderLine {
 impl Display for OrderLine {
     ghost use Rattle.std.specs.Prelude.{Some};
     ghost use Rattle.std.specs.List.{join_with_byte};
-    ghost use Rattle.lines.specs.Output.{order_words};
+    ghost use Rattle.lines.specs.Output.{shown_order_words};
 
-    ghost output = { λ shown. Some (join_with_byte 32 (order_words shown.key shown.row)) };
+    ghost output = { λ shown. Some (join_with_byte 32 (shown_order_words shown.key shown.row)) };
 
     fn fmt<W: fmt::Write>(&self, f: &mut fmt::Formatter<W>) -> fmt::Result {
         let key = &self.key;

@@ -21,22 +21,22 @@ refusal_number BadScale = 13
 refusal_number BadLine = 14
 
 -- the name by which a refusal is printed
-abbrev pub name_of : Refusal → List ℕ
-name_of OutOfMemory = codes "OutOfMemory"
-name_of BadInput = codes "BadInput"
-name_of Stale = codes "Stale"
-name_of Conflict = codes "Conflict"
-name_of (ItemNotValid item) = codes "ItemNotValid"
-name_of OrdersFull = codes "OrdersFull"
-name_of CommitsFull = codes "CommitsFull"
-name_of EpochFull = codes "EpochFull"
-name_of Device = codes "Device"
-name_of Damaged = codes "Damaged"
-name_of Gap = codes "Gap"
-name_of GaveUp = codes "GaveUp"
-name_of BadScale = codes "BadScale"
-name_of BadLine = codes "BadLine"
+abbrev pub refusal_name : Refusal → List ℕ
+refusal_name OutOfMemory = codes "OutOfMemory"
+refusal_name BadInput = codes "BadInput"
+refusal_name Stale = codes "Stale"
+refusal_name Conflict = codes "Conflict"
+refusal_name (ItemNotValid item) = codes "ItemNotValid"
+refusal_name OrdersFull = codes "OrdersFull"
+refusal_name CommitsFull = codes "CommitsFull"
+refusal_name EpochFull = codes "EpochFull"
+refusal_name Device = codes "Device"
+refusal_name Damaged = codes "Damaged"
+refusal_name Gap = codes "Gap"
+refusal_name GaveUp = codes "GaveUp"
+refusal_name BadScale = codes "BadScale"
+refusal_name BadLine = codes "BadLine"
 
 -- what a refusal prints: its number, a space and its name
 abbrev pub refusal_text : Refusal → List ℕ
-refusal_text r = decimal (refusal_number r) ++ codes " " ++ name_of r
+refusal_text r = decimal (refusal_number r) ++ codes " " ++ refusal_name r

@@ -43,7 +43,7 @@ pub enum Refusal {
 }
 
 impl Refusal {
-    ghost use Rattle.money.specs.Refusal.{refusal_number, name_of};
+    ghost use Rattle.money.specs.Refusal.{refusal_number, refusal_name};
 
     /// The number of this refusal, from 1 to 14.
     pub fn number(self) -> u8
@@ -69,7 +69,7 @@ impl Refusal {
 
     /// The name of this refusal.
     pub fn name(self) -> &'static str
-        ensures { result.now ≡ name_of self }
+        ensures { result.now ≡ refusal_name self }
     {
         match self {
             Refusal::OutOfMemory => "OutOfMemory",

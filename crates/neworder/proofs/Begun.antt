@@ -21,10 +21,10 @@ use Rattle.laws.proofs.Rows.{there}
 use Rattle.readset.specs.Reads.{held, Keeps}
 use Rattle.readset.specs.Writes.{WriteSetView, no_writes}
 use Rattle.readset.specs.Changes.{Holds, puts_all}
-use Rattle.readset.specs.Explains.{MayBe, NoneMayBe}
+use Rattle.readset.specs.Explains.{IsCandidate, NoCandidate}
 use Rattle.readset.specs.Transaction.{TransactionView, AtAll}
 use Rattle.readset.proofs.HoldsChanges.{holds_first}
-use Rattle.readset.proofs.MoreReads.{may_be_before}
+use Rattle.readset.proofs.MoreReads.{candidate_before}
 use Rattle.neworder.specs.Steps.{after_lines, opening, AreTaken}
 use Rattle.neworder.specs.Opening.{IsTakenOf, IsHomeTaken}
 use Rattle.neworder.specs.declared.opening.Taken.{Taken}
@@ -43,7 +43,7 @@ module _ (t0 : Database) (x : NewOrderInput) (under_way : TransactionView) (word
     (told : AtAll t0 under_way (λ t. row_at t (key.District (home x)) ≡ words))
     (is_held : IsSome (held under_way.reads (number_of_key t0.scale (key.District (home x)))))
   where
-    home_of : (t : Database) → MayBe t0 under_way.reads t → IsHome x words t
+    home_of : (t : Database) → IsCandidate t0 under_way.reads t → IsHome x words t
     home_of t h =
         let s : t.scale ≡ t0.scale = h.of_population.scale in
         let v : IsNewOrder t.scale x = subst (λ (q : Sizes). IsNewOrder q x) (sym s) valid in
@@ -65,18 +65,18 @@ module _ (t0 : Database) (x : NewOrderInput) (under_way : TransactionView) (word
 
     module _ (result : Result Taken Refusal) (row : (r : District) → 1 ≤ r.next_order → words ≡ Some (district_words r) → IsTakenOf t0.scale.orders r result)
       where
-        taken_of : (t : Database) (h : MayBe t0 under_way.reads t) → IsTakenOf t0.scale.orders (home_of t h).row result
+        taken_of : (t : Database) (h : IsCandidate t0 under_way.reads t) → IsTakenOf t0.scale.orders (home_of t h).row result
         taken_of t h = let r = home_of t h in row r.row r.positive r.is
 
         -- an order is refused for its district's row only where there are no such tables
-        pub none_opened : result ≡ Err Stale → NoneMayBe t0 under_way.reads
+        pub none_opened : result ≡ Err Stale → NoCandidate t0 under_way.reads
         none_opened stale t h = let p : (Stale ≡ OrdersFull) × _ = subst (IsTakenOf t0.scale.orders (home_of t h).row) stale (taken_of t h) in absurd cc
 
         -- and else takes its number
         pub home_taken : IfOk result (λ taken. AtAll t0 under_way (IsHomeTaken x taken))
         home_taken = go result taken_of
           where
-            go : (r : Result Taken Refusal) → ((t : Database) (h : MayBe t0 under_way.reads t) → IsTakenOf t0.scale.orders (home_of t h).row r)
+            go : (r : Result Taken Refusal) → ((t : Database) (h : IsCandidate t0 under_way.reads t) → IsTakenOf t0.scale.orders (home_of t h).row r)
                 → IfOk r (λ taken. AtAll t0 under_way (IsHomeTaken x taken))
             go (Ok taken) made = λ t h.
                 let r = home_of t h in
@@ -91,10 +91,10 @@ module _ (t0 : Database) (x : NewOrderInput) (taken : Taken) (valid : IsNewOrder
     abbrev k : OrderKey
     k = record { warehouse = x.warehouse; district = x.district; order = taken.order }
 
-    named : (t : Database) → MayBe t0 first.reads t → new_key t x ≡ k
+    named : (t : Database) → IsCandidate t0 first.reads t → new_key t x ≡ k
     named t h = let home = homes t h in let e = home.next ∙ sym home.number in λ i. record { warehouse = x.warehouse; district = x.district; order = e i }
 
-    held_rows : (t : Database) → MayBe t0 first.reads t → Holds t (puts_all t0.scale no_writes (opening x k taken.district)) (row_at (after_lines t x []))
+    held_rows : (t : Database) → IsCandidate t0 first.reads t → Holds t (puts_all t0.scale no_writes (opening x k taken.district)) (row_at (after_lines t x []))
     held_rows t h =
         let s : t.scale ≡ t0.scale = h.of_population.scale in
         let v : IsNewOrder t.scale x = subst (λ (q : Sizes). IsNewOrder q x) (sym s) valid in
@@ -111,8 +111,8 @@ module _ (t0 : Database) (x : NewOrderInput) (taken : Taken) (valid : IsNewOrder
         → AreTaken t0 x k [] last []
     opened_taken last keeps written = record {
       requested = All-nil (IsRequestedLine t0.scale);
-      at_order = λ t h. named t (may_be_before t0 first.reads last.reads t keeps h);
+      at_order = λ t h. named t (candidate_before t0 first.reads last.reads t keeps h);
       holds = λ t h. subst (λ (w : WriteSetView). Holds t w (row_at (after_lines t x []))) (sym written)
-          (held_rows t (may_be_before t0 first.reads last.reads t keeps h));
+          (held_rows t (candidate_before t0 first.reads last.reads t keeps h));
       supplied = λ t h. refl;
     }

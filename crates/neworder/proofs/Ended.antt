@@ -11,7 +11,7 @@ use Rattle.readset.specs.Transaction.{TransactionView, IsUnderWay}
 use Rattle.readset.specs.declared.work.Work.{Work}
 use Rattle.readset.proofs.UnderWay.{executed}
 use Rattle.neworder.specs.Opening.{IsOrderRefusal}
-use Rattle.neworder.specs.Executed.{IsReplyOf, IsWorkOf, IsOrderExecuted}
+use Rattle.neworder.specs.Executed.{IsReplyOf, IsOrderWork, IsOrderExecuted}
 use Rattle.neworder.proofs.Refusals.{order_refused}
 
 module _ (t0 : Database) (x : NewOrderInput) (old new : ReaderView) (under_way : TransactionView) (none : NoneMissing t0 (inputs.NewOrder x))
@@ -40,7 +40,7 @@ module _ (t0 : Database) (x : NewOrderInput) (old new : ReaderView) (under_way :
 
     pub order_ended : (reply : Result Reply Refusal) (result : Result Work Refusal) → IfOk reply (IsReplyOf t0 x under_way)
         → IfErr reply (IsOrderRefusal t0 x under_way)
-        → IsWorkOf x under_way.reads under_way.writes reply result → IsOrderExecuted t0 x old new result
+        → IsOrderWork x under_way.reads under_way.writes reply result → IsOrderExecuted t0 x old new result
     order_ended reply (Ok work) told refused is =
         let made : work ≡ record { input = inputs.NewOrder x; reads = under_way.reads; writes = under_way.writes; reply = work.reply } =
         λ i. record { input = is.1 i; reads = is.2 i; writes = is.3 i; reply = work.reply } in

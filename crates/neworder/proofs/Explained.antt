@@ -23,11 +23,11 @@ use Rattle.tables.specs.declared.input.Input.TheVariants as input
 use Rattle.tables.specs.declared.reply.Reply.TheVariants as reply
 use Rattle.readset.specs.Writes.{added}
 use Rattle.readset.specs.Commit.{IsCommitOf}
-use Rattle.readset.specs.Explains.{MayBe}
+use Rattle.readset.specs.Explains.{IsCandidate}
 use Rattle.readset.specs.Transaction.{TransactionView, AtAll}
 use Rattle.neworder.specs.Steps.{AreTaken}
 use Rattle.neworder.specs.Priced.{ArePriced}
-use Rattle.neworder.specs.Replied.{reply_of}
+use Rattle.neworder.specs.Replied.{order_reply_of}
 use Rattle.neworder.specs.declared.prices.Priced.{Priced}
 
 -- the first missing item, and the sum of the amounts, are the same at all tables that have the same items
@@ -64,11 +64,11 @@ module _ (t0 : Database) (x : NewOrderInput) (k : OrderKey) (under_way : Transac
     (prices : ArePriced t0 x.lines priced) (taken : AreTaken t0 x k x.lines under_way supplied) (is_key : IsOrderKey t0.scale k)
     (no_history : under_way.writes.history_row ≡ None)
   where
-    module _ (t : Database) (h : MayBe t0 under_way.reads t) where
+    module _ (t : Database) (h : IsCandidate t0 under_way.reads t) where
       number : next_order t (home x) ≡ k.order
       number = ap (λ (j : OrderKey). j.order) (taken.at_order t h)
 
-      replies : new_order_reply t x ≡ reply_of t0 x k priced.sum supplied
+      replies : new_order_reply t x ≡ order_reply_of t0 x k priced.sum supplied
       replies =
           let o = h.of_population in
           let sum : lines_amount t x.lines ≡ priced.sum = same_sum t0 t x.lines o.items ∙ sym prices.sum in
@@ -89,7 +89,7 @@ module _ (t0 : Database) (x : NewOrderInput) (k : OrderKey) (under_way : Transac
           }
 
       -- no item is missing, so it commits
-      commit : first_missing t x.lines ≡ None → IsCommitOf t (input.NewOrder x) under_way.writes (reply.NewOrder (reply_of t0 x k priced.sum supplied))
+      commit : first_missing t x.lines ≡ None → IsCommitOf t (input.NewOrder x) under_way.writes (reply.NewOrder (order_reply_of t0 x k priced.sum supplied))
       commit missing =
           let left : after t (input.NewOrder x) ≡ after_new_order t x = ap (λ (m : Option ℕ). left_by t (order_unless m t x)) missing in
           record {
@@ -99,5 +99,5 @@ module _ (t0 : Database) (x : NewOrderInput) (k : OrderKey) (under_way : Transac
             history = ap (λ (d : Database). d.history) left ∙ sym (append-nil t.history) ∙ ap (λ q. t.history ++ added q) (sym no_history);
           }
 
-    pub commits : AtAll t0 under_way (λ t. IsCommitOf t (input.NewOrder x) under_way.writes (reply.NewOrder (reply_of t0 x k priced.sum supplied)))
+    pub commits : AtAll t0 under_way (λ t. IsCommitOf t (input.NewOrder x) under_way.writes (reply.NewOrder (order_reply_of t0 x k priced.sum supplied)))
     commits t h = commit t h (same_missing t0 t x.lines h.of_population.items ∙ prices.none_missing)

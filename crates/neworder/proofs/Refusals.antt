@@ -14,9 +14,9 @@ use Rattle.tables.specs.declared.records.RecordKey.TheVariants as key
 use Rattle.cells.specs.Records.{ReaderView}
 use Rattle.readset.specs.Reads.{ReadSetView, Keeps}
 use Rattle.readset.specs.Commit.{IsCommitted}
-use Rattle.readset.specs.Explains.{NoneMayBe}
+use Rattle.readset.specs.Explains.{NoCandidate}
 use Rattle.readset.specs.Refused.{NoneMissing, SaysAbove, IsAboveCap, IsRefusal}
-use Rattle.readset.specs.Transaction.{TransactionView, IsUnderWay, HasRead, IsStepRefusal}
+use Rattle.readset.specs.Transaction.{TransactionView, IsUnderWay, IsReadAs, IsStepRefusal}
 use Rattle.neworder.specs.Opening.{IsWithinCap, IsNumberTaken, IsOrderRefusal}
 use Rattle.neworder.specs.declared.opening.Taken.{Taken}
 use Rattle.neworder.proofs.Explained.{same_missing}
@@ -45,8 +45,8 @@ not_above s x reads within above =
 
 -- why no number was taken
 pub number_refused : (t0 : Database) (x : NewOrderInput) (under_way : TransactionView) (words : Option (List ℕ)) (result : Result Taken Refusal)
-    → HasRead under_way.reads (number_of_key t0.scale (key.District (home x))) words → IsNumberTaken t0.scale.orders words result
-    → (result ≡ Err Stale → NoneMayBe t0 under_way.reads) → IfErr result (IsOrderRefusal t0 x under_way)
+    → IsReadAs under_way.reads (number_of_key t0.scale (key.District (home x))) words → IsNumberTaken t0.scale.orders words result
+    → (result ≡ Err Stale → NoCandidate t0 under_way.reads) → IfErr result (IsOrderRefusal t0 x under_way)
 number_refused t0 x under_way words (Ok taken) read why none = tt
 number_refused t0 x under_way words (Err OutOfMemory) read why none = tt
 number_refused t0 x under_way words (Err OrdersFull) read why none = (read.0, read.1, (why.0, sym read.2 ∙ why.1, why.2))
@@ -54,7 +54,7 @@ number_refused t0 x under_way words (Err Stale) read why none = (not_above t0.sc
 number_refused t0 x under_way words (Err _) read why none = absurd why
 
 pub number_within : (s : Sizes) (x : NewOrderInput) (reads : ReadSetView) (words : Option (List ℕ)) (result : Result Taken Refusal)
-    → HasRead reads (number_of_key s (key.District (home x))) words → IsNumberTaken s.orders words result → OnOk result (IsWithinCap s x reads)
+    → IsReadAs reads (number_of_key s (key.District (home x))) words → IsNumberTaken s.orders words result → OnOk result (IsWithinCap s x reads)
 number_within s x reads words (Ok taken) read why = (words, read, why.1)
 number_within s x reads words (Err refusal) read why = tt
 

@@ -20,10 +20,10 @@ use Rattle.tables.specs.declared.records.RecordKey.TheVariants as key
 use Rattle.readset.specs.Reads.{ReadSetView, held}
 use Rattle.readset.specs.Writes.{WriteSetView, puts, left_at}
 use Rattle.readset.specs.Changes.{Holds}
-use Rattle.readset.specs.Explains.{MayBe, NoneMayBe}
+use Rattle.readset.specs.Explains.{IsCandidate, NoCandidate}
 use Rattle.readset.specs.Transaction.{TransactionView, ReadsMore}
 use Rattle.readset.proofs.LeftIs.{left_is}
-use Rattle.readset.proofs.UnderWay.{may_be_still}
+use Rattle.readset.proofs.UnderWay.{candidate_still}
 use Rattle.neworder.specs.Steps.{after_lines, AreTaken}
 use Rattle.neworder.specs.Drawn.{IsStockUpTo, NoneDrawable}
 use Rattle.neworder.proofs.HoldsSteps.{holds_lined}
@@ -43,15 +43,15 @@ module _ (t0 : Database) (x : NewOrderInput) (order : OrderKey) (ls : List Reque
     abbrev stock_number : ℕ
     stock_number = number_of_key t0.scale (key.Stock (stock_key l))
 
-    before : (t : Database) → MayBe t0 read.reads t → MayBe t0 old.reads t
-    before t h = may_be_still t0 old read 2 more t h
+    before : (t : Database) → IsCandidate t0 read.reads t → IsCandidate t0 old.reads t
+    before t h = candidate_still t0 old read 2 more t h
 
     -- the reads change no row
-    still : (t : Database) → MayBe t0 read.reads t → Holds t read.writes (row_at (after_lines t x ls))
+    still : (t : Database) → IsCandidate t0 read.reads t → Holds t read.writes (row_at (after_lines t x ls))
     still t h = subst (λ (w : WriteSetView). Holds t w (row_at (after_lines t x ls))) (sym more.writes) (taken.holds t (before t h))
 
     -- the stock that the line meets
-    met : (t : Database) → MayBe t0 read.reads t → (r : Stock) × (get (after_lines t x ls).stock (stock_key l) ≡ Some r)
+    met : (t : Database) → IsCandidate t0 read.reads t → (r : Stock) × (get (after_lines t x ls).stock (stock_key l) ≡ Some r)
         × IsStockUpTo (MAX_COUNT + MAX_COUNT_STEP) r × (left_at read.writes read.reads stock_number ≡ Some (stock_words r))
     met t h =
         let s : t.scale ≡ t0.scale = h.of_population.scale in
@@ -68,7 +68,7 @@ module _ (t0 : Database) (x : NewOrderInput) (order : OrderKey) (ls : List Reque
         )
 
     -- a line is refused only where there are no such tables
-    pub none_taken : NoneDrawable read.writes read.reads stock_number → NoneMayBe t0 read.reads
+    pub none_taken : NoneDrawable read.writes read.reads stock_number → NoCandidate t0 read.reads
     none_taken none t h = let m = met t h in none m.0 m.2 m.3
 
     -- and taken otherwise
@@ -85,16 +85,16 @@ module _ (t0 : Database) (x : NewOrderInput) (order : OrderKey) (ls : List Reque
       supplied = λ t h. supplied_is t (back t h);
     }
       where
-        back : (t : Database) → MayBe t0 last.reads t → MayBe t0 read.reads t
-        back t h = subst (λ (r : ReadSetView). MayBe t0 r t) reads h
+        back : (t : Database) → IsCandidate t0 last.reads t → IsCandidate t0 read.reads t
+        back t h = subst (λ (r : ReadSetView). IsCandidate t0 r t) reads h
 
-        drew : (t : Database) (h : MayBe t0 read.reads t) → stock_words (drawn x.warehouse l (met t h).0) ≡ words
+        drew : (t : Database) (h : IsCandidate t0 read.reads t) → stock_words (drawn x.warehouse l (met t h).0) ≡ words
         drew t h = let m = met t h in ap (λ (k : OrderKey). stock_words (drawn k.warehouse l m.0)) (taken.at_order t (before t h)) ∙ sym (draws m.0 m.2 m.3)
 
-        same : (t : Database) → MayBe t0 read.reads t → amount ≡ line_amount t l
+        same : (t : Database) → IsCandidate t0 read.reads t → amount ≡ line_amount t l
         same t h = priced ∙ sym (same_amount t0 t l h.of_population.items)
 
-        supplied_is : (t : Database) → MayBe t0 read.reads t → supplied_lines t x.warehouse t.stock (ls ++ l ∷ []) ≡ told
+        supplied_is : (t : Database) → IsCandidate t0 read.reads t → supplied_lines t x.warehouse t.stock (ls ++ l ∷ []) ≡ told
             ++ told_line l (slice_index words 0) amount ∷ []
         supplied_is t h =
             let m = met t h in
@@ -105,7 +105,7 @@ module _ (t0 : Database) (x : NewOrderInput) (order : OrderKey) (ls : List Reque
             supplied-push t x.warehouse t.stock ls l
             ∙ (λ i. taken.supplied t (before t h) i ++ told_line l (quantity i) (sym (same t h) i) ∷ [])
 
-        held_rows : (t : Database) → MayBe t0 read.reads t → Holds t (puts (puts read.writes row_number (Some row)) stock_number (Some words))
+        held_rows : (t : Database) → IsCandidate t0 read.reads t → Holds t (puts (puts read.writes row_number (Some row)) stock_number (Some words))
             (row_at (after_lines t x (ls ++ l ∷ [])))
         held_rows t h =
             let s : t.scale ≡ t0.scale = h.of_population.scale in

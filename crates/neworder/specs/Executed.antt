@@ -21,10 +21,10 @@ pub record IsReplyOf (t0 : Database) (x : NewOrderInput) (under_way : Transactio
   pub within_cap : ¬ IsAboveCap t0.scale (inputs.NewOrder x) under_way.reads
 
 -- its work, where it has a reply and there is memory for it
-abbrev pub IsWorkOf : NewOrderInput → ReadSetView → WriteSetView → Result Reply Refusal → Result Work Refusal → Type 0
-IsWorkOf x reads writes reply (Ok work) = (reply ≡ Ok work.reply) × (work.input ≡ inputs.NewOrder x)
+abbrev pub IsOrderWork : NewOrderInput → ReadSetView → WriteSetView → Result Reply Refusal → Result Work Refusal → Type 0
+IsOrderWork x reads writes reply (Ok work) = (reply ≡ Ok work.reply) × (work.input ≡ inputs.NewOrder x)
     × (work.reads ≡ reads) × (work.writes ≡ writes)
-IsWorkOf x reads writes reply (Err refusal) = (reply ≡ Err refusal) ⊎ (refusal ≡ OutOfMemory)
+IsOrderWork x reads writes reply (Err refusal) = (reply ≡ Err refusal) ⊎ (refusal ≡ OutOfMemory)
 
 -- an execution of this order, from one state of its reader to another
 pub record IsOrderExecuted (t0 : Database) (x : NewOrderInput) (old new : ReaderView)

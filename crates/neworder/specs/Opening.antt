@@ -15,9 +15,9 @@ use Rattle.tables.specs.declared.new_order.NewOrderInput.{NewOrderInput}
 use Rattle.tables.specs.declared.input.Input.TheVariants as input
 use Rattle.tables.specs.declared.records.RecordKey.TheVariants as key
 use Rattle.readset.specs.Reads.{ReadSetView}
-use Rattle.readset.specs.Explains.{NoneMayBe}
+use Rattle.readset.specs.Explains.{NoCandidate}
 use Rattle.readset.specs.Refused.{IsAboveCap}
-use Rattle.readset.specs.Transaction.{TransactionView, HasRead}
+use Rattle.readset.specs.Transaction.{TransactionView, IsReadAs}
 use Rattle.neworder.specs.declared.opening.Taken.{Taken}
 
 -- what a district's row gives an order: its D_NEXT_O_ID and the district's new words, or the refusal above the order
@@ -49,7 +49,7 @@ pub record IsHomeTaken (x : NewOrderInput) (taken : Taken) (t : Database) : Type
 -- the record of the order's district was read, and doesn't say that D_NEXT_O_ID is above the order cap
 abbrev pub IsWithinCap : Sizes → NewOrderInput → ReadSetView → Type 0
 IsWithinCap s x reads =
-    (words : Option (List ℕ)) × HasRead reads (number_of_key s (key.District (home x))) words × ¬ IsAbove s.orders words
+    (words : Option (List ℕ)) × IsReadAs reads (number_of_key s (key.District (home x))) words × ¬ IsAbove s.orders words
 
 -- why an order is refused: for want of memory, since its number as read is above the order cap, or since there are no
 -- tables at which it may have read
@@ -57,5 +57,5 @@ abbrev pub IsOrderRefusal : Database → NewOrderInput → TransactionView → R
 IsOrderRefusal t0 x under_way OutOfMemory = ⊤
 IsOrderRefusal t0 x under_way OrdersFull = IsAboveCap t0.scale (input.NewOrder x) under_way.reads
 IsOrderRefusal t0 x under_way Stale =
-    (¬ IsAboveCap t0.scale (input.NewOrder x) under_way.reads) × NoneMayBe t0 under_way.reads
+    (¬ IsAboveCap t0.scale (input.NewOrder x) under_way.reads) × NoCandidate t0 under_way.reads
 IsOrderRefusal t0 x under_way _ = ⊥

@@ -10,8 +10,8 @@ use Rattle.tables.specs.declared.new_order.NewOrderReply.{NewOrderReply}
 
 -- the reply for an order of this key, whose amounts have this sum, with these lines. Discount and taxes are those of
 -- t0, since they never change
-abbrev pub reply_of : Database → NewOrderInput → OrderKey → ℤ → List SuppliedLine → NewOrderReply
-reply_of t0 x order sum supplied = record {
+abbrev pub order_reply_of : Database → NewOrderInput → OrderKey → ℤ → List SuppliedLine → NewOrderReply
+order_reply_of t0 x order sum supplied = record {
   warehouse = x.warehouse;
   district = x.district;
   order = order.order;

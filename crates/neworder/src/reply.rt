@@ -3,7 +3,7 @@ ghost use Rattle.std.specs.Prelude.{◌≡◌, ◌≤ℤ◌, pos};
 ghost use Rattle.money.specs.Total.{total_amount};
 ghost use Rattle.tables.specs.NewOrder.{buyer, home, discount, warehouse_tax, district_tax};
 ghost use Rattle.population.specs.Initial.{initial};
-ghost use Rattle.neworder.specs.Replied.{reply_of};
+ghost use Rattle.neworder.specs.Replied.{order_reply_of};
 
 use money::{Cents, Rate, total};
 use population::Population;
@@ -22,7 +22,7 @@ pub(crate) fn reply_to(
 ) -> NewOrderReply
     requires low { pos 0 ≤ℤ sum }
     requires high { sum ≤ℤ pos 1500000 }
-    ensures { result ≡ reply_of (initial population.now) order.now key sum supplied.items }
+    ensures { result ≡ order_reply_of (initial population.now) order.now key sum supplied.items }
 {
     let home = DistrictKey {
         warehouse: order.warehouse,

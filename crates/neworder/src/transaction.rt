@@ -12,7 +12,7 @@ ghost use Rattle.readset.specs.Refused.{NoneMissing, IsAboveCap, IsRefusal};
 ghost use Rattle.readset.specs.Writes.{no_writes};
 ghost use Rattle.neworder.specs.Opening.{IsOrderRefusal};
 ghost use Rattle.neworder.specs.Priced.{ArePriced};
-ghost use Rattle.neworder.specs.Executed.{IsOrderExecuted, IsReplyOf, IsWorkOf};
+ghost use Rattle.neworder.specs.Executed.{IsOrderExecuted, IsReplyOf, IsOrderWork};
 
 use crate::lines::take_lines;
 use crate::opening::open_order;
@@ -126,7 +126,7 @@ fn work_of(
     writes: WriteSet,
     reply: Result<Reply, Refusal>,
 ) -> Result<Work, Refusal>
-    ensures { IsWorkOf order.now reads writes reply result }
+    ensures { IsOrderWork order.now reads writes reply result }
 {
     let reply = reply?;
     let input = Input::NewOrder(copied(order)?);

@@ -17,10 +17,10 @@ use Rattle.laws.proofs.NamesKept.{same_number}
 use Rattle.readset.specs.Reads.{ReadSetView}
 use Rattle.readset.specs.Writes.{WriteSetView, no_writes, rows_with}
 use Rattle.readset.specs.Commit.{IsCommitOf}
-use Rattle.readset.specs.Explains.{MayBe}
+use Rattle.readset.specs.Explains.{IsCandidate}
 use Rattle.readset.specs.Changes.{Holds, puts_all}
 use Rattle.readset.proofs.HoldsChanges.{holds-changes, holds_first}
-use Rattle.payment.specs.Steps.{keys_at, AreRead, AreRows, AreNewValues, changes_of, reply_of}
+use Rattle.payment.specs.Steps.{keys_at, AreFound, AreRows, AreNewValues, changes_of, reply_of}
 use Rattle.payment.specs.declared.transaction.Keys.{Keys}
 use Rattle.payment.specs.declared.transaction.Found.{Found}
 use Rattle.payment.specs.declared.transaction.NewValues.{NewValues}
@@ -35,12 +35,12 @@ pub same_values : (a b : NewValues) → Some a ≡ Some b → a ≡ b
 same_values a b e = cc
 
 -- what was read of keys that are these was read of these
-pub read_at : (t0 : Database) (reads : ReadSetView) (found : Found) (keys those : Keys) → keys ≡ those → ((t : Database) → MayBe t0 reads t → AreRead keys found t)
-    → (t : Database) → MayBe t0 reads t → AreRead those found t
-read_at t0 reads found keys those same read t h = subst (λ (k : Keys). AreRead k found t) same (read t h)
+pub read_at : (t0 : Database) (reads : ReadSetView) (found : Found) (keys those : Keys) → keys ≡ those → ((t : Database) → IsCandidate t0 reads t → AreFound keys found t)
+    → (t : Database) → IsCandidate t0 reads t → AreFound those found t
+read_at t0 reads found keys those same read t h = subst (λ (k : Keys). AreFound k found t) same (read t h)
 
 module _ (t0 : Database) (x : PaymentInput) (id : ℕ) (reads : ReadSetView) (found : Found) (valid : IsPayment t0.scale x) (is_number : IsNumber t0.scale.customers id)
-    (read : (t : Database) → MayBe t0 reads t → AreRead (keys_at x id) found t)
+    (read : (t : Database) → IsCandidate t0 reads t → AreFound (keys_at x id) found t)
   where
     -- the three rows of tables that may have been read
     pub record Rows (t : Database) : Type 0 where
@@ -52,7 +52,7 @@ module _ (t0 : Database) (x : PaymentInput) (id : ℕ) (reads : ReadSetView) (fo
       pub at_c : get t.customers (payer x id) ≡ Some c
       pub are : AreRows found w d c
 
-    pub rows_of : (t : Database) → MayBe t0 reads t → Rows t
+    pub rows_of : (t : Database) → IsCandidate t0 reads t → Rows t
     rows_of t h =
         let f = h.well_formed in
         let s : t.scale ≡ t0.scale = h.of_population.scale in
@@ -81,7 +81,7 @@ module _ (t0 : Database) (x : PaymentInput) (id : ℕ) (reads : ReadSetView) (fo
 
     -- the writes and the reply, where they are made of these rows
     module _ (at_id : id ≡ payer_number t0 x) (values : NewValues) (made : (w : Warehouse) (d : District) (c : Customer) → AreRows found w d c → AreNewValues x.amount w d c values) where
-      replies : (t : Database) → MayBe t0 reads t → payment_reply_of t x id ≡ reply_of values x id
+      replies : (t : Database) → IsCandidate t0 reads t → payment_reply_of t x id ≡ reply_of values x id
       replies t h =
           let r = rows_of t h in
           let balance = balance_changed t x id r.c r.at_c ∙ sym (made r.w r.d r.c r.are).balance in
@@ -94,7 +94,7 @@ module _ (t0 : Database) (x : PaymentInput) (id : ℕ) (reads : ReadSetView) (fo
             balance = balance i;
           }
 
-      changed : (t : Database) → MayBe t0 reads t → Holds t (puts_all t.scale no_writes (changes_of (keys_at x id) values)) (row_at (after_payment_of t x id))
+      changed : (t : Database) → IsCandidate t0 reads t → Holds t (puts_all t.scale no_writes (changes_of (keys_at x id) values)) (row_at (after_payment_of t x id))
       changed t h =
           let r = rows_of t h in
           let p = made r.w r.d r.c r.are in
@@ -105,7 +105,7 @@ module _ (t0 : Database) (x : PaymentInput) (id : ℕ) (reads : ReadSetView) (fo
           (λ j _ apart. others t x id j apart.0 apart.1.0 apart.1.1.0)
 
       pub commits : (writes : WriteSetView) → writes ≡ record { values = (puts_all t0.scale no_writes (changes_of (keys_at x id) values)).values; history_row = Some (history_row x id) }
-          → (t : Database) → MayBe t0 reads t → IsCommitOf t (input.Payment x) writes (reply.Payment (reply_of values x id))
+          → (t : Database) → IsCandidate t0 reads t → IsCommitOf t (input.Payment x) writes (reply.Payment (reply_of values x id))
       commits writes is t h =
           let same : payer_number t x ≡ id = same_number t0 t (record { warehouse = x.customer_warehouse; district = x.customer_district }) x.who h.of_population ∙ sym at_id in
           subst (λ (w : WriteSetView). IsCommitOf t (input.Payment x) w (reply.Payment (reply_of values x id))) (sym is) (record {

@@ -24,7 +24,7 @@ keys_at x id = record {
 }
 
 -- what they hold
-pub record AreRead (keys : Keys) (found : Found) (t : Database) : Type 0 where
+pub record AreFound (keys : Keys) (found : Found) (t : Database) : Type 0 where
   pub warehouse : row_at t keys.warehouse ≡ found.warehouse
   pub district : row_at t keys.district ≡ found.district
   pub customer : row_at t keys.customer ≡ found.customer

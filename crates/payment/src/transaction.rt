@@ -15,10 +15,10 @@ ghost use Rattle.readset.specs.Reads.{ReadSetView, AreRead, held};
 ghost use Rattle.readset.specs.Writes.{no_writes};
 ghost use Rattle.readset.specs.Changes.{puts_all};
 ghost use Rattle.readset.specs.Commit.{IsCommitOf};
-ghost use Rattle.readset.specs.Explains.{Explains, NoneMayBe, IsWithinLimits};
+ghost use Rattle.readset.specs.Explains.{Explains, NoCandidate, IsWithinLimits};
 ghost use Rattle.readset.specs.Transaction.{Finds, ReadsMore, IsExecuted};
 ghost use Rattle.payment.specs.declared.transaction.NewValues.{NewValues as Values};
-ghost use Rattle.payment.specs.Steps.{keys_at, AreRead as AreFound, AreRows, AreNewValues, changes_of, reply_of};
+ghost use Rattle.payment.specs.Steps.{keys_at, AreFound, AreRows, AreNewValues, changes_of, reply_of};
 
 use crate::change::{Charged, charge_customer, raise_district, raise_warehouse};
 use cells::{Cells, Reader};
@@ -84,7 +84,7 @@ pub fn execute<R: Wait>(
     ensures grown { HasGrown reader.old reader.new }
     ensures refused { IfErr result (λ refusal. (refusal ≡ OutOfMemory) ⊎
         ((refusal ≡ Stale) × ((reads : ReadSetView) × AreRead reader.old reader.new reads
-        × NoneMayBe (initial population.now) reads))) }
+        × NoCandidate (initial population.now) reads))) }
 {
     let taken = mem::replace(reader, Reader::new(alloc));
     let (after, work) = run::<Brand, R>(rt, alloc, cells, taken, population, payment);

@@ -5,14 +5,14 @@ use Rattle.std.specs.declared.io.Error.{Error as IoError}
 use Rattle.clap.specs.declared.error.Error.{Error}
 use Rattle.money.specs.declared.refusal.Refusal.{Refusal}
 use Rattle.money.specs.declared.refusal.Refusal.TheVariants.{OutOfMemory, BadInput, Device, BadScale}
-use Rattle.tables.specs.Sizes.{Sizes, IsLawful, sizes}
+use Rattle.tables.specs.Sizes.{Sizes, IsScale, sizes}
 use Rattle.tables.specs.Database.{Database}
 use Rattle.population.specs.Plain.{IsPlain}
 use Rattle.conditions.specs.Report.{IsGood}
 use Rattle.conditions.specs.declared.report.Report.{Report}
 use Rattle.book.specs.declared.entry.Done.{Done}
 use Rattle.script.specs.Written.{IsWhole, IsBeginning}
-use Rattle.command_line.specs.CommandLine.{IsAskedBy, IsRefusalOf}
+use Rattle.command_line.specs.CommandLine.{IsAskedBy, IsOptionsRefusal}
 use Rattle.command_line.specs.declared.asked.Options.{Options}
 use Rattle.program.specs.Status.{IsRefusedStatus, refusal_line, WritesBeginning}
 use Rattle.program.specs.Detail.{IsDetail}
@@ -23,7 +23,7 @@ scale_of o = sizes o.warehouses o.districts o.customers o.items o.orders o.commi
 
 -- the script of these bytes was answered to its end, over the plain population of the scale that was asked for, and this is its report
 pub record IsWholeRun (o : Options) (bytes : List ℕ) (old new : Option (List ℕ)) (report : Report) : Type 0 where
-  pub lawful : IsLawful (scale_of o)
+  pub lawful : IsScale (scale_of o)
   pub tables : Database
   pub plain : IsPlain (scale_of o) tables
   pub text : List ℕ
@@ -33,16 +33,16 @@ pub record IsWholeRun (o : Options) (bytes : List ℕ) (old new : Option (List �
 
 -- it was refused: for its scale; for want of memory before the first line; or later, when a beginning of its text was written
 pub data IsRefusedRun (o : Options) (bytes : List ℕ) (old new : Option (List ℕ)) (refusal : Refusal) : Type 0 where
-  scale : ¬ IsLawful (scale_of o) → refusal ≡ BadScale → Appends old new [] → IsRefusedRun o bytes old new refusal
+  scale : ¬ IsScale (scale_of o) → refusal ≡ BadScale → Appends old new [] → IsRefusedRun o bytes old new refusal
   memory : refusal ≡ OutOfMemory → Appends old new [] → IsRefusedRun o bytes old new refusal
-  begun : IsLawful (scale_of o) → (tables : Database) (front : List ℕ) → IsPlain (scale_of o) tables → (refusal ≡ OutOfMemory) ⊎ (refusal ≡ BadInput) ⊎ (refusal ≡ Device) → Appends old new front → IsBeginning tables bytes front → IsRefusedRun o bytes old new refusal
+  begun : IsScale (scale_of o) → (tables : Database) (front : List ℕ) → IsPlain (scale_of o) tables → (refusal ≡ OutOfMemory) ⊎ (refusal ≡ BadInput) ⊎ (refusal ≡ Device) → Appends old new front → IsBeginning tables bytes front → IsRefusedRun o bytes old new refusal
 
 -- a run of the program, after which the last calls on its input and its output have these errors, where they failed:
 -- its words' fault, or the help that they ask for, goes to the errors alone; a script's text goes to the output, and a
 -- refusal's line to the errors, with a line behind it on what was wrong
 pub data IsRun (words : List (List ℕ)) (bytes : List ℕ) (output written errors told : Option (List ℕ))
     (in_error out_error : Option IoError) (status : ℕ) : Type 0 where
-  fault : (error : Error) (text : List ℕ) → IsRefusalOf words error → Appends output written []
+  fault : (error : Error) (text : List ℕ) → IsOptionsRefusal words error → Appends output written []
       → Appends errors told text → status ≡ 2
       → IsRun words bytes output written errors told in_error out_error status
   answered : (o : Options) (report : Report) → IsAskedBy words o → IsWholeRun o bytes output written report

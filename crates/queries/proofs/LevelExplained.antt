@@ -10,13 +10,13 @@ use Rattle.tables.specs.declared.input.Input.TheVariants as input
 use Rattle.tables.specs.declared.reply.Reply.TheVariants as reply
 use Rattle.readset.specs.Reads.{ReadSetView}
 use Rattle.readset.specs.Writes.{no_writes}
-use Rattle.readset.specs.Explains.{MayBe, Explains}
+use Rattle.readset.specs.Explains.{IsCandidate, Explains}
 
 module _ (t0 : Database) (x : StockLevelInput) (reads : ReadSetView) (items : List ℕ) (low : ℕ)
-    (sold : (t : Database) → MayBe t0 reads t → (i : ℕ) → is_sold t (record { warehouse = x.warehouse; district = x.district }) i ≡ list_any (λ j. j == i) items)
-    (counted : (t : Database) → MayBe t0 reads t → length (filter (λ i. list_any (λ j. j == i) items && is_low t x.warehouse x.threshold i) (range_with_len 1 t0.scale.items)) ≡ low)
+    (sold : (t : Database) → IsCandidate t0 reads t → (i : ℕ) → is_sold t (record { warehouse = x.warehouse; district = x.district }) i ≡ list_any (λ j. j == i) items)
+    (counted : (t : Database) → IsCandidate t0 reads t → length (filter (λ i. list_any (λ j. j == i) items && is_low t x.warehouse x.threshold i) (range_with_len 1 t0.scale.items)) ≡ low)
   where
-    low_is : (t : Database) → MayBe t0 reads t → low_items t x ≡ low
+    low_is : (t : Database) → IsCandidate t0 reads t → low_items t x ≡ low
     low_is t h = (λ j. length (filter (λ i. sold t h i j && is_low t x.warehouse x.threshold i) (range_with_len 1 (h.of_population.scale j).items))) ∙ counted t h
 
     pub explains : Explains t0 (input.StockLevel x) reads no_writes (reply.StockLevel (record { warehouse = x.warehouse; district = x.district; threshold = x.threshold; low = low }))

@@ -21,8 +21,8 @@ use Rattle.tables.specs.declared.rows.OrderLine.{OrderLine}
 use Rattle.tables.proofs.Orders.{exact_line}
 use Rattle.tables.proofs.KeyTests.{eqb-nat_cmp}
 use Rattle.readset.specs.Reads.{ReadSetView, Keeps}
-use Rattle.readset.specs.Explains.{MayBe}
-use Rattle.readset.proofs.MoreReads.{may_be_before}
+use Rattle.readset.specs.Explains.{IsCandidate}
+use Rattle.readset.proofs.MoreReads.{candidate_before}
 use Rattle.queries.specs.SoldItems.{is_looked_at, AreItems}
 use Rattle.queries.proofs.AnyRow.{any_alike, any_more}
 
@@ -106,12 +106,12 @@ module _ (t0 : Database) (d : DistrictKey) (first : ℕ) where
 
   -- one line more
   pub next_line : (o m : ℕ) (old more : ReadSetView) (items : List ℕ) (item : Option ℕ) → AreItems t0 d first o m old items → Keeps old more
-      → ((t : Database) → MayBe t0 more t → option_map (λ r. r.item) (get t.lines (line_key (record { warehouse = d.warehouse; district = d.district; order = o }) (m + 1))) ≡ item)
+      → ((t : Database) → IsCandidate t0 more t → option_map (λ r. r.item) (get t.lines (line_key (record { warehouse = d.warehouse; district = d.district; order = o }) (m + 1))) ≡ item)
       → AreItems t0 d first o (m + 1) more (items ++ option_map_or (λ i. i ∷ []) item [])
   next_line o m old more items item so_far keeps is t h i =
       let k : LineKey = line_key (record { warehouse = d.warehouse; district = d.district; order = o }) (m + 1) in
       any_more exact_line (is_looked_at d first o m) (is_looked_at d first o (m + 1)) (λ (r : OrderLine). r.item == i) k (line_more d first o m) t.lines
-      ∙ ap (λ b. b || option_map_or (λ (r : OrderLine). r.item == i) (get t.lines k) false) (so_far t (may_be_before t0 old more t keeps h) i)
+      ∙ ap (λ b. b || option_map_or (λ (r : OrderLine). r.item == i) (get t.lines k) false) (so_far t (candidate_before t0 old more t keeps h) i)
       ∙ one_pushed i items (get t.lines k)
       ∙ ap (λ w. one_of i (items ++ option_map_or (λ n. n ∷ []) w [])) (is t h)
 
@@ -124,7 +124,7 @@ module _ (t0 : Database) (d : DistrictKey) (first : ℕ) where
 
 -- after the last order
 pub all_sold : (t0 : Database) (d : DistrictKey) (next : ℕ) (reads : ReadSetView) (items : List ℕ) → AreItems t0 d (max 1 (next - RECENT_ORDERS)) next 0 reads items
-    → (t : Database) → MayBe t0 reads t → next_order t d ≡ next → (i : ℕ) → is_sold t d i ≡ one_of i items
+    → (t : Database) → IsCandidate t0 reads t → next_order t d ≡ next → (i : ℕ) → is_sold t d i ≡ one_of i items
 all_sold t0 d next reads items all t h is i =
     any_alike exact_line (λ (e : LineKey × OrderLine). is_recent t d e.0 && (e.1.item == i)) (λ (e : LineKey × OrderLine). is_looked_at d (max 1 (next - RECENT_ORDERS)) next 0 e.0 && (e.1.item == i)) t.lines
     (λ k r found. let within = h.well_formed.lines k (ap is_some found) in

@@ -18,7 +18,7 @@ use Rattle.tables.specs.declared.reply.Reply.TheVariants as reply
 use Rattle.laws.proofs.NamesKept.{same_number}
 use Rattle.readset.specs.Reads.{ReadSetView}
 use Rattle.readset.specs.Writes.{no_writes}
-use Rattle.readset.specs.Explains.{MayBe, Explains}
+use Rattle.readset.specs.Explains.{IsCandidate, Explains}
 
 module _ (t0 : Database) (x : OrderStatusInput) (k : CustomerKey) (same : k ≡ asked x (asked_number t0 x)) (reads : ReadSetView) (balance : ℤ) (number : ℕ) (order : Option LastOrder) where
   -- the order of this number in the customer's district
@@ -28,11 +28,11 @@ module _ (t0 : Database) (x : OrderStatusInput) (k : CustomerKey) (same : k ≡ 
   abbrev told : OrderStatusReply
   told = record { warehouse = x.warehouse; district = x.district; customer = k.customer; balance = balance; order = order }
 
-  module _ (balance_is : (t : Database) → MayBe t0 reads t → column (λ r. r.balance) t.customers k ≡ balance)
-      (last_is : (t : Database) → MayBe t0 reads t → last t k ≡ number)
-      (order_is : (t : Database) → MayBe t0 reads t → option_map (told_of t (of_number number)) (get t.orders (of_number number)) ≡ order)
+  module _ (balance_is : (t : Database) → IsCandidate t0 reads t → column (λ r. r.balance) t.customers k ≡ balance)
+      (last_is : (t : Database) → IsCandidate t0 reads t → last t k ≡ number)
+      (order_is : (t : Database) → IsCandidate t0 reads t → option_map (told_of t (of_number number)) (get t.orders (of_number number)) ≡ order)
     where
-      replies : (t : Database) → MayBe t0 reads t → order_status_reply t x ≡ told
+      replies : (t : Database) → IsCandidate t0 reads t → order_status_reply t x ≡ told
       replies t h =
           let at : asked x (asked_number t x) ≡ k = ap (asked x) (same_number t0 t (record { warehouse = x.warehouse; district = x.district }) x.who h.of_population) ∙ sym same in
           let amount : column (λ r. r.balance) t.customers (asked x (asked_number t x)) ≡ balance = ap (column (λ r. r.balance) t.customers) at ∙ balance_is t h in

@@ -13,7 +13,7 @@ use Rattle.tables.specs.declared.keys.OrderKey.{OrderKey}
 use Rattle.tables.specs.declared.keys.LineKey.{LineKey}
 use Rattle.tables.specs.declared.rows.OrderLine.{OrderLine}
 use Rattle.readset.specs.Reads.{ReadSetView, held}
-use Rattle.readset.specs.Explains.{MayBe}
+use Rattle.readset.specs.Explains.{IsCandidate}
 use Rattle.readset.specs.Transaction.{TransactionView}
 
 -- the district of an order
@@ -26,7 +26,7 @@ is_looked_at d first o m k = is_district k.warehouse k.district d && ((nat_le fi
 
 -- these are the items of those lines, at all tables at which the transaction may have read
 abbrev pub AreItems : Database → DistrictKey → ℕ → ℕ → ℕ → ReadSetView → List ℕ → Type 0
-AreItems t0 d first o m reads items = (t : Database) → MayBe t0 reads t → (i : ℕ)
+AreItems t0 d first o m reads items = (t : Database) → IsCandidate t0 reads t → (i : ℕ)
     → list_any (λ (e : LineKey × OrderLine). is_looked_at d first o m e.0 && (e.1.item == i)) (entries t.lines) ≡ list_any (λ j. j == i) items
 
 -- as much of STOCK is read as before

@@ -8,7 +8,7 @@ ghost use Rattle.money.specs.declared.refusal.Refusal.TheVariants.{OutOfMemory, 
 ghost use Rattle.population.specs.Initial.{initial};
 ghost use Rattle.cells.specs.Records.{HasGrown};
 ghost use Rattle.readset.specs.Reads.{ReadSetView, AreRead};
-ghost use Rattle.readset.specs.Explains.{Explains, NoneMayBe, IsWithinLimits};
+ghost use Rattle.readset.specs.Explains.{Explains, NoCandidate, IsWithinLimits};
 ghost use Rattle.readset.specs.Writes.{no_writes};
 ghost use Rattle.readset.specs.Commit.{IsCommitOf};
 ghost use Rattle.readset.specs.Transaction.{Finds, ReadsMore, IsExecuted};
@@ -52,7 +52,7 @@ pub fn order_status<R: Wait>(
     ensures grown { HasGrown reader.old reader.new }
     ensures refused { IfErr result (λ refusal. (refusal ≡ OutOfMemory) ⊎
         ((refusal ≡ Stale) × ((reads : ReadSetView) × AreRead reader.old reader.new reads
-        × NoneMayBe (initial population.now) reads))) }
+        × NoCandidate (initial population.now) reads))) }
 {
     let taken = mem::replace(reader, Reader::new(alloc));
     let (after, work) = run::<Brand, R>(rt, alloc, cells, taken, population, query);

@@ -4,7 +4,7 @@ use Rattle.tables.specs.Database.{Database}
 use Rattle.cells.specs.Records.{ReaderView}
 use Rattle.cells.specs.declared.cells.Version.{Version}
 use Rattle.readset.specs.Reads.{ReadSetView, AreRead, Keeps, held}
-use Rattle.readset.specs.Explains.{MayBe}
+use Rattle.readset.specs.Explains.{IsCandidate}
 
 none_some : (v : Version) → None ≡ Some v → ⊥
 none_some v e = cc
@@ -32,8 +32,8 @@ still reads more n (Some v) e h keeps = ap is_some (keeps n v e)
 pub still_read : (reads more : ReadSetView) (n : ℕ) → Keeps reads more → IsSome (held reads n) → IsSome (held more n)
 still_read reads more n keeps h = still reads more n (held reads n) refl h keeps
 
-pub may_be_before : (t0 : Database) (reads more : ReadSetView) (t : Database) → Keeps reads more → MayBe t0 more t → MayBe t0 reads t
-may_be_before t0 reads more t keeps h = record {
+pub candidate_before : (t0 : Database) (reads more : ReadSetView) (t : Database) → Keeps reads more → IsCandidate t0 more t → IsCandidate t0 reads t
+candidate_before t0 reads more t keeps h = record {
   of_population = h.of_population;
   well_formed = h.well_formed;
   numbered = λ k here read. h.numbered k here (still_read reads more _ keeps read);

@@ -16,10 +16,10 @@ use Rattle.readset.specs.Reads.{ReadSetView, Keeps, AreWithin, AreRead, held, va
 use Rattle.readset.specs.Writes.{WriteSetView, puts}
 use Rattle.readset.specs.Commit.{IsCommitOf}
 use Rattle.readset.specs.declared.limits.TheConstants.{MAX_READS, MAX_WRITES}
-use Rattle.readset.specs.Explains.{MayBe}
+use Rattle.readset.specs.Explains.{IsCandidate}
 use Rattle.readset.specs.Transaction.{TransactionView, IsUnderWay, ReadsMore, GoesOn, IsExecuted}
 use Rattle.readset.proofs.LeftIs.{row_read}
-use Rattle.readset.proofs.MoreReads.{may_be_before}
+use Rattle.readset.proofs.MoreReads.{candidate_before}
 use Rattle.readset.proofs.WrittenRecords.{keeps_read, length-insert_entry, puts_read, written_within}
 
 -- whether an entry is found is whether there is one
@@ -46,7 +46,7 @@ loaded_under_way start old new cells reads more writes h same chain grown within
 -- what a version that was read says of its key's row
 pub row_told : (t0 : Database) (reads : ReadSetView) (k : RecordKey) (n : ℕ) (v : Version) (words : Option (List ℕ)) → n ≡ number_of_key t0.scale k
     → IsRecordKey t0.scale k
-    → held reads n ≡ Some v → words ≡ value_of v → (t : Database) → MayBe t0 reads t → row_at t k ≡ words
+    → held reads n ≡ Some v → words ≡ value_of v → (t : Database) → IsCandidate t0 reads t → row_at t k ≡ words
 row_told t0 reads k n v words at is_key found is t h =
     let same : t0.scale ≡ t.scale = sym h.of_population.scale in
     sym (is ∙ row_read t reads k n v h.agrees found (at ∙ ap (λ (q : Sizes). number_of_key q k) same) (subst (λ (q : Sizes). IsRecordKey q k) same is_key))
@@ -66,7 +66,7 @@ put_under_way start now reads writes more n value (Err e) h read put kept =
 -- the end of a transaction whose reply was found
 pub executed : (t0 : Database) (x : Input) (start now : ReaderView) (reads : ReadSetView) (writes : WriteSetView) (told : Reply)
     → IsUnderWay start now (record { reads = reads; writes = writes })
-    → ((t : Database) → MayBe t0 reads t → IsCommitOf t x writes told) → length reads ≤ MAX_READS → length writes.values ≤ MAX_WRITES
+    → ((t : Database) → IsCandidate t0 reads t → IsCommitOf t x writes told) → length reads ≤ MAX_READS → length writes.values ≤ MAX_WRITES
     → IsExecuted t0 x start now (Ok (record { input = x; reads = reads; writes = writes; reply = told }))
 executed t0 x start now reads writes told h explains few_reads few_writes = record {
   input = refl;
@@ -95,8 +95,8 @@ reads_twice x y z first then most a b within = record {
 }
 
 -- tables at which it may have read after a step are such before it
-pub may_be_still : (t0 : Database) (x y : TransactionView) (most : ℕ) → ReadsMore most x y → (t : Database) → MayBe t0 y.reads t → MayBe t0 x.reads t
-may_be_still t0 x y most more t h = may_be_before t0 x.reads y.reads t more.keeps h
+pub candidate_still : (t0 : Database) (x y : TransactionView) (most : ℕ) → ReadsMore most x y → (t : Database) → IsCandidate t0 y.reads t → IsCandidate t0 x.reads t
+candidate_still t0 x y most more t h = candidate_before t0 x.reads y.reads t more.keeps h
 
 pub goes_on : (reads writes : ℕ) (x y : TransactionView) → ReadsMore reads x y → GoesOn reads writes x y
 goes_on reads writes x y more = record {
@@ -138,6 +138,6 @@ put_goes_on x y n value (Err e) reads put kept = record {
 }
 
 -- tables at which it may have read after steps are such before them
-pub may_be_then : (t0 : Database) (x y : TransactionView) (reads writes : ℕ) → GoesOn reads writes x y → (t : Database) → MayBe t0 y.reads t
-    → MayBe t0 x.reads t
-may_be_then t0 x y reads writes on t h = may_be_before t0 x.reads y.reads t on.keeps h
+pub candidate_then : (t0 : Database) (x y : TransactionView) (reads writes : ℕ) → GoesOn reads writes x y → (t : Database) → IsCandidate t0 y.reads t
+    → IsCandidate t0 x.reads t
+candidate_then t0 x y reads writes on t h = candidate_before t0 x.reads y.reads t on.keeps h

@@ -23,27 +23,27 @@ abbrev pub Agrees : Database → ReadSetView → Type 0
 Agrees t reads = (n : ℕ) (v : Version) → held reads n ≡ Some v → value_of v ≡ rows t n
 
 -- a district's orders and their numbers are as conditions 2, 3 and 6 say (TPC-C 3.3.2)
-pub record IsNumbered (t : Database) (k : DistrictKey) : Type 0 where
+pub record HasOrderConditions (t : Database) (k : DistrictKey) : Type 0 where
   pub condition_2 : Condition2At t k
   pub condition_3 : Condition3At t k
   pub condition_6 : (j : OrderKey) → is_district j.warehouse j.district k ≡ true → Condition6At t j
 
 -- the tables at which a transaction may have read: the population's, well-formed, as read, and with these conditions of
 -- each district read. All consistent, well-formed tables that agree with what was read are among them
-pub record MayBe (t0 : Database) (reads : ReadSetView) (t : Database) : Type 0 where
+pub record IsCandidate (t0 : Database) (reads : ReadSetView) (t : Database) : Type 0 where
   pub of_population : IsOf t0 t
   pub well_formed : IsWellFormed t
   pub numbered : (k : DistrictKey) → IsDistrictKey t.scale k
-      → IsSome (held reads (number_of_key t.scale (key.District k))) → IsNumbered t k
+      → IsSome (held reads (number_of_key t.scale (key.District k))) → HasOrderConditions t k
   pub agrees : Agrees t reads
 
 -- at all such tables, the transaction has this reply and these writes
 abbrev pub Explains : Database → Input → ReadSetView → WriteSetView → Reply → Type 0
-Explains t0 x reads writes reply = (t : Database) → MayBe t0 reads t → IsCommitOf t x writes reply
+Explains t0 x reads writes reply = (t : Database) → IsCandidate t0 reads t → IsCommitOf t x writes reply
 
 -- no such tables
-abbrev pub NoneMayBe : Database → ReadSetView → Type 0
-NoneMayBe t0 reads = (t : Database) → ¬ MayBe t0 reads t
+abbrev pub NoCandidate : Database → ReadSetView → Type 0
+NoCandidate t0 reads = (t : Database) → ¬ IsCandidate t0 reads t
 
 -- no write of a record that wasn't read
 abbrev pub WritesAreRead : WriteSetView → ReadSetView → Type 0

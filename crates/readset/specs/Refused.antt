@@ -15,7 +15,7 @@ use Rattle.cells.specs.Records.{ReaderView}
 use Rattle.cells.specs.declared.cells.Version.{Version}
 use Rattle.readset.specs.Reads.{ReadSetView, AreRead, held, value_of}
 use Rattle.readset.specs.Commit.{IsCommitted}
-use Rattle.readset.specs.Explains.{NoneMayBe}
+use Rattle.readset.specs.Explains.{NoCandidate}
 
 -- the transaction isn't rolled back at any tables of the population: no item of it is missing
 abbrev pub NoneMissing : Database → Input → Type 0
@@ -39,5 +39,5 @@ IsRefusal t0 x old new (ItemNotValid item) = (t : Database) → IsOf t0 t → ap
 IsRefusal t0 x old new OrdersFull = NoneMissing t0 x
     × ((reads : ReadSetView) × AreRead old new reads × IsAboveCap t0.scale x reads)
 IsRefusal t0 x old new Stale = NoneMissing t0 x
-    × ((reads : ReadSetView) × AreRead old new reads × ¬ IsAboveCap t0.scale x reads × NoneMayBe t0 reads)
+    × ((reads : ReadSetView) × AreRead old new reads × ¬ IsAboveCap t0.scale x reads × NoCandidate t0 reads)
 IsRefusal t0 x old new _ = ⊥

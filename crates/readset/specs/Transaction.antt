@@ -8,7 +8,7 @@ use Rattle.cells.specs.Records.{ReaderView, HasGrown}
 use Rattle.cells.specs.declared.cells.Version.{Version}
 use Rattle.readset.specs.Reads.{ReadSetView, Keeps, AreWithin, AreRead, held, value_of}
 use Rattle.readset.specs.Writes.{WriteSetView}
-use Rattle.readset.specs.Explains.{MayBe, NoneMayBe, Explains, WritesAreRead, IsWithinLimits}
+use Rattle.readset.specs.Explains.{IsCandidate, NoCandidate, Explains, WritesAreRead, IsWithinLimits}
 use Rattle.readset.specs.declared.work.Work.{Work}
 
 -- what contracts see of it
@@ -25,8 +25,8 @@ pub record IsUnderWay (start now : ReaderView) (x : TransactionView) : Type 0 wh
   pub writes_read : WritesAreRead x.writes x.reads
 
 -- the version that was read of this record has these words, or says that it is absent
-abbrev pub HasRead : ReadSetView → ℕ → Option (List ℕ) → Type 0
-HasRead reads n words = (v : Version) × (held reads n ≡ Some v) × (words ≡ value_of v)
+abbrev pub IsReadAs : ReadSetView → ℕ → Option (List ℕ) → Type 0
+IsReadAs reads n words = (v : Version) × (held reads n ≡ Some v) × (words ≡ value_of v)
 
 -- a step that reads at most so many records more, and writes none
 pub record ReadsMore (most : ℕ) (old new : TransactionView) : Type 0 where
@@ -43,12 +43,12 @@ pub record GoesOn (reads writes : ℕ) (old new : TransactionView) : Type 0 wher
 
 -- so at all tables at which it may have read
 abbrev pub AtAll : Database → TransactionView → (Database → Type 0) → Type 0
-AtAll t0 x P = (t : Database) → MayBe t0 x.reads t → P t
+AtAll t0 x P = (t : Database) → IsCandidate t0 x.reads t → P t
 
 -- why a step is refused: for want of memory, or since there are no such tables
 abbrev pub IsStepRefusal : Database → TransactionView → Refusal → Type 0
 IsStepRefusal t0 x OutOfMemory = ⊤
-IsStepRefusal t0 x Stale = NoneMayBe t0 x.reads
+IsStepRefusal t0 x Stale = NoCandidate t0 x.reads
 IsStepRefusal t0 x _ = ⊥
 
 -- what a step has found is so at all such tables, or it is refused
@@ -60,7 +60,7 @@ Finds t0 x (Err refusal) P = IsStepRefusal t0 x refusal
 -- may have read
 abbrev pub IsReadRefusal : Database → ReaderView → ReaderView → Refusal → Type 0
 IsReadRefusal t0 old new refusal =
-    (refusal ≡ OutOfMemory) ⊎ ((refusal ≡ Stale) × ((reads : ReadSetView) × AreRead old new reads × NoneMayBe t0 reads))
+    (refusal ≡ OutOfMemory) ⊎ ((refusal ≡ Stale) × ((reads : ReadSetView) × AreRead old new reads × NoCandidate t0 reads))
 
 -- an execution of this input, from one state of its reader to another
 pub record IsExecuted (t0 : Database) (x : Input) (old new : ReaderView) (result : Result Work Refusal) : Type 0 where

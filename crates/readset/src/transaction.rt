@@ -10,7 +10,7 @@ ghost use Rattle.readset.specs.declared.limits.TheConstants.{MAX_READS, MAX_WRIT
 ghost use Rattle.readset.specs.Reads.{held};
 ghost use Rattle.readset.specs.Writes.{no_writes, puts, left_at};
 ghost use Rattle.readset.specs.Commit.{IsCommitOf};
-ghost use Rattle.readset.specs.Transaction.{HasRead, IsUnderWay, ReadsMore, GoesOn, Finds, IsExecuted};
+ghost use Rattle.readset.specs.Transaction.{IsReadAs, IsUnderWay, ReadsMore, GoesOn, Finds, IsExecuted};
 
 use crate::reads::{ReadSet, value_of};
 use crate::work::Work;
@@ -129,7 +129,7 @@ impl<'a, K: Start> Transaction<'a, K> {
         requires { IsRecordKey K.tables.scale key }
         ensures words { Finds K.tables self.new result (λ words t. row_at t key ≡ words) }
         ensures holds { OnOk result (IsSome (held self.new.reads (number_of_key K.tables.scale key))) }
-        ensures version { IfOk result (HasRead self.new.reads (number_of_key K.tables.scale key)) }
+        ensures version { IfOk result (IsReadAs self.new.reads (number_of_key K.tables.scale key)) }
         ensures others { (n : ℕ) → n ≢ number_of_key K.tables.scale key
             → held self.new.reads n ≡ held self.old.reads n }
         ensures reads { ReadsMore 1 self.old self.new }

@@ -6,7 +6,7 @@ use Rattle.std.specs.BTreeMap as tree
 use Rattle.std.specs.BTreeMap.{BTreeMap}
 use Rattle.std.specs.declared.cmp.Ordering.{Ordering}
 use Rattle.std.proofs.lemmas.Option.{none-some, same_Some}
-use Rattle.tables.specs.Sizes.{Sizes, IsLawful}
+use Rattle.tables.specs.Sizes.{Sizes, IsScale}
 use Rattle.tables.specs.WellFormed.{IsMoney, IsDistrictRow, IsCustomerRow, IsLineRow, IsStockRow}
 use Rattle.tables.specs.Database.{Database}
 use Rattle.tables.specs.Rows.{warehouse_words, district_words, customer_words, order_words, line_words, stock_words}
@@ -18,7 +18,7 @@ use Rattle.tables.specs.declared.rows.District.{District}
 use Rattle.tables.specs.declared.rows.Customer.{Customer}
 use Rattle.tables.proofs.Orders.{IsExact}
 use Rattle.tables.proofs.Views.{get-view}
-use Rattle.records.specs.Words.{Fits, warehouse_of, district_of, customer_of, order_of_words, line_of_words, stock_of_words}
+use Rattle.records.specs.Words.{FitsColumn, warehouse_of, district_of, customer_of, order_of_words, line_of_words, stock_of_words}
 use Rattle.records.specs.Held.{IsWarehouseOf, IsDistrictOf, IsCustomerOf, IsOrderIn}
 use Rattle.records.specs.Puts.{IsRow, MayBeRow}
 use Rattle.records.proofs.Backs.{warehouse_back, district_back, customer_back, order_back, line_back, stock_back}
@@ -83,7 +83,7 @@ decoded_stock ws h =
     decoded stock_words IsStockRow ws h.0 (stock_of_words ws) h.2 e (ap stock_of_words e ∙ stock_back h.0)
 
 -- a word that no row has above m
-fits : {X : Type 0} (words : X → List ℕ) (IsIn : X → Type 0) (ws : List ℕ) (i m : ℕ) → m < 2 ^ 32 → IsRow words IsIn (Some ws) → ((r : X) → IsIn r → slice_index (words r) i ≤ m) → Fits ws i
+fits : {X : Type 0} (words : X → List ℕ) (IsIn : X → Type 0) (ws : List ℕ) (i m : ℕ) → m < 2 ^ 32 → IsRow words IsIn (Some ws) → ((r : X) → IsIn r → slice_index (words r) i ≤ m) → FitsColumn ws i
 fits words IsIn ws i m small h most =
     let e = same_Some _ _ h.1 in
     let below = most h.0 h.2 in
@@ -93,7 +93,7 @@ unwrapped : (m : ℕ) (o : Option ℕ) → ForSome o (λ n. n ≤ m) → unwrap_
 unwrapped m None h = omega arith
 unwrapped m (Some n) h = h n refl
 
-pub line_fits : (s : Sizes) (ws : List ℕ) → IsLawful s → MayBeRow line_words (IsLineRow s) (Some ws) → Fits ws 0 × Fits ws 1 × Fits ws 2 × Fits ws 3
+pub line_fits : (s : Sizes) (ws : List ℕ) → IsScale s → MayBeRow line_words (IsLineRow s) (Some ws) → FitsColumn ws 0 × FitsColumn ws 1 × FitsColumn ws 2 × FitsColumn ws 3
 line_fits s ws lawful m =
     let h = is_row line_words (IsLineRow s) ws m in
     let most_items = lawful.items.1 in

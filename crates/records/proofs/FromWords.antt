@@ -17,7 +17,7 @@ use Rattle.tables.specs.declared.rows.Customer.{Customer}
 use Rattle.tables.specs.declared.records.RecordKey.{RecordKey}
 use Rattle.tables.specs.declared.records.RecordKey.TheVariants as key
 use Rattle.tables.proofs.Numbers.{named}
-use Rattle.records.specs.Words.{Fits, warehouse_of, district_of, customer_of}
+use Rattle.records.specs.Words.{FitsColumn, warehouse_of, district_of, customer_of}
 use Rattle.records.proofs.Backs.{warehouse_back, district_back, customer_back}
 
 -- a column that never changes, of a row and of the population's row
@@ -58,10 +58,10 @@ at_most words ws i m (Some r) held most = subst (λ l. slice_index l i ≤ m) (s
 
 -- the words of a row fit its columns
 module _ (t : Database) (wf : IsWellFormed t) (ws : List ℕ) where
-  pub district_fits : t.scale.orders ≤ MAX_ORDERS → (k : DistrictKey) → row_at t (key.District k) ≡ Some ws → Fits ws 1
+  pub district_fits : t.scale.orders ≤ MAX_ORDERS → (k : DistrictKey) → row_at t (key.District k) ≡ Some ws → FitsColumn ws 1
   district_fits cap k held = let most = at_most district_words ws 1 (t.scale.orders + 1) (get t.districts k) held (λ r is. (wf.district_rows k r is).next_order.1) in omega (arith, cap, most)
 
-  pub customer_fits : (k : CustomerKey) → row_at t (key.Customer k) ≡ Some ws → Fits ws 2 × Fits ws 3
+  pub customer_fits : (k : CustomerKey) → row_at t (key.Customer k) ≡ Some ws → FitsColumn ws 2 × FitsColumn ws 3
   customer_fits k held =
       let payments = at_most customer_words ws 2 MAX_COUNT (get t.customers k) held (λ r is. (wf.customer_rows k r is).payments) in
       let deliveries = at_most customer_words ws 3 MAX_COUNT (get t.customers k) held (λ r is. (wf.customer_rows k r is).deliveries) in

@@ -8,7 +8,7 @@ use Rattle.tables.specs.Keys.{IsWarehouseKey, IsDistrictKey, IsCustomerKey, IsOr
 use Rattle.tables.specs.Maps.{RowsWithin, EachRow}
 use Rattle.tables.specs.WellFormed.{IsMoney, IsDistrictRow, IsCustomerRow, IsOrderRow, IsLineRow, IsStockRow}
 use Rattle.tables.specs.Database.{Database}
-use Rattle.tables.specs.Records.{start, number_of_key}
+use Rattle.tables.specs.Records.{first_number, number_of_key}
 use Rattle.tables.specs.Rows.{warehouse_words, district_words, customer_words, new_order_words, order_words, line_words, stock_words}
 use Rattle.tables.specs.declared.keys.DistrictKey.{DistrictKey}
 use Rattle.tables.specs.declared.keys.CustomerKey.{CustomerKey}
@@ -22,7 +22,7 @@ use Rattle.tables.specs.declared.records.RecordKey.TheVariants as key
 
 -- how many records have rows: the index records come after them
 abbrev pub row_count : Sizes → ℕ
-row_count s = start s table.Oldest
+row_count s = first_number s table.Oldest
 
 -- what the records of keys hold, where `values` tells it by number
 abbrev pub by_key : Sizes → (ℕ → Option (List ℕ)) → RecordKey → Option (List ℕ)

@@ -54,5 +54,5 @@ stock_of_words words = record {
 }
 
 -- the word at this place fits a column of 32 bits
-abbrev pub Fits : List ℕ → ℕ → Type 0
-Fits words i = slice_index words i < 2 ^ 32
+abbrev pub FitsColumn : List ℕ → ℕ → Type 0
+FitsColumn words i = slice_index words i < 2 ^ 32

@@ -6,7 +6,7 @@ ghost use Rattle.tables.specs.Constant.{IsOf};
 ghost use Rattle.tables.specs.Database.{Database, database, empty_database};
 ghost use Rattle.tables.specs.Records.{record_count};
 ghost use Rattle.tables.specs.Rows.{rows};
-ghost use Rattle.tables.specs.Sizes.{IsLawful};
+ghost use Rattle.tables.specs.Sizes.{IsScale};
 ghost use Rattle.tables.specs.WellFormed.{IsWellFormed};
 ghost use Rattle.population.specs.Initial.{initial};
 ghost use Rattle.records.specs.Held.{row_count, by_key, AreTables};
@@ -71,7 +71,7 @@ fn without_rows(alloc: Global, population: &Tables, added: &[History]) -> Result
 /// Puts what each record of a row holds into tables that have no row of a record.
 fn put_rows(tables: &mut Tables, population: &Tables, newest: &[Newest]) -> Result<(), AllocError>
     requires population { IsWellFormed (database population.now) }
-    requires lawful_scale { IsLawful (database population.now).scale }
+    requires lawful_scale { IsScale (database population.now).scale }
     requires none { AreTables (database population.now) (λ key. None) (database tables.old) }
     requires count { row_count (database population.now).scale ≤ length newest.now }
     requires lawful { AreLawful (database population.now).scale (value_at newest.now) }

@@ -1,7 +1,7 @@
 //! Rows from the seven words of their records. A column that never changes comes from the population's row.
 
 ghost use Rattle.std.specs.Prelude.{◌≡◌, ◌<◌, ◌^◌};
-ghost use Rattle.records.specs.Words.{Fits, warehouse_of, district_of, customer_of, nullable, order_of_words, line_of_words, stock_of_words};
+ghost use Rattle.records.specs.Words.{FitsColumn, warehouse_of, district_of, customer_of, nullable, order_of_words, line_of_words, stock_of_words};
 
 use tables::{Customer, District, Order, OrderLine, Stock, Warehouse, money_from_word};
 
@@ -17,7 +17,7 @@ pub fn warehouse_of(first: &Warehouse, words: &[u64; 7]) -> Warehouse
 
 /// D_YTD and D_NEXT_O_ID of the words, and D_TAX of the population's row.
 pub fn district_of(first: &District, words: &[u64; 7]) -> District
-    requires { Fits words.now 1 }
+    requires { FitsColumn words.now 1 }
     ensures { result ≡ district_of first.now words.now }
 {
     District {
@@ -30,7 +30,7 @@ pub fn district_of(first: &District, words: &[u64; 7]) -> District
 /// C_BALANCE, C_YTD_PAYMENT, C_PAYMENT_CNT and C_DELIVERY_CNT of the words, and the other columns of the
 /// population's row.
 pub fn customer_of(first: &Customer, words: &[u64; 7]) -> Customer
-    requires { Fits words.now 2 × Fits words.now 3 }
+    requires { FitsColumn words.now 2 × FitsColumn words.now 3 }
     ensures { result ≡ customer_of first.now words.now }
 {
     Customer {
@@ -52,7 +52,7 @@ fn nullable(word: u64) -> Option<u32>
 
 /// O_C_ID, O_ENTRY_D, O_CARRIER_ID, O_OL_CNT and O_ALL_LOCAL.
 pub fn order_of(words: &[u64; 7]) -> Order
-    requires { Fits words.now 0 × Fits words.now 1 × Fits words.now 2 × Fits words.now 3 }
+    requires { FitsColumn words.now 0 × FitsColumn words.now 1 × FitsColumn words.now 2 × FitsColumn words.now 3 }
     ensures { result ≡ order_of_words words.now }
 {
     Order {
@@ -66,7 +66,7 @@ pub fn order_of(words: &[u64; 7]) -> Order
 
 /// OL_I_ID, OL_SUPPLY_W_ID, OL_DELIVERY_D, OL_QUANTITY and OL_AMOUNT.
 pub fn line_of(words: &[u64; 7]) -> OrderLine
-    requires { Fits words.now 0 × Fits words.now 1 × Fits words.now 2 × Fits words.now 3 }
+    requires { FitsColumn words.now 0 × FitsColumn words.now 1 × FitsColumn words.now 2 × FitsColumn words.now 3 }
     ensures { result ≡ line_of_words words.now }
 {
     OrderLine {
@@ -80,7 +80,7 @@ pub fn line_of(words: &[u64; 7]) -> OrderLine
 
 /// S_QUANTITY, S_YTD, S_ORDER_CNT and S_REMOTE_CNT.
 pub fn stock_of(words: &[u64; 7]) -> Stock
-    requires { Fits words.now 0 × Fits words.now 1 × Fits words.now 2 × Fits words.now 3 }
+    requires { FitsColumn words.now 0 × FitsColumn words.now 1 × FitsColumn words.now 2 × FitsColumn words.now 3 }
     ensures { result ≡ stock_of_words words.now }
 {
     Stock {

@@ -3,7 +3,7 @@
 ghost use Rattle.std.specs.Prelude.{◌≡◌, Some, OnOk};
 ghost use Rattle.tables.specs.Database.{database};
 ghost use Rattle.tables.specs.Records.{IsRecordKey};
-ghost use Rattle.tables.specs.Sizes.{IsLawful};
+ghost use Rattle.tables.specs.Sizes.{IsScale};
 ghost use Rattle.tables.specs.WellFormed.{IsWellFormed};
 ghost use Rattle.tables.specs.declared.records.RecordKey.TheVariants as record_key;
 ghost use Rattle.records.specs.Puts.{MayHold, Puts};
@@ -26,7 +26,7 @@ pub fn put(
     words: &[u64; 7],
 ) -> Result<(), AllocError>
     requires population { IsWellFormed (database population.now) }
-    requires lawful { IsLawful (database population.now).scale }
+    requires lawful { IsScale (database population.now).scale }
     requires key { IsRecordKey (database population.now).scale key }
     requires words { MayHold (database population.now).scale key (Some words.now) }
     ensures { OnOk result (Puts (database population.now) key (Some words.now)
@@ -51,7 +51,7 @@ fn put_warehouse(
     words: &[u64; 7],
 ) -> Result<(), AllocError>
     requires population { IsWellFormed (database population.now) }
-    requires lawful { IsLawful (database population.now).scale }
+    requires lawful { IsScale (database population.now).scale }
     requires key { IsRecordKey (database population.now).scale (record_key.Warehouse key) }
     requires words { MayHold (database population.now).scale (record_key.Warehouse key) (Some words.now) }
     ensures { OnOk result (Puts (database population.now) (record_key.Warehouse key) (Some words.now)
@@ -69,7 +69,7 @@ fn put_district(
     words: &[u64; 7],
 ) -> Result<(), AllocError>
     requires population { IsWellFormed (database population.now) }
-    requires lawful { IsLawful (database population.now).scale }
+    requires lawful { IsScale (database population.now).scale }
     requires key { IsRecordKey (database population.now).scale (record_key.District key) }
     requires words { MayHold (database population.now).scale (record_key.District key) (Some words.now) }
     ensures { OnOk result (Puts (database population.now) (record_key.District key) (Some words.now)
@@ -87,7 +87,7 @@ fn put_customer(
     words: &[u64; 7],
 ) -> Result<(), AllocError>
     requires population { IsWellFormed (database population.now) }
-    requires lawful { IsLawful (database population.now).scale }
+    requires lawful { IsScale (database population.now).scale }
     requires key { IsRecordKey (database population.now).scale (record_key.Customer key) }
     requires words { MayHold (database population.now).scale (record_key.Customer key) (Some words.now) }
     ensures { OnOk result (Puts (database population.now) (record_key.Customer key) (Some words.now)
@@ -105,7 +105,7 @@ fn put_new_order(
     words: &[u64; 7],
 ) -> Result<(), AllocError>
     requires population { IsWellFormed (database population.now) }
-    requires lawful { IsLawful (database population.now).scale }
+    requires lawful { IsScale (database population.now).scale }
     requires key { IsRecordKey (database population.now).scale (record_key.NewOrder key) }
     requires words { MayHold (database population.now).scale (record_key.NewOrder key) (Some words.now) }
     ensures { OnOk result (Puts (database population.now) (record_key.NewOrder key) (Some words.now)
@@ -122,7 +122,7 @@ fn put_order(
     words: &[u64; 7],
 ) -> Result<(), AllocError>
     requires population { IsWellFormed (database population.now) }
-    requires lawful { IsLawful (database population.now).scale }
+    requires lawful { IsScale (database population.now).scale }
     requires key { IsRecordKey (database population.now).scale (record_key.Order key) }
     requires words { MayHold (database population.now).scale (record_key.Order key) (Some words.now) }
     ensures { OnOk result (Puts (database population.now) (record_key.Order key) (Some words.now)
@@ -139,7 +139,7 @@ fn put_line(
     words: &[u64; 7],
 ) -> Result<(), AllocError>
     requires population { IsWellFormed (database population.now) }
-    requires lawful { IsLawful (database population.now).scale }
+    requires lawful { IsScale (database population.now).scale }
     requires key { IsRecordKey (database population.now).scale (record_key.OrderLine key) }
     requires words { MayHold (database population.now).scale (record_key.OrderLine key) (Some words.now) }
     ensures { OnOk result (Puts (database population.now) (record_key.OrderLine key) (Some words.now)
@@ -156,7 +156,7 @@ fn put_stock(
     words: &[u64; 7],
 ) -> Result<(), AllocError>
     requires population { IsWellFormed (database population.now) }
-    requires lawful { IsLawful (database population.now).scale }
+    requires lawful { IsScale (database population.now).scale }
     requires key { IsRecordKey (database population.now).scale (record_key.Stock key) }
     requires words { MayHold (database population.now).scale (record_key.Stock key) (Some words.now) }
     ensures { OnOk result (Puts (database population.now) (record_key.Stock key) (Some words.now)

@@ -8,7 +8,7 @@ use Rattle.std.proofs.Common.{inl, inr}
 use Rattle.money.specs.declared.refusal.Refusal.{Refusal}
 use Rattle.money.specs.declared.refusal.Refusal.TheVariants.{OutOfMemory, BadInput}
 use Rattle.tables.specs.Database.{Database}
-use Rattle.lines.specs.Lines.{HasNoLineFeed, IsCut, held, held_after, last_line, lines_of}
+use Rattle.lines.specs.Lines.{HasNoLineFeed, IsCut, buffered, held_after, last_line, text_lines}
 use Rattle.lines.specs.Output.{answer_text}
 use Rattle.lines.specs.declared.answer.Answer.{Answer}
 use Rattle.lines.proofs.Cutting.{lines_first, lines_of_cut, cut_line, cut_more, held_more}
@@ -28,17 +28,17 @@ turns_more s n (first ∷ lines) answers mid line turn p h =
     let later = subst (λ k. IsLineTurn mid k line turn) number h in
     (p.0, p.1 ++ turn.answer ∷ [], p.2, ap (λ a. a ++ turn.answer ∷ []) p.3, turns_more p.0.state (n + 1) lines p.1 mid line turn p.4 later)
 
-lines_begun : (lines : List (List ℕ)) (tail : List ℕ) → AllByRecursion HasNoLineFeed lines → lines_of (flat_map (λ line. line ++ (10 ∷ [])) lines ++ tail) ≡ lines ++ lines_of tail
+lines_begun : (lines : List (List ℕ)) (tail : List ℕ) → AllByRecursion HasNoLineFeed lines → text_lines (flat_map (λ line. line ++ (10 ∷ [])) lines ++ tail) ≡ lines ++ text_lines tail
 lines_begun [] tail each = refl
 lines_begun (line ∷ lines) tail each =
     let later = flat_map (λ l. l ++ (10 ∷ [])) lines in
     let together : ((line ++ (10 ∷ [])) ++ later) ++ tail ≡ line ++ (10 ∷ (later ++ tail)) = simp append_assoc in
-    ap lines_of together ∙ lines_first line (later ++ tail) each.0 ∙ ap (λ l. line ∷ l) (lines_begun lines tail each.1)
+    ap text_lines together ∙ lines_first line (later ++ tail) each.0 ∙ ap (λ l. line ∷ l) (lines_begun lines tail each.1)
 
 -- the lines of a text that goes on
-pub lines_of_more : (text : List ℕ) (lines : List (List ℕ)) (rest later : List ℕ) → IsCut text lines rest → lines_of (text ++ later) ≡ lines ++ lines_of (rest ++ later)
+pub lines_of_more : (text : List ℕ) (lines : List (List ℕ)) (rest later : List ℕ) → IsCut text lines rest → text_lines (text ++ later) ≡ lines ++ text_lines (rest ++ later)
 lines_of_more text lines rest later cut =
-    ap lines_of (ap (λ t. t ++ later) cut.whole ∙ append_assoc _ rest later) ∙ lines_begun lines (rest ++ later) cut.each
+    ap text_lines (ap (λ t. t ++ later) cut.whole ∙ append_assoc _ rest later) ∙ lines_begun lines (rest ++ later) cut.each
 
 -- the answer stands behind those before
 more_output : (written : List ℕ) (d e : Standing) (turn : Turn) (answers : List Answer) → answers_text answers ≡ written ++ d.output → e.output ≡ d.output ++ (answer_text turn.answer ++ codes "\n") → answers_text (answers ++ turn.answer ∷ []) ≡ written ++ e.output
@@ -48,7 +48,7 @@ more_output written d e turn answers before after =
     ∙ append_assoc written (d.output) (answer_text turn.answer ++ codes "\n")
     ∙ ap (λ t. written ++ t) (sym after)
 
--- the held line ends, and is answered
+-- the buffered line ends, and is answered
 pub line_answered : (tables : Database) (text written end : List ℕ) (d e : Standing) (h : HasAnswered tables text written d) → HasNoLineFeed end
     → (turn : Turn) × IsLineTurn (state_of tables d.session) (d.answered + 1) (h.rest ++ end) turn × ((state_of tables e.session) ≡ turn.state) × (e.output ≡ d.output ++ (answer_text turn.answer ++ codes "\n"))
     → e.answered ≡ d.answered + 1 → e.line ≡ Some [] → HasAnswered tables (text ++ (end ++ 10 ∷ [])) written e
@@ -67,7 +67,7 @@ line_answered tables text written end d e h feeds t count line =
       output_is = more_output written d e t.0 h.answers h.output_is t.3;
     }
 
--- the held line goes on
+-- the buffered line goes on
 pub more_held : (tables : Database) (text written more : List ℕ) (d : Standing) (line : Option (List ℕ)) → HasAnswered tables text written d → HasNoLineFeed more → line ≡ held_after d.line more → HasAnswered tables (text ++ more) written (record d { line = line })
 more_held tables text written more d line h feeds is = record {
   lines = h.lines;
@@ -90,16 +90,16 @@ some_last (b ∷ rest) some =
 pub last_empty : (tables : Database) (text written : List ℕ) (d : Standing) → HasAnswered tables text written d → d.line ≡ Some [] → HasAnsweredAll tables text written d
 last_empty tables text written d h empty =
     let none : h.rest ≡ [] = (held_some h.rest [] (sym empty ∙ h.line_is)).1 in
-    let all : lines_of text ≡ h.lines = lines_of_cut text h.lines h.rest h.cut ∙ ap (λ r. h.lines ++ last_line r) none ∙ append-nil h.lines in
+    let all : text_lines text ≡ h.lines = lines_of_cut text h.lines h.rest h.cut ∙ ap (λ r. h.lines ++ last_line r) none ∙ append-nil h.lines in
     record {
       answers = h.answers;
       turns = subst (λ ls. AreTurns (start tables) 1 ls h.answers (state_of tables d.session)) (sym all) h.turns;
       output_is = h.output_is;
     }
 
-all_lines : (tables : Database) (text written : List ℕ) (d : Standing) (h : HasAnswered tables text written d) → (d.line ≡ Some [] → ⊥) → lines_of text ≡ h.lines ++ h.rest ∷ []
+all_lines : (tables : Database) (text written : List ℕ) (d : Standing) (h : HasAnswered tables text written d) → (d.line ≡ Some [] → ⊥) → text_lines text ≡ h.lines ++ h.rest ∷ []
 all_lines tables text written d h some =
-    let some_rest : h.rest ≡ [] → ⊥ = λ e. some (h.line_is ∙ ap held e) in
+    let some_rest : h.rest ≡ [] → ⊥ = λ e. some (h.line_is ∙ ap buffered e) in
     lines_of_cut text h.lines h.rest h.cut ∙ ap (λ l. h.lines ++ l) (some_last h.rest some_rest)
 
 -- the last line is answered
@@ -122,8 +122,8 @@ pub too_many : (tables : Database) (text written end : List ℕ) (d : Standing) 
 too_many tables text written end d h feeds full later =
     let cut = cut_line text h.lines h.rest end h.cut feeds in
     let all = ap length (lines_of_more (text ++ (end ++ 10 ∷ [])) (h.lines ++ (h.rest ++ end) ∷ []) [] later cut) in
-    let count : length ((h.lines ++ (h.rest ++ end) ∷ []) ++ lines_of later) ≡ (length h.lines + 1) + length (lines_of later) =
-    length-append (h.lines ++ (h.rest ++ end) ∷ []) (lines_of later) ∙ ap (λ n. n + length (lines_of later)) (length_push _ _) in
+    let count : length ((h.lines ++ (h.rest ++ end) ∷ []) ++ text_lines later) ≡ (length h.lines + 1) + length (text_lines later) =
+    length-append (h.lines ++ (h.rest ++ end) ∷ []) (text_lines later) ∙ ap (λ n. n + length (text_lines later)) (length_push _ _) in
     let answered = h.count in
     omega arith
 
@@ -142,13 +142,13 @@ last_too_many tables text written d h some full =
 pub line_taken : (tables : Database) (text written piece rest after : List ℕ) (d e : Standing) (line : Option (List ℕ))
     → (taken : List ℕ) × (piece ≡ taken ++ rest) × HasAnswered tables (text ++ taken) written d
     → (end : List ℕ) × (rest ≡ end ++ 10 ∷ after) × HasNoLineFeed end × (line ≡ held_after d.line end)
-    → ((bytes : List ℕ) → line ≡ held bytes → (turn : Turn) × IsLineTurn (state_of tables d.session) (d.answered + 1) bytes turn × ((state_of tables e.session) ≡ turn.state) × (e.output ≡ d.output ++ (answer_text turn.answer ++ codes "\n")))
+    → ((bytes : List ℕ) → line ≡ buffered bytes → (turn : Turn) × IsLineTurn (state_of tables d.session) (d.answered + 1) bytes turn × ((state_of tables e.session) ≡ turn.state) × (e.output ≡ d.output ++ (answer_text turn.answer ++ codes "\n")))
     → e.answered ≡ d.answered + 1 → e.line ≡ Some []
     → (taken : List ℕ) × (piece ≡ taken ++ after) × HasAnswered tables (text ++ taken) written e
 line_taken tables text written piece rest after d e line before ended turn count empty =
     let h = before.2 in
     let end = ended.0 in
-    let is : line ≡ held (h.rest ++ end) = ended.3 ∙ ap (λ l. held_after l end) h.line_is ∙ held_more h.rest end in
+    let is : line ≡ buffered (h.rest ++ end) = ended.3 ∙ ap (λ l. held_after l end) h.line_is ∙ held_more h.rest end in
     let answered = line_answered tables (text ++ before.0) written end d e h ended.2 (turn (h.rest ++ end) is) count empty in
     let parts : piece ≡ (before.0 ++ (end ++ 10 ∷ [])) ++ after =
     before.1 ∙ ap (λ r. before.0 ++ r) (ended.1 ∙ sym (append_assoc end (10 ∷ []) after)) ∙ sym (append_assoc before.0 (end ++ 10 ∷ []) after) in
@@ -167,7 +167,7 @@ line_too_many tables text written piece rest after d line before ended full =
     ∙ append_assoc text before.0 rest ∙ ap (λ p. text ++ p) (sym before.1) in
     subst HasTooMany parts many
 
--- the rest of a piece, which ends no line, is held
+-- the rest of a piece, which ends no line, is buffered
 pub rest_held : (tables : Database) (text written piece rest : List ℕ) (d : Standing) (line : Option (List ℕ))
     → (taken : List ℕ) × (piece ≡ taken ++ rest) × HasAnswered tables (text ++ taken) written d
     → HasNoLineFeed rest → line ≡ held_after d.line rest → HasAnswered tables (text ++ piece) written (record d { line = line })

@@ -6,9 +6,9 @@ use Rattle.std.specs.declared.cmp.Ordering.{Ordering}
 use Rattle.std.specs.declared.cmp.Ordering.TheVariants.{Less, Equal, Greater}
 use Rattle.tables.specs.Database.{Database}
 use Rattle.tables.proofs.Orders.{IsExact, exact_number, exact_district, exact_customer, exact_order, exact_line}
-use Rattle.lines.specs.Lines.{lines_of}
+use Rattle.lines.specs.Lines.{text_lines}
 use Rattle.lines.specs.Report.{report_text}
-use Rattle.conditions.specs.Finds.{Finds}
+use Rattle.conditions.specs.Finds.{FindsLeast}
 use Rattle.conditions.specs.Report.{IsReportOf}
 use Rattle.conditions.specs.declared.report.Report.{Report}
 use Rattle.book.specs.declared.entry.Done.{Done}
@@ -17,7 +17,7 @@ use Rattle.script.specs.Written.{start, answers_text, IsWhole}
 use Rattle.script.proofs.OneRun.{one_run}
 
 -- there is one least key
-one_finding : {K : Type 0} {R : K → K → Ordering} → IsExact R → (IsKey HoldsAt : K → Type 0) (a b : Option K) → Finds R IsKey HoldsAt a → Finds R IsKey HoldsAt b → a ≡ b
+one_finding : {K : Type 0} {R : K → K → Ordering} → IsExact R → (IsKey HoldsAt : K → Type 0) (a b : Option K) → FindsLeast R IsKey HoldsAt a → FindsLeast R IsKey HoldsAt b → a ≡ b
 one_finding o IsKey HoldsAt None None p q = refl
 one_finding o IsKey HoldsAt None (Some k) p q = absurd (q.1 (p k q.0))
 one_finding o IsKey HoldsAt (Some k) None p q = absurd (p.1 (q k p.0))
@@ -58,7 +58,7 @@ one_report t a b p q =
 -- two whole scripts of the same bytes
 pub one_text : (tables : Database) (bytes text other : List ℕ) (report found : Report) (dones told : List Done) → IsWhole tables bytes text report dones → IsWhole tables bytes other found told → (text ≡ other) × (report ≡ found) × (commits_of dones ≡ commits_of told)
 one_text tables bytes text other report found dones told w v =
-    let run = one_run (start tables) 1 (lines_of bytes) w.answers v.answers w.last v.last w.turns v.turns in
+    let run = one_run (start tables) 1 (text_lines bytes) w.answers v.answers w.last v.last w.turns v.turns in
     let commits : commits_of dones ≡ commits_of told = w.commits_are ∙ ap (λ s. s.commits) run.1 ∙ sym v.commits_are in
     let count : length dones ≡ length told = sym (length-map dones _) ∙ ap length commits ∙ length-map told _ in
     let reports : report ≡ found = one_report v.last.tables report found (subst (λ s. IsReportOf s.tables report) run.1 w.report_is) v.report_is in

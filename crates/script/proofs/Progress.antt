@@ -11,7 +11,7 @@ use Rattle.std.proofs.KnownBytes.{Appends-nil, Appends-trans}
 use Rattle.tables.specs.Database.{Database}
 use Rattle.conditions.specs.Report.{IsReportOf}
 use Rattle.conditions.specs.declared.report.Report.{Report}
-use Rattle.lines.specs.Lines.{lines_of}
+use Rattle.lines.specs.Lines.{text_lines}
 use Rattle.lines.specs.Report.{report_text}
 use Rattle.book.specs.declared.entry.Done.{Done}
 use Rattle.script.specs.Turns.{AreTurns, commits_of}
@@ -45,17 +45,17 @@ written_all tables text written d e h session line count output = record {
 -- a write that failed, or none, left a beginning
 pub begun : (tables : Database) (bytes text left written front rest : List ℕ) (d : Standing) → HasAnswered tables text written d → bytes ≡ text ++ left → d.output ≡ front ++ rest → IsBeginning tables bytes (written ++ front)
 begun tables bytes text left written front rest d h is output =
-    of_answers h.lines (lines_of (h.rest ++ left)) h.answers (state_of tables d.session) rest (ap lines_of is ∙ lines_of_more text h.lines h.rest left h.cut) h.turns
+    of_answers h.lines (text_lines (h.rest ++ left)) h.answers (state_of tables d.session) rest (ap text_lines is ∙ lines_of_more text h.lines h.rest left h.cut) h.turns
     (h.output_is ∙ ap (λ o. written ++ o) output ∙ sym (append_assoc written front rest))
 
 -- nothing is written yet
 pub begun_none : (tables : Database) (bytes : List ℕ) → IsBeginning tables bytes []
-begun_none tables bytes = of_answers [] (lines_of bytes) [] (start tables) [] refl (refl, refl) refl
+begun_none tables bytes = of_answers [] (text_lines bytes) [] (start tables) [] refl (refl, refl) refl
 
 -- the report isn't made
 pub begun_all : (tables : Database) (bytes written : List ℕ) (d : Standing) → HasAnsweredAll tables bytes written d → IsBeginning tables bytes (written ++ [])
 begun_all tables bytes written d h =
-    of_answers (lines_of bytes) [] h.answers (state_of tables d.session) (d.output) (sym (append-nil _)) h.turns (h.output_is ∙ ap (λ w. w ++ d.output) (sym (append-nil written)))
+    of_answers (text_lines bytes) [] h.answers (state_of tables d.session) (d.output) (sym (append-nil _)) h.turns (h.output_is ∙ ap (λ w. w ++ d.output) (sym (append-nil written)))
 
 -- the report stands behind the answers
 pub whole : (tables : Database) (bytes written output : List ℕ) (d : Standing) (report : Report) (dones : List Done) → HasAnsweredAll tables bytes written d → IsReportOf (state_of tables d.session).tables report → dones ≡ d.session.dones → output ≡ d.output ++ report_text (length dones) report → IsWhole tables bytes (written ++ output) report dones

@@ -10,8 +10,8 @@ use Rattle.tables.specs.Sizes.{Sizes}
 use Rattle.tables.specs.Database.{Database}
 use Rattle.tables.specs.declared.input.Input.{Input}
 use Rattle.lines.specs.declared.line_buffer.TheConstants.{MAX_LINE}
-use Rattle.lines.specs.Lines.{held}
-use Rattle.lines.specs.Requests.{IsRequestAt, IsInRange, IsRefused, request_text}
+use Rattle.lines.specs.Lines.{buffered}
+use Rattle.lines.specs.Requests.{IsRequestAt, IsInRange, IsRefusedLine, request_text}
 use Rattle.lines.specs.declared.request.Request.{Request}
 use Rattle.lines.specs.declared.answer.Answer.{Answer}
 use Rattle.lines.specs.declared.answer.Answer.TheVariants as answer
@@ -76,16 +76,16 @@ pub but_memory : (P : Refusal → Type 0) (refusal : Refusal) → refusal ≢ Ou
 but_memory P refusal other (inl memory) = absurd (other memory)
 but_memory P refusal other (inr p) = p
 
--- the bytes of a line that is held
-pub held_some : (bytes text : List ℕ) → Some text ≡ held bytes → (length bytes ≤ MAX_LINE) × (bytes ≡ text)
+-- the bytes of a line that is buffered
+pub held_some : (bytes text : List ℕ) → Some text ≡ buffered bytes → (length bytes ≤ MAX_LINE) × (bytes ≡ text)
 held_some bytes text = go (leb (length bytes) MAX_LINE) refl
   where
     go : (b : Bool) → leb (length bytes) MAX_LINE ≡ b → Some text ≡ cond b (Some bytes) None → (length bytes ≤ MAX_LINE) × (bytes ≡ text)
     go true e h = (grind (arith, nat_tests), cc)
     go false e h = absurd cc
 
--- a line that isn't held
-pub held_none : (bytes : List ℕ) → None ≡ held bytes → MAX_LINE < length bytes
+-- a line that isn't buffered
+pub held_none : (bytes : List ℕ) → None ≡ buffered bytes → MAX_LINE < length bytes
 held_none bytes = go (leb (length bytes) MAX_LINE) refl
   where
     go : (b : Bool) → leb (length bytes) MAX_LINE ≡ b → ◌≡◌ {A = Option (List ℕ)} None (cond b (Some bytes) None) → MAX_LINE < length bytes
@@ -96,15 +96,15 @@ held_none bytes = go (leb (length bytes) MAX_LINE) refl
 pub read_turn : (s : State) (n : ℕ) (text : List ℕ) (request : Request) (result : Result Answer Refusal) (last : State)
     → IsRequestAt n request → text ≡ request_text request
     → IfOk result (λ told. IsRequestTurn s n request (record { answer = told; state = last }))
-    → IfOk result (λ told. (bytes : List ℕ) → Some text ≡ held bytes → IsLineTurn s n bytes (record { answer = told; state = last }))
+    → IfOk result (λ told. (bytes : List ℕ) → Some text ≡ buffered bytes → IsLineTurn s n bytes (record { answer = told; state = last }))
 read_turn s n text request (Ok told) last at is turn = λ bytes h.
     let fits = held_some bytes text h in
     read request fits.0 at (fits.1 ∙ is) turn
 read_turn s n text request (Err refusal) last at is turn = turn
 
 -- a line that is refused: one of an amount beyond the limit asks for what isn't in range
-pub unread_turn : (s : State) (n : ℕ) (text : List ℕ) (refusal : Refusal) → IsRefused n text refusal
-    → (bytes : List ℕ) → Some text ≡ held bytes → IsLineTurn s n bytes (refused s refusal n)
+pub unread_turn : (s : State) (n : ℕ) (text : List ℕ) (refusal : Refusal) → IsRefusedLine n text refusal
+    → (bytes : List ℕ) → Some text ≡ buffered bytes → IsLineTurn s n bytes (refused s refusal n)
 unread_turn s n text BadInput h bytes is =
     let fits = held_some bytes text is in
     read h.0 fits.0 h.1 (fits.1 ∙ h.2) (beyond (λ in_range. h.3 (in_reach s.tables.scale h.0 in_range)) refl)

@@ -2,7 +2,7 @@
 use Rattle.std.specs.Prelude.{◌≡◌, ℕ, Option, List, ◌++◌, length, string_bytes}
 use Rattle.book.specs.History.{replay}
 use Rattle.tables.specs.Database.{Database}
-use Rattle.lines.specs.Lines.{IsCut, held, lines_of}
+use Rattle.lines.specs.Lines.{IsCut, buffered, text_lines}
 use Rattle.lines.specs.declared.answer.Answer.{Answer}
 use Rattle.script.specs.declared.running.Desk.{Desk}
 use Rattle.session.specs.Session.{SessionView}
@@ -30,7 +30,7 @@ pub record HasAnswered (tables : Database) (text written : List ℕ) (d : Standi
   pub rest : List ℕ
   pub answers : List Answer
   pub cut : IsCut text lines rest
-  pub line_is : d.line ≡ held rest
+  pub line_is : d.line ≡ buffered rest
   pub turns : AreTurns (start tables) 1 lines answers (state_of tables d.session)
   pub count : d.answered ≡ length lines
   pub output_is : answers_text answers ≡ written ++ d.output
@@ -38,7 +38,7 @@ pub record HasAnswered (tables : Database) (text written : List ℕ) (d : Standi
 -- all lines of these bytes are answered, and these are written
 pub record HasAnsweredAll (tables : Database) (bytes written : List ℕ) (d : Standing) : Type 0 where
   pub answers : List Answer
-  pub turns : AreTurns (start tables) 1 (lines_of bytes) answers (state_of tables d.session)
+  pub turns : AreTurns (start tables) 1 (text_lines bytes) answers (state_of tables d.session)
   pub output_is : answers_text answers ≡ written ++ d.output
 
 -- whatever follows the text, it has too many lines

@@ -5,7 +5,7 @@ ghost use Rattle.std.specs.Option.{option_copied};
 ghost use Rattle.money.specs.declared.refusal.Refusal.TheVariants.{OutOfMemory};
 ghost use Rattle.tables.specs.Inputs.{IsInput};
 ghost use Rattle.book.specs.declared.entry.Done.{Done as DoneValue};
-ghost use Rattle.lines.specs.Lines.{held};
+ghost use Rattle.lines.specs.Lines.{buffered};
 ghost use Rattle.lines.specs.declared.answer.Answer.TheVariants as answer;
 ghost use Rattle.script.specs.Answered.{state_of};
 ghost use Rattle.script.specs.Turns.{IsInputTurn, IsRequestTurn, IsLineTurn};
@@ -30,7 +30,7 @@ pub fn answer_line<K: Run, R: Wait>(
     number: u32,
 ) -> Result<Answer, Refusal>
     ensures memory { IfErr result (λ refusal. refusal ≡ OutOfMemory) }
-    ensures turn { IfOk result (λ answer. (bytes : List ℕ) → option_copied line.entry ≡ held bytes
+    ensures turn { IfOk result (λ answer. (bytes : List ℕ) → option_copied line.entry ≡ buffered bytes
         → IsLineTurn (state_of K.first session.old) number bytes
         (record { answer = answer; state = state_of K.first session.new })) }
 {

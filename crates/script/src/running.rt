@@ -4,7 +4,7 @@ ghost use Rattle.std.specs.Prelude.{◌≡◌, ◌⊎◌, ◌≤◌, ◌<◌, �
 ghost use Rattle.std.specs.Io.KnownBytes.{Appends, Consumes, IsAtEnd};
 ghost use Rattle.money.specs.declared.refusal.Refusal.TheVariants.{OutOfMemory, BadInput, Device};
 ghost use Rattle.population.specs.Initial.{initial};
-ghost use Rattle.lines.specs.Lines.{held};
+ghost use Rattle.lines.specs.Lines.{buffered};
 ghost use Rattle.lines.specs.Output.{answer_text};
 ghost use Rattle.book.specs.Parts.{IsFresh, first_of, cells_of, ledger_name, ledger_parts, terminals_of};
 ghost use Rattle.script.specs.Turns.{Turn, IsLineTurn};
@@ -240,7 +240,7 @@ impl<'e, K: Run> Desk<'e, K> {
 
     /// Answers the line that is held.
     fn answer_held<T: Wait>(&mut self, rt: &T) -> Result<(), Refusal>
-        ensures turn { OnOk result ((bytes : List ℕ) → self.old.line ≡ held bytes → (turn : Turn)
+        ensures turn { OnOk result ((bytes : List ℕ) → self.old.line ≡ buffered bytes → (turn : Turn)
             × IsLineTurn (state_of K.first self.old.session) (self.old.answered + 1) bytes turn
             × (state_of K.first self.new.session ≡ turn.state)
             × (string_bytes self.new.output

@@ -6,7 +6,7 @@ use Rattle.std.proofs.lemmas.List.Sums.{sum_by-cons}
 use Rattle.std.proofs.lemmas.List.{drop_all}
 use Rattle.std.proofs.Math.Seq.{drop-cons}
 use Rattle.tables.specs.Sizes.{Sizes}
-use Rattle.tables.specs.Records.{tables, table_number, size, start, record_number, record_count, table_among, place_among, table_at, place_at}
+use Rattle.tables.specs.Records.{tables, table_number, size, first_number, record_number, record_count, table_among, place_among, table_at, place_at}
 use Rattle.tables.specs.declared.records.Table.{Table}
 use Rattle.tables.specs.declared.records.Table.TheVariants as table
 
@@ -194,7 +194,7 @@ module _ (s : Sizes) where
   found_among n h = found 1 n tables rise h
 
   -- the table of a number below a table's first has a smaller number
-  pub earlier : (n : ℕ) (t : Table) → n < record_count s → n < start s t → table_number (table_at s n) < table_number t
+  pub earlier : (n : ℕ) (t : Table) → n < record_count s → n < first_number s t → table_number (table_at s n) < table_number t
   earlier n t h k =
       let f = found_among n h in
       ⊎_elim (λ (l : table_number (table_at s n) < table_number t). l)

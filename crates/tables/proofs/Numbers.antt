@@ -3,7 +3,7 @@ use Rattle.std.proofs.Common.{◌≡◌, ℕ, ◌+◌, ◌-◌, ◌*◌, ◌/◌
 use Rattle.std.proofs.lemmas.Nat.{div-mul-add, mod-mul-add, mul-add-lt, div-add-mod', div_below, mod_below}
 use Rattle.tables.specs.Sizes.{Sizes, IsNumber}
 use Rattle.tables.specs.Keys.{IsWarehouseKey, IsDistrictKey, IsCustomerKey, IsOrderKey, IsLineKey, IsStockKey, order_of}
-use Rattle.tables.specs.Records.{size, start, table_number, IsRowKey, record_number, record_count, table_of, place_of, district_place, customer_place}
+use Rattle.tables.specs.Records.{size, first_number, table_number, IsRowKey, record_number, record_count, table_of, place_of, district_place, customer_place}
 use Rattle.tables.specs.Records.{order_place, number_of_key, IsRecordKey, district_at, customer_at, order_at, line_at, stock_at, key_at, table_at, place_at}
 use Rattle.tables.specs.Records.{key_of, NumbersNameKeys, NumbersNamePlaces}
 use Rattle.tables.specs.declared.limits.TheConstants.{MAX_ORDER_LINES}
@@ -204,5 +204,5 @@ module _ (s : Sizes) where
   row_at_place table.Last p h = absurd (omega (arith, h))
 
   -- the records before those of OLDEST and LAST are rows
-  pub row_numbered : (n : ℕ) → n < record_count s → n < start s table.Oldest → IsRowKey (key_of s n)
+  pub row_numbered : (n : ℕ) → n < record_count s → n < first_number s table.Oldest → IsRowKey (key_of s n)
   row_numbered n h k = row_at_place (table_at s n) (place_at s n) (earlier s n table.Oldest h k)

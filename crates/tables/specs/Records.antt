@@ -46,15 +46,15 @@ size s table.Oldest = s.warehouses * s.districts
 size s table.Last = s.warehouses * s.districts * s.customers
 
 -- the number of a table's first record: the sum of the sizes of the tables with smaller numbers
-abbrev pub start : Sizes → Table → ℕ
-start s t = sum_by (size s) (filter (λ u. nat_lt (table_number u) (table_number t)) tables)
+abbrev pub first_number : Sizes → Table → ℕ
+first_number s t = sum_by (size s) (filter (λ u. nat_lt (table_number u) (table_number t)) tables)
 
 -- the number of all records
 abbrev pub record_count : Sizes → ℕ
 record_count s = sum_by (size s) tables
 
 abbrev pub record_number : Sizes → Table → ℕ → ℕ
-record_number s t place = start s t + place
+record_number s t place = first_number s t + place
 
 -- the table of a key, and its place there: keys stand in their order
 abbrev pub table_of : RecordKey → Table

@@ -32,7 +32,7 @@ abbrev pub IsNumber : ℕ → ℕ → Type 0
 IsNumber n k = IsBetween 1 n k
 
 -- the limits of this engine
-pub record IsLawful (s : Sizes) : Type 0 where
+pub record IsScale (s : Sizes) : Type 0 where
   pub warehouses : IsBetween 1 MAX_WAREHOUSES s.warehouses
   pub districts : IsBetween 1 MAX_DISTRICTS s.districts
   pub customers : IsBetween MIN_CUSTOMERS MAX_CUSTOMERS s.customers

@@ -1,7 +1,7 @@
 //! The keys of record numbers.
 
 ghost use Rattle.std.specs.Prelude.{◌≡◌, ◌<◌, ◌^◌};
-ghost use Rattle.tables.specs.Records.{size, start, record_count, table_at, place_at, key_at, key_of, district_at};
+ghost use Rattle.tables.specs.Records.{size, first_number, record_count, table_at, place_at, key_at, key_of, district_at};
 ghost use Rattle.tables.specs.Records.{customer_at, order_at, line_at, stock_at, IsRecordKey, IsRowKey};
 ghost use Rattle.tables.specs.declared.records.Table.TheVariants as table;
 
@@ -30,7 +30,7 @@ pub fn key_of(scale: &Scale, number: u32) -> RecordKey
     requires { number < record_count scale.now }
     ensures value { result ≡ key_of scale.now number }
     ensures key { IsRecordKey scale.now result }
-    ensures row { number < start scale.now table.Oldest → IsRowKey result }
+    ensures row { number < first_number scale.now table.Oldest → IsRowKey result }
 {
     let (table, place) = locate(scale, number);
     key_at(scale, table, place)

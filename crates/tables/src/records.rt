@@ -5,7 +5,7 @@
 ghost use Rattle.std.specs.Prelude.{◌≡◌, ◌+◌, ◌-◌, ◌*◌, ◌<◌, ◌≤◌, ◌^◌};
 ghost use Rattle.tables.specs.Sizes.{Sizes};
 ghost use Rattle.tables.specs.Keys.{IsDistrictKey, IsCustomerKey, IsOrderKey, IsLineKey, IsStockKey};
-ghost use Rattle.tables.specs.Records.{size, start, record_number, record_count, IsRecordKey, number_of_key};
+ghost use Rattle.tables.specs.Records.{size, first_number, record_number, record_count, IsRecordKey, number_of_key};
 ghost use Rattle.tables.specs.Records.{district_place, customer_place, order_place, place_of, NumbersNameKeys};
 ghost use Rattle.tables.specs.Records.{NumbersNamePlaces};
 ghost use Rattle.tables.specs.declared.records.Table.TheVariants as table;
@@ -171,7 +171,7 @@ fn place(size: u32, row: u32, width: u32, column: u32) -> u32
 
 /// The number of a table's first record.
 fn start_of(scale: &Scale, table: Table) -> u32
-    ensures value { result ≡ start scale.now table }
+    ensures value { result ≡ first_number scale.now table }
     ensures limit { result + size scale.now table ≤ record_count scale.now }
     ensures fits { record_count scale.now < 2 ^ 32 }
 {

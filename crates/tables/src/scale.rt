@@ -31,13 +31,13 @@ pub struct Scale {
 }
 
 impl Model for Scale {
-    ghost use Rattle.tables.specs.Sizes.{Sizes, IsLawful, sizes};
+    ghost use Rattle.tables.specs.Sizes.{Sizes, IsScale, sizes};
 
     ghost Value = { Sizes };
 
     ghost view = { λ s. sizes s.warehouses s.districts s.customers s.items s.orders s.commits };
 
-    ghost invariant = { λ s. IsLawful (sizes s.warehouses s.districts s.customers s.items s.orders s.commits) };
+    ghost invariant = { λ s. IsScale (sizes s.warehouses s.districts s.customers s.items s.orders s.commits) };
 
     ghost inverse = { λ s. record {
       warehouses = s.warehouses;
@@ -51,7 +51,7 @@ impl Model for Scale {
 }
 
 impl Scale {
-    ghost use Rattle.tables.specs.Sizes.{IsLawful, sizes, IsBetween};
+    ghost use Rattle.tables.specs.Sizes.{IsScale, sizes, IsBetween};
     ghost use Rattle.money.specs.declared.refusal.Refusal.TheVariants.{BadScale};
 
     /// The scale of these numbers, or `BadScale` exactly where one is outside its limits.
@@ -65,7 +65,7 @@ impl Scale {
     ) -> Result<Scale, Refusal>
         ensures limits { let asked = sizes warehouses districts customers items orders commits in
             MatchResult result (λ scale. (scale ≡ asked)
-            × IsLawful asked) (λ refusal. (refusal ≡ BadScale) × ¬ IsLawful asked) }
+            × IsScale asked) (λ refusal. (refusal ≡ BadScale) × ¬ IsScale asked) }
     {
         let is_lawful = is_between(1, MAX_WAREHOUSES, warehouses)
             && is_between(1, MAX_DISTRICTS, districts)

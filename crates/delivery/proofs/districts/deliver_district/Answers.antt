@@ -1,7 +1,7 @@
 use Rattle.std.proofs.Common.{◌≡◌, ℕ, ◌+◌, ◌-◌, Option, sym, ap, ◌∙◌, subst, arith}
 use Rattle.tables.specs.Delivery.{waiting}
 use Rattle.tables.specs.declared.delivery.DeliveredOrder.{DeliveredOrder}
-use Rattle.readset.proofs.UnderWay.{goes_on, goes_on_twice, may_be_then}
+use Rattle.readset.proofs.UnderWay.{goes_on, goes_on_twice, candidate_then}
 use Rattle.delivery.specs.Steps.{AreDone}
 use Rattle.delivery.proofs.Ended.{none_to_do, done_with_more}
 use Rattle.delivery.proofs.districts.deliver_district.Goals as goal
@@ -27,7 +27,7 @@ returns-in_err-deliver_order-clause-goes_on g c =
 pub returns-clause-told : goal.returns-clause-told
 returns-clause-told g c = λ t h.
     let waits = c.in_ok-number.ensures.waits t
-    (may_be_then g.K.Start.tables c.read_waiting.new.transaction c.deliver_order.new.transaction 18 19 c.deliver_order.ensures.goes_on t h) in
+    (candidate_then g.K.Start.tables c.read_waiting.new.transaction c.deliver_order.new.transaction 18 19 c.deliver_order.ensures.goes_on t h) in
     ap {B = DeliveredOrder} (λ (o : Option ℕ). record { district = c.args.district; order = o }) (sym (waits.0 ∙ c.in-Some.is))
 
 pub returns-clause-goes_on : goal.returns-clause-goes_on

@@ -1,13 +1,13 @@
 use Rattle.std.proofs.Common.{◌∙◌, sym, ap, subst, arith}
 use Rattle.tables.specs.Sizes.{Sizes, IsNumber}
-use Rattle.readset.proofs.UnderWay.{reads_twice, may_be_still}
+use Rattle.readset.proofs.UnderWay.{reads_twice, candidate_still}
 use Rattle.delivery.proofs.Waiting.{waiting_read, none_read}
 use Rattle.delivery.proofs.districts.read_waiting.Goals as goal
 
 pub returns-in-Some-clause-waits : goal.returns-in-Some-clause-waits
 returns-in-Some-clause-waits g c =
     waiting_read g.K.Start.tables c.args.home c.read-2.new.self c.in_ok-oldest.oldest c.in_ok-district.district c.requires c.in_ok-district.ensures.holds
-    (λ t h. c.in_ok-oldest.ensures.words t (may_be_still g.K.Start.tables c.read.new.self c.read-2.new.self 1 c.read-2.ensures.reads t h))
+    (λ t h. c.in_ok-oldest.ensures.words t (candidate_still g.K.Start.tables c.read.new.self c.read-2.new.self 1 c.read-2.ensures.reads t h))
     c.in_ok-district.ensures.words c.first_waiting.result
     (λ o r one two below number. c.first_waiting.ensures.waits o r one two below
     (subst (λ n. IsNumber n o) (ap (λ (s : Sizes). s.orders) (sym c.scale.ensures) ∙ sym c.orders.ensures.value) number))
@@ -20,7 +20,7 @@ returns-in-Some-clause-reads g c = reads_twice c.args.transaction.now c.read.new
 pub returns-in-None-clause-waits : goal.returns-in-None-clause-waits
 returns-in-None-clause-waits g c =
     none_read g.K.Start.tables c.args.home c.read-2.new.self c.in_ok-oldest.oldest c.in_ok-district.district c.requires c.in_ok-district.ensures.holds
-    (λ t h. c.in_ok-oldest.ensures.words t (may_be_still g.K.Start.tables c.read.new.self c.read-2.new.self 1 c.read-2.ensures.reads t h))
+    (λ t h. c.in_ok-oldest.ensures.words t (candidate_still g.K.Start.tables c.read.new.self c.read-2.new.self 1 c.read-2.ensures.reads t h))
     c.in_ok-district.ensures.words c.first_waiting.result
     (λ o r one two below number. c.first_waiting.ensures.waits o r one two below
     (subst (λ n. IsNumber n o) (ap (λ (s : Sizes). s.orders) (sym c.scale.ensures) ∙ sym c.orders.ensures.value) number))

@@ -1,6 +1,6 @@
 use Rattle.std.proofs.Common.{◌≡◌, ◌+◌, ◌-◌, sym, subst, arith}
 use Rattle.readset.proofs.MoreReads.{still_read, keeps_twice}
-use Rattle.readset.proofs.UnderWay.{goes_on, goes_on_twice, may_be_still, may_be_then}
+use Rattle.readset.proofs.UnderWay.{goes_on, goes_on_twice, candidate_still, candidate_then}
 use Rattle.readset.specs.Changes.{puts_all}
 use Rattle.delivery.specs.Steps.{AreDone}
 use Rattle.delivery.specs.Ending.{ending_changes}
@@ -64,10 +64,10 @@ returns-clause-done g c = on_ok c.end_order.result ended c.end_order.ensures.wri
         subst (λ m. AreDone t0 x m c.end_order.new.transaction) (sym next)
         (done_next t0 x n k (next_is x k c.requires.home c.requires.key.1.0) dated last c.in_ok-sum.sum order c.in_ok-credited.credited
         c.in_ok-sum.ensures.dated c.credit_buyer.ensures.reads c.requires.key
-        (λ t h. c.in_ok-order.ensures.carried t (may_be_then t0 read dated _ _ c.date_lines.ensures.goes_on t h))
+        (λ t h. c.in_ok-order.ensures.carried t (candidate_then t0 read dated _ _ c.date_lines.ensures.goes_on t h))
         (c.requires.key.0, c.requires.key.1, c.in_ok-order.ensures.range.0) c.in_ok-credited.ensures.credited
         (λ t h. c.requires.waits t
-        (may_be_still t0 c.args.transaction.now read 2 c.read_order.ensures.reads t (may_be_then t0 read dated _ _ c.date_lines.ensures.goes_on t h)))
+        (candidate_still t0 c.args.transaction.now read 2 c.read_order.ensures.reads t (candidate_then t0 read dated _ _ c.date_lines.ensures.goes_on t h)))
         c.end_order.new.transaction c.end_order.ensures.reads written)
 
 pub returns-clause-goes_on : goal.returns-clause-goes_on

@@ -1,6 +1,6 @@
 use Rattle.std.proofs.Common.{refl, sym, ap, ◌∙◌, subst, arith}
 use Rattle.tables.specs.Sizes.{Sizes, IsNumber}
-use Rattle.readset.proofs.UnderWay.{reads_twice, may_be_still}
+use Rattle.readset.proofs.UnderWay.{reads_twice, candidate_still}
 use Rattle.delivery.proofs.RowsRead.{order_there, none_carried, carried_of}
 use Rattle.delivery.proofs.order.read_order.Goals as goal
 
@@ -9,8 +9,8 @@ returns-in_default-clause-carried g c =
     let t0 = g.K.Start.tables in
     order_there t0 c.args.key c.read-2.new.self c.in_ok-words.field-0 c.in_ok-words.ensures.words c.in_default.is
     (λ t h. c.requires.there t
-    (may_be_still t0 c.args.transaction.now c.read.new.self 1 c.read.ensures.reads t
-    (may_be_still t0 c.read.new.self c.read-2.new.self 1 c.read-2.ensures.reads t h)))
+    (candidate_still t0 c.args.transaction.now c.read.new.self 1 c.read.ensures.reads t
+    (candidate_still t0 c.read.new.self c.read-2.new.self 1 c.read-2.ensures.reads t h)))
 
 pub returns-in_default-clause-reads : goal.returns-in_default-clause-reads
 returns-in_default-clause-reads g c = reads_twice c.args.transaction.now c.read.new.self c.read-2.new.self 1 1 2 c.read.ensures.reads c.read-2.ensures.reads

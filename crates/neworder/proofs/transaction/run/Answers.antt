@@ -6,7 +6,7 @@ use Rattle.tables.specs.declared.new_order.RequestedLine.{RequestedLine}
 use Rattle.readset.specs.Reads.{ReadSetView}
 use Rattle.readset.specs.Writes.{WriteSetView}
 use Rattle.neworder.specs.Priced.{ArePriced}
-use Rattle.neworder.specs.Executed.{IsWorkOf}
+use Rattle.neworder.specs.Executed.{IsOrderWork}
 use Rattle.neworder.proofs.Ended.{order_ended}
 use Rattle.neworder.proofs.Explained.{items_there}
 use Rattle.neworder.proofs.Refusals.{none_missing}
@@ -33,5 +33,5 @@ returns g c =
     order_ended t0 x g.K.Start.reader parts.0 last (none_missing t0 x prices.none_missing) is.under_way c.take_order-reply.ensures.reads
     c.take_order-reply.ensures.writes
     c.take_order-reply.result c.work_of.result c.take_order-reply.ensures.reply c.take_order-reply.ensures.refused
-    (subst (λ (q : ReadSetView × WriteSetView). IsWorkOf x q.0 q.1 c.take_order-reply.result c.work_of.result) (λ i. (is.reads i, is.writes i))
+    (subst (λ (q : ReadSetView × WriteSetView). IsOrderWork x q.0 q.1 c.take_order-reply.result c.work_of.result) (λ i. (is.reads i, is.writes i))
     c.work_of.ensures)

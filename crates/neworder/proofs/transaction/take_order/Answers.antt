@@ -4,7 +4,7 @@ use Rattle.tables.specs.declared.new_order.NewOrderReply.{NewOrderReply}
 use Rattle.tables.specs.declared.reply.Reply.TheVariants as reply
 use Rattle.readset.specs.Transaction.{TransactionView}
 use Rattle.neworder.specs.Executed.{IsReplyOf}
-use Rattle.neworder.specs.Replied.{reply_of}
+use Rattle.neworder.specs.Replied.{order_reply_of}
 use Rattle.neworder.proofs.Explained.{commits}
 use Rattle.neworder.proofs.Refusals.{still_within, not_above}
 use Rattle.neworder.proofs.transaction.take_order.Goals as goal
@@ -18,7 +18,7 @@ returns-clause-reply g c =
     let supplied = c.in_ok-supplied.supplied.items in
     let no_history = c.take_lines.ensures.goes_on.history ∙ c.open_order.ensures.goes_on.history
     ∙ ap (λ (y : TransactionView). y.writes.history_row) c.requires.begun in
-    let told = c.reply_to.ensures ∙ ap (λ (t : Database). reply_of t x k c.args.priced.now.sum supplied) c.population.ensures in
+    let told = c.reply_to.ensures ∙ ap (λ (t : Database). order_reply_of t x k c.args.priced.now.sum supplied) c.population.ensures in
     subst (λ (r : NewOrderReply). IsReplyOf t0 x last (reply.NewOrder r)) (sym told) (record {
       commits = commits t0 x k last supplied c.args.priced.now c.requires.priced c.in_ok-supplied.ensures.taken c.in_ok-key.ensures.key no_history;
       within_cap = not_above t0.scale x last.reads

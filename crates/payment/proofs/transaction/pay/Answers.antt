@@ -7,7 +7,7 @@ use Rattle.readset.specs.Reads.{ReadSetView}
 use Rattle.readset.specs.Writes.{WriteSetView, no_writes}
 use Rattle.readset.specs.Changes.{puts_all}
 use Rattle.readset.specs.Commit.{IsCommitOf}
-use Rattle.readset.specs.Explains.{MayBe}
+use Rattle.readset.specs.Explains.{IsCandidate}
 use Rattle.payment.specs.Steps.{AreNewValues, changes_of}
 use Rattle.payment.specs.declared.transaction.Keys.{Keys}
 use Rattle.payment.proofs.Explained.{rows_of, commits, read_at, same_values}
@@ -34,4 +34,4 @@ returns-clause-reply g c = λ t h.
     subst (λ (r : PaymentReply). IsCommitOf t (input.Payment x) c.write.new.transaction.writes (reply.Payment r)) (sym c.reply.ensures)
     (commits t0 x c.args.customer reads found c.requires.input c.requires.customer read c.requires.payer values
     (λ w d k rows. let made = c.new_values.ensures w d k rows in subst (AreNewValues x.amount w d k) (same_values made.0 values (sym made.1 ∙ c.in-Some.is)) made.2)
-    c.write.new.transaction.writes written t (subst (λ (r : ReadSetView). MayBe t0 r t) c.write.ensures.reads h))
+    c.write.new.transaction.writes written t (subst (λ (r : ReadSetView). IsCandidate t0 r t) c.write.ensures.reads h))

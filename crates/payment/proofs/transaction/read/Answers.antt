@@ -1,13 +1,13 @@
 use Rattle.std.proofs.Common.{arith}
-use Rattle.readset.proofs.UnderWay.{reads_twice, may_be_still}
+use Rattle.readset.proofs.UnderWay.{reads_twice, candidate_still}
 use Rattle.payment.proofs.transaction.read.Goals as goal
 
 pub returns-clause-found : goal.returns-clause-found
 returns-clause-found g c = λ t h.
     let t0 = g.K.Start.tables in
-    let before = may_be_still t0 c.read-2.new.self c.read-3.new.self 1 c.read-3.ensures.reads t h in
+    let before = candidate_still t0 c.read-2.new.self c.read-3.new.self 1 c.read-3.ensures.reads t h in
     record {
-      warehouse = c.in_ok-warehouse.ensures.words t (may_be_still t0 c.read.new.self c.read-2.new.self 1 c.read-2.ensures.reads t before);
+      warehouse = c.in_ok-warehouse.ensures.words t (candidate_still t0 c.read.new.self c.read-2.new.self 1 c.read-2.ensures.reads t before);
       district = c.in_ok-district.ensures.words t before;
       customer = c.in_ok-customer.ensures.words t h;
     }

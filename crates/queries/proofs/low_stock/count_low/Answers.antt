@@ -4,7 +4,7 @@ use Rattle.std.specs.List.{list_any, range_with_len}
 use Rattle.tables.specs.Keys.{IsItemKey}
 use Rattle.tables.specs.StockLevel.{is_low}
 use Rattle.readset.specs.Reads.{held}
-use Rattle.readset.proofs.UnderWay.{reads_none, reads_twice, may_be_still}
+use Rattle.readset.proofs.UnderWay.{reads_none, reads_twice, candidate_still}
 use Rattle.queries.specs.LowStock.{stock_number}
 use Rattle.queries.proofs.Counted.{none_counted, held_after, counted_after}
 use Rattle.queries.proofs.low_stock.count_low.Goals as goal
@@ -35,7 +35,7 @@ loop-item-preserved g c =
           (λ apart. ap is_some (c.count_once.ensures.others j is apart));
       counted = λ t h.
           let low : ℕ → Bool = λ j. is_low t query.warehouse query.threshold j in
-          let so_far = i.counted t (may_be_still t0 old new 1 more t h) in
+          let so_far = i.counted t (candidate_still t0 old new 1 more t h) in
           let one = ap {B = ℕ} (λ b. cond b 0 (cond (low item) 1 0)) (sym (i.read_once item is_item)) ∙ c.in_ok-low.ensures.low t h in
           counted_after items at c.loop-item-test.true low t0.scale.items is_item.0 is_item.1 ∙ (λ j. so_far j + one j);
       few = omega (arith, c.in_ok-low.ensures.range, i.few);

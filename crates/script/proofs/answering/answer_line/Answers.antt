@@ -1,5 +1,5 @@
 use Rattle.std.proofs.Common.{sym, subst}
-use Rattle.lines.specs.Requests.{IsRefused}
+use Rattle.lines.specs.Requests.{IsRefusedLine}
 use Rattle.lines.specs.declared.answer.Answer.{Answer}
 use Rattle.script.specs.Answered.{state_of}
 use Rattle.script.specs.Turns.{IsLineTurn}
@@ -19,6 +19,6 @@ returns-in-Err-clause-turn g c =
     let s = state_of g.K.Run.first c.args.session.now in
     let refusal = c.in-Err.refusal in
     rw c.in-Some.is (answered_turn _ _ c.declined.result c.declined.ensures.told (λ told says.
-    let is = but_memory (IsRefused c.args.number c.in-Some.text.now) refusal says.0 c.in-Err.ensures.refusal in
+    let is = but_memory (IsRefusedLine c.args.number c.in-Some.text.now) refusal says.0 c.in-Err.ensures.refusal in
     let turn = unread_turn s c.args.number c.in-Some.text.now refusal is in
     λ bytes h. subst (λ (a : Answer). IsLineTurn s c.args.number bytes (record { answer = a; state = s })) (sym says.1) (turn bytes h)))

@@ -10,7 +10,7 @@ use Rattle.tables.specs.declared.limits.TheConstants.{MAX_CARRIER, MAX_CUSTOMERS
 use Rattle.tables.specs.declared.keys.OrderKey.{OrderKey}
 use Rattle.tables.specs.declared.rows.Order.{Order}
 use Rattle.tables.specs.declared.records.RecordKey.TheVariants as key
-use Rattle.records.specs.Words.{Fits}
+use Rattle.records.specs.Words.{FitsColumn}
 use Rattle.book.specs.History.{replay}
 use Rattle.book.proofs.Replaying.{replay-scale}
 use Rattle.script.proofs.showing.order_at.Goals as goal
@@ -25,8 +25,8 @@ at_most_carrier None h = omega arith
 at_most_carrier (Some n) h = (h n refl).1
 
 -- the words of an order fit its columns
-order_fits : (t : Database) → IsWellFormed t → t.scale.customers ≤ MAX_CUSTOMERS → (k : OrderKey) (ws : List ℕ) → row_at t (key.Order k) ≡ Some ws → Fits ws 0 × Fits ws 1 × Fits ws 2 × Fits ws 3
-order_fits t wf cap k ws held = of_words (λ l. Fits l 0 × Fits l 1 × Fits l 2 × Fits l 3) ws (get t.orders k) held (λ r is.
+order_fits : (t : Database) → IsWellFormed t → t.scale.customers ≤ MAX_CUSTOMERS → (k : OrderKey) (ws : List ℕ) → row_at t (key.Order k) ≡ Some ws → FitsColumn ws 0 × FitsColumn ws 1 × FitsColumn ws 2 × FitsColumn ws 3
+order_fits t wf cap k ws held = of_words (λ l. FitsColumn l 0 × FitsColumn l 1 × FitsColumn l 2 × FitsColumn l 3) ws (get t.orders k) held (λ r is.
     let range = wf.order_rows k r is in
     let customer = (wf.customers _).0 (wf.order_customers k r is) in
     (omega (arith, customer.2.1, cap), omega (arith, range.entry_date.1), omega (arith, at_most_carrier r.carrier range.carrier), omega (arith, range.line_count.1)))

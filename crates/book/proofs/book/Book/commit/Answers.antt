@@ -13,10 +13,10 @@ use Rattle.readset.specs.Writes.{value_for}
 use Rattle.cells.proofs.Grown.{grown_twice}
 use Rattle.book.specs.Book.{BookView, AreLatest, IsSound, IsReadBy, Commits, HasSeen, entry_of}
 use Rattle.book.specs.Ready.{IsReady, AreLast, AreNewest}
-use Rattle.book.specs.History.{replay, IsDone, new_versions}
+use Rattle.book.specs.History.{replay, CommitsAt, new_versions}
 use Rattle.book.specs.Stamps.{last_of, tid_for}
 use Rattle.book.specs.Share.{ShareView}
-use Rattle.book.specs.Shows.{Shows, IsRun, reads_of}
+use Rattle.book.specs.Shows.{Mirrors, IsCommitRun, reads_of}
 use Rattle.tables.specs.Apply.{after}
 use Rattle.book.proofs.Runs.{stale_run, full_run, run}
 use Rattle.book.proofs.Newest.{given_back}
@@ -98,7 +98,7 @@ returns-in-Err-clause-answer g c =
       refl,
       inr (
         subst (λ (k : BookView). AreLatest k.written.all c.args.work.reads) view found.0,
-        subst (λ (k : BookView). IsDone (replay g.K.Run.first k.history) c.args.work.input c.args.work.writes c.args.work.reply) view
+        subst (λ (k : BookView). CommitsAt (replay g.K.Run.first k.history) c.args.work.input c.args.work.writes c.args.work.reply) view
             (done_there g.K.Run.first g.K.Run.cells (kept c.self.inside.pen items) (replay g.K.Run.first items) c.self.invariant.0 c.self.invariant.1 c.args.reader.now c.args.work c.requires.work found.0),
         subst (λ (q : ℕ × BookView × Option ℕ). ((c.in-Err.refusal ≡ CommitsFull) × (q.0 ≤ length q.1.history))
             ⊎ ((c.in-Err.refusal ≡ EpochFull) × (length q.1.history < q.0) × (q.2 ≡ None)) ⊎ ((c.in-Err.refusal ≡ OutOfMemory) × (length q.1.history < q.0) × IsSome q.2))
@@ -183,7 +183,7 @@ returns-clause-answer g c =
     × (q.2.number ≡ length q.0.history + 1) × (q.2.reply ≡ c.args.work.reply)
     × (◌≡◌ {A = ShareView} (record { terminal = c.share.inside.terminal; parts = c.add.new.share.parts; commits = c.add.new.share.amount }) (record { terminal = q.1.terminal; parts = q.1.parts; commits = q.1.commits + 1 }))
     × HasSeen c.store.new.reader c.store.new.pen c.args.work.writes
-    × IsDone (replay g.K.Run.first q.0.history) c.args.work.input c.args.work.writes c.args.work.reply) (λ i. (c.self.view_is i, c.share.view_is i, sym of i)) (
+    × CommitsAt (replay g.K.Run.first q.0.history) c.args.work.input c.args.work.writes c.args.work.reply) (λ i. (c.self.view_is i, c.share.view_is i, sym of i)) (
       found.0,
       small,
       sym same ∙ c.in-Ok.ensures.tid,
@@ -216,7 +216,7 @@ returns-in_default-clause-section g c m w shows =
     let items : List Entry = c.self.inside.history.items in
     record {
       conflict = λ _. stale_run g.K.Run.first g.K.Run.cells (kept c.self.inside.pen items) (replay g.K.Run.first items) c.self.invariant.0 c.self.invariant.1 c.args.reader.now c.args.work c.requires.work c.in_order.ensures
-          c.args.share.now.terminal w m (subst (λ k. Shows k c.args.share.now.terminal EPOCH c.args.work.reads m w) (sym c.self.view_is) shows) c.in_default.ensures.latest;
+          c.args.share.now.terminal w m (subst (λ k. Mirrors k c.args.share.now.terminal EPOCH c.args.work.reads m w) (sym c.self.view_is) shows) c.in_default.ensures.latest;
       epoch_full = λ e. absurd (conflict_not_full e);
     }
 
@@ -231,7 +231,7 @@ returns-in-Err-clause-section g c m w shows =
     record {
       conflict = λ e. absurd (only.0 e);
       epoch_full = λ e. full_run g.K.Run.first g.K.Run.cells (kept c.self.inside.pen items) (replay g.K.Run.first items) c.self.invariant.0 c.self.invariant.1 c.args.reader.now c.args.work c.requires.work c.in_order.ensures
-          c.share.inside.terminal w m (subst (λ (q : BookView × ShareView). Shows q.0 q.1.terminal EPOCH c.args.work.reads m w) (λ i. (sym c.self.view_is i, sym c.share.view_is i)) shows) found.0 (sym same ∙ only.1 e);
+          c.share.inside.terminal w m (subst (λ (q : BookView × ShareView). Mirrors q.0 q.1.terminal EPOCH c.args.work.reads m w) (λ i. (sym c.self.view_is i, sym c.share.view_is i)) shows) found.0 (sym same ∙ only.1 e);
     }
 
 pub returns-clause-section : goal.returns-clause-section
@@ -244,7 +244,7 @@ returns-clause-section g c m w shows =
     let cells : c.store.new.pen.cells ≡ c.self.inside.pen.cells = c.store.ensures.cells ∙ ap (λ (w : PenView). w.cells) c.validate.ensures.pen in
     let stores : (n : ℕ) → at c.store.new.pen.all n ≡ at c.self.inside.pen.all n ++ new_versions c.in-Ok.prepared.tid c.args.work.writes.values n = λ n. c.store.ensures.versions n ∙ (λ i. at (c.validate.ensures.pen i).all n ++ new_versions c.in-Ok.prepared.tid c.args.work.writes.values n) in
     let tid : c.in-Ok.prepared.tid ≡ c.of.result.tid = sym (ap (λ (done : Done). done.tid) c.of.ensures) in
-    subst (λ (n : ℕ). IsRun m w (reads_of c.args.work.reads) c.args.work.writes.values n c.store.new.pen) tid
+    subst (λ (n : ℕ). IsCommitRun m w (reads_of c.args.work.reads) c.args.work.writes.values n c.store.new.pen) tid
     (run g.K.Run.first g.K.Run.cells (kept c.self.inside.pen items) (replay g.K.Run.first items) c.self.invariant.0 c.self.invariant.1 c.args.reader.now c.args.work c.requires.work c.in_order.ensures
-    c.share.inside.terminal w m (subst (λ (q : BookView × ShareView). Shows q.0 q.1.terminal EPOCH c.args.work.reads m w) (λ i. (sym c.self.view_is i, sym c.share.view_is i)) shows) found.0
+    c.share.inside.terminal w m (subst (λ (q : BookView × ShareView). Mirrors q.0 q.1.terminal EPOCH c.args.work.reads m w) (λ i. (sym c.self.view_is i, sym c.share.view_is i)) shows) found.0
     c.in-Ok.prepared.tid c.store.new.pen (sym same ∙ c.in-Ok.ensures.tid) c.in-Ok.ensures.lawful.bits cells stores)
