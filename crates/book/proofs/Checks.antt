@@ -24,13 +24,14 @@ abbrev IsLatest : List (List (List ℕ)) → ℕ × Version → Type 0
 IsLatest all e = EndsWith (at all e.0) (words_of e.1)
 
 -- the versions before the rest were compared, and are the latest; the greatest TID so far
-pub record AreCompared (pen0 : PenView) (r0 : ReaderView) (reads : ReadSetView) (pen : PenView) (r : ReaderView) (rest : ReadSetView) (greatest : ℕ) : Type 0 where
-  pub same : pen ≡ pen0
-  pub grown : HasGrown r0 r
-  pub found : All (IsFound reads) rest
-  pub latest : All (IsLatest pen0.all) rest → All (IsLatest pen0.all) reads
-  pub greatest_is : max greatest (greatest_tid rest) ≡ greatest_tid reads
-  pub is_read : IsRead reads greatest
+pub record AreCompared (pen0 : PenView) (r0 : ReaderView) (reads : ReadSetView) (pen : PenView) (r : ReaderView) (rest : ReadSetView) (greatest : ℕ) : Type 0
+  where
+    pub same : pen ≡ pen0
+    pub grown : HasGrown r0 r
+    pub found : All (IsFound reads) rest
+    pub latest : All (IsLatest pen0.all) rest → All (IsLatest pen0.all) reads
+    pub greatest_is : max greatest (greatest_tid rest) ≡ greatest_tid reads
+    pub is_read : IsRead reads greatest
 
 pub begins : (pen0 : PenView) (r0 : ReaderView) (reads rest : ReadSetView) → rest ≡ reads → All (IsFound reads) reads → AreCompared pen0 r0 reads pen0 r0 rest 0
 begins pen0 r0 reads rest e found = record {
@@ -49,7 +50,8 @@ begins pen0 r0 reads rest e found = record {
 larger : (a b c : ℕ) → max (max a b) c ≡ max b (max a c)
 larger a b c = omega arith
 
-module _ (cells : ℕ) (pen0 : PenView) (r0 : ReaderView) (reads : ReadSetView) (by : IsReadBy cells r0 reads) (pen : PenView) (r : ReaderView) (rest : ReadSetView) (greatest : ℕ) (c : AreCompared pen0 r0 reads pen r rest greatest)
+module _ (cells : ℕ) (pen0 : PenView) (r0 : ReaderView) (reads : ReadSetView) (by : IsReadBy cells r0 reads) (pen : PenView) (r : ReaderView)
+    (rest : ReadSetView) (greatest : ℕ) (c : AreCompared pen0 r0 reads pen r rest greatest)
     (n : ℕ) (v : Version) (next : ReadSetView) (steps : rest ≡ (n, v) ∷ next) where
   here : held reads n ≡ Some v
   here = All-head (IsFound reads) (n, v) next (subst (All (IsFound reads)) steps c.found)
@@ -73,21 +75,28 @@ module _ (cells : ℕ) (pen0 : PenView) (r0 : ReaderView) (reads : ReadSetView) 
     conflict other = (n, v, here, subst (λ (m : ℕ × PenView). tid_of v.word ≢ last_tid (at m.1.all m.0)) (λ i. (record_is i, c.same i)) other)
 
     -- one that is
-    pub goes_on : EndsWith (at pen.all v.record) (words_of v) → (greatest' : ℕ) → greatest' ≡ max (tid_of v.word) greatest → AreCompared pen0 r0 reads pen' r' next greatest'
+    pub goes_on : EndsWith (at pen.all v.record) (words_of v) → (greatest' : ℕ) → greatest' ≡ max (tid_of v.word) greatest
+        → AreCompared pen0 r0 reads pen' r' next greatest'
     goes_on latest greatest' is = record {
       same = same ∙ c.same;
       grown = grown;
       found = All-tail (IsFound reads) (n, v) next (subst (All (IsFound reads)) steps c.found);
-      latest = λ h. c.latest (subst (All (IsLatest pen0.all)) (sym steps) (All-cons (IsLatest pen0.all) (n, v) next (subst (λ (m : ℕ × PenView). EndsWith (at m.1.all m.0) (words_of v)) (λ i. (record_is i, c.same i)) latest) h));
-      greatest_is = ap (λ m. max m (greatest_tid next)) is ∙ larger (tid_of v.word) greatest (greatest_tid next) ∙ ap (λ (q : ReadSetView). max greatest (greatest_tid q)) (sym steps) ∙ c.greatest_is;
+      latest = λ h. c.latest (subst (All (IsLatest pen0.all)) (sym steps)
+          (All-cons (IsLatest pen0.all) (n, v) next (subst (λ (m : ℕ × PenView). EndsWith (at m.1.all m.0) (words_of v)) (λ i. (record_is i, c.same i)) latest)
+          h));
+      greatest_is = ap (λ m. max m (greatest_tid next)) is ∙ larger (tid_of v.word) greatest (greatest_tid next)
+          ∙ ap (λ (q : ReadSetView). max greatest (greatest_tid q)) (sym steps) ∙ c.greatest_is;
       is_read = subst (IsRead reads) (sym is) (max_is (IsRead reads) (tid_of v.word) greatest (inr (n, v, here, refl)) c.is_read);
     }
 
-pub all_latest : (pen0 : PenView) (r0 : ReaderView) (reads : ReadSetView) (pen : PenView) (r : ReaderView) (rest : ReadSetView) (greatest : ℕ) → AreCompared pen0 r0 reads pen r rest greatest → rest ≡ [] → AreLatest pen0.all reads
+pub all_latest : (pen0 : PenView) (r0 : ReaderView) (reads : ReadSetView) (pen : PenView) (r : ReaderView) (rest : ReadSetView) (greatest : ℕ)
+    → AreCompared pen0 r0 reads pen r rest greatest → rest ≡ [] → AreLatest pen0.all reads
 all_latest pen0 r0 reads pen r rest greatest c none n v e =
-    All-contains (IsLatest pen0.all) reads (n, v) (c.latest (subst (All (IsLatest pen0.all)) (sym none) (All-nil (IsLatest pen0.all)))) (Contains-from_lookup {eq = λ x y. is_eq (nat_cmp x y)} same_number n v reads e)
+    All-contains (IsLatest pen0.all) reads (n, v) (c.latest (subst (All (IsLatest pen0.all)) (sym none) (All-nil (IsLatest pen0.all))))
+    (Contains-from_lookup {eq = λ x y. is_eq (nat_cmp x y)} same_number n v reads e)
 
-pub all_greatest : (pen0 : PenView) (r0 : ReaderView) (reads : ReadSetView) (pen : PenView) (r : ReaderView) (rest : ReadSetView) (greatest : ℕ) → AreCompared pen0 r0 reads pen r rest greatest → rest ≡ [] → greatest ≡ greatest_tid reads
+pub all_greatest : (pen0 : PenView) (r0 : ReaderView) (reads : ReadSetView) (pen : PenView) (r : ReaderView) (rest : ReadSetView) (greatest : ℕ)
+    → AreCompared pen0 r0 reads pen r rest greatest → rest ≡ [] → greatest ≡ greatest_tid reads
 all_greatest pen0 r0 reads pen r rest greatest c none = no_more greatest ∙ ap (λ (q : ReadSetView). max greatest (greatest_tid q)) (sym none) ∙ c.greatest_is
   where
     no_more : (n : ℕ) → n ≡ max n 0

@@ -13,7 +13,8 @@ use Rattle.readset.specs.declared.work.Work.{Work}
 use Rattle.book.specs.Book.{IsReadBy, IsWorkOf}
 use Rattle.book.specs.Decided.{ExplainsWhereConsistent}
 
-read_by : (cells : ℕ) (old new : ReaderView) (reads : ReadSetView) → ((n : ℕ) (v : Version) → held reads n ≡ Some v → n < cells) → AreRead old new reads → IsReadBy cells new reads
+read_by : (cells : ℕ) (old new : ReaderView) (reads : ReadSetView) → ((n : ℕ) (v : Version) → held reads n ≡ Some v → n < cells) → AreRead old new reads
+    → IsReadBy cells new reads
 read_by cells old new reads within read = record {
   within = within;
   records = read.records;
@@ -21,16 +22,23 @@ read_by cells old new reads within read = record {
 }
 
 -- consistent tables have the conditions of each district that was read
-pub explains_where_consistent : (t0 : Database) (x : Input) (reads : ReadSetView) (writes : WriteSetView) (reply : Reply) → Explains t0 x reads writes reply → ExplainsWhereConsistent t0 x reads writes reply
+pub explains_where_consistent : (t0 : Database) (x : Input) (reads : ReadSetView) (writes : WriteSetView) (reply : Reply) → Explains t0 x reads writes reply
+    → ExplainsWhereConsistent t0 x reads writes reply
 explains_where_consistent t0 x reads writes reply explains t of_population well_formed consistent agrees = explains t (record {
   of_population = of_population;
   well_formed = well_formed;
-  numbered = λ k here _. record { condition_2 = consistent.condition_2 k here; condition_3 = consistent.condition_3 k here; condition_6 = λ j _. consistent.condition_6 j };
+  numbered = λ k here _. record {
+    condition_2 = consistent.condition_2 k here;
+    condition_3 = consistent.condition_3 k here;
+    condition_6 =
+        λ j _. consistent.condition_6 j;
+  };
   agrees = agrees;
 })
 
 -- what was executed, by what its clauses say, is this reader's work
-pub work_of : (t0 : Database) (cells : ℕ) (old new : ReaderView) (work : Work) → IsInput t0.scale work.input → Explains t0 work.input work.reads work.writes work.reply
+pub work_of : (t0 : Database) (cells : ℕ) (old new : ReaderView) (work : Work) → IsInput t0.scale work.input
+    → Explains t0 work.input work.reads work.writes work.reply
     → IsWithinLimits cells work.reads work.writes → AreRead old new work.reads → IsWorkOf t0 cells new work
 work_of t0 cells old new work input explained limits read = record {
   input = input;

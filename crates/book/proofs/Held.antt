@@ -17,7 +17,8 @@ use Rattle.book.specs.Book.{BookView, IsSound}
 use Rattle.book.specs.Ready.{IsReady, AreNewest}
 use Rattle.book.proofs.Replaying.{replay-history}
 
-module _ (t0 : Database) (run_cells : List TableId) (k : BookView) (t : Database) (newest : List Newest) (sound : IsSound t0 k t) (ready : IsReady t0 run_cells k t) (are : AreNewest k.written newest) where
+module _ (t0 : Database) (run_cells : List TableId) (k : BookView) (t : Database) (newest : List Newest) (sound : IsSound t0 k t)
+    (ready : IsReady t0 run_cells k t) (are : AreNewest k.written newest) where
   pub counted : length newest ≡ record_count t0.scale
   counted = are.count ∙ ap length ready.cells ∙ ready.count
 
@@ -36,6 +37,7 @@ module _ (t0 : Database) (run_cells : List TableId) (k : BookView) (t : Database
 
   -- tables that are told by them, whose HISTORY has the rows that were added, are the committed ones
   pub are_committed : (made : Database) → replay t0 k.history ≡ t
-      → ((u : Database) → IsOf t0 u → IsWellFormed u → ((n : ℕ) → n < row_count t0.scale → rows u n ≡ value_at newest n) → u.history ≡ t0.history ++ rows_added k.history → made ≡ u) → made ≡ t
+      → ((u : Database) → IsOf t0 u → IsWellFormed u → ((n : ℕ) → n < row_count t0.scale → rows u n ≡ value_at newest n) → u.history ≡ t0.history
+      ++ rows_added k.history → made ≡ u) → made ≡ t
   are_committed made is one = one t ready.of_population sound.well_formed (λ n h. sym (value_held n (omega (arith, h, rows_first))))
       (ap (λ (u : Database). u.history) (sym is) ∙ replay-history 1 t0 k.history sound.legal.replays)

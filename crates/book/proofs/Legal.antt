@@ -1,5 +1,6 @@
 -- A run of the commit machine whose transactions are explained by what they read has a legal history.
-use Rattle.std.proofs.Common.{◌≡◌, ℕ, suc, zero-add, ◌+◌, ◌-◌, ◌<◌, ◌≤◌, Option, Some, None, List, [], ◌∷◌, length, refl, sym, ap, ◌∙◌, subst, arith, length-append}
+use Rattle.std.proofs.Common.{◌≡◌, ℕ, suc, zero-add, ◌+◌, ◌-◌, ◌<◌, ◌≤◌, Option, Some, None, List, [], ◌∷◌, length, refl, sym, ap, ◌∙◌, subst, arith}
+use Rattle.std.proofs.Common.{length-append}
 use Rattle.std.specs.Option.{unwrap_or}
 use Rattle.tables.specs.Sizes.{Sizes}
 use Rattle.tables.specs.Database.{Database}
@@ -44,7 +45,8 @@ module _ (t0 t : Database) (versions : ℕ → noted.Version) (left : ℕ) (stan
     (serial : (r : ℕ) (v : noted.Version) → machine.note_at transaction.reads r ≡ Some v → versions r ≡ v) where
   agrees : Agrees t work.reads
   agrees n v e =
-      sym (is.reads n v e).2 ∙ ap (λ (x : noted.Version). x.value) (sym (serial n (is.reads n v e).0 (is.reads n v e).1)) ∙ sym (stands.values n (is.within n v e))
+      sym (is.reads n v e).2 ∙ ap (λ (x : noted.Version). x.value) (sym (serial n (is.reads n v e).0 (is.reads n v e).1))
+      ∙ sym (stands.values n (is.within n v e))
 
   input_of : IsInput t.scale work.input
   input_of = subst (λ s. IsInput s work.input) (sym stands.of_population.scale) is.input
@@ -52,7 +54,8 @@ module _ (t0 t : Database) (versions : ℕ → noted.Version) (left : ℕ) (stan
   done_there : CommitsAt t work.input work.writes work.reply
   done_there = record { input = input_of; commit = is.explained t stands.of_population stands.well_formed stands.consistent agrees }
 
-  value_next : (n : ℕ) → n < record_count t0.scale → rows (after t work.input) n ≡ (overwritten (versions n) transaction.tid (machine.note_at transaction.writes n)).value
+  value_next : (n : ℕ) → n < record_count t0.scale
+      → rows (after t work.input) n ≡ (overwritten (versions n) transaction.tid (machine.note_at transaction.writes n)).value
   value_next n small =
       done_there.commit.rows n (subst (λ (s : Sizes). n < record_count s) (sym stands.of_population.scale) small)
       ∙ ap (λ w. unwrap_or w (rows t n)) (sym (is.writes n))
@@ -69,10 +72,12 @@ module _ (t0 t : Database) (versions : ℕ → noted.Version) (left : ℕ) (stan
   }
 
 -- an entry of each transaction
-entries_of : (t0 : Database) (works : List Work) (transactions : List Transaction) → AreTransactionsOf t0 works transactions → length (history_of works transactions) ≡ length works
+entries_of : (t0 : Database) (works : List Work) (transactions : List Transaction) → AreTransactionsOf t0 works transactions
+    → length (history_of works transactions) ≡ length works
 entries_of t0 [] [] are = refl
 entries_of t0 (work ∷ works) (transaction ∷ earlier) are =
-    length-append (history_of works earlier) (entry_after works work transaction ∷ []) ∙ more (length (history_of works earlier)) (length works) (entries_of t0 works earlier are.1)
+    length-append (history_of works earlier) (entry_after works work transaction ∷ [])
+    ∙ more (length (history_of works earlier)) (length works) (entries_of t0 works earlier are.1)
   where
     more : (n m : ℕ) → n ≡ m → n + 1 ≡ suc m
     more n m e = omega (arith, e)
@@ -85,17 +90,21 @@ record Comes (t0 : Database) (history : List Entry) (versions : ℕ → noted.Ve
   stands : Stands t0 (replay t0 history) versions left
 
 -- one entry more
-module _ (t0 : Database) (works : List Work) (earlier : List Transaction) (versions : ℕ → noted.Version) (left : ℕ) (are : AreTransactionsOf t0 works earlier) (before : Comes t0 (history_of works earlier) versions (left + 1))
+module _ (t0 : Database) (works : List Work) (earlier : List Transaction) (versions : ℕ → noted.Version) (left : ℕ) (are : AreTransactionsOf t0 works earlier)
+    (before : Comes t0 (history_of works earlier) versions (left + 1))
     (work : Work) (transaction : Transaction) (is : IsTransactionOf t0 work transaction)
     (serial : (r : ℕ) (v : noted.Version) → machine.note_at transaction.reads r ≡ Some v → versions r ≡ v) where
   numbered : (n m : ℕ) → m ≡ n → n + 1 ≡ 1 + m
   numbered n m e = omega (arith, e)
 
-  comes_next : Comes t0 (history_of (work ∷ works) (transaction ∷ earlier)) (λ n. overwritten (versions n) transaction.tid (machine.note_at transaction.writes n)) left
+  comes_next : Comes t0 (history_of (work ∷ works) (transaction ∷ earlier))
+      (λ n. overwritten (versions n) transaction.tid (machine.note_at transaction.writes n)) left
   comes_next = record {
-    replays = replays_push 1 t0 (history_of works earlier) (entry_after works work transaction) before.replays (numbered (length works) (length (history_of works earlier)) (entries_of t0 works earlier are))
+    replays = replays_push 1 t0 (history_of works earlier) (entry_after works work transaction) before.replays
+        (numbered (length works) (length (history_of works earlier)) (entries_of t0 works earlier are))
         (done_there t0 (replay t0 (history_of works earlier)) versions left before.stands work transaction is serial);
-    stands = subst (λ t. Stands t0 t (λ n. overwritten (versions n) transaction.tid (machine.note_at transaction.writes n)) left) (sym (replay_push t0 (history_of works earlier) (entry_after works work transaction)))
+    stands = subst (λ t. Stands t0 t (λ n. overwritten (versions n) transaction.tid (machine.note_at transaction.writes n)) left)
+        (sym (replay_push t0 (history_of works earlier) (entry_after works work transaction)))
         (stands_next t0 (replay t0 (history_of works earlier)) versions left before.stands work transaction is serial);
   }
 

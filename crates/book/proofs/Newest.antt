@@ -11,12 +11,17 @@ use Rattle.records.proofs.Positions.{same_here, same_there}
 use Rattle.book.specs.Ready.{AreNewest}
 
 -- a version that is stored and kept leaves the newest ones of all records kept
-pub kept_next : (pen pen' pen'' : PenView) (newest newest' : List Newest) (m : ℕ) (v : Newest) → AreNewest pen newest → m < length newest → StoresVersion pen pen' m (newest_words v) → pen'' ≡ pen' → newest' ≡ slice_set newest m v → AreNewest pen'' newest'
+pub kept_next : (pen pen' pen'' : PenView) (newest newest' : List Newest) (m : ℕ) (v : Newest) → AreNewest pen newest → m < length newest
+    → StoresVersion pen pen' m (newest_words v) → pen'' ≡ pen' → newest' ≡ slice_set newest m v → AreNewest pen'' newest'
 kept_next pen pen' pen'' newest newest' m v are small stores same set = record {
   count = ap length set ∙ length-set newest m v ∙ are.count ∙ ap length (sym stores.cells) ∙ ap (λ (w : PenView). length w.cells) (sym same);
   last = λ n h. subst (λ (q : PenView × List Newest). (front : List (List ℕ)) × (at q.0.all n ≡ front ++ words_at q.1 n ∷ [])) (λ i. (sym same i, sym set i)) (
       ⊎_elim
-      (λ (e : n ≡ m). (at pen.all m, ap (at pen'.all) e ∙ stores.last ∙ ap (λ w. at pen.all m ++ w ∷ []) (sym (same_here newest m v small) ∙ ap (words_at (slice_set newest m v)) (sym e))))
+      (λ (e : n ≡ m). (
+        at pen.all m,
+        ap (at pen'.all) e ∙ stores.last
+            ∙ ap (λ w. at pen.all m ++ w ∷ []) (sym (same_here newest m v small) ∙ ap (words_at (slice_set newest m v)) (sym e)),
+      ))
       (λ (e : n ≢ m).
       let was = are.last n (subst (λ k. n < k) (ap length set ∙ length-set newest m v) h) in (
         was.0,
@@ -28,4 +33,5 @@ kept_next pen pen' pen'' newest newest' m v are small stores same set = record {
 
 -- a slice that is as long as the vector that it was lent from is the vector once it is given back
 pub given_back : (n : ℕ) (given lent : List Newest) → n ≡ length lent → length given ≡ length lent → take n (given ++ drop (length given) lent) ≡ given
-given_back n given lent all same = (λ i. take (all i) (given ++ drop_all (length given) lent (omega (arith, same)) i)) ∙ ap (take (length lent)) (append-nil given) ∙ take_all (length lent) given (omega (arith, same))
+given_back n given lent all same = (λ i. take (all i) (given ++ drop_all (length given) lent (omega (arith, same)) i))
+    ∙ ap (take (length lent)) (append-nil given) ∙ take_all (length lent) given (omega (arith, same))

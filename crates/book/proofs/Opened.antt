@@ -40,7 +40,8 @@ within_first tid none = subst (IsWithin EPOCH 0) (sym none) (record { bits = ome
 pub first_lasts : (terminals count : ℕ) (lasts : List ℕ) → lasts ≡ replicate count 0 → count ≡ terminals → AreLast terminals [] lasts
 first_lasts terminals count lasts none all = record {
   count = ap length none ∙ length-replicate count 0 ∙ all;
-  last = λ terminal h. subst (λ (l : List ℕ). slice_index l terminal ≡ 0) (sym none) (get_or-replicate count terminal 0 _ (subst (λ n. terminal < n) (ap length none ∙ length-replicate count 0) h));
+  last = λ terminal h. subst (λ (l : List ℕ). slice_index l terminal ≡ 0) (sym none)
+      (get_or-replicate count terminal 0 _ (subst (λ n. terminal < n) (ap length none ∙ length-replicate count 0) h));
 }
 
 module _ (t0 : Database) (run_cells : List TableId) (pen : PenView) (newest : List Newest) (are : AreFirst t0 newest) (count : length run_cells ≡ length newest)
@@ -65,7 +66,8 @@ module _ (t0 : Database) (run_cells : List TableId) (pen : PenView) (newest : Li
       well_formed = well_formed;
       consistent = consistent;
       versions = λ n h. first n (subst (λ m. n < m) (sym (count ∙ are.count)) h);
-      latest = λ n h v e. ap value_in (last_one e.0 [] v (first_version (rows t0 n)) (sym e.1 ∙ first n (subst (λ m. n < m) (sym (count ∙ are.count)) h))) ∙ first_value (rows t0 n);
+      latest = λ n h v e. ap value_in (last_one e.0 [] v (first_version (rows t0 n)) (sym e.1 ∙ first n (subst (λ m. n < m) (sym (count ∙ are.count)) h)))
+          ∙ first_value (rows t0 n);
     }
 
     pub first_ready : HasRoom MAX_COMMITS t0 → t0.scale.commits ≤ MAX_COMMITS → IsReady t0 run_cells (record { written = pen; history = [] }) t0
@@ -76,7 +78,8 @@ module _ (t0 : Database) (run_cells : List TableId) (pen : PenView) (newest : Li
       passed = All-nil (IsPassed EPOCH (record { written = pen; history = [] }));
       records = λ n h. within_first (last_tid (at pen.all n)) (ap last_tid (first n h) ∙ first_tid (rows t0 n));
       terminals = λ terminal. within_first 0 refl;
-      free = λ n h v e. subst (λ (u : List ℕ). IsFree (slice_index u 0)) (sym (last_one e.0 [] v (first_version (rows t0 n)) (sym e.1 ∙ first n h))) (first_free (rows t0 n));
+      free = λ n h v e. subst (λ (u : List ℕ). IsFree (slice_index u 0)) (sym (last_one e.0 [] v (first_version (rows t0 n)) (sym e.1 ∙ first n h)))
+          (first_free (rows t0 n));
       cap = omega arith;
       few = few;
       room = room;

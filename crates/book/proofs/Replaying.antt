@@ -15,7 +15,8 @@ pub replay_push : (t : Database) (es : List Entry) (e : Entry) → replay t (es 
 replay_push t [] e = refl
 replay_push t (f ∷ es) e = replay_push (after t f.input) es e
 
-pub replays_push : (n : ℕ) (t : Database) (es : List Entry) (e : Entry) → Replays n t es → e.number ≡ n + length es → CommitsAt (replay t es) e.input e.writes e.reply → Replays n t (es ++ e ∷ [])
+pub replays_push : (n : ℕ) (t : Database) (es : List Entry) (e : Entry) → Replays n t es → e.number ≡ n + length es
+    → CommitsAt (replay t es) e.input e.writes e.reply → Replays n t (es ++ e ∷ [])
 replays_push n t [] e h number done = (number ∙ add-zero n, done, tt)
 replays_push n t (f ∷ es) e h number done = (h.0, h.1, replays_push (n + 1) (after t f.input) es e h.2 (number ∙ shifted n (length es)) done)
   where

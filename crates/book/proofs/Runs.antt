@@ -1,5 +1,6 @@
 -- A commit of the book is a run of the machine that shows it.
-use Rattle.std.proofs.Common.{◌≡◌, ◌≢◌, ℕ, ◌%◌, ◌<◌, ⊎_elim, true, false, cond, Bool, Option, Some, None, IsSome, is_some, List, [], ◌∷◌, ◌++◌, length, refl, sym, ap, ◌∙◌, subst, arith, ◌==◌}
+use Rattle.std.proofs.Common.{◌≡◌, ◌≢◌, ℕ, ◌%◌, ◌<◌, ⊎_elim, true, false, cond, Bool, Option, Some, None, IsSome, is_some, List, [], ◌∷◌, ◌++◌, length, refl}
+use Rattle.std.proofs.Common.{sym, ap, ◌∙◌, subst, arith, ◌==◌}
 use Rattle.std.specs.Prelude.{max, slice_index}
 use Rattle.std.specs.List.{All}
 use Rattle.std.specs.List.Sorted.{IsStrictlySortedBy}
@@ -56,13 +57,15 @@ found : {X : Type 0} (notes : List (ℕ × X)) (n : ℕ) → machine.note_at not
 found [] n = refl
 found (note ∷ notes) n = λ i. cond (same_number note.0 n i) (Some note.1) (found notes n i)
 
-either : {X Y : Type 0} (b : Bool) (x : X) (y : Y) (xs : Option X) (ys : Option Y) → is_some xs ≡ is_some ys → is_some (cond b (Some x) xs) ≡ is_some (cond b (Some y) ys)
+either : {X Y : Type 0} (b : Bool) (x : X) (y : Y) (xs : Option X) (ys : Option Y) → is_some xs ≡ is_some ys
+    → is_some (cond b (Some x) xs) ≡ is_some (cond b (Some y) ys)
 either true x y xs ys same = refl
 either false x y xs ys same = same
 
 read_too : (reads : ReadSetView) (n : ℕ) → is_some (machine.note_at (reads_of reads) n) ≡ is_some (held reads n)
 read_too [] n = refl
-read_too (read ∷ reads) n = either (read.0 == n) _ read.1 (machine.note_at (reads_of reads) n) (held reads n) (read_too reads n) ∙ ap (λ b. is_some (cond b (Some read.1) (held reads n))) (same_number read.0 n)
+read_too (read ∷ reads) n = either (read.0 == n) _ read.1 (machine.note_at (reads_of reads) n) (held reads n) (read_too reads n)
+    ∙ ap (λ b. is_some (cond b (Some read.1) (held reads n))) (same_number read.0 n)
 
 same_numbers : (reads : ReadSetView) → keys_of (reads_of reads) ≡ keys_of reads
 same_numbers [] = refl
@@ -89,7 +92,8 @@ last_version v (w ∷ vs) = let it = last_version w vs in (it.0, (v ∷ it.1.0, 
 abbrev cell_of : List ℕ → Cell
 cell_of v = record { word = slice_index v 0; value = value_in v }
 
-installed_cell : (tid : ℕ) (value : Option (List ℕ)) → tid % 8 ≡ 0 → ◌≡◌ {A = Cell} (record { word = installed_word tid value; value = value }) (cell_of (committed_version tid value))
+installed_cell : (tid : ℕ) (value : Option (List ℕ)) → tid % 8 ≡ 0 → ◌≡◌ {A = Cell} (record { word = installed_word tid value; value = value })
+    (cell_of (committed_version tid value))
 installed_cell tid value bits = λ i. record { word = installed_word tid value; value = sym (value_in_version tid value bits) i }
 
 -- where all reads are current, so is each
@@ -102,10 +106,13 @@ all_current m (read ∷ reads) all = All-cons (IsCurrent m) read reads
     (All-head (λ (it : ℕ × machine_version.Version). tid_of (cell m it.0).word ≡ it.1.tid) _ (reads_of reads) all)
     (all_current m reads (All-tail (λ (it : ℕ × machine_version.Version). tid_of (cell m it.0).word ≡ it.1.tid) _ (reads_of reads) all))
 
-each_current : (m : Machine) (reads : ReadSetView) → AreCurrent m (reads_of reads) → (n : ℕ) (v : Version) → held reads n ≡ Some v → tid_of (cell m n).word ≡ tid_of v.word
-each_current m reads all n v e = All-contains (IsCurrent m) reads (n, v) (all_current m reads all) (Contains-from_lookup {eq = λ x y. is_eq (nat_cmp x y)} same_key n v reads e)
+each_current : (m : Machine) (reads : ReadSetView) → AreCurrent m (reads_of reads) → (n : ℕ) (v : Version) → held reads n ≡ Some v
+    → tid_of (cell m n).word ≡ tid_of v.word
+each_current m reads all n v e = All-contains (IsCurrent m) reads (n, v) (all_current m reads all)
+    (Contains-from_lookup {eq = λ x y. is_eq (nat_cmp x y)} same_key n v reads e)
 
-module _ (t0 : Database) (run_cells : List TableId) (k : BookView) (t : Database) (sound : IsSound t0 k t) (ready : IsReady t0 run_cells k t) (reader : ReaderView) (work : Work) (is_work : IsWorkOf t0 (length run_cells) reader work) (order : AreInOrder work.reads work.writes)
+module _ (t0 : Database) (run_cells : List TableId) (k : BookView) (t : Database) (sound : IsSound t0 k t) (ready : IsReady t0 run_cells k t)
+    (reader : ReaderView) (work : Work) (is_work : IsWorkOf t0 (length run_cells) reader work) (order : AreInOrder work.reads work.writes)
     (terminal w : ℕ) (m : Machine) (shows : Mirrors k terminal EPOCH work.reads m w) where
   abbrev reads : Reads
   reads = reads_of work.reads
@@ -155,16 +162,26 @@ module _ (t0 : Database) (run_cells : List TableId) (k : BookView) (t : Database
   -- a version that isn't its record's latest is among the reads that aren't current
   pub stale_run : HasConflict k.written.all work.reads → IsStaleRun m w reads writes
   stale_run conflict = ⊎_elim
-      (λ (all : AreCurrent m reads). absurd (conflict.3 (sym (each_current m work.reads all conflict.0 conflict.1 conflict.2) ∙ same_tid conflict.0 (is_work.read.within conflict.0 conflict.1 conflict.2))))
+      (λ (all : AreCurrent m reads). absurd
+      (conflict.3 (sym (each_current m work.reads all conflict.0 conflict.1 conflict.2)
+      ∙ same_tid conflict.0 (is_work.read.within conflict.0 conflict.1 conflict.2))))
       (λ (it : IsStale m reads).
       let fails = sections.stale reads has_read it in
-      record { first = it; enabled = fails.0; failed = fails.1; woven = woven m w (stale_section w it.passed it.at writes) (stale_section_own w it.passed it.at writes) fails.0 })
+      record {
+        first = it;
+        enabled = fails.0;
+        failed = fails.1;
+        woven =
+            woven m w (stale_section w it.passed it.at writes) (stale_section_own w it.passed it.at writes) fails.0;
+      })
       (current_or_stale m reads)
 
   module _ (latest : AreLatest k.written.all work.reads) where
     current : AreCurrent m reads
-    current = All-map (λ read. tid_of (cell m read.0).word ≡ read.1.tid) _ work.reads (All-weaker (λ (e : ℕ × Version). held work.reads e.0 ≡ Some e.1) (λ (e : ℕ × Version). tid_of (cell m e.0).word ≡ tid_of e.1.word)
-        (λ e is. same_tid e.0 (is_work.read.within e.0 e.1 is) ∙ last_tid-last (at k.written.all e.0) (words_of e.1) (latest e.0 e.1 is)) work.reads order.reads_found)
+    current = All-map (λ read. tid_of (cell m read.0).word ≡ read.1.tid) _ work.reads
+        (All-weaker (λ (e : ℕ × Version). held work.reads e.0 ≡ Some e.1) (λ (e : ℕ × Version). tid_of (cell m e.0).word ≡ tid_of e.1.word)
+        (λ e is. same_tid e.0 (is_work.read.within e.0 e.1 is) ∙ last_tid-last (at k.written.all e.0) (words_of e.1) (latest e.0 e.1 is)) work.reads
+        order.reads_found)
 
     all_read : All (λ (write : ℕ × Option (List ℕ)). IsSome (machine.note_at reads write.0)) writes
     all_read = All-weaker (λ (e : ℕ × Option (List ℕ)). value_for work.writes e.0 ≡ Some e.1) (λ (e : ℕ × Option (List ℕ)). IsSome (machine.note_at reads e.0))
@@ -180,16 +197,21 @@ module _ (t0 : Database) (run_cells : List TableId) (k : BookView) (t : Database
         let fails = sections.full reads has_read current (next_is ∙ none) in
         record { enabled = fails.0; failed = fails.1; woven = woven m w (full_section w reads writes) (full_section_own w reads writes) fails.0 }
 
-    module _ (tid : ℕ) (new : PenView) (bits : tid % 8 ≡ 0) (after : Machine) (cells : (n : ℕ) → cell after n ≡ written_cell (cell m n) tid (machine.note_at writes n))
+    module _ (tid : ℕ) (new : PenView) (bits : tid % 8 ≡ 0) (after : Machine)
+        (cells : (n : ℕ) → cell after n ≡ written_cell (cell m n) tid (machine.note_at writes n))
         (stores : (n : ℕ) → at new.all n ≡ at k.written.all n ++ new_versions tid work.writes.values n) where
       -- the newest versions after the commit are the records after the run
       newest_again : (n : ℕ) → n < length run_cells → (v : List ℕ) → EndsWith (at new.all n) v → cell after n ≡ cell_of v
       newest_again n h v e =
           elim (value_for work.writes n) as (λ o. value_for work.writes n ≡ o → cell after n ≡ cell_of v) [
             | None ↦ λ none. cells n ∙ ap (written_cell (cell m n) tid) (found writes n ∙ none)
-                ∙ shown n h v (subst (λ (l : List (List ℕ)). EndsWith l v) (stores n ∙ ap (λ (o : Option (Option (List ℕ))). at k.written.all n ++ option_map_or (λ value. committed_version tid value ∷ []) o []) none ∙ append-nil (at k.written.all n)) e)
+                ∙ shown n h v (subst (λ (l : List (List ℕ)). EndsWith l v)
+                (stores n ∙ ap (λ (o : Option (Option (List ℕ))). at k.written.all n ++ option_map_or (λ value. committed_version tid value ∷ []) o []) none
+                ∙ append-nil (at k.written.all n)) e)
             | Some value ↦ λ some. cells n ∙ ap (written_cell (cell m n) tid) (found writes n ∙ some) ∙ installed_cell tid value bits
-                ∙ ap cell_of (sym (last_one e.0 (at k.written.all n) v (committed_version tid value) (sym e.1 ∙ stores n ∙ ap (λ (o : Option (Option (List ℕ))). at k.written.all n ++ option_map_or (λ x. committed_version tid x ∷ []) o []) some)))
+                ∙ ap cell_of (sym (last_one e.0 (at k.written.all n) v (committed_version tid value)
+                (sym e.1 ∙ stores n ∙ ap (λ (o : Option (Option (List ℕ))). at k.written.all n ++ option_map_or (λ x. committed_version tid x ∷ []) o [])
+                some)))
           ] refl
 
     pub run : (tid : ℕ) (new : PenView) → tid_for k.history terminal EPOCH work.reads ≡ Some tid → tid % 8 ≡ 0 → new.cells ≡ k.written.cells
@@ -201,7 +223,8 @@ module _ (t0 : Database) (run_cells : List TableId) (k : BookView) (t : Database
           committed = commits.1;
           newest = record {
             count = commits.1.rest.records ∙ shows.records.count ∙ sym (ap length cells);
-            newest = λ n h. newest_again tid new bits (after_all m (section w reads writes)) commits.1.cells stores n (subst (λ (l : List TableId). n < length l) (cells ∙ ready.cells) h);
+            newest = λ n h. newest_again tid new bits (after_all m (section w reads writes)) commits.1.cells stores n
+                (subst (λ (l : List TableId). n < length l) (cells ∙ ready.cells) h);
           };
           woven = woven m w (section w reads writes) (section_own w reads writes) commits.0;
         }

@@ -48,7 +48,8 @@ module _ (k : BookView) (terminal epoch : ℕ) (read : ReadSetView) (w : ℕ) wh
   }
 
   own : worker machine w ≡ begun
-  own = ap (λ n. slice_index_or (replicate w idle_worker ++ begun ∷ []) n idle_worker) (sym (length-replicate w idle_worker)) ∙ get_or-append_seam (replicate w idle_worker) begun [] idle_worker
+  own = ap (λ n. slice_index_or (replicate w idle_worker ++ begun ∷ []) n idle_worker) (sym (length-replicate w idle_worker))
+      ∙ get_or-append_seam (replicate w idle_worker) begun [] idle_worker
 
   small : w < length (replicate w idle_worker ++ begun ∷ [])
   small = within (length-append (replicate w idle_worker) (begun ∷ []) ∙ ap (λ n. n + 1) (length-replicate w idle_worker))
@@ -62,7 +63,8 @@ module _ (k : BookView) (terminal epoch : ℕ) (read : ReadSetView) (w : ℕ) wh
     record {
       records = record {
         count = length-map-range_with_len record_of 0 (length k.written.cells);
-        newest = λ n h v e. get_or-map-range_with_len record_of 0 (length k.written.cells) n n _ h (from_zero n) ∙ ap (λ (l : List (List ℕ)). cell_of (newest_of l)) e.1 ∙ ap cell_of (newest_push e.0 v);
+        newest = λ n h v e. get_or-map-range_with_len record_of 0 (length k.written.cells) n n _ h (from_zero n)
+            ∙ ap (λ (l : List (List ℕ)). cell_of (newest_of l)) e.1 ∙ ap cell_of (newest_push e.0 v);
       };
       present = small;
       begun = ap (λ (x : Worker). x.phase) own;

@@ -1,5 +1,6 @@
 -- A commit keeps the book sound.
-use Rattle.std.proofs.Common.{◌≡◌, ℕ, ◌+◌, ◌-◌, ◌/◌, ◌%◌, ◌^◌, ◌<◌, ◌≤◌, cond, Option, Some, None, IsSome, List, [], ◌∷◌, ◌++◌, length, replicate, refl, sym, ap, ◌∙◌, subst, arith, length-append, ◌==◌, inl, inr, ⊎_elim, ◌≢◌, is_some, true≢false}
+use Rattle.std.proofs.Common.{◌≡◌, ℕ, ◌+◌, ◌-◌, ◌/◌, ◌%◌, ◌^◌, ◌<◌, ◌≤◌, cond, Option, Some, None, IsSome, List, [], ◌∷◌, ◌++◌, length, replicate, refl, sym}
+use Rattle.std.proofs.Common.{ap, ◌∙◌, subst, arith, length-append, ◌==◌, inl, inr, ⊎_elim, ◌≢◌, is_some, true≢false}
 use Rattle.std.proofs.lemmas.List.{append-nil, append_assoc}
 use Rattle.std.specs.Option.{option_map_or, unwrap_or}
 use Rattle.std.specs.Prelude.{slice_index}
@@ -36,7 +37,8 @@ use Rattle.book.proofs.Replaying.{replay_push, replays_push}
 -- one entry more
 later_push : (es : List Entry) (e : Entry) (n : ℕ) → later_versions (es ++ e ∷ []) n ≡ later_versions es n ++ entry_versions e n
 later_push [] e n = append-nil (entry_versions e n)
-later_push (f ∷ es) e n = ap (λ l. entry_versions f n ++ l) (later_push es e n) ∙ sym (append_assoc (entry_versions f n) (later_versions es n) (entry_versions e n))
+later_push (f ∷ es) e n = ap (λ l. entry_versions f n ++ l) (later_push es e n)
+    ∙ sym (append_assoc (entry_versions f n) (later_versions es n) (entry_versions e n))
 
 -- what a version that a commit stores says
 tid_version : (tid_is : ℕ) (value : Option (List ℕ)) → tid_is % 8 ≡ 0 → tid (committed_version tid_is value) ≡ tid_is
@@ -73,12 +75,14 @@ last_one xs ys a b e = sym (end xs a) ∙ ap last_of e ∙ end ys b
 rest_of : (n : ℕ) → n < MAX_COMMITS → MAX_COMMITS - n ≡ MAX_COMMITS - (n + 1) + 1
 rest_of n h = omega arith
 
-module _ (t0 : Database) (run_cells : List TableId) (k : BookView) (t : Database) (sound : IsSound t0 k t) (ready : IsReady t0 run_cells k t) (reader : ReaderView) (work : Work) (is_work : IsWorkOf t0 (length run_cells) reader work) (latest : AreLatest k.written.all work.reads) where
+module _ (t0 : Database) (run_cells : List TableId) (k : BookView) (t : Database) (sound : IsSound t0 k t) (ready : IsReady t0 run_cells k t)
+    (reader : ReaderView) (work : Work) (is_work : IsWorkOf t0 (length run_cells) reader work) (latest : AreLatest k.written.all work.reads) where
   agrees : Agrees t work.reads
   agrees n v e = sound.latest n (subst (λ m. n < m) ready.count (is_work.read.within n v e)) (words_of v) (latest n v e)
 
   commits_there : IsCommitOf t work.input work.writes work.reply
-  commits_there = explains_where_consistent t0 work.input work.reads work.writes work.reply is_work.explained t ready.of_population sound.well_formed sound.consistent agrees
+  commits_there = explains_where_consistent t0 work.input work.reads work.writes work.reply is_work.explained t ready.of_population sound.well_formed
+      sound.consistent agrees
 
   pub input_of : IsInput t.scale work.input
   input_of = subst (λ s. IsInput s work.input) (sym ready.of_population.scale) is_work.input
@@ -89,9 +93,11 @@ module _ (t0 : Database) (run_cells : List TableId) (k : BookView) (t : Database
 
   -- a TID that a version read has is its record's last
   pub read_within : (seen : ℕ) → IsRead work.reads seen → IsWithin EPOCH (length k.history) seen
-  read_within seen (inl none) = subst (IsWithin EPOCH (length k.history)) (sym none) (record { bits = omega arith; in_epoch = omega arith; sequence = omega arith })
+  read_within seen (inl none) = subst (IsWithin EPOCH (length k.history)) (sym none)
+      (record { bits = omega arith; in_epoch = omega arith; sequence = omega arith })
   read_within seen (inr read) =
-      subst (IsWithin EPOCH (length k.history)) (last_tid-last (at k.written.all read.0) (words_of read.1) (latest read.0 read.1 read.2) ∙ sym read.3) (ready.records read.0 (is_work.read.within read.0 read.1 read.2))
+      subst (IsWithin EPOCH (length k.history)) (last_tid-last (at k.written.all read.0) (words_of read.1) (latest read.0 read.1 read.2) ∙ sym read.3)
+      (ready.records read.0 (is_work.read.within read.0 read.1 read.2))
 
   module _ (terminal tid_is : ℕ) (new : PenView) (below_cap : length k.history < t0.scale.commits) (cells : new.cells ≡ k.written.cells)
       (within : IsWithin EPOCH (length k.history + 1) tid_is) (in_epoch : tid_is / 2 ^ 32 ≡ EPOCH)
@@ -121,9 +127,11 @@ module _ (t0 : Database) (run_cells : List TableId) (k : BookView) (t : Database
 
     -- a record that isn't written, and one that is
     unchanged : (n : ℕ) → value_for work.writes n ≡ None → at new.all n ≡ at k.written.all n
-    unchanged n none = stores n ∙ ap (λ w. at k.written.all n ++ option_map_or (λ value. committed_version tid_is value ∷ []) w []) none ∙ append-nil (at k.written.all n)
+    unchanged n none = stores n ∙ ap (λ w. at k.written.all n ++ option_map_or (λ value. committed_version tid_is value ∷ []) w []) none
+        ∙ append-nil (at k.written.all n)
 
-    changed : (n : ℕ) (value : Option (List ℕ)) → value_for work.writes n ≡ Some value → at new.all n ≡ at k.written.all n ++ committed_version tid_is value ∷ []
+    changed : (n : ℕ) (value : Option (List ℕ)) → value_for work.writes n ≡ Some value → at new.all n ≡ at k.written.all n ++ committed_version tid_is value
+        ∷ []
     changed n value some = stores n ∙ ap (λ w. at k.written.all n ++ option_map_or (λ x. committed_version tid_is x ∷ []) w []) some
 
     last_value : (n : ℕ) → n < record_count t0.scale → (v : List ℕ) → EndsWith (at new.all n) v → value_in v ≡ rows (after t work.input) n
@@ -131,8 +139,10 @@ module _ (t0 : Database) (run_cells : List TableId) (k : BookView) (t : Database
         let small : n < record_count t.scale = subst (λ (s : Sizes). n < record_count s) (sym ready.of_population.scale) h in
         let leaves : rows (after t work.input) n ≡ rows_with work.writes (rows t) n = commits_there.rows n small in
         elim (value_for work.writes n) as (λ w. value_for work.writes n ≡ w → value_in v ≡ rows (after t work.input) n) [
-          | None ↦ λ none. sound.latest n h v (subst (λ (l : List (List ℕ)). EndsWith l v) (unchanged n none) e) ∙ sym (leaves ∙ ap (λ w. unwrap_or w (rows t n)) none)
-          | Some value ↦ λ some. ap value_in (last_one e.0 (at k.written.all n) v (committed_version tid_is value) (sym e.1 ∙ changed n value some)) ∙ value_in_version tid_is value within.bits
+          | None ↦ λ none. sound.latest n h v (subst (λ (l : List (List ℕ)). EndsWith l v) (unchanged n none) e)
+              ∙ sym (leaves ∙ ap (λ w. unwrap_or w (rows t n)) none)
+          | Some value ↦ λ some. ap value_in (last_one e.0 (at k.written.all n) v (committed_version tid_is value) (sym e.1 ∙ changed n value some))
+              ∙ value_in_version tid_is value within.bits
               ∙ sym (leaves ∙ ap (λ w. unwrap_or w (rows t n)) some)
         ] refl
 
@@ -140,21 +150,26 @@ module _ (t0 : Database) (run_cells : List TableId) (k : BookView) (t : Database
     last_free n h v e =
         elim (value_for work.writes n) as (λ w. value_for work.writes n ≡ w → IsFree (slice_index v 0)) [
           | None ↦ λ none. ready.free n h v (subst (λ (l : List (List ℕ)). EndsWith l v) (unchanged n none) e)
-          | Some value ↦ λ some. subst (λ (u : List ℕ). IsFree (slice_index u 0)) (sym (last_one e.0 (at k.written.all n) v (committed_version tid_is value) (sym e.1 ∙ changed n value some))) (free_version tid_is value within.bits)
+          | Some value ↦ λ some. subst (λ (u : List ℕ). IsFree (slice_index u 0))
+              (sym (last_one e.0 (at k.written.all n) v (committed_version tid_is value) (sym e.1 ∙ changed n value some)))
+              (free_version tid_is value within.bits)
         ] refl
 
     written_tid : (n : ℕ) (value : Option (List ℕ)) → value_for work.writes n ≡ Some value → last_tid (at new.all n) ≡ tid_is
-    written_tid n value some = ap last_tid (changed n value some) ∙ last_tid-push (at k.written.all n) (committed_version tid_is value) ∙ tid_version tid_is value within.bits
+    written_tid n value some = ap last_tid (changed n value some) ∙ last_tid-push (at k.written.all n) (committed_version tid_is value)
+        ∙ tid_version tid_is value within.bits
 
     -- what holds of a record's last TID before, or of the commit's, holds of its last TID after
-    by_record : (P : ℕ → Type 0) (n : ℕ) → (value_for work.writes n ≡ None → P (last_tid (at k.written.all n))) → ((value : Option (List ℕ)) → value_for work.writes n ≡ Some value → P tid_is) → P (last_tid (at new.all n))
+    by_record : (P : ℕ → Type 0) (n : ℕ) → (value_for work.writes n ≡ None → P (last_tid (at k.written.all n)))
+        → ((value : Option (List ℕ)) → value_for work.writes n ≡ Some value → P tid_is) → P (last_tid (at new.all n))
     by_record P n was is = elim (value_for work.writes n) as (λ w. value_for work.writes n ≡ w → P (last_tid (at new.all n))) [
       | None ↦ λ none. subst P (sym (ap last_tid (unchanged n none))) (was none)
       | Some value ↦ λ some. subst P (sym (written_tid n value some)) (is value some)
     ] refl
 
     grows : (n : ℕ) → last_tid (at k.written.all n) ≤ last_tid (at new.all n)
-    grows n = by_record (λ m. last_tid (at k.written.all n) ≤ m) n (λ _. same (last_tid (at k.written.all n))) (λ value some. less (last_tid (at k.written.all n)) (above n value some))
+    grows n = by_record (λ m. last_tid (at k.written.all n) ≤ m) n (λ _. same (last_tid (at k.written.all n)))
+        (λ value some. less (last_tid (at k.written.all n)) (above n value some))
       where
         same : (m : ℕ) → m ≤ m
         same m = omega arith
@@ -164,10 +179,11 @@ module _ (t0 : Database) (run_cells : List TableId) (k : BookView) (t : Database
 
     -- of what is some, a value
     value_of_some : (n : ℕ) → IsSome (value_for work.writes n) → (value : Option (List ℕ)) × (value_for work.writes n ≡ Some value)
-    value_of_some n some = elim (value_for work.writes n) as (λ w. value_for work.writes n ≡ w → (value : Option (List ℕ)) × (value_for work.writes n ≡ Some value)) [
-      | None ↦ λ none. absurd (true≢false (sym some ∙ ap is_some none))
-      | Some value ↦ λ is. (value, is)
-    ] refl
+    value_of_some n some = elim (value_for work.writes n) as
+        (λ w. value_for work.writes n ≡ w → (value : Option (List ℕ)) × (value_for work.writes n ≡ Some value)) [
+          | None ↦ λ none. absurd (true≢false (sym some ∙ ap is_some none))
+          | Some value ↦ λ is. (value, is)
+        ] refl
 
     above_records : (n : ℕ) → IsSome (value_for work.writes n) → last_tid (at k.written.all n) < tid_is
     above_records n some = let v = value_of_some n some in above n v.0 v.1
@@ -182,7 +198,8 @@ module _ (t0 : Database) (run_cells : List TableId) (k : BookView) (t : Database
     next_sound = record {
       legal = legal;
       stamped = all_stamped EPOCH k kept entry refl from_epoch above_last above_records written_records grows within.bits sound.stamped ready.passed;
-      well_formed = after-IsWellFormed t work.input (MAX_COMMITS - (length k.history + 1)) input_of commits_there.numbered sound.well_formed sound.consistent roomy;
+      well_formed = after-IsWellFormed t work.input (MAX_COMMITS - (length k.history + 1)) input_of commits_there.numbered sound.well_formed sound.consistent
+          roomy;
       consistent = after-IsConsistent t work.input input_of sound.well_formed sound.consistent;
       versions = λ n h. stores n ∙ ap (λ (l : List (List ℕ)). l ++ new_versions tid_is work.writes.values n) (sound.versions n h)
           ∙ ap (λ l. first_version (rows t0 n) ∷ l) (sym (later_push k.history entry n));
@@ -192,7 +209,8 @@ module _ (t0 : Database) (run_cells : List TableId) (k : BookView) (t : Database
     terminals_within : (one : ℕ) → IsWithin EPOCH (length k.history + 1) (last_of one (k.history ++ entry ∷ []))
     terminals_within one = ⊎_elim
         (λ (same : terminal ≡ one). subst (IsWithin EPOCH (length k.history + 1)) (sym (last_here k.history entry one same)) within)
-        (λ (other : terminal ≢ one). subst (IsWithin EPOCH (length k.history + 1)) (sym (last_there k.history entry one other)) (within_more EPOCH (length k.history) _ (ready.terminals one)))
+        (λ (other : terminal ≢ one). subst (IsWithin EPOCH (length k.history + 1)) (sym (last_there k.history entry one other))
+        (within_more EPOCH (length k.history) _ (ready.terminals one)))
         (cases_eq terminal one)
 
     pub next_ready : IsReady t0 run_cells kept (after t work.input)
@@ -207,5 +225,6 @@ module _ (t0 : Database) (run_cells : List TableId) (k : BookView) (t : Database
       free = last_free;
       cap = subst (λ n. n ≤ t0.scale.commits) (sym longer) (omega (arith, below_cap));
       few = ready.few;
-      room = subst (λ n. HasRoom (MAX_COMMITS - n) (after t work.input)) (sym longer) (after-HasRoom t work.input (MAX_COMMITS - (length k.history + 1)) input_of sound.well_formed roomy);
+      room = subst (λ n. HasRoom (MAX_COMMITS - n) (after t work.input)) (sym longer)
+          (after-HasRoom t work.input (MAX_COMMITS - (length k.history + 1)) input_of sound.well_formed roomy);
     }

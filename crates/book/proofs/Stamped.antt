@@ -1,5 +1,6 @@
 -- The TIDs of a history with one entry more.
-use Rattle.std.proofs.Common.{◌≡◌, ◌≢◌, ℕ, ◌+◌, ◌/◌, ◌%◌, ◌^◌, ◌<◌, ◌≤◌, ⊎_elim, cond, Some, IsSome, List, [], ◌∷◌, ◌++◌, length, ◌==◌, refl, sym, ap, ◌∙◌, subst, arith}
+use Rattle.std.proofs.Common.{◌≡◌, ◌≢◌, ℕ, ◌+◌, ◌/◌, ◌%◌, ◌^◌, ◌<◌, ◌≤◌, ⊎_elim, cond, Some, IsSome, List, [], ◌∷◌, ◌++◌, length, ◌==◌, refl, sym, ap, ◌∙◌}
+use Rattle.std.proofs.Common.{subst, arith}
 use Rattle.std.specs.List.{All}
 use Rattle.std.specs.Prelude.{max, slice_index, slice_set}
 use Rattle.std.proofs.lemmas.Bool.{cases_eq}
@@ -20,26 +21,34 @@ use Rattle.book.specs.Ready.{IsWithin, IsPassed, AreLast}
 use Rattle.book.specs.declared.entry.Entry.{Entry}
 
 -- one entry more is its terminal's last, and changes no other's
-last_push : (last terminal : ℕ) (es : List Entry) (e : Entry) → last_from last terminal (es ++ e ∷ []) ≡ cond (e.terminal == terminal) e.tid (last_from last terminal es)
+last_push : (last terminal : ℕ) (es : List Entry) (e : Entry) → last_from last terminal (es ++ e ∷ []) ≡ cond (e.terminal == terminal) e.tid
+    (last_from last terminal es)
 last_push last terminal [] e = refl
 last_push last terminal (f ∷ es) e = last_push (cond (f.terminal == terminal) f.tid last) terminal es e
 
 pub last_here : (es : List Entry) (e : Entry) (terminal : ℕ) → e.terminal ≡ terminal → last_of terminal (es ++ e ∷ []) ≡ e.tid
-last_here es e terminal same = last_push 0 terminal es e ∙ ap (λ b. cond b e.tid (last_of terminal es)) (⊎_elim (λ yes. yes.0) (λ no. absurd (no.1 same)) (eqb_tells e.terminal terminal))
+last_here es e terminal same = last_push 0 terminal es e
+    ∙ ap (λ b. cond b e.tid (last_of terminal es)) (⊎_elim (λ yes. yes.0) (λ no. absurd (no.1 same)) (eqb_tells e.terminal terminal))
 
 pub last_there : (es : List Entry) (e : Entry) (terminal : ℕ) → e.terminal ≢ terminal → last_of terminal (es ++ e ∷ []) ≡ last_of terminal es
-last_there es e terminal other = last_push 0 terminal es e ∙ ap (λ b. cond b e.tid (last_of terminal es)) (⊎_elim (λ yes. absurd (other yes.1)) (λ no. no.0) (eqb_tells e.terminal terminal))
+last_there es e terminal other = last_push 0 terminal es e
+    ∙ ap (λ b. cond b e.tid (last_of terminal es)) (⊎_elim (λ yes. absurd (other yes.1)) (λ no. no.0) (eqb_tells e.terminal terminal))
 
 -- an entry without status bits that follows all others
 pub stamped_push : (es : List Entry) (e : Entry) → e.tid % 8 ≡ 0 → AreStamped es → All (λ d. Follows d e) es → AreStamped (es ++ e ∷ [])
 stamped_push [] e bits stamped follows = (bits, All-nil (Follows e), tt)
-stamped_push (d ∷ es) e bits stamped follows =
-    (stamped.0, All-push (Follows d) es e stamped.1 (All-head (λ d. Follows d e) d es follows), stamped_push es e bits stamped.2 (All-tail (λ d. Follows d e) d es follows))
+stamped_push (d ∷ es) e bits stamped follows = (
+  stamped.0,
+  All-push (Follows d) es e stamped.1 (All-head (λ d. Follows d e) d es follows),
+  stamped_push es e bits stamped.2
+      (All-tail (λ d. Follows d e) d es follows),
+)
 
 -- no TID read is larger than the greatest
 below : (reads : ReadSetView) (bound : ℕ) → greatest_tid reads ≤ bound → All (λ (e : ℕ × Version). tid_of e.1.word ≤ bound) reads
 below [] bound small = All-nil (λ (e : ℕ × Version). tid_of e.1.word ≤ bound)
-below (e ∷ es) bound small = All-cons (λ (e : ℕ × Version). tid_of e.1.word ≤ bound) e es (head (tid_of e.1.word) (greatest_tid es) small) (below es bound (tail (tid_of e.1.word) (greatest_tid es) small))
+below (e ∷ es) bound small = All-cons (λ (e : ℕ × Version). tid_of e.1.word ≤ bound) e es (head (tid_of e.1.word) (greatest_tid es) small)
+    (below es bound (tail (tid_of e.1.word) (greatest_tid es) small))
   where
     head : (a b : ℕ) → max a b ≤ bound → a ≤ bound
     head a b h = omega (arith, h)
@@ -60,7 +69,8 @@ within_more epoch count tid w = record { bits = w.bits; in_epoch = w.in_epoch; s
 whole : (n : ℕ) → n % 8 ≡ 0 → tid_of n ≡ n
 whole n even = omega (arith, even)
 
-pub next_within : (epoch count seen last tid : ℕ) → IsWithin epoch count seen → IsWithin epoch count last → IsLawful seen last epoch tid → next seen last epoch ≡ Some tid → IsWithin epoch (count + 1) tid
+pub next_within : (epoch count seen last tid : ℕ) → IsWithin epoch count seen → IsWithin epoch count last → IsLawful seen last epoch tid
+    → next seen last epoch ≡ Some tid → IsWithin epoch (count + 1) tid
 next_within epoch count seen last tid s l lawful is = record {
   bits = lawful.bits;
   in_epoch = same (tid / 2 ^ 32) lawful.in_epoch;
@@ -84,10 +94,12 @@ module _ (epoch : ℕ) (old new : BookView) (e : Entry) (history : new.history �
         (λ (other : e.terminal ≢ terminal). there (last_there old.history e terminal other))
         (cases_eq e.terminal terminal))
       where
-        here : e.terminal ≡ terminal → last_of terminal (old.history ++ e ∷ []) ≡ e.tid → last_of terminal old.history ≤ last_of terminal (old.history ++ e ∷ [])
+        here : e.terminal ≡ terminal → last_of terminal (old.history ++ e ∷ []) ≡ e.tid
+            → last_of terminal old.history ≤ last_of terminal (old.history ++ e ∷ [])
         here same is = let small : last_of terminal old.history < e.tid = subst (λ t. last_of t old.history < e.tid) same above_last in omega (arith, is, small)
 
-        there : last_of terminal (old.history ++ e ∷ []) ≡ last_of terminal old.history → last_of terminal old.history ≤ last_of terminal (old.history ++ e ∷ [])
+        there : last_of terminal (old.history ++ e ∷ []) ≡ last_of terminal old.history
+            → last_of terminal old.history ≤ last_of terminal (old.history ++ e ∷ [])
         there is = omega (arith, is)
 
     at_most : (a b c : ℕ) → a ≤ b → b ≤ c → a ≤ c
@@ -129,11 +141,14 @@ module _ (epoch : ℕ) (old new : BookView) (e : Entry) (history : new.history �
         (stamped_push old.history e bits stamped (All-weaker (IsPassed epoch old) (λ d. Follows d e) follows old.history passed))
 
 -- the last TIDs of terminals, with the one that a commit took
-pub lasts_next : (terminals : ℕ) (old : List Entry) (lasts : List ℕ) (e : Entry) → AreLast terminals old lasts → e.terminal < length lasts → AreLast terminals (old ++ e ∷ []) (slice_set lasts e.terminal e.tid)
+pub lasts_next : (terminals : ℕ) (old : List Entry) (lasts : List ℕ) (e : Entry) → AreLast terminals old lasts → e.terminal < length lasts
+    → AreLast terminals (old ++ e ∷ []) (slice_set lasts e.terminal e.tid)
 lasts_next terminals old lasts e are small = record {
   count = length-set lasts e.terminal e.tid ∙ are.count;
   last = λ terminal h. ⊎_elim
-      (λ (same : e.terminal ≡ terminal). subst (λ t. slice_index (slice_set lasts e.terminal e.tid) t ≡ e.tid) same (get_or-set_same lasts e.terminal e.tid _ small) ∙ sym (last_here old e terminal same))
-      (λ (other : e.terminal ≢ terminal). get_or-set_other lasts e.terminal terminal e.tid _ (λ is. other (sym is)) ∙ are.last terminal (subst (λ n. terminal < n) (length-set lasts e.terminal e.tid) h) ∙ sym (last_there old e terminal other))
+      (λ (same : e.terminal ≡ terminal). subst (λ t. slice_index (slice_set lasts e.terminal e.tid) t ≡ e.tid) same
+      (get_or-set_same lasts e.terminal e.tid _ small) ∙ sym (last_here old e terminal same))
+      (λ (other : e.terminal ≢ terminal). get_or-set_other lasts e.terminal terminal e.tid _ (λ is. other (sym is))
+      ∙ are.last terminal (subst (λ n. terminal < n) (length-set lasts e.terminal e.tid) h) ∙ sym (last_there old e terminal other))
       (cases_eq e.terminal terminal);
 }

@@ -38,7 +38,8 @@ first_absent : (m : ℕ) (value : Option (List ℕ)) (next : Values) → IsStric
 unfolding IsStrictlySortedBy
 first_absent m value next h = absent m next h.0
 
-rest_sorted : (m : ℕ) (value : Option (List ℕ)) (next : Values) → IsStrictlySortedBy nat_cmp (keys_of ((m, value) ∷ next)) → IsStrictlySortedBy nat_cmp (keys_of next)
+rest_sorted : (m : ℕ) (value : Option (List ℕ)) (next : Values) → IsStrictlySortedBy nat_cmp (keys_of ((m, value) ∷ next))
+    → IsStrictlySortedBy nat_cmp (keys_of next)
 unfolding IsStrictlySortedBy
 rest_sorted m value next h = h.1
 
@@ -69,11 +70,13 @@ begins tid pen0 r0 writes rest e found sorted = record {
   found = subst (All (λ e. value_for writes e.0 ≡ Some e.1)) (sym e) found;
   sorted = subst (λ (q : Values). IsStrictlySortedBy nat_cmp (keys_of q)) (sym e) sorted;
   waiting = λ n h. refl;
-  done = λ n h. sym (ap (λ (w : Option (Option (List ℕ))). at pen0.all n ++ option_map_or (λ value. committed_version tid value ∷ []) w []) (ap (find n) (sym e) ∙ h) ∙ append-nil (at pen0.all n));
+  done = λ n h. sym (ap (λ (w : Option (Option (List ℕ))). at pen0.all n ++ option_map_or (λ value. committed_version tid value ∷ []) w [])
+      (ap (find n) (sym e) ∙ h) ∙ append-nil (at pen0.all n));
   seen = λ n h s. absurd (never_none (find n rest) h (subst (λ (q : Values). IsSome (find n q)) (sym e) s));
 }
 
-module _ (cells : ℕ) (tid : ℕ) (pen0 : PenView) (r0 : ReaderView) (reads : ReadSetView) (writes : WriteSetView) (by : IsReadBy cells r0 reads) (are_read : WritesAreRead writes reads)
+module _ (cells : ℕ) (tid : ℕ) (pen0 : PenView) (r0 : ReaderView) (reads : ReadSetView) (writes : WriteSetView) (by : IsReadBy cells r0 reads)
+    (are_read : WritesAreRead writes reads)
     (above : (n : ℕ) (value : Option (List ℕ)) → value_for writes n ≡ Some value → last_tid (at pen0.all n) < tid)
     (pen : PenView) (r : ReaderView) (rest : Values) (c : AreStored tid pen0 r0 writes pen r rest)
     (m : ℕ) (value : Option (List ℕ)) (next : Values) (steps : rest ≡ (m, value) ∷ next) where
@@ -110,12 +113,15 @@ module _ (cells : ℕ) (tid : ℕ) (pen0 : PenView) (r0 : ReaderView) (reads : R
     pub has : Has (at r.seen v.record) (words_of v)
     has = subst (λ q. Has (at r.seen q) (words_of v)) (sym record_is) (has_more (at r.seen m) (at r0.seen m) (words_of v) (c.grown.grows m) (by.seen m v v_is))
 
-    module _ (version : List ℕ) (version_is : version ≡ committed_version tid value) (pen' pen'' : PenView) (r' : ReaderView) (wrote : StoresVersion pen pen' m version) (same : pen'' ≡ pen') (learns : LearnsRecord pen' r r' v.record) where
+    module _ (version : List ℕ) (version_is : version ≡ committed_version tid value) (pen' pen'' : PenView) (r' : ReaderView)
+        (wrote : StoresVersion pen pen' m version) (same : pen'' ≡ pen') (learns : LearnsRecord pen' r r' v.record) where
       other : (n : ℕ) → n ≢ m → at pen''.all n ≡ at pen.all n
-      other n e = ap (λ (w : PenView). at w.all n) same ∙ ap (λ (l : List (List (List ℕ))). at l n) wrote.others ∙ get_or-set_other pen.all m n (at pen'.all m) [] e
+      other n e = ap (λ (w : PenView). at w.all n) same ∙ ap (λ (l : List (List (List ℕ))). at l n) wrote.others
+          ∙ get_or-set_other pen.all m n (at pen'.all m) [] e
 
       other_seen : (n : ℕ) → n ≢ m → at r'.seen n ≡ at r.seen n
-      other_seen n e = ap (λ (l : List (List (List ℕ))). at l n) learns.others ∙ get_or-set_other r.seen v.record n (at r'.seen v.record) [] (λ q. e (q ∙ record_is))
+      other_seen n e = ap (λ (l : List (List (List ℕ))). at l n) learns.others
+          ∙ get_or-set_other r.seen v.record n (at r'.seen v.record) [] (λ q. e (q ∙ record_is))
 
       here_now : at pen''.all m ≡ at pen0.all m ++ committed_version tid value ∷ []
       here_now = ap (λ (w : PenView). at w.all m) same ∙ wrote.last ∙ (λ i. fresh i ++ version_is i ∷ [])
@@ -134,7 +140,8 @@ module _ (cells : ℕ) (tid : ℕ) (pen0 : PenView) (r0 : ReaderView) (reads : R
             (λ (e : n ≢ m). other n e ∙ c.waiting n (subst IsSome (later n e) h))
             (cases_eq n m);
         done = λ n h. ⊎_elim
-            (λ (e : n ≡ m). subst (λ q. at pen''.all q ≡ at pen0.all q ++ new_versions tid writes.values q) (sym e) (here_now ∙ sym (ap (λ (w : Option (Option (List ℕ))). at pen0.all m ++ option_map_or (λ x. committed_version tid x ∷ []) w []) here)))
+            (λ (e : n ≡ m). subst (λ q. at pen''.all q ≡ at pen0.all q ++ new_versions tid writes.values q) (sym e)
+            (here_now ∙ sym (ap (λ (w : Option (Option (List ℕ))). at pen0.all m ++ option_map_or (λ x. committed_version tid x ∷ []) w []) here)))
             (λ (e : n ≢ m). other n e ∙ c.done n (sym (later n e) ∙ h))
             (cases_eq n m);
         seen = λ n h s. ⊎_elim
@@ -143,9 +150,11 @@ module _ (cells : ℕ) (tid : ℕ) (pen0 : PenView) (r0 : ReaderView) (reads : R
             (cases_eq n m);
       }
 
-pub all_done : (tid : ℕ) (pen0 : PenView) (r0 : ReaderView) (writes : WriteSetView) (pen : PenView) (r : ReaderView) (rest : Values) → AreStored tid pen0 r0 writes pen r rest → rest ≡ []
+pub all_done : (tid : ℕ) (pen0 : PenView) (r0 : ReaderView) (writes : WriteSetView) (pen : PenView) (r : ReaderView) (rest : Values)
+    → AreStored tid pen0 r0 writes pen r rest → rest ≡ []
     → (n : ℕ) → at pen.all n ≡ at pen0.all n ++ new_versions tid writes.values n
 all_done tid pen0 r0 writes pen r rest c none n = c.done n (ap (find n) none)
 
-pub all_seen : (tid : ℕ) (pen0 : PenView) (r0 : ReaderView) (writes : WriteSetView) (pen : PenView) (r : ReaderView) (rest : Values) → AreStored tid pen0 r0 writes pen r rest → rest ≡ [] → HasSeen r pen writes
+pub all_seen : (tid : ℕ) (pen0 : PenView) (r0 : ReaderView) (writes : WriteSetView) (pen : PenView) (r : ReaderView) (rest : Values)
+    → AreStored tid pen0 r0 writes pen r rest → rest ≡ [] → HasSeen r pen writes
 all_seen tid pen0 r0 writes pen r rest c none n value e = c.seen n (ap (find n) none) (ap is_some e)

@@ -1,5 +1,6 @@
 -- The TID that a commit takes.
-use Rattle.std.proofs.Common.{◌≡◌, ℕ, ◌+◌, ◌%◌, ◌<◌, ◌≤◌, Option, Some, None, IsSome, is_some, true≢false, List, [], ◌∷◌, ◌++◌, length, refl, sym, ap, ◌∙◌, subst, arith}
+use Rattle.std.proofs.Common.{◌≡◌, ℕ, ◌+◌, ◌%◌, ◌<◌, ◌≤◌, Option, Some, None, IsSome, is_some, true≢false, List, [], ◌∷◌, ◌++◌, length, refl, sym, ap, ◌∙◌}
+use Rattle.std.proofs.Common.{subst, arith}
 use Rattle.std.proofs.lemmas.List.Elements.{All-contains}
 use Rattle.std.proofs.lemmas.Map.Views.{Contains-from_lookup}
 use Rattle.std.specs.Ordering.{nat_cmp, is_eq}
@@ -29,7 +30,8 @@ use Rattle.book.proofs.Sound.{read_within, next_sound, next_ready}
 pub whole : (n : ℕ) → n % 8 ≡ 0 → tid_of n ≡ n
 whole n even = omega (arith, even)
 
-module _ (t0 : Database) (run_cells : List TableId) (k : BookView) (t : Database) (sound : IsSound t0 k t) (ready : IsReady t0 run_cells k t) (reader : ReaderView) (work : Work) (is_work : IsWorkOf t0 (length run_cells) reader work) (latest : AreLatest k.written.all work.reads)
+module _ (t0 : Database) (run_cells : List TableId) (k : BookView) (t : Database) (sound : IsSound t0 k t) (ready : IsReady t0 run_cells k t)
+    (reader : ReaderView) (work : Work) (is_work : IsWorkOf t0 (length run_cells) reader work) (latest : AreLatest k.written.all work.reads)
     (terminal seen last : ℕ) (is_read : IsRead work.reads seen) (greatest : seen ≡ greatest_tid work.reads) (last_is : last ≡ last_of terminal k.history) where
   seen_within : IsWithin EPOCH (length k.history) seen
   seen_within = read_within t0 run_cells k t sound ready reader work is_work latest seen is_read
@@ -43,7 +45,8 @@ module _ (t0 : Database) (run_cells : List TableId) (k : BookView) (t : Database
 
   -- there is one, as the commit cap isn't passed
   pub there_is : length k.history < t0.scale.commits → next (tid_of seen) (tid_of last) EPOCH ≡ None → ⊥
-  there_is below none = next-exists (length k.history) seen last EPOCH ((λ i. next (sym (whole seen seen_within.bits) i) (sym (whole last last_within.bits) i) EPOCH) ∙ none)
+  there_is below none = next-exists (length k.history) seen last EPOCH
+      ((λ i. next (sym (whole seen seen_within.bits) i) (sym (whole last last_within.bits) i) EPOCH) ∙ none)
       seen_within.in_epoch last_within.in_epoch seen_within.sequence last_within.sequence (few (length k.history) t0.scale.commits below ready.few)
     where
       few : (n cap : ℕ) → n < cap → cap ≤ MAX_COMMITS → n < 536870911
@@ -51,7 +54,8 @@ module _ (t0 : Database) (run_cells : List TableId) (k : BookView) (t : Database
 
   module _ (tid : ℕ) (lawful : IsLawful seen last EPOCH tid) (is : next (tid_of seen) (tid_of last) EPOCH ≡ Some tid) where
     taken_within : IsWithin EPOCH (length k.history + 1) tid
-    taken_within = next_within EPOCH (length k.history) seen last tid seen_within last_within lawful ((λ i. next (sym (whole seen seen_within.bits) i) (sym (whole last last_within.bits) i) EPOCH) ∙ is)
+    taken_within = next_within EPOCH (length k.history) seen last tid seen_within last_within lawful
+        ((λ i. next (sym (whole seen seen_within.bits) i) (sym (whole last last_within.bits) i) EPOCH) ∙ is)
 
     taken_above_last : last_of terminal k.history < tid
     taken_above_last = subst (λ n. n < tid) (whole last last_within.bits ∙ last_is) lawful.above_last
@@ -62,7 +66,8 @@ module _ (t0 : Database) (run_cells : List TableId) (k : BookView) (t : Database
     -- it is larger than the last TID of each record read
     above_read : (n : ℕ) (v : Version) → held work.reads n ≡ Some v → last_tid (at k.written.all n) < tid
     above_read n v e = smaller (last_tid (at k.written.all n)) (tid_of v.word) (last_tid-last (at k.written.all n) (words_of v) (latest n v e))
-        (All-contains (λ (e : ℕ × Version). tid_of e.1.word ≤ greatest_tid work.reads) work.reads (n, v) (all_below work.reads) (Contains-from_lookup {eq = λ x y. is_eq (nat_cmp x y)} same_number n v work.reads e))
+        (All-contains (λ (e : ℕ × Version). tid_of e.1.word ≤ greatest_tid work.reads) work.reads (n, v) (all_below work.reads)
+        (Contains-from_lookup {eq = λ x y. is_eq (nat_cmp x y)} same_number n v work.reads e))
       where
         smaller : (a b : ℕ) → a ≡ b → b ≤ greatest_tid work.reads → a < tid
         smaller a b p q = omega (arith, p, q, above_seen)
@@ -80,6 +85,8 @@ module _ (t0 : Database) (run_cells : List TableId) (k : BookView) (t : Database
         → IsSound t0 (record { written = new; history = k.history ++ entry_of (length k.history + 1) tid terminal work ∷ [] }) (after t work.input)
         × IsReady t0 run_cells (record { written = new; history = k.history ++ entry_of (length k.history + 1) tid terminal work ∷ [] }) (after t work.input)
     next_kept new below cells stores = (
-      next_sound t0 run_cells k t sound ready reader work is_work latest terminal tid new below cells taken_within lawful.in_epoch taken_above_last taken_above stores,
-      next_ready t0 run_cells k t sound ready reader work is_work latest terminal tid new below cells taken_within lawful.in_epoch taken_above_last taken_above stores,
+      next_sound t0 run_cells k t sound ready reader work is_work latest terminal tid new below cells taken_within lawful.in_epoch taken_above_last taken_above
+          stores,
+      next_ready t0 run_cells k t sound ready reader work is_work latest terminal tid new below cells taken_within lawful.in_epoch taken_above_last taken_above
+          stores,
     )

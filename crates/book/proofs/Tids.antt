@@ -19,11 +19,13 @@ tid_written : (v : Version) (tid : ℕ) (write : Option (Option (List ℕ))) →
 tid_written v tid (Some value) some = refl
 tid_written v tid None some = absurd (true≢false (sym some))
 
-tid_replaced : (v : Version) (tid : ℕ) (write : Option (Option (List ℕ))) → ((value : Option (List ℕ)) → write ≡ Some value → v.tid < tid) → IsSome write → v.tid < tid
+tid_replaced : (v : Version) (tid : ℕ) (write : Option (Option (List ℕ))) → ((value : Option (List ℕ)) → write ≡ Some value → v.tid < tid) → IsSome write
+    → v.tid < tid
 tid_replaced v tid (Some value) larger some = larger value refl
 tid_replaced v tid None larger some = absurd (true≢false (sym some))
 
-tid_grows : (v : Version) (tid : ℕ) (write : Option (Option (List ℕ))) → ((value : Option (List ℕ)) → write ≡ Some value → v.tid < tid) → v.tid ≤ (overwritten v tid write).tid
+tid_grows : (v : Version) (tid : ℕ) (write : Option (Option (List ℕ))) → ((value : Option (List ℕ)) → write ≡ Some value → v.tid < tid)
+    → v.tid ≤ (overwritten v tid write).tid
 tid_grows v tid (Some value) larger = less v.tid tid (larger value refl)
   where
     less : (n m : ℕ) → n < m → n ≤ m
@@ -33,7 +35,8 @@ tid_grows v tid None larger = same v.tid
     same : (n : ℕ) → n ≤ n
     same n = omega arith
 
--- an entry that comes after these transactions: of no earlier epoch, and of a larger TID than the versions of what it writes and than its terminal's transactions
+-- an entry that comes after these transactions: of no earlier epoch, and of a larger TID than the versions of what it writes and than its terminal's
+-- transactions
 module _ (t0 : Database) (first : ℕ → Version) (last : Entry) where
   record IsBehind (transactions : List Transaction) : Type 0 where
     stamped : HaveLawfulTids first transactions
@@ -49,21 +52,25 @@ module _ (t0 : Database) (first : ℕ → Version) (last : Entry) where
   behind_earlier t earlier b = record {
     stamped = b.stamped.1;
     epochs = never_later earlier t.epoch (last.tid / 2 ^ 32) b.epochs.0 b.epochs.1;
-    larger = λ n writes. less (now first earlier n).tid (now first (t ∷ earlier) n).tid (tid_grows (now first earlier n) t.tid (note_at t.writes n) (b.stamped.0.above_replaced n)) (b.larger n writes);
+    larger = λ n writes. less (now first earlier n).tid (now first (t ∷ earlier) n).tid
+        (tid_grows (now first earlier n) t.tid (note_at t.writes n) (b.stamped.0.above_replaced n)) (b.larger n writes);
     rising = All-tail (λ u. u.worker ≡ last.terminal → u.tid < last.tid) t earlier b.rising;
   }
     where
       less : (n m : ℕ) → n ≤ m → m < last.tid → n < last.tid
       less n m p q = omega (arith, p, q)
 
-  follows_one : (works : List Work) (work : Work) (t : Transaction) (earlier : List Transaction) → IsTransactionOf t0 work t → IsBehind (t ∷ earlier) → stamps.Follows (entry_after works work t) last
+  follows_one : (works : List Work) (work : Work) (t : Transaction) (earlier : List Transaction) → IsTransactionOf t0 work t → IsBehind (t ∷ earlier)
+      → stamps.Follows (entry_after works work t) last
   follows_one works work t earlier is b = record {
     epochs = subst (λ n. n ≤ last.tid / 2 ^ 32) (sym b.stamped.0.in_epoch) b.epochs.0;
-    records = λ n wrote writes. subst (λ m. m < last.tid) (tid_written (now first earlier n) t.tid (note_at t.writes n) (subst IsSome (sym (is.writes n)) wrote)) (b.larger n writes);
+    records = λ n wrote writes. subst (λ m. m < last.tid)
+        (tid_written (now first earlier n) t.tid (note_at t.writes n) (subst IsSome (sym (is.writes n)) wrote)) (b.larger n writes);
     terminals = All-head (λ u. u.worker ≡ last.terminal → u.tid < last.tid) t earlier b.rising;
   }
 
-  follows : (works : List Work) (transactions : List Transaction) → AreTransactionsOf t0 works transactions → IsBehind transactions → All (λ e. stamps.Follows e last) (history_of works transactions)
+  follows : (works : List Work) (transactions : List Transaction) → AreTransactionsOf t0 works transactions → IsBehind transactions
+      → All (λ e. stamps.Follows e last) (history_of works transactions)
   follows [] [] are b = All-nil (λ e. stamps.Follows e last)
   follows (work ∷ works) (t ∷ earlier) are b =
       All-push (λ e. stamps.Follows e last) (history_of works earlier) (entry_after works work t)
@@ -71,7 +78,8 @@ module _ (t0 : Database) (first : ℕ → Version) (last : Entry) where
   follows [] (t ∷ earlier) are b = elim are [ ]
   follows (work ∷ works) [] are b = elim are [ ]
 
-behind : (t0 : Database) (first : ℕ → Version) (works : List Work) (work : Work) (t : Transaction) (earlier : List Transaction) → IsTransactionOf t0 work t → HaveLawfulTids first (t ∷ earlier) → NeverFall t.epoch earlier
+behind : (t0 : Database) (first : ℕ → Version) (works : List Work) (work : Work) (t : Transaction) (earlier : List Transaction) → IsTransactionOf t0 work t
+    → HaveLawfulTids first (t ∷ earlier) → NeverFall t.epoch earlier
     → IsBehind t0 first (entry_after works work t) earlier
 behind t0 first works work t earlier is stamped fall = record {
   stamped = stamped.1;
@@ -80,7 +88,8 @@ behind t0 first works work t earlier is stamped fall = record {
   rising = stamped.0.above_own;
 }
 
-pub all_stamped : (t0 : Database) (first : ℕ → Version) (epoch : ℕ) (works : List Work) (transactions : List Transaction) → AreTransactionsOf t0 works transactions → HaveLawfulTids first transactions → NeverFall epoch transactions
+pub all_stamped : (t0 : Database) (first : ℕ → Version) (epoch : ℕ) (works : List Work) (transactions : List Transaction)
+    → AreTransactionsOf t0 works transactions → HaveLawfulTids first transactions → NeverFall epoch transactions
     → stamps.AreStamped (history_of works transactions)
 all_stamped t0 first epoch [] [] are stamped fall = tt
 all_stamped t0 first epoch (work ∷ works) (t ∷ earlier) are stamped fall =

@@ -22,7 +22,8 @@ use Rattle.book.specs.History.{IsLegal, entry_versions, all_versions}
 use Rattle.book.specs.Stamps.{AreStamped}
 use Rattle.book.specs.declared.entry.Entry.{Entry}
 
--- what contracts see of the book: all versions of the records, and the history. The committed tables are the history's replay
+-- what contracts see of the book: all versions of the records, and the history. The committed tables are the history's
+-- replay
 pub record BookView : Type 0 where
   pub written : PenView
   pub history : List Entry
@@ -37,7 +38,8 @@ pub record IsSound (t0 : Database) (k : BookView) (t : Database) : Type 0 where
   pub consistent : IsConsistent t
   -- each record's versions are the values that it had along the history, and the last is what the tables have
   pub versions : (n : ℕ) → n < record_count t0.scale → at k.written.all n ≡ all_versions t0 k.history n
-  pub latest : (n : ℕ) → n < record_count t0.scale → (v : List ℕ) → EndsWith (at k.written.all n) v → value_in v ≡ rows t n
+  pub latest : (n : ℕ) → n < record_count t0.scale → (v : List ℕ) → EndsWith (at k.written.all n) v
+      → value_in v ≡ rows t n
 
 -- each version is of its record, which has a cell, and is one that the reader has seen
 pub record IsReadBy (cells : ℕ) (reader : ReaderView) (reads : ReadSetView) : Type 0 where
@@ -73,14 +75,26 @@ HasConflict all reads = (n : ℕ) × (v : Version) × (held reads n ≡ Some v) 
 
 -- a reader has seen all versions of the records of these writes
 abbrev pub HasSeen : ReaderView → PenView → WriteSetView → Type 0
-HasSeen reader pen writes = (n : ℕ) (value : Option (List ℕ)) → value_for writes n ≡ Some value → at reader.seen n ≡ at pen.all n
+HasSeen reader pen writes = (n : ℕ) (value : Option (List ℕ)) → value_for writes n ≡ Some value
+    → at reader.seen n ≡ at pen.all n
 
 -- the entry of a work that commits, with this number, TID and terminal
 abbrev pub entry_of : ℕ → ℕ → ℕ → Work → Entry
-entry_of number tid terminal work = record { number = number; tid = tid; terminal = terminal; input = work.input; reply = work.reply; writes = work.writes }
+entry_of number tid terminal work =
+    record {
+      number = number;
+      tid = tid;
+      terminal = terminal;
+      input = work.input;
+      reply = work.reply;
+      writes =
+          work.writes;
+    }
 
--- a work has committed as this entry: the history has it at its end, and each record that it writes has one version more
+-- a work has committed as this entry: the history has it at its end, and each record that it writes has one version
+-- more
 pub record Commits (old new : BookView) (entry : Entry) : Type 0 where
   pub history : new.history ≡ old.history ++ entry ∷ []
   pub cells : new.written.cells ≡ old.written.cells
-  pub versions : (n : ℕ) → n < length old.written.cells → at new.written.all n ≡ at old.written.all n ++ entry_versions entry n
+  pub versions : (n : ℕ) → n < length old.written.cells → at new.written.all n ≡ at old.written.all n
+      ++ entry_versions entry n

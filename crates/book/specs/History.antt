@@ -48,7 +48,8 @@ committed_version tid value = installed_word tid value ∷ unwrap_or value (repl
 
 -- the versions that these writes of a commit add to record n, and those of an entry: one or none
 abbrev pub new_versions : ℕ → List (ℕ × Option (List ℕ)) → ℕ → Versions
-new_versions tid values n = option_map_or (λ value. committed_version tid value ∷ []) (lookup (is_at (nat_cmp n)) values) []
+new_versions tid values n = option_map_or (λ value. committed_version tid value ∷ [])
+    (lookup (is_at (nat_cmp n)) values) []
 
 abbrev pub entry_versions : Entry → ℕ → Versions
 entry_versions e n = new_versions e.tid e.writes.values n

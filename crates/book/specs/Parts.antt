@@ -28,7 +28,8 @@ loggers_of p = p.loggers
 abbrev pub terminals_of : Parts → ℕ
 terminals_of p = length p.readers.items
 
--- nothing has committed: the cells have the first versions, which each reader has seen, and the ledger has a part a terminal
+-- nothing has committed: the cells have the first versions, which each reader has seen, and the ledger has a part a
+-- terminal
 pub record IsFresh (p : Parts) : Type 0 where
   pub lent : initial (arc_value p.lent) ≡ initial (arc_value p.population)
   pub newest : AreFirst (initial (arc_value p.population)) p.newest.items

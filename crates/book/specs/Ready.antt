@@ -24,7 +24,8 @@ pub record IsWithin (epoch count tid : ℕ) : Type 0 where
   pub in_epoch : tid / 2 ^ 32 ≤ epoch
   pub sequence : tid / 8 % 2 ^ 29 ≤ count
 
--- what an entry's TID is to the book: of an epoch up to this one, and no larger than the last TID of each record that the entry wrote, nor than its terminal's
+-- what an entry's TID is to the book: of an epoch up to this one, and no larger than the last TID of each record that
+-- the entry wrote, nor than its terminal's
 pub record IsPassed (epoch : ℕ) (k : BookView) (e : Entry) : Type 0 where
   pub in_epoch : e.tid / 2 ^ 32 ≤ epoch
   pub records : (n : ℕ) → IsSome (value_for e.writes n) → e.tid ≤ last_tid (at k.written.all n)

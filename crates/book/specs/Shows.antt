@@ -21,9 +21,12 @@ reads_of reads = map (λ read. (read.0, record { tid = tid_of read.1.word; value
 -- the machine's records are the newest versions of the cells, word and value
 pub record HasNewest (m : Machine) (pen : PenView) : Type 0 where
   pub count : length m.records ≡ length pen.cells
-  pub newest : (n : ℕ) → n < length pen.cells → (v : List ℕ) → EndsWith (at pen.all n) v → cell m n ≡ record { word = slice_index v 0; value = value_in v }
+  pub newest : (n : ℕ) → n < length pen.cells → (v : List ℕ) → EndsWith (at pen.all n) v
+      → cell m n ≡ record { word = slice_index v 0; value = value_in v }
 
--- a machine shows the book to a terminal that has read this, as its worker w: its records are the book's newest versions, and the worker has read the same, in whatever order, has no lock yet, and took its last TID for the terminal's last commit. All else of the machine may be anything
+-- a machine shows the book to a terminal that has read this, as its worker w: its records are the book's newest
+-- versions, and the worker has read the same, in whatever order, has no lock yet, and took its last TID for the
+-- terminal's last commit. All else of the machine may be anything
 pub record Mirrors (k : BookView) (terminal epoch : ℕ) (read : ReadSetView) (m : Machine) (w : ℕ) : Type 0 where
   pub records : HasNewest m k.written
   pub present : w < length m.workers

@@ -7,10 +7,12 @@ use Rattle.readset.specs.Reads.{ReadSetView}
 use Rattle.readset.specs.Writes.{value_for}
 use Rattle.book.specs.declared.entry.Entry.{Entry}
 
--- a later entry as an earlier one wants it: of no earlier epoch, and of a larger TID where both write some record or are of one terminal
+-- a later entry as an earlier one wants it: of no earlier epoch, and of a larger TID where both write some record or
+-- are of one terminal
 pub record Follows (earlier later : Entry) : Type 0 where
   pub epochs : earlier.tid / 2 ^ 32 ≤ later.tid / 2 ^ 32
-  pub records : (n : ℕ) → IsSome (value_for earlier.writes n) → IsSome (value_for later.writes n) → earlier.tid < later.tid
+  pub records : (n : ℕ) → IsSome (value_for earlier.writes n) → IsSome (value_for later.writes n)
+      → earlier.tid < later.tid
   pub terminals : earlier.terminal ≡ later.terminal → earlier.tid < later.tid
 
 -- each entry's TID has no status bits, and each entry follows all that stand before it

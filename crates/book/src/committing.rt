@@ -61,7 +61,12 @@ impl<K: Run> Book<K> {
             × (tid_for self.old.history share.old.terminal the_epoch work.reads ≡ Some done.tid)
             × Commits self.old self.new (entry_of (length self.old.history + 1) done.tid share.old.terminal work)
             × (done.number ≡ length self.old.history + 1) × (done.reply ≡ work.reply)
-            × (share.new ≡ record { terminal = share.old.terminal; parts = share.old.parts; commits = share.old.commits + 1 })
+            × (share.new ≡ record {
+              terminal = share.old.terminal;
+              parts = share.old.parts;
+              commits =
+                  share.old.commits + 1;
+            })
             × HasSeen reader.new self.new.written work.writes
             × CommitsAt (replay K.first self.old.history) work.input work.writes work.reply)
             (λ refusal. (self.new ≡ self.old) × (share.new ≡ share.old)

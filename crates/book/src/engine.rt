@@ -5,7 +5,8 @@ ghost use Rattle.money.specs.declared.refusal.Refusal.TheVariants.{OutOfMemory};
 ghost use Rattle.population.specs.Initial.{initial};
 ghost use Rattle.tables.specs.Records.{record_count};
 ghost use Rattle.book.specs.Parts.{IsFresh, first_of, cells_of, ledger_name, ledger_parts, loggers_of, terminals_of};
-ghost use Rattle.book.specs.declared.engine.TheConstants.{MAX_LOGGERS as the_most_loggers, MAX_TERMINALS as the_most_terminals};
+ghost use Rattle.book.specs.declared.engine.TheConstants.{MAX_LOGGERS as the_most_loggers};
+ghost use Rattle.book.specs.declared.engine.TheConstants.{MAX_TERMINALS as the_most_terminals};
 
 use crate::book::Book;
 use crate::entry::Entry;
@@ -204,7 +205,9 @@ impl<K: Run> Model for Seats<K> {
 
     ghost view = { λ s. record { left = length s.readers.items; given = s.given } };
 
-    ghost invariant = { λ s. All (λ reader. reader.cells ≡ K.cells) s.readers.items × (s.share.parts ≡ length s.readers.items) × (s.share.amount ≡ 0) × (s.given + length s.readers.items ≡ K.parts) × (K.parts < 2 ^ 16) };
+    ghost invariant = { λ s. All (λ reader. reader.cells ≡ K.cells) s.readers.items
+        × (s.share.parts ≡ length s.readers.items) × (s.share.amount ≡ 0) × (s.given + length s.readers.items ≡ K.parts)
+        × (K.parts < 2 ^ 16) };
 }
 
 /// What one terminal is given.

@@ -1,5 +1,6 @@
 //! What may be refused of a commit, all of which comes before its first store.
-ghost use Rattle.std.specs.Prelude.{◌≡◌, ◌<◌, ◌≤◌, ◌⊎◌, ℕ, Some, None, IsSome, length, vec_len, vec_capacity, IfOk, IfErr, OnOk};
+ghost use Rattle.std.specs.Prelude.{◌≡◌, ◌<◌, ◌≤◌, ◌⊎◌, ℕ, Some, None, IsSome, length, vec_len, vec_capacity, IfOk};
+ghost use Rattle.std.specs.Prelude.{IfErr, OnOk};
 ghost use Rattle.money.specs.declared.refusal.Refusal.TheVariants.{OutOfMemory, CommitsFull, EpochFull};
 ghost use Rattle.tidword.specs.TidWord.{tid_of};
 ghost use Rattle.tidword.specs.Lawful.{IsLawful, next};

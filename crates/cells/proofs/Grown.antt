@@ -19,13 +19,16 @@ grown_twice r s t g h = record {
 }
 
 -- one record's versions may have grown
-module _ (r0 r s : ReaderView) (n : ℕ) (h : HasGrown r0 r) (cells : s.cells ≡ r.cells) (others : s.seen ≡ set r.seen n (at s.seen n)) (grows : StartsWith (at s.seen n) (at r.seen n)) where
+module _ (r0 r s : ReaderView) (n : ℕ) (h : HasGrown r0 r) (cells : s.cells ≡ r.cells) (others : s.seen ≡ set r.seen n (at s.seen n))
+    (grows : StartsWith (at s.seen n) (at r.seen n)) where
   pub grown_more : HasGrown r0 s
   grown_more = record {
     cells = cells ∙ h.cells;
     grows = λ m. ⊎_elim
-        (λ (e : m ≡ n). subst (λ k. StartsWith (at s.seen k) (at r0.seen k)) (sym e) (starts_starts (at s.seen n) (at r.seen n) (at r0.seen n) grows (h.grows n)))
-        (λ (e : m ≢ n). subst (λ (l : List (List ℕ)). StartsWith l (at r0.seen m)) (sym (ap (λ (l : List (List (List ℕ))). at l m) others ∙ get_or-set_other r.seen n m (at s.seen n) [] e)) (h.grows m))
+        (λ (e : m ≡ n). subst (λ k. StartsWith (at s.seen k) (at r0.seen k)) (sym e)
+        (starts_starts (at s.seen n) (at r.seen n) (at r0.seen n) grows (h.grows n)))
+        (λ (e : m ≢ n). subst (λ (l : List (List ℕ)). StartsWith l (at r0.seen m))
+        (sym (ap (λ (l : List (List (List ℕ))). at l m) others ∙ get_or-set_other r.seen n m (at s.seen n) [] e)) (h.grows m))
         (cases_eq m n);
   }
 

@@ -1,5 +1,6 @@
 -- Each move at a cell keeps the rule.
-use Rattle.std.proofs.Common.{◌≡◌, ◌≢◌, ◌⊎◌, ℕ, zero, suc, ◌+◌, List, [], ◌∷◌, ◌++◌, set, Bool, true, false, cond, true≢false, refl, sym, ap, ◌∙◌, subst, ⊎_elim, inl, inr, append_assoc}
+use Rattle.std.proofs.Common.{◌≡◌, ◌≢◌, ◌⊎◌, ℕ, zero, suc, ◌+◌, List, [], ◌∷◌, ◌++◌, set, Bool, true, false, cond, true≢false, refl, sym, ap, ◌∙◌, subst}
+use Rattle.std.proofs.Common.{⊎_elim, inl, inr, append_assoc}
 use mathlib.Core.Option.{some, some-ne-none, some-injective}
 use lib.ListN.{get_elem?}
 use Rattle.crossbeam_utils.specs.Register.{Turns, Forks, Merges}
@@ -12,7 +13,8 @@ use Rattle.cells.proofs.Rising.{starts_self}
 off : {A : Type 0} → false ≡ true → A
 off e = absurd (true≢false (sym e))
 
-fits_set : (seat : ℕ) (all : List (List ℕ)) (views : List View) (by : ℕ) (w : View) → ((j : ℕ) (u : View) → j ≢ by → get_elem? views j ≡ some u → FitsVersions seat all j u) → FitsVersions seat all by w
+fits_set : (seat : ℕ) (all : List (List ℕ)) (views : List View) (by : ℕ) (w : View)
+    → ((j : ℕ) (u : View) → j ≢ by → get_elem? views j ≡ some u → FitsVersions seat all j u) → FitsVersions seat all by w
     → (j : ℕ) (u : View) → get_elem? (set views by w) j ≡ some u → FitsVersions seat all j u
 fits_set seat all views by w others mine j u e =
     ⊎_elim
@@ -52,8 +54,10 @@ stores by all new rising now views h at =
         subst (λ (l : List (List ℕ)). IsRising (l ++ new ∷ [])) mine.1 rising,
         inr (log, refl),
         fits_set seat next views by w
-            (λ j u apart e. let f = fits j u e in (starts_more log u.seen (new ∷ []) f.0, starts_more log u.told (new ∷ []) f.1, λ p. absurd (apart ((f.2 p).0 ∙ sym mine.0))))
-            (subst (λ (l : List (List ℕ)). FitsVersions seat next by (pen_view l)) (ap (λ (l : List (List ℕ)). l ++ new ∷ []) (sym mine.1)) (fits_pen seat next by mine.0)),
+            (λ j u apart e. let f = fits j u e in
+            (starts_more log u.seen (new ∷ []) f.0, starts_more log u.told (new ∷ []) f.1, λ p. absurd (apart ((f.2 p).0 ∙ sym mine.0))))
+            (subst (λ (l : List (List ℕ)). FitsVersions seat next by (pen_view l)) (ap (λ (l : List (List ℕ)). l ++ new ∷ []) (sym mine.1))
+            (fits_pen seat next by mine.0)),
       ),
       refl,
     )
@@ -71,8 +75,16 @@ looks_pen by v pen now views h at =
     let w = pen_view v.seen in
     let is : w ≡ looked v v.seen = sym (ap (λ b. cond b w (sight v.seen (v.loads + 1))) pen) in (
       w,
-      (h.0, log, h.2, h.3, fits_set h.0 log views by w (λ j u _ e. fits j u e) (subst (λ (l : List (List ℕ)). FitsVersions h.0 log by (pen_view l)) (sym known.1) (fits_pen h.0 log by known.0))),
-      subst (λ (l : List (List ℕ)). (w ≡ looked v v.seen) × StartsWith v.seen v.seen × StartsWith l v.told × IsRising l × ((l ≡ []) ⊎ EndsWith l now)) (sym known.1) (is, starts_self v.seen, mine.1, h.2, h.3),
+      (
+        h.0,
+        log,
+        h.2,
+        h.3,
+        fits_set h.0 log views by w (λ j u _ e. fits j u e)
+            (subst (λ (l : List (List ℕ)). FitsVersions h.0 log by (pen_view l)) (sym known.1) (fits_pen h.0 log by known.0)),
+      ),
+      subst (λ (l : List (List ℕ)). (w ≡ looked v v.seen) × StartsWith v.seen v.seen × StartsWith l v.told × IsRising l × ((l ≡ []) ⊎ EndsWith l now))
+          (sym known.1) (is, starts_self v.seen, mine.1, h.2, h.3),
     )
 
 looks_reader : (by : ℕ) (v : View) → v.pen ≡ false → Turns IsKept by v (λ x. x) Looked
@@ -80,8 +92,11 @@ looks_reader by v reader now views h at =
     let log = h.1 in
     let fits = h.4 in
     let w = sight log (v.loads + 1) in
-    let is : w ≡ looked v log = sym (ap (λ b. cond b (pen_view v.seen) w) reader) in
-    (w, (h.0, log, h.2, h.3, fits_set h.0 log views by w (λ j u _ e. fits j u e) (fits_sight h.0 log log (v.loads + 1) by (starts_self log))), (is, (fits by v at).0, (fits by v at).1, h.2, h.3))
+    let is : w ≡ looked v log = sym (ap (λ b. cond b (pen_view v.seen) w) reader) in (
+      w,
+      (h.0, log, h.2, h.3, fits_set h.0 log views by w (λ j u _ e. fits j u e) (fits_sight h.0 log log (v.loads + 1) by (starts_self log))),
+      (is, (fits by v at).0, (fits by v at).1, h.2, h.3),
+    )
 
 pub looks : (by : ℕ) (v : View) → Turns IsKept by v (λ x. x) Looked
 looks by v = ⊎_elim (looks_pen by v) (looks_reader by v) (either v.pen)
@@ -99,9 +114,12 @@ tells by v now views h at = (
 )
 
 -- two passes meet, and one has what they know
-merges : (by : ℕ) (v : View) (other : ℕ) (u w : View) → ((seat : ℕ) (all : List (List ℕ)) → FitsVersions seat all by v → FitsVersions seat all other u → FitsVersions seat all by w) → Merges IsKept by v other u w (sight [] 0)
+merges : (by : ℕ) (v : View) (other : ℕ) (u w : View)
+    → ((seat : ℕ) (all : List (List ℕ)) → FitsVersions seat all by v → FitsVersions seat all other u → FitsVersions seat all by w)
+    → Merges IsKept by v other u w (sight [] 0)
 merges by v other u w both now views h at apart there =
-    let theirs = ⊎_elim (λ (t : (other ≡ by) × (w ≡ u)). absurd (apart t.0)) (λ (t : (other ≢ by) × (get_elem? views other ≡ some u)). h.4 other u t.1) (at_set views by other w u there) in (
+    let theirs = ⊎_elim (λ (t : (other ≡ by) × (w ≡ u)). absurd (apart t.0)) (λ (t : (other ≢ by) × (get_elem? views other ≡ some u)). h.4 other u t.1)
+    (at_set views by other w u there) in (
       h.0,
       h.1,
       h.2,

@@ -12,5 +12,7 @@ pub reads_has : {old new : ReaderView} {n : ℕ} {version : List ℕ} → LoadsR
 reads_has {old} {new} {n} {version} r = ends_has (at new.seen n) version r.last
 
 -- and stays seen
-pub learns_has : {pen : PenView} {old new : ReaderView} {n : ℕ} → LearnsRecord pen old new n → (version : List ℕ) → Has (at old.seen n) version → Has (at new.seen n) version
-learns_has {pen} {old} {new} {n} l version h = subst (λ (all : List (List ℕ)). Has all version) (sym l.learnt) (has_more (at pen.all n) (at old.seen n) version l.grows h)
+pub learns_has : {pen : PenView} {old new : ReaderView} {n : ℕ} → LearnsRecord pen old new n → (version : List ℕ) → Has (at old.seen n) version
+    → Has (at new.seen n) version
+learns_has {pen} {old} {new} {n} l version h = subst (λ (all : List (List ℕ)). Has all version) (sym l.learnt)
+    (has_more (at pen.all n) (at old.seen n) version l.grows h)

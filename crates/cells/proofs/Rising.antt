@@ -66,13 +66,15 @@ push_some [] v e = cc
 push_some (w ∷ vs) v e = cc
 
 -- whether a version that a reader has seen has the TID of the last version
-is_last : (b : Bool) (all seen : List (List ℕ)) (v w : List ℕ) → IsRising all → StartsWith all seen → Has seen v → EndsWith all w → (b ≡ true → tid w ≡ tid v) → (b ≡ false → tid w ≢ tid v) → MatchBool b (EndsWith all v) (tid v ≢ last_tid all)
+is_last : (b : Bool) (all seen : List (List ℕ)) (v w : List ℕ) → IsRising all → StartsWith all seen → Has seen v → EndsWith all w → (b ≡ true → tid w ≡ tid v)
+    → (b ≡ false → tid w ≢ tid v) → MatchBool b (EndsWith all v) (tid v ≢ last_tid all)
 is_last true all seen v w rising starts has ends same other =
     let h = has_more all seen v starts has in
     last_by_tid 0 all h.0 h.1 v rising h.2 (sym (same refl) ∙ sym (last_tid-last all w ends))
 is_last false all seen v w rising starts has ends same other = λ e. other refl (sym (e ∙ last_tid-last all w ends))
 
-pub is_last_by_tid : (b : Bool) (all seen : List (List ℕ)) (v w : List ℕ) → IsRising all → StartsWith all seen → Has seen v → EndsWith all w → b ≡ eqb (tid w) (tid v) → MatchBool b (EndsWith all v) (tid v ≢ last_tid all)
+pub is_last_by_tid : (b : Bool) (all seen : List (List ℕ)) (v w : List ℕ) → IsRising all → StartsWith all seen → Has seen v → EndsWith all w
+    → b ≡ eqb (tid w) (tid v) → MatchBool b (EndsWith all v) (tid v ≢ last_tid all)
 is_last_by_tid b all seen v w rising starts has ends e = is_last b all seen v w rising starts has ends
     (λ is. eqb-true _ _ (sym e ∙ is))
     (λ not. eqb-false _ _ (sym e ∙ not))

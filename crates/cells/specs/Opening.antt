@@ -18,4 +18,8 @@ opened readers = record { written = record { cells = []; all = [] }; readers = r
 
 -- one more record, with its cell and its first version
 abbrev pub opened_with : Opened → TableId → List ℕ → Opened
-opened_with o cell first = record { written = record { cells = o.written.cells ++ cell ∷ []; all = o.written.all ++ (first ∷ []) ∷ [] }; readers = o.readers }
+opened_with o cell first =
+    record {
+      written = record { cells = o.written.cells ++ cell ∷ []; all = o.written.all ++ (first ∷ []) ∷ [] };
+      readers = o.readers;
+    }

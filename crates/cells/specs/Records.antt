@@ -10,7 +10,8 @@ pub record PenView : Type 0 where
   pub cells : List TableId
   pub all : AllVersions
 
--- a reader's: which cell a record has, which first ones of its versions the reader has seen, and how often it has loaded
+-- a reader's: which cell a record has, which first ones of its versions the reader has seen, and how often it has
+-- loaded
 pub record ReaderView : Type 0 where
   pub cells : List TableId
   pub seen : AllVersions

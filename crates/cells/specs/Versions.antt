@@ -1,5 +1,7 @@
--- The versions of one record, oldest first. A version is the list of its words, of which the first is the TID word (Silo, section 4.2).
-use Rattle.std.specs.Prelude.{◌≡◌, ℕ, ◌+◌, ◌/◌, ◌%◌, ◌≤◌, ◌==◌, cond, Option, Some, None, List, [], ◌∷◌, ◌++◌, slice_index}
+-- The versions of one record, oldest first. A version is the list of its words, of which the first is the TID word
+-- (Silo, section 4.2).
+use Rattle.std.specs.Prelude.{◌≡◌, ℕ, ◌+◌, ◌/◌, ◌%◌, ◌≤◌, ◌==◌, cond, Option, Some, None, List, [], ◌∷◌, ◌++◌}
+use Rattle.std.specs.Prelude.{slice_index}
 use Rattle.tidword.specs.TidWord.{tid_of}
 
 -- the versions of one record, and of all records by record number

@@ -26,7 +26,8 @@ learnt v w = record { pen = v.pen; seen = w.seen; told = v.told; loads = v.loads
 
 -- a pass has seen the first versions of all, and the pen, of which there is one, has seen all
 abbrev pub FitsVersions : ℕ → Versions → ℕ → View → Type 0
-FitsVersions seat all by v = StartsWith all v.seen × StartsWith all v.told × (v.pen ≡ true → (by ≡ seat) × (v.seen ≡ all))
+FitsVersions seat all by v = StartsWith all v.seen × StartsWith all v.told
+    × (v.pen ≡ true → (by ≡ seat) × (v.seen ≡ all))
 
 -- the cell has the last of its versions, which rise
 abbrev pub IsKept : List ℕ → List View → Type 0
@@ -38,14 +39,16 @@ IsKept now views =
 abbrev pub Stored : View → List ℕ → List ℕ → View → Type 0
 Stored v before after w = w ≡ pen_view (v.seen ++ after ∷ [])
 
--- what a pass knows once it has loaded the last of these versions: the pen what it knew; a reader these, by one load more
+-- what a pass knows once it has loaded the last of these versions: the pen what it knew; a reader these, by one load
+-- more
 abbrev pub looked : View → Versions → View
 looked v seen = if v.pen then pen_view v.seen else sight seen (v.loads + 1)
 
 -- a pass loads the last version, and what it has seen and was told turn out to be the first of all up to it
 abbrev pub Looked : View → List ℕ → List ℕ → View → Type 0
 Looked v before after w =
-    (w ≡ looked v w.seen) × StartsWith w.seen v.seen × StartsWith w.seen v.told × IsRising w.seen × ((w.seen ≡ []) ⊎ EndsWith w.seen after)
+    (w ≡ looked v w.seen) × StartsWith w.seen v.seen × StartsWith w.seen v.told × IsRising w.seen
+    × ((w.seen ≡ []) ⊎ EndsWith w.seen after)
 
 -- what a pass of the pen, and of a reader, knows between calls
 abbrev pub IsPen : View → Type 0

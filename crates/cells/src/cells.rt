@@ -1,5 +1,6 @@
 //! The cells of all records.
-ghost use Rattle.std.specs.Prelude.{◌≡◌, ◌≢◌, ◌<◌, Some, List, [], ◌∷◌, ◌++◌, length, slice_get, MatchBool, OnOk, OnErr, IfErr};
+ghost use Rattle.std.specs.Prelude.{◌≡◌, ◌≢◌, ◌<◌, Some, List, [], ◌∷◌, ◌++◌, length, slice_get, MatchBool, OnOk};
+ghost use Rattle.std.specs.Prelude.{OnErr, IfErr};
 ghost use Rattle.money.specs.declared.refusal.Refusal.TheVariants.{OutOfMemory};
 ghost use Rattle.atomic_table.specs.Seated.{TableId};
 ghost use Rattle.tidword.specs.TidWord.{tid_of};
@@ -189,7 +190,8 @@ impl Cells {
         requires seen { Has (at reader.old.seen version.now.record) (words_of version.now) }
         ensures pen { pen.new ≡ pen.old }
         ensures reader { LearnsRecord pen.old reader.old reader.new version.now.record }
-        ensures latest { MatchBool result (EndsWith (at pen.old.all version.now.record) (words_of version.now)) (tid_of version.now.word ≢ last_tid (at pen.old.all version.now.record)) }
+        ensures latest { MatchBool result (EndsWith (at pen.old.all version.now.record) (words_of version.now))
+            (tid_of version.now.word ≢ last_tid (at pen.old.all version.now.record)) }
     {
         let cell = self.cell(version.record);
         let latest = pen.meet(rt, cell, version.record as usize, reader);

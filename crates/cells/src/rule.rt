@@ -36,7 +36,8 @@ impl<const N: usize> Outcome<[u64; N], View> for Stores {
     ghost then = { Stored };
 }
 
-/// A pass loads the last version. A reader counts it, and has then seen all up to it; the pen compares what it was told.
+/// A pass loads the last version. A reader counts it, and has then seen all up to it; the pen compares what it was
+/// told.
 pub(crate) struct Looks;
 
 impl<const N: usize> Outcome<[u64; N], View> for Looks {

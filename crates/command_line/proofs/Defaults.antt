@@ -78,7 +78,8 @@ default_found name d rows (x ∷ rules) a found defaults none =
     go (bytes_eq x.id name) refl (λ e miss. default_found name d (with_default rows x) rules a e defaults miss) found
   where
     go : (b : Bool) → bytes_eq x.id name ≡ b
-        → (find (λ y. bytes_eq y.id name) rules ≡ Some a → at name (with_default rows x) ≡ None → at name (fold with_default (with_default rows x) rules) ≡ Some (default_row a (d ∷ [])))
+        → (find (λ y. bytes_eq y.id name) rules ≡ Some a → at name (with_default rows x) ≡ None → at name (fold with_default (with_default rows x) rules) ≡ Some
+        (default_row a (d ∷ [])))
         → cond b (Some x) (find (λ y. bytes_eq y.id name) rules) ≡ Some a
         → at name (fold with_default (with_default rows x) rules) ≡ Some (default_row a (d ∷ []))
     go true same rest e =

@@ -1,12 +1,14 @@
 -- From the matches of the program's command to what its words ask for.
-use Rattle.std.proofs.Common.{◌≡◌, ◌≢◌, ◌∙◌, ◌<◌, ◌^◌, ◌||◌, List, [], ◌∷◌, ℕ, ap, ap₂, sym, subst, refl, Bool, cond, false, true, Option, Some, None, codes, true≢false}
+use Rattle.std.proofs.Common.{◌≡◌, ◌≢◌, ◌∙◌, ◌<◌, ◌^◌, ◌||◌, List, [], ◌∷◌, ℕ, ap, ap₂, sym, subst, refl, Bool, cond, false, true, Option, Some, None, codes}
+use Rattle.std.proofs.Common.{true≢false}
 use Rattle.std.specs.Box.{box_value}
 use Rattle.std.specs.Prelude.{Box, Result, find, option_and_then, option_map, unwrap_or}
 use Rattle.std.specs.List.{list_any}
 use Rattle.std.specs.Str.{bytes_eq}
 use Rattle.std.specs.Str.Parse.{IsNumeral, digits_value, without_leading_plus}
 use Rattle.std.proofs.lemmas.Slice.Eq.{bytes_eq-Decides}
-use Rattle.clap.specs.Words.{App, HasMatchesOf, app_of, Row, Shape, Text, is_simple, one_of, one_text, rows_of, subcommand_name_of, subcommand_of, subcommand_rows, subcommand_rows_of}
+use Rattle.clap.specs.Words.{App, HasMatchesOf, app_of, Row, Shape, Text, is_simple, one_of, one_text, rows_of, subcommand_name_of, subcommand_of}
+use Rattle.clap.specs.Words.{subcommand_rows, subcommand_rows_of}
 use Rattle.clap.specs.Walk.{answers_to, rows_after}
 use Rattle.clap.specs.Simple.{built_leaf, help_shape, label_of, rows_at}
 use Rattle.clap.specs.Faults.{fault_of, is_simple_and_free}
@@ -20,7 +22,8 @@ use Rattle.clap.specs.declared.parser.matches.SubCommand.{SubCommand}
 use Rattle.clap.proofs.WalkLemmas.{one_text-rows}
 use Rattle.clap.proofs.OnLiterals.{clap_on_literals}
 use Rattle.command_line.specs.declared.asked.Options.{Options}
-use Rattle.command_line.specs.CommandLine.{AreWritten, IsAskedBy, WritesNumber, built_script, given, program_app, script_rules, subcommand_words, text_for, text_in}
+use Rattle.command_line.specs.CommandLine.{AreWritten, IsAskedBy, WritesNumber, built_script, given, program_app, script_rules, subcommand_words, text_for}
+use Rattle.command_line.specs.CommandLine.{text_in}
 use Rattle.command_line.proofs.Defaults.{writes_given}
 
 pub program_is_simple : is_simple program_app ≡ true
@@ -92,7 +95,8 @@ module _ {Z : Type 0} where
   names_of_rows None = refl
   names_of_rows (Some b) = refl
 
-both_parts : (o : Option (Text × List Row)) (name : Text) (rows : List Row) → option_map (λ p. p.0) o ≡ Some name → option_map (λ p. p.1) o ≡ Some rows → o ≡ Some (name, rows)
+both_parts : (o : Option (Text × List Row)) (name : Text) (rows : List Row) → option_map (λ p. p.0) o ≡ Some name → option_map (λ p. p.1) o ≡ Some rows
+    → o ≡ Some (name, rows)
 both_parts None name rows first second = cc
 both_parts (Some p) name rows first second =
     let name_is : p.0 ≡ name = cc in
@@ -103,8 +107,10 @@ not_help : codes "help" ≢ codes "script"
 not_help e = true≢false (sym (ap (λ t. bytes_eq t (codes "script")) e))
 
 -- the matches of the program's command give the options that the words ask for
-pub asked : (command : Command) (m : ArgMatches) (words : List Text) (rows : List Row) (o : Options) → app_of command ≡ program_app → fault_of program_app words ≡ []
-    → HasMatchesOf (app_of command) words m → subcommand_name_of m ≡ Some (codes "script") → option_map (λ p. p.1) (subcommand_rows_of m) ≡ Some rows → AreWritten (text_in rows) o
+pub asked : (command : Command) (m : ArgMatches) (words : List Text) (rows : List Row) (o : Options) → app_of command ≡ program_app
+    → fault_of program_app words ≡ []
+    → HasMatchesOf (app_of command) words m → subcommand_name_of m ≡ Some (codes "script") → option_map (λ p. p.1) (subcommand_rows_of m) ≡ Some rows
+    → AreWritten (text_in rows) o
     → IsAskedBy words o
 asked command m words rows o app faultless matches named inner is_written =
     let same = (matches (ap is_simple app ∙ program_is_simple)).1 ∙ ap (λ (a : App). subcommand_of a words) app in

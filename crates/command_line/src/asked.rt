@@ -37,7 +37,8 @@ impl Options {
 
     /// The scale that is asked for, or `BadScale` exactly where a number is outside its limits.
     pub fn scale(&self) -> Result<Scale, Refusal>
-        ensures limits { let asked = sizes self.now.warehouses self.now.districts self.now.customers self.now.items self.now.orders self.now.commits in
+        ensures limits { let asked = sizes self.now.warehouses self.now.districts self.now.customers self.now.items
+            self.now.orders self.now.commits in
             MatchResult result (λ scale. (scale ≡ asked)
             × IsScale asked) (λ refusal. (refusal ≡ BadScale) × ¬ IsScale asked) }
     {

@@ -4,7 +4,8 @@ ghost use Rattle.clap.specs.Words.{found_of, kind_of, one_text, rows_of, rule_of
 ghost use Rattle.clap.specs.Kinds.{HasKind};
 ghost use Rattle.clap.specs.declared.builder.value_parser.ValueParser.TheVariants.{Unsigned};
 ghost use Rattle.clap.specs.declared.error.kind.ErrorKind.TheVariants.{InvalidValue};
-ghost use Rattle.command_line.specs.CommandLine.{AreWritten, HasApp, IsAskedBy, IsOptionsRefusal, number_option, option, program_app, script_app, text_in};
+ghost use Rattle.command_line.specs.CommandLine.{AreWritten, HasApp, IsAskedBy, IsOptionsRefusal, number_option};
+ghost use Rattle.command_line.specs.CommandLine.{option, program_app, script_app, text_in};
 
 use crate::asked::{Options, Subcommand};
 use clap::error::ErrorKind;

@@ -1,5 +1,6 @@
 -- Reads that are current: all, or a first that isn't, and the TIDs of records that are read before they are written.
-use Rattle.std.proofs.Common.{◌≡◌, ◌≢◌, ℕ, ◌≤◌, true≢false, ⊎_elim, ◌⊎◌, inl, inr, Option, IsSome, List, [], ◌∷◌, All, refl, sym, ap, ◌∙◌, subst, le_trans, le_of_eq, zero-le}
+use Rattle.std.proofs.Common.{◌≡◌, ◌≢◌, ℕ, ◌≤◌, true≢false, ⊎_elim, ◌⊎◌, inl, inr, Option, IsSome, List, [], ◌∷◌, All, refl, sym, ap, ◌∙◌, subst, le_trans}
+use Rattle.std.proofs.Common.{le_of_eq, zero-le}
 use Rattle.std.proofs.lemmas.Bool.{cases_eq}
 use Rattle.std.proofs.lemmas.List.Elements.{All-nil, All-cons, All-head, All-tail}
 use Rattle.std.proofs.Math.Nat.{le-max_left, le-max_right, max-le, max-eq_left}
@@ -29,7 +30,8 @@ current_or_stale m (read ∷ reads) = ⊎_elim
       stale = it.stale;
     }))
     (current_or_stale m reads))
-    (λ (h : tid_of (cell m read.0).word ≢ read.1.tid). inr (record { passed = []; rest = reads; at = read.0; version = read.1; split = refl; current = All-nil (IsCurrent m); stale = h }))
+    (λ (h : tid_of (cell m read.0).word ≢ read.1.tid). inr
+    (record { passed = []; rest = reads; at = read.0; version = read.1; split = refl; current = All-nil (IsCurrent m); stale = h }))
     (cases_eq (tid_of (cell m read.0).word) read.1.tid)
 
 -- the TID of a record that was read is among those of the reads
@@ -44,7 +46,8 @@ read_bound m (read ∷ reads) r current h = ⊎_elim
     (le-max_right read.1.tid (greatest_read reads)))
     (cases_eq read.0 r)
 
-locked_bound : (m : Machine) (reads : Reads) (writes : Writes) → AreCurrent m reads → All (λ write. IsSome (note_at reads write.0)) writes → greatest_locked m writes ≤ greatest_read reads
+locked_bound : (m : Machine) (reads : Reads) (writes : Writes) → AreCurrent m reads → All (λ write. IsSome (note_at reads write.0)) writes
+    → greatest_locked m writes ≤ greatest_read reads
 locked_bound m reads [] current h = zero-le
 locked_bound m reads (write ∷ writes) current h = max-le
     (read_bound m reads write.0 current (All-head (λ (note : ℕ × Option (List ℕ)). IsSome (note_at reads note.0)) write writes h))

@@ -1,5 +1,6 @@
 -- What lists of notes have of a record.
-use Rattle.std.proofs.Common.{◌≡◌, ◌≢◌, ℕ, Bool, true, false, true≢false, cond, not, Option, Some, None, List, [], ◌∷◌, ◌++◌, eqb, refl, sym, ap, ◌∙◌, subst, ⊎_elim, eqb-true, eq-eqb, inl, inr, ◌⊎◌}
+use Rattle.std.proofs.Common.{◌≡◌, ◌≢◌, ℕ, Bool, true, false, true≢false, cond, not, Option, Some, None, List, [], ◌∷◌, ◌++◌, eqb, refl, sym, ap, ◌∙◌, subst}
+use Rattle.std.proofs.Common.{⊎_elim, eqb-true, eq-eqb, inl, inr, ◌⊎◌}
 use Rattle.std.proofs.lemmas.Bool.{cases_eq}
 use Rattle.commit.specs.Machine.{note_at, without}
 use Rattle.commit.proofs.NoteLists.{Above, Ascend, held_above, held_first as first_held, held_later}
@@ -43,11 +44,14 @@ none_of None never = refl
 none_of (Some x) never = absurd (never x refl)
 
 -- one note more, at the end
-pub held_more : {X : Type 0} (notes : List (ℕ × X)) (r : ℕ) (v : X) (k : ℕ) (u : X) → note_at (notes ++ (r, v) ∷ []) k ≡ Some u → (note_at notes k ≡ Some u) ⊎ ((r ≡ k) × (v ≡ u))
+pub held_more : {X : Type 0} (notes : List (ℕ × X)) (r : ℕ) (v : X) (k : ℕ) (u : X) → note_at (notes ++ (r, v) ∷ []) k ≡ Some u → (note_at notes k ≡ Some u)
+    ⊎ ((r ≡ k) × (v ≡ u))
 held_more [] r v k u = by_test (λ b. cond b (Some v) None ≡ Some u → (None ≡ Some u) ⊎ ((r ≡ k) × (v ≡ u))) r k
     (λ e h. inr (e, same_value h))
     (λ e h. absurd (never_both refl h))
-held_more (note ∷ notes) r v k u = by_test (λ b. cond b (Some note.1) (note_at (notes ++ (r, v) ∷ []) k) ≡ Some u → (cond b (Some note.1) (note_at notes k) ≡ Some u) ⊎ ((r ≡ k) × (v ≡ u))) note.0 k
+held_more (note ∷ notes) r v k u =
+    by_test (λ b. cond b (Some note.1) (note_at (notes ++ (r, v) ∷ []) k) ≡ Some u → (cond b (Some note.1) (note_at notes k) ≡ Some u) ⊎ ((r ≡ k) × (v ≡ u)))
+    note.0 k
     (λ e h. inl h)
     (λ e h. held_more notes r v k u h)
 
@@ -68,7 +72,8 @@ pub held_elsewhere : {X : Type 0} (notes : List (ℕ × X)) (r k : ℕ) → k �
 held_elsewhere [] r k e = refl
 held_elsewhere (note ∷ notes) r k e = by_test (λ b. note_at (cond (not b) (note ∷ without notes r) (without notes r)) k ≡ note_at (note ∷ notes) k) note.0 r
     (λ same. held_elsewhere notes r k e ∙ sym (held_rest note notes k (λ q. e (sym q ∙ same))))
-    (λ other. by_test (λ b. cond b (Some note.1) (note_at (without notes r) k) ≡ cond b (Some note.1) (note_at notes k)) note.0 k (λ q. refl) (λ q. held_elsewhere notes r k e))
+    (λ other. by_test (λ b. cond b (Some note.1) (note_at (without notes r) k) ≡ cond b (Some note.1) (note_at notes k)) note.0 k (λ q. refl)
+    (λ q. held_elsewhere notes r k e))
 
 -- what is left of the notes is of another record, and was there
 pub held_left : {X : Type 0} (notes : List (ℕ × X)) (r k : ℕ) (v : X) → note_at (without notes r) k ≡ Some v → (k ≢ r) × (note_at notes k ≡ Some v)
@@ -86,16 +91,19 @@ abbrev pub HoldSame : {X : Type 0} → List (ℕ × X) → List (ℕ × X) → T
 HoldSame notes others = (k : ℕ) → note_at notes k ≡ note_at others k
 
 -- they still do without the record of the first note of one of them, which ascends
-pub same_without : {X : Type 0} (notes : List (ℕ × X)) (r : ℕ) (x : X) (others : List (ℕ × X)) → HoldSame notes ((r, x) ∷ others) → Above r others → HoldSame (without notes r) others
+pub same_without : {X : Type 0} (notes : List (ℕ × X)) (r : ℕ) (x : X) (others : List (ℕ × X)) → HoldSame notes ((r, x) ∷ others) → Above r others
+    → HoldSame (without notes r) others
 same_without notes r x others same above k = ⊎_elim
     (λ (e : k ≡ r). subst (λ q. note_at (without notes r) q ≡ note_at others q) (sym e) (held_without notes r ∙ sym (held_above r others above)))
     (λ (e : k ≢ r). held_elsewhere notes r k e ∙ same k ∙ held_later r k x others e)
     (cases_eq k r)
 
 -- and without the records of all the first notes
-pub same_rest : {X : Type 0} (first notes rest : List (ℕ × X)) → HoldSame notes (first ++ rest) → Ascend (first ++ rest) → HoldSame (without_all notes first) rest
+pub same_rest : {X : Type 0} (first notes rest : List (ℕ × X)) → HoldSame notes (first ++ rest) → Ascend (first ++ rest)
+    → HoldSame (without_all notes first) rest
 same_rest [] notes rest same ascend = same
-same_rest (note ∷ first) notes rest same ascend = same_rest first (without notes note.0) rest (same_without notes note.0 note.1 (first ++ rest) same ascend.0) ascend.1
+same_rest (note ∷ first) notes rest same ascend = same_rest first (without notes note.0) rest (same_without notes note.0 note.1 (first ++ rest) same ascend.0)
+    ascend.1
 
 -- where nothing is note_at, there is no note
 pub no_notes : {X : Type 0} (notes : List (ℕ × X)) → HoldSame notes [] → notes ≡ []

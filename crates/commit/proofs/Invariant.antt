@@ -22,12 +22,14 @@ pub record Waits (first : ℕ → Version) (ws : ℕ → Worker) (k e : ℕ) (tu
   pub once : IsWaiting k turns → ⊥
   pub validated : AreFound first ws (ws k).validated turns
 
--- a transaction fits its turn, after these: of what it writes, none that waits in an earlier turn has a lock, nor has read what it leaves; and its worker doesn't wait in one
+-- a transaction fits its turn, after these: of what it writes, none that waits in an earlier turn has a lock, nor has read what it leaves; and its worker
+-- doesn't wait in one
 pub record Fits (first : ℕ → Version) (ws : ℕ → Worker) (t : Transaction) (turns : List Place) : Type 0 where
   pub reads : AreFound first ws t.reads turns
   pub stamp : IsStamped first t (decided turns)
   pub apart : (k r : ℕ) (value : Option (List ℕ)) → IsWaiting k turns → note_at t.writes r ≡ Some value → note_at (ws k).locks r ≡ None
-  pub later : (k r : ℕ) (value : Option (List ℕ)) (v : Version) → IsWaiting k turns → note_at t.writes r ≡ Some value → note_at (ws k).reads r ≡ Some v → v.tid < t.tid
+  pub later : (k r : ℕ) (value : Option (List ℕ)) (v : Version) → IsWaiting k turns → note_at t.writes r ≡ Some value → note_at (ws k).reads r ≡ Some v
+      → v.tid < t.tid
   pub over : (k : ℕ) → IsWaiting k turns → k ≢ t.worker
   pub reached : t.tid ≤ tid_of (ws t.worker).last
 

@@ -1,5 +1,6 @@
 -- Notes by record number in ascending order: what is noted of a record, and the first note taken away.
-use Rattle.std.proofs.Common.{◌≡◌, ◌≢◌, ℕ, ◌<◌, ◌==◌, true, false, true≢false, not, cond, Some, None, List, [], ◌∷◌, nat_lt, nat_cmp, Less, Equal, Greater, Bool, refl, sym, ap, ◌∙◌, arith, ltb-true}
+use Rattle.std.proofs.Common.{◌≡◌, ◌≢◌, ℕ, ◌<◌, ◌==◌, true, false, true≢false, not, cond, Some, None, List, [], ◌∷◌, nat_lt, nat_cmp, Less, Equal, Greater}
+use Rattle.std.proofs.Common.{Bool, refl, sym, ap, ◌∙◌, arith, ltb-true}
 use Rattle.std.proofs.lemmas.Bool.{eq-eqb, ne_eqb}
 use Rattle.std.specs.List.{AllByRecursion}
 use Rattle.std.specs.List.Sorted.{IsStrictlySortedBy}

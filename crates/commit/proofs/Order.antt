@@ -1,5 +1,6 @@
 -- A worker's step keeps the order of the turns.
-use Rattle.std.proofs.Common.{◌≤◌, ◌≡◌, ◌≢◌, ℕ, ◌/◌, ◌%◌, ◌^◌, ◌<◌, ◌⊎◌, Bool, true, false, true≢false, Option, Some, None, List, [], ◌∷◌, refl, sym, ap, ◌∙◌, subst, inl, inr, ⊎_elim, le_refl}
+use Rattle.std.proofs.Common.{◌≤◌, ◌≡◌, ◌≢◌, ℕ, ◌/◌, ◌%◌, ◌^◌, ◌<◌, ◌⊎◌, Bool, true, false, true≢false, Option, Some, None, List, [], ◌∷◌, refl, sym, ap, ◌∙◌}
+use Rattle.std.proofs.Common.{subst, inl, inr, ⊎_elim, le_refl}
 use Rattle.tidword.specs.TidWord.{tid_of}
 use Rattle.commit.specs.Machine.{Worker, IsIdle, note_at}
 use Rattle.commit.specs.Events.{checked, chosen}
@@ -11,7 +12,8 @@ use Rattle.commit.specs.declared.worker.Phase.TheVariants.{Idle, Begun, Entered,
 use Rattle.commit.specs.declared.worker.Version.{Version}
 use Rattle.commit.proofs.Held.{never_both}
 use Rattle.commit.proofs.Invariant.{AreFound, AreOrdered, Changes}
-use Rattle.commit.proofs.Turns.{spread, still_waits, falling_given_up, good_given_up, good_aside, good_checked, waits_on, falling_decided, good_decided, has_entered}
+use Rattle.commit.proofs.Turns.{spread, still_waits, falling_given_up, good_given_up, good_aside, good_checked, waits_on, falling_decided, good_decided}
+use Rattle.commit.proofs.Turns.{has_entered}
 
 abbrev is_entered : Phase → Bool
 is_entered Entered = true
@@ -32,7 +34,8 @@ failed p = apart_from p Failed refl
 pub idle : (x : Worker) → IsIdle x → x.phase ≡ Entered → ⊥
 idle x h = ⊎_elim (apart_from x.phase Idle refl) (λ (q : (x.phase ≡ Chosen) ⊎ (x.phase ≡ Failed)). ⊎_elim (chose x.phase) (failed x.phase) q) h.1
 
-module _ (first : ℕ → Version) (ws ws' : ℕ → Worker) (w : ℕ) (x : Worker) (change : Changes ws ws' w x) (no_smaller : tid_of (ws w).last ≤ tid_of x.last) (epoch : ℕ) (turns : List Place) (h : AreOrdered first ws epoch turns) where
+module _ (first : ℕ → Version) (ws ws' : ℕ → Worker) (w : ℕ) (x : Worker) (change : Changes ws ws' w x) (no_smaller : tid_of (ws w).last ≤ tid_of x.last)
+    (epoch : ℕ) (turns : List Place) (h : AreOrdered first ws epoch turns) where
   -- it has no turn
   pub order_aside : ((ws w).phase ≡ Entered → ⊥) → (x.phase ≡ Entered → ⊥) → AreOrdered first ws' epoch turns
   order_aside before later = record {
@@ -44,13 +47,15 @@ module _ (first : ℕ → Version) (ws ws' : ℕ → Worker) (w : ℕ) (x : Work
   -- it gives up its turn
   pub order_given_up : (x.phase ≡ Entered → ⊥) → AreOrdered first ws' epoch (give_up w turns)
   order_given_up later = record {
-    places = spread (λ k (x : Worker). x.phase ≡ Entered → IsWaiting k (give_up w turns)) change (λ e. absurd (later e)) (λ k apart e. still_waits w k turns apart (h.places k e));
+    places = spread (λ k (x : Worker). x.phase ≡ Entered → IsWaiting k (give_up w turns)) change (λ e. absurd (later e))
+        (λ k apart e. still_waits w k turns apart (h.places k e));
     good = good_given_up first ws ws' w x change no_smaller turns h.good;
     epochs = falling_given_up w turns epoch h.epochs;
   }
 
   -- it takes a turn, the newest
-  pub order_entered : ((ws w).phase ≡ Entered → ⊥) → x.phase ≡ Entered → x.epoch ≡ epoch → x.validated ≡ [] → AreOrdered first ws' epoch (Waiting w epoch ∷ turns)
+  pub order_entered : ((ws w).phase ≡ Entered → ⊥) → x.phase ≡ Entered → x.epoch ≡ epoch → x.validated ≡ []
+      → AreOrdered first ws' epoch (Waiting w epoch ∷ turns)
   order_entered before phase here none = record {
     places = spread (λ k (x : Worker). x.phase ≡ Entered → (w ≡ k) ⊎ IsWaiting k turns) change (λ e. inl refl) (λ k apart e. inr (h.places k e));
     good = (
@@ -67,8 +72,10 @@ module _ (first : ℕ → Version) (ws ws' : ℕ → Worker) (w : ℕ) (x : Work
   }
 
 -- worker w has validated a read
-module _ (first : ℕ → Version) (ws ws' : ℕ → Worker) (w n : ℕ) (v : Version) (change : Changes ws ws' w (checked (ws w) n v true)) (epoch : ℕ) (turns : List Place) (h : AreOrdered first ws epoch turns) where
-  pub order_checked : note_at (ws w).reads n ≡ Some v → ((k : ℕ) → k ≢ w → note_at (ws k).locks n ≡ None) → now first (decided turns) n ≡ v → AreOrdered first ws' epoch turns
+module _ (first : ℕ → Version) (ws ws' : ℕ → Worker) (w n : ℕ) (v : Version) (change : Changes ws ws' w (checked (ws w) n v true)) (epoch : ℕ)
+    (turns : List Place) (h : AreOrdered first ws epoch turns) where
+  pub order_checked : note_at (ws w).reads n ≡ Some v → ((k : ℕ) → k ≢ w → note_at (ws k).locks n ≡ None) → now first (decided turns) n ≡ v
+      → AreOrdered first ws' epoch turns
   order_checked read unlocked current = record {
     places = spread (λ k (x : Worker). x.phase ≡ Entered → IsWaiting k turns) change (h.places w) (λ k apart. h.places k);
     good = good_checked first ws ws' w n v change turns h.good read unlocked (λ _. current);
@@ -76,9 +83,11 @@ module _ (first : ℕ → Version) (ws ws' : ℕ → Worker) (w n : ℕ) (v : Ve
   }
 
 -- worker w has taken a TID
-module _ (first : ℕ → Version) (ws ws' : ℕ → Worker) (w tid : ℕ) (change : Changes ws ws' w (chosen (ws w) (Some tid))) (epoch : ℕ) (turns : List Place) (h : AreOrdered first ws epoch turns) where
+module _ (first : ℕ → Version) (ws ws' : ℕ → Worker) (w tid : ℕ) (change : Changes ws ws' w (chosen (ws w) (Some tid))) (epoch : ℕ) (turns : List Place)
+    (h : AreOrdered first ws epoch turns) where
   pub order_decided : ((k r : ℕ) (value other : Option (List ℕ)) → note_at (ws w).locks r ≡ Some value → note_at (ws k).locks r ≡ Some other → w ≡ k)
-      → ((k r : ℕ) (value : Option (List ℕ)) (v : Version) → (ws k).phase ≡ Entered → note_at (ws w).locks r ≡ Some value → note_at (ws k).reads r ≡ Some v → v.tid < tid)
+      → ((k r : ℕ) (value : Option (List ℕ)) (v : Version) → (ws k).phase ≡ Entered → note_at (ws w).locks r ≡ Some value → note_at (ws k).reads r ≡ Some v
+      → v.tid < tid)
       → ((r : ℕ) (v : Version) → note_at (ws w).validated r ≡ Some v → v.tid < tid)
       → tid / 2 ^ 32 ≡ (ws w).epoch → tid % 8 ≡ 0 → tid_of (ws w).last < tid
       → ((r : ℕ) (value : Option (List ℕ)) → note_at (ws w).locks r ≡ Some value → (now first (decided turns) r).tid < tid)

@@ -21,7 +21,8 @@ enabled_join : (events more : List Event) (m : Machine) → AreEnabled m events 
 enabled_join [] more m h k = k
 enabled_join (event ∷ events) more m h k = (h.0, enabled_join events more (after_event m event) h.1 k)
 
-pub runs_join : (m : Machine) (events more : List Event) (P Q : Machine → Type 0) → Runs m events P → ((n : Machine) → P n → Runs n more Q) → Runs m (events ++ more) Q
+pub runs_join : (m : Machine) (events more : List Event) (P Q : Machine → Type 0) → Runs m events P → ((n : Machine) → P n → Runs n more Q)
+    → Runs m (events ++ more) Q
 runs_join m events more P Q first then =
     let second : Runs (after_all m events) more Q = then (after_all m events) first.1 in
     (enabled_join events more m first.0 second.0, subst Q (sym (after_join events more m)) second.1)

@@ -39,10 +39,12 @@ opens_sound opening opens = record {
     no_lock : (w r : ℕ) (value : Option (List ℕ)) → note_at (worker opening w).locks r ≡ Some value → ⊥
     no_lock w r value e = never_both (ap (λ l. note_at l r) (opens_idle opening opens w).0) e
 
-sound_on : (first : ℕ → Version) (r : Run) (events : List Event) → Holds first r.machine r.turns → AreEnabled r.machine events → Holds first (run_on r events).machine (run_on r events).turns
+sound_on : (first : ℕ → Version) (r : Run) (events : List Event) → Holds first r.machine r.turns → AreEnabled r.machine events
+    → Holds first (run_on r events).machine (run_on r events).turns
 sound_on first r [] h enabled = h
 sound_on first r (event ∷ events) h enabled =
-    sound_on first (record { machine = after_event r.machine event; turns = turns_after r.machine event r.turns }) events (step first r.machine r.turns event enabled.0 h) enabled.1
+    sound_on first (record { machine = after_event r.machine event; turns = turns_after r.machine event r.turns }) events
+    (step first r.machine r.turns event enabled.0 h) enabled.1
 
 -- what a reader of the theorem sees of the invariant
 are_serial : (first : ℕ → Version) (ws : ℕ → Worker) (turns : List Place) → AreGood first ws turns → IsSerial first (decided turns)
@@ -70,4 +72,6 @@ serial_run opening end h = record {
 }
 
 pub every_run : (opening : Machine) (events : List Event) → IsOpening opening → AreEnabled opening events → IsSerialRun opening (run opening events)
-every_run opening events opens enabled = serial_run opening (run opening events) (sound_on (first_versions opening) (record { machine = opening; turns = [] }) events (opens_sound opening opens) enabled)
+every_run opening events opens enabled =
+    serial_run opening (run opening events)
+    (sound_on (first_versions opening) (record { machine = opening; turns = [] }) events (opens_sound opening opens) enabled)

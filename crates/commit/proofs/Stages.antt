@@ -1,5 +1,7 @@
--- The stages of a commit that nobody acts between: it locks record after_event record, validates read after_event read, and installs or unlocks record after_event record.
-use Rattle.std.proofs.Common.{◌≡◌, ◌≢◌, ℕ, ◌<◌, true, false, Option, Some, None, is_some, List, [], ◌∷◌, ◌++◌, length, All, refl, sym, ap, ◌∙◌, subst, arith, append-nil, append_assoc}
+-- The stages of a commit that nobody acts between: it locks record after_event record, validates read after_event read, and installs or unlocks record
+-- after_event record.
+use Rattle.std.proofs.Common.{◌≡◌, ◌≢◌, ℕ, ◌<◌, true, false, Option, Some, None, is_some, List, [], ◌∷◌, ◌++◌, length, All, refl, sym, ap, ◌∙◌, subst, arith}
+use Rattle.std.proofs.Common.{append-nil, append_assoc}
 use Rattle.std.proofs.lemmas.List.Elements.{All-nil, All-cons, All-append}
 use Rattle.std.specs.List.{AllByRecursion}
 use Rattle.tidword.specs.TidWord.{is_locked}
@@ -47,13 +49,17 @@ lock_all w (note ∷ notes) m x own begun present ascend within below free =
     lock_all w notes n y now begun (subst (λ q. w < q) (sym kept.workers) present) ascend.1
     (subst (λ q. AllByRecursion (λ other. other.0 < q) notes) (sym size) within.1)
     (each (λ other. (note.0 < other.0) × All (λ lock. lock.0 < other.0) x.locks) (λ other. All (λ lock. lock.0 < other.0) y.locks)
-    (λ other h. All-append (λ lock. lock.0 < other.0) x.locks (note ∷ []) h.1 (All-cons (λ lock. lock.0 < other.0) note [] h.0 (All-nil (λ lock. lock.0 < other.0))))
+    (λ other h. All-append (λ lock. lock.0 < other.0) x.locks (note ∷ []) h.1
+    (All-cons (λ lock. lock.0 < other.0) note [] h.0 (All-nil (λ lock. lock.0 < other.0))))
     notes (both _ _ notes ascend.0 below.1))
     (each (λ other. (note.0 < other.0) × (is_locked (cell m other.0).word ≡ false)) (λ other. is_locked (cell n other.0).word ≡ false)
     (λ other h. ap (λ (c : Cell). is_locked c.word) (elsewhere other.0 (omega (arith, h.0))) ∙ h.1)
     notes (both _ _ notes ascend.0 free.1)) in
     let end : Machine = after_all n (locks_of w notes) in (
-      ((present, within.0, ap (λ (q : Worker). q.phase) own ∙ begun, subst (λ (q : Worker). All (λ lock. lock.0 < note.0) q.locks) (sym own) below.0, free.0), later.0),
+      (
+        (present, within.0, ap (λ (q : Worker). q.phase) own ∙ begun, subst (λ (q : Worker). All (λ lock. lock.0 < note.0) q.locks) (sym own) below.0, free.0),
+        later.0,
+      ),
       record {
         own = later.1.own ∙ ap (λ l. record x { locks = l }) (append_assoc x.locks (note ∷ []) notes);
         cells = sweep locked_for (cell m) (cell n) (cell end) note.0 note.1 notes ascend.0 (λ c. refl) here elsewhere later.1.cells;
@@ -64,7 +70,8 @@ lock_all w (note ∷ notes) m x own begun present ascend within below free =
 
 pub validate_all : (w : ℕ) (notes rest : Reads) (m : Machine) (x : Worker) → worker m w ≡ x → x.phase ≡ Entered → w < length m.workers
     → HoldSame x.reads (notes ++ rest) → Ascend (notes ++ rest) → AllByRecursion (λ note. still_holds (cell m note.0) x note.0 note.1 ≡ true) notes
-    → Runs m (validations_of w notes) (λ n. Leaves w m n (record x { reads = without_all x.reads notes; validated = x.validated ++ notes }) (λ r c. c) m.finished)
+    → Runs m (validations_of w notes)
+    (λ n. Leaves w m n (record x { reads = without_all x.reads notes; validated = x.validated ++ notes }) (λ r c. c) m.finished)
 validate_all w [] rest m x own entered present same ascend holds = (
   tt,
   record {
@@ -83,11 +90,14 @@ validate_all w (note ∷ notes) rest m x own entered present same ascend holds =
     ∙ ap (validated_by x note.0 (cell m note.0)) is_held
     ∙ ap (checked x note.0 note.1) holds.0 in
     let kept : KeepsOthers m n w = keeps w m n _ refl refl refl in
-    let later : Runs n (validations_of w notes) (λ q. Leaves w n q (record y { reads = without_all y.reads notes; validated = y.validated ++ notes }) (λ r c. c) n.finished) =
-    validate_all w notes rest n y now entered (subst (λ q. w < q) (sym kept.workers) present) (same_without x.reads note.0 note.1 (notes ++ rest) same ascend.0) ascend.1 holds.1 in (
+    let later : Runs n (validations_of w notes)
+    (λ q. Leaves w n q (record y { reads = without_all y.reads notes; validated = y.validated ++ notes }) (λ r c. c) n.finished) =
+    validate_all w notes rest n y now entered (subst (λ q. w < q) (sym kept.workers) present) (same_without x.reads note.0 note.1 (notes ++ rest) same ascend.0)
+    ascend.1 holds.1 in (
       ((present, ap (λ (q : Worker). q.phase) own ∙ entered, ap (λ (q : Worker). is_some (note_at q.reads note.0)) own ∙ ap is_some is_held), later.0),
       record {
-        own = later.1.own ∙ ap (λ l. record x { reads = without_all (without x.reads note.0) notes; validated = l }) (append_assoc x.validated (note ∷ []) notes);
+        own = later.1.own ∙ ap (λ l. record x { reads = without_all (without x.reads note.0) notes; validated = l })
+            (append_assoc x.validated (note ∷ []) notes);
         cells = later.1.cells;
         finished = later.1.finished;
         rest = keeps_more m n _ w kept later.1.rest;
@@ -96,7 +106,8 @@ validate_all w (note ∷ notes) rest m x own entered present same ascend holds =
 
 pub install_all : (w count : ℕ) (notes : Writes) (m : Machine) (x : Worker) → worker m w ≡ x → x.phase ≡ Chosen → w < length m.workers
     → x.locks ≡ notes → Ascend notes → AllByRecursion (λ note. note.0 < length m.records) notes → m.finished ≡ finished_by count x
-    → Runs m (installs_of w notes) (λ n. Leaves w m n (record x { locks = [] }) (λ r c. written_cell c x.last (note_at notes r)) (finished_by count (record x { locks = [] })))
+    → Runs m (installs_of w notes)
+    (λ n. Leaves w m n (record x { locks = [] }) (λ r c. written_cell c x.last (note_at notes r)) (finished_by count (record x { locks = [] })))
 install_all w count [] m x own phase present locks ascend within counted = (
   tt,
   record {
@@ -111,7 +122,8 @@ install_all w count (note ∷ notes) m x own phase present locks ascend within c
     let y : Worker = record x { locks = notes } in
     let is_held : note_at x.locks note.0 ≡ Some note.1 = ap (λ l. note_at l note.0) locks ∙ held_first note.0 note.1 notes in
     let taken : without x.locks note.0 ≡ notes = ap (λ l. without l note.0) locks ∙ without_first note.0 note.1 notes ascend.0 in
-    let left : record (worker m w) { locks = without (worker m w).locks note.0 } ≡ y = ap (λ (q : Worker). record q { locks = without q.locks note.0 }) own ∙ ap (λ l. record x { locks = l }) taken in
+    let left : record (worker m w) { locks = without (worker m w).locks note.0 } ≡ y = ap (λ (q : Worker). record q { locks = without q.locks note.0 }) own
+    ∙ ap (λ l. record x { locks = l }) taken in
     let now : worker n w ≡ y = becomes w m n _ refl present ∙ left in
     let here : cell n note.0 ≡ written_cell (cell m note.0) x.last (Some note.1) = cell_here note.0 m n _ refl within.0
     ∙ ap (λ (q : Worker). written_cell (cell m note.0) q.last (note_at q.locks note.0)) own
@@ -121,7 +133,8 @@ install_all w count (note ∷ notes) m x own phase present locks ascend within c
     let kept : KeepsOthers m n w = keeps w m n _ refl size refl in
     let before : m.finished ≡ count = counted ∙ (λ i. finished_by count (record x { phase = phase i; locks = locks i })) in
     let counts : n.finished ≡ finished_by count y = (λ i. finished_by (before i) (left i)) in
-    let later : Runs n (installs_of w notes) (λ q. Leaves w n q (record y { locks = [] }) (λ r c. written_cell c y.last (note_at notes r)) (finished_by count (record y { locks = [] }))) =
+    let later : Runs n (installs_of w notes)
+    (λ q. Leaves w n q (record y { locks = [] }) (λ r c. written_cell c y.last (note_at notes r)) (finished_by count (record y { locks = [] }))) =
     install_all w count notes n y now phase (subst (λ q. w < q) (sym kept.workers) present) refl ascend.1
     (subst (λ q. AllByRecursion (λ other. other.0 < q) notes) (sym size) within.1) counts in
     let end : Machine = after_all n (installs_of w notes) in (
@@ -151,7 +164,8 @@ unlock_all w (note ∷ notes) m x own phase present locks ascend within =
     let y : Worker = record x { locks = notes } in
     let is_held : note_at x.locks note.0 ≡ Some note.1 = ap (λ l. note_at l note.0) locks ∙ held_first note.0 note.1 notes in
     let taken : without x.locks note.0 ≡ notes = ap (λ l. without l note.0) locks ∙ without_first note.0 note.1 notes ascend.0 in
-    let now : worker n w ≡ y = becomes w m n _ refl present ∙ ap (λ (q : Worker). record q { locks = without q.locks note.0 }) own ∙ ap (λ l. record x { locks = l }) taken in
+    let now : worker n w ≡ y = becomes w m n _ refl present ∙ ap (λ (q : Worker). record q { locks = without q.locks note.0 }) own
+    ∙ ap (λ l. record x { locks = l }) taken in
     let here : cell n note.0 ≡ unlocked_cell (cell m note.0) = cell_here note.0 m n _ refl within.0 in
     let elsewhere : (k : ℕ) → k ≢ note.0 → cell n k ≡ cell m k = cell_elsewhere note.0 m n _ refl in
     let size : length n.records ≡ length m.records = as_many note.0 m n _ refl in

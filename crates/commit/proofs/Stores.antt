@@ -1,5 +1,6 @@
 -- What a worker's step does to the locks, and to what is to be installed.
-use Rattle.std.proofs.Common.{◌≡◌, ◌≢◌, ℕ, ◌%◌, ◌<◌, ◌≤◌, ◌⊎◌, true, false, true≢false, Option, Some, None, List, [], ◌∷◌, ◌++◌, refl, sym, ap, ◌∙◌, subst, inl, inr, ⊎_elim, arith}
+use Rattle.std.proofs.Common.{◌≡◌, ◌≢◌, ℕ, ◌%◌, ◌<◌, ◌≤◌, ◌⊎◌, true, false, true≢false, Option, Some, None, List, [], ◌∷◌, ◌++◌, refl, sym, ap, ◌∙◌, subst, inl}
+use Rattle.std.proofs.Common.{inr, ⊎_elim, arith}
 use Rattle.std.proofs.lemmas.Bool.{cases_eq}
 use Rattle.tidword.specs.TidWord.{is_locked}
 use Rattle.tidword.proofs.Words.{installed-tid}
@@ -44,7 +45,8 @@ nothing_idle x r h = ⊎_elim
     over p = unchecked p (note_at x.reads r)
 
 -- a record that changes to another with the same version
-pub versions_kept : {cs cs' : ℕ → Cell} {n : ℕ} {c : Cell} → Changes cs cs' n c → version_of c ≡ version_of (cs n) → (r : ℕ) → version_of (cs' r) ≡ version_of (cs r)
+pub versions_kept : {cs cs' : ℕ → Cell} {n : ℕ} {c : Cell} → Changes cs cs' n c → version_of c ≡ version_of (cs n) → (r : ℕ)
+    → version_of (cs' r) ≡ version_of (cs r)
 versions_kept {cs} {cs'} {n} {c} change same = spread (λ r (d : Cell). version_of d ≡ version_of (cs r)) change same (λ k e. refl)
 
 module _ (ws ws' : ℕ → Worker) (cs cs' : ℕ → Cell) (w : ℕ) (x : Worker) (change : Changes ws ws' w x) where
@@ -57,14 +59,16 @@ module _ (ws ws' : ℕ → Worker) (cs cs' : ℕ → Cell) (w : ℕ) (x : Worker
   locks_kept h fewer still reads grown = record {
     locked = λ k r value e. still k r value e (h.locked k r value (had k r value e));
     single = λ k j r value other e f. h.single k j r value other (had k r value e) (had j r other f);
-    fresh = λ k r v. spread (λ k (x : Worker). to_check x r ≡ Some v → IsFresh v (version_of (cs' r))) change (λ e. grown r v (reads r v e)) (λ k apart e. grown r v (h.fresh k r v e)) k;
+    fresh = λ k r v. spread (λ k (x : Worker). to_check x r ≡ Some v → IsFresh v (version_of (cs' r))) change (λ e. grown r v (reads r v e))
+        (λ k apart e. grown r v (h.fresh k r v e)) k;
   }
     where
       had : (k r : ℕ) (value : Option (List ℕ)) → note_at (ws' k).locks r ≡ Some value → note_at (ws k).locks r ≡ Some value
       had k r value = spread (λ k (x : Worker). note_at x.locks r ≡ Some value → note_at (ws k).locks r ≡ Some value) change (fewer r value) (λ k apart e. e) k
 
 -- worker w locks record n, which isn't locked
-module _ (ws ws' : ℕ → Worker) (cs cs' : ℕ → Cell) (w n : ℕ) (locked_with : Option (List ℕ)) (change : Changes ws ws' w (record (ws w) { locks = (ws w).locks ++ (n, locked_with) ∷ [] })) (changed : Changes cs cs' n (locked_cell (cs n))) where
+module _ (ws ws' : ℕ → Worker) (cs cs' : ℕ → Cell) (w n : ℕ) (locked_with : Option (List ℕ))
+    (change : Changes ws ws' w (record (ws w) { locks = (ws w).locks ++ (n, locked_with) ∷ [] })) (changed : Changes cs cs' n (locked_cell (cs n))) where
   pub locks_taken : HaveLocks ws cs → is_locked (cs n).word ≡ false → HaveLocks ws' cs'
   locks_taken h unlocked = record {
     locked = λ k r value e. ⊎_elim
@@ -109,15 +113,18 @@ module _ (first : ℕ → Version) (ws ws' : ℕ → Worker) (cs cs' : ℕ → C
       (λ (e : k ≢ w). sym (ap (λ (x : Worker). to_install x r) (change.there k e)) ∙ all k)
       (cases_eq k w)
 
-  pub quiet : (transactions : List Transaction) → AreStored first ws cs transactions → ((r : ℕ) → to_install (ws w) r ≡ None) → ((r : ℕ) → to_install x r ≡ None)
+  pub quiet : (transactions : List Transaction) → AreStored first ws cs transactions → ((r : ℕ) → to_install (ws w) r ≡ None)
+      → ((r : ℕ) → to_install x r ≡ None)
       → ((r : ℕ) → version_of (cs' r) ≡ version_of (cs r)) → AreStored first ws' cs' transactions
   quiet transactions h before later same = record {
     to_come = λ k r value. spread
-        (λ k (x : Worker). to_install x r ≡ Some value → (now first transactions r ≡ record { tid = x.last; value = value }) × ((version_of (cs' r)).tid < x.last) × (x.last % 8 ≡ 0))
+        (λ k (x : Worker). to_install x r ≡ Some value → (now first transactions r ≡ record { tid = x.last; value = value })
+        × ((version_of (cs' r)).tid < x.last) × (x.last % 8 ≡ 0))
         change
         (λ e. absurd (never_both (later r) e))
         (λ k apart e.
-        let old : (now first transactions r ≡ record { tid = (ws k).last; value = value }) × ((version_of (cs r)).tid < (ws k).last) × ((ws k).last % 8 ≡ 0) = h.to_come k r value e in
+        let old : (now first transactions r ≡ record { tid = (ws k).last; value = value }) × ((version_of (cs r)).tid < (ws k).last) × ((ws k).last % 8 ≡ 0) =
+        h.to_come k r value e in
         (old.0, subst (λ (v : Version). v.tid < (ws k).last) (sym (same r)) old.1, old.2))
         k;
     settled = λ r all. h.settled r (nothing_before r (before r) all) ∙ sym (same r);
@@ -125,16 +132,19 @@ module _ (first : ℕ → Version) (ws ws' : ℕ → Worker) (cs cs' : ℕ → C
 
 -- worker w has taken a TID
 module _ (first : ℕ → Version) (ws ws' : ℕ → Worker) (cs : ℕ → Cell) (w tid : ℕ) (change : Changes ws ws' w (chosen (ws w) (Some tid))) where
-  pub choice : (turns : List Place) → AreStored first ws cs (decided turns) → HaveLocks ws cs → AreGood first ws turns → IsWaiting w turns → (ws w).phase ≡ Entered → tid % 8 ≡ 0
+  pub choice : (turns : List Place) → AreStored first ws cs (decided turns) → HaveLocks ws cs → AreGood first ws turns → IsWaiting w turns
+      → (ws w).phase ≡ Entered → tid % 8 ≡ 0
       → ((r : ℕ) (value : Option (List ℕ)) → note_at (ws w).locks r ≡ Some value → (version_of (cs r)).tid < tid)
       → AreStored first ws' cs (decided (decide w (transaction_of w (chosen (ws w) (Some tid))) turns))
   choice turns h locks good waits entered bits above = record {
     to_come = λ k r value. spread
-        (λ k (x : Worker). to_install x r ≡ Some value → (now first later r ≡ record { tid = x.last; value = value }) × ((version_of (cs r)).tid < x.last) × (x.last % 8 ≡ 0))
+        (λ k (x : Worker). to_install x r ≡ Some value → (now first later r ≡ record { tid = x.last; value = value }) × ((version_of (cs r)).tid < x.last)
+        × (x.last % 8 ≡ 0))
         change
         (λ e. (now_written first ws ws' w tid change turns r value good waits e, above r value e, bits))
         (λ k apart e.
-        let old : (now first (decided turns) r ≡ record { tid = (ws k).last; value = value }) × ((version_of (cs r)).tid < (ws k).last) × ((ws k).last % 8 ≡ 0) = h.to_come k r value e in
+        let old : (now first (decided turns) r ≡ record { tid = (ws k).last; value = value }) × ((version_of (cs r)).tid < (ws k).last)
+        × ((ws k).last % 8 ≡ 0) = h.to_come k r value e in
         let lock : note_at (ws k).locks r ≡ Some value = pending_held (ws k).phase (note_at (ws k).locks r) value e in
         let none : note_at (ws w).locks r ≡ None = none_of (note_at (ws w).locks r) (λ u f. apart (locks.single k w r value u lock f)) in
         (now_same first ws ws' w tid change turns r (λ _. none) ∙ old.0, old.1, old.2))
@@ -148,8 +158,10 @@ module _ (first : ℕ → Version) (ws ws' : ℕ → Worker) (cs : ℕ → Cell)
 
 -- worker w installs record n
 module _ (first : ℕ → Version) (ws ws' : ℕ → Worker) (cs cs' : ℕ → Cell) (w n : ℕ) (installed : Option (List ℕ))
-    (change : Changes ws ws' w (record (ws w) { locks = without (ws w).locks n })) (changed : Changes cs cs' n (written_cell (cs n) (ws w).last (Some installed)))
-    (transactions : List Transaction) (h : AreStored first ws cs transactions) (locks : HaveLocks ws cs) (is_chosen : (ws w).phase ≡ Chosen) (lock : note_at (ws w).locks n ≡ Some installed) where
+    (change : Changes ws ws' w (record (ws w) { locks = without (ws w).locks n }))
+    (changed : Changes cs cs' n (written_cell (cs n) (ws w).last (Some installed)))
+    (transactions : List Transaction) (h : AreStored first ws cs transactions) (locks : HaveLocks ws cs) (is_chosen : (ws w).phase ≡ Chosen)
+    (lock : note_at (ws w).locks n ≡ Some installed) where
   its : (now first transactions n ≡ record { tid = (ws w).last; value = installed }) × ((version_of (cs n)).tid < (ws w).last) × ((ws w).last % 8 ≡ 0)
   its = h.to_come w n installed (ap (λ p. pending p (note_at (ws w).locks n)) is_chosen ∙ lock)
 
@@ -163,7 +175,8 @@ module _ (first : ℕ → Version) (ws ws' : ℕ → Worker) (cs cs' : ℕ → C
       (λ k apart. pending_none (ws k).phase (note_at (ws k).locks n) (none_of (note_at (ws k).locks n) (λ u e. apart (locks.single k w n u installed e lock))))
 
   as_before : (k r : ℕ) → r ≢ n → to_install (ws' k) r ≡ to_install (ws k) r
-  as_before k r e = spread (λ k (x : Worker). to_install x r ≡ to_install (ws k) r) change (ap (pending (ws w).phase) (held_elsewhere (ws w).locks n r e)) (λ k apart. refl) k
+  as_before k r e = spread (λ k (x : Worker). to_install x r ≡ to_install (ws k) r) change (ap (pending (ws w).phase) (held_elsewhere (ws w).locks n r e))
+      (λ k apart. refl) k
 
   same_last : (k : ℕ) → (ws' k).last ≡ (ws k).last
   same_last k = spread (λ k (x : Worker). x.last ≡ (ws k).last) change refl (λ k apart. refl) k
@@ -173,7 +186,8 @@ module _ (first : ℕ → Version) (ws ws' : ℕ → Worker) (cs cs' : ℕ → C
     to_come = λ k r value e. ⊎_elim
         (λ (q : r ≡ n). absurd (never_both (ap (to_install (ws' k)) q ∙ none_here k) e))
         (λ (q : r ≢ n).
-        let old : (now first transactions r ≡ record { tid = (ws k).last; value = value }) × ((version_of (cs r)).tid < (ws k).last) × ((ws k).last % 8 ≡ 0) = h.to_come k r value (sym (as_before k r q) ∙ e) in
+        let old : (now first transactions r ≡ record { tid = (ws k).last; value = value }) × ((version_of (cs r)).tid < (ws k).last) × ((ws k).last % 8 ≡ 0) =
+        h.to_come k r value (sym (as_before k r q) ∙ e) in
         subst (λ t. (now first transactions r ≡ record { tid = t; value = value }) × ((version_of (cs' r)).tid < t) × (t % 8 ≡ 0)) (sym (same_last k))
         (old.0, subst (λ (c : Cell). (version_of c).tid < (ws k).last) (sym (changed.there r q)) old.1, old.2))
         (cases_eq r n);
@@ -195,7 +209,8 @@ module _ (first : ℕ → Version) (ws ws' : ℕ → Worker) (cs cs' : ℕ → C
       (cases_eq r n)
 
 -- worker w's lock of record n is gone, and nobody has another
-pub left : (ws ws' : ℕ → Worker) (cs : ℕ → Cell) (w n : ℕ) (mine : Option (List ℕ)) → Changes ws ws' w (record (ws w) { locks = without (ws w).locks n }) → HaveLocks ws cs → note_at (ws w).locks n ≡ Some mine
+pub left : (ws ws' : ℕ → Worker) (cs : ℕ → Cell) (w n : ℕ) (mine : Option (List ℕ)) → Changes ws ws' w (record (ws w) { locks = without (ws w).locks n })
+    → HaveLocks ws cs → note_at (ws w).locks n ≡ Some mine
     → (k r : ℕ) (value : Option (List ℕ)) → note_at (ws' k).locks r ≡ Some value → r ≢ n
 left ws ws' cs w n mine change h lock k r value = spread (λ k (x : Worker). note_at x.locks r ≡ Some value → r ≢ n) change
     (λ e. (held_left (ws w).locks n r value e).0)

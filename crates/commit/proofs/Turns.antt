@@ -1,5 +1,6 @@
 -- What a worker's step does to the turns: it gives up its turn or never had one, validates a read, or decides.
-use Rattle.std.proofs.Common.{◌≡◌, ◌≢◌, ℕ, ◌/◌, ◌%◌, ◌^◌, ◌<◌, ◌≤◌, ◌⊎◌, true, cond, Option, Some, None, List, [], ◌∷◌, ◌++◌, refl, sym, ap, ◌∙◌, subst, inl, inr, ⊎_elim, arith, le_trans, le_refl}
+use Rattle.std.proofs.Common.{◌≡◌, ◌≢◌, ℕ, ◌/◌, ◌%◌, ◌^◌, ◌<◌, ◌≤◌, ◌⊎◌, true, cond, Option, Some, None, List, [], ◌∷◌, ◌++◌, refl, sym, ap, ◌∙◌, subst, inl}
+use Rattle.std.proofs.Common.{inr, ⊎_elim, arith, le_trans, le_refl}
 use Rattle.std.proofs.lemmas.Bool.{cases_eq}
 use Rattle.std.proofs.lemmas.List.Elements.{All-nil, All-cons, All-head, All-tail, All-same}
 use Rattle.std.specs.List.{All}
@@ -37,7 +38,8 @@ pub record Goes (first : ℕ → Version) (ws ws' : ℕ → Worker) (w : ℕ) (t
   pub reads : (k r : ℕ) (v : Version) → IsWaiting k turns' → note_at (ws' k).reads r ≡ Some v → note_at (ws k).reads r ≡ Some v
   pub same : (r : ℕ) → (IsWaiting w turns → note_at (ws w).locks r ≡ None) → now first (decided turns') r ≡ now first (decided turns) r
   pub lasts : (k : ℕ) → tid_of (ws k).last ≤ tid_of (ws' k).last
-  pub rising : (t : Transaction) → (IsWaiting w turns → w ≢ t.worker) → All (λ u. u.worker ≡ t.worker → u.tid < t.tid) (decided turns) → All (λ u. u.worker ≡ t.worker → u.tid < t.tid) (decided turns')
+  pub rising : (t : Transaction) → (IsWaiting w turns → w ≢ t.worker) → All (λ u. u.worker ≡ t.worker → u.tid < t.tid) (decided turns)
+      → All (λ u. u.worker ≡ t.worker → u.tid < t.tid) (decided turns')
 
 module _ (first : ℕ → Version) (ws ws' : ℕ → Worker) (w : ℕ) (turns turns' : List Place) (goes : Goes first ws ws' w turns turns') where
   pub found_goes : (reads : List (ℕ × Version)) → AreFound first ws reads turns → AreFound first ws' reads turns'
@@ -73,7 +75,8 @@ module _ (first : ℕ → Version) (ws ws' : ℕ → Worker) (w : ℕ) (turns tu
 -- who waits once worker w has given up
 pub given_up : (w k : ℕ) (turns : List Place) → IsWaiting k (give_up w turns) → (k ≢ w) × IsWaiting k turns
 given_up w k [] h = absurd h
-given_up w k (Waiting j e ∷ turns) h = by_test (λ b. IsWaiting k (cond b (give_up w turns) (Waiting j e ∷ give_up w turns)) → (k ≢ w) × ((j ≡ k) ⊎ IsWaiting k turns)) j w
+given_up w k (Waiting j e ∷ turns) h =
+    by_test (λ b. IsWaiting k (cond b (give_up w turns) (Waiting j e ∷ give_up w turns)) → (k ≢ w) × ((j ≡ k) ⊎ IsWaiting k turns)) j w
     (λ same h. let q : (k ≢ w) × IsWaiting k turns = given_up w k turns h in (q.0, inr q.1))
     (λ other h. ⊎_elim
     (λ (e : j ≡ k). (λ q. other (e ∙ q), inl e))
@@ -84,7 +87,8 @@ given_up w k (Decided t ∷ turns) h = given_up w k turns h
 
 pub still_waits : (w k : ℕ) (turns : List Place) → k ≢ w → IsWaiting k turns → IsWaiting k (give_up w turns)
 still_waits w k [] apart h = absurd h
-still_waits w k (Waiting j e ∷ turns) apart h = by_test (λ b. (j ≡ k) ⊎ IsWaiting k turns → IsWaiting k (cond b (give_up w turns) (Waiting j e ∷ give_up w turns))) j w
+still_waits w k (Waiting j e ∷ turns) apart h =
+    by_test (λ b. (j ≡ k) ⊎ IsWaiting k turns → IsWaiting k (cond b (give_up w turns) (Waiting j e ∷ give_up w turns))) j w
     (λ same h. ⊎_elim (λ (e : j ≡ k). absurd (apart (sym e ∙ same))) (λ (q : IsWaiting k turns). still_waits w k turns apart q) h)
     (λ other h. ⊎_elim (λ (e : j ≡ k). inl e) (λ (q : IsWaiting k turns). inr (still_waits w k turns apart q)) h)
     h
@@ -147,7 +151,8 @@ module _ (first : ℕ → Version) (ws ws' : ℕ → Worker) (w n : ℕ) (v : Ve
   goes_checked turns = record {
     waiting = λ k q. q;
     locks = λ k r q. spread (λ k (x : Worker). note_at (ws k).locks r ≡ None → note_at x.locks r ≡ None) change (λ h. h) (λ k e h. h) k;
-    reads = λ k r u q. spread (λ k (x : Worker). note_at x.reads r ≡ Some u → note_at (ws k).reads r ≡ Some u) change (λ h. (held_left (ws w).reads n r u h).1) (λ k e h. h) k;
+    reads = λ k r u q. spread (λ k (x : Worker). note_at x.reads r ≡ Some u → note_at (ws k).reads r ≡ Some u) change (λ h. (held_left (ws w).reads n r u h).1)
+        (λ k e h. h) k;
     same = λ r _. refl;
     lasts = spread (λ k (x : Worker). tid_of (ws k).last ≤ tid_of x.last) change (le_refl (tid_of (ws w).last)) (λ k apart. le_refl (tid_of (ws k).last));
     rising = λ t _ h. h;
@@ -181,7 +186,8 @@ module _ (first : ℕ → Version) (ws ws' : ℕ → Worker) (w n : ℕ) (v : Ve
           phase = ap (λ (x : Worker). x.phase) change.here ∙ waits.phase;
           epoch = ap (λ (x : Worker). x.epoch) change.here ∙ waits.epoch;
           once = waits.once;
-          validated = subst (λ (x : Worker). AreFound first ws' x.validated turns) (sym change.here) (found_checked turns waits.validated waits.once unlocked (current (inl same)));
+          validated = subst (λ (x : Worker). AreFound first ws' x.validated turns) (sym change.here)
+              (found_checked turns waits.validated waits.once unlocked (current (inl same)));
         }),
         good_checked turns h.1 read unlocked (λ q. absurd (waits.once q)),
       ))
@@ -211,7 +217,8 @@ module _ (first : ℕ → Version) (ws ws' : ℕ → Worker) (w tid : ℕ) (chan
 
   pub waited : (k : ℕ) (turns : List Place) → IsWaiting k (decide w own turns) → IsWaiting k turns
   waited k [] h = absurd h
-  waited k (Waiting j e ∷ turns) h = by_test (λ b. IsWaiting k (cond b (Decided own ∷ turns) (Waiting j e ∷ decide w own turns)) → (j ≡ k) ⊎ IsWaiting k turns) j w
+  waited k (Waiting j e ∷ turns) h = by_test (λ b. IsWaiting k (cond b (Decided own ∷ turns) (Waiting j e ∷ decide w own turns)) → (j ≡ k) ⊎ IsWaiting k turns)
+      j w
       (λ same h. inr h)
       (λ other h. ⊎_elim (λ (e : j ≡ k). inl e) (λ (q : IsWaiting k (decide w own turns)). inr (waited k turns q)) h)
       h
@@ -219,16 +226,19 @@ module _ (first : ℕ → Version) (ws ws' : ℕ → Worker) (w tid : ℕ) (chan
 
   pub waits_on : (k : ℕ) (turns : List Place) → k ≢ w → IsWaiting k turns → IsWaiting k (decide w own turns)
   waits_on k [] apart h = absurd h
-  waits_on k (Waiting j e ∷ turns) apart h = by_test (λ b. (j ≡ k) ⊎ IsWaiting k turns → IsWaiting k (cond b (Decided own ∷ turns) (Waiting j e ∷ decide w own turns))) j w
+  waits_on k (Waiting j e ∷ turns) apart h =
+      by_test (λ b. (j ≡ k) ⊎ IsWaiting k turns → IsWaiting k (cond b (Decided own ∷ turns) (Waiting j e ∷ decide w own turns))) j w
       (λ same h. ⊎_elim (λ (e : j ≡ k). absurd (apart (sym e ∙ same))) (λ (q : IsWaiting k turns). q) h)
       (λ other h. ⊎_elim (λ (e : j ≡ k). inl e) (λ (q : IsWaiting k turns). inr (waits_on k turns apart q)) h)
       h
   waits_on k (Decided t ∷ turns) apart h = waits_on k turns apart h
 
   -- a record that it doesn't write is as before, and one that it writes has its version
-  pub now_same : (turns : List Place) (r : ℕ) → (IsWaiting w turns → note_at (ws w).locks r ≡ None) → now first (decided (decide w own turns)) r ≡ now first (decided turns) r
+  pub now_same : (turns : List Place) (r : ℕ) → (IsWaiting w turns → note_at (ws w).locks r ≡ None)
+      → now first (decided (decide w own turns)) r ≡ now first (decided turns) r
   now_same [] r free = refl
-  now_same (Waiting j e ∷ turns) r free = by_test (λ b. now first (decided (cond b (Decided own ∷ turns) (Waiting j e ∷ decide w own turns))) r ≡ now first (decided turns) r) j w
+  now_same (Waiting j e ∷ turns) r free =
+      by_test (λ b. now first (decided (cond b (Decided own ∷ turns) (Waiting j e ∷ decide w own turns))) r ≡ now first (decided turns) r) j w
       (λ same. ap (overwritten (now first (decided turns) r) tid) (free (inl same)))
       (λ other. now_same turns r (λ q. free (inr q)))
   now_same (Decided t ∷ turns) r free = ap (λ (v : Version). overwritten v t.tid (note_at t.writes r)) (now_same turns r free)
@@ -236,7 +246,8 @@ module _ (first : ℕ → Version) (ws ws' : ℕ → Worker) (w tid : ℕ) (chan
   pub now_written : (turns : List Place) (r : ℕ) (value : Option (List ℕ)) → AreGood first ws turns → IsWaiting w turns → note_at (ws w).locks r ≡ Some value
       → now first (decided (decide w own turns)) r ≡ record { tid = tid; value = value }
   now_written [] r value h q lock = absurd q
-  now_written (Waiting j e ∷ turns) r value h q lock = by_test (λ b. now first (decided (cond b (Decided own ∷ turns) (Waiting j e ∷ decide w own turns))) r ≡ record { tid = tid; value = value }) j w
+  now_written (Waiting j e ∷ turns) r value h q lock =
+      by_test (λ b. now first (decided (cond b (Decided own ∷ turns) (Waiting j e ∷ decide w own turns))) r ≡ record { tid = tid; value = value }) j w
       (λ same. ap (overwritten (now first (decided turns) r) tid) lock)
       (λ other. ⊎_elim (λ (e : j ≡ w). absurd (other e)) (λ (q : IsWaiting w turns). now_written turns r value h.1 q lock) q)
   now_written (Decided t ∷ turns) r value h q lock =
@@ -255,7 +266,8 @@ module _ (first : ℕ → Version) (ws ws' : ℕ → Worker) (w tid : ℕ) (chan
 
   -- its locks are its own, and its TID is of its epoch and above what was read of the records that it has locked
   module _ (single : (k r : ℕ) (value other : Option (List ℕ)) → note_at (ws w).locks r ≡ Some value → note_at (ws k).locks r ≡ Some other → w ≡ k)
-      (above : (k r : ℕ) (value : Option (List ℕ)) (v : Version) → (ws k).phase ≡ Entered → note_at (ws w).locks r ≡ Some value → note_at (ws k).reads r ≡ Some v → v.tid < tid)
+      (above : (k r : ℕ) (value : Option (List ℕ)) (v : Version) → (ws k).phase ≡ Entered → note_at (ws w).locks r ≡ Some value
+      → note_at (ws k).reads r ≡ Some v → v.tid < tid)
       (above_read : (r : ℕ) (v : Version) → note_at (ws w).validated r ≡ Some v → v.tid < tid)
       (in_epoch : tid / 2 ^ 32 ≡ (ws w).epoch) (bits : tid % 8 ≡ 0) (above_last : tid_of (ws w).last < tid) where
     no_smaller : tid_of (ws w).last ≤ tid_of tid
@@ -265,14 +277,17 @@ module _ (first : ℕ → Version) (ws ws' : ℕ → Worker) (w tid : ℕ) (chan
     whole = omega arith
 
     -- a transaction of another worker than w's rises over w's too
-    rising_decided : (t : Transaction) (turns : List Place) → (IsWaiting w turns → w ≢ t.worker) → All (λ u. u.worker ≡ t.worker → u.tid < t.tid) (decided turns)
+    rising_decided : (t : Transaction) (turns : List Place) → (IsWaiting w turns → w ≢ t.worker)
+        → All (λ u. u.worker ≡ t.worker → u.tid < t.tid) (decided turns)
         → All (λ u. u.worker ≡ t.worker → u.tid < t.tid) (decided (decide w own turns))
     rising_decided t [] other h = h
-    rising_decided t (Waiting j e ∷ turns) other h = by_test (λ b. All (λ u. u.worker ≡ t.worker → u.tid < t.tid) (decided (cond b (Decided own ∷ turns) (Waiting j e ∷ decide w own turns)))) j w
+    rising_decided t (Waiting j e ∷ turns) other h =
+        by_test (λ b. All (λ u. u.worker ≡ t.worker → u.tid < t.tid) (decided (cond b (Decided own ∷ turns) (Waiting j e ∷ decide w own turns)))) j w
         (λ same. All-cons (λ u. u.worker ≡ t.worker → u.tid < t.tid) own (decided turns) (λ q. absurd (other (inl same) q)) h)
         (λ _. rising_decided t turns (λ q. other (inr q)) h)
     rising_decided t (Decided u ∷ turns) other h =
-        All-cons (λ u. u.worker ≡ t.worker → u.tid < t.tid) u (decided (decide w own turns)) (All-head (λ u. u.worker ≡ t.worker → u.tid < t.tid) u (decided turns) h)
+        All-cons (λ u. u.worker ≡ t.worker → u.tid < t.tid) u (decided (decide w own turns))
+        (All-head (λ u. u.worker ≡ t.worker → u.tid < t.tid) u (decided turns) h)
         (rising_decided t turns other (All-tail (λ u. u.worker ≡ t.worker → u.tid < t.tid) u (decided turns) h))
 
     -- w's own TID is above those that it took before
@@ -293,10 +308,12 @@ module _ (first : ℕ → Version) (ws ws' : ℕ → Worker) (w tid : ℕ) (chan
       rising = λ t other h. rising_decided t turns other h;
     }
 
-    fits_own : (e : ℕ) (turns : List Place) → Waits first ws w e turns → AreGood first ws turns → ((r : ℕ) (value : Option (List ℕ)) → note_at (ws w).locks r ≡ Some value → (now first (decided turns) r).tid < tid) → Fits first ws' own turns
+    fits_own : (e : ℕ) (turns : List Place) → Waits first ws w e turns → AreGood first ws turns
+        → ((r : ℕ) (value : Option (List ℕ)) → note_at (ws w).locks r ≡ Some value → (now first (decided turns) r).tid < tid) → Fits first ws' own turns
     fits_own e turns waits good larger = record {
       reads = subst (λ (l : List Place). AreFound first ws' (ws w).validated l) (nothing_given_up w turns waits.once)
-          (found_goes first ws ws' w turns (give_up w turns) (goes_given_up first ws ws' w (chosen (ws w) (Some tid)) change no_smaller turns) (ws w).validated waits.validated);
+          (found_goes first ws ws' w turns (give_up w turns) (goes_given_up first ws ws' w (chosen (ws w) (Some tid)) change no_smaller turns) (ws w).validated
+          waits.validated);
       stamp = record { bits = bits; in_epoch = in_epoch; above_read = above_read; above_replaced = larger; above_own = rises turns good };
       apart = λ k r value q lock.
           let other : k ≢ w = λ p. waits.once (subst (λ j. IsWaiting j turns) p q) in
@@ -308,13 +325,17 @@ module _ (first : ℕ → Version) (ws ws' : ℕ → Worker) (w tid : ℕ) (chan
       reached = subst (λ (x : Worker). tid ≤ tid_of x.last) (sym change.here) whole;
     }
 
-    pub good_decided : (turns : List Place) → AreGood first ws turns → ((r : ℕ) (value : Option (List ℕ)) → note_at (ws w).locks r ≡ Some value → IsWaiting w turns → (now first (decided turns) r).tid < tid)
+    pub good_decided : (turns : List Place) → AreGood first ws turns
+        → ((r : ℕ) (value : Option (List ℕ)) → note_at (ws w).locks r ≡ Some value → IsWaiting w turns → (now first (decided turns) r).tid < tid)
         → AreGood first ws' (decide w own turns)
     good_decided [] h larger = tt
     good_decided (Waiting j e ∷ turns) h larger = by_test (λ b. AreGood first ws' (cond b (Decided own ∷ turns) (Waiting j e ∷ decide w own turns))) j w
         (λ same.
-        let waits : Waits first ws w e turns = subst (λ k. Waits first ws k e turns) same h.0 in
-        (fits_own e turns waits h.1 (λ r value lock. larger r value lock (inl same)), good_aside first ws ws' w (chosen (ws w) (Some tid)) change no_smaller turns waits.once h.1))
+        let waits : Waits first ws w e turns = subst (λ k. Waits first ws k e turns) same h.0 in (
+          fits_own e turns waits h.1 (λ r value lock. larger r value lock (inl same)),
+          good_aside first ws ws' w (chosen (ws w) (Some tid)) change no_smaller
+              turns waits.once h.1,
+        ))
         (λ other. (
           waits_goes first ws ws' w turns (decide w own turns) (goes_decided turns) j e (change.there j other) h.0,
           good_decided turns h.1 (λ r value lock q. larger r value lock (inr q)),

@@ -1,5 +1,6 @@
 -- TID words of records that are locked and unlocked.
-use Rattle.std.proofs.Common.{◌≡◌, ◌≢◌, ℕ, ◌+◌, ◌/◌, ◌%◌, ◌==◌, ◌&&◌, ◌||◌, Bool, true, false, not, Option, Some, None, is_some, max, List, [], ◌∷◌, refl, ap, ◌∙◌, arith, add-sub_cancel}
+use Rattle.std.proofs.Common.{◌≡◌, ◌≢◌, ℕ, ◌+◌, ◌/◌, ◌%◌, ◌==◌, ◌&&◌, ◌||◌, Bool, true, false, not, Option, Some, None, is_some, max, List, [], ◌∷◌, refl, ap}
+use Rattle.std.proofs.Common.{◌∙◌, arith, add-sub_cancel}
 use Rattle.std.proofs.lemmas.Bool.{eq-eqb, ne_eqb, and_from}
 use Rattle.tidword.specs.TidWord.{tid_of, is_locked, is_latest}
 use Rattle.commit.proofs.Words.{even, lock_keeps_tid}
@@ -33,7 +34,8 @@ free_or_own (Some value) c h = or_true (not (is_locked (locked_for (Some value) 
 free_or_own None c h = ap (λ b. not b || false) h
 
 -- a read of a record that its worker has locked, or nobody, stands where its TID is the record's
-pub stands : (x : Worker) (r : ℕ) (v : Version) (c : Cell) → is_locked c.word ≡ false → is_latest c.word ≡ true → tid_of c.word ≡ v.tid → still_holds (locked_for (note_at x.locks r) c) x r v ≡ true
+pub stands : (x : Worker) (r : ℕ) (v : Version) (c : Cell) → is_locked c.word ≡ false → is_latest c.word ≡ true → tid_of c.word ≡ v.tid
+    → still_holds (locked_for (note_at x.locks r) c) x r v ≡ true
 stands x r v c free latest same =
     let locked : Cell = locked_for (note_at x.locks r) c in
     and_from (tid_of locked.word == v.tid) _ (eq-eqb (tid_of locked.word) v.tid (same_tid (note_at x.locks r) c free ∙ same))
@@ -43,7 +45,8 @@ stands x r v c free latest same =
 pub falls : (x : Worker) (r : ℕ) (v : Version) (c : Cell) → tid_of c.word ≢ v.tid → still_holds c x r v ≡ false
 falls x r v c other = ap (λ b. b && (is_latest c.word && (not (is_locked c.word) || is_some (note_at x.locks r)))) (ne_eqb (tid_of c.word) v.tid other)
 
-pub same_greatest : (m n : Machine) → ((r : ℕ) → tid_of (cell n r).word ≡ tid_of (cell m r).word) → (notes : Writes) → greatest_locked n notes ≡ greatest_locked m notes
+pub same_greatest : (m n : Machine) → ((r : ℕ) → tid_of (cell n r).word ≡ tid_of (cell m r).word) → (notes : Writes)
+    → greatest_locked n notes ≡ greatest_locked m notes
 same_greatest m n same [] = refl
 same_greatest m n same (note ∷ notes) = λ i. max (same note.0 i) (same_greatest m n same notes i)
 

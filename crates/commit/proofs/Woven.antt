@@ -1,11 +1,13 @@
 -- What others do between a worker's events changes nothing that the worker sees.
-use Rattle.std.proofs.Common.{◌≡◌, ◌≢◌, ℕ, ◌<◌, max, Option, Some, None, IsSome, is_none, false, true≢false, List, [], ◌∷◌, ◌++◌, length, slice_set, slice_index_or, All, refl, sym, ap, ◌∙◌, subst, unwrap_or}
+use Rattle.std.proofs.Common.{◌≡◌, ◌≢◌, ℕ, ◌<◌, max, Option, Some, None, IsSome, is_none, false, true≢false, List, [], ◌∷◌, ◌++◌, length, slice_set}
+use Rattle.std.proofs.Common.{slice_index_or, All, refl, sym, ap, ◌∙◌, subst, unwrap_or}
 use Rattle.std.proofs.lemmas.List.{get_or-set_same, get_or-set_other, length-set}
 use Rattle.std.proofs.lemmas.List.Elements.{All-head, All-tail}
 use Rattle.tidword.specs.TidWord.{tid_of, is_locked}
 use Rattle.tidword.specs.Lawful.{next}
 use Rattle.commit.specs.Machine.{Machine, Worker, IsIdle, idle_worker, no_cell, note_at, without, worker, version_of}
-use Rattle.commit.specs.Events.{IsEnabled, AreEnabled, after_event, after_all, validated_by, chosen, greatest_read, greatest_locked, seen_by, locked_cell, unlocked_cell, written_cell}
+use Rattle.commit.specs.Events.{IsEnabled, AreEnabled, after_event, after_all, validated_by, chosen, greatest_read, greatest_locked, seen_by, locked_cell}
+use Rattle.commit.specs.Events.{unlocked_cell, written_cell}
 use Rattle.commit.specs.Weaving.{actor, AreOwn, IsOfOthers, ReadsEpoch, LooksSame, IsWoven, over, mine, between, MayBeWoven}
 use Rattle.commit.specs.declared.worker.Phase.TheVariants.{Begun, Entered, Chosen, Failed}
 use Rattle.commit.specs.declared.worker.Cell.{Cell}
@@ -49,7 +51,8 @@ module _ (w : ℕ) (a b : Machine) (same : LooksSame w a b) where
   same_seen = ap (seen_by b) same.own ∙ ap (max (greatest_read (worker a w).validated)) (same_locked (worker a w).locks)
 
   -- the worker changes to the same in both, and the records do
-  moves : (x y : Worker) (c d : Machine) → w < length a.workers → c.workers ≡ slice_set a.workers w x → d.workers ≡ slice_set b.workers w y → y ≡ x → d.records ≡ c.records → LooksSame w c d
+  moves : (x y : Worker) (c d : Machine) → w < length a.workers → c.workers ≡ slice_set a.workers w x → d.workers ≡ slice_set b.workers w y → y ≡ x
+      → d.records ≡ c.records → LooksSame w c d
   moves x y c d present is_c is_d is records = record {
     records = records;
     own = ap (λ (l : List Worker). slice_index_or l w idle_worker) is_d
@@ -57,7 +60,8 @@ module _ (w : ℕ) (a b : Machine) (same : LooksSame w a b) where
         ∙ is
         ∙ sym (get_or-set_same a.workers w x idle_worker present)
         ∙ sym (ap (λ (l : List Worker). slice_index_or l w idle_worker) is_c);
-    workers = ap (λ (l : List Worker). length l) is_d ∙ length-set b.workers w y ∙ same.workers ∙ sym (length-set a.workers w x) ∙ sym (ap (λ (l : List Worker). length l) is_c);
+    workers = ap (λ (l : List Worker). length l) is_d ∙ length-set b.workers w y ∙ same.workers ∙ sym (length-set a.workers w x)
+        ∙ sym (ap (λ (l : List Worker). length l) is_c);
   }
 
 -- an event of the worker's own may happen in the second machine too, and leaves the two the same to it
@@ -70,11 +74,13 @@ follow k w a b e is same go = subst (λ q. Steps q a b e) (same_number k w is) (
 step : (e : Event) (w : ℕ) (a b : Machine) → actor e ≡ Some w → LooksSame w a b → IsEnabled a e → ReadsEpoch a.epoch b e → Steps w a b e
 step (Begin k) w a b is same h r = follow k w a b (Begin k) is same (λ s. (
   ready_too k a b s (Begin k) h,
-  moves k a b s _ _ (after_event a (Begin k)) (after_event b (Begin k)) h.0 refl refl (ap (λ (x : Worker). record x { phase = Begun; reads = [] }) s.own) s.records,
+  moves k a b s _ _ (after_event a (Begin k)) (after_event b (Begin k)) h.0 refl refl (ap (λ (x : Worker). record x { phase = Begun; reads = [] }) s.own)
+      s.records,
 ))
 step (Read k r) w a b is same h e = follow k w a b (Read k r) is same (λ s. (
   ready_too k a b s (Read k r) h,
-  moves k a b s _ _ (after_event a (Read k r)) (after_event b (Read k r)) h.0 refl refl (λ i. record (s.own i) { reads = (s.own i).reads ++ (r, version_of (at (s.records i) r)) ∷ [] }) s.records,
+  moves k a b s _ _ (after_event a (Read k r)) (after_event b (Read k r)) h.0 refl refl
+      (λ i. record (s.own i) { reads = (s.own i).reads ++ (r, version_of (at (s.records i) r)) ∷ [] }) s.records,
 ))
 step (Lock k r value) w a b is same h e = follow k w a b (Lock k r value) is same (λ s. (
   ready_too k a b s (Lock k r value) h,
@@ -84,15 +90,18 @@ step (Lock k r value) w a b is same h e = follow k w a b (Lock k r value) is sam
 ))
 step (ReadEpoch k) w a b is same h e = follow k w a b (ReadEpoch k) is same (λ s. (
   ready_too k a b s (ReadEpoch k) h,
-  moves k a b s _ _ (after_event a (ReadEpoch k)) (after_event b (ReadEpoch k)) h.0 refl refl (λ i. record (s.own i) { phase = Entered; epoch = e i; validated = [] }) s.records,
+  moves k a b s _ _ (after_event a (ReadEpoch k)) (after_event b (ReadEpoch k)) h.0 refl refl
+      (λ i. record (s.own i) { phase = Entered; epoch = e i; validated = [] }) s.records,
 ))
 step (Validate k r) w a b is same h e = follow k w a b (Validate k r) is same (λ s. (
   ready_too k a b s (Validate k r) h,
-  moves k a b s _ _ (after_event a (Validate k r)) (after_event b (Validate k r)) h.0 refl refl (λ i. validated_by (s.own i) r (at (s.records i) r) (note_at (s.own i).reads r)) s.records,
+  moves k a b s _ _ (after_event a (Validate k r)) (after_event b (Validate k r)) h.0 refl refl
+      (λ i. validated_by (s.own i) r (at (s.records i) r) (note_at (s.own i).reads r)) s.records,
 ))
 step (ChooseTid k) w a b is same h e = follow k w a b (ChooseTid k) is same (λ s. (
   ready_too k a b s (ChooseTid k) h,
-  moves k a b s _ _ (after_event a (ChooseTid k)) (after_event b (ChooseTid k)) h.0 refl refl (λ i. chosen (s.own i) (next (tid_of (same_seen k a b s i)) (tid_of (s.own i).last) (s.own i).epoch)) s.records,
+  moves k a b s _ _ (after_event a (ChooseTid k)) (after_event b (ChooseTid k)) h.0 refl refl
+      (λ i. chosen (s.own i) (next (tid_of (same_seen k a b s i)) (tid_of (s.own i).last) (s.own i).epoch)) s.records,
 ))
 step (Install k r) w a b is same h e = follow k w a b (Install k r) is same (λ s. (
   ready_too k a b s (Install k r) h,
@@ -142,13 +151,15 @@ pass AdvanceEpoch w a b other same = record { records = same.records; own = same
 reads_same : (e : Event) (epoch now : ℕ) (b : Machine) → now ≡ epoch → ReadsEpoch epoch b e → ReadsEpoch now b e
 reads_same e epoch now b is h = subst (λ q. ReadsEpoch q b e) (sym is) h
 
-go : {w epoch : ℕ} {b : Machine} {own events : List Event} → IsWoven w epoch b own events → (a : Machine) → AreOwn w own → a.epoch ≡ epoch → AreEnabled a own → LooksSame w a b
+go : {w epoch : ℕ} {b : Machine} {own events : List Event} → IsWoven w epoch b own events → (a : Machine) → AreOwn w own → a.epoch ≡ epoch → AreEnabled a own
+    → LooksSame w a b
     → AreEnabled b events × LooksSame w (after_all a own) (after_all b events)
 go over a are_own is enabled same = (tt, same)
 go {w} {epoch} {b} (mine {event = e} {own = own} reads rest) a are_own is enabled same =
     let own_first : actor e ≡ Some w = All-head (λ event. actor event ≡ Some w) e own are_own in
     let first : Steps w a b e = step e w a b own_first same enabled.0 (reads_same e epoch a.epoch b is reads) in
-    let later : AreEnabled (after_event b e) _ × LooksSame w (after_all (after_event a e) own) _ = go rest (after_event a e) (All-tail (λ event. actor event ≡ Some w) e own are_own) (same_epoch e w a own_first ∙ is) enabled.1 first.1 in
+    let later : AreEnabled (after_event b e) _ × LooksSame w (after_all (after_event a e) own) _ =
+    go rest (after_event a e) (All-tail (λ event. actor event ≡ Some w) e own are_own) (same_epoch e w a own_first ∙ is) enabled.1 first.1 in
     ((first.0, later.0), later.1)
 go {w} {epoch} {b} {own} (between {event = e} other may rest) a are_own is enabled same =
     let later : AreEnabled (after_event b e) _ × LooksSame w (after_all a own) _ = go rest a are_own is enabled (pass e w a b other same) in

@@ -1,5 +1,6 @@
 -- What may happen in the machine, and what it does (Silo, section 4.4).
-use Rattle.std.specs.Prelude.{◌≡◌, ℕ, ◌+◌, ◌-◌, ◌<◌, ◌==◌, ◌&&◌, ◌||◌, not, max, min, Bool, true, false, Option, Some, None, IsSome, is_some, List, [], ◌∷◌, ◌++◌, length, slice_set, All}
+use Rattle.std.specs.Prelude.{◌≡◌, ℕ, ◌+◌, ◌-◌, ◌<◌, ◌==◌, ◌&&◌, ◌||◌, not, max, min, Bool, true, false, Option, Some}
+use Rattle.std.specs.Prelude.{None, IsSome, is_some, List, [], ◌∷◌, ◌++◌, length, slice_set, All}
 use Rattle.tidword.specs.TidWord.{tid_of, is_locked, is_latest, installed_word}
 use Rattle.tidword.specs.Lawful.{next}
 use Rattle.commit.specs.Machine.{Machine, Worker, IsIdle, note_at, without, cell, worker, version_of}
@@ -8,18 +9,24 @@ use Rattle.commit.specs.declared.worker.Phase.TheVariants.{Begun, Entered, Chose
 use Rattle.commit.specs.declared.worker.Cell.{Cell}
 use Rattle.commit.specs.declared.worker.Version.{Version}
 use Rattle.commit.specs.declared.event.Event.{Event}
-use Rattle.commit.specs.declared.event.Event.TheVariants.{Begin, Read, Lock, ReadEpoch, Validate, ChooseTid, Install, Unlock, AdvanceEpoch}
+use Rattle.commit.specs.declared.event.Event.TheVariants.{Begin, Read, Lock, ReadEpoch, Validate, ChooseTid, Install}
+use Rattle.commit.specs.declared.event.Event.TheVariants.{Unlock, AdvanceEpoch}
 
 -- where each event may happen
 abbrev pub IsEnabled : Machine → Event → Type 0
 IsEnabled m (Begin w) = (w < length m.workers) × IsIdle (worker m w)
-IsEnabled m (Read w r) = (w < length m.workers) × (r < length m.records) × ((worker m w).phase ≡ Begun) × ((worker m w).locks ≡ []) × (note_at (worker m w).reads r ≡ None)
-IsEnabled m (Lock w r value) = (w < length m.workers) × (r < length m.records) × ((worker m w).phase ≡ Begun) × All (λ lock. lock.0 < r) (worker m w).locks × (is_locked (cell m r).word ≡ false)
+IsEnabled m (Read w r) = (w < length m.workers) × (r < length m.records) × ((worker m w).phase ≡ Begun)
+    × ((worker m w).locks ≡ []) × (note_at (worker m w).reads r ≡ None)
+IsEnabled m (Lock w r value) = (w < length m.workers) × (r < length m.records) × ((worker m w).phase ≡ Begun)
+    × All (λ lock. lock.0 < r) (worker m w).locks × (is_locked (cell m r).word ≡ false)
 IsEnabled m (ReadEpoch w) = (w < length m.workers) × ((worker m w).phase ≡ Begun)
-IsEnabled m (Validate w r) = (w < length m.workers) × ((worker m w).phase ≡ Entered) × IsSome (note_at (worker m w).reads r)
+IsEnabled m (Validate w r) = (w < length m.workers) × ((worker m w).phase ≡ Entered)
+    × IsSome (note_at (worker m w).reads r)
 IsEnabled m (ChooseTid w) = (w < length m.workers) × ((worker m w).phase ≡ Entered) × ((worker m w).reads ≡ [])
-IsEnabled m (Install w r) = (w < length m.workers) × ((worker m w).phase ≡ Chosen) × IsSome (note_at (worker m w).locks r)
-IsEnabled m (Unlock w r) = (w < length m.workers) × ((worker m w).phase ≡ Failed) × IsSome (note_at (worker m w).locks r)
+IsEnabled m (Install w r) = (w < length m.workers) × ((worker m w).phase ≡ Chosen)
+    × IsSome (note_at (worker m w).locks r)
+IsEnabled m (Unlock w r) = (w < length m.workers) × ((worker m w).phase ≡ Failed)
+    × IsSome (note_at (worker m w).locks r)
 IsEnabled m AdvanceEpoch = m.epoch < 4294967295
 
 -- another worker w, another record r
@@ -29,9 +36,11 @@ with_worker m w x = record m { workers = slice_set m.workers w x }
 abbrev pub with_cell : Machine → ℕ → Cell → Machine
 with_cell m r c = record m { records = slice_set m.records r c }
 
--- whether a read stands: the record still has the TID that was read, is the latest version, and no other worker has it locked
+-- whether a read stands: the record still has the TID that was read, is the latest version, and no other worker has it
+-- locked
 abbrev pub still_holds : Cell → Worker → ℕ → Version → Bool
-still_holds c x r v = (tid_of c.word == v.tid) && (is_latest c.word && (not (is_locked c.word) || is_some (note_at x.locks r)))
+still_holds c x r v = (tid_of c.word == v.tid)
+    && (is_latest c.word && (not (is_locked c.word) || is_some (note_at x.locks r)))
 
 -- a worker that has validated this version of record r, and one whose validation failed
 abbrev pub checked : Worker → ℕ → Version → Bool → Worker
@@ -60,7 +69,8 @@ abbrev pub chosen : Worker → Option ℕ → Worker
 chosen x (Some tid) = record x { phase = Chosen; last = tid }
 chosen x None = record x { phase = Failed }
 
--- the count of the workers' finishes, which stays at its greatest number, once worker x stands so: it has finished where it has chosen and holds no lock
+-- the count of the workers' finishes, which stays at its greatest number, once worker x stands so: it has finished
+-- where it has chosen and holds no lock
 abbrev pub finished_by : ℕ → Worker → ℕ
 finished_by count x = count_up x.phase x.locks
   where
@@ -86,13 +96,21 @@ settled_with m w x = record (with_worker m w x) { finished = finished_by m.finis
 -- what each event does; it means something where the event may happen
 abbrev pub after_event : Machine → Event → Machine
 after_event m (Begin w) = with_worker m w (record (worker m w) { phase = Begun; reads = [] })
-after_event m (Read w r) = with_worker m w (record (worker m w) { reads = (worker m w).reads ++ (r, version_of (cell m r)) ∷ [] })
-after_event m (Lock w r value) = with_cell (with_worker m w (record (worker m w) { locks = (worker m w).locks ++ (r, value) ∷ [] })) r (locked_cell (cell m r))
+after_event m (Read w r) =
+    with_worker m w (record (worker m w) { reads = (worker m w).reads ++ (r, version_of (cell m r)) ∷ [] })
+after_event m (Lock w r value) =
+    with_cell (with_worker m w (record (worker m w) { locks = (worker m w).locks ++ (r, value) ∷ [] })) r
+    (locked_cell (cell m r))
 after_event m (ReadEpoch w) = with_worker m w (record (worker m w) { phase = Entered; epoch = m.epoch; validated = [] })
 after_event m (Validate w r) = with_worker m w (validated_by (worker m w) r (cell m r) (note_at (worker m w).reads r))
-after_event m (ChooseTid w) = settled_with m w (chosen (worker m w) (next (tid_of (seen_by m (worker m w))) (tid_of (worker m w).last) (worker m w).epoch))
-after_event m (Install w r) = with_cell (settled_with m w (record (worker m w) { locks = without (worker m w).locks r })) r (written_cell (cell m r) (worker m w).last (note_at (worker m w).locks r))
-after_event m (Unlock w r) = with_cell (with_worker m w (record (worker m w) { locks = without (worker m w).locks r })) r (unlocked_cell (cell m r))
+after_event m (ChooseTid w) =
+    settled_with m w (chosen (worker m w)
+    (next (tid_of (seen_by m (worker m w))) (tid_of (worker m w).last) (worker m w).epoch))
+after_event m (Install w r) =
+    with_cell (settled_with m w (record (worker m w) { locks = without (worker m w).locks r })) r
+    (written_cell (cell m r) (worker m w).last (note_at (worker m w).locks r))
+after_event m (Unlock w r) = with_cell (with_worker m w (record (worker m w) { locks = without (worker m w).locks r }))
+    r (unlocked_cell (cell m r))
 after_event m AdvanceEpoch = record m { epoch = m.epoch + 1 }
 
 -- a list of events, oldest first, each of which may happen where it does, and the machine after_event them

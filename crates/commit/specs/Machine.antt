@@ -1,5 +1,7 @@
--- The machine of the commit protocol (Silo, sections 4.2 and 4.4): records with their words and values, workers, and the epoch.
-use Rattle.std.specs.Prelude.{◌≡◌, ℕ, ◌≤◌, ◌<◌, ◌/◌, ◌^◌, ◌⊎◌, ◌==◌, if◌then◌else◌, not, true, false, Option, Some, None, List, [], ◌∷◌, length, filter, slice_index_or}
+-- The machine of the commit protocol (Silo, sections 4.2 and 4.4): records with their words and values, workers, and
+-- the epoch.
+use Rattle.std.specs.Prelude.{◌≡◌, ℕ, ◌≤◌, ◌<◌, ◌/◌, ◌^◌, ◌⊎◌, ◌==◌, if◌then◌else◌, not, true, false, Option, Some}
+use Rattle.std.specs.Prelude.{None, List, [], ◌∷◌, length, filter, slice_index_or}
 use Rattle.tidword.specs.TidWord.{tid_of, is_locked, is_latest}
 use Rattle.commit.specs.declared.worker.Phase.{Phase}
 use Rattle.commit.specs.declared.worker.Phase.TheVariants.{Idle, Chosen, Failed}
@@ -15,7 +17,8 @@ note_at (note ∷ notes) r = if note.0 == r then Some note.1 else note_at notes 
 abbrev pub without : {X : Type 0} → List (ℕ × X) → ℕ → List (ℕ × X)
 without notes r = filter (λ note. not (note.0 == r)) notes
 
--- a worker: how far it is; what it has read and has yet to validate, what it has validated, and what it has locked and is to write, each in order; the epoch that it read; and the TID that it took last
+-- a worker: how far it is; what it has read and has yet to validate, what it has validated, and what it has locked and
+-- is to write, each in order; the epoch that it read; and the TID that it took last
 pub record Worker : Type 0 where
   pub phase : Phase
   pub reads : List (ℕ × Version)
@@ -31,7 +34,8 @@ pub record Machine : Type 0 where
   pub epoch : ℕ
   pub finished : ℕ
 
--- a worker that has had no transaction, which stands where there is no worker, and a record of no value, which stands where there is none
+-- a worker that has had no transaction, which stands where there is no worker, and a record of no value, which stands
+-- where there is none
 abbrev pub idle_worker : Worker
 idle_worker = record { phase = Idle; reads = []; validated = []; locks = []; epoch = 0; last = 0 }
 

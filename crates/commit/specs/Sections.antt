@@ -1,5 +1,7 @@
--- A commit that nobody acts between, as events of the machine (Silo, section 4.4): its locks, its epoch, its validations, its choice, and its installs or its unlocks.
-use Rattle.std.specs.Prelude.{◌≡◌, ◌≢◌, ℕ, ◌+◌, ◌<◌, true, false, max, min, Option, Some, None, List, [], ◌∷◌, ◌++◌, length, map}
+-- A commit that nobody acts between, as events of the machine (Silo, section 4.4): its locks, its epoch, its
+-- validations, its choice, and its installs or its unlocks.
+use Rattle.std.specs.Prelude.{◌≡◌, ◌≢◌, ℕ, ◌+◌, ◌<◌, true, false, max, min, Option, Some, None, List, [], ◌∷◌, ◌++◌}
+use Rattle.std.specs.Prelude.{length, map}
 use Rattle.std.specs.Ordering.{nat_cmp}
 use Rattle.std.specs.List.{All}
 use Rattle.std.specs.List.Sorted.{IsStrictlySortedBy}
@@ -20,7 +22,8 @@ Reads = List (ℕ × Version)
 abbrev pub Writes : Type 0
 Writes = List (ℕ × Option (List ℕ))
 
--- worker w locks what it is to write, validates what it has read, installs what it has locked, and unlocks it, each record after record
+-- worker w locks what it is to write, validates what it has read, installs what it has locked, and unlocks it, each
+-- record after record
 abbrev pub locks_of : ℕ → Writes → List Event
 locks_of w writes = map (λ write. Lock w write.0 write.1) writes
 
@@ -49,7 +52,8 @@ full_section w reads writes = beginning w reads writes ++ ChooseTid w ∷ unlock
 abbrev pub stale_section : ℕ → Reads → ℕ → Writes → List Event
 stale_section w passed r writes = beginning w passed writes ++ Validate w r ∷ unlocks_of w writes
 
--- where worker w may lock these records one after another: it reads and has no lock yet, the records ascend, and no record of the machine is locked or is an older version
+-- where worker w may lock these records one after another: it reads and has no lock yet, the records ascend, and no
+-- record of the machine is locked or is an older version
 pub record MayLock (m : Machine) (w : ℕ) (writes : Writes) : Type 0 where
   pub present : w < length m.workers
   pub begun : (worker m w).phase ≡ Begun
@@ -59,7 +63,8 @@ pub record MayLock (m : Machine) (w : ℕ) (writes : Writes) : Type 0 where
   pub unlocked : (r : ℕ) → r < length m.records → is_locked (cell m r).word ≡ false
   pub latest : (r : ℕ) → r < length m.records → is_latest (cell m r).word ≡ true
 
--- worker w has read these and no others, in whatever order; they stand in ascending order of their records, by which it validates them
+-- worker w has read these and no others, in whatever order; they stand in ascending order of their records, by which it
+-- validates them
 pub record HasRead (m : Machine) (w : ℕ) (reads : Reads) : Type 0 where
   pub all : (r : ℕ) → note_at (worker m w).reads r ≡ note_at reads r
   pub ascending : IsStrictlySortedBy nat_cmp (keys_of reads)
@@ -78,9 +83,11 @@ pub record IsStale (m : Machine) (reads : Reads) : Type 0 where
   pub current : AreCurrent m passed
   pub stale : tid_of (cell m at).word ≢ version.tid
 
--- the TID that worker w gets, where there is one: larger than those of all that it has read and locked and than its last, in the machine's epoch
+-- the TID that worker w gets, where there is one: larger than those of all that it has read and locked and than its
+-- last, in the machine's epoch
 abbrev pub next_for : Machine → ℕ → Reads → Writes → Option ℕ
-next_for m w reads writes = next (tid_of (max (greatest_read reads) (greatest_locked m writes))) (tid_of (worker m w).last) m.epoch
+next_for m w reads writes = next (tid_of (max (greatest_read reads) (greatest_locked m writes)))
+    (tid_of (worker m w).last) m.epoch
 
 -- the records and the workers are as many, and the epoch and the workers other than w are as before
 pub record KeepsOthers (before after : Machine) (w : ℕ) : Type 0 where
@@ -89,7 +96,8 @@ pub record KeepsOthers (before after : Machine) (w : ℕ) : Type 0 where
   pub others : (k : ℕ) → k ≢ w → worker after k ≡ worker before k
   pub epoch : after.epoch ≡ before.epoch
 
--- worker w has committed these writes with this TID: each record written has its new value and its new word, unlocked, and no other record differs
+-- worker w has committed these writes with this TID: each record written has its new value and its new word, unlocked,
+-- and no other record differs
 pub record HasCommitted (before after : Machine) (w : ℕ) (writes : Writes) (tid : ℕ) : Type 0 where
   pub cells : (r : ℕ) → cell after r ≡ written_cell (cell before r) tid (note_at writes r)
   pub chosen : (worker after w).phase ≡ Chosen
@@ -107,11 +115,13 @@ pub record HasFailed (before after : Machine) (w : ℕ) : Type 0 where
   pub finished : after.finished ≡ before.finished
   pub rest : KeepsOthers before after w
 
--- what worker w may do at once with its reads and these writes: commit, where every read is current and there is a TID; fail, where there is none, or at the first read that isn't current
+-- what worker w may do at once with its reads and these writes: commit, where every read is current and there is a TID;
+-- fail, where there is none, or at the first read that isn't current
 pub record AreSections (m : Machine) (w : ℕ) (writes : Writes) : Type 0 where
   pub ok : (reads : Reads) (tid : ℕ) → HasRead m w reads → AreCurrent m reads → next_for m w reads writes ≡ Some tid
       → AreEnabled m (section w reads writes) × HasCommitted m (after_all m (section w reads writes)) w writes tid
   pub full : (reads : Reads) → HasRead m w reads → AreCurrent m reads → next_for m w reads writes ≡ None
       → AreEnabled m (full_section w reads writes) × HasFailed m (after_all m (full_section w reads writes)) w
   pub stale : (reads : Reads) → HasRead m w reads → (first : IsStale m reads)
-      → AreEnabled m (stale_section w first.passed first.at writes) × HasFailed m (after_all m (stale_section w first.passed first.at writes)) w
+      → AreEnabled m (stale_section w first.passed first.at writes)
+      × HasFailed m (after_all m (stale_section w first.passed first.at writes)) w

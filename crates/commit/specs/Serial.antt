@@ -19,14 +19,17 @@ now first (t ∷ earlier) r = overwritten (now first earlier r) t.tid (note_at t
 -- serial: each transaction read the versions that the earlier ones leave
 abbrev pub IsSerial : (ℕ → Version) → List Transaction → Type 0
 IsSerial first [] = Unit {0}
-IsSerial first (t ∷ earlier) = ((r : ℕ) (v : Version) → note_at t.reads r ≡ Some v → now first earlier r ≡ v) × IsSerial first earlier
+IsSerial first (t ∷ earlier) = ((r : ℕ) (v : Version) → note_at t.reads r ≡ Some v → now first earlier r ≡ v)
+    × IsSerial first earlier
 
--- a transaction's TID: no status bits, of its epoch, larger than those of the versions that it read and of those that it replaces, and than those of its worker's earlier transactions (Silo, section 4.2)
+-- a transaction's TID: no status bits, of its epoch, larger than those of the versions that it read and of those that
+-- it replaces, and than those of its worker's earlier transactions (Silo, section 4.2)
 pub record IsStamped (first : ℕ → Version) (t : Transaction) (earlier : List Transaction) : Type 0 where
   pub bits : t.tid % 8 ≡ 0
   pub in_epoch : t.tid / 2 ^ 32 ≡ t.epoch
   pub above_read : (r : ℕ) (v : Version) → note_at t.reads r ≡ Some v → v.tid < t.tid
-  pub above_replaced : (r : ℕ) (value : Option (List ℕ)) → note_at t.writes r ≡ Some value → (now first earlier r).tid < t.tid
+  pub above_replaced : (r : ℕ) (value : Option (List ℕ)) → note_at t.writes r ≡ Some value
+      → (now first earlier r).tid < t.tid
   pub above_own : All (λ u. u.worker ≡ t.worker → u.tid < t.tid) earlier
 
 abbrev pub HaveLawfulTids : (ℕ → Version) → List Transaction → Type 0
@@ -46,16 +49,20 @@ pending _ value = None
 abbrev pub to_install : Worker → ℕ → Option (Option (List ℕ))
 to_install x r = pending x.phase (note_at x.locks r)
 
--- the last version v of record r is the record's, where no worker is still to install one; and it is what such a worker installs
+-- the last version v of record r is the record's, where no worker is still to install one; and it is what such a worker
+-- installs
 pub record IsSettled (m : Machine) (r : ℕ) (v : Version) : Type 0 where
   pub installed : ((w : ℕ) → to_install (worker m w) r ≡ None) → v ≡ version_of (cell m r)
-  pub to_come : (w : ℕ) (value : Option (List ℕ)) → to_install (worker m w) r ≡ Some value → v ≡ record { tid = (worker m w).last; value = value }
+  pub to_come : (w : ℕ) (value : Option (List ℕ)) → to_install (worker m w) r ≡ Some value
+      → v ≡ record { tid = (worker m w).last; value = value }
 
 -- the versions with which a run opens
 abbrev pub first_versions : Machine → ℕ → Version
 first_versions opening r = version_of (cell opening r)
 
--- where a run ends: its transactions are serial in the order of their turns, with lawful TIDs and epochs that never fall; whoever has read its epoch and hasn't decided has a turn, so that no transaction is left out; and the records are as the transactions leave them
+-- where a run ends: its transactions are serial in the order of their turns, with lawful TIDs and epochs that never
+-- fall; whoever has read its epoch and hasn't decided has a turn, so that no transaction is left out; and the records
+-- are as the transactions leave them
 pub record IsSerialRun (opening : Machine) (end : Run) : Type 0 where
   pub serial : IsSerial (first_versions opening) (decided end.turns)
   pub stamped : HaveLawfulTids (first_versions opening) (decided end.turns)

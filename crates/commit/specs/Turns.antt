@@ -1,4 +1,5 @@
--- The order of the transactions of a run: a transaction's turn is its epoch read (Silo, section 4.4: the serialization point).
+-- The order of the transactions of a run: a transaction's turn is its epoch read (Silo, section 4.4: the serialization
+-- point).
 use Rattle.std.specs.Prelude.{◌≡◌, ◌⊎◌, ℕ, ◌==◌, if◌then◌else◌, Option, List, [], ◌∷◌}
 use Rattle.commit.specs.Machine.{Machine, Worker, worker}
 use Rattle.commit.specs.Events.{after_event}
@@ -8,7 +9,8 @@ use Rattle.commit.specs.declared.worker.Version.{Version}
 use Rattle.commit.specs.declared.event.Event.{Event}
 use Rattle.commit.specs.declared.event.Event.TheVariants.{ReadEpoch, Validate, ChooseTid}
 
--- a transaction that has its TID: its worker's number, what it read and what it writes by record, the epoch that it read, and the TID
+-- a transaction that has its TID: its worker's number, what it read and what it writes by record, the epoch that it
+-- read, and the TID
 pub record Transaction : Type 0 where
   pub worker : ℕ
   pub reads : List (ℕ × Version)
@@ -43,11 +45,14 @@ settle Chosen w x turns = decide w (transaction_of w x) turns
 settle Failed w x turns = give_up w turns
 settle _ w x turns = turns
 
--- the turns after_event an event, newest first: a turn begins where a worker reads the epoch, and is settled where it fails or chooses its TID
+-- the turns after_event an event, newest first: a turn begins where a worker reads the epoch, and is settled where it
+-- fails or chooses its TID
 abbrev pub turns_after : Machine → Event → List Place → List Place
 turns_after m (ReadEpoch w) turns = Waiting w m.epoch ∷ turns
-turns_after m (Validate w r) turns = settle (worker (after_event m (Validate w r)) w).phase w (worker (after_event m (Validate w r)) w) turns
-turns_after m (ChooseTid w) turns = settle (worker (after_event m (ChooseTid w)) w).phase w (worker (after_event m (ChooseTid w)) w) turns
+turns_after m (Validate w r) turns = settle (worker (after_event m (Validate w r)) w).phase w
+    (worker (after_event m (Validate w r)) w) turns
+turns_after m (ChooseTid w) turns = settle (worker (after_event m (ChooseTid w)) w).phase w
+    (worker (after_event m (ChooseTid w)) w) turns
 turns_after m _ turns = turns
 
 -- the transactions among the turns, newest first
@@ -70,7 +75,8 @@ pub record Run : Type 0 where
 -- the run after_event these events, oldest first
 abbrev pub run_on : Run → List Event → Run
 run_on r [] = r
-run_on r (event ∷ events) = run_on (record { machine = after_event r.machine event; turns = turns_after r.machine event r.turns }) events
+run_on r (event ∷ events) =
+    run_on (record { machine = after_event r.machine event; turns = turns_after r.machine event r.turns }) events
 
 abbrev pub run : Machine → List Event → Run
 run opening events = run_on (record { machine = opening; turns = [] }) events

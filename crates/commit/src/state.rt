@@ -31,7 +31,13 @@ impl Model for State {
 
     ghost Value = { Machine };
 
-    ghost view = { λ s. record { records = s.records.items; workers = s.workers.items; epoch = s.epoch; finished = s.finished } };
+    ghost view = { λ s. record {
+      records = s.records.items;
+      workers = s.workers.items;
+      epoch = s.epoch;
+      finished =
+          s.finished;
+    } };
 }
 
 impl State {

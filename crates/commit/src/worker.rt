@@ -86,7 +86,15 @@ impl Model for Worker {
 
     ghost Value = { machine.Worker };
 
-    ghost view = { λ w. record { phase = w.phase; reads = w.reads.items; validated = w.validated.items; locks = w.locks.items; epoch = w.epoch; last = w.last } };
+    ghost view = { λ w. record {
+      phase = w.phase;
+      reads = w.reads.items;
+      validated = w.validated.items;
+      locks =
+          w.locks.items;
+      epoch = w.epoch;
+      last = w.last;
+    } };
 }
 
 impl Worker {
@@ -127,7 +135,8 @@ impl Worker {
 
     /// Whether it may read this record. Costs a pass over what it has read.
     pub(crate) fn may_read(&self, number: u32) -> bool
-        ensures { IsTrue result ↔ ((self.now.phase ≡ Begun) × (self.now.locks ≡ []) × (note_at self.now.reads number ≡ None)) }
+        ensures { IsTrue result ↔ ((self.now.phase ≡ Begun) × (self.now.locks ≡ [])
+            × (note_at self.now.reads number ≡ None)) }
     {
         self.phase == Phase::Begun && self.locks.is_empty() && held(&self.reads, number).is_none()
     }

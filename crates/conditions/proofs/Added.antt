@@ -10,7 +10,8 @@ use Rattle.std.specs.BTreeMap.{BTreeMap}
 use Rattle.std.specs.declared.cmp.Ordering.{Ordering}
 use Rattle.conditions.specs.Amounts.{amount_at, share}
 
-pub added : {K : Type 0} {R : K → K → Ordering} → IsTotalOrder R → (m n : BTreeMap K ℤ) (key : K) (a v : ℤ) → tree.Updates R m n key (Some v) → v ≡ amount_at R m key +ℤ a
+pub added : {K : Type 0} {R : K → K → Ordering} → IsTotalOrder R → (m n : BTreeMap K ℤ) (key : K) (a v : ℤ) → tree.Updates R m n key (Some v)
+    → v ≡ amount_at R m key +ℤ a
     → (k : K) → amount_at R n k ≡ amount_at R m k +ℤ share (eq_by_cmp R key k) a
 added {K} {R} o m n key a v h new k =
     ap (λ (w : Option ℤ). unwrap_or w (pos 0)) (h.0 k)
@@ -20,7 +21,8 @@ added {K} {R} o m n key a v h new k =
     ] refl)
 
 -- a sum moves by at most the amount
-pub share_bounded : (b : Bool) (a before after : ℤ) → neg_ℤ (pos (2 ^ 63)) ≤ℤ a → a <ℤ pos (2 ^ 63) → after ≡ before +ℤ share b a → ((before -ℤ pos (2 ^ 63)) ≤ℤ after) × (after ≤ℤ (before +ℤ pos (2 ^ 63)))
+pub share_bounded : (b : Bool) (a before after : ℤ) → neg_ℤ (pos (2 ^ 63)) ≤ℤ a → a <ℤ pos (2 ^ 63) → after ≡ before +ℤ share b a
+    → ((before -ℤ pos (2 ^ 63)) ≤ℤ after) × (after ≤ℤ (before +ℤ pos (2 ^ 63)))
 share_bounded true a before after low high is = (omega (arith, ints), omega (arith, ints))
 share_bounded false a before after low high is = (omega (arith, ints), omega (arith, ints))
 

@@ -1,5 +1,6 @@
 -- What a pass over entries leaves of the order numbers of each district.
-use Rattle.std.proofs.Common.{◌≡◌, ℕ, ◌+◌, ◌<◌, ◌≤◌, ◌^◌, ◌==◌, Bool, true, false, cond, min, max, Option, Some, None, List, [], ◌∷◌, length, map, refl, sym, ap, ◌∙◌, subst, arith}
+use Rattle.std.proofs.Common.{◌≡◌, ℕ, ◌+◌, ◌<◌, ◌≤◌, ◌^◌, ◌==◌, Bool, true, false, cond, min, max, Option, Some, None, List, [], ◌∷◌, length, map, refl, sym}
+use Rattle.std.proofs.Common.{ap, ◌∙◌, subst, arith}
 use Rattle.std.proofs.lemmas.Bool.Decides.{nat_tests}
 use Rattle.std.specs.List.{fold, filter}
 use Rattle.std.specs.Option.{option_map_or}
@@ -22,11 +23,14 @@ pub numbered_more : {X : Type 0} (k : DistrictKey) (left rest : List (OrderKey �
     → s' ≡ cond (eq_by_cmp district_cmp (record { warehouse = j.warehouse; district = j.district }) k) (with_number s j.order) s
     → fold with_number s (numbers_among k left) ≡ all → fold with_number s' (numbers_among k rest) ≡ all
 numbered_more {X} k left rest j r s s' all next after before =
-    ap (λ (n : Numbers). fold with_number n (numbers_among k rest)) (after ∙ ap (λ b. cond b (with_number s j.order) s) (sym (is_district-key j.warehouse j.district k)))
+    ap (λ (n : Numbers). fold with_number n (numbers_among k rest))
+    (after ∙ ap (λ b. cond b (with_number s j.order) s) (sym (is_district-key j.warehouse j.district k)))
     ∙ step (is_district j.warehouse j.district k) ∙ ap (λ es. fold with_number s (numbers_among k es)) (sym next) ∙ before
   where
     step : (b : Bool) → fold with_number (cond b (with_number s j.order) s) (numbers_among k rest)
-        ≡ fold with_number s (map (λ (e : OrderKey × X). e.0.order) (cond b ((j, r) ∷ filter (λ (e : OrderKey × X). is_district e.0.warehouse e.0.district k) rest) (filter (λ (e : OrderKey × X). is_district e.0.warehouse e.0.district k) rest)))
+        ≡ fold with_number s (map (λ (e : OrderKey × X). e.0.order)
+        (cond b ((j, r) ∷ filter (λ (e : OrderKey × X). is_district e.0.warehouse e.0.district k) rest)
+        (filter (λ (e : OrderKey × X). is_district e.0.warehouse e.0.district k) rest)))
     step true = refl
     step false = refl
 
@@ -74,5 +78,6 @@ pub are_numbers : {X : Type 0} (k : DistrictKey) (m : BTreeMap OrderKey X) (left
     → AreNumbersOf (numbers_in k (from_entries {R = order_cmp} m.entries)) s
 are_numbers {X} k m left s ordered none all few =
     let is : fold with_number no_numbers (numbers_in k (from_entries {R = order_cmp} m.entries)) ≡ s =
-    ap (λ es. fold with_number no_numbers (numbers_among k es)) (entries-view exact_order m ordered) ∙ sym all ∙ ap (λ es. fold with_number s (numbers_among k es)) none in
+    ap (λ es. fold with_number no_numbers (numbers_among k es)) (entries-view exact_order m ordered) ∙ sym all
+    ∙ ap (λ es. fold with_number s (numbers_among k es)) none in
     subst (AreNumbersOf _) is (numbered _ (subst (λ (n : Numbers). n.count < 2 ^ 63) (sym is) few))

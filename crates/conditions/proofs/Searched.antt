@@ -56,10 +56,11 @@ module _ {K X : Type 0} {R : K → K → Ordering} (o : IsExact R) where
         same x y e = cc
 
         ahead : (q : K) (x : X) → lookup (is_at (R q)) ((k, r) ∷ rest) ≡ Some x → (lookup (is_at (R q)) rest ≡ Some x) ⊎ T q x
-        ahead q x l = elim (is_eq (R q k)) as (λ b. is_eq (R q k) ≡ b → cond b (Some r) (lookup (is_at (R q)) rest) ≡ Some x → (lookup (is_at (R q)) rest ≡ Some x) ⊎ T q x) [
-          | true ↦ λ t e. inr (subst (λ y. T q y) (same r x e) (subst (λ j. T j r) (sym (o.same q k (equal _ t))) holds))
-          | false ↦ λ t e. inl e
-        ] refl l
+        ahead q x l = elim (is_eq (R q k)) as (λ b. is_eq (R q k) ≡ b → cond b (Some r) (lookup (is_at (R q)) rest) ≡ Some x
+            → (lookup (is_at (R q)) rest ≡ Some x) ⊎ T q x) [
+              | true ↦ λ t e. inr (subst (λ y. T q y) (same r x e) (subst (λ j. T j r) (sym (o.same q k (equal _ t))) holds))
+              | false ↦ λ t e. inl e
+            ] refl l
 
         none : (x : X) → lookup (is_at (R k)) rest ≡ Some x → true ≡ false
         none x e = let missing = above k rest (sorted_head R k (keys_of rest) h.sorted) in cc
@@ -78,7 +79,8 @@ module _ {K X : Type 0} {R : K → K → Ordering} (o : IsExact R) where
         missing e = cc
 
     -- the first that is left fails
-    pub searched_first : (left rest : List (K × X)) (k : K) (r : X) → left ≡ (k, r) ∷ rest → IsSearched R m T left → (T k r → ⊥) → FindsLeast R (λ q. IsSome (tree.get R m q)) (λ q. ForSome (tree.get R m q) (T q)) (Some k)
+    pub searched_first : (left rest : List (K × X)) (k : K) (r : X) → left ≡ (k, r) ∷ rest → IsSearched R m T left → (T k r → ⊥)
+        → FindsLeast R (λ q. IsSome (tree.get R m q)) (λ q. ForSome (tree.get R m q) (T q)) (Some k)
     searched_first left rest k r next before fails = (subst (λ (w : Option X). IsSome w) (sym at) refl, λ holds. fails (holds r at), earlier)
       where
         h : IsSearched R m T ((k, r) ∷ rest)
@@ -88,12 +90,15 @@ module _ {K X : Type 0} {R : K → K → Ordering} (o : IsExact R) where
         at = h.within k r (ap (λ t. cond (is_eq t) (Some r) (lookup (is_at (R k)) rest)) (tied_itself o.total k))
 
         earlier : (j : K) → IsSome (tree.get R m j) → R j k ≡ Less → ForSome (tree.get R m j) (T j)
-        earlier j some below x e = ⊎_elim (λ l. missing (sym (above j ((k, r) ∷ rest) (below, lower j k rest below (sorted_head R k (keys_of rest) h.sorted))) ∙ l)) (λ t. t) (h.covered j x e)
+        earlier j some below x e =
+            ⊎_elim (λ l. missing (sym (above j ((k, r) ∷ rest) (below, lower j k rest below (sorted_head R k (keys_of rest) h.sorted))) ∙ l)) (λ t. t)
+            (h.covered j x e)
           where
             missing : None ≡ Some x → T j x
             missing e = cc
 
   -- from `BTreeMap` to the finite map
-  pub finds-view : (m : BTreeMap K X) (T : K → X → Type 0) (found : Option K) → FindsLeast R (λ k. IsSome (tree.get R m k)) (λ k. ForSome (tree.get R m k) (T k)) found
+  pub finds-view : (m : BTreeMap K X) (T : K → X → Type 0) (found : Option K)
+      → FindsLeast R (λ k. IsSome (tree.get R m k)) (λ k. ForSome (tree.get R m k) (T k)) found
       → FindsLeast R (λ k. IsSome (get (from_entries {R = R} m.entries) k)) (λ k. ForSome (get (from_entries {R = R} m.entries) k) (T k)) found
   finds-view m T found = subst (λ (row : K → Option X). FindsLeast R (λ k. IsSome (row k)) (λ k. ForSome (row k) (T k)) found) (λ i k. sym (get-view o m k) i)

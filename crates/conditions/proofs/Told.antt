@@ -8,7 +8,8 @@ use Rattle.tables.proofs.Orders.{IsExact}
 use Rattle.tables.proofs.Views.{get-view}
 
 -- any function of what was found, or of nothing
-pub told : {K X A : Type 0} {R : K → K → Ordering} (o : IsExact R) (f : Option X → A) (m : BTreeMap K X) (k : K) (r : Option X) → r ≡ tree.get R m k → f r ≡ f (get (from_entries {R = R} m.entries) k)
+pub told : {K X A : Type 0} {R : K → K → Ordering} (o : IsExact R) (f : Option X → A) (m : BTreeMap K X) (k : K) (r : Option X) → r ≡ tree.get R m k
+    → f r ≡ f (get (from_entries {R = R} m.entries) k)
 told o f m k r e = ap f (e ∙ sym (get-view o m k))
 
 -- `is_none` says that it isn't some

@@ -14,4 +14,5 @@ module _ {K : Type 0} (R : K → K → Ordering) where
 
   -- an amount of 64 bits can be added to each of them, and two of them can be subtracted
   abbrev pub AreBounded : BTreeMap K ℤ → Type 0
-  AreBounded sums = ((k : K) → neg_ℤ (pos (2 ^ 126)) ≤ℤ amount_at sums k) × ((k : K) → amount_at sums k <ℤ pos (2 ^ 126))
+  AreBounded sums = ((k : K) → neg_ℤ (pos (2 ^ 126)) ≤ℤ amount_at sums k)
+      × ((k : K) → amount_at sums k <ℤ pos (2 ^ 126))

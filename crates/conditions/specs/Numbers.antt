@@ -14,7 +14,12 @@ no_numbers = record { count = 0; least = 0; greatest = 0 }
 
 -- with one order more
 abbrev pub with_number : Numbers → ℕ → Numbers
-with_number s n = record { count = s.count + 1; least = cond (s.count == 0) n (min s.least n); greatest = max s.greatest n }
+with_number s n = record {
+  count = s.count + 1;
+  least = cond (s.count == 0) n (min s.least n);
+  greatest =
+      max s.greatest n;
+}
 
 -- those of a district
 abbrev pub numbers_at : BTreeMap DistrictKey Numbers → DistrictKey → Numbers
@@ -22,7 +27,8 @@ numbers_at numbers k = unwrap_or (get district_cmp numbers k) no_numbers
 
 -- the order numbers of a district among these entries of ORDER or of NEW-ORDER
 abbrev pub numbers_among : {X : Type 0} → DistrictKey → List (OrderKey × X) → List ℕ
-numbers_among {X} k es = map (λ (e : OrderKey × X). e.0.order) (filter (λ (e : OrderKey × X). is_district e.0.warehouse e.0.district k) es)
+numbers_among {X} k es =
+    map (λ (e : OrderKey × X). e.0.order) (filter (λ (e : OrderKey × X). is_district e.0.warehouse e.0.district k) es)
 
 -- what is kept of these order numbers
 pub record AreNumbersOf (ns : List ℕ) (s : Numbers) : Type 0 where

@@ -2,13 +2,16 @@
 use Rattle.std.specs.Prelude.{IsNone, IsSome}
 use Rattle.std.specs.Ordering.{nat_cmp}
 use Rattle.std.specs.FinMap.{get}
-use Rattle.tables.specs.Keys.{district_cmp, customer_cmp, order_cmp, line_cmp, IsWarehouseKey, IsDistrictKey, IsCustomerKey}
+use Rattle.tables.specs.Keys.{district_cmp, customer_cmp, order_cmp, line_cmp, IsWarehouseKey, IsDistrictKey}
+use Rattle.tables.specs.Keys.{IsCustomerKey}
 use Rattle.tables.specs.Database.{Database}
-use Rattle.tables.specs.Conditions.{Condition1At, Condition2At, Condition3At, Condition4At, Condition5At, Condition6At, Condition7At, Condition8At, Condition9At, Condition10At, Condition12At}
+use Rattle.tables.specs.Conditions.{Condition1At, Condition2At, Condition3At, Condition4At, Condition5At, Condition6At}
+use Rattle.tables.specs.Conditions.{Condition7At, Condition8At, Condition9At, Condition10At, Condition12At}
 use Rattle.conditions.specs.Finds.{FindsLeast}
 use Rattle.conditions.specs.declared.report.Report.{Report}
 
--- the report finds what there is to find for each condition (TPC-C 3.3.2): 5 and 6 ask the ORDER rows, 7 the ORDER-LINE rows, the others the keys of the scale
+-- the report finds what there is to find for each condition (TPC-C 3.3.2): 5 and 6 ask the ORDER rows, 7 the ORDER-LINE
+-- rows, the others the keys of the scale
 pub record IsReportOf (t : Database) (r : Report) : Type 0 where
   pub condition_1 : FindsLeast nat_cmp (IsWarehouseKey t.scale) (Condition1At t) r.condition_1
   pub condition_2 : FindsLeast district_cmp (IsDistrictKey t.scale) (Condition2At t) r.condition_2
@@ -25,5 +28,6 @@ pub record IsReportOf (t : Database) (r : Report) : Type 0 where
 -- nothing was found
 abbrev pub IsGood : Report → Type 0
 IsGood r =
-    IsNone r.condition_1 × IsNone r.condition_2 × IsNone r.condition_3 × IsNone r.condition_4 × IsNone r.condition_5 × IsNone r.condition_6 × IsNone r.condition_7
+    IsNone r.condition_1 × IsNone r.condition_2 × IsNone r.condition_3 × IsNone r.condition_4 × IsNone r.condition_5
+    × IsNone r.condition_6 × IsNone r.condition_7
     × IsNone r.condition_8 × IsNone r.condition_9 × IsNone r.condition_10 × IsNone r.condition_12

@@ -1,6 +1,7 @@
 //! Sums by group over all rows of a table, in one pass.
 
-ghost use Rattle.std.specs.Prelude.{IfOk, OnOk, IfSome, IfNone, ◌≡◌, ◌^◌, ℤ, pos, neg_ℤ, ◌+ℤ◌, ◌-ℤ◌, ◌≤ℤ◌, ◌<ℤ◌, Bool, false};
+ghost use Rattle.std.specs.Prelude.{IfOk, OnOk, IfSome, IfNone, ◌≡◌, ◌^◌, ℤ, pos, neg_ℤ, ◌+ℤ◌, ◌-ℤ◌, ◌≤ℤ◌, ◌<ℤ◌, Bool};
+ghost use Rattle.std.specs.Prelude.{false};
 ghost use Rattle.std.specs.Ordering.{eq_by_cmp};
 ghost use Rattle.std.specs.BTreeMap.{IsOrdered};
 ghost use Rattle.tables.specs.Maps.{sum_entries, sum_of};

@@ -2,7 +2,9 @@
 
 ghost use Rattle.std.specs.Prelude.{◌≡◌, ◌+◌, ◌+ℤ◌, ◌-ℤ◌, ◌↔◌, IsTrue};
 ghost use Rattle.tables.specs.Database.{Database, database};
-ghost use Rattle.tables.specs.Conditions.{Condition1At, Condition2At, Condition3At, Condition4At, Condition8At, Condition9At, Condition10At, Condition12At, delivered_amount, paid_by_customer};
+ghost use Rattle.tables.specs.Conditions.{Condition1At, Condition2At, Condition3At, Condition4At, Condition8At};
+ghost use Rattle.tables.specs.Conditions.{Condition9At, Condition10At, Condition12At, delivered_amount};
+ghost use Rattle.tables.specs.Conditions.{paid_by_customer};
 ghost use Rattle.conditions.specs.Sums.{AreSumsOf};
 
 use crate::amounts::{amount_of, difference};

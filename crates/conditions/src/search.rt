@@ -5,7 +5,8 @@ ghost use Rattle.std.specs.Option.{ForSome};
 ghost use Rattle.std.specs.Ordering.{nat_cmp};
 ghost use Rattle.std.specs.BTreeMap as tree;
 ghost use Rattle.std.specs.FinMap.{get, IsAntisymmetric};
-ghost use Rattle.tables.specs.Keys.{district_cmp, customer_cmp, order_cmp, line_cmp, IsWarehouseKey, IsDistrictKey, IsCustomerKey};
+ghost use Rattle.tables.specs.Keys.{district_cmp, customer_cmp, order_cmp, line_cmp, IsWarehouseKey, IsDistrictKey};
+ghost use Rattle.tables.specs.Keys.{IsCustomerKey};
 ghost use Rattle.tables.specs.Database.{database};
 ghost use Rattle.conditions.specs.Finds.{FindsLeast};
 ghost use Rattle.conditions.specs.Sums.{AreSumsOf};
@@ -20,7 +21,8 @@ use tables::{CustomerKey, DistrictKey, LineKey, Order, OrderKey, OrderLine, Tabl
 /// The least warehouse that breaks the condition.
 pub fn least_warehouse<C: Condition<u32>>(tables: &Tables, sums: &Sums) -> Option<u32>
     requires { AreSumsOf (database tables.now) sums.now }
-    ensures { FindsLeast nat_cmp (IsWarehouseKey (database tables.now).scale) (C.holds_at (database tables.now)) result }
+    ensures { FindsLeast nat_cmp (IsWarehouseKey (database tables.now).scale) (C.holds_at (database tables.now))
+        result }
 {
     for warehouse in 1..=tables.scale.warehouses() {
         if !C::holds(tables, sums, &warehouse) {
@@ -36,7 +38,8 @@ pub fn least_district<C: Condition<DistrictKey>>(
     sums: &Sums,
 ) -> Option<DistrictKey>
     requires { AreSumsOf (database tables.now) sums.now }
-    ensures { FindsLeast district_cmp (IsDistrictKey (database tables.now).scale) (C.holds_at (database tables.now)) result }
+    ensures { FindsLeast district_cmp (IsDistrictKey (database tables.now).scale) (C.holds_at (database tables.now))
+        result }
 {
     for warehouse in 1..=tables.scale.warehouses() {
         if let Some(key) = least_district_of::<C>(tables, sums, warehouse) {
@@ -73,7 +76,8 @@ pub fn least_customer<C: Condition<CustomerKey>>(
     sums: &Sums,
 ) -> Option<CustomerKey>
     requires { AreSumsOf (database tables.now) sums.now }
-    ensures { FindsLeast customer_cmp (IsCustomerKey (database tables.now).scale) (C.holds_at (database tables.now)) result }
+    ensures { FindsLeast customer_cmp (IsCustomerKey (database tables.now).scale) (C.holds_at (database tables.now))
+        result }
 {
     for warehouse in 1..=tables.scale.warehouses() {
         for district in 1..=tables.scale.districts() {

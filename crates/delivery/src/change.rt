@@ -35,7 +35,8 @@ pub(crate) fn carry(words: &[u64; 7], carrier: u32, customers: u32) -> Option<Ca
     ensures range { IfSome result (λ c. IsNumber customers c.customer × (c.line_count ≤ MAX_ORDER_LINES)) }
     ensures carried { (x : DeliveryInput) (r : Order) → x.carrier ≡ carrier → IsNumber customers r.customer
         → r.line_count ≤ MAX_ORDER_LINES → words.now ≡ order_words r
-        → result ≡ Some (record { words = order_words (carried x r); customer = r.customer; line_count = r.line_count }) }
+        → result ≡ Some
+        (record { words = order_words (carried x r); customer = r.customer; line_count = r.line_count }) }
 {
     let (customer, line_count) = (words[0], words[3]);
     if customer == 0 || customer > u64::from(customers) || line_count > u64::from(MAX_ORDER_LINES) {

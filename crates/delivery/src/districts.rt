@@ -98,7 +98,8 @@ fn read_waiting<R: Wait, K: Start>(
     home: DistrictKey,
 ) -> Result<Option<u32>, Refusal>
     requires { IsDistrictKey K.tables.scale home }
-    ensures waits { Finds K.tables transaction.new result (λ order t. (waiting t home ≡ order) × HasOrderConditions t home) }
+    ensures waits { Finds K.tables transaction.new result
+        (λ order t. (waiting t home ≡ order) × HasOrderConditions t home) }
     ensures number { IfOk result (λ order. ForSome order (λ o. IsNumber K.tables.scale.orders o)) }
     ensures holds { OnOk result
         (IsSome (held transaction.new.reads (number_of_key K.tables.scale (key_variants.Oldest home)))) }

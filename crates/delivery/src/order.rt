@@ -118,7 +118,8 @@ fn end_order<K: Start>(
 ) -> Result<(), Refusal>
     requires key { IsOrderKey K.tables.scale key }
     requires customer { IsNumber K.tables.scale.customers order.now.customer }
-    requires holds_new_order { IsSome (held transaction.old.reads (number_of_key K.tables.scale (key_variants.NewOrder key))) }
+    requires holds_new_order { IsSome (held transaction.old.reads
+        (number_of_key K.tables.scale (key_variants.NewOrder key))) }
     requires holds_order { IsSome (held transaction.old.reads (number_of_key K.tables.scale (key_variants.Order key))) }
     requires holds_buyer { IsSome
         (held transaction.old.reads (number_of_key K.tables.scale (key_variants.Customer (buyer_of key order.now)))) }

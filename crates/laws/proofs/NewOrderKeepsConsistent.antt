@@ -1,5 +1,6 @@
 -- A New-Order keeps the consistency conditions.
-use Rattle.std.proofs.Common.{◌≡◌, ℕ, ◌+◌, max, min, ℤ, pos, ◌+ℤ◌, ◌-ℤ◌, Bool, true, false, cond, ◌==◌, ◌&&◌, Option, Some, None, IsSome, is_some, is_none}
+use Rattle.std.proofs.Common.{◌≡◌, ℕ, ◌+◌, max, min, ℤ, pos, ◌+ℤ◌, ◌-ℤ◌, Bool, true, false, cond, ◌==◌, ◌&&◌, Option, Some, None, IsSome, is_some}
+use Rattle.std.proofs.Common.{is_none}
 use Rattle.std.proofs.Common.{List, [], ◌∷◌, length, true≢false, refl, sym, ap, ◌∙◌, subst, arith}
 use Rattle.std.proofs.lemmas.Int.{ints}
 use Rattle.std.proofs.lemmas.Option.{same_Some}
@@ -38,7 +39,8 @@ abbrev carrier_null : Option Order → Bool
 carrier_null order = option_map_or (λ o. is_none o.carrier) order true
 
 -- the order that comes next where an order was numbered
-numbered : (b : Bool) (w : Option District) → IsSome w → option_map_or (λ r. r.next_order) (option_map (λ r. cond b (numbered_district r) r) w) 0 ≡ cond b
+numbered : (b : Bool) (w : Option District) → IsSome w → option_map_or (λ r. r.next_order) (option_map (λ r. cond b (numbered_district r) r) w) 0 ≡ cond
+    b
     (option_map_or (λ r. r.next_order) w 0 + 1) (option_map_or (λ r. r.next_order) w 0)
 numbered b None some = absurd (true≢false (sym some))
 numbered true (Some r) some = refl
@@ -76,7 +78,8 @@ module _ (t : Database) (x : NewOrderInput) (ok : IsNewOrder t.scale x) (wf : Is
 
   condition_1 : (w : ℕ) → IsWarehouseKey t.scale w → Condition1At (after_new_order t x) w
   condition_1 w is = con.condition_1 w is
-      ∙ sym (total-kept exact_district (λ k r. cond (k.warehouse == w) r.year_to_date (pos 0)) (λ j r. cond (is_home j) (numbered_district r) r) t.districts
+      ∙ sym (total-kept exact_district (λ k r. cond (k.warehouse == w) r.year_to_date (pos 0)) (λ j r. cond (is_home j) (numbered_district r) r)
+      t.districts
       (λ k r. elim (is_home k) as
       (λ b. cond (k.warehouse == w) (cond b (numbered_district r) r).year_to_date (pos 0) ≡ cond (k.warehouse == w) r.year_to_date (pos 0))
       [ true ↦ refl | false ↦ refl ]))
@@ -95,14 +98,16 @@ module _ (t : Database) (x : NewOrderInput) (ok : IsNewOrder t.scale x) (wf : Is
       let orders : List ℕ = numbers_in k t.orders in
       let waiting : List ℕ = numbers_in k t.new_orders in (
         ap (λ g. g + 1) (greatest-insert (in_district k) t.orders (new_key t x) (order_row x) (no_order t x wf last))
-            ∙ elim (is_home k) as (λ b. is_home k ≡ b → cond b (max n (greatest orders)) (greatest orders) + 1 ≡ cond b (next_order t k + 1) (next_order t k)) [
+            ∙ elim (is_home k) as (λ b. is_home k ≡ b → cond b (max n (greatest orders)) (greatest orders) + 1 ≡ cond b (next_order t k + 1)
+            (next_order t k)) [
               | true ↦ λ e. let same : n ≡ next_order t k = same_next k e in let below : greatest orders + 1 ≡ next_order t k = was.0 in omega arith
               | false ↦ λ e. was.0
             ] refl
             ∙ sym (next_after k is),
         λ first some.
             ap (λ g. g + 1) (greatest-insert (in_district k) t.new_orders (new_key t x) (record {}) (no_new_order t x wf last))
-            ∙ elim (is_home k) as (λ b. is_home k ≡ b → cond b (max n (greatest waiting)) (greatest waiting) + 1 ≡ cond b (next_order t k + 1) (next_order t k)) [
+            ∙ elim (is_home k) as (λ b. is_home k ≡ b → cond b (max n (greatest waiting)) (greatest waiting) + 1 ≡ cond b (next_order t k + 1)
+            (next_order t k)) [
               | true ↦ λ e. ap (λ a. a + 1) (ap (λ a. max a (greatest waiting)) (same_next k e) ∙ greatest_next waiting (next_order t k) was.1)
               | false ↦ λ e. was.1 first
                   (sym (ap (λ b. with_lesser b n (least waiting)) e)
@@ -132,7 +137,8 @@ module _ (t : Database) (x : NewOrderInput) (ok : IsNewOrder t.scale x) (wf : Is
 
   condition_4 : (k : DistrictKey) → IsDistrictKey t.scale k → Condition4At (after_new_order t x) k
   condition_4 k is =
-      total-insert exact_order (λ j order. cond (is_district j.warehouse j.district k) (pos order.line_count) (pos 0)) t.orders (new_key t x) (order_row x)
+      total-insert exact_order (λ j order. cond (is_district j.warehouse j.district k) (pos order.line_count) (pos 0)) t.orders (new_key t x)
+      (order_row x)
       (no_order t x wf last)
       ∙ turned (cond (is_home k) (pos (length x.lines)) (pos 0)) (line_counts t k) ∙ ap (λ a. a +ℤ cond (is_home k) (pos (length x.lines)) (pos 0))
       (con.condition_4 k is)
@@ -153,7 +159,8 @@ module _ (t : Database) (x : NewOrderInput) (ok : IsNewOrder t.scale x) (wf : Is
   lines_after : (k : OrderKey) → count (λ j line. is_order j.warehouse j.district j.order k) (after_new_order t x).lines
       ≡ count (λ j line. is_order j.warehouse j.district j.order k) t.lines +ℤ cond (eq_by_cmp order_cmp (new_key t x) k) (pos (length x.lines)) (pos 0)
   lines_after k =
-      total-with_lines t (new_key t x) (λ j line. cond (is_order j.warehouse j.district j.order k) (pos 1) (pos 0)) (eq_by_cmp order_cmp (new_key t x) k) 1
+      total-with_lines t (new_key t x) (λ j line. cond (is_order j.warehouse j.district j.order k) (pos 1) (pos 0))
+      (eq_by_cmp order_cmp (new_key t x) k) 1
       x.lines t.lines
       (λ _ _. ap (λ b. cond b (pos 1) (pos 0)) (is_order-key x.warehouse x.district (next_order t (home x)) k)) (λ i _. no_line t x wf last i)
 
@@ -161,7 +168,8 @@ module _ (t : Database) (x : NewOrderInput) (ok : IsNewOrder t.scale x) (wf : Is
   condition_6 = each_inserted exact_order
       (λ k order. pos order.line_count ≡ count (λ j line. is_order j.warehouse j.district j.order k) (after_new_order t x).lines) t.orders (new_key t x)
       (order_row x)
-      (λ k order found. con.condition_6 k order found ∙ sym (nothing _) ∙ ap (λ b. old k +ℤ cond b (pos (length x.lines)) (pos 0)) (sym (other k order found))
+      (λ k order found. con.condition_6 k order found ∙ sym (nothing _)
+      ∙ ap (λ b. old k +ℤ cond b (pos (length x.lines)) (pos 0)) (sym (other k order found))
       ∙ sym (lines_after k))
       (sym (lines_after (new_key t x)
       ∙ (λ i. none i +ℤ cond ((eq_by_cmp_equiv exact_order.total).refl (new_key t x) i) (pos (length x.lines)) (pos 0)) ∙ all (length x.lines)))
@@ -174,7 +182,8 @@ module _ (t : Database) (x : NewOrderInput) (ok : IsNewOrder t.scale x) (wf : Is
 
       none : count (λ j line. is_order j.warehouse j.district j.order (new_key t x)) t.lines ≡ pos 0
       none = total-zero exact_line (λ j line. cond (is_order j.warehouse j.district j.order (new_key t x)) (pos 1) (pos 0)) t.lines
-          (λ j line found. ap (λ b. cond b (pos 1) (pos 0)) (is_order-key j.warehouse j.district j.order (new_key t x) ∙ of_other t x wf last j line found))
+          (λ j line found. ap (λ b. cond b (pos 1) (pos 0))
+          (is_order-key j.warehouse j.district j.order (new_key t x) ∙ of_other t x wf last j line found))
 
       nothing : (a : ℤ) → a +ℤ pos 0 ≡ a
       nothing a = omega (arith, ints)

@@ -1,5 +1,6 @@
 -- The text of an amount of any size.
-use Rattle.std.proofs.Common.{◌≡◌, ◌≢◌, ℕ, zero, suc, ◌+◌, ◌-◌, ◌*◌, ◌<◌, ◌≤◌, ◌/◌, ◌%◌, Bool, true, false, eqb, not, List, [], ◌∷◌, ◌++◌, length, length-append, get_or, take, drop, codes, ℤ, pos, negsuc, IsUtf8, MatchBool, sym, ap, ◌∙◌, subst, refl, arith, lit<}
+use Rattle.std.proofs.Common.{◌≡◌, ◌≢◌, ℕ, zero, suc, ◌+◌, ◌-◌, ◌*◌, ◌<◌, ◌≤◌, ◌/◌, ◌%◌, Bool, true, false, eqb, not, List, [], ◌∷◌, ◌++◌, length}
+use Rattle.std.proofs.Common.{length-append, get_or, take, drop, codes, ℤ, pos, negsuc, IsUtf8, MatchBool, sym, ap, ◌∙◌, subst, refl, arith, lit<}
 use Rattle.std.specs.List.{AllByRecursion}
 use Rattle.std.specs.Str.Parse.{AllDigits}
 use Rattle.std.proofs.lemmas.Bool.{true≢false, not-false}
@@ -52,13 +53,16 @@ amount_no_space z = printable_no_space (amount_text z) (printable_amount z)
 
 -- an amount's text is text
 pub utf8_amount : (word : List ℕ) (z : ℤ) → word ≡ amount_text z → IsUtf8 word
-utf8_amount word z e = subst IsUtf8 (sym e) (IsUtf8-from_ascii _ (IsAscii-from_all _ (All-from_recursion (λ b. b < 128) (amount_text z) (ascii_printable _ (printable_amount z)))))
+utf8_amount word z e = subst IsUtf8 (sym e)
+    (IsUtf8-from_ascii _ (IsAscii-from_all _ (All-from_recursion (λ b. b < 128) (amount_text z) (ascii_printable _ (printable_amount z)))))
 
 -- units and cents, put together
-pub unsigned_from_parts : (units cents : List ℕ) (m n : ℕ) → units ≡ numeral m → n < 100 → cents ≡ codes "." ++ two_digits n → units ++ cents ≡ unsigned_amount_text (m * 100 + n)
+pub unsigned_from_parts : (units cents : List ℕ) (m n : ℕ) → units ≡ numeral m → n < 100 → cents ≡ codes "." ++ two_digits n → units
+    ++ cents ≡ unsigned_amount_text (m * 100 + n)
 unsigned_from_parts units cents m n u small e =
     ap (λ l. l ++ cents) u ∙ ap (λ l. numeral m ++ l) e
-    ∙ sym (ap (λ k. numeral k ++ (codes "." ++ two_digits ((m * 100 + n) % 100))) (div-mul-add m 100 n small) ∙ ap (λ k. numeral m ++ (codes "." ++ two_digits k)) (mod-mul-add m 100 n small))
+    ∙ sym (ap (λ k. numeral k ++ (codes "." ++ two_digits ((m * 100 + n) % 100))) (div-mul-add m 100 n small)
+    ∙ ap (λ k. numeral m ++ (codes "." ++ two_digits k)) (mod-mul-add m 100 n small))
 
 -- and taken apart
 pub units_of : (word : List ℕ) (n : ℕ) → word ≡ unsigned_amount_text n → take (length word - 3) word ≡ numeral (n / 100)
@@ -95,7 +99,8 @@ text_of_zero = ap (λ l. l ++ codes ".00") numeral_zero
 pub zero_from_text : (n : ℕ) → unsigned_amount_text n ≡ codes "0.00" → n ≡ 0
 zero_from_text n e =
     let no_units : n / 100 ≡ 0 = zero_from_first (n / 100) (sym (first_unsigned n) ∙ ap (λ l. get_or l 0 0) e) in
-    let short : codes "0" ++ (codes "." ++ two_digits (n % 100)) ≡ codes "0.00" = sym (ap (λ l. l ++ (codes "." ++ two_digits (n % 100))) (ap numeral no_units ∙ numeral_zero)) ∙ e in
+    let short : codes "0" ++ (codes "." ++ two_digits (n % 100)) ≡ codes "0.00" =
+    sym (ap (λ l. l ++ (codes "." ++ two_digits (n % 100))) (ap numeral no_units ∙ numeral_zero)) ∙ e in
     let tens : 48 + n % 100 / 10 ≡ 48 = ap (λ l. get_or l 2 0) short in
     let ones : 48 + n % 100 % 10 ≡ 48 = ap (λ l. get_or l 3 0) short in
     omega arith
@@ -118,7 +123,8 @@ pub no_negative : (word rest : List ℕ) → word ≡ 45 ∷ rest → ((n : ℕ)
 no_negative word rest minus none z e = let text = negative_text word rest minus z e in none (suc text.0) text.1
 
 -- a minus before an amount
-pub negative_answer : (word rest nought : List ℕ) (b : Bool) → word ≡ 45 ∷ rest → (n : ℕ) × (rest ≡ unsigned_amount_text n) → nought ≡ codes "0.00" → b ≡ not (pointwise eqb rest nought) → MatchBool b ((z : ℤ) × (word ≡ amount_text z)) ((z : ℤ) → word ≢ amount_text z)
+pub negative_answer : (word rest nought : List ℕ) (b : Bool) → word ≡ 45 ∷ rest → (n : ℕ) × (rest ≡ unsigned_amount_text n) → nought ≡ codes "0.00"
+    → b ≡ not (pointwise eqb rest nought) → MatchBool b ((z : ℤ) × (word ≡ amount_text z)) ((z : ℤ) → word ≢ amount_text z)
 negative_answer word rest nought true minus (zero, e) zeros test =
     let same : pointwise eqb rest nought ≡ true = (bytes_eq-Decides rest nought).1 (e ∙ text_of_zero ∙ sym zeros) in absurd (true≢false (test ∙ ap not same))
 negative_answer word rest nought true minus (suc k, e) zeros test = (negsuc k, minus ∙ ap (λ l. 45 ∷ l) e)
@@ -132,18 +138,27 @@ no_plain word plain none (pos n) e = none n e
 no_plain word plain none (negsuc k) e = plain (ap (λ l. get_or l 0 0) e)
 
 -- a word without a minus
-pub plain_answer : (word : List ℕ) (b : Bool) → get_or word 0 0 ≢ 45 → MatchBool b ((n : ℕ) × (word ≡ unsigned_amount_text n)) ((n : ℕ) → word ≢ unsigned_amount_text n) → MatchBool b ((z : ℤ) × (word ≡ amount_text z)) ((z : ℤ) → word ≢ amount_text z)
+pub plain_answer : (word : List ℕ) (b : Bool) → get_or word 0 0 ≢ 45
+    → MatchBool b ((n : ℕ) × (word ≡ unsigned_amount_text n)) ((n : ℕ) → word ≢ unsigned_amount_text n)
+    → MatchBool b ((z : ℤ) × (word ≡ amount_text z)) ((z : ℤ) → word ≢ amount_text z)
 plain_answer word true plain (n, e) = (pos n, e)
 plain_answer word false plain none = λ z. no_plain word plain none z
 
 -- units and cents that were tested
-pub unsigned_answer : (word units cents : List ℕ) (b : Bool) → 3 ≤ length word → units ≡ take (length word - 3) word → cents ≡ drop (length word - 3) word → (n : ℕ) × (units ≡ numeral n) → MatchBool b ((n : ℕ) × (n < 100) × (cents ≡ codes "." ++ two_digits n)) ((n : ℕ) → n < 100 → cents ≢ codes "." ++ two_digits n) → MatchBool b ((n : ℕ) × (word ≡ unsigned_amount_text n)) ((n : ℕ) → word ≢ unsigned_amount_text n)
-unsigned_answer word units cents true long front back (m, u) (n, small, e) =
-    (m * 100 + n, sym (take-append-drop (length word - 3) word) ∙ ap (λ l. l ++ drop (length word - 3) word) (sym front) ∙ ap (λ l. units ++ l) (sym back) ∙ unsigned_from_parts units cents m n u small e)
+pub unsigned_answer : (word units cents : List ℕ) (b : Bool) → 3 ≤ length word → units ≡ take (length word - 3) word → cents ≡ drop (length word - 3) word
+    → (n : ℕ) × (units ≡ numeral n) → MatchBool b ((n : ℕ) × (n < 100) × (cents ≡ codes "." ++ two_digits n))
+    ((n : ℕ) → n < 100 → cents ≢ codes "." ++ two_digits n)
+    → MatchBool b ((n : ℕ) × (word ≡ unsigned_amount_text n)) ((n : ℕ) → word ≢ unsigned_amount_text n)
+unsigned_answer word units cents true long front back (m, u) (n, small, e) = (
+  m * 100 + n,
+  sym (take-append-drop (length word - 3) word) ∙ ap (λ l. l ++ drop (length word - 3) word) (sym front) ∙ ap (λ l. units ++ l) (sym back)
+      ∙ unsigned_from_parts units cents m n u small e,
+)
 unsigned_answer word units cents false long front back u none = λ n is. none (n % 100) (omega arith) (back ∙ cents_of word n is)
 
 -- three bytes that are a point and two digits
-pub cents_from_bytes : (bs : List ℕ) → length bs ≡ 3 → get_or bs 0 0 ≡ 46 → (48 ≤ get_or bs 1 0) × (get_or bs 1 0 ≤ 57) → (48 ≤ get_or bs 2 0) × (get_or bs 2 0 ≤ 57) → (n : ℕ) × (n < 100) × (bs ≡ codes "." ++ two_digits n)
+pub cents_from_bytes : (bs : List ℕ) → length bs ≡ 3 → get_or bs 0 0 ≡ 46 → (48 ≤ get_or bs 1 0) × (get_or bs 1 0 ≤ 57) → (48 ≤ get_or bs 2 0)
+    × (get_or bs 2 0 ≤ 57) → (n : ℕ) × (n < 100) × (bs ≡ codes "." ++ two_digits n)
 cents_from_bytes [] long point tens ones = absurd (omega arith)
 cents_from_bytes (p ∷ []) long point tens ones = absurd (omega arith)
 cents_from_bytes (p ∷ t ∷ []) long point tens ones = absurd (omega arith)

@@ -1,5 +1,6 @@
 -- How the lines of a text come one after another.
-use Rattle.std.proofs.Common.{◌≡◌, ◌≢◌, ℕ, ◌<◌, ◌≤◌, Bool, true, false, cond, eqb, leb, Some, None, List, [], ◌∷◌, ◌++◌, length, length-append, get_or, append_assoc, append-nil, sym, ap, ◌∙◌, refl, arith}
+use Rattle.std.proofs.Common.{◌≡◌, ◌≢◌, ℕ, ◌<◌, ◌≤◌, Bool, true, false, cond, eqb, leb, Some, None, List, [], ◌∷◌, ◌++◌, length, length-append, get_or}
+use Rattle.std.proofs.Common.{append_assoc, append-nil, sym, ap, ◌∙◌, refl, arith}
 use Rattle.std.specs.List.{All, AllByRecursion, slice_split, flat_map}
 use Rattle.std.proofs.lemmas.Bool.{false_from_ne_true}
 use Rattle.std.proofs.lemmas.Bool.Decides.{Decides-eqb, nat_tests}
@@ -25,7 +26,8 @@ lines_first line rest h =
 pub lines_last : (rest : List ℕ) → HasNoLineFeed rest → text_lines rest ≡ last_line rest
 lines_last rest h = ap without_empty_last (slice_split_none (λ b. eqb b 10) rest (no_feed_test rest h))
 
-lines_joined : (lines : List (List ℕ)) (rest : List ℕ) → AllByRecursion HasNoLineFeed lines → HasNoLineFeed rest → text_lines (flat_map (λ line. line ++ (10 ∷ [])) lines ++ rest) ≡ lines ++ last_line rest
+lines_joined : (lines : List (List ℕ)) (rest : List ℕ) → AllByRecursion HasNoLineFeed lines → HasNoLineFeed rest
+    → text_lines (flat_map (λ line. line ++ (10 ∷ [])) lines ++ rest) ≡ lines ++ last_line rest
 lines_joined [] rest each last = lines_last rest last
 lines_joined (line ∷ lines) rest each last =
     let later = flat_map (λ l. l ++ (10 ∷ [])) lines in
@@ -36,11 +38,13 @@ lines_joined (line ∷ lines) rest each last =
 pub lines_of_cut : (text : List ℕ) (lines : List (List ℕ)) (rest : List ℕ) → IsCut text lines rest → text_lines text ≡ lines ++ last_line rest
 lines_of_cut text lines rest cut = ap text_lines cut.whole ∙ lines_joined lines rest cut.each cut.last
 
-flat_push : (lines : List (List ℕ)) (line : List ℕ) → flat_map (λ l. l ++ (10 ∷ [])) (lines ++ (line ∷ [])) ≡ flat_map (λ l. l ++ (10 ∷ [])) lines ++ (line ++ (10 ∷ []))
+flat_push : (lines : List (List ℕ)) (line : List ℕ) → flat_map (λ l. l ++ (10 ∷ [])) (lines ++ (line ∷ [])) ≡ flat_map (λ l. l ++ (10 ∷ [])) lines
+    ++ (line ++ (10 ∷ []))
 flat_push [] line = append-nil (line ++ (10 ∷ []))
 flat_push (first ∷ lines) line = ap (λ t. (first ++ (10 ∷ [])) ++ t) (flat_push lines line) ∙ sym (append_assoc (first ++ (10 ∷ [])) _ _)
 
-each_push : (lines : List (List ℕ)) (line : List ℕ) → AllByRecursion HasNoLineFeed lines → HasNoLineFeed line → AllByRecursion HasNoLineFeed (lines ++ (line ∷ []))
+each_push : (lines : List (List ℕ)) (line : List ℕ) → AllByRecursion HasNoLineFeed lines → HasNoLineFeed line
+    → AllByRecursion HasNoLineFeed (lines ++ (line ∷ []))
 each_push [] line each h = (h, tt)
 each_push (first ∷ lines) line each h = (each.0, each_push lines line each.1 h)
 
@@ -49,7 +53,8 @@ pub cut_start : IsCut [] [] []
 cut_start = record { whole = refl; each = tt; last = All-nil (λ b. b ≢ 10) }
 
 -- a line feed ends the line
-pub cut_line : (text : List ℕ) (lines : List (List ℕ)) (rest end : List ℕ) → IsCut text lines rest → HasNoLineFeed end → IsCut (text ++ (end ++ (10 ∷ []))) (lines ++ ((rest ++ end) ∷ [])) []
+pub cut_line : (text : List ℕ) (lines : List (List ℕ)) (rest end : List ℕ) → IsCut text lines rest → HasNoLineFeed end
+    → IsCut (text ++ (end ++ (10 ∷ []))) (lines ++ ((rest ++ end) ∷ [])) []
 cut_line text lines rest end cut h =
     let flat = flat_map (λ l. l ++ (10 ∷ [])) lines in
     let regroup : (flat ++ rest) ++ (end ++ (10 ∷ [])) ≡ flat ++ ((rest ++ end) ++ (10 ∷ [])) = simp append_assoc in
@@ -60,7 +65,8 @@ cut_line text lines rest end cut h =
     record { whole = whole; each = each_push lines (rest ++ end) cut.each (All-append (λ b. b ≢ 10) rest end cut.last h); last = All-nil (λ b. b ≢ 10) }
 
 -- the line goes on
-pub cut_more : (text : List ℕ) (lines : List (List ℕ)) (rest more : List ℕ) → IsCut text lines rest → HasNoLineFeed more → IsCut (text ++ more) lines (rest ++ more)
+pub cut_more : (text : List ℕ) (lines : List (List ℕ)) (rest more : List ℕ) → IsCut text lines rest → HasNoLineFeed more
+    → IsCut (text ++ more) lines (rest ++ more)
 cut_more text lines rest more cut h = record {
   whole = ap (λ t. t ++ more) cut.whole ∙ append_assoc _ rest more;
   each = cut.each;

@@ -3,12 +3,14 @@ use Rattle.std.proofs.Common.{◌≡◌, ℕ, List, [], ◌∷◌, ◌++◌, map
 use Rattle.std.specs.List.{join_with_byte, flat_map}
 
 -- behind one word
-behind_one : {A : Type 0} (word_of : A → List ℕ) (word : List ℕ) (xs : List A) → join_with_byte 32 (word ∷ map word_of xs) ≡ word ++ flat_map (λ x. 32 ∷ word_of x) xs
+behind_one : {A : Type 0} (word_of : A → List ℕ) (word : List ℕ) (xs : List A) → join_with_byte 32 (word ∷ map word_of xs) ≡ word
+    ++ flat_map (λ x. 32 ∷ word_of x) xs
 behind_one word_of word [] = sym (append-nil word)
 behind_one word_of word (x ∷ xs) = ap (λ rest. word ++ 32 ∷ rest) (behind_one word_of (word_of x) xs)
 
 -- behind one or more
-pub joined : {A : Type 0} (word_of : A → List ℕ) (word : List ℕ) (words : List (List ℕ)) (xs : List A) → join_with_byte 32 ((word ∷ words) ++ map word_of xs) ≡ join_with_byte 32 (word ∷ words) ++ flat_map (λ x. 32 ∷ word_of x) xs
+pub joined : {A : Type 0} (word_of : A → List ℕ) (word : List ℕ) (words : List (List ℕ)) (xs : List A)
+    → join_with_byte 32 ((word ∷ words) ++ map word_of xs) ≡ join_with_byte 32 (word ∷ words) ++ flat_map (λ x. 32 ∷ word_of x) xs
 joined word_of word [] xs = behind_one word_of word xs
 joined word_of word (next ∷ words) xs =
     ap (λ rest. word ++ 32 ∷ rest) (joined word_of next words xs)

@@ -1,5 +1,6 @@
 -- Each customer is named by a word of its own.
-use Rattle.std.proofs.Common.{◌≡◌, ◌≢◌, ℕ, zero, suc, ◌+◌, ◌*◌, ◌<◌, ◌≤◌, ◌^◌, ◌/◌, ◌%◌, inl, inr, false, cond, eqb, List, [], ◌∷◌, ◌++◌, length, take, get_or, codes, Option, Some, None, MatchOption, MatchResult, append-nil, append_assoc, sym, ap, ◌∙◌, subst, refl, arith, lit≤}
+use Rattle.std.proofs.Common.{◌≡◌, ◌≢◌, ℕ, zero, suc, ◌+◌, ◌*◌, ◌<◌, ◌≤◌, ◌^◌, ◌/◌, ◌%◌, inl, inr, false, cond, eqb, List, [], ◌∷◌, ◌++◌, length, take, get_or}
+use Rattle.std.proofs.Common.{codes, Option, Some, None, MatchOption, MatchResult, append-nil, append_assoc, sym, ap, ◌∙◌, subst, refl, arith, lit≤}
 use Rattle.std.specs.Bool.{⊤}
 use Rattle.std.specs.Cmp.Lexicographic.{pointwise}
 use Rattle.std.specs.Fmt.{decimal}
@@ -44,7 +45,8 @@ of_below P (suc n) d h small =
     ]
 
 digit_of_syllable : (d : ℕ) (rest : List ℕ) → d < 10 → digit_from (syllable d ++ rest) ≡ d
-digit_of_syllable d rest = of_below (λ d. digit_from (syllable d ++ rest) ≡ d) 10 d (refl, (refl, (refl, (refl, (refl, (refl, (refl, (refl, (refl, (refl, tt))))))))))
+digit_of_syllable d rest = of_below (λ d. digit_from (syllable d ++ rest) ≡ d) 10 d
+    (refl, (refl, (refl, (refl, (refl, (refl, (refl, (refl, (refl, (refl, tt))))))))))
 
 -- so a text begins with one syllable
 same_syllable : (a b : ℕ) (xs ys : List ℕ) → a < 10 → b < 10 → syllable a ++ xs ≡ syllable b ++ ys → (a ≡ b) × (xs ≡ ys)
@@ -61,11 +63,13 @@ pub name_parts : (n : ℕ) → name_word n ≡ syllable (n / 100) ++ (syllable (
 name_parts n = append_assoc (syllable (n / 100)) (syllable (n / 10 % 10)) (syllable (n % 10))
 
 -- what stands behind a name's first syllable, behind its second, and behind its third
-pub behind_hundreds : (a n : ℕ) (word rest : List ℕ) → a < 10 → n < LAST_NAMES → word ≡ syllable a ++ rest → word ≡ name_word n → rest ≡ syllable (n / 10 % 10) ++ syllable (n % 10)
+pub behind_hundreds : (a n : ℕ) (word rest : List ℕ) → a < 10 → n < LAST_NAMES → word ≡ syllable a ++ rest → word ≡ name_word n → rest ≡ syllable (n / 10 % 10)
+    ++ syllable (n % 10)
 behind_hundreds a n word rest small small_n e f =
     behind_syllable a (n / 100) word rest (syllable (n / 10 % 10) ++ syllable (n % 10)) small (omega arith) e (f ∙ name_parts n)
 
-pub behind_tens : (b n : ℕ) (text rest : List ℕ) → b < 10 → text ≡ syllable b ++ rest → text ≡ syllable (n / 10 % 10) ++ syllable (n % 10) → rest ≡ syllable (n % 10) ++ []
+pub behind_tens : (b n : ℕ) (text rest : List ℕ) → b < 10 → text ≡ syllable b ++ rest → text ≡ syllable (n / 10 % 10) ++ syllable (n % 10)
+    → rest ≡ syllable (n % 10) ++ []
 behind_tens b n text rest small e f =
     behind_syllable b (n / 10 % 10) text rest (syllable (n % 10)) small (omega arith) e f ∙ sym (append-nil (syllable (n % 10)))
 
@@ -73,7 +77,8 @@ pub behind_ones : (c n : ℕ) (text rest : List ℕ) → c < 10 → text ≡ syl
 behind_ones c n text rest small e f = behind_syllable c (n % 10) text rest [] small (omega arith) e f
 
 -- three syllables are a name
-pub name_of_digits : (a b c : ℕ) (word rest last tail : List ℕ) → a < 10 → b < 10 → c < 10 → word ≡ syllable a ++ rest → rest ≡ syllable b ++ last → last ≡ syllable c ++ tail → tail ≡ [] → word ≡ name_word (a * 100 + b * 10 + c)
+pub name_of_digits : (a b c : ℕ) (word rest last tail : List ℕ) → a < 10 → b < 10 → c < 10 → word ≡ syllable a ++ rest → rest ≡ syllable b ++ last
+    → last ≡ syllable c ++ tail → tail ≡ [] → word ≡ name_word (a * 100 + b * 10 + c)
 name_of_digits a b c word rest last tail small_a small_b small_c e f g none =
     let n = a * 100 + b * 10 + c in
     let hundreds : n / 100 ≡ a = omega arith in
@@ -84,7 +89,8 @@ name_of_digits a b c word rest last tail small_a small_b small_c e f g none =
     rw (hundreds, tens, ones) (parts ∙ sym (append_assoc (syllable a) (syllable b) (syllable c)))
 
 -- a text that begins with no syllable so far, and not with the next
-pub begins_with_none : (k : ℕ) (text prefix : List ℕ) → prefix ≡ syllable k → pointwise eqb (take (length prefix) text) prefix ≡ false → ((d : ℕ) → d < k → (rest : List ℕ) → text ≢ syllable d ++ rest) → (d : ℕ) → d < k + 1 → (rest : List ℕ) → text ≢ syllable d ++ rest
+pub begins_with_none : (k : ℕ) (text prefix : List ℕ) → prefix ≡ syllable k → pointwise eqb (take (length prefix) text) prefix ≡ false
+    → ((d : ℕ) → d < k → (rest : List ℕ) → text ≢ syllable d ++ rest) → (d : ℕ) → d < k + 1 → (rest : List ℕ) → text ≢ syllable d ++ rest
 begins_with_none k text prefix is apart none d within rest e =
     elim (cases_lt d k) [
       | inl below ↦ none d below rest e
@@ -95,15 +101,18 @@ begins_with_none k text prefix is apart none d within rest e =
 -- a name is the name of one number
 name_injective : (m n : ℕ) → m < LAST_NAMES → n < LAST_NAMES → name_word m ≡ name_word n → m ≡ n
 name_injective m n small_m small_n e =
-    let first = same_syllable (m / 100) (n / 100) (syllable (m / 10 % 10) ++ syllable (m % 10)) (syllable (n / 10 % 10) ++ syllable (n % 10)) (omega arith) (omega arith) (sym (name_parts m) ∙ e ∙ name_parts n) in
+    let first = same_syllable (m / 100) (n / 100) (syllable (m / 10 % 10) ++ syllable (m % 10)) (syllable (n / 10 % 10) ++ syllable (n % 10)) (omega arith)
+    (omega arith) (sym (name_parts m) ∙ e ∙ name_parts n) in
     let second = same_syllable (m / 10 % 10) (n / 10 % 10) (syllable (m % 10)) (syllable (n % 10)) (omega arith) (omega arith) first.1 in
-    let third = same_syllable (m % 10) (n % 10) [] [] (omega arith) (omega arith) (append-nil (syllable (m % 10)) ∙ second.1 ∙ sym (append-nil (syllable (n % 10)))) in
+    let third = same_syllable (m % 10) (n % 10) [] [] (omega arith) (omega arith)
+    (append-nil (syllable (m % 10)) ∙ second.1 ∙ sym (append-nil (syllable (n % 10)))) in
     omega (arith, first.0, second.0, third.0)
 
 -- a name begins with a letter, and no number does
 syllable_letter : (d : ℕ) (rest : List ℕ) → d < 10 → 65 ≤ get_or (syllable d ++ rest) 0 0
 syllable_letter d rest =
-    of_below (λ d. 65 ≤ get_or (syllable d ++ rest) 0 0) 10 d (lit≤ tt, (lit≤ tt, (lit≤ tt, (lit≤ tt, (lit≤ tt, (lit≤ tt, (lit≤ tt, (lit≤ tt, (lit≤ tt, (lit≤ tt, tt))))))))))
+    of_below (λ d. 65 ≤ get_or (syllable d ++ rest) 0 0) 10 d
+    (lit≤ tt, (lit≤ tt, (lit≤ tt, (lit≤ tt, (lit≤ tt, (lit≤ tt, (lit≤ tt, (lit≤ tt, (lit≤ tt, (lit≤ tt, tt))))))))))
 
 pub no_name : (c n : ℕ) → c < 2 ^ 32 → n < LAST_NAMES → decimal c ≢ name_word n
 no_name c n small_c small_n e =
@@ -124,8 +133,28 @@ who_at k xs ys a b is_a is_b e h i = same_who a b h i (sym is_a ∙ ap (λ l. ge
 
 -- neither a number nor a name has a space
 syllables_no_space : AllByRecursion HasNoSpace syllables
-syllables_no_space =
-    (letters (codes "BAR") refl, (letters (codes "OUGHT") refl, (letters (codes "ABLE") refl, (letters (codes "PRI") refl, (letters (codes "PRES") refl, (letters (codes "ESE") refl, (letters (codes "ANTI") refl, (letters (codes "CALLY") refl, (letters (codes "ATION") refl, (letters (codes "EING") refl, tt))))))))))
+syllables_no_space = (
+  letters (codes "BAR") refl,
+  (
+    letters (codes "OUGHT") refl,
+    (
+      letters (codes "ABLE") refl,
+      (
+        letters (codes "PRI") refl,
+        (
+          letters (codes "PRES") refl,
+          (
+            letters (codes "ESE") refl,
+            (
+              letters (codes "ANTI") refl,
+              (letters (codes "CALLY") refl, (letters (codes "ATION") refl, (letters (codes "EING") refl, tt))),
+            ),
+          ),
+        ),
+      ),
+    ),
+  ),
+)
 
 syllable_no_space : (d : ℕ) → HasNoSpace (syllable d)
 syllable_no_space d =
@@ -137,9 +166,13 @@ syllable_no_space d =
 pub who_no_space : (who : Who) → HasNoSpace (who_word who)
 who_no_space (Id c) = decimal_no_space c
 who_no_space (Last n) =
-    lacks_append 32 (syllable (n / 100) ++ syllable (n / 10 % 10)) (syllable (n % 10)) (lacks_append 32 (syllable (n / 100)) (syllable (n / 10 % 10)) (syllable_no_space (n / 100)) (syllable_no_space (n / 10 % 10))) (syllable_no_space (n % 10))
+    lacks_append 32 (syllable (n / 100) ++ syllable (n / 10 % 10)) (syllable (n % 10))
+    (lacks_append 32 (syllable (n / 100)) (syllable (n / 10 % 10)) (syllable_no_space (n / 100)) (syllable_no_space (n / 10 % 10)))
+    (syllable_no_space (n % 10))
 
 -- what an only word says, where it may name a customer
-pub last_from_who : (text : List ℕ) (o : Option Who) → MatchOption o ((who : Who) → HasWho who → text ≢ who_word who) (λ who. text ≡ who_word who) → MatchResult (ok_or o BadLine) (λ who. words text ≡ who_word who ∷ []) (λ refusal. (refusal ≡ BadLine) × ((who : Who) → HasWho who → words text ≢ who_word who ∷ []))
+pub last_from_who : (text : List ℕ) (o : Option Who) → MatchOption o ((who : Who) → HasWho who → text ≢ who_word who) (λ who. text ≡ who_word who)
+    → MatchResult (ok_or o BadLine) (λ who. words text ≡ who_word who ∷ [])
+    (λ refusal. (refusal ≡ BadLine) × ((who : Who) → HasWho who → words text ≢ who_word who ∷ []))
 last_from_who text None none = (refl, λ who h e. none who h (text_from_words text (who_word who ∷ []) e))
 last_from_who text (Some who) is = ap words is ∙ words_one (who_word who) (who_no_space who)

@@ -1,5 +1,6 @@
 -- The digits of a number of any size.
-use Rattle.std.proofs.Common.{◌≡◌, ◌≢◌, ℕ, zero, suc, add-one, ◌+◌, ◌-◌, ◌*◌, ◌<◌, ◌≤◌, ◌^◌, ◌%◌, Bool, true, false, eqb, ◌&&◌, List, [], ◌∷◌, ◌++◌, MatchBool, length, get_or, take, map, codes, inl, inr, sym, ap, ◌∙◌, subst, refl, arith, lit<, lit≤}
+use Rattle.std.proofs.Common.{◌≡◌, ◌≢◌, ℕ, zero, suc, add-one, ◌+◌, ◌-◌, ◌*◌, ◌<◌, ◌≤◌, ◌^◌, ◌%◌, Bool, true, false, eqb, ◌&&◌, List, [], ◌∷◌, ◌++◌, MatchBool}
+use Rattle.std.proofs.Common.{length, get_or, take, map, codes, inl, inr, sym, ap, ◌∙◌, subst, refl, arith, lit<, lit≤}
 use Rattle.std.specs.Char.{digit_value, is_ascii_digit}
 use Rattle.std.specs.Fmt.{decimal}
 use Rattle.std.specs.Int.Digits.{digits_of, number_from_digits, AllBelowBase}
@@ -24,21 +25,24 @@ digits_of_more q d front small some e =
     ∙ ap (λ l. l ++ (d ∷ [])) e
 
 -- the digits up to place i give back themselves
-front_digits : (xs : List ℕ) → ((k : ℕ) → k < length xs → get_or xs k 0 < 10) → 0 < get_or xs 0 0 → (i : ℕ) → i < length xs → (digits_of 10 (number_from_digits 10 (take (i + 1) xs)) ≡ take (i + 1) xs) × (0 < number_from_digits 10 (take (i + 1) xs))
+front_digits : (xs : List ℕ) → ((k : ℕ) → k < length xs → get_or xs k 0 < 10) → 0 < get_or xs 0 0 → (i : ℕ) → i < length xs
+    → (digits_of 10 (number_from_digits 10 (take (i + 1) xs)) ≡ take (i + 1) xs) × (0 < number_from_digits 10 (take (i + 1) xs))
 front_digits xs small first zero within =
     let more = number_more 10 xs 0 within in
     let some : 0 < 0 * 10 + get_or xs 0 0 = omega arith in
     (ap (digits_of 10) more ∙ digits_of_more 0 (get_or xs 0 0) [] (small 0 within) some refl ∙ sym (take_more xs 0 0 within), omega (arith, more))
 front_digits xs small first (suc i) within =
     let before = front_digits xs small first i (omega arith) in
-    let more : number_from_digits 10 (take (suc i + 1) xs) ≡ number_from_digits 10 (take (i + 1) xs) * 10 + get_or xs (suc i) 0 = number_more 10 xs (suc i) within ∙ ap (λ k. number_from_digits 10 (take k xs) * 10 + get_or xs (suc i) 0) (sym (add-one i)) in
+    let more : number_from_digits 10 (take (suc i + 1) xs) ≡ number_from_digits 10 (take (i + 1) xs) * 10 + get_or xs (suc i) 0 =
+    number_more 10 xs (suc i) within ∙ ap (λ k. number_from_digits 10 (take k xs) * 10 + get_or xs (suc i) 0) (sym (add-one i)) in
     let some : 0 < number_from_digits 10 (take (i + 1) xs) * 10 + get_or xs (suc i) 0 = omega (arith, before.1) in (
       ap (digits_of 10) more ∙ digits_of_more _ (get_or xs (suc i) 0) (take (i + 1) xs) (small (suc i) within) some before.0
           ∙ sym (take_more xs (suc i) 0 within ∙ ap (λ k. take k xs ++ (get_or xs (suc i) 0 ∷ [])) (sym (add-one i))),
       omega (arith, more, some),
     )
 
-digits_of_number : (xs : List ℕ) → AllBelowBase 10 xs → 0 < length xs → 0 < get_or xs 0 0 → (digits_of 10 (number_from_digits 10 xs) ≡ xs) × (0 < number_from_digits 10 xs)
+digits_of_number : (xs : List ℕ) → AllBelowBase 10 xs → 0 < length xs → 0 < get_or xs 0 0 → (digits_of 10 (number_from_digits 10 xs) ≡ xs)
+    × (0 < number_from_digits 10 xs)
 digits_of_number xs small some first =
     let all = front_digits xs (λ k within. All-from_recursion (λ d. d < 10) xs small k 0 within) first (length xs - 1) (omega arith) in
     let whole : take (length xs - 1 + 1) xs ≡ xs = take_all (length xs - 1 + 1) xs (omega arith) in
@@ -98,8 +102,11 @@ pub numeral_from_text : (ds : List ℕ) → IsNumeralText ds → (n : ℕ) × (d
 numeral_from_text [] h = absurd (omega (arith, h.some))
 numeral_from_text (c ∷ cs) h =
     elim (cases_lt 0 (digit_value c)) [
-      | inl above ↦ let number = digits_of_number (map digit_value (c ∷ cs)) (all_below_base_from_digits 10 (c ∷ cs) h.are_digits) (omega arith) above in
-          (number_from_digits 10 (map digit_value (c ∷ cs)), sym (numeral_of_some _ number.1 ∙ ap (map (λ d. 48 + d)) number.0 ∙ glyphs_of_values (c ∷ cs) h.are_digits))
+      | inl above ↦ let number = digits_of_number (map digit_value (c ∷ cs)) (all_below_base_from_digits 10 (c ∷ cs) h.are_digits) (omega arith) above in (
+        number_from_digits 10 (map digit_value (c ∷ cs)),
+        sym
+            (numeral_of_some _ number.1 ∙ ap (map (λ d. 48 + d)) number.0 ∙ glyphs_of_values (c ∷ cs) h.are_digits),
+      )
       | inr none ↦ let glyph = glyph_of_value c h.are_digits.0 in
           let nought : c ≡ 48 = omega arith in
           let alone : cs ≡ [] = length-zero cs (omega (arith, h.no_zero nought)) in
@@ -119,12 +126,15 @@ pub text_from_numeral : (n : ℕ) → IsNumeralText (numeral n)
 text_from_numeral zero = rw numeral_zero (record { some = lit< tt; are_digits = (lit< tt, tt); no_zero = λ _. refl })
 text_from_numeral (suc n) =
     let some : 0 < suc n = omega arith in
-    rw (numeral_of_some (suc n) some) (glyphs_are_text (digits_of 10 (suc n)) (all_below_base_digits_of 10 (suc n) (lit≤ tt)) (first_digits_of 10 (suc n) (lit≤ tt) some))
+    rw (numeral_of_some (suc n) some)
+    (glyphs_are_text (digits_of 10 (suc n)) (all_below_base_digits_of 10 (suc n) (lit≤ tt)) (first_digits_of 10 (suc n) (lit≤ tt) some))
 
 -- only 0 begins with a zero
 pub zero_from_first : (n : ℕ) → get_or (numeral n) 0 0 ≡ 48 → n ≡ 0
 zero_from_first zero e = refl
-zero_from_first (suc n) e = absurd (go (digits_of 10 (suc n)) (first_digits_of 10 (suc n) (lit≤ tt) (omega arith)) (sym (ap (λ l. get_or l 0 0) (numeral_of_some (suc n) (omega arith))) ∙ e))
+zero_from_first (suc n) e =
+    absurd (go (digits_of 10 (suc n)) (first_digits_of 10 (suc n) (lit≤ tt) (omega arith)) (sym (ap (λ l. get_or l 0 0) (numeral_of_some (suc n) (omega arith)))
+    ∙ e))
   where
     go : (xs : List ℕ) → 0 < get_or xs 0 0 → get_or (map (λ d. 48 + d) xs) 0 0 ≡ 48 → Prim.⊥
     go [] first is = omega arith
@@ -145,7 +155,8 @@ test_from_digits [] h = refl
 test_from_digits (c ∷ cs) h = and_both _ _ (test_from_value c h.0) (test_from_digits cs h.1)
 
 -- what the test of a word says
-pub numeral_answer : (word : List ℕ) (b : Bool) → b ≡ list_all is_ascii_digit word → 0 < length word → (get_or word 0 0 ≡ 48 → length word ≡ 1) → MatchBool b ((n : ℕ) × (word ≡ numeral n)) ((n : ℕ) → word ≢ numeral n)
+pub numeral_answer : (word : List ℕ) (b : Bool) → b ≡ list_all is_ascii_digit word → 0 < length word → (get_or word 0 0 ≡ 48 → length word ≡ 1)
+    → MatchBool b ((n : ℕ) × (word ≡ numeral n)) ((n : ℕ) → word ≢ numeral n)
 numeral_answer word true e some alone = numeral_from_text word (record { some = some; are_digits = digits_from_test word (sym e); no_zero = alone })
 numeral_answer word false e some alone = λ n is.
     let digits = subst (AllDigits 10) (sym is) (text_from_numeral n).are_digits in

@@ -47,7 +47,8 @@ same_line l m h i e =
     let same_item : l.item ≡ m.item = number_at 0 _ _ l.item m.item refl refl numbers h.0 i.0 in
     let same_supply : l.supply_warehouse ≡ m.supply_warehouse = number_at 1 _ _ l.supply_warehouse m.supply_warehouse refl refl numbers h.1 i.1 in
     let same_quantity : l.quantity ≡ m.quantity = number_at 2 _ _ l.quantity m.quantity refl refl numbers h.2 i.2 in
-    ap (λ n. line_of n l.supply_warehouse l.quantity) same_item ∙ ap (λ n. line_of m.item n l.quantity) same_supply ∙ ap (λ n. line_of m.item m.supply_warehouse n) same_quantity
+    ap (λ n. line_of n l.supply_warehouse l.quantity) same_item ∙ ap (λ n. line_of m.item n l.quantity) same_supply
+    ∙ ap (λ n. line_of m.item m.supply_warehouse n) same_quantity
 
 -- and words are the words of one list of lines
 pub same_lines : (ls ms : List RequestedLine) → All HasLineNumbers ls → All HasLineNumbers ms → map line_word ls ≡ map line_word ms → ls ≡ ms
@@ -68,10 +69,15 @@ one_colon word item rest e f l h is =
     let two : 2 ≡ length (numbers_of l) = ap length (sym (e ∙ ap (λ l. item ∷ l) f) ∙ ap parts is ∙ parts_of_line l) in omega arith
 
 -- what stands between a line's colons
-pub numbers_between : (word item rest supply quantity : List ℕ) → parts word ≡ item ∷ parts rest → parts rest ≡ supply ∷ parts quantity → (l : RequestedLine) → word ≡ line_word l → (item ≡ decimal l.item) × (supply ≡ decimal l.supply_warehouse) × (quantity ≡ decimal l.quantity)
+pub numbers_between : (word item rest supply quantity : List ℕ) → parts word ≡ item ∷ parts rest → parts rest ≡ supply ∷ parts quantity → (l : RequestedLine)
+    → word ≡ line_word l → (item ≡ decimal l.item) × (supply ≡ decimal l.supply_warehouse) × (quantity ≡ decimal l.quantity)
 numbers_between word item rest supply quantity e f l is =
-    let numbers : item ∷ supply ∷ parts quantity ≡ numbers_of l = sym (e ∙ ap (λ l. item ∷ l) f) ∙ ap parts is ∙ parts_of_line l in
-    (ap (λ ws. get_or ws 0 []) numbers, ap (λ ws. get_or ws 1 []) numbers, sym (join_with_byte-slice_split 58 quantity) ∙ ap (λ ws. join_with_byte 58 (drop 2 ws)) numbers)
+    let numbers : item ∷ supply ∷ parts quantity ≡ numbers_of l = sym (e ∙ ap (λ l. item ∷ l) f) ∙ ap parts is ∙ parts_of_line l in (
+      ap (λ ws. get_or ws 0 []) numbers,
+      ap (λ ws. get_or ws 1 []) numbers,
+      sym (join_with_byte-slice_split 58 quantity)
+          ∙ ap (λ ws. join_with_byte 58 (drop 2 ws)) numbers,
+    )
 
 -- words are no lines' where one of them is no line's
 pub no_lines : (before : List (List ℕ)) (word : List ℕ) (behind : List (List ℕ)) → IsNoLine word → AreNoLines (before ++ word ∷ behind)

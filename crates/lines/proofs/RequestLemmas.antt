@@ -19,7 +19,8 @@ use Rattle.lines.specs.declared.request.ShowKey.TheVariants.{Warehouse, District
 use Rattle.lines.specs.Amount.{amount_text}
 use Rattle.lines.specs.LastNames.{who_word, HasWho}
 use Rattle.lines.specs.Words.{words}
-use Rattle.lines.specs.Requests.{line_word, Answers, AnswersOrNoMemory, AnswersKey, HasKeyNumbers, IsRefusedLine, input_words, key_words, request_words, request_text}
+use Rattle.lines.specs.Requests.{line_word, Answers, AnswersOrNoMemory, AnswersKey, HasKeyNumbers, IsRefusedLine, input_words, key_words, request_words}
+use Rattle.lines.specs.Requests.{request_text}
 use Rattle.lines.proofs.Amounts.{amount_no_space}
 use Rattle.lines.proofs.LastNames.{who_no_space}
 use Rattle.lines.proofs.OrderLines.{lines_no_space}

@@ -1,5 +1,6 @@
 -- Words without a mark, such as a space, and the texts that they make.
-use Rattle.std.proofs.Common.{◌≡◌, ◌≢◌, ℕ, zero, suc, ◌+◌, ◌<◌, ◌/◌, ◌%◌, Bool, true, false, cond, eqb, ltb, not, List, [], ◌∷◌, ◌++◌, length, sym, ap, ◌∙◌, refl, arith}
+use Rattle.std.proofs.Common.{◌≡◌, ◌≢◌, ℕ, zero, suc, ◌+◌, ◌<◌, ◌/◌, ◌%◌, Bool, true, false, cond, eqb, ltb, not, List, [], ◌∷◌, ◌++◌, length, sym, ap, ◌∙◌}
+use Rattle.std.proofs.Common.{refl, arith}
 use Rattle.std.specs.Fmt.{decimal, digits, digits_onto, digit_glyph}
 use Rattle.std.specs.List.{AllByRecursion, list_all, join_with_byte, slice_split}
 use Rattle.std.proofs.lemmas.Bool.{false_from_ne_true, false≢true, not-true}
@@ -75,7 +76,8 @@ pub words_one : (word : List ℕ) → HasNoSpace word → words word ≡ word �
 words_one word h = slice_split_none _ word (All-from_recursion _ word h)
 
 -- words without the mark, joined by it, are the parts between the marks
-pub parts_joined : (mark : ℕ) (first : List ℕ) (ws : List (List ℕ)) → AllByRecursion (Lacks mark) (first ∷ ws) → slice_split (λ b. eqb b mark) (join_with_byte mark (first ∷ ws)) ≡ first ∷ ws
+pub parts_joined : (mark : ℕ) (first : List ℕ) (ws : List (List ℕ)) → AllByRecursion (Lacks mark) (first ∷ ws)
+    → slice_split (λ b. eqb b mark) (join_with_byte mark (first ∷ ws)) ≡ first ∷ ws
 parts_joined mark first [] h = slice_split_none _ first (All-from_recursion _ first h.0)
 parts_joined mark first (next ∷ ws) h =
     slice_split_at _ first mark (join_with_byte mark (next ∷ ws)) (All-from_recursion _ first h.0) ((Decides-eqb mark mark).1 refl)

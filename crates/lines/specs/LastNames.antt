@@ -8,7 +8,8 @@ use Rattle.tables.specs.declared.customer.Who.TheVariants.{Id, Last}
 -- the syllables of last names, of the digits 0 to 9 (TPC-C 4.3.2.3)
 abbrev pub syllables : List (List ℕ)
 syllables =
-    codes "BAR" ∷ codes "OUGHT" ∷ codes "ABLE" ∷ codes "PRI" ∷ codes "PRES" ∷ codes "ESE" ∷ codes "ANTI" ∷ codes "CALLY" ∷ codes "ATION" ∷ codes "EING" ∷ []
+    codes "BAR" ∷ codes "OUGHT" ∷ codes "ABLE" ∷ codes "PRI" ∷ codes "PRES" ∷ codes "ESE" ∷ codes "ANTI" ∷ codes "CALLY"
+    ∷ codes "ATION" ∷ codes "EING" ∷ []
 
 -- the syllable of a digit
 abbrev pub syllable : ℕ → List ℕ

@@ -17,7 +17,8 @@ AreNoLines ws = (ls : List RequestedLine) → All HasLineNumbers ls → ws ≢ m
 
 -- the words are not a customer's number with any lines behind it
 abbrev pub AreNoOrder : List (List ℕ) → Type 0
-AreNoOrder ws = (c : ℕ) (ls : List RequestedLine) → c < 2 ^ 32 → All HasLineNumbers ls → ws ≢ decimal c ∷ map line_word ls
+AreNoOrder ws = (c : ℕ) (ls : List RequestedLine) → c < 2 ^ 32 → All HasLineNumbers ls → ws ≢ decimal c
+    ∷ map line_word ls
 
 -- the refusal of what is not read: there is no memory, or the words are wrong
 abbrev pub IsUnread : Type 0 → Refusal → Type 0

@@ -7,7 +7,8 @@ use Rattle.conditions.specs.declared.report.Report.{Report}
 -- the line of one condition, as "C9 ok" or "C9 broken 1 1", with its line feed
 abbrev pub verdict_text : {K : Type 0} → (K → List ℕ) → ℕ → Option K → List ℕ
 verdict_text key_text condition None = codes "C" ++ (decimal condition ++ codes " ok\n")
-verdict_text key_text condition (Some key) = codes "C" ++ (decimal condition ++ (codes " broken " ++ (key_text key ++ codes "\n")))
+verdict_text key_text condition (Some key) = codes "C"
+    ++ (decimal condition ++ (codes " broken " ++ (key_text key ++ codes "\n")))
 
 -- the lines of conditions 1 to 6, and of 7 to 12
 abbrev pub first_verdicts : Report → List ℕ
@@ -29,4 +30,5 @@ last_verdicts report =
 
 -- the text of a report
 abbrev pub report_text : ℕ → Report → List ℕ
-report_text commits report = codes "commits " ++ (decimal commits ++ (codes "\n" ++ (first_verdicts report ++ last_verdicts report)))
+report_text commits report = codes "commits "
+    ++ (decimal commits ++ (codes "\n" ++ (first_verdicts report ++ last_verdicts report)))

@@ -1,7 +1,9 @@
 use Rattle.std.specs.Prelude.{ℕ, List, ◌++◌, codes}
 use Rattle.std.specs.Fmt.{decimal}
 use Rattle.money.specs.declared.refusal.Refusal.{Refusal}
-use Rattle.money.specs.declared.refusal.Refusal.TheVariants.{OutOfMemory, BadInput, Stale, Conflict, ItemNotValid, OrdersFull, CommitsFull, EpochFull, Device, Damaged, Gap, GaveUp, BadScale, BadLine}
+use Rattle.money.specs.declared.refusal.Refusal.TheVariants.{OutOfMemory, BadInput, Stale, Conflict, ItemNotValid}
+use Rattle.money.specs.declared.refusal.Refusal.TheVariants.{OrdersFull, CommitsFull, EpochFull, Device, Damaged, Gap}
+use Rattle.money.specs.declared.refusal.Refusal.TheVariants.{GaveUp, BadScale, BadLine}
 
 -- the number by which a refusal is printed
 abbrev pub refusal_number : Refusal → ℕ

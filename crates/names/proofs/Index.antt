@@ -30,12 +30,16 @@ or_false true = refl
 or_false false = refl
 
 -- one more name, of the next customer
-pub more : (q : NameKey) (e : CustomerKey × Customer) (old new : Bool) (all its rest : List (CustomerKey × Customer)) → its ≡ e ∷ rest → new ≡ (eq_by_cmp name_cmp q (named_entry e) || old)
-    → (old || list_any (eq_by_cmp name_cmp q) (map named_entry its)) ≡ list_any (eq_by_cmp name_cmp q) (map named_entry all) → (new || list_any (eq_by_cmp name_cmp q) (map named_entry rest)) ≡ list_any (eq_by_cmp name_cmp q) (map named_entry all)
-more q e old new all its rest next is before = ap (λ b. b || list_any (eq_by_cmp name_cmp q) (map named_entry rest)) is ∙ or_swap (eq_by_cmp name_cmp q (named_entry e)) old _ ∙ ap (λ l. old || list_any (eq_by_cmp name_cmp q) (map named_entry l)) (sym next) ∙ before
+pub more : (q : NameKey) (e : CustomerKey × Customer) (old new : Bool) (all its rest : List (CustomerKey × Customer)) → its ≡ e ∷ rest
+    → new ≡ (eq_by_cmp name_cmp q (named_entry e) || old)
+    → (old || list_any (eq_by_cmp name_cmp q) (map named_entry its)) ≡ list_any (eq_by_cmp name_cmp q) (map named_entry all)
+    → (new || list_any (eq_by_cmp name_cmp q) (map named_entry rest)) ≡ list_any (eq_by_cmp name_cmp q) (map named_entry all)
+more q e old new all its rest next is before = ap (λ b. b || list_any (eq_by_cmp name_cmp q) (map named_entry rest)) is
+    ∙ or_swap (eq_by_cmp name_cmp q (named_entry e)) old _ ∙ ap (λ l. old || list_any (eq_by_cmp name_cmp q) (map named_entry l)) (sym next) ∙ before
 
 -- at the end none is left
-pub none_left : (q : NameKey) (b all : Bool) (rest : List (CustomerKey × Customer)) → rest ≡ [] → (b || list_any (eq_by_cmp name_cmp q) (map named_entry rest)) ≡ all → b ≡ all
+pub none_left : (q : NameKey) (b all : Bool) (rest : List (CustomerKey × Customer)) → rest ≡ []
+    → (b || list_any (eq_by_cmp name_cmp q) (map named_entry rest)) ≡ all → b ≡ all
 none_left q b all rest none e = sym (or_false b) ∙ ap (λ l. b || list_any (eq_by_cmp name_cmp q) (map named_entry l)) (sym none) ∙ e
 
 -- an insert, by a condition
@@ -60,25 +64,34 @@ one_mark (Some u) (Some v) e = refl
 module _ {K : Type 0} {R : K → K → Ordering} (o : IsExact R) where
   found : (ks : List K) (q : K) → is_some (find {X = Unit {0}} R q (map (λ k. (k, tt)) ks)) ≡ list_any (eq_by_cmp R q) ks
   found [] q = refl
-  found (k ∷ ks) q = elim (eq_by_cmp R q k) as (λ b. is_some (cond b (Some tt) (find {X = Unit {0}} R q (map (λ k. (k, tt)) ks))) ≡ (b || list_any (eq_by_cmp R q) ks)) [ true ↦ refl | false ↦ found ks q ]
+  found (k ∷ ks) q = elim (eq_by_cmp R q k) as
+      (λ b. is_some (cond b (Some tt) (find {X = Unit {0}} R q (map (λ k. (k, tt)) ks))) ≡ (b || list_any (eq_by_cmp R q) ks))
+      [ true ↦ refl | false ↦ found ks q ]
 
   -- lists with the same keys make the same map
-  pub same_marks : (ks js : List K) → ((q : K) → list_any (eq_by_cmp R q) ks ≡ list_any (eq_by_cmp R q) js) → from_entries {X = Unit {0}} {R = R} (map (λ k. (k, tt)) ks) ≡ from_entries (map (λ k. (k, tt)) js)
+  pub same_marks : (ks js : List K) → ((q : K) → list_any (eq_by_cmp R q) ks ≡ list_any (eq_by_cmp R q) js)
+      → from_entries {X = Unit {0}} {R = R} (map (λ k. (k, tt)) ks) ≡ from_entries (map (λ k. (k, tt)) js)
   same_marks ks js same = same_map o.total o.same (from_entries (map (λ k. (k, tt)) ks)) (from_entries (map (λ k. (k, tt)) js))
-      (λ q. one_mark _ _ (ap is_some (get-from_entries o.total (map (λ k. (k, tt)) ks) q) ∙ found ks q ∙ same q ∙ sym (found js q) ∙ ap is_some (sym (get-from_entries o.total (map (λ k. (k, tt)) js) q))))
+      (λ q. one_mark _ _ (ap is_some (get-from_entries o.total (map (λ k. (k, tt)) ks) q) ∙ found ks q ∙ same q ∙ sym (found js q)
+      ∙ ap is_some (sym (get-from_entries o.total (map (λ k. (k, tt)) js) q))))
 
   -- and where they rise, they stand as they do there
   pub keys_of_rising : (ks : List K) → IsStrictlySortedBy R ks → keys (from_entries {X = Unit {0}} {R = R} (map (λ k. (k, tt)) ks)) ≡ ks
-  keys_of_rising ks rising = ap (map (λ (e : K × Unit {0}). e.0)) (entries_of_sorted o (map (λ k. (k, tt)) ks) (sorted R (map (λ k. (k, tt)) ks) (subst (IsStrictlySortedBy R) (sym (map_fst ks)) rising))) ∙ map_fst ks
+  keys_of_rising ks rising =
+      ap (map (λ (e : K × Unit {0}). e.0))
+      (entries_of_sorted o (map (λ k. (k, tt)) ks) (sorted R (map (λ k. (k, tt)) ks) (subst (IsStrictlySortedBy R) (sym (map_fst ks)) rising))) ∙ map_fst ks
 
-map_names : (es : List (CustomerKey × Customer)) → map (λ (e : CustomerKey × Customer). (name_of e.0 e.1, tt)) es ≡ map {B = NameKey × Unit {0}} (λ k. (k, tt)) (map named_entry es)
+map_names : (es : List (CustomerKey × Customer)) → map (λ (e : CustomerKey × Customer). (name_of e.0 e.1, tt)) es ≡ map {B = NameKey × Unit {0}} (λ k. (k, tt))
+    (map named_entry es)
 map_names [] = refl
 map_names (e ∷ es) = ap (λ l. (name_of e.0 e.1, tt) ∷ l) (map_names es)
 
 -- rising keys with the names of all customers are their names
 pub all_names : (customers : BTreeMap CustomerKey Customer) (ks : List NameKey) → tree.IsOrdered customer_cmp customers → IsStrictlySortedBy name_cmp ks
-    → ((q : NameKey) → list_any (eq_by_cmp name_cmp q) ks ≡ list_any (eq_by_cmp name_cmp q) (map named_entry customers.entries)) → ks ≡ names (from_entries customers.entries)
+    → ((q : NameKey) → list_any (eq_by_cmp name_cmp q) ks ≡ list_any (eq_by_cmp name_cmp q) (map named_entry customers.entries))
+    → ks ≡ names (from_entries customers.entries)
 all_names customers ks ordered rising same =
-    sym (ap (λ es. keys (from_entries {X = Unit {0}} {R = name_cmp} (map (λ (e : CustomerKey × Customer). (name_of e.0 e.1, tt)) es))) (entries-view exact_customer customers ordered)
+    sym (ap (λ es. keys (from_entries {X = Unit {0}} {R = name_cmp} (map (λ (e : CustomerKey × Customer). (name_of e.0 e.1, tt)) es)))
+    (entries-view exact_customer customers ordered)
     ∙ ap (λ es. keys (from_entries {X = Unit {0}} {R = name_cmp} es)) (map_names customers.entries)
     ∙ ap keys (same_marks exact_name (map named_entry customers.entries) ks (λ q. sym (same q))) ∙ keys_of_rising exact_name ks rising)

@@ -21,7 +21,8 @@ pub record IsReplyOf (t0 : Database) (x : NewOrderInput) (under_way : Transactio
   pub within_cap : ¬ IsAboveCap t0.scale (inputs.NewOrder x) under_way.reads
 
 -- its work, where it has a reply and there is memory for it
-abbrev pub IsOrderWork : NewOrderInput → ReadSetView → WriteSetView → Result Reply Refusal → Result Work Refusal → Type 0
+abbrev pub IsOrderWork : NewOrderInput → ReadSetView → WriteSetView → Result Reply Refusal → Result Work Refusal
+    → Type 0
 IsOrderWork x reads writes reply (Ok work) = (reply ≡ Ok work.reply) × (work.input ≡ inputs.NewOrder x)
     × (work.reads ≡ reads) × (work.writes ≡ writes)
 IsOrderWork x reads writes reply (Err refusal) = (reply ≡ Err refusal) ⊎ (refusal ≡ OutOfMemory)

@@ -49,7 +49,8 @@ pub record IsHomeTaken (x : NewOrderInput) (taken : Taken) (t : Database) : Type
 -- the record of the order's district was read, and doesn't say that D_NEXT_O_ID is above the order cap
 abbrev pub IsWithinCap : Sizes → NewOrderInput → ReadSetView → Type 0
 IsWithinCap s x reads =
-    (words : Option (List ℕ)) × IsReadAs reads (number_of_key s (key.District (home x))) words × ¬ IsAbove s.orders words
+    (words : Option (List ℕ)) × IsReadAs reads (number_of_key s (key.District (home x))) words
+    × ¬ IsAbove s.orders words
 
 -- why an order is refused: for want of memory, since its number as read is above the order cap, or since there are no
 -- tables at which it may have read

@@ -20,13 +20,15 @@ use Rattle.tables.specs.declared.rows.Customer.{Customer}
 use Rattle.tables.specs.declared.payment.PaymentInput.{PaymentInput}
 
 -- the row that an update touches
-changed : {K X : Type 0} {R : K → K → Rattle.std.specs.declared.cmp.Ordering.Ordering} (o : IsExact R) (p : K → Bool) (g : X → X) (words : X → List ℕ) (m : FinMap R X) (k : K) (r : X)
+changed : {K X : Type 0} {R : K → K → Rattle.std.specs.declared.cmp.Ordering.Ordering} (o : IsExact R) (p : K → Bool) (g : X → X) (words : X → List ℕ)
+    (m : FinMap R X) (k : K) (r : X)
     → p k ≡ true → get m k ≡ Some r → option_map words (get (update_where p g m) k) ≡ Some (words (g r))
 changed o p g words m k r h found = touched o words m p g k h ∙ ap (option_map (λ r. words (g r))) found
 
 module _ (t : Database) (x : PaymentInput) (id : ℕ) where
   -- the records of all keys but three are as before
-  pub others : (k : RecordKey) → k ≢ key.Warehouse x.warehouse → k ≢ key.District (record { warehouse = x.warehouse; district = x.district }) → k ≢ key.Customer (payer x id)
+  pub others : (k : RecordKey) → k ≢ key.Warehouse x.warehouse → k ≢ key.District (record { warehouse = x.warehouse; district = x.district })
+      → k ≢ key.Customer (payer x id)
       → row_at (after_payment_of t x id) k ≡ row_at t k
   others (key.Warehouse w) a b c = untouched exact_number warehouse_words t.warehouses (λ w. x.warehouse == w) (raised_warehouse x.amount) w
       (λ h. a (ap key.Warehouse (sym (eqb-true x.warehouse w h))))
@@ -40,23 +42,29 @@ module _ (t : Database) (x : PaymentInput) (id : ℕ) where
   others (key.OrderLine k) a b c = refl
   others (key.Stock k) a b c = refl
   others (key.Oldest k) a b c = ap (λ n. Some (number_words n)) (ap (unwrap_or (least (numbers_in k t.new_orders)))
-      (kept-update_where exact_district (is_district x.warehouse x.district) (raised_district x.amount) (λ (w : Option District). option_map_or (λ r. r.next_order) w 0) t.districts k (λ _ r. refl)))
+      (kept-update_where exact_district (is_district x.warehouse x.district) (raised_district x.amount)
+      (λ (w : Option District). option_map_or (λ r. r.next_order) w 0) t.districts k (λ _ r. refl)))
   others (key.Last k) a b c = refl
 
-  pub warehouse_changed : (r : Warehouse) → get t.warehouses x.warehouse ≡ Some r → row_at (after_payment_of t x id) (key.Warehouse x.warehouse) ≡ Some (warehouse_words (raised_warehouse x.amount r))
-  warehouse_changed r found = changed exact_number (λ w. x.warehouse == w) (raised_warehouse x.amount) warehouse_words t.warehouses x.warehouse r (self x.warehouse) found
+  pub warehouse_changed : (r : Warehouse) → get t.warehouses x.warehouse ≡ Some r → row_at (after_payment_of t x id) (key.Warehouse x.warehouse) ≡ Some
+      (warehouse_words (raised_warehouse x.amount r))
+  warehouse_changed r found = changed exact_number (λ w. x.warehouse == w) (raised_warehouse x.amount) warehouse_words t.warehouses x.warehouse r
+      (self x.warehouse) found
 
   pub district_changed : (r : District) → get t.districts (record { warehouse = x.warehouse; district = x.district }) ≡ Some r
-      → row_at (after_payment_of t x id) (key.District (record { warehouse = x.warehouse; district = x.district })) ≡ Some (district_words (raised_district x.amount r))
+      → row_at (after_payment_of t x id) (key.District (record { warehouse = x.warehouse; district = x.district })) ≡ Some
+      (district_words (raised_district x.amount r))
   district_changed r found = changed exact_district (is_district x.warehouse x.district) (raised_district x.amount) district_words t.districts
       (record { warehouse = x.warehouse; district = x.district }) r (λ i. self x.warehouse i && self x.district i) found
 
-  pub customer_changed : (r : Customer) → get t.customers (payer x id) ≡ Some r → row_at (after_payment_of t x id) (key.Customer (payer x id)) ≡ Some (customer_words (charged_customer x.amount r))
+  pub customer_changed : (r : Customer) → get t.customers (payer x id) ≡ Some r → row_at (after_payment_of t x id) (key.Customer (payer x id)) ≡ Some
+      (customer_words (charged_customer x.amount r))
   customer_changed r found = changed exact_customer (is_customer x.customer_warehouse x.customer_district id)
       (charged_customer x.amount) customer_words t.customers (payer x id) r
       (λ i. (self x.customer_warehouse i && self x.customer_district i) && self id i) found
 
-  pub balance_changed : (r : Customer) → get t.customers (payer x id) ≡ Some r → column (λ c. c.balance) (after_payment_of t x id).customers (payer x id) ≡ r.balance -ℤ x.amount
+  pub balance_changed : (r : Customer) → get t.customers (payer x id) ≡ Some r
+      → column (λ c. c.balance) (after_payment_of t x id).customers (payer x id) ≡ r.balance -ℤ x.amount
   balance_changed r found =
       column-update_where exact_customer (λ c. c.balance) (is_customer x.customer_warehouse x.customer_district id)
       (charged_customer x.amount) t.customers (payer x id) r found

@@ -35,11 +35,13 @@ pub same_values : (a b : NewValues) → Some a ≡ Some b → a ≡ b
 same_values a b e = cc
 
 -- what was read of keys that are these was read of these
-pub read_at : (t0 : Database) (reads : ReadSetView) (found : Found) (keys those : Keys) → keys ≡ those → ((t : Database) → IsCandidate t0 reads t → AreFound keys found t)
+pub read_at : (t0 : Database) (reads : ReadSetView) (found : Found) (keys those : Keys) → keys ≡ those
+    → ((t : Database) → IsCandidate t0 reads t → AreFound keys found t)
     → (t : Database) → IsCandidate t0 reads t → AreFound those found t
 read_at t0 reads found keys those same read t h = subst (λ (k : Keys). AreFound k found t) same (read t h)
 
-module _ (t0 : Database) (x : PaymentInput) (id : ℕ) (reads : ReadSetView) (found : Found) (valid : IsPayment t0.scale x) (is_number : IsNumber t0.scale.customers id)
+module _ (t0 : Database) (x : PaymentInput) (id : ℕ) (reads : ReadSetView) (found : Found) (valid : IsPayment t0.scale x)
+    (is_number : IsNumber t0.scale.customers id)
     (read : (t : Database) → IsCandidate t0 reads t → AreFound (keys_at x id) found t)
   where
     -- the three rows of tables that may have been read
@@ -59,7 +61,8 @@ module _ (t0 : Database) (x : PaymentInput) (id : ℕ) (reads : ReadSetView) (fo
         let v : IsPayment t.scale x = subst (λ (q : Sizes). IsPayment q x) (sym s) valid in
         let n : IsNumber t.scale.customers id = subst (λ (q : Sizes). IsNumber q.customers id) (sym s) is_number in
         let rw = is_row (get t.warehouses x.warehouse) ((f.warehouses x.warehouse).1 v.warehouse) in
-        let rd = is_row (get t.districts (record { warehouse = x.warehouse; district = x.district })) ((f.districts (record { warehouse = x.warehouse; district = x.district })).1 (v.warehouse, v.district)) in
+        let rd = is_row (get t.districts (record { warehouse = x.warehouse; district = x.district }))
+        ((f.districts (record { warehouse = x.warehouse; district = x.district })).1 (v.warehouse, v.district)) in
         let rc = is_row (get t.customers (payer x id)) ((f.customers (payer x id)).1 (v.customer_warehouse, v.customer_district, n)) in
         let r = read t h in
         record {
@@ -80,7 +83,8 @@ module _ (t0 : Database) (x : PaymentInput) (id : ℕ) (reads : ReadSetView) (fo
         }
 
     -- the writes and the reply, where they are made of these rows
-    module _ (at_id : id ≡ payer_number t0 x) (values : NewValues) (made : (w : Warehouse) (d : District) (c : Customer) → AreRows found w d c → AreNewValues x.amount w d c values) where
+    module _ (at_id : id ≡ payer_number t0 x) (values : NewValues) (made : (w : Warehouse) (d : District) (c : Customer) → AreRows found w d c
+        → AreNewValues x.amount w d c values) where
       replies : (t : Database) → IsCandidate t0 reads t → payment_reply_of t x id ≡ reply_of values x id
       replies t h =
           let r = rows_of t h in
@@ -94,23 +98,35 @@ module _ (t0 : Database) (x : PaymentInput) (id : ℕ) (reads : ReadSetView) (fo
             balance = balance i;
           }
 
-      changed : (t : Database) → IsCandidate t0 reads t → Holds t (puts_all t.scale no_writes (changes_of (keys_at x id) values)) (row_at (after_payment_of t x id))
+      changed : (t : Database) → IsCandidate t0 reads t → Holds t (puts_all t.scale no_writes (changes_of (keys_at x id) values))
+          (row_at (after_payment_of t x id))
       changed t h =
           let r = rows_of t h in
           let p = made r.w r.d r.c r.are in
           let v : IsPayment t.scale x = subst (λ (q : Sizes). IsPayment q x) (sym h.of_population.scale) valid in
-          holds-changes t (changes_of (keys_at x id) values) no_writes (row_at t) (row_at (after_payment_of t x id)) (holds_first t no_writes (λ n. refl))
-          (v.warehouse, ((v.warehouse, v.district), ((v.customer_warehouse, v.customer_district, subst (λ (q : Sizes). IsNumber q.customers id) (sym h.of_population.scale) is_number), tt)))
-          (warehouse_changed t x id r.w r.at_w ∙ ap Some (sym p.warehouse), (district_changed t x id r.d r.at_d ∙ ap Some (sym p.district), (customer_changed t x id r.c r.at_c ∙ ap Some (sym p.customer), tt)))
+          holds-changes t (changes_of (keys_at x id) values) no_writes (row_at t) (row_at (after_payment_of t x id)) (holds_first t no_writes (λ n. refl)) (
+            v.warehouse,
+            (
+              (v.warehouse, v.district),
+              ((v.customer_warehouse, v.customer_district, subst (λ (q : Sizes). IsNumber q.customers id) (sym h.of_population.scale) is_number), tt),
+            ),
+          ) (
+            warehouse_changed t x id r.w r.at_w
+                ∙ ap Some (sym p.warehouse),
+            (district_changed t x id r.d r.at_d ∙ ap Some (sym p.district), (customer_changed t x id r.c r.at_c ∙ ap Some (sym p.customer), tt)),
+          )
           (λ j _ apart. others t x id j apart.0 apart.1.0 apart.1.1.0)
 
-      pub commits : (writes : WriteSetView) → writes ≡ record { values = (puts_all t0.scale no_writes (changes_of (keys_at x id) values)).values; history_row = Some (history_row x id) }
+      pub commits : (writes : WriteSetView)
+          → writes ≡ record { values = (puts_all t0.scale no_writes (changes_of (keys_at x id) values)).values; history_row = Some (history_row x id) }
           → (t : Database) → IsCandidate t0 reads t → IsCommitOf t (input.Payment x) writes (reply.Payment (reply_of values x id))
       commits writes is t h =
-          let same : payer_number t x ≡ id = same_number t0 t (record { warehouse = x.customer_warehouse; district = x.customer_district }) x.who h.of_population ∙ sym at_id in
+          let same : payer_number t x ≡ id = same_number t0 t (record { warehouse = x.customer_warehouse; district = x.customer_district }) x.who
+          h.of_population ∙ sym at_id in
           subst (λ (w : WriteSetView). IsCommitOf t (input.Payment x) w (reply.Payment (reply_of values x id))) (sym is) (record {
             commits = ap (λ told. Committed (after_payment t x) (reply.Payment told)) (ap (payment_reply_of t x) same ∙ replies t h);
             numbered = tt;
-            rows = λ n small. ap (λ i. rows (after_payment_of t x i) n) same ∙ (changed t h).put_in n small ∙ ap (λ (s : Sizes). rows_with (puts_all s no_writes (changes_of (keys_at x id) values)) (rows t) n) h.of_population.scale;
+            rows = λ n small. ap (λ i. rows (after_payment_of t x i) n) same ∙ (changed t h).put_in n small
+                ∙ ap (λ (s : Sizes). rows_with (puts_all s no_writes (changes_of (keys_at x id) values)) (rows t) n) h.of_population.scale;
             history = ap (λ i. t.history ++ history_row x i ∷ []) same;
           })

@@ -48,7 +48,8 @@ pub record AreNewValues (amount : ℤ) (w : Warehouse) (d : District) (c : Custo
 -- what changes, and the reply
 abbrev pub changes_of : Keys → NewValues → Changes
 changes_of keys values =
-    (keys.warehouse, Some values.warehouse) ∷ (keys.district, Some values.district) ∷ (keys.customer, Some values.customer.words) ∷ []
+    (keys.warehouse, Some values.warehouse) ∷ (keys.district, Some values.district)
+    ∷ (keys.customer, Some values.customer.words) ∷ []
 
 abbrev pub reply_of : NewValues → PaymentInput → ℕ → PaymentReply
 reply_of values x id = record {

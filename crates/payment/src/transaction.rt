@@ -79,7 +79,9 @@ pub fn execute<R: Wait>(
     requires cells { length cells.now ≡ record_count (initial population.now).scale }
     ensures input { IfOk result (λ work. work.input ≡ input_variants.Payment payment.now) }
     ensures read { IfOk result (λ work. AreRead reader.old reader.new work.reads) }
-    ensures explains { IfOk result (λ work. Explains (initial population.now) (input_variants.Payment payment.now) work.reads work.writes work.reply) }
+    ensures explains { IfOk result
+        (λ work. Explains (initial population.now) (input_variants.Payment payment.now) work.reads work.writes
+        work.reply) }
     ensures limits { IfOk result (λ work. IsWithinLimits (length cells.now) work.reads work.writes) }
     ensures grown { HasGrown reader.old reader.new }
     ensures refused { IfErr result (λ refusal. (refusal ≡ OutOfMemory) ⊎
@@ -184,7 +186,8 @@ fn read<R: Wait, K: Start>(
     requires customer { IsNumber K.tables.scale.customers customer }
     requires keys { keys ≡ keys_at payment.now customer }
     ensures found { Finds K.tables transaction.new result (AreFound keys) }
-    ensures warehouse { OnOk result (IsSome (held transaction.new.reads (number_of_key K.tables.scale keys.warehouse))) }
+    ensures warehouse { OnOk result
+        (IsSome (held transaction.new.reads (number_of_key K.tables.scale keys.warehouse))) }
     ensures district { OnOk result (IsSome (held transaction.new.reads (number_of_key K.tables.scale keys.district))) }
     ensures customer { OnOk result (IsSome (held transaction.new.reads (number_of_key K.tables.scale keys.customer))) }
     ensures reads { ReadsMore 3 transaction.old transaction.new }

@@ -44,8 +44,10 @@ tied_two a b x y = sym (tied_then (nat_cmp a x) _) ∙ pair (is_eq-nat_cmp a x) 
 pub tied_three : (a b c x y z : ℕ) → is_eq (ordering_then (nat_cmp a x) (ordering_then (nat_cmp b y) (nat_cmp c z))) ≡ (is x a && is y b && is z c)
 tied_three a b c x y z = sym (tied_then (nat_cmp a x) _) ∙ pair (is_eq-nat_cmp a x) (tied_two b c y z) ∙ sym (and_assoc (is x a) (is y b) (is z c))
 
-pub tied_four : (a b c d x y z w : ℕ) → is_eq (ordering_then (nat_cmp a x) (ordering_then (nat_cmp b y) (ordering_then (nat_cmp c z) (nat_cmp d w)))) ≡ (is x a && is y b && is z c && is w d)
-tied_four a b c d x y z w = sym (tied_then (nat_cmp a x) _) ∙ pair (is_eq-nat_cmp a x) (tied_three b c d y z w) ∙ and_assoc_four (is x a) (is y b) (is z c) (is w d)
+pub tied_four : (a b c d x y z w : ℕ)
+    → is_eq (ordering_then (nat_cmp a x) (ordering_then (nat_cmp b y) (ordering_then (nat_cmp c z) (nat_cmp d w)))) ≡ (is x a && is y b && is z c && is w d)
+tied_four a b c d x y z w = sym (tied_then (nat_cmp a x) _) ∙ pair (is_eq-nat_cmp a x) (tied_three b c d y z w)
+    ∙ and_assoc_four (is x a) (is y b) (is z c) (is w d)
 
 cond_or : {A : Type 0} (p q : Bool) (x z : A) → cond q x (cond p x z) ≡ cond (p || q) x z
 cond_or true true x z = refl
@@ -54,14 +56,16 @@ cond_or false q x z = refl
 
 module _ {K X : Type 0} {R : K → K → Ordering} where
   -- a value that is the row at k is the row at each key that ties with k
-  tied_row : (o : IsExact R) (q k : K) (v : X) (z : Option X) (row' : K → X) → v ≡ row' k → (r : Ordering) → R q k ≡ r → cond (is_eq r) (Some v) z ≡ cond (is_eq r) (Some (row' q)) z
+  tied_row : (o : IsExact R) (q k : K) (v : X) (z : Option X) (row' : K → X) → v ≡ row' k → (r : Ordering) → R q k ≡ r
+      → cond (is_eq r) (Some v) z ≡ cond (is_eq r) (Some (row' q)) z
   tied_row o q k v z row' is_row Less e = refl
   tied_row o q k v z row' is_row Equal e = ap Some (is_row ∙ ap row' (sym (o.same q k e)))
   tied_row o q k v z row' is_row Greater e = refl
 
 module _ {K X : Type 0} {R : K → K → Ordering} {row : K → X} where
   -- the rows at the keys p, and then those at the keys q
-  pub adds_both : {p q both : K → Bool} {old middle new : FinMap R X} → ((k : K) → both k ≡ (p k || q k)) → Adds R p row old middle → Adds R q row middle new → Adds R both row old new
+  pub adds_both : {p q both : K → Bool} {old middle new : FinMap R X} → ((k : K) → both k ≡ (p k || q k)) → Adds R p row old middle → Adds R q row middle new
+      → Adds R both row old new
   adds_both {p} {q} {both} {old} {middle} {new} is_both first second = record {
     rows = λ k.
         second.rows k ∙ ap (cond (q k) (Some (row k))) (first.rows k) ∙ cond_or (p k) (q k) (Some (row k)) (get old k)
@@ -69,7 +73,8 @@ module _ {K X : Type 0} {R : K → K → Ordering} {row : K → X} where
   }
 
   -- the row that `insert` adds
-  pub adds_one : {is_added : K → Bool} (o : IsExact R) (m n : BTreeMap K X) (k : K) (v : X) → v ≡ row k → ((q : K) → eq_by_cmp R q k ≡ is_added q) → tree.Updates R m n k (Some v) → Adds R is_added row (from_entries m.entries) (from_entries n.entries)
+  pub adds_one : {is_added : K → Bool} (o : IsExact R) (m n : BTreeMap K X) (k : K) (v : X) → v ≡ row k → ((q : K) → eq_by_cmp R q k ≡ is_added q)
+      → tree.Updates R m n k (Some v) → Adds R is_added row (from_entries m.entries) (from_entries n.entries)
   adds_one o m n k v is_row is_key updates = record {
     rows = λ q.
         ap (λ (t : FinMap R X). get t q) (insert-view o m n k v updates) ∙ get-insert o.total (from_entries m.entries) k v q

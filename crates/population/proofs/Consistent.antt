@@ -27,27 +27,31 @@ delivered_free false p q r n = refl
 
 -- ---- sums over the plain population's payments
 payments_sum : (s : Sizes) (f : History → ℤ)
-    → sum_of f (plain_history s) ≡ sum_of (λ w. sum_of (λ d. sum_of (λ c. f (plain_history_row w d c)) (numbers s.customers)) (numbers s.districts)) (numbers s.warehouses)
+    → sum_of f (plain_history s) ≡ sum_of (λ w. sum_of (λ d. sum_of (λ c. f (plain_history_row w d c)) (numbers s.customers)) (numbers s.districts))
+    (numbers s.warehouses)
 payments_sum s f =
     sum_joined f (warehouse_payments s) s.warehouses
     ∙ (λ i. sum_of (λ w. sum_joined f (district_payments s w) s.districts i) (numbers s.warehouses))
     ∙ (λ i. sum_of (λ w. sum_of (λ d. sum_listed f (plain_history_row w d) s.customers i) (numbers s.districts)) (numbers s.warehouses))
 
 module _ (s : Sizes) where
-  warehouse_payments_sum : (w : ℕ) → IsWarehouseKey s w → sum_of (λ h. cond (h.warehouse == w) h.amount (pos 0)) (plain_history s) ≡ pos (s.districts * (s.customers * 1000))
+  warehouse_payments_sum : (w : ℕ) → IsWarehouseKey s w → sum_of (λ h. cond (h.warehouse == w) h.amount (pos 0)) (plain_history s) ≡ pos
+      (s.districts * (s.customers * 1000))
   warehouse_payments_sum w is =
       payments_sum s _
       ∙ sum_one _ s.warehouses w is (λ v _ apart. sum_none _ s.districts (λ d _. sum_none _ s.customers (λ c _. grind (arith, nat_tests))))
       ∙ sum_each _ s.districts (s.customers * 1000) (λ d _. sum_each _ s.customers 1000 (λ c _. grind (arith, nat_tests)))
 
-  district_payments_sum : (k : DistrictKey) → IsDistrictKey s k → sum_of (λ h. cond (is_district h.warehouse h.district k) h.amount (pos 0)) (plain_history s) ≡ pos (s.customers * 1000)
+  district_payments_sum : (k : DistrictKey) → IsDistrictKey s k → sum_of (λ h. cond (is_district h.warehouse h.district k) h.amount (pos 0))
+      (plain_history s) ≡ pos (s.customers * 1000)
   district_payments_sum k is =
       payments_sum s _
       ∙ sum_one _ s.warehouses k.warehouse is.0 (λ w _ apart. sum_none _ s.districts (λ d _. sum_none _ s.customers (λ c _. grind (arith, nat_tests))))
       ∙ sum_one _ s.districts k.district is.1 (λ d _ apart. sum_none _ s.customers (λ c _. grind (arith, nat_tests)))
       ∙ sum_each _ s.customers 1000 (λ c _. grind (arith, nat_tests))
 
-  customer_payments_sum : (k : CustomerKey) → IsCustomerKey s k → sum_of (λ h. cond (is_customer h.customer_warehouse h.customer_district h.customer k) h.amount (pos 0)) (plain_history s) ≡ pos 1000
+  customer_payments_sum : (k : CustomerKey) → IsCustomerKey s k
+      → sum_of (λ h. cond (is_customer h.customer_warehouse h.customer_district h.customer k) h.amount (pos 0)) (plain_history s) ≡ pos 1000
   customer_payments_sum k is =
       payments_sum s _
       ∙ sum_one _ s.warehouses k.warehouse is.0 (λ w _ apart. sum_none _ s.districts (λ d _. sum_none _ s.customers (λ c _. grind (arith, nat_tests))))
@@ -82,15 +86,18 @@ module _ (t : Database) (fit : IsFit t.scale) (plain : IsPlain t.scale t) where
       (λ i. column_of plain.customers (λ r. r.balance) k is i +ℤ column_of plain.customers (λ r. r.paid) k is i)
       ∙ sym (nothing_delivered k)
 
-  district_sum : (w d : ℕ) → IsDistrictKey t.scale (record { warehouse = w; district = d }) → total (λ k r. cond ((k.warehouse == w) && (k.district == d)) r.year_to_date (pos 0)) t.districts ≡ pos (t.scale.customers * 1000)
+  district_sum : (w d : ℕ) → IsDistrictKey t.scale (record { warehouse = w; district = d })
+      → total (λ k r. cond ((k.warehouse == w) && (k.district == d)) r.year_to_date (pos 0)) t.districts ≡ pos (t.scale.customers * 1000)
   district_sum w d is =
       total_at exact_district (λ r. r.year_to_date) _ (record { warehouse = w; district = d }) t.districts
       (λ k. sym (tied_two k.warehouse k.district w d) ∙ (eq_by_cmp_equiv exact_district.total).symm k (record { warehouse = w; district = d }))
       ∙ column_of plain.districts (λ r. r.year_to_date) _ is
 
-  districts_sum : (w : ℕ) → IsWarehouseKey t.scale w → total (λ k r. cond (k.warehouse == w) r.year_to_date (pos 0)) t.districts ≡ pos (t.scale.districts * (t.scale.customers * 1000))
+  districts_sum : (w : ℕ) → IsWarehouseKey t.scale w → total (λ k r. cond (k.warehouse == w) r.year_to_date (pos 0)) t.districts ≡ pos
+      (t.scale.districts * (t.scale.customers * 1000))
   districts_sum w is =
-      total_parts exact_district (λ r. r.year_to_date) (λ k. k.warehouse == w) (λ k. k.district) t.scale.districts t.districts (each plain.districts _ (λ k h. h.1))
+      total_parts exact_district (λ r. r.year_to_date) (λ k. k.warehouse == w) (λ k. k.district) t.scale.districts t.districts
+      (each plain.districts _ (λ k h. h.1))
       ∙ sum_each _ t.scale.districts (t.scale.customers * 1000) (λ d h. district_sum w d (is, h))
 
   condition_1 : (w : ℕ) → IsWarehouseKey t.scale w → Condition1At t w

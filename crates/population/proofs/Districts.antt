@@ -17,10 +17,13 @@ rows_both {s} {a} {b} {a'} {b'} {c} {d} {first_rows} {later_rows} rows {old} {mi
   warehouses = later.warehouses ∙ first.warehouses;
   districts = adds_both (λ k. is_both k.warehouse k.district) first.districts later.districts;
   customers = adds_both (λ k. left _ _ (is_number s.customers k.customer) _ (is_both k.warehouse k.district)) first.customers later.customers;
-  history = later.history ∙ ap (λ xs. xs ++ later_rows) first.history ∙ append_assoc old.history first_rows later_rows ∙ ap (λ xs. old.history ++ xs) (sym joined);
-  new_orders = adds_both (λ k. left _ _ (is_in (delivered_orders s + 1) (s.customers + 1) k.order) _ (is_both k.warehouse k.district)) first.new_orders later.new_orders;
+  history = later.history ∙ ap (λ xs. xs ++ later_rows) first.history ∙ append_assoc old.history first_rows later_rows
+      ∙ ap (λ xs. old.history ++ xs) (sym joined);
+  new_orders = adds_both (λ k. left _ _ (is_in (delivered_orders s + 1) (s.customers + 1) k.order) _ (is_both k.warehouse k.district)) first.new_orders
+      later.new_orders;
   orders = adds_both (λ k. left _ _ (is_number s.customers k.order) _ (is_both k.warehouse k.district)) first.orders later.orders;
-  lines = adds_both (λ k. left _ _ (is_number 5 k.line) _ (left _ _ (is_number s.customers k.order) _ (is_both k.warehouse k.district))) first.lines later.lines;
+  lines = adds_both (λ k. left _ _ (is_number 5 k.line) _ (left _ _ (is_number s.customers k.order) _ (is_both k.warehouse k.district))) first.lines
+      later.lines;
   items = later.items ∙ first.items;
   stock = later.stock ∙ first.stock;
 }
@@ -39,4 +42,5 @@ pub warehouse_more : (s : Sizes) (i j last : ℕ) {old middle new : Database} �
     → AddsDistrictRows s (is i) (is_number s.districts) (warehouse_payments s i) middle new
     → AddsDistrictRows s (is_in 1 j) (is_number s.districts) (flat_map (λ w. warehouse_payments s w) (numbers last)) old new
 warehouse_more s i j last from next same first later =
-    rows_both _ (λ x k. left _ _ (is_number s.districts k) _ (is_in_more 1 i j x from next)) (flat_rows_more (λ w. warehouse_payments s w) i last from same) first later
+    rows_both _ (λ x k. left _ _ (is_number s.districts k) _ (is_in_more 1 i j x from next)) (flat_rows_more (λ w. warehouse_payments s w) i last from same)
+    first later

@@ -19,7 +19,8 @@ pub flat_map_more : {X : Type 0} (f : ℕ → List X) (xs : List ℕ) (y : ℕ) 
 flat_map_more f xs y = flat_map-append f xs (y ∷ []) ∙ ap (λ rest. flat_map f xs ++ rest) (append-nil (f y))
 
 -- a row pushed for the next number
-pub rows_more : {X : Type 0} (f : ℕ → X) (i j : ℕ) (old rows : List X) (row : X) → 1 ≤ i → j ≡ i → row ≡ f i → rows ≡ old ++ map f (numbers (i - 1)) → rows ++ row ∷ [] ≡ old ++ map f (numbers j)
+pub rows_more : {X : Type 0} (f : ℕ → X) (i j : ℕ) (old rows : List X) (row : X) → 1 ≤ i → j ≡ i → row ≡ f i → rows ≡ old ++ map f (numbers (i - 1)) → rows
+    ++ row ∷ [] ≡ old ++ map f (numbers j)
 rows_more f i j old rows row from same is_row before =
     ap (λ xs. xs ++ row ∷ []) before ∙ append_assoc old _ _ ∙ ap (λ r. old ++ (map f (numbers (i - 1)) ++ r ∷ [])) is_row
     ∙ ap (λ xs. old ++ xs) (sym (map_more f (numbers (i - 1)) i) ∙ ap (map f) (sym (numbers_more i j from same)))

@@ -1,5 +1,6 @@
 -- The order numbers of a district: the greatest, the least, and how many there are.
-use Rattle.std.proofs.Common.{◌≡◌, ℕ, suc, ℤ, pos, ◌+ℤ◌, Bool, true, false, cond, ◌==◌, true≢false, List, [], ◌∷◌, map, length, Option, Some, None, IsSome, refl, sym, ◌∙◌, arith}
+use Rattle.std.proofs.Common.{◌≡◌, ℕ, suc, ℤ, pos, ◌+ℤ◌, Bool, true, false, cond, ◌==◌, true≢false, List, [], ◌∷◌, map, length, Option, Some, None, IsSome}
+use Rattle.std.proofs.Common.{refl, sym, ◌∙◌, arith}
 use Rattle.std.specs.List.{filter}
 use Rattle.std.specs.FinMap.{FinMap, entries, get}
 use Rattle.std.proofs.lemmas.Bool.{and_from}
@@ -26,12 +27,15 @@ module _ {X : Type 0} (k : DistrictKey) where
   number e = e.0.order
 
   -- the entries that pass are as many as the ones of a sum
-  entries_counted : (es : List (OrderKey × X)) → pos (length (map number (filter in_district es))) ≡ sum_entries (λ (j : OrderKey) (r : X). cond (is_district j.warehouse j.district k) (pos 1) (pos 0)) es
+  entries_counted : (es : List (OrderKey × X)) → pos (length (map number (filter in_district es))) ≡ sum_entries
+      (λ (j : OrderKey) (r : X). cond (is_district j.warehouse j.district k) (pos 1) (pos 0)) es
   entries_counted [] = refl
-  entries_counted (e ∷ es) = elim (in_district e) as (λ b. pos (length (map number (cond b (e ∷ filter in_district es) (filter in_district es)))) ≡ cond b (pos 1) (pos 0) +ℤ sum_entries (λ (j : OrderKey) (r : X). cond (is_district j.warehouse j.district k) (pos 1) (pos 0)) es) [
-    | true ↦ one_more _ _ (entries_counted es)
-    | false ↦ none_more _ _ (entries_counted es)
-  ]
+  entries_counted (e ∷ es) =
+      elim (in_district e) as (λ b. pos (length (map number (cond b (e ∷ filter in_district es) (filter in_district es)))) ≡ cond b (pos 1)
+      (pos 0) +ℤ sum_entries (λ (j : OrderKey) (r : X). cond (is_district j.warehouse j.district k) (pos 1) (pos 0)) es) [
+        | true ↦ one_more _ _ (entries_counted es)
+        | false ↦ none_more _ _ (entries_counted es)
+      ]
     where
       one_more : (n : ℕ) (z : ℤ) → pos n ≡ z → pos (suc n) ≡ pos 1 +ℤ z
       one_more n z h = omega (arith, ints)
@@ -44,7 +48,8 @@ module _ {X : Type 0} (k : DistrictKey) where
   numbers_counted m = entries_counted (entries m)
 
   -- the row of a number in the district
-  row_of : (n : ℕ) (m : FinMap order_cmp X) → IsSome (get m (order_key k n)) → (r : X) × (get m (order_key k n) ≡ Some r) × (in_district (order_key k n, r) ≡ true)
+  row_of : (n : ℕ) (m : FinMap order_cmp X) → IsSome (get m (order_key k n)) → (r : X) × (get m (order_key k n) ≡ Some r)
+      × (in_district (order_key k n, r) ≡ true)
   row_of n m some = row (get m (order_key k n)) refl some
     where
       row : (o : Option X) → get m (order_key k n) ≡ o → IsSome o → (r : X) × (get m (order_key k n) ≡ Some r) × (in_district (order_key k n, r) ≡ true)
@@ -56,7 +61,12 @@ module _ {X : Type 0} (k : DistrictKey) where
     pub greatest_number : IsSome (get m (order_key k high)) → greatest (numbers_in k m) ≡ high
     greatest_number some =
         let row = row_of high m some in
-        omega (arith, greatest-within in_district high m (λ j r found passes. (within j r found passes).1), greatest-each in_district m (order_key k high) row.0 row.1 row.2)
+        omega (
+          arith,
+          greatest-within in_district high m (λ j r found passes. (within j r found passes).1),
+          greatest-each in_district m (order_key k high) row.0
+              row.1 row.2,
+        )
 
     pub least_number : IsSome (get m (order_key k low)) → (x : ℕ) → least (numbers_in k m) ≡ Some x → x ≡ low
     least_number some x is =

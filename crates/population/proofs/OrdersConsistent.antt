@@ -1,5 +1,6 @@
 -- The orders of the plain population are consistent (TPC-C 3.3.2.2 to 3.3.2.7).
-use Rattle.std.proofs.Common.{◌≡◌, ℕ, zero, suc, ◌+◌, ◌-◌, ◌≤◌, ◌<◌, ℤ, pos, ◌+ℤ◌, Bool, true, false, cond, not, true≢false, Option, Some, None, is_some, is_none, length, refl, sym, ap, ◌∙◌, arith}
+use Rattle.std.proofs.Common.{◌≡◌, ℕ, zero, suc, ◌+◌, ◌-◌, ◌≤◌, ◌<◌, ℤ, pos, ◌+ℤ◌, Bool, true, false, cond, not, true≢false, Option, Some, None, is_some}
+use Rattle.std.proofs.Common.{is_none, length, refl, sym, ap, ◌∙◌, arith}
 use Rattle.std.specs.Prelude.{nat_lt}
 use Rattle.std.specs.Option.{option_map_or}
 use Rattle.std.specs.FinMap.{get}
@@ -29,7 +30,8 @@ use Rattle.population.proofs.Sums.{sum_more, sum_each}
 -- how many of the numbers from 1 to n are above d
 numbers_above : (d n : ℕ) (f : ℕ → ℤ) → ((i : ℕ) → IsNumber n i → f i ≡ cond (nat_lt d i) (pos 1) (pos 0)) → sum_of f (numbers n) ≡ pos (n - d)
 numbers_above d zero f is = omega (arith, ints)
-numbers_above d (suc n) f is = sum_more f n ∙ more (sum_of f (numbers n)) (f (suc n)) (numbers_above d n f (λ i h. is i (h.0, omega arith))) (is (suc n) (omega arith, omega arith))
+numbers_above d (suc n) f is = sum_more f n ∙ more (sum_of f (numbers n)) (f (suc n)) (numbers_above d n f (λ i h. is i (h.0, omega arith)))
+    (is (suc n) (omega arith, omega arith))
   where
     more : (a b : ℤ) → a ≡ pos (n - d) → b ≡ cond (nat_lt d (suc n)) (pos 1) (pos 0) → a +ℤ b ≡ pos (suc n - d)
     more a b p q = elim (nat_lt d (suc n)) as (λ c. nat_lt d (suc n) ≡ c → b ≡ cond c (pos 1) (pos 0) → a +ℤ b ≡ pos (suc n - d)) [
@@ -53,23 +55,28 @@ module _ (t : Database) (fit : IsFit t.scale) (plain : IsPlain t.scale t) where
   next k is = ap (λ (o : Option District). option_map_or (λ r. r.next_order) o 0) (plain.districts.rows k is)
 
   greatest_order : (k : DistrictKey) → IsDistrictKey t.scale k → greatest (numbers_in k t.orders) ≡ t.scale.customers
-  greatest_order k is = greatest_number k 1 t.scale.customers t.orders (each plain.orders _ (λ j h _. h.2)) (found plain.orders _ (is.0, is.1, (omega (arith, fit.some_customers), omega arith)))
+  greatest_order k is = greatest_number k 1 t.scale.customers t.orders (each plain.orders _ (λ j h _. h.2))
+      (found plain.orders _ (is.0, is.1, (omega (arith, fit.some_customers), omega arith)))
 
   greatest_new_order : (k : DistrictKey) → IsDistrictKey t.scale k → greatest (numbers_in k t.new_orders) ≡ t.scale.customers
-  greatest_new_order k is = greatest_number k (delivered_orders t.scale + 1) t.scale.customers t.new_orders (each plain.new_orders _ (λ j h _. h.2)) (found plain.new_orders _ (is.0, is.1, (omega (arith, fewer_delivered), omega arith)))
+  greatest_new_order k is = greatest_number k (delivered_orders t.scale + 1) t.scale.customers t.new_orders (each plain.new_orders _ (λ j h _. h.2))
+      (found plain.new_orders _ (is.0, is.1, (omega (arith, fewer_delivered), omega arith)))
 
   least_new_order : (k : DistrictKey) → IsDistrictKey t.scale k → (x : ℕ) → least (numbers_in k t.new_orders) ≡ Some x → x ≡ delivered_orders t.scale + 1
-  least_new_order k is = least_number k (delivered_orders t.scale + 1) t.scale.customers t.new_orders (each plain.new_orders _ (λ j h _. h.2)) (found plain.new_orders _ (is.0, is.1, (omega arith, omega (arith, fewer_delivered))))
+  least_new_order k is = least_number k (delivered_orders t.scale + 1) t.scale.customers t.new_orders (each plain.new_orders _ (λ j h _. h.2))
+      (found plain.new_orders _ (is.0, is.1, (omega arith, omega (arith, fewer_delivered))))
 
   -- an order has a NEW-ORDER row exactly where it isn't delivered
   new_order_there : (k : OrderKey) → IsPlainOrderKey t.scale k → get t.new_orders k ≡ cond (nat_lt (delivered_orders t.scale) k.order) (Some (record {})) None
-  new_order_there k h = elim (nat_lt (delivered_orders t.scale) k.order) as (λ b. nat_lt (delivered_orders t.scale) k.order ≡ b → get t.new_orders k ≡ cond b (Some (record {})) None) [
-    | true ↦ λ e. plain.new_orders.rows k (h.0, h.1, (grind (arith, nat_tests), h.2.1))
-    | false ↦ λ e. let delivered : k.order ≤ delivered_orders t.scale = grind (arith, nat_tests) in missing plain.new_orders k (λ is. omega (arith, is.2))
-  ] refl
+  new_order_there k h = elim (nat_lt (delivered_orders t.scale) k.order) as
+      (λ b. nat_lt (delivered_orders t.scale) k.order ≡ b → get t.new_orders k ≡ cond b (Some (record {})) None) [
+        | true ↦ λ e. plain.new_orders.rows k (h.0, h.1, (grind (arith, nat_tests), h.2.1))
+        | false ↦ λ e. let delivered : k.order ≤ delivered_orders t.scale = grind (arith, nat_tests) in missing plain.new_orders k (λ is. omega (arith, is.2))
+      ] refl
 
   one_there : (k : OrderKey) → IsPlainOrderKey t.scale k → column (λ r. pos 1) t.new_orders k ≡ cond (nat_lt (delivered_orders t.scale) k.order) (pos 1) (pos 0)
-  one_there k h = ap (λ (o : Option NewOrder). option_map_or (λ r. pos 1) o (pos 0)) (new_order_there k h) ∙ one_or_none (nat_lt (delivered_orders t.scale) k.order)
+  one_there k h = ap (λ (o : Option NewOrder). option_map_or (λ r. pos 1) o (pos 0)) (new_order_there k h)
+      ∙ one_or_none (nat_lt (delivered_orders t.scale) k.order)
     where
       one_or_none : (b : Bool) → option_map_or {T = NewOrder} (λ r. pos 1) (cond b (Some (record {})) None) (pos 0) ≡ cond b (pos 1) (pos 0)
       one_or_none true = refl
@@ -99,15 +106,18 @@ module _ (t : Database) (fit : IsFit t.scale) (plain : IsPlain t.scale t) where
   condition_4 k is =
       district_total (λ r. pos r.line_count) k t.scale.customers t.orders (each plain.orders _ (λ j h. h.2))
       ∙ sum_each _ t.scale.customers 5 (λ o h. column_of plain.orders (λ r. pos r.line_count) (order_key k o) (is.0, is.1, h))
-      ∙ sym (total_parts exact_line (λ r. pos 1) (λ j. is_district j.warehouse j.district k) (λ j. j.order) t.scale.customers t.lines (each plain.lines _ (λ j h. h.2))
+      ∙ sym (total_parts exact_line (λ r. pos 1) (λ j. is_district j.warehouse j.district k) (λ j. j.order) t.scale.customers t.lines
+      (each plain.lines _ (λ j h. h.2))
       ∙ sum_each _ t.scale.customers 5 (λ o h. order_lines (order_key k o) (is.0, is.1, h)))
 
   pub condition_5 : (k : OrderKey) → Condition5At t k
   condition_5 = each plain.orders (λ k order. is_none order.carrier ≡ is_some (get t.new_orders k)) (λ k h.
-      null_where (is_delivered t.scale k.order) (nat_lt (delivered_orders t.scale) k.order) (record {}) (grind (arith, nat_tests)) ∙ ap is_some (sym (new_order_there k h)))
+      null_where (is_delivered t.scale k.order) (nat_lt (delivered_orders t.scale) k.order) (record {}) (grind (arith, nat_tests))
+      ∙ ap is_some (sym (new_order_there k h)))
 
   pub condition_6 : (k : OrderKey) → Condition6At t k
-  condition_6 = each plain.orders (λ k order. pos order.line_count ≡ count (λ j line. is_order j.warehouse j.district j.order k) t.lines) (λ k h. sym (order_lines k h))
+  condition_6 = each plain.orders (λ k order. pos order.line_count ≡ count (λ j line. is_order j.warehouse j.district j.order k) t.lines)
+      (λ k h. sym (order_lines k h))
 
   pub condition_7 : (k : LineKey) → Condition7At t k
   condition_7 = each plain.lines (λ k line. is_none line.delivery_date ≡ option_map_or (λ order. is_none order.carrier) (get t.orders (order_of k)) true)

@@ -1,5 +1,6 @@
 -- The plain population is well-formed and has room.
-use Rattle.std.proofs.Common.{◌≡◌, ℕ, zero, suc, ◌+◌, ◌-◌, ◌*◌, ◌%◌, ◌≤◌, IsSome, pos, neg_ℤ, ◌≤ℤ◌, Bool, true, false, cond, Some, None, List, map, sym, subst, arith}
+use Rattle.std.proofs.Common.{◌≡◌, ℕ, zero, suc, ◌+◌, ◌-◌, ◌*◌, ◌%◌, ◌≤◌, IsSome, pos, neg_ℤ, ◌≤ℤ◌, Bool, true, false, cond, Some, None, List, map, sym, subst}
+use Rattle.std.proofs.Common.{arith}
 use Rattle.std.specs.Prelude.{All}
 use Rattle.std.specs.List.{flat_map}
 use Rattle.std.specs.Option.{ForSome}
@@ -117,7 +118,10 @@ module _ (t : Database) (fit : IsFit t.scale) (plain : IsPlain t.scale t) where
       deliveries = omega arith;
     });
     history_rows = subst (All (IsHistoryRow t.scale)) (sym plain.history)
-        (all_joined (IsHistoryRow t.scale) _ t.scale.warehouses (λ w in_warehouse. all_joined (IsHistoryRow t.scale) _ t.scale.districts (λ d in_district. all_listed (IsHistoryRow t.scale) _ t.scale.customers (λ c in_customer. is_history_row t.scale w d c in_warehouse in_district in_customer))));
+        (all_joined (IsHistoryRow t.scale) _ t.scale.warehouses
+        (λ w in_warehouse. all_joined (IsHistoryRow t.scale) _ t.scale.districts
+        (λ d in_district. all_listed (IsHistoryRow t.scale) _ t.scale.customers
+        (λ c in_customer. is_history_row t.scale w d c in_warehouse in_district in_customer))));
     order_rows = each plain.orders _ (λ k h. record {
       entry_date = (omega arith, omega arith);
       carrier = one_or_null _ _ (omega arith, omega arith);

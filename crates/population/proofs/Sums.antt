@@ -1,5 +1,7 @@
 -- Sums over the rows of a table, over a list of rows, and over the numbers from 1 on.
-use Rattle.std.proofs.Common.{◌≡◌, ◌≢◌, ℕ, zero, suc, ◌*◌, ℤ, pos, ◌+ℤ◌, Bool, true, false, cond, T, ◌==◌, List, [], ◌∷◌, map, Option, Some, refl, sym, ap, ◌∙◌, arith}
+use Rattle.std.proofs.Common.{◌≡◌, ◌≢◌, ℕ, zero, suc, ◌*◌, ℤ, pos, ◌+ℤ◌, Bool, true, false, cond, T, ◌==◌, List, [], ◌∷◌, map, Option, Some, refl, sym}
+use Rattle.std.proofs.Common.{ap, ◌∙◌}
+use Rattle.std.proofs.Common.{arith}
 use Rattle.std.specs.Prelude.{fold}
 use Rattle.std.specs.List.{flat_map}
 use Rattle.std.specs.Option.{option_map_or}
@@ -85,7 +87,8 @@ module _ {K X : Type 0} {R : K → K → Ordering} (o : IsExact R) where
       let rest = entry_at f p k at es (second _ _ h) in
       let others : ℤ = sum_entries (λ j r. cond (p j) (f r) (pos 0)) es in
       ap (λ b. cond b (f e.1) (pos 0) +ℤ others) (at e.0)
-      ∙ elim (eq_by_cmp R k e.0) as (λ b. eq_by_cmp R k e.0 ≡ b → cond b (f e.1) (pos 0) +ℤ others ≡ option_map_or f (cond b (Some e.1) (find R k es)) (pos 0)) [
+      ∙ elim (eq_by_cmp R k e.0) as
+      (λ b. eq_by_cmp R k e.0 ≡ b → cond b (f e.1) (pos 0) +ℤ others ≡ option_map_or f (cond b (Some e.1) (find R k es)) (pos 0)) [
         | true ↦ λ t. no_others (f e.1) others (rest ∙ ap (λ (w : Option X). option_map_or f w (pos 0)) (absent_after o k e es (first _ _ h) t))
         | false ↦ λ t. later others _ rest
       ] refl
@@ -97,7 +100,8 @@ module _ {K X : Type 0} {R : K → K → Ordering} (o : IsExact R) where
       later a b p = omega (arith, ints)
 
   -- the sum of f over the row at k alone is its column
-  pub total_at : (f : X → ℤ) (p : K → Bool) (k : K) (m : FinMap R X) → ((j : K) → p j ≡ eq_by_cmp R k j) → total (λ j r. cond (p j) (f r) (pos 0)) m ≡ column f m k
+  pub total_at : (f : X → ℤ) (p : K → Bool) (k : K) (m : FinMap R X) → ((j : K) → p j ≡ eq_by_cmp R k j)
+      → total (λ j r. cond (p j) (f r) (pos 0)) m ≡ column f m k
   unfolding total
   total_at f p k m at = entry_at f p k at (entries m) (entries_sorted m) ∙ ap (λ (w : Option X). option_map_or f w (pos 0)) (sym (get-entries m k))
 
@@ -110,7 +114,8 @@ module _ {K X : Type 0} where
       crossed a b c d x p = omega (arith, ints)
 
 -- a sum of sums, in the other order
-pub total_sums : {K X : Type 0} {R : K → K → Ordering} (f : ℕ → K → X → ℤ) (n : ℕ) (m : FinMap R X) → total (λ k r. sum_of (λ i. f i k r) (numbers n)) m ≡ sum_of (λ i. total (f i) m) (numbers n)
+pub total_sums : {K X : Type 0} {R : K → K → Ordering} (f : ℕ → K → X → ℤ) (n : ℕ) (m : FinMap R X)
+    → total (λ k r. sum_of (λ i. f i k r) (numbers n)) m ≡ sum_of (λ i. total (f i) m) (numbers n)
 unfolding total
 total_sums f zero m = entries_zero (entries m)
 total_sums f (suc n) m =

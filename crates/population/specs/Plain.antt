@@ -1,5 +1,6 @@
 -- The plain population: which row stands at which key (clause 4.3.3.1 draws most of these columns; here none is drawn).
-use Rattle.std.specs.Prelude.{◌≡◌, ℕ, zero, suc, ◌+◌, ◌-◌, ◌*◌, ◌/◌, ◌%◌, pos, neg_ℤ, Bool, true, cond, nat_le, ◌==◌, Some, None, IsSome, List, [], ◌∷◌, ◌++◌, map}
+use Rattle.std.specs.Prelude.{◌≡◌, ℕ, zero, suc, ◌+◌, ◌-◌, ◌*◌, ◌/◌, ◌%◌, pos, neg_ℤ, Bool, true, cond, nat_le, ◌==◌}
+use Rattle.std.specs.Prelude.{Some, None, IsSome, List, [], ◌∷◌, ◌++◌, map}
 use Rattle.std.specs.List.{flat_map}
 use Rattle.std.specs.FinMap.{FinMap, get}
 use Rattle.std.specs.declared.cmp.Ordering.{Ordering}
@@ -54,7 +55,8 @@ plain_history_row w d c = record {
   amount = pos 1000;
 }
 
--- one payment a customer: those of a district, of a warehouse, and of all, in the order of warehouse, district and customer
+-- one payment a customer: those of a district, of a warehouse, and of all, in the order of warehouse, district and
+-- customer
 abbrev pub district_payments : Sizes → ℕ → ℕ → List History
 district_payments s w d = map (λ c. plain_history_row w d c) (numbers s.customers)
 
@@ -102,15 +104,18 @@ abbrev pub IsPlainOrderKey : Sizes → OrderKey → Type 0
 IsPlainOrderKey s k = IsNumber s.warehouses k.warehouse × IsNumber s.districts k.district × IsNumber s.customers k.order
 
 abbrev pub IsPlainNewOrderKey : Sizes → OrderKey → Type 0
-IsPlainNewOrderKey s k = IsNumber s.warehouses k.warehouse × IsNumber s.districts k.district × IsBetween (delivered_orders s + 1) s.customers k.order
+IsPlainNewOrderKey s k = IsNumber s.warehouses k.warehouse × IsNumber s.districts k.district
+    × IsBetween (delivered_orders s + 1) s.customers k.order
 
 abbrev pub IsPlainLineKey : Sizes → LineKey → Type 0
-IsPlainLineKey s k = IsNumber s.warehouses k.warehouse × IsNumber s.districts k.district × IsNumber s.customers k.order × IsNumber 5 k.line
+IsPlainLineKey s k = IsNumber s.warehouses k.warehouse × IsNumber s.districts k.district × IsNumber s.customers k.order
+    × IsNumber 5 k.line
 
 -- the table has rows exactly at these keys, and at each this row
-pub record IsTable {K X : Type 0} {R : K → K → Ordering} (IsKey : K → Type 0) (row : K → X) (m : FinMap R X) : Type 0 where
-  pub rows : (k : K) → IsKey k → get m k ≡ Some (row k)
-  pub only : (k : K) → IsSome (get m k) → IsKey k
+pub record IsTable {K X : Type 0} {R : K → K → Ordering} (IsKey : K → Type 0) (row : K → X) (m : FinMap R X) : Type 0
+  where
+    pub rows : (k : K) → IsKey k → get m k ≡ Some (row k)
+    pub only : (k : K) → IsSome (get m k) → IsKey k
 
 -- the nine tables of the plain population of a scale
 pub record IsPlain (s : Sizes) (t : Database) : Type 0 where

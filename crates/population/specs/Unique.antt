@@ -6,7 +6,8 @@ use mathlib.Core.HLevel.{Σ_prop_path}
 use Rattle.tables.specs.declared.rows.Order.{Order}
 
 -- the order of a line is the one that stands at its key
-pub line_order-prop : (found : Option Order) (line : ℕ) → IsProp ((order : Order) × (found ≡ Some order) × (line ≤ order.line_count))
+pub line_order-prop : (found : Option Order) (line : ℕ)
+    → IsProp ((order : Order) × (found ≡ Some order) × (line ≤ order.line_count))
 line_order-prop found line x y =
     let once : (order : Order) → IsProp ((found ≡ Some order) × (line ≤ order.line_count)) = λ order. hlevel props in
     let same : Some x.0 ≡ Some y.0 = sym x.1 ∙ y.1 in

@@ -3,8 +3,10 @@
 ghost use Rattle.std.specs.Prelude.{◌≡◌, ◌+◌, ◌++◌, IfOk, OnOk};
 ghost use Rattle.std.specs.FinMap.{from_entries};
 ghost use Rattle.tables.specs.Database.{database};
-ghost use Rattle.population.specs.Plain.{IsPlain, delivered_orders, district_payments, warehouse_payments, plain_history};
-ghost use Rattle.population.specs.Adds.{is, is_in, is_number, AddsWarehouses, AddsItems, AddsStock, AddsCustomers, AddsOrders, AddsNewOrders, AddsLines, AddsDistrictRows};
+ghost use Rattle.population.specs.Plain.{IsPlain, delivered_orders, district_payments, warehouse_payments};
+ghost use Rattle.population.specs.Plain.{plain_history};
+ghost use Rattle.population.specs.Adds.{is, is_in, is_number, AddsWarehouses, AddsItems, AddsStock, AddsCustomers};
+ghost use Rattle.population.specs.Adds.{AddsOrders, AddsNewOrders, AddsLines, AddsDistrictRows};
 
 use crate::rows::{
     customer_row, delivered, district_row, history_row, item_row, line_row, order_row, stock_row,
@@ -81,7 +83,8 @@ fn add_stock_of(
 
 /// The rows of the districts of every warehouse.
 fn add_districts(tables: &mut Tables, scale: Scale) -> Result<(), AllocError>
-    ensures { OnOk result (AddsDistrictRows scale (is_number scale.warehouses) (is_number scale.districts) (plain_history scale)
+    ensures { OnOk result (AddsDistrictRows scale (is_number scale.warehouses) (is_number scale.districts)
+        (plain_history scale)
         (database tables.old) (database tables.new)) }
 {
     for warehouse in 1..=scale.warehouses() {
@@ -92,7 +95,8 @@ fn add_districts(tables: &mut Tables, scale: Scale) -> Result<(), AllocError>
 
 /// The rows of the districts of a warehouse.
 fn add_districts_of(tables: &mut Tables, scale: Scale, warehouse: u32) -> Result<(), AllocError>
-    ensures { OnOk result (AddsDistrictRows scale (is warehouse) (is_number scale.districts) (warehouse_payments scale warehouse)
+    ensures { OnOk result (AddsDistrictRows scale (is warehouse) (is_number scale.districts)
+        (warehouse_payments scale warehouse)
         (database tables.old) (database tables.new)) }
 {
     for district in 1..=scale.districts() {
@@ -108,7 +112,8 @@ fn add_district(
     warehouse: u32,
     district: u32,
 ) -> Result<(), AllocError>
-    ensures { OnOk result (AddsDistrictRows scale (is warehouse) (is district) (district_payments scale warehouse district)
+    ensures { OnOk result (AddsDistrictRows scale (is warehouse) (is district)
+        (district_payments scale warehouse district)
         (database tables.old) (database tables.new)) }
 {
     let key = DistrictKey {
@@ -189,7 +194,8 @@ fn add_new_orders(
     warehouse: u32,
     district: u32,
 ) -> Result<(), AllocError>
-    ensures { OnOk result (AddsNewOrders (is warehouse) (is district) (is_in (delivered_orders scale + 1) (scale.customers + 1))
+    ensures { OnOk result (AddsNewOrders (is warehouse) (is district)
+        (is_in (delivered_orders scale + 1) (scale.customers + 1))
         (from_entries table.old.entries) (from_entries table.new.entries)) }
 {
     for order in delivered(scale) + 1..=scale.customers() {

@@ -2,7 +2,9 @@
 
 ghost use Rattle.std.specs.Prelude.{◌≡◌, ◌≤◌};
 ghost use Rattle.tables.specs.Sizes.{IsNumber};
-ghost use Rattle.population.specs.Plain.{plain_warehouse, plain_district, plain_customer, plain_history_row, plain_order, plain_line, plain_item, plain_stock, delivered_orders, is_delivered};
+ghost use Rattle.population.specs.Plain.{plain_warehouse, plain_district, plain_customer, plain_history_row};
+ghost use Rattle.population.specs.Plain.{plain_order, plain_line, plain_item, plain_stock, delivered_orders};
+ghost use Rattle.population.specs.Plain.{is_delivered};
 
 use money::{Cents, Rate};
 use tables::{

@@ -21,7 +21,8 @@ use Rattle.program.specs.Detail.{IsDetail}
 abbrev pub scale_of : Options → Sizes
 scale_of o = sizes o.warehouses o.districts o.customers o.items o.orders o.commits
 
--- the script of these bytes was answered to its end, over the plain population of the scale that was asked for, and this is its report
+-- the script of these bytes was answered to its end, over the plain population of the scale that was asked for, and
+-- this is its report
 pub record IsWholeRun (o : Options) (bytes : List ℕ) (old new : Option (List ℕ)) (report : Report) : Type 0 where
   pub lawful : IsScale (scale_of o)
   pub tables : Database
@@ -31,11 +32,14 @@ pub record IsWholeRun (o : Options) (bytes : List ℕ) (old new : Option (List �
   pub wrote : Appends old new text
   pub whole : IsWhole tables bytes text report dones
 
--- it was refused: for its scale; for want of memory before the first line; or later, when a beginning of its text was written
+-- it was refused: for its scale; for want of memory before the first line; or later, when a beginning of its text was
+-- written
 pub data IsRefusedRun (o : Options) (bytes : List ℕ) (old new : Option (List ℕ)) (refusal : Refusal) : Type 0 where
   scale : ¬ IsScale (scale_of o) → refusal ≡ BadScale → Appends old new [] → IsRefusedRun o bytes old new refusal
   memory : refusal ≡ OutOfMemory → Appends old new [] → IsRefusedRun o bytes old new refusal
-  begun : IsScale (scale_of o) → (tables : Database) (front : List ℕ) → IsPlain (scale_of o) tables → (refusal ≡ OutOfMemory) ⊎ (refusal ≡ BadInput) ⊎ (refusal ≡ Device) → Appends old new front → IsBeginning tables bytes front → IsRefusedRun o bytes old new refusal
+  begun : IsScale (scale_of o) → (tables : Database) (front : List ℕ) → IsPlain (scale_of o) tables
+      → (refusal ≡ OutOfMemory) ⊎ (refusal ≡ BadInput) ⊎ (refusal ≡ Device) → Appends old new front
+      → IsBeginning tables bytes front → IsRefusedRun o bytes old new refusal
 
 -- a run of the program, after which the last calls on its input and its output have these errors, where they failed:
 -- its words' fault, or the help that they ask for, goes to the errors alone; a script's text goes to the output, and a

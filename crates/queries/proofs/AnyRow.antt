@@ -23,7 +23,8 @@ other_key true false l g = refl
 other_key false f l g = refl
 
 module _ {K X : Type 0} {R : K → K → Ordering} (o : IsExact R) where
-  entries_alike : (p q : K × X → Bool) (es : List (K × X)) → T (is_sorted R es) → ((k : K) (r : X) → find R k es ≡ Some r → p (k, r) ≡ q (k, r)) → list_any p es ≡ list_any q es
+  entries_alike : (p q : K × X → Bool) (es : List (K × X)) → T (is_sorted R es) → ((k : K) (r : X) → find R k es ≡ Some r → p (k, r) ≡ q (k, r))
+      → list_any p es ≡ list_any q es
   entries_alike p q [] h same = refl
   entries_alike p q (e ∷ es) h same = λ i.
       same e.0 e.1 (found_first o e es) i || entries_alike p q es (second _ _ h) (λ k r found. same k r (found_after o k r e es (first _ _ h) found)) i
@@ -41,7 +42,9 @@ module _ {K X : Type 0} {R : K → K → Ordering} (o : IsExact R) where
     entries_more [] h = refl
     entries_more (e ∷ es) h =
         let rest : any_of q es ≡ (any_of p es || option_map_or f (find R a es) false) = entries_more es (second _ _ h) in
-        elim (eq_by_cmp R a e.0) as (λ b. eq_by_cmp R a e.0 ≡ b → ((q e.0 && f e.1) || any_of q es) ≡ (((p e.0 && f e.1) || any_of p es) || option_map_or f (cond b (Some e.1) (find R a es)) false)) [
+        elim (eq_by_cmp R a e.0) as
+        (λ b. eq_by_cmp R a e.0 ≡ b
+        → ((q e.0 && f e.1) || any_of q es) ≡ (((p e.0 && f e.1) || any_of p es) || option_map_or f (cond b (Some e.1) (find R a es)) false)) [
           | true ↦ λ t.
               let none : find R a es ≡ None = absent_after o a e es (first _ _ h) t in
               let now : q e.0 ≡ (p e.0 || true) = more e.0 ∙ ap (λ b. p e.0 || b) t in

@@ -1,5 +1,6 @@
 -- How many numbers pass a test: one number more, or the same ones.
-use Rattle.std.proofs.Common.{◌≡◌, ℕ, zero, suc, ◌+◌, ◌≤◌, ◌<◌, ◌≢◌, Bool, true, false, cond, ◌==◌, ◌&&◌, ◌||◌, List, ◌∷◌, length, filter, take, get_or, true≢false, refl, sym, ap, ◌∙◌, subst, arith}
+use Rattle.std.proofs.Common.{◌≡◌, ℕ, zero, suc, ◌+◌, ◌≤◌, ◌<◌, ◌≢◌, Bool, true, false, cond, ◌==◌, ◌&&◌, ◌||◌, List, ◌∷◌, length, filter, take, get_or}
+use Rattle.std.proofs.Common.{true≢false, refl, sym, ap, ◌∙◌, subst, arith}
 use Rattle.std.proofs.Math.Bool.{or-false, or-true}
 use Rattle.std.proofs.lemmas.Bool.{eqb-true}
 use Rattle.std.proofs.lemmas.Bool.Decides.{nat_tests}
@@ -23,8 +24,10 @@ module _ (p q : ℕ → Bool) (x gain : ℕ) (elsewhere : (i : ℕ) → (x == i)
   pub one_gained : (a n : ℕ) → a ≤ x → x < a + n → length (filter q (range_with_len a n)) ≡ length (filter p (range_with_len a n)) + gain
   one_gained a zero low high = absurd (omega (arith, low, high))
   one_gained a (suc n) low high =
-      let first : length (filter q (range_with_len a (suc n))) ≡ cond (q a) 1 0 + length (filter q (range_with_len (a + 1) n)) = length_next (q a) a (filter q (range_with_len (a + 1) n)) in
-      let second : length (filter p (range_with_len a (suc n))) ≡ cond (p a) 1 0 + length (filter p (range_with_len (a + 1) n)) = length_next (p a) a (filter p (range_with_len (a + 1) n)) in
+      let first : length (filter q (range_with_len a (suc n))) ≡ cond (q a) 1 0 + length (filter q (range_with_len (a + 1) n)) =
+      length_next (q a) a (filter q (range_with_len (a + 1) n)) in
+      let second : length (filter p (range_with_len a (suc n))) ≡ cond (p a) 1 0 + length (filter p (range_with_len (a + 1) n)) =
+      length_next (p a) a (filter p (range_with_len (a + 1) n)) in
       elim (x == a) as (λ b. (x == a) ≡ b → length (filter q (range_with_len a (suc n))) ≡ length (filter p (range_with_len a (suc n))) + gain) [
         | true ↦ λ e.
             let same : x ≡ a = eqb-true x a e in
@@ -75,7 +78,8 @@ module _ (xs : List ℕ) (at : ℕ) (within : at < length xs) where
 
   -- how many of the numbers from 1 to n are among them and low
   pub counted_after : (low : ℕ → Bool) (n : ℕ) → 1 ≤ x → x ≤ n
-      → length (filter (λ i. after i && low i) (range_with_len 1 n)) ≡ length (filter (λ i. before i && low i) (range_with_len 1 n)) + cond (before x) 0 (cond (low x) 1 0)
+      → length (filter (λ i. after i && low i) (range_with_len 1 n)) ≡ length (filter (λ i. before i && low i) (range_with_len 1 n)) + cond (before x) 0
+      (cond (low x) 1 0)
   counted_after low n first last =
       one_gained (λ i. before i && low i) (λ i. after i && low i) x (cond (before x) 0 (cond (low x) 1 0))
       (λ i e. ap (λ b. b && low i) (after_is i ∙ ap (λ b. before i || b) e ∙ or-false (before i)))

@@ -13,15 +13,20 @@ use Rattle.readset.specs.Writes.{no_writes}
 use Rattle.readset.specs.Explains.{IsCandidate, Explains}
 
 module _ (t0 : Database) (x : StockLevelInput) (reads : ReadSetView) (items : List ℕ) (low : ℕ)
-    (sold : (t : Database) → IsCandidate t0 reads t → (i : ℕ) → is_sold t (record { warehouse = x.warehouse; district = x.district }) i ≡ list_any (λ j. j == i) items)
-    (counted : (t : Database) → IsCandidate t0 reads t → length (filter (λ i. list_any (λ j. j == i) items && is_low t x.warehouse x.threshold i) (range_with_len 1 t0.scale.items)) ≡ low)
+    (sold : (t : Database) → IsCandidate t0 reads t → (i : ℕ) → is_sold t (record { warehouse = x.warehouse; district = x.district }) i ≡ list_any (λ j. j == i)
+    items)
+    (counted : (t : Database) → IsCandidate t0 reads t
+    → length (filter (λ i. list_any (λ j. j == i) items && is_low t x.warehouse x.threshold i) (range_with_len 1 t0.scale.items)) ≡ low)
   where
     low_is : (t : Database) → IsCandidate t0 reads t → low_items t x ≡ low
-    low_is t h = (λ j. length (filter (λ i. sold t h i j && is_low t x.warehouse x.threshold i) (range_with_len 1 (h.of_population.scale j).items))) ∙ counted t h
+    low_is t h = (λ j. length (filter (λ i. sold t h i j && is_low t x.warehouse x.threshold i) (range_with_len 1 (h.of_population.scale j).items)))
+        ∙ counted t h
 
-    pub explains : Explains t0 (input.StockLevel x) reads no_writes (reply.StockLevel (record { warehouse = x.warehouse; district = x.district; threshold = x.threshold; low = low }))
+    pub explains : Explains t0 (input.StockLevel x) reads no_writes
+        (reply.StockLevel (record { warehouse = x.warehouse; district = x.district; threshold = x.threshold; low = low }))
     explains t h = record {
-      commits = ap (λ n. Committed t (reply.StockLevel (record { warehouse = x.warehouse; district = x.district; threshold = x.threshold; low = n }))) (low_is t h);
+      commits = ap (λ n. Committed t (reply.StockLevel (record { warehouse = x.warehouse; district = x.district; threshold = x.threshold; low = n })))
+          (low_is t h);
       numbered = tt;
       rows = λ n small. refl;
       history = sym (append-nil t.history);

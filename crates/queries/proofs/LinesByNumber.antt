@@ -1,5 +1,6 @@
 -- An order's lines in the order of ORDER-LINE's keys are its lines by their numbers.
-use Rattle.std.proofs.Common.{◌≡◌, ℕ, zero, suc, ◌+◌, ◌<◌, ◌≤◌, Bool, true, false, cond, T, ◌==◌, true≢false, List, [], ◌∷◌, ◌++◌, map, filter, Option, Some, None, is_some, refl, sym, ap, ◌∙◌, subst, arith}
+use Rattle.std.proofs.Common.{◌≡◌, ℕ, zero, suc, ◌+◌, ◌<◌, ◌≤◌, Bool, true, false, cond, T, ◌==◌, true≢false, List, [], ◌∷◌, ◌++◌, map, filter, Option, Some}
+use Rattle.std.proofs.Common.{None, is_some, refl, sym, ap, ◌∙◌, subst, arith}
 use Rattle.std.proofs.lemmas.Bool.{eqb-true}
 use Rattle.std.proofs.lemmas.Bool.Decides.{nat_tests}
 use Rattle.std.proofs.lemmas.Option.{same_Some}
@@ -33,7 +34,8 @@ module _ {X : Type 0} where
   none_to f (suc n) none = λ x. none_to f n (λ i small. none i (omega (arith, small))) x ++ option_to_list (none (suc n) (omega arith) x)
 
   -- one row more, at the number a, before all others
-  module _ (f g : ℕ → Option X) (a : ℕ) (v : X) (here : f a ≡ Some v) (below : (i : ℕ) → i < a → f i ≡ None) (none : (i : ℕ) → i ≤ a → g i ≡ None) (above : (i : ℕ) → a < i → f i ≡ g i) where
+  module _ (f g : ℕ → Option X) (a : ℕ) (v : X) (here : f a ≡ Some v) (below : (i : ℕ) → i < a → f i ≡ None) (none : (i : ℕ) → i ≤ a → g i ≡ None)
+      (above : (i : ℕ) → a < i → f i ≡ g i) where
     rows_first : (n : ℕ) → IsNumber n a → rows_to f n ≡ v ∷ rows_to g n
     rows_first zero within = absurd (omega (arith, within.0, within.1))
     rows_first (suc n) within =
@@ -53,7 +55,8 @@ module _ {X : Type 0} where
 
 -- with the next line
 pub lines_next : (t : Database) (k : OrderKey) (n : ℕ) → lines_up_to t k (n + 1) ≡ lines_up_to t k n ++ option_to_list (get t.lines (line_key k (n + 1)))
-lines_next t k n = let next : suc n ≡ n + 1 = omega arith in subst (λ i. lines_up_to t k i ≡ lines_up_to t k n ++ option_to_list (get t.lines (line_key k i))) next refl
+lines_next t k n = let next : suc n ≡ n + 1 = omega arith in subst (λ i. lines_up_to t k i ≡ lines_up_to t k n ++ option_to_list (get t.lines (line_key k i)))
+    next refl
 
 -- ---- an order's lines among the entries of ORDER-LINE
 module _ (k : OrderKey) where
@@ -79,7 +82,8 @@ module _ (k : OrderKey) where
   line_less a i h = number_less (nat_cmp a i) refl (subst (λ r. T (is_lt r)) same h)
     where
       same : line_cmp (line_key k a) (line_key k i) ≡ nat_cmp a i
-      same x = ordering_then (tied_itself exact_number.total k.warehouse x) (ordering_then (tied_itself exact_number.total k.district x) (ordering_then (tied_itself exact_number.total k.order x) (nat_cmp a i)))
+      same x = ordering_then (tied_itself exact_number.total k.warehouse x)
+          (ordering_then (tied_itself exact_number.total k.district x) (ordering_then (tied_itself exact_number.total k.order x) (nat_cmp a i)))
 
       number_less : (r : Ordering) → nat_cmp a i ≡ r → T (is_lt r) → a < i
       number_less Less e p = grind (arith, nat_tests, e)
@@ -90,7 +94,8 @@ module _ (k : OrderKey) where
   none_lower : (a i : ℕ) (es : List (LineKey × OrderLine)) → i ≤ a → T (below_all line_cmp (line_key k a) es) → row_in es i ≡ None
   none_lower a i [] small h = refl
   none_lower a i (e ∷ es) small h =
-      passed e es i (λ same. let more = line_less a i (subst (λ j. T (is_lt (line_cmp (line_key k a) j))) (sym same) (first _ _ h)) in omega (arith, small, more))
+      passed e es i (λ same. let more = line_less a i (subst (λ j. T (is_lt (line_cmp (line_key k a) j))) (sym same) (first _ _ h)) in
+      omega (arith, small, more))
       ∙ none_lower a i es small (second _ _ h)
 
   lines_numbered : (n : ℕ) (es : List (LineKey × OrderLine)) → T (is_sorted line_cmp es)
@@ -100,25 +105,31 @@ module _ (k : OrderKey) where
       let higher : T (below_all line_cmp e.0 es) = first (below_all line_cmp e.0 es) (is_sorted line_cmp es) h in
       let sorted : T (is_sorted line_cmp es) = second (below_all line_cmp e.0 es) (is_sorted line_cmp es) h in
       let rest : lines_in es ≡ rows_to (row_in es) n = lines_numbered n es sorted (λ j r found. within j r (found_after exact_line j r e es higher found)) in
-      elim (is_line e) as (λ b. is_line e ≡ b → map (λ (e : LineKey × OrderLine). e.1) (cond b (e ∷ filter is_line es) (filter is_line es)) ≡ rows_to (row_in (e ∷ es)) n) [
+      elim (is_line e) as (λ b. is_line e ≡ b → map (λ (e : LineKey × OrderLine). e.1) (cond b (e ∷ filter is_line es) (filter is_line es)) ≡ rows_to
+      (row_in (e ∷ es)) n) [
         | true ↦ λ t.
             let a = e.0.line in
             let order : order_of e.0 ≡ k = sym (order_named k.warehouse k.district k.order (order_of e.0) t) in
             let key : e.0 ≡ line_key k a = ap (λ o. line_key o a) order in
             let low : T (below_all line_cmp (line_key k a) es) = subst (λ j. T (below_all line_cmp j es)) key higher in
             let here : row_in (e ∷ es) a ≡ Some e.1 = subst (λ j. find line_cmp j (e ∷ es) ≡ Some e.1) key (found_first exact_line e es) in
-            let other : (i : ℕ) → ((i ≡ a) → ⊥) → row_in (e ∷ es) i ≡ row_in es i = λ i apart. passed e es i (λ same. apart (ap (λ (j : LineKey). j.line) same)) in
-            let below : (i : ℕ) → i < a → row_in (e ∷ es) i ≡ None = λ i less. other i (λ same. omega (arith, less, same)) ∙ none_lower a i es (omega (arith, less)) low in
+            let other : (i : ℕ) → ((i ≡ a) → ⊥) → row_in (e ∷ es) i ≡ row_in es i = λ i apart. passed e es i (λ same. apart (ap (λ (j : LineKey). j.line) same))
+            in
+            let below : (i : ℕ) → i < a → row_in (e ∷ es) i ≡ None = λ i less. other i (λ same. omega (arith, less, same))
+            ∙ none_lower a i es (omega (arith, less)) low in
             let above : (i : ℕ) → a < i → row_in (e ∷ es) i ≡ row_in es i = λ i more. other i (λ same. omega (arith, more, same)) in
             ap (λ l. e.1 ∷ l) rest
-            ∙ sym (rows_first (row_in (e ∷ es)) (row_in es) a e.1 here below (λ i small. none_lower a i es small low) above n (within e.0 e.1 (found_first exact_line e es) order))
+            ∙ sym (rows_first (row_in (e ∷ es)) (row_in es) a e.1 here below (λ i small. none_lower a i es small low) above n
+            (within e.0 e.1 (found_first exact_line e es) order))
         | false ↦ λ t.
-            let other : (i : ℕ) → line_key k i ≡ e.0 → ⊥ = λ i same. true≢false (sym (order_itself k) ∙ ap (λ (j : LineKey). is_order k.warehouse k.district k.order (order_of j)) same ∙ t) in
+            let other : (i : ℕ) → line_key k i ≡ e.0
+            → ⊥ = λ i same. true≢false (sym (order_itself k) ∙ ap (λ (j : LineKey). is_order k.warehouse k.district k.order (order_of j)) same ∙ t) in
             rest ∙ sym (λ x. rows_to (λ i. passed e es i (other i) x) n)
       ] refl
 
 -- of well-formed tables: they have numbers from 1 to O_OL_CNT
-pub lines_counted : (t : Database) (k : OrderKey) (order : Order) → IsWellFormed t → get t.orders k ≡ Some order → lines_of t k ≡ lines_up_to t k order.line_count
+pub lines_counted : (t : Database) (k : OrderKey) (order : Order) → IsWellFormed t → get t.orders k ≡ Some order
+    → lines_of t k ≡ lines_up_to t k order.line_count
 lines_counted t k order wf found =
     lines_numbered k order.line_count (entries t.lines) (entries_sorted t.lines) (λ j r there is.
     let line : get t.lines j ≡ Some r = get-entries t.lines j ∙ there in

@@ -1,5 +1,6 @@
 -- The items of a district's last orders, line by line.
-use Rattle.std.proofs.Common.{◌≡◌, ℕ, ◌+◌, ◌-◌, ◌≤◌, max, nat_le, Bool, true, false, ◌==◌, ◌&&◌, ◌||◌, List, [], ◌∷◌, ◌++◌, Option, Some, None, is_some, refl, sym, ap, ◌∙◌, arith}
+use Rattle.std.proofs.Common.{◌≡◌, ℕ, ◌+◌, ◌-◌, ◌≤◌, max, nat_le, Bool, true, false, ◌==◌, ◌&&◌, ◌||◌, List, [], ◌∷◌, ◌++◌, Option, Some, None, is_some, refl}
+use Rattle.std.proofs.Common.{sym, ap, ◌∙◌, arith}
 use Rattle.std.proofs.Math.Bool.{and_assoc, and-false, or-false}
 use Rattle.std.proofs.lemmas.Bool.Decides.{nat_tests}
 use Rattle.std.proofs.lemmas.List.Folds.{list_any-append}
@@ -27,12 +28,16 @@ use Rattle.queries.specs.SoldItems.{is_looked_at, AreItems}
 use Rattle.queries.proofs.AnyRow.{any_alike, any_more}
 
 -- ---- the lines looked at
-line_test : (a k : LineKey) → ((a.warehouse == k.warehouse) && ((a.district == k.district) && ((a.order == k.order) && (a.line == k.line)))) ≡ eq_by_cmp line_cmp a k
+line_test : (a k : LineKey) → ((a.warehouse == k.warehouse) && ((a.district == k.district) && ((a.order == k.order) && (a.line == k.line)))) ≡ eq_by_cmp
+    line_cmp a k
 line_test a k =
     (λ i. eqb-nat_cmp a.warehouse k.warehouse i && (eqb-nat_cmp a.district k.district i && (eqb-nat_cmp a.order k.order i && eqb-nat_cmp a.line k.line i)))
-    ∙ ap (λ b. is_eq (nat_cmp a.warehouse k.warehouse) && (is_eq (nat_cmp a.district k.district) && b)) (tied_then (nat_cmp a.order k.order) (nat_cmp a.line k.line))
-    ∙ ap (λ b. is_eq (nat_cmp a.warehouse k.warehouse) && b) (tied_then (nat_cmp a.district k.district) (ordering_then (nat_cmp a.order k.order) (nat_cmp a.line k.line)))
-    ∙ tied_then (nat_cmp a.warehouse k.warehouse) (ordering_then (nat_cmp a.district k.district) (ordering_then (nat_cmp a.order k.order) (nat_cmp a.line k.line)))
+    ∙ ap (λ b. is_eq (nat_cmp a.warehouse k.warehouse) && (is_eq (nat_cmp a.district k.district) && b))
+    (tied_then (nat_cmp a.order k.order) (nat_cmp a.line k.line))
+    ∙ ap (λ b. is_eq (nat_cmp a.warehouse k.warehouse) && b)
+    (tied_then (nat_cmp a.district k.district) (ordering_then (nat_cmp a.order k.order) (nat_cmp a.line k.line)))
+    ∙ tied_then (nat_cmp a.warehouse k.warehouse)
+    (ordering_then (nat_cmp a.district k.district) (ordering_then (nat_cmp a.order k.order) (nat_cmp a.line k.line)))
 
 swapped : (a b : ℕ) → (a == b) ≡ (b == a)
 swapped a b = grind (arith, nat_tests)
@@ -51,7 +56,10 @@ grown false d x o l n = refl
 
 module _ (d : DistrictKey) (first : ℕ) where
   -- one line more of an order
-  line_more : (o m : ℕ) (k : LineKey) → is_looked_at d first o (m + 1) k ≡ (is_looked_at d first o m k || eq_by_cmp line_cmp (line_key (record { warehouse = d.warehouse; district = d.district; order = o }) (m + 1)) k)
+  line_more : (o m : ℕ) (k : LineKey)
+      → is_looked_at d first o
+      (m + 1) k ≡ (is_looked_at d first o m k
+      || eq_by_cmp line_cmp (line_key (record { warehouse = d.warehouse; district = d.district; order = o }) (m + 1)) k)
   line_more o m k =
       let early : Bool = nat_le first k.order && nat_le (k.order + 1) o in
       ap (λ b. is_district k.warehouse k.district d && (early || ((k.order == o) && b))) (up_to_next k.line m)
@@ -65,7 +73,9 @@ module _ (d : DistrictKey) (first : ℕ) where
   order_more : (o : ℕ) (k : LineKey) → first ≤ o → IsNumber MAX_ORDER_LINES k.line → is_looked_at d first o MAX_ORDER_LINES k ≡ is_looked_at d first (o + 1) 0 k
   order_more o k low line = ap (λ b. is_district k.warehouse k.district d && b) (at_order k.order k.line line.0 line.1)
     where
-      at_order : (n l : ℕ) → 1 ≤ l → l ≤ MAX_ORDER_LINES → ((nat_le first n && nat_le (n + 1) o) || ((n == o) && nat_le l MAX_ORDER_LINES)) ≡ ((nat_le first n && nat_le (n + 1) (o + 1)) || ((n == o + 1) && nat_le l 0))
+      at_order : (n l : ℕ) → 1 ≤ l → l ≤ MAX_ORDER_LINES
+          → ((nat_le first n && nat_le (n + 1) o) || ((n == o) && nat_le l MAX_ORDER_LINES)) ≡ ((nat_le first n && nat_le (n + 1) (o + 1))
+          || ((n == o + 1) && nat_le l 0))
       at_order n l one many = grind (arith, nat_tests, low, one, many)
 
   -- none is before the first
@@ -77,10 +87,14 @@ module _ (d : DistrictKey) (first : ℕ) where
 
 -- at the end, those of the last 20 orders
 recent : (d : DistrictKey) (next : ℕ) (k : LineKey) → 1 ≤ k.order → 1 ≤ k.line
-    → is_looked_at d (max 1 (next - RECENT_ORDERS)) next 0 k ≡ (is_district k.warehouse k.district d && nat_le (next - RECENT_ORDERS) k.order && nat_le (k.order + 1) next)
-recent d next k order line = ap (λ b. is_district k.warehouse k.district d && b) (at_end k.order k.line order line) ∙ sym (and_assoc (is_district k.warehouse k.district d) _ _)
+    → is_looked_at d (max 1 (next - RECENT_ORDERS)) next 0 k ≡ (is_district k.warehouse k.district d && nat_le (next - RECENT_ORDERS) k.order
+    && nat_le (k.order + 1) next)
+recent d next k order line = ap (λ b. is_district k.warehouse k.district d && b) (at_end k.order k.line order line)
+    ∙ sym (and_assoc (is_district k.warehouse k.district d) _ _)
   where
-    at_end : (n l : ℕ) → 1 ≤ n → 1 ≤ l → ((nat_le (max 1 (next - RECENT_ORDERS)) n && nat_le (n + 1) next) || ((n == next) && nat_le l 0)) ≡ (nat_le (next - RECENT_ORDERS) n && nat_le (n + 1) next)
+    at_end : (n l : ℕ) → 1 ≤ n → 1 ≤ l
+        → ((nat_le (max 1 (next - RECENT_ORDERS)) n && nat_le (n + 1) next) || ((n == next) && nat_le l 0)) ≡ (nat_le (next - RECENT_ORDERS) n
+        && nat_le (n + 1) next)
     at_end n l one some = grind (arith, nat_tests, one, some)
 
 -- ---- their items
@@ -88,7 +102,8 @@ abbrev one_of : ℕ → List ℕ → Bool
 one_of i items = list_any (λ j. j == i) items
 
 -- an item pushed, if there is one
-one_pushed : (i : ℕ) (items : List ℕ) (w : Option OrderLine) → (one_of i items || option_map_or (λ (r : OrderLine). r.item == i) w false) ≡ one_of i (items ++ option_map_or (λ n. n ∷ []) (option_map (λ (r : OrderLine). r.item) w) [])
+one_pushed : (i : ℕ) (items : List ℕ) (w : Option OrderLine) → (one_of i items || option_map_or (λ (r : OrderLine). r.item == i) w false) ≡ one_of i
+    (items ++ option_map_or (λ n. n ∷ []) (option_map (λ (r : OrderLine). r.item) w) [])
 one_pushed i items None = sym (list_any-append (λ j. j == i) items [])
 one_pushed i items (Some r) = ap (λ b. one_of i items || b) (sym (or-false (r.item == i))) ∙ sym (list_any-append (λ j. j == i) items (r.item ∷ []))
 
@@ -106,7 +121,8 @@ module _ (t0 : Database) (d : DistrictKey) (first : ℕ) where
 
   -- one line more
   pub next_line : (o m : ℕ) (old more : ReadSetView) (items : List ℕ) (item : Option ℕ) → AreItems t0 d first o m old items → Keeps old more
-      → ((t : Database) → IsCandidate t0 more t → option_map (λ r. r.item) (get t.lines (line_key (record { warehouse = d.warehouse; district = d.district; order = o }) (m + 1))) ≡ item)
+      → ((t : Database) → IsCandidate t0 more t
+      → option_map (λ r. r.item) (get t.lines (line_key (record { warehouse = d.warehouse; district = d.district; order = o }) (m + 1))) ≡ item)
       → AreItems t0 d first o (m + 1) more (items ++ option_map_or (λ i. i ∷ []) item [])
   next_line o m old more items item so_far keeps is t h i =
       let k : LineKey = line_key (record { warehouse = d.warehouse; district = d.district; order = o }) (m + 1) in
@@ -116,17 +132,21 @@ module _ (t0 : Database) (d : DistrictKey) (first : ℕ) where
       ∙ ap (λ w. one_of i (items ++ option_map_or (λ n. n ∷ []) w [])) (is t h)
 
   -- an order's last line
-  pub next_first : (o : ℕ) (reads : ReadSetView) (items : List ℕ) → first ≤ o → AreItems t0 d first o MAX_ORDER_LINES reads items → AreItems t0 d first (o + 1) 0 reads items
+  pub next_first : (o : ℕ) (reads : ReadSetView) (items : List ℕ) → first ≤ o → AreItems t0 d first o MAX_ORDER_LINES reads items
+      → AreItems t0 d first (o + 1) 0 reads items
   next_first o reads items low so_far t h i =
-      any_alike exact_line (λ (e : LineKey × OrderLine). is_looked_at d first (o + 1) 0 e.0 && (e.1.item == i)) (λ (e : LineKey × OrderLine). is_looked_at d first o MAX_ORDER_LINES e.0 && (e.1.item == i)) t.lines
+      any_alike exact_line (λ (e : LineKey × OrderLine). is_looked_at d first (o + 1) 0 e.0 && (e.1.item == i))
+      (λ (e : LineKey × OrderLine). is_looked_at d first o MAX_ORDER_LINES e.0 && (e.1.item == i)) t.lines
       (λ k r found. ap (λ b. b && (r.item == i)) (sym (order_more d first o k low (h.well_formed.lines k (ap is_some found)).3)))
       ∙ so_far t h i
 
 -- after the last order
-pub all_sold : (t0 : Database) (d : DistrictKey) (next : ℕ) (reads : ReadSetView) (items : List ℕ) → AreItems t0 d (max 1 (next - RECENT_ORDERS)) next 0 reads items
+pub all_sold : (t0 : Database) (d : DistrictKey) (next : ℕ) (reads : ReadSetView) (items : List ℕ)
+    → AreItems t0 d (max 1 (next - RECENT_ORDERS)) next 0 reads items
     → (t : Database) → IsCandidate t0 reads t → next_order t d ≡ next → (i : ℕ) → is_sold t d i ≡ one_of i items
 all_sold t0 d next reads items all t h is i =
-    any_alike exact_line (λ (e : LineKey × OrderLine). is_recent t d e.0 && (e.1.item == i)) (λ (e : LineKey × OrderLine). is_looked_at d (max 1 (next - RECENT_ORDERS)) next 0 e.0 && (e.1.item == i)) t.lines
+    any_alike exact_line (λ (e : LineKey × OrderLine). is_recent t d e.0 && (e.1.item == i))
+    (λ (e : LineKey × OrderLine). is_looked_at d (max 1 (next - RECENT_ORDERS)) next 0 e.0 && (e.1.item == i)) t.lines
     (λ k r found. let within = h.well_formed.lines k (ap is_some found) in
     ap (λ n. (is_district k.warehouse k.district d && nat_le (n - RECENT_ORDERS) k.order && nat_le (k.order + 1) n) && (r.item == i)) is
     ∙ ap (λ b. b && (r.item == i)) (sym (recent d next k within.2.0 within.3.0)))

@@ -21,7 +21,8 @@ use Rattle.readset.specs.Reads.{ReadSetView}
 use Rattle.readset.specs.Explains.{IsCandidate, NoCandidate}
 
 -- a district's: D_NEXT_O_ID
-module _ (t0 : Database) (reads : ReadSetView) (k : DistrictKey) (value : Option (List ℕ)) (is_key : IsDistrictKey t0.scale k) (read : (t : Database) → IsCandidate t0 reads t → row_at t (key.District k) ≡ value)
+module _ (t0 : Database) (reads : ReadSetView) (k : DistrictKey) (value : Option (List ℕ)) (is_key : IsDistrictKey t0.scale k)
+    (read : (t : Database) → IsCandidate t0 reads t → row_at t (key.District k) ≡ value)
     (result : Option ℕ) (gives : (r : District) → value ≡ Some (district_words r) → IsNumber (t0.scale.orders + 1) r.next_order → result ≡ Some r.next_order)
   where
     next_at : (t : Database) → IsCandidate t0 reads t → result ≡ Some (next_order t k)
@@ -29,7 +30,8 @@ module _ (t0 : Database) (reads : ReadSetView) (k : DistrictKey) (value : Option
         let s : t.scale ≡ t0.scale = h.of_population.scale in
         let r = there (IsDistrictKey t.scale) t.districts h.well_formed.districts k (subst (λ (q : Sizes). IsDistrictKey q k) (sym s) is_key) in
         let next : next_order t k ≡ r.0.next_order = ap (λ (o : Option District). option_map_or (λ r. r.next_order) o 0) r.1 in
-        gives r.0 (sym (read t h) ∙ ap (option_map district_words) r.1) (subst (λ (q : Sizes). IsNumber (q.orders + 1) r.0.next_order) s (h.well_formed.district_rows k r.0 r.1).next_order) ∙ ap Some (sym next)
+        gives r.0 (sym (read t h) ∙ ap (option_map district_words) r.1)
+        (subst (λ (q : Sizes). IsNumber (q.orders + 1) r.0.next_order) s (h.well_formed.district_rows k r.0 r.1).next_order) ∙ ap Some (sym next)
 
     pub next_read : (n : ℕ) → result ≡ Some n → (t : Database) → IsCandidate t0 reads t → next_order t k ≡ n
     next_read n is t h = same_Some _ _ (sym (next_at t h) ∙ is)
@@ -38,11 +40,14 @@ module _ (t0 : Database) (reads : ReadSetView) (k : DistrictKey) (value : Option
     no_next is t h = let e = next_at t h in absurd cc
 
 -- a line's: OL_I_ID, where there is a line
-module _ (t0 : Database) (reads : ReadSetView) (k : LineKey) (value : Option (List ℕ)) (read : (t : Database) → IsCandidate t0 reads t → row_at t (key.OrderLine k) ≡ value)
-    (result : Option (Option ℕ)) (gives : (w : Option OrderLine) → ForSome w (λ r. IsItemKey t0.scale r.item) → value ≡ option_map line_words w → result ≡ Some (option_map (λ r. r.item) w))
+module _ (t0 : Database) (reads : ReadSetView) (k : LineKey) (value : Option (List ℕ))
+    (read : (t : Database) → IsCandidate t0 reads t → row_at t (key.OrderLine k) ≡ value)
+    (result : Option (Option ℕ)) (gives : (w : Option OrderLine) → ForSome w (λ r. IsItemKey t0.scale r.item) → value ≡ option_map line_words w
+    → result ≡ Some (option_map (λ r. r.item) w))
   where
     item_at : (t : Database) → IsCandidate t0 reads t → result ≡ Some (option_map (λ r. r.item) (get t.lines k))
-    item_at t h = gives (get t.lines k) (λ r is. subst (λ (q : Sizes). IsItemKey q r.item) h.of_population.scale (h.well_formed.line_rows k r is).item) (sym (read t h))
+    item_at t h = gives (get t.lines k) (λ r is. subst (λ (q : Sizes). IsItemKey q r.item) h.of_population.scale (h.well_formed.line_rows k r is).item)
+        (sym (read t h))
 
     pub item_read : (o : Option ℕ) → result ≡ Some o → (t : Database) → IsCandidate t0 reads t → option_map (λ r. r.item) (get t.lines k) ≡ o
     item_read o is t h = same_Some _ _ (sym (item_at t h) ∙ is)
@@ -57,13 +62,16 @@ module _ (t0 : Database) (reads : ReadSetView) (k : StockKey) (is_key : IsStockK
       let r = there (IsStockKey t.scale) t.stock h.well_formed.stock k (subst (λ (q : Sizes). IsStockKey q k) (sym h.of_population.scale) is_key) in
       (r.0, r.1, ap (option_map stock_words) r.1)
 
-  low_read : (words : List ℕ) → row_at t (key.Stock k) ≡ Some words → (threshold : ℕ) → is_low t k.warehouse threshold k.item ≡ nat_le (slice_index words 0 + 1) threshold
+  low_read : (words : List ℕ) → row_at t (key.Stock k) ≡ Some words → (threshold : ℕ)
+      → is_low t k.warehouse threshold k.item ≡ nat_le (slice_index words 0 + 1) threshold
   low_read words is threshold =
       let same : words ≡ stock_words stock_at.0 = same_Some _ _ (sym is ∙ stock_at.2) in
-      ap (λ (o : Option Stock). option_map_or (λ r. nat_le (r.quantity + 1) threshold) o false) stock_at.1 ∙ ap (λ (ws : List ℕ). nat_le (slice_index ws 0 + 1) threshold) (sym same)
+      ap (λ (o : Option Stock). option_map_or (λ r. nat_le (r.quantity + 1) threshold) o false) stock_at.1
+      ∙ ap (λ (ws : List ℕ). nat_le (slice_index ws 0 + 1) threshold) (sym same)
 
   -- what it counts for, where it wasn't read before
-  pub first_counted : (words : List ℕ) → row_at t (key.Stock k) ≡ Some words → (threshold : ℕ) (was low : Bool) → was ≡ false → nat_le (slice_index words 0 + 1) threshold ≡ low
+  pub first_counted : (words : List ℕ) → row_at t (key.Stock k) ≡ Some words → (threshold : ℕ) (was low : Bool) → was ≡ false
+      → nat_le (slice_index words 0 + 1) threshold ≡ low
       → ◌≡◌ {A = ℕ} (cond was 0 (cond (is_low t k.warehouse threshold k.item) 1 0)) (cond low 1 0)
   first_counted words is threshold was low fresh counts = λ i. cond (fresh i) 0 (cond ((low_read words is threshold ∙ counts) i) 1 0)
 

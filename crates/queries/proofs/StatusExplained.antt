@@ -20,7 +20,8 @@ use Rattle.readset.specs.Reads.{ReadSetView}
 use Rattle.readset.specs.Writes.{no_writes}
 use Rattle.readset.specs.Explains.{IsCandidate, Explains}
 
-module _ (t0 : Database) (x : OrderStatusInput) (k : CustomerKey) (same : k ≡ asked x (asked_number t0 x)) (reads : ReadSetView) (balance : ℤ) (number : ℕ) (order : Option LastOrder) where
+module _ (t0 : Database) (x : OrderStatusInput) (k : CustomerKey) (same : k ≡ asked x (asked_number t0 x)) (reads : ReadSetView) (balance : ℤ) (number : ℕ)
+    (order : Option LastOrder) where
   -- the order of this number in the customer's district
   abbrev of_number : ℕ → OrderKey
   of_number n = record { warehouse = x.warehouse; district = x.district; order = n }
@@ -34,9 +35,12 @@ module _ (t0 : Database) (x : OrderStatusInput) (k : CustomerKey) (same : k ≡ 
     where
       replies : (t : Database) → IsCandidate t0 reads t → order_status_reply t x ≡ told
       replies t h =
-          let at : asked x (asked_number t x) ≡ k = ap (asked x) (same_number t0 t (record { warehouse = x.warehouse; district = x.district }) x.who h.of_population) ∙ sym same in
-          let amount : column (λ r. r.balance) t.customers (asked x (asked_number t x)) ≡ balance = ap (column (λ r. r.balance) t.customers) at ∙ balance_is t h in
-          let found : option_map (told_of t (of_number (last t (asked x (asked_number t x))))) (get t.orders (of_number (last t (asked x (asked_number t x))))) ≡ order =
+          let at : asked x (asked_number t x) ≡ k =
+          ap (asked x) (same_number t0 t (record { warehouse = x.warehouse; district = x.district }) x.who h.of_population) ∙ sym same in
+          let amount : column (λ r. r.balance) t.customers (asked x (asked_number t x)) ≡ balance = ap (column (λ r. r.balance) t.customers) at
+          ∙ balance_is t h in
+          let found : option_map (told_of t (of_number (last t (asked x (asked_number t x))))) (get t.orders (of_number (last t (asked x (asked_number t x)))))
+          ≡ order =
           ap (λ n. option_map (told_of t (of_number n)) (get t.orders (of_number n))) (ap (last t) at ∙ last_is t h) ∙ order_is t h in
           λ i. record { warehouse = x.warehouse; district = x.district; customer = (at i).customer; balance = amount i; order = found i }
 

@@ -22,11 +22,13 @@ module _ (t : Database) (k : OrderKey) where
       go None e = refl
       go (Some r) e = absurd cc
 
-  pub order_told : (order : OrderColumns) (lines : List OrderLine) → IsWellFormed t → option_map columns_of (get t.orders k) ≡ Some order → lines_up_to t k order.line_count ≡ lines
+  pub order_told : (order : OrderColumns) (lines : List OrderLine) → IsWellFormed t → option_map columns_of (get t.orders k) ≡ Some order
+      → lines_up_to t k order.line_count ≡ lines
       → option_map (told_of t k) (get t.orders k) ≡ Some (record { order = k.order; entry_date = order.entry_date; carrier = order.carrier; lines = lines })
   order_told order lines wf columns is = go (get t.orders k) refl columns
     where
-      go : (w : Option Order) → get t.orders k ≡ w → option_map columns_of w ≡ Some order → option_map (told_of t k) w ≡ Some (record { order = k.order; entry_date = order.entry_date; carrier = order.carrier; lines = lines })
+      go : (w : Option Order) → get t.orders k ≡ w → option_map columns_of w ≡ Some order
+          → option_map (told_of t k) w ≡ Some (record { order = k.order; entry_date = order.entry_date; carrier = order.carrier; lines = lines })
       go None found e = absurd cc
       go (Some r) found e =
           let same : columns_of r ≡ order = same_Some _ _ e in

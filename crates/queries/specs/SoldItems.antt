@@ -22,13 +22,16 @@ home_of k = record { warehouse = k.warehouse; district = k.district }
 
 -- whether a line is of a district's orders from the first on and before order o, or one of the first m of order o
 abbrev pub is_looked_at : DistrictKey → ℕ → ℕ → ℕ → LineKey → Bool
-is_looked_at d first o m k = is_district k.warehouse k.district d && ((nat_le first k.order && nat_le (k.order + 1) o) || ((k.order == o) && nat_le k.line m))
+is_looked_at d first o m k = is_district k.warehouse k.district d
+    && ((nat_le first k.order && nat_le (k.order + 1) o) || ((k.order == o) && nat_le k.line m))
 
 -- these are the items of those lines, at all tables at which the transaction may have read
 abbrev pub AreItems : Database → DistrictKey → ℕ → ℕ → ℕ → ReadSetView → List ℕ → Type 0
 AreItems t0 d first o m reads items = (t : Database) → IsCandidate t0 reads t → (i : ℕ)
-    → list_any (λ (e : LineKey × OrderLine). is_looked_at d first o m e.0 && (e.1.item == i)) (entries t.lines) ≡ list_any (λ j. j == i) items
+    → list_any (λ (e : LineKey × OrderLine). is_looked_at d first o m e.0 && (e.1.item == i))
+    (entries t.lines) ≡ list_any (λ j. j == i) items
 
 -- as much of STOCK is read as before
 abbrev pub SameStock : Sizes → TransactionView → TransactionView → Type 0
-SameStock s old new = (k : StockKey) → IsStockKey s k → held new.reads (number_of_key s (key.Stock k)) ≡ held old.reads (number_of_key s (key.Stock k))
+SameStock s old new = (k : StockKey) → IsStockKey s k → held new.reads (number_of_key s (key.Stock k)) ≡ held old.reads
+    (number_of_key s (key.Stock k))

@@ -46,7 +46,9 @@ pub fn stock_level<R: Wait>(
     requires cells { length cells.now ≡ record_count (initial population.now).scale }
     ensures input { IfOk result (λ work. work.input ≡ input_variants.StockLevel query.now) }
     ensures read { IfOk result (λ work. AreRead reader.old reader.new work.reads) }
-    ensures explains { IfOk result (λ work. Explains (initial population.now) (input_variants.StockLevel query.now) work.reads work.writes work.reply) }
+    ensures explains { IfOk result
+        (λ work. Explains (initial population.now) (input_variants.StockLevel query.now) work.reads work.writes
+        work.reply) }
     ensures limits { IfOk result (λ work. IsWithinLimits (length cells.now) work.reads work.writes) }
     ensures grown { HasGrown reader.old reader.new }
     ensures refused { IfErr result (λ refusal. (refusal ≡ OutOfMemory) ⊎

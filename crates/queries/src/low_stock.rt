@@ -30,7 +30,8 @@ pub(crate) fn count_low<R: Wait, K: Start>(
     requires no_stock { (i : ℕ) → IsItemKey K.tables.scale i
         → held transaction.old.reads (stock_number K.tables.scale query.now i) ≡ None }
     ensures low { Finds K.tables transaction.new result (λ low t.
-        length (filter (λ i. list_any (λ j. j == i) items.now && is_low t query.now.warehouse query.now.threshold i) (range_with_len 1 K.tables.scale.items)) ≡ low) }
+        length (filter (λ i. list_any (λ j. j == i) items.now && is_low t query.now.warehouse query.now.threshold i)
+        (range_with_len 1 K.tables.scale.items)) ≡ low) }
     ensures reads { ReadsMore (length items.now) transaction.old transaction.new }
 {
     let mut low = 0;

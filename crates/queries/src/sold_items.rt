@@ -1,5 +1,6 @@
 //! The items of a district's last orders, on record cells (TPC-C 2.8.2.2).
-ghost use Rattle.std.specs.Prelude.{◌≡◌, ◌+◌, ◌-◌, ◌*◌, ◌≤◌, ℕ, max, [], ◌∷◌, ◌++◌, length, Option, Some, IfSome, IfOk, IfErr, OnOk, ◌==◌, All};
+ghost use Rattle.std.specs.Prelude.{◌≡◌, ◌+◌, ◌-◌, ◌*◌, ◌≤◌, ℕ, max, [], ◌∷◌, ◌++◌, length, Option, Some, IfSome, IfOk};
+ghost use Rattle.std.specs.Prelude.{IfErr, OnOk, ◌==◌, All};
 ghost use Rattle.std.specs.List.{list_any};
 ghost use Rattle.std.specs.Option.{ForSome, option_map, option_map_or};
 ghost use Rattle.std.specs.FinMap.{get};
@@ -111,7 +112,8 @@ fn order_items<R: Wait, K: Start>(
     requires order { IsOrderKey K.tables.scale order }
     ensures sold { (first : ℕ) → first ≤ order.order
         → AreItems K.tables (home_of order) first order.order 0 transaction.old.reads items.old.items
-        → OnOk result (AreItems K.tables (home_of order) first (order.order + 1) 0 transaction.new.reads items.new.items) }
+        → OnOk result (AreItems K.tables (home_of order) first (order.order + 1) 0 transaction.new.reads
+        items.new.items) }
     ensures items { All (IsItemKey K.tables.scale) items.old.items
         → All (IsItemKey K.tables.scale) items.new.items }
     ensures count { length items.new.items ≤ length items.old.items + MAX_ORDER_LINES }

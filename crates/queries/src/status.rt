@@ -47,7 +47,9 @@ pub fn order_status<R: Wait>(
     requires cells { length cells.now ≡ record_count (initial population.now).scale }
     ensures input { IfOk result (λ work. work.input ≡ input_variants.OrderStatus query.now) }
     ensures read { IfOk result (λ work. AreRead reader.old reader.new work.reads) }
-    ensures explains { IfOk result (λ work. Explains (initial population.now) (input_variants.OrderStatus query.now) work.reads work.writes work.reply) }
+    ensures explains { IfOk result
+        (λ work. Explains (initial population.now) (input_variants.OrderStatus query.now) work.reads work.writes
+        work.reply) }
     ensures limits { IfOk result (λ work. IsWithinLimits (length cells.now) work.reads work.writes) }
     ensures grown { HasGrown reader.old reader.new }
     ensures refused { IfErr result (λ refusal. (refusal ≡ OutOfMemory) ⊎

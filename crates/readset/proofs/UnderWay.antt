@@ -95,7 +95,8 @@ reads_twice x y z first then most a b within = record {
 }
 
 -- tables at which it may have read after a step are such before it
-pub candidate_still : (t0 : Database) (x y : TransactionView) (most : ℕ) → ReadsMore most x y → (t : Database) → IsCandidate t0 y.reads t → IsCandidate t0 x.reads t
+pub candidate_still : (t0 : Database) (x y : TransactionView) (most : ℕ) → ReadsMore most x y → (t : Database) → IsCandidate t0 y.reads t
+    → IsCandidate t0 x.reads t
 candidate_still t0 x y most more t h = candidate_before t0 x.reads y.reads t more.keeps h
 
 pub goes_on : (reads writes : ℕ) (x y : TransactionView) → ReadsMore reads x y → GoesOn reads writes x y

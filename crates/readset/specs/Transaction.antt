@@ -60,7 +60,8 @@ Finds t0 x (Err refusal) P = IsStepRefusal t0 x refusal
 -- may have read
 abbrev pub IsReadRefusal : Database → ReaderView → ReaderView → Refusal → Type 0
 IsReadRefusal t0 old new refusal =
-    (refusal ≡ OutOfMemory) ⊎ ((refusal ≡ Stale) × ((reads : ReadSetView) × AreRead old new reads × NoCandidate t0 reads))
+    (refusal ≡ OutOfMemory) ⊎ ((refusal ≡ Stale)
+    × ((reads : ReadSetView) × AreRead old new reads × NoCandidate t0 reads))
 
 -- an execution of this input, from one state of its reader to another
 pub record IsExecuted (t0 : Database) (x : Input) (old new : ReaderView) (result : Result Work Refusal) : Type 0 where

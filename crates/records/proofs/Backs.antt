@@ -37,7 +37,8 @@ warehouse_back first r tax range = λ i. record { tax = tax i; year_to_date = mo
 pub district_back : (s : Sizes) (first r : District) → first.tax ≡ r.tax → IsDistrictRow s r → district_of first (district_words r) ≡ r
 district_back s first r tax range = λ i. record { tax = tax i; year_to_date = money_back r.year_to_date range.year_to_date i; next_order = r.next_order }
 
-pub customer_back : (first r : Customer) → first.first_name ≡ r.first_name → first.last_name ≡ r.last_name → first.credit ≡ r.credit → first.discount ≡ r.discount → IsCustomerRow r → customer_of first (customer_words r) ≡ r
+pub customer_back : (first r : Customer) → first.first_name ≡ r.first_name → first.last_name ≡ r.last_name → first.credit ≡ r.credit
+    → first.discount ≡ r.discount → IsCustomerRow r → customer_of first (customer_words r) ≡ r
 customer_back first r first_name last_name credit discount range = λ i. record {
   first_name = first_name i;
   last_name = last_name i;

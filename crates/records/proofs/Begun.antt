@@ -1,5 +1,6 @@
 -- What a pass over a table's entries leaves of newest versions.
-use Rattle.std.proofs.Common.{◌≡◌, ◌≢◌, ℕ, ◌<◌, ◌==◌, true, false, cond, Option, Some, List, [], ◌∷◌, length, get_or, set, refl, sym, ap, ◌∙◌, arith, length-set, get_or-set_other}
+use Rattle.std.proofs.Common.{◌≡◌, ◌≢◌, ℕ, ◌<◌, ◌==◌, true, false, cond, Option, Some, List, [], ◌∷◌, length, get_or, set, refl, sym, ap, ◌∙◌, arith}
+use Rattle.std.proofs.Common.{length-set, get_or-set_other}
 use Rattle.std.specs.List.{fold}
 use Rattle.std.specs.Option.{option_map_or}
 use Rattle.std.proofs.lemmas.Bool.Decides.{nat_tests}
@@ -25,26 +26,31 @@ written xs i n v hi hn =
     ap words_in (slice_get-get_or (set xs i v) n v longer)
     ∙ (elim (n == i) as (λ b. (n == i) ≡ b → words_in (Some (get_or (set xs i v) n v)) ≡ cond b (newest_words v) (words_at xs n)) [
       | true ↦ λ t. let same : n ≡ i = grind (arith, nat_tests) in ap newest_words (get_or-set_at xs i n v v same hi)
-      | false ↦ λ t. let other : n ≢ i = grind (arith, nat_tests) in ap newest_words (get_or-set_other xs i n v v other) ∙ ap words_in (sym (slice_get-get_or xs n v hn))
+      | false ↦ λ t. let other : n ≢ i = grind (arith, nat_tests) in ap newest_words (get_or-set_other xs i n v v other)
+          ∙ ap words_in (sym (slice_get-get_or xs n v hn))
     ] refl)
 
 -- one entry more
 module _ {K X : Type 0} (s : Sizes) (record_of : K → X → RecordKey) (words_of : List ℕ → K → X → List ℕ) (n : ℕ) where
-  pub one_begun : (xs : List Newest) (i : ℕ) (k : K) (r : X) (v before : Newest) → i < length xs → n < length xs → i ≡ number_of_key s (record_of k r) → before ≡ get_or xs i before
+  pub one_begun : (xs : List Newest) (i : ℕ) (k : K) (r : X) (v before : Newest) → i < length xs → n < length xs → i ≡ number_of_key s (record_of k r)
+      → before ≡ get_or xs i before
       → newest_words v ≡ populated_word ∷ words_of before.payload k r → words_at (set xs i v) n ≡ begun_by s record_of words_of n (words_at xs n) (k, r)
   unfolding words_in
   one_begun xs i k r v before hi hn number was is =
       written xs i n v hi hn
-      ∙ (elim (n == i) as (λ b. (n == i) ≡ b → cond b (newest_words v) (words_at xs n) ≡ cond b (populated_word ∷ words_of (data_of (words_at xs n)) k r) (words_at xs n)) [
+      ∙ (elim (n == i) as (λ b. (n == i) ≡ b → cond b (newest_words v) (words_at xs n) ≡ cond b (populated_word ∷ words_of (data_of (words_at xs n)) k r)
+      (words_at xs n)) [
         | true ↦ λ t.
             let same : n ≡ i = grind (arith, nat_tests) in
-            let held : words_at xs n ≡ newest_words before = ap (words_at xs) same ∙ ap words_in (slice_get-get_or xs i before hi) ∙ ap newest_words (sym was) in
+            let held : words_at xs n ≡ newest_words before = ap (words_at xs) same ∙ ap words_in (slice_get-get_or xs i before hi)
+            ∙ ap newest_words (sym was) in
             is ∙ ap (λ (ws : List ℕ). populated_word ∷ words_of ws k r) (sym (ap data_of held))
         | false ↦ λ t. refl
       ] refl)
       ∙ ap (λ m. cond (n == m) (populated_word ∷ words_of (data_of (words_at xs n)) k r) (words_at xs n)) number
 
-  pub more_begun : (xs : List Newest) (i : ℕ) (k : K) (r : X) (v before : Newest) (left rest : List (K × X)) (all : List ℕ) → i < length xs → n < length xs → i ≡ number_of_key s (record_of k r) → before ≡ get_or xs i before
+  pub more_begun : (xs : List Newest) (i : ℕ) (k : K) (r : X) (v before : Newest) (left rest : List (K × X)) (all : List ℕ) → i < length xs → n < length xs
+      → i ≡ number_of_key s (record_of k r) → before ≡ get_or xs i before
       → newest_words v ≡ populated_word ∷ words_of before.payload k r → left ≡ (k, r) ∷ rest → fold (begun_by s record_of words_of n) (words_at xs n) left ≡ all
       → fold (begun_by s record_of words_of n) (words_at (set xs i v) n) rest ≡ all
   more_begun xs i k r v before left rest all hi hn number was is next so_far =

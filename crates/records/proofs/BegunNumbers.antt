@@ -1,5 +1,7 @@
 -- The index records have begun: OLDEST and LAST by the numbers of the orders.
-use Rattle.std.proofs.Common.{◌≡◌, ℕ, ◌<◌, ◌≤◌, min, max, Bool, true, false, cond, Option, Some, None, IsSome, List, [], ◌∷◌, map, length, refl, sym, ap, ◌∙◌, subst, arith}
+use Rattle.std.proofs.Common.{◌≡◌, ℕ, ◌<◌, ◌≤◌, min, max, Bool, true, false, cond, Option, Some, None, IsSome, List, [], ◌∷◌, map, length, refl, sym}
+use Rattle.std.proofs.Common.{ap, ◌∙◌}
+use Rattle.std.proofs.Common.{subst, arith}
 use Rattle.std.specs.List.{AllByRecursion, fold, filter}
 use Rattle.std.specs.Option.{option_map, option_map_or}
 use Rattle.std.specs.Prelude.{slice_index, unwrap_or}
@@ -59,7 +61,8 @@ least_below (n ∷ ns) x e = subst (λ y. y ≤ greatest (n ∷ ns)) (same_Some 
 pub oldest_is : (t : Database) (k : DistrictKey) → Condition2At t k → fold min (next_order t k) (numbers_in k t.new_orders) ≡ oldest t k
 oldest_is t k h = fold-min (next_order t k) (numbers_in k t.new_orders) ∙ of_least (least (numbers_in k t.new_orders)) refl
   where
-    of_least : (o : Option ℕ) → least (numbers_in k t.new_orders) ≡ o → option_map_or (min (next_order t k)) o (next_order t k) ≡ unwrap_or o (next_order t k)
+    of_least : (o : Option ℕ) → least (numbers_in k t.new_orders) ≡ o → option_map_or (min (next_order t k)) o (next_order t k) ≡ unwrap_or o
+        (next_order t k)
     of_least None e = refl
     of_least (Some x) e = omega (arith, least_below (numbers_in k t.new_orders) x e, h.1 x e)
 
@@ -74,7 +77,8 @@ before_orders t (key.Last k) = option_map (λ r. number_words 0) (get t.customer
 before_orders t k = None
 
 -- records of one table, each with the number of a row
-pub number_of_row : {X : Type 0} (f : X → ℕ) (r : Option X) → IsSome r → first_version (option_map (λ x. number_words (f x)) r) ≡ populated_word ∷ number_words (option_map_or f r 0)
+pub number_of_row : {X : Type 0} (f : X → ℕ) (r : Option X) → IsSome r → first_version (option_map (λ x. number_words (f x)) r) ≡ populated_word
+    ∷ number_words (option_map_or f r 0)
 number_of_row f None some = cc
 number_of_row f (Some r) some = refl
 
@@ -82,42 +86,55 @@ pub zero_of_row : {X : Type 0} (r : Option X) → IsSome r → first_version (op
 zero_of_row None some = cc
 zero_of_row (Some r) some = refl
 
-module _ {s : Sizes} {K X : Type 0} {R : K → K → Ordering} {t : Table} {c : K → RecordKey} (kind : IsKind s R t c) (group : OrderKey → X → K) (f : ℕ → ℕ → ℕ) where
-  abbrev number_begins : ℕ → List ℕ → OrderKey × X → List ℕ
-  number_begins n = begun_by s (λ (k : OrderKey) (r : X). c (group k r)) (λ ws k r. number_words (f (slice_index ws 0) k.order)) n
+module _ {s : Sizes} {K X : Type 0} {R : K → K → Ordering} {t : Table} {c : K → RecordKey} (kind : IsKind s R t c) (group : OrderKey → X → K)
+    (f : ℕ → ℕ → ℕ)
+  where
+    abbrev number_begins : ℕ → List ℕ → OrderKey × X → List ℕ
+    number_begins n = begun_by s (λ (k : OrderKey) (r : X). c (group k r)) (λ ws k r. number_words (f (slice_index ws 0) k.order)) n
 
-  -- the orders of one record, in their turn
-  numbers_begun : (p : OrderKey × X → Bool) (k : K) → IsRecordKey s (c k) → ((e : OrderKey × X) → p e ≡ eq_by_cmp R (group e.0 e.1) k) → (es : List (OrderKey × X)) → AllByRecursion (λ e. IsRecordKey s (c (group e.0 e.1))) es → (m : ℕ)
-      → fold (number_begins (number_of_key s (c k))) (populated_word ∷ number_words m) es ≡ populated_word ∷ number_words (fold f m (map (λ (e : OrderKey × X). e.0.order) (filter p es)))
-  numbers_begun p k h is [] keys m = refl
-  numbers_begun p k h is (e ∷ es) keys m =
-      ap (λ b. fold (number_begins (number_of_key s (c k))) (cond b (populated_word ∷ number_words (f m e.0.order)) (populated_word ∷ number_words m)) es)
-      (same_number kind k (group e.0 e.1) h keys.0 ∙ sym (is e ∙ (eq_by_cmp_equiv kind.exact.total).symm (group e.0 e.1) k))
-      ∙ (elim (p e) as (λ b. fold (number_begins (number_of_key s (c k))) (cond b (populated_word ∷ number_words (f m e.0.order)) (populated_word ∷ number_words m)) es
-      ≡ populated_word ∷ number_words (fold f m (map (λ (e : OrderKey × X). e.0.order) (cond b (e ∷ filter p es) (filter p es))))) [
-        | true ↦ numbers_begun p k h is es keys.1 (f m e.0.order)
-        | false ↦ numbers_begun p k h is es keys.1 m
-      ])
+    -- the orders of one record, in their turn
+    numbers_begun : (p : OrderKey × X → Bool) (k : K) → IsRecordKey s (c k) → ((e : OrderKey × X) → p e ≡ eq_by_cmp R (group e.0 e.1) k)
+        → (es : List (OrderKey × X)) → AllByRecursion (λ e. IsRecordKey s (c (group e.0 e.1))) es → (m : ℕ)
+        → fold (number_begins (number_of_key s (c k))) (populated_word ∷ number_words m) es ≡ populated_word
+        ∷ number_words (fold f m (map (λ (e : OrderKey × X). e.0.order) (filter p es)))
+    numbers_begun p k h is [] keys m = refl
+    numbers_begun p k h is (e ∷ es) keys m =
+        ap (λ b. fold (number_begins (number_of_key s (c k))) (cond b (populated_word ∷ number_words (f m e.0.order)) (populated_word ∷ number_words m))
+        es)
+        (same_number kind k (group e.0 e.1) h keys.0 ∙ sym (is e ∙ (eq_by_cmp_equiv kind.exact.total).symm (group e.0 e.1) k))
+        ∙ (elim (p e) as (λ b. fold (number_begins (number_of_key s (c k)))
+        (cond b (populated_word ∷ number_words (f m e.0.order)) (populated_word ∷ number_words m)) es
+        ≡ populated_word ∷ number_words (fold f m (map (λ (e : OrderKey × X). e.0.order) (cond b (e ∷ filter p es) (filter p es))))) [
+          | true ↦ numbers_begun p k h is es keys.1 (f m e.0.order)
+          | false ↦ numbers_begun p k h is es keys.1 m
+        ])
 
-  -- a pass over their table
-  pub orders_begun : (p : K → OrderKey × X → Bool) → ((k : K) (e : OrderKey × X) → p k e ≡ eq_by_cmp R (group e.0 e.1) k)
-      → (m : BTreeMap OrderKey X) → EachRow (λ k r. IsRecordKey s (c (group k r))) (from_entries {R = order_cmp} m.entries) → (first : K → ℕ) (value : RecordKey → Option (List ℕ)) {values : RecordKey → Option (List ℕ)} {old : List Newest} → AreBegun s values old
-      → ((k : K) → IsRecordKey s (c k) → first_version (values (c k)) ≡ populated_word ∷ number_words (first k))
-      → ((k : K) → IsRecordKey s (c k) → value (c k) ≡ Some (number_words (fold f (first k) (order_numbers (p k) (from_entries {R = order_cmp} m.entries)))))
-      → (new : List Newest) → tree.IsOrdered order_cmp m → length new ≡ length old → ((n : ℕ) → n < length old → words_at new n ≡ fold (number_begins n) (words_at old n) m.entries) → AreBegun s (with_table t value values) new
-  orders_begun p of_key m keys first value {values} {old} a before after new ordered long now =
-      let within = each_entry exact_order.total (λ (k : OrderKey) (r : X). IsRecordKey s (c (group k r))) m ordered keys in
-      table_begun s (λ (k : OrderKey) (r : X). c (group k r)) (λ ws k r. number_words (f (slice_index ws 0) k.order)) t (λ k r. kind.own (group k r)) m.entries within values value old new
-      (of_kind kind (λ j. fold (number_begins (number_of_key s j)) (first_version (values j)) m.entries ≡ first_version (value j)) (λ k h.
-      ap (λ (w : List ℕ). fold (number_begins (number_of_key s (c k))) w m.entries) (before k h)
-      ∙ numbers_begun (p k) k h (of_key k) m.entries within (first k)
-      ∙ ap (λ (es : List (OrderKey × X)). populated_word ∷ number_words (fold f (first k) (map (λ (e : OrderKey × X). e.0.order) (filter (p k) es)))) (sym (entries-view exact_order m ordered))
-      ∙ ap first_version (sym (after k h))))
-      long now a
+    -- a pass over their table
+    pub orders_begun : (p : K → OrderKey × X → Bool) → ((k : K) (e : OrderKey × X) → p k e ≡ eq_by_cmp R (group e.0 e.1) k)
+        → (m : BTreeMap OrderKey X) → EachRow (λ k r. IsRecordKey s (c (group k r))) (from_entries {R = order_cmp} m.entries)
+        → (first : K → ℕ) (value : RecordKey → Option (List ℕ)) {values : RecordKey → Option (List ℕ)} {old : List Newest} → AreBegun s values old
+        → ((k : K) → IsRecordKey s (c k) → first_version (values (c k)) ≡ populated_word ∷ number_words (first k))
+        → ((k : K) → IsRecordKey s (c k)
+        → value (c k) ≡ Some (number_words (fold f (first k) (order_numbers (p k) (from_entries {R = order_cmp} m.entries)))))
+        → (new : List Newest) → tree.IsOrdered order_cmp m → length new ≡ length old
+        → ((n : ℕ) → n < length old → words_at new n ≡ fold (number_begins n) (words_at old n) m.entries) → AreBegun s (with_table t value values) new
+    orders_begun p of_key m keys first value {values} {old} a before after new ordered long now =
+        let within = each_entry exact_order.total (λ (k : OrderKey) (r : X). IsRecordKey s (c (group k r))) m ordered keys in
+        table_begun s (λ (k : OrderKey) (r : X). c (group k r)) (λ ws k r. number_words (f (slice_index ws 0) k.order)) t (λ k r. kind.own (group k r))
+        m.entries
+        within values value old new
+        (of_kind kind (λ j. fold (number_begins (number_of_key s j)) (first_version (values j)) m.entries ≡ first_version (value j)) (λ k h.
+        ap (λ (w : List ℕ). fold (number_begins (number_of_key s (c k))) w m.entries) (before k h)
+        ∙ numbers_begun (p k) k h (of_key k) m.entries within (first k)
+        ∙ ap (λ (es : List (OrderKey × X)). populated_word ∷ number_words (fold f (first k) (map (λ (e : OrderKey × X). e.0.order) (filter (p k) es))))
+        (sym (entries-view exact_order m ordered))
+        ∙ ap first_version (sym (after k h))))
+        long now a
 
 -- each of the two in its turn
 pub all_numbers : (t : Database) (newest : List Newest)
-    → AreBegun t.scale (with_table table.Last (row_at t) (with_table table.Last (before_orders t) (with_table table.Oldest (row_at t) (with_table table.Oldest (before_orders t) (rows_alone t))))) newest
+    → AreBegun t.scale (with_table table.Last (row_at t)
+    (with_table table.Last (before_orders t) (with_table table.Oldest (row_at t) (with_table table.Oldest (before_orders t) (rows_alone t))))) newest
     → AreBegun t.scale (row_at t) newest
 all_numbers t newest a = record { count = a.count; words = words }
   where

@@ -26,7 +26,11 @@ module _ {K X : Type 0} {R : K → K → Ordering} (IsKey : K → Type 0) (m : F
 
 -- each table in its turn
 pub all_rows : (t : Database) (newest : List Newest)
-    → AreBegun t.scale (with_table table.Stock (row_at t) (with_table table.OrderLine (row_at t) (with_table table.Order (row_at t) (with_table table.NewOrder (row_at t) (with_table table.Customer (row_at t) (with_table table.District (row_at t) (with_table table.Warehouse (row_at t) (λ k. None)))))))) newest
+    → AreBegun t.scale (with_table table.Stock (row_at t)
+    (with_table table.OrderLine (row_at t)
+    (with_table table.Order (row_at t)
+    (with_table table.NewOrder (row_at t)
+    (with_table table.Customer (row_at t) (with_table table.District (row_at t) (with_table table.Warehouse (row_at t) (λ k. None)))))))) newest
     → AreBegun t.scale (rows_alone t) newest
 all_rows t newest a = record { count = a.count; words = words }
   where

@@ -1,5 +1,6 @@
 -- Tables that are built record by record: the records below a number hold their values, and the others nothing yet.
-use Rattle.std.proofs.Common.{◌≡◌, ◌≢◌, ℕ, ◌+◌, ◌<◌, ◌≤◌, nat_lt, cond, IsSome, List, [], length, get_or, Option, Some, None, true≢false, refl, sym, ap, ◌∙◌, subst, arith}
+use Rattle.std.proofs.Common.{◌≡◌, ◌≢◌, ℕ, ◌+◌, ◌<◌, ◌≤◌, nat_lt, cond, IsSome, List, [], length, get_or, Option, Some, None, true≢false, refl, sym, ap, ◌∙◌}
+use Rattle.std.proofs.Common.{subst, arith}
 use Rattle.std.specs.Option.{option_map, option_map_or}
 use Rattle.std.specs.FinMap.{empty, get-empty}
 use Rattle.std.specs.declared.cmp.Ordering.{Ordering}
@@ -7,7 +8,8 @@ use Rattle.std.proofs.lemmas.Option.{none-some, slice_get_read}
 use Rattle.std.proofs.lemmas.Bool.Decides.{nat_tests}
 use Rattle.std.specs.Ordering.{nat_cmp}
 use Rattle.tables.specs.Sizes.{Sizes}
-use Rattle.tables.specs.Keys.{IsWarehouseKey, IsDistrictKey, IsCustomerKey, IsOrderKey, IsLineKey, IsStockKey, district_cmp, customer_cmp, order_cmp, line_cmp, stock_cmp}
+use Rattle.tables.specs.Keys.{IsWarehouseKey, IsDistrictKey, IsCustomerKey, IsOrderKey, IsLineKey, IsStockKey, district_cmp, customer_cmp, order_cmp, line_cmp}
+use Rattle.tables.specs.Keys.{stock_cmp}
 use Rattle.tables.specs.WellFormed.{IsLineRow, IsStockRow}
 use Rattle.tables.specs.Database.{Database, empty_database}
 use Rattle.tables.specs.Records.{record_count, number_of_key, key_of, IsRecordKey, IsRowKey}
@@ -42,7 +44,8 @@ below_absent : (values : ℕ → Option (List ℕ)) (end n : ℕ) → values end
 below_absent values end n h = grind (arith, nat_tests)
 
 -- tables of values that are the same at the rows' records
-agreeing : (t0 t : Database) (values more : RecordKey → Option (List ℕ)) → ((k : RecordKey) → IsRecordKey t0.scale k → IsRowKey k → more k ≡ values k) → AreTables t0 values t → AreTables t0 more t
+agreeing : (t0 t : Database) (values more : RecordKey → Option (List ℕ)) → ((k : RecordKey) → IsRecordKey t0.scale k → IsRowKey k → more k ≡ values k)
+    → AreTables t0 values t → AreTables t0 more t
 agreeing t0 t values more same a = let s = t0.scale in record {
   scale = a.scale;
   items = a.items;
@@ -56,7 +59,8 @@ agreeing t0 t values more same a = let s = t0.scale in record {
 }
 
 -- a table without rows
-no_rows : {K X : Type 0} (R : K → K → Ordering) (IsKey : K → Type 0) (IsIn : K → X → Type 0) (words : X → List ℕ) → IsTableOf IsKey IsIn words (λ k. None) (empty {X = X} {R = R})
+no_rows : {K X : Type 0} (R : K → K → Ordering) (IsKey : K → Type 0) (IsIn : K → X → Type 0) (words : X → List ℕ)
+    → IsTableOf IsKey IsIn words (λ k. None) (empty {X = X} {R = R})
 no_rows R IsKey IsIn words = record {
   within = λ k some. absurd (true≢false (sym (subst IsSome (get-empty R k) some)));
   each = λ k r e. absurd (none-some r (sym (get-empty R k) ∙ e));
@@ -81,15 +85,19 @@ module _ (t0 : Database) (values : ℕ → Option (List ℕ)) where
   begins t = agreeing t0 t _ _ (λ k is row. below_zero values (number_of_key t0.scale k))
 
   -- the next record is put
-  pub goes_on : (old new : Database) (n : ℕ) (words : List ℕ) → n < record_count t0.scale → values n ≡ Some words → Puts t0 (key_of t0.scale n) (Some words) old new → AreTables t0 (by_key t0.scale (below n values)) old → AreTables t0 (by_key t0.scale (below (n + 1) values)) new
+  pub goes_on : (old new : Database) (n : ℕ) (words : List ℕ) → n < record_count t0.scale → values n ≡ Some words
+      → Puts t0 (key_of t0.scale n) (Some words) old new → AreTables t0 (by_key t0.scale (below n values)) old
+      → AreTables t0 (by_key t0.scale (below (n + 1) values)) new
   goes_on old new n words h is puts a =
       let s = t0.scale in
       let at : number_of_key s (key_of s n) ≡ n = (numbered s n h).1 in
       let here = ap (below (n + 1) values) at ∙ (below_there values (n + 1) n (omega arith) ∙ is) in
-      puts.tables _ (by_key s (below (n + 1) values)) here (λ j is_key other. below_other values n (number_of_key s j) (λ e. other (sym (named s j is_key).1 ∙ ap (key_of s) e))) a
+      puts.tables _ (by_key s (below (n + 1) values)) here
+      (λ j is_key other. below_other values n (number_of_key s j) (λ e. other (sym (named s j is_key).1 ∙ ap (key_of s) e))) a
 
   -- the next record is absent
-  pub passes : (t : Database) (n : ℕ) → values n ≡ None → AreTables t0 (by_key t0.scale (below n values)) t → AreTables t0 (by_key t0.scale (below (n + 1) values)) t
+  pub passes : (t : Database) (n : ℕ) → values n ≡ None → AreTables t0 (by_key t0.scale (below n values)) t
+      → AreTables t0 (by_key t0.scale (below (n + 1) values)) t
   passes t n is = agreeing t0 t _ _ (λ k is_key row. below_absent values n (number_of_key t0.scale k) is)
 
   pub ends : (t : Database) (n : ℕ) → row_count t0.scale ≤ n → AreTables t0 (by_key t0.scale (below n values)) t → AreTables t0 (by_key t0.scale values) t

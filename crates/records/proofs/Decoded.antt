@@ -38,20 +38,25 @@ IsDecoded words IsIn ws r = IsIn r × (ws ≡ words r)
 decoded : {X : Type 0} (words : X → List ℕ) (IsIn : X → Type 0) (ws : List ℕ) (q r : X) → IsIn q → ws ≡ words q → r ≡ q → IsDecoded words IsIn ws r
 decoded words IsIn ws q r is e back = (subst IsIn (sym back) is, e ∙ ap words (sym back))
 
-pub decoded_warehouse : (t0 : Database) (k : ℕ) (first : Warehouse) (ws : List ℕ) → get t0.warehouses k ≡ Some first → IsRow warehouse_words (λ r. IsMoney r.year_to_date) (Some ws) → IsDecoded warehouse_words (IsWarehouseOf t0 k) ws (warehouse_of first ws)
+pub decoded_warehouse : (t0 : Database) (k : ℕ) (first : Warehouse) (ws : List ℕ) → get t0.warehouses k ≡ Some first
+    → IsRow warehouse_words (λ r. IsMoney r.year_to_date) (Some ws) → IsDecoded warehouse_words (IsWarehouseOf t0 k) ws (warehouse_of first ws)
 decoded_warehouse t0 k first ws found h =
     let e = same_Some _ _ h.1 in
     let q : Warehouse = record { tax = first.tax; year_to_date = h.0.year_to_date } in
-    decoded warehouse_words (IsWarehouseOf t0 k) ws q (warehouse_of first ws) (record { range = h.2; tax = ap (option_map (λ r. r.tax)) found }) e (ap (warehouse_of first) e ∙ warehouse_back first q refl h.2)
+    decoded warehouse_words (IsWarehouseOf t0 k) ws q (warehouse_of first ws) (record { range = h.2; tax = ap (option_map (λ r. r.tax)) found }) e
+    (ap (warehouse_of first) e ∙ warehouse_back first q refl h.2)
 
-pub decoded_district : (t0 : Database) (k : DistrictKey) (first : District) (ws : List ℕ) → get t0.districts k ≡ Some first → IsRow district_words (IsDistrictRow t0.scale) (Some ws) → IsDecoded district_words (IsDistrictOf t0 k) ws (district_of first ws)
+pub decoded_district : (t0 : Database) (k : DistrictKey) (first : District) (ws : List ℕ) → get t0.districts k ≡ Some first
+    → IsRow district_words (IsDistrictRow t0.scale) (Some ws) → IsDecoded district_words (IsDistrictOf t0 k) ws (district_of first ws)
 decoded_district t0 k first ws found h =
     let e = same_Some _ _ h.1 in
     let q : District = record { tax = first.tax; year_to_date = h.0.year_to_date; next_order = h.0.next_order } in
     let range : IsDistrictRow t0.scale q = record { year_to_date = h.2.year_to_date; next_order = h.2.next_order } in
-    decoded district_words (IsDistrictOf t0 k) ws q (district_of first ws) (record { range = range; tax = ap (option_map (λ r. r.tax)) found }) e (ap (district_of first) e ∙ district_back t0.scale first q refl range)
+    decoded district_words (IsDistrictOf t0 k) ws q (district_of first ws) (record { range = range; tax = ap (option_map (λ r. r.tax)) found }) e
+    (ap (district_of first) e ∙ district_back t0.scale first q refl range)
 
-pub decoded_customer : (t0 : Database) (k : CustomerKey) (first : Customer) (ws : List ℕ) → get t0.customers k ≡ Some first → IsRow customer_words IsCustomerRow (Some ws) → IsDecoded customer_words (IsCustomerOf t0 k) ws (customer_of first ws)
+pub decoded_customer : (t0 : Database) (k : CustomerKey) (first : Customer) (ws : List ℕ) → get t0.customers k ≡ Some first
+    → IsRow customer_words IsCustomerRow (Some ws) → IsDecoded customer_words (IsCustomerOf t0 k) ws (customer_of first ws)
 decoded_customer t0 k first ws found h =
     let e = same_Some _ _ h.1 in
     let q : Customer = record first { balance = h.0.balance; paid = h.0.paid; payments = h.0.payments; deliveries = h.0.deliveries } in
@@ -83,7 +88,8 @@ decoded_stock ws h =
     decoded stock_words IsStockRow ws h.0 (stock_of_words ws) h.2 e (ap stock_of_words e ∙ stock_back h.0)
 
 -- a word that no row has above m
-fits : {X : Type 0} (words : X → List ℕ) (IsIn : X → Type 0) (ws : List ℕ) (i m : ℕ) → m < 2 ^ 32 → IsRow words IsIn (Some ws) → ((r : X) → IsIn r → slice_index (words r) i ≤ m) → FitsColumn ws i
+fits : {X : Type 0} (words : X → List ℕ) (IsIn : X → Type 0) (ws : List ℕ) (i m : ℕ) → m < 2 ^ 32 → IsRow words IsIn (Some ws)
+    → ((r : X) → IsIn r → slice_index (words r) i ≤ m) → FitsColumn ws i
 fits words IsIn ws i m small h most =
     let e = same_Some _ _ h.1 in
     let below = most h.0 h.2 in
@@ -93,7 +99,8 @@ unwrapped : (m : ℕ) (o : Option ℕ) → ForSome o (λ n. n ≤ m) → unwrap_
 unwrapped m None h = omega arith
 unwrapped m (Some n) h = h n refl
 
-pub line_fits : (s : Sizes) (ws : List ℕ) → IsScale s → MayBeRow line_words (IsLineRow s) (Some ws) → FitsColumn ws 0 × FitsColumn ws 1 × FitsColumn ws 2 × FitsColumn ws 3
+pub line_fits : (s : Sizes) (ws : List ℕ) → IsScale s → MayBeRow line_words (IsLineRow s) (Some ws) → FitsColumn ws 0 × FitsColumn ws 1 × FitsColumn ws 2
+    × FitsColumn ws 3
 line_fits s ws lawful m =
     let h = is_row line_words (IsLineRow s) ws m in
     let most_items = lawful.items.1 in

@@ -36,7 +36,11 @@ module _ {K X : Type 0} {R : K → K → Ordering} (o : IsTotalOrder R) where
     each : (es : List (K × X)) → IsStrictlySortedBy R (keys_of es) → ((k : K) (r : X) → find R k es ≡ Some r → P k r) → AllByRecursion (λ e. P e.0 e.1) es
     unfolding IsStrictlySortedBy
     each [] h holds = tt
-    each (e ∷ es) h holds = (holds e.0 e.1 (ap (λ r. cond (is_eq r) (Some e.1) (find R e.0 es)) (tied_itself o e.0)), each es h.1 (λ k r found. holds k r (found_later k r e es h found)))
+    each (e ∷ es) h holds = (
+      holds e.0 e.1 (ap (λ r. cond (is_eq r) (Some e.1) (find R e.0 es)) (tied_itself o e.0)),
+      each es h.1
+          (λ k r found. holds k r (found_later k r e es h found)),
+    )
 
     pub each_entry : (m : BTreeMap K X) → tree.IsOrdered R m → EachRow P (from_entries {R = R} m.entries) → AllByRecursion (λ e. P e.0 e.1) m.entries
     each_entry m ordered holds = each m.entries ordered (λ k r found. holds k r (get-from_entries o m.entries k ∙ found))

@@ -25,7 +25,8 @@ same_column : {X Y : Type 0} (f : X → Y) (a b : Option X) (first r : X) → op
 same_column f a b first r same found is = same_Some (f first) (f r) (sym (ap (option_map f) found) ∙ (sym same ∙ ap (option_map f) is))
 
 -- the row of some words, where each row of them is this one
-one_row : {X : Type 0} (words : X → List ℕ) (made : X) (ws : List ℕ) (o : Option X) → option_map words o ≡ Some ws → ((r : X) → o ≡ Some r → ws ≡ words r → made ≡ r) → o ≡ Some made
+one_row : {X : Type 0} (words : X → List ℕ) (made : X) (ws : List ℕ) (o : Option X) → option_map words o ≡ Some ws
+    → ((r : X) → o ≡ Some r → ws ≡ words r → made ≡ r) → o ≡ Some made
 one_row words made ws None held same = absurd (none-some ws held)
 one_row words made ws (Some r) held same = ap Some (sym (same r refl (sym (same_Some _ _ held))))
 
@@ -34,15 +35,18 @@ pub record_at : (t0 t : Database) → IsOf t0 t → (k : RecordKey) → IsRecord
 record_at t0 t of k is = ap (λ s. row_at t (key_of s (number_of_key t0.scale k))) of.scale ∙ ap (row_at t) (named t0.scale k is).1
 
 module _ (t0 t : Database) (of : IsOf t0 t) (wf : IsWellFormed t) (ws : List ℕ) where
-  pub warehouse_from : (k : ℕ) (first : Warehouse) → get t0.warehouses k ≡ Some first → row_at t (key.Warehouse k) ≡ Some ws → get t.warehouses k ≡ Some (warehouse_of first ws)
+  pub warehouse_from : (k : ℕ) (first : Warehouse) → get t0.warehouses k ≡ Some first → row_at t (key.Warehouse k) ≡ Some ws
+      → get t.warehouses k ≡ Some (warehouse_of first ws)
   warehouse_from k first found held = one_row warehouse_words (warehouse_of first ws) ws (get t.warehouses k) held (λ r is e.
       ap (warehouse_of first) e ∙ warehouse_back first r (same_column (λ r. r.tax) _ _ first r (of.warehouse_taxes k) found is) (wf.warehouse_rows k r is))
 
-  pub district_from : (k : DistrictKey) (first : District) → get t0.districts k ≡ Some first → row_at t (key.District k) ≡ Some ws → get t.districts k ≡ Some (district_of first ws)
+  pub district_from : (k : DistrictKey) (first : District) → get t0.districts k ≡ Some first → row_at t (key.District k) ≡ Some ws
+      → get t.districts k ≡ Some (district_of first ws)
   district_from k first found held = one_row district_words (district_of first ws) ws (get t.districts k) held (λ r is e.
       ap (district_of first) e ∙ district_back t.scale first r (same_column (λ r. r.tax) _ _ first r (of.district_taxes k) found is) (wf.district_rows k r is))
 
-  pub customer_from : (k : CustomerKey) (first : Customer) → get t0.customers k ≡ Some first → row_at t (key.Customer k) ≡ Some ws → get t.customers k ≡ Some (customer_of first ws)
+  pub customer_from : (k : CustomerKey) (first : Customer) → get t0.customers k ≡ Some first → row_at t (key.Customer k) ≡ Some ws
+      → get t.customers k ≡ Some (customer_of first ws)
   customer_from k first found held = one_row customer_words (customer_of first ws) ws (get t.customers k) held (λ r is e.
       ap (customer_of first) e ∙ customer_back first r
       (same_column (λ r. r.first_name) _ _ first r (of.first_names k) found is)
@@ -52,14 +56,16 @@ module _ (t0 t : Database) (of : IsOf t0 t) (wf : IsWellFormed t) (ws : List ℕ
       (wf.customer_rows k r is))
 
 -- a word that no row has above m
-at_most : {X : Type 0} (words : X → List ℕ) (ws : List ℕ) (i m : ℕ) (o : Option X) → option_map words o ≡ Some ws → ((r : X) → o ≡ Some r → slice_index (words r) i ≤ m) → slice_index ws i ≤ m
+at_most : {X : Type 0} (words : X → List ℕ) (ws : List ℕ) (i m : ℕ) (o : Option X) → option_map words o ≡ Some ws
+    → ((r : X) → o ≡ Some r → slice_index (words r) i ≤ m) → slice_index ws i ≤ m
 at_most words ws i m None held most = absurd (none-some ws held)
 at_most words ws i m (Some r) held most = subst (λ l. slice_index l i ≤ m) (same_Some _ _ held) (most r refl)
 
 -- the words of a row fit its columns
 module _ (t : Database) (wf : IsWellFormed t) (ws : List ℕ) where
   pub district_fits : t.scale.orders ≤ MAX_ORDERS → (k : DistrictKey) → row_at t (key.District k) ≡ Some ws → FitsColumn ws 1
-  district_fits cap k held = let most = at_most district_words ws 1 (t.scale.orders + 1) (get t.districts k) held (λ r is. (wf.district_rows k r is).next_order.1) in omega (arith, cap, most)
+  district_fits cap k held = let most = at_most district_words ws 1 (t.scale.orders + 1) (get t.districts k) held
+      (λ r is. (wf.district_rows k r is).next_order.1) in omega (arith, cap, most)
 
   pub customer_fits : (k : CustomerKey) → row_at t (key.Customer k) ≡ Some ws → FitsColumn ws 2 × FitsColumn ws 3
   customer_fits k held =

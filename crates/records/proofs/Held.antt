@@ -18,7 +18,8 @@ use Rattle.records.specs.Held.{row_count, by_key, AreTables}
 use Rattle.records.proofs.Numbered.{row_below}
 use Rattle.records.proofs.Determined.{determined}
 
-module _ (t0 t : Database) (of : IsOf t0 t) (wf : IsWellFormed t) (values : ℕ → Option (List ℕ)) (agree : (n : ℕ) → n < row_count t0.scale → rows t n ≡ values n) where
+module _ (t0 t : Database) (of : IsOf t0 t) (wf : IsWellFormed t) (values : ℕ → Option (List ℕ))
+    (agree : (n : ℕ) → n < row_count t0.scale → rows t n ≡ values n) where
   -- what the record of a row's key holds
   held : (k : RecordKey) → IsRecordKey t0.scale k → IsRowKey k → row_at t k ≡ by_key t0.scale values k
   held k is row =
@@ -79,6 +80,7 @@ module _ (t0 t : Database) (of : IsOf t0 t) (wf : IsWellFormed t) (values : ℕ 
     };
   }
 
-pub one_database : (t0 t u : Database) → IsOf t0 t → IsOf t0 u → IsWellFormed t → IsWellFormed u → ((n : ℕ) → n < row_count t0.scale → rows t n ≡ rows u n) → t.history ≡ u.history → t ≡ u
+pub one_database : (t0 t u : Database) → IsOf t0 t → IsOf t0 u → IsWellFormed t → IsWellFormed u → ((n : ℕ) → n < row_count t0.scale → rows t n ≡ rows u n)
+    → t.history ≡ u.history → t ≡ u
 one_database t0 t u of_t of_u wf_t wf_u same history =
     determined t0 (by_key t0.scale (rows u)) t u (are_tables t0 t of_t wf_t (rows u) same) (are_tables t0 u of_u wf_u (rows u) (λ n h. refl)) history

@@ -29,8 +29,10 @@ data_of [] = []
 data_of (word ∷ words) = words
 
 -- the version of record n after one entry of a table, where entries let these records begin with these words
-abbrev pub begun_by : {K X : Type 0} → Sizes → (K → X → RecordKey) → (List ℕ → K → X → List ℕ) → ℕ → List ℕ → K × X → List ℕ
-begun_by s record_of words_of n version e = cond (n == number_of_key s (record_of e.0 e.1)) (populated_word ∷ words_of (data_of version) e.0 e.1) version
+abbrev pub begun_by : {K X : Type 0} → Sizes → (K → X → RecordKey) → (List ℕ → K → X → List ℕ) → ℕ → List ℕ → K × X
+    → List ℕ
+begun_by s record_of words_of n version e = cond (n == number_of_key s (record_of e.0 e.1))
+    (populated_word ∷ words_of (data_of version) e.0 e.1) version
 
 -- the district of an order
 abbrev pub district_of_order : OrderKey → DistrictKey

@@ -1,4 +1,5 @@
--- Tables by what their records hold: which rows stand where, of a population's columns that never change and of the words of each record.
+-- Tables by what their records hold: which rows stand where, of a population's columns that never change and of the
+-- words of each record.
 use Rattle.std.specs.Prelude.{◌≡◌, ℕ, Option, Some, List}
 use Rattle.std.specs.Option.{option_map}
 use Rattle.std.specs.FinMap.{FinMap, get}
@@ -9,7 +10,8 @@ use Rattle.tables.specs.Maps.{RowsWithin, EachRow}
 use Rattle.tables.specs.WellFormed.{IsMoney, IsDistrictRow, IsCustomerRow, IsOrderRow, IsLineRow, IsStockRow}
 use Rattle.tables.specs.Database.{Database}
 use Rattle.tables.specs.Records.{first_number, number_of_key}
-use Rattle.tables.specs.Rows.{warehouse_words, district_words, customer_words, new_order_words, order_words, line_words, stock_words}
+use Rattle.tables.specs.Rows.{warehouse_words, district_words, customer_words, new_order_words, order_words, line_words}
+use Rattle.tables.specs.Rows.{stock_words}
 use Rattle.tables.specs.declared.keys.DistrictKey.{DistrictKey}
 use Rattle.tables.specs.declared.keys.CustomerKey.{CustomerKey}
 use Rattle.tables.specs.declared.rows.Warehouse.{Warehouse}
@@ -28,8 +30,10 @@ row_count s = first_number s table.Oldest
 abbrev pub by_key : Sizes → (ℕ → Option (List ℕ)) → RecordKey → Option (List ℕ)
 by_key s values k = values (number_of_key s k)
 
--- a table whose keys are those of `IsKey` or some of them, each row as `IsIn` says, and whose record of each key holds its value: the row's words, or nothing where there is no row
-pub record IsTableOf {K X : Type 0} {R : K → K → Ordering} (IsKey : K → Type 0) (IsIn : K → X → Type 0) (words : X → List ℕ) (value : K → Option (List ℕ)) (m : FinMap R X) : Type 0 where
+-- a table whose keys are those of `IsKey` or some of them, each row as `IsIn` says, and whose record of each key holds
+-- its value: the row's words, or nothing where there is no row
+pub record IsTableOf {K X : Type 0} {R : K → K → Ordering} (IsKey : K → Type 0) (IsIn : K → X → Type 0)
+    (words : X → List ℕ) (value : K → Option (List ℕ)) (m : FinMap R X) : Type 0 where
   pub within : RowsWithin IsKey m
   pub each : EachRow IsIn m
   pub rows : (k : K) → IsKey k → option_map words (get m k) ≡ value k
@@ -58,10 +62,16 @@ pub record IsOrderIn (s : Sizes) (r : Order) : Type 0 where
 pub record AreTables (t0 : Database) (values : RecordKey → Option (List ℕ)) (t : Database) : Type 0 where
   pub scale : t.scale ≡ t0.scale
   pub items : t.items ≡ t0.items
-  pub warehouses : IsTableOf (IsWarehouseKey t0.scale) (IsWarehouseOf t0) warehouse_words (λ k. values (key.Warehouse k)) t.warehouses
-  pub districts : IsTableOf (IsDistrictKey t0.scale) (IsDistrictOf t0) district_words (λ k. values (key.District k)) t.districts
-  pub customers : IsTableOf (IsCustomerKey t0.scale) (IsCustomerOf t0) customer_words (λ k. values (key.Customer k)) t.customers
-  pub new_orders : IsTableOf (IsOrderKey t0.scale) (λ k r. Unit {0}) new_order_words (λ k. values (key.NewOrder k)) t.new_orders
-  pub orders : IsTableOf (IsOrderKey t0.scale) (λ k r. IsOrderIn t0.scale r) order_words (λ k. values (key.Order k)) t.orders
-  pub lines : IsTableOf (IsLineKey t0.scale) (λ k r. IsLineRow t0.scale r) line_words (λ k. values (key.OrderLine k)) t.lines
+  pub warehouses : IsTableOf (IsWarehouseKey t0.scale) (IsWarehouseOf t0) warehouse_words
+      (λ k. values (key.Warehouse k)) t.warehouses
+  pub districts : IsTableOf (IsDistrictKey t0.scale) (IsDistrictOf t0) district_words (λ k. values (key.District k))
+      t.districts
+  pub customers : IsTableOf (IsCustomerKey t0.scale) (IsCustomerOf t0) customer_words (λ k. values (key.Customer k))
+      t.customers
+  pub new_orders : IsTableOf (IsOrderKey t0.scale) (λ k r. Unit {0}) new_order_words (λ k. values (key.NewOrder k))
+      t.new_orders
+  pub orders : IsTableOf (IsOrderKey t0.scale) (λ k r. IsOrderIn t0.scale r) order_words (λ k. values (key.Order k))
+      t.orders
+  pub lines : IsTableOf (IsLineKey t0.scale) (λ k r. IsLineRow t0.scale r) line_words (λ k. values (key.OrderLine k))
+      t.lines
   pub stock : IsTableOf (IsStockKey t0.scale) (λ k r. IsStockRow r) stock_words (λ k. values (key.Stock k)) t.stock

@@ -1,4 +1,5 @@
--- The rows that seven words stand for. A column that never changes comes from the population's row, every other one from the words.
+-- The rows that seven words stand for. A column that never changes comes from the population's row, every other one
+-- from the words.
 use Rattle.std.specs.Prelude.{ℕ, ◌<◌, ◌^◌, ◌==◌, cond, Option, Some, None, List, slice_index}
 use Rattle.tables.specs.Rows.{money_of}
 use Rattle.tables.specs.declared.rows.Warehouse.{Warehouse}
@@ -12,7 +13,8 @@ abbrev pub warehouse_of : Warehouse → List ℕ → Warehouse
 warehouse_of first words = record first { year_to_date = money_of (slice_index words 0) }
 
 abbrev pub district_of : District → List ℕ → District
-district_of first words = record first { year_to_date = money_of (slice_index words 0); next_order = slice_index words 1 }
+district_of first words =
+    record first { year_to_date = money_of (slice_index words 0); next_order = slice_index words 1 }
 
 abbrev pub customer_of : Customer → List ℕ → Customer
 customer_of first words = record first {

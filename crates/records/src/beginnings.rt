@@ -1,7 +1,8 @@
 //! The first words of records, by the rows that give them.
 
 ghost use Rattle.std.specs.Prelude.{◌≡◌, max, min, slice_index};
-ghost use Rattle.tables.specs.Rows.{warehouse_words, district_words, customer_words, new_order_words, order_words, line_words, stock_words, number_words};
+ghost use Rattle.tables.specs.Rows.{warehouse_words, district_words, customer_words, new_order_words, order_words};
+ghost use Rattle.tables.specs.Rows.{line_words, stock_words, number_words};
 ghost use Rattle.tables.specs.declared.records.RecordKey.TheVariants as record_key;
 ghost use Rattle.tables.specs.WellFormed.{orderer};
 ghost use Rattle.records.specs.Begun.{district_of_order};

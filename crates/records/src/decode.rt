@@ -1,7 +1,8 @@
 //! Rows from the seven words of their records. A column that never changes comes from the population's row.
 
 ghost use Rattle.std.specs.Prelude.{◌≡◌, ◌<◌, ◌^◌};
-ghost use Rattle.records.specs.Words.{FitsColumn, warehouse_of, district_of, customer_of, nullable, order_of_words, line_of_words, stock_of_words};
+ghost use Rattle.records.specs.Words.{FitsColumn, warehouse_of, district_of, customer_of, nullable, order_of_words};
+ghost use Rattle.records.specs.Words.{line_of_words, stock_of_words};
 
 use tables::{Customer, District, Order, OrderLine, Stock, Warehouse, money_from_word};
 

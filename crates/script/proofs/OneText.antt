@@ -17,7 +17,8 @@ use Rattle.script.specs.Written.{start, answers_text, IsWhole}
 use Rattle.script.proofs.OneRun.{one_run}
 
 -- there is one least key
-one_finding : {K : Type 0} {R : K → K → Ordering} → IsExact R → (IsKey HoldsAt : K → Type 0) (a b : Option K) → FindsLeast R IsKey HoldsAt a → FindsLeast R IsKey HoldsAt b → a ≡ b
+one_finding : {K : Type 0} {R : K → K → Ordering} → IsExact R → (IsKey HoldsAt : K → Type 0) (a b : Option K) → FindsLeast R IsKey HoldsAt a
+    → FindsLeast R IsKey HoldsAt b → a ≡ b
 one_finding o IsKey HoldsAt None None p q = refl
 one_finding o IsKey HoldsAt None (Some k) p q = absurd (q.1 (p k q.0))
 one_finding o IsKey HoldsAt (Some k) None p q = absurd (p.1 (q k p.0))
@@ -56,7 +57,8 @@ one_report t a b p q =
     }
 
 -- two whole scripts of the same bytes
-pub one_text : (tables : Database) (bytes text other : List ℕ) (report found : Report) (dones told : List Done) → IsWhole tables bytes text report dones → IsWhole tables bytes other found told → (text ≡ other) × (report ≡ found) × (commits_of dones ≡ commits_of told)
+pub one_text : (tables : Database) (bytes text other : List ℕ) (report found : Report) (dones told : List Done) → IsWhole tables bytes text report dones
+    → IsWhole tables bytes other found told → (text ≡ other) × (report ≡ found) × (commits_of dones ≡ commits_of told)
 one_text tables bytes text other report found dones told w v =
     let run = one_run (start tables) 1 (text_lines bytes) w.answers v.answers w.last v.last w.turns v.turns in
     let commits : commits_of dones ≡ commits_of told = w.commits_are ∙ ap (λ s. s.commits) run.1 ∙ sym v.commits_are in

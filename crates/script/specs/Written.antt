@@ -24,7 +24,8 @@ answers_text answers = flat_map (λ answer. answer_text answer ++ codes "\n") an
 abbrev pub HasTooManyLines : List ℕ → Type 0
 HasTooManyLines bytes = MAX_LINES < length (text_lines bytes)
 
--- the text of a whole script of these bytes: the answers to its lines, from number 1 on, and then the report on the last tables
+-- the text of a whole script of these bytes: the answers to its lines, from number 1 on, and then the report on the
+-- last tables
 pub record IsWhole (tables : Database) (bytes text : List ℕ) (report : Report) (dones : List Done) : Type 0 where
   pub answers : List Answer
   pub last : State
@@ -35,5 +36,8 @@ pub record IsWhole (tables : Database) (bytes text : List ℕ) (report : Report)
 
 -- a beginning of that text: of the answers to the first of its lines, or of the whole
 pub data IsBeginning (tables : Database) (bytes front : List ℕ) : Type 0 where
-  of_answers : (lines later : List (List ℕ)) (answers : List Answer) (last : State) (rest : List ℕ) → text_lines bytes ≡ lines ++ later → AreTurns (start tables) 1 lines answers last → answers_text answers ≡ front ++ rest → IsBeginning tables bytes front
-  of_whole : (text rest : List ℕ) (report : Report) (dones : List Done) → IsWhole tables bytes text report dones → text ≡ front ++ rest → IsBeginning tables bytes front
+  of_answers : (lines later : List (List ℕ)) (answers : List Answer) (last : State) (rest : List ℕ)
+      → text_lines bytes ≡ lines ++ later → AreTurns (start tables) 1 lines answers last → answers_text answers ≡ front
+      ++ rest → IsBeginning tables bytes front
+  of_whole : (text rest : List ℕ) (report : Report) (dones : List Done) → IsWhole tables bytes text report dones
+      → text ≡ front ++ rest → IsBeginning tables bytes front

@@ -1,6 +1,7 @@
 //! Running a script from its bytes to its replies.
 
-ghost use Rattle.std.specs.Prelude.{◌≡◌, ◌⊎◌, ◌≤◌, ◌<◌, ◌+◌, ℕ, Some, List, [], ◌++◌, length, take, codes, string_bytes, IfErr, IfOk, OnOk, OnErr, IsErrOf};
+ghost use Rattle.std.specs.Prelude.{◌≡◌, ◌⊎◌, ◌≤◌, ◌<◌, ◌+◌, ℕ, Some, List, [], ◌++◌, length, take, codes};
+ghost use Rattle.std.specs.Prelude.{string_bytes, IfErr, IfOk, OnOk, OnErr, IsErrOf};
 ghost use Rattle.std.specs.Io.KnownBytes.{Appends, Consumes, IsAtEnd};
 ghost use Rattle.money.specs.declared.refusal.Refusal.TheVariants.{OutOfMemory, BadInput, Device};
 ghost use Rattle.population.specs.Initial.{initial};
@@ -309,7 +310,8 @@ impl<'e, K: Run> Desk<'e, K> {
 /// Reads what comes next. A read that was interrupted has taken nothing, and is tried again.
 fn read_piece<R: Read>(reader: &mut R, piece: &mut [u8]) -> Result<usize, Refusal>
     ensures within { IfOk result (λ count. count ≤ length piece.new) }
-    ensures bytes { IfOk result (λ count. Consumes (R.remaining reader.old) (R.remaining reader.new) (take count piece.new)) }
+    ensures bytes { IfOk result
+        (λ count. Consumes (R.remaining reader.old) (R.remaining reader.new) (take count piece.new)) }
     ensures end { IfOk result (λ count. count ≡ 0 → 0 < length piece.new
         → IsAtEnd (R.remaining reader.new)) }
     ensures device { IfErr result (λ refusal. refusal ≡ Device) }

@@ -1,7 +1,8 @@
 //! The keys of record numbers.
 
 ghost use Rattle.std.specs.Prelude.{◌≡◌, ◌<◌, ◌^◌};
-ghost use Rattle.tables.specs.Records.{size, first_number, record_count, table_at, place_at, key_at, key_of, district_at};
+ghost use Rattle.tables.specs.Records.{size, first_number, record_count, table_at, place_at, key_at, key_of};
+ghost use Rattle.tables.specs.Records.{district_at};
 ghost use Rattle.tables.specs.Records.{customer_at, order_at, line_at, stock_at, IsRecordKey, IsRowKey};
 ghost use Rattle.tables.specs.declared.records.Table.TheVariants as table;
 

@@ -14,12 +14,16 @@ record IsNext (greatest epoch tid : ℕ) : Type 0 where
 
 next_is : (greatest epoch tid : ℕ) → greatest % 8 ≡ 0 → next_after greatest epoch ≡ Some tid → IsNext greatest epoch tid
 next_is greatest epoch tid even e =
-    elim (nat_lt greatest (epoch * 2 ^ 32)) as (λ b. nat_lt greatest (epoch * 2 ^ 32) ≡ b → (if b then Some (epoch * 2 ^ 32) else if (greatest + 8) / 2 ^ 32 == epoch then Some (greatest + 8) else None) ≡ Some tid → IsNext greatest epoch tid) [
+    elim (nat_lt greatest (epoch * 2 ^ 32)) as
+    (λ b. nat_lt greatest (epoch * 2 ^ 32) ≡ b
+    → (if b then Some (epoch * 2 ^ 32) else if (greatest + 8) / 2 ^ 32 == epoch then Some (greatest + 8) else None) ≡ Some tid
+    → IsNext greatest epoch tid) [
       | true ↦ λ low h. first (ltb-true _ _ low) (some_of h)
-      | false ↦ λ _ h. elim ((greatest + 8) / 2 ^ 32 == epoch) as (λ b. ((greatest + 8) / 2 ^ 32 == epoch) ≡ b → (if b then Some (greatest + 8) else None) ≡ Some tid → IsNext greatest epoch tid) [
-        | true ↦ λ same k. later (eqb-true _ _ same) (some_of k)
-        | false ↦ λ _ k. absurd (never k)
-      ] refl h
+      | false ↦ λ _ h. elim ((greatest + 8) / 2 ^ 32 == epoch) as
+          (λ b. ((greatest + 8) / 2 ^ 32 == epoch) ≡ b → (if b then Some (greatest + 8) else None) ≡ Some tid → IsNext greatest epoch tid) [
+            | true ↦ λ same k. later (eqb-true _ _ same) (some_of k)
+            | false ↦ λ _ k. absurd (never k)
+          ] refl h
     ] refl e
   where
     first : greatest < epoch * 2 ^ 32 → epoch * 2 ^ 32 ≡ tid → IsNext greatest epoch tid
@@ -35,7 +39,13 @@ next-lawful seen last epoch tid e = lawful (next_is (max (tid_of seen) (tid_of l
     even a b = omega arith
 
     lawful : IsNext (max (tid_of seen) (tid_of last)) epoch tid → IsLawful seen last epoch tid
-    lawful is = record { bits = is.bits; in_epoch = is.in_epoch; above_seen = first (tid_of seen) (tid_of last) is.above; above_last = second (tid_of seen) (tid_of last) is.above }
+    lawful is = record {
+      bits = is.bits;
+      in_epoch = is.in_epoch;
+      above_seen = first (tid_of seen) (tid_of last) is.above;
+      above_last =
+          second (tid_of seen) (tid_of last) is.above;
+    }
       where
         first : (a b : ℕ) → max a b < tid → a < tid
         first a b h = omega (arith, h)

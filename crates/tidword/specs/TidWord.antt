@@ -1,4 +1,5 @@
--- The TID word of a version (after Silo, section 4.2): the epoch in bits 63 to 32, the sequence in bits 31 to 3, the absent bit 2, the latest-version bit 1 and the lock bit 0.
+-- The TID word of a version (after Silo, section 4.2): the epoch in bits 63 to 32, the sequence in bits 31 to 3, the
+-- absent bit 2, the latest-version bit 1 and the lock bit 0.
 use Rattle.std.specs.Prelude.{ℕ, ◌+◌, ◌-◌, ◌*◌, ◌/◌, ◌%◌, ◌^◌, ◌==◌, Bool, true, false, Option, Some, None}
 use Rattle.tidword.specs.declared.word.Status.{Status}
 
@@ -7,7 +8,8 @@ bit true = 1
 bit false = 0
 
 abbrev pub tid_word : ℕ → ℕ → Status → ℕ
-tid_word epoch sequence status = epoch * 2 ^ 32 + sequence * 8 + bit status.absent * 4 + bit status.latest * 2 + bit status.locked
+tid_word epoch sequence status = epoch * 2 ^ 32 + sequence * 8 + bit status.absent * 4 + bit status.latest * 2 + bit
+    status.locked
 
 -- the TID: the word with its three status bits 0
 abbrev pub tid_of : ℕ → ℕ

@@ -37,5 +37,6 @@ loop-reader-preserved g c =
       view = kept.1 ∙ i.view;
       readers =
           ap (set items n) (c.in_ok-push.ensures.ok ∙ ap (λ (s : ReaderView). sights_and s c.told.result) (sym c.reader-item.is) ∙ told)
-          ∙ map_over_more (λ (s : ReaderView). sights_with s pass.table_id (known pass).seen) c.args.readers.now items n item (omega arith) i.readers c.reader-item.is;
+          ∙ map_over_more (λ (s : ReaderView). sights_with s pass.table_id (known pass).seen) c.args.readers.now items n item (omega arith) i.readers
+          c.reader-item.is;
     }

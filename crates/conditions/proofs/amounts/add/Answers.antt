@@ -10,7 +10,8 @@ pub returns-in-Some : goal.returns-in-Some
 returns-in-Some g c =
     let was : c.in-Some.sum.now ≡ amount_at g.G.Ord.cmp c.args.sums.now c.args.group = ap (λ (w : Option ℤ). unwrap_or w (pos 0)) c.in-Some.ensures.value in
     let some : IsSome (tree.get g.G.Ord.cmp c.args.sums.now c.args.group) = subst (λ (w : Option ℤ). IsSome w) c.in-Some.ensures.value refl in
-    added g.met.G.Ord.total c.args.sums.now (c.get_mut.follows.lender _) c.args.group c.args.amount _ ((c.get_mut.follows.holds _).3 some) (omega (arith, ints, c.plus.ensures, was))
+    added g.met.G.Ord.total c.args.sums.now (c.get_mut.follows.lender _) c.args.group c.args.amount _ ((c.get_mut.follows.holds _).3 some)
+    (omega (arith, ints, c.plus.ensures, was))
 
 -- there is none, and it is made
 pub returns-in_ok-insert : goal.returns-in_ok-insert

@@ -11,7 +11,8 @@ add_row-requires g c = record { bound = (λ k. omega (arith, ints, c.loop-row.in
 
 pub loop-row-preserved : goal.loop-row-preserved
 loop-row-preserved g c = record {
-  sums = λ k. sum_of_more (λ (r : History). share (g.S.Share.is_of (database c.args.tables.now) k tt r) (g.S.Share.amount r)) c.deref-row-items.result.now c.loop-row.row-index c.row-item.result _ _ _
+  sums = λ k. sum_of_more (λ (r : History). share (g.S.Share.is_of (database c.args.tables.now) k tt r) (g.S.Share.amount r)) c.deref-row-items.result.now
+      c.loop-row.row-index c.row-item.result _ _ _
       c.loop-row-test.true c.row-item.is (c.loop-row.invariant.sums k) refl (c.in_ok-add_row.ensures.sums k);
   low = λ k. omega (arith, ints, c.loop-row.invariant.low k, c.in_ok-add_row.ensures.above k);
   high = λ k. omega (arith, ints, c.loop-row.invariant.high k, c.in_ok-add_row.ensures.below k);

@@ -12,7 +12,8 @@ pub loop-key-preserved : goal.loop-key-preserved
 loop-key-preserved g c =
     let fewer = ap length c.in-Some.ensures.steps in
     record {
-      sums = λ k. sum_entries_more (λ (j : g.row.K.Denot) (r : g.row.X.Denot). share (g.S.Share.is_of (database c.args.tables.now) k j r) (g.S.Share.amount r)) c.args.rows.now.entries c.loop-key.key-iterator c.next.new.self
+      sums = λ k. sum_entries_more (λ (j : g.row.K.Denot) (r : g.row.X.Denot). share (g.S.Share.is_of (database c.args.tables.now) k j r) (g.S.Share.amount r))
+          c.args.rows.now.entries c.loop-key.key-iterator c.next.new.self
           c.in-Some.key.now c.in-Some.row.now _ _ _ c.in-Some.ensures.steps (c.loop-key.invariant.sums k) refl (c.in_ok-add_row.ensures.sums k);
       low = λ k. omega (arith, ints, fewer, c.loop-key.invariant.low k, c.in_ok-add_row.ensures.above k);
       high = λ k. omega (arith, ints, fewer, c.loop-key.invariant.high k, c.in_ok-add_row.ensures.below k);
@@ -20,4 +21,5 @@ loop-key-preserved g c =
 
 pub returns-clause-sums : goal.returns-clause-sums
 returns-clause-sums g c = λ k.
-    sum_entries_all (λ (j : g.row.K.Denot) (r : g.row.X.Denot). share (g.S.Share.is_of (database c.args.tables.now) k j r) (g.S.Share.amount r)) c.args.rows.now.entries c.loop-key.key-iterator _ c.in-None.ensures.steps.0 (c.loop-key.invariant.sums k)
+    sum_entries_all (λ (j : g.row.K.Denot) (r : g.row.X.Denot). share (g.S.Share.is_of (database c.args.tables.now) k j r) (g.S.Share.amount r))
+    c.args.rows.now.entries c.loop-key.key-iterator _ c.in-None.ensures.steps.0 (c.loop-key.invariant.sums k)

@@ -9,14 +9,17 @@ pub loop-key-preserved : goal.loop-key-preserved
 loop-key-preserved g c =
     let fewer = ap length c.in-Some.ensures.steps in
     record {
-      numbers = λ k. numbered_more k c.loop-key.key-iterator c.next.new.self c.in-Some.key.now c.in-Some._row.now _ _ _ c.in-Some.ensures.steps (c.in_ok-add_number.ensures k) (c.loop-key.invariant.numbers k);
+      numbers = λ k. numbered_more k c.loop-key.key-iterator c.next.new.self c.in-Some.key.now c.in-Some._row.now _ _ _ c.in-Some.ensures.steps
+          (c.in_ok-add_number.ensures k) (c.loop-key.invariant.numbers k);
       few = λ k. omega (
         arith,
         fewer,
         c.loop-key.invariant.few k,
-        count_more (eq_by_cmp district_cmp (record { warehouse = c.in-Some.key.now.warehouse; district = c.in-Some.key.now.district }) k) c.in-Some.key.now.order (numbers_at c.loop-key.numbers k) (numbers_at c.add_number.new.numbers k) (c.in_ok-add_number.ensures k),
+        count_more (eq_by_cmp district_cmp (record { warehouse = c.in-Some.key.now.warehouse; district = c.in-Some.key.now.district }) k)
+            c.in-Some.key.now.order (numbers_at c.loop-key.numbers k) (numbers_at c.add_number.new.numbers k) (c.in_ok-add_number.ensures k),
       );
     }
 
 pub returns : goal.returns
-returns g c = λ k. are_numbers k c.args.rows.now c.loop-key.key-iterator (numbers_at c.loop-key.numbers k) c.iter-key-items.ensures.ordered c.in-None.ensures.steps.0 (c.loop-key.invariant.numbers k) (omega (arith, c.loop-key.invariant.few k))
+returns g c = λ k. are_numbers k c.args.rows.now c.loop-key.key-iterator (numbers_at c.loop-key.numbers k) c.iter-key-items.ensures.ordered
+    c.in-None.ensures.steps.0 (c.loop-key.invariant.numbers k) (omega (arith, c.loop-key.invariant.few k))

@@ -8,6 +8,7 @@ use Rattle.conditions.proofs.numbers.numbers_by.Given as goal
 -- what the entries that are left make of the state now is what all make of none
 abbrev pub invariant-loop-key : goal.invariant-loop-key
 invariant-loop-key g l = record {
-  numbers : (k : DistrictKey) → fold with_number (numbers_at l.numbers k) (numbers_among k l.key-iterator) ≡ fold with_number no_numbers (numbers_among k l.rows.entries);
+  numbers : (k : DistrictKey) → fold with_number (numbers_at l.numbers k) (numbers_among k l.key-iterator) ≡ fold with_number no_numbers
+      (numbers_among k l.rows.entries);
   few : (k : DistrictKey) → (numbers_at l.numbers k).count + length l.key-iterator ≤ btree_map_len l.rows;
 }

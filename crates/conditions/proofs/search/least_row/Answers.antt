@@ -13,14 +13,17 @@ loop-key-init g c =
 pub loop-key-preserved : goal.loop-key-preserved
 loop-key-preserved g c =
     let o : IsExact g.K.Ord.cmp = record { total = g.met.K.Ord.total; same = c.requires.exact } in
-    searched_more o c.args.rows.now (g.C.RowCondition.holds_of (database c.args.tables.now)) c.loop-key.key-iterator c.next.new.self c.in-Some.key.now c.in-Some.row.now c.in-Some.ensures.steps c.loop-key.invariant (c.if-not-holds.ensures.0 refl)
+    searched_more o c.args.rows.now (g.C.RowCondition.holds_of (database c.args.tables.now)) c.loop-key.key-iterator c.next.new.self c.in-Some.key.now
+    c.in-Some.row.now c.in-Some.ensures.steps c.loop-key.invariant (c.if-not-holds.ensures.0 refl)
 
 pub returns : goal.returns
 returns g c =
     let o : IsExact g.K.Ord.cmp = record { total = g.met.K.Ord.total; same = c.requires.exact } in
-    searched_all o c.args.rows.now (g.C.RowCondition.holds_of (database c.args.tables.now)) c.loop-key.key-iterator c.in-None.ensures.steps.0 c.loop-key.invariant
+    searched_all o c.args.rows.now (g.C.RowCondition.holds_of (database c.args.tables.now)) c.loop-key.key-iterator c.in-None.ensures.steps.0
+    c.loop-key.invariant
 
 pub returns-then-not-holds : goal.returns-then-not-holds
 returns-then-not-holds g c =
     let o : IsExact g.K.Ord.cmp = record { total = g.met.K.Ord.total; same = c.requires.exact } in
-    searched_first o c.args.rows.now (g.C.RowCondition.holds_of (database c.args.tables.now)) c.loop-key.key-iterator c.next.new.self c.in-Some.key.now c.in-Some.row.now c.in-Some.ensures.steps c.loop-key.invariant (λ t. true≢false (sym (c.if-not-holds.ensures.1 t)))
+    searched_first o c.args.rows.now (g.C.RowCondition.holds_of (database c.args.tables.now)) c.loop-key.key-iterator c.next.new.self c.in-Some.key.now
+    c.in-Some.row.now c.in-Some.ensures.steps c.loop-key.invariant (λ t. true≢false (sym (c.if-not-holds.ensures.1 t)))

@@ -14,7 +14,8 @@ invariant_of-result g c =
       made.input,
       work_of g.K.Run.first (length g.K.Run.cells) c.args.seat.reader c.execute.new.reader work
           (subst (IsInput g.K.Run.first.scale) (sym made.input) c.requires.input)
-          (subst (λ (q : Database × Input). Explains q.0 q.1 work.reads work.writes work.reply) (λ i. (c.population-population.ensures i, sym made.input i)) made.explains)
+          (subst (λ (q : Database × Input). Explains q.0 q.1 work.reads work.writes work.reply) (λ i. (c.population-population.ensures i, sym made.input i))
+          made.explains)
           (subst (λ n. IsWithinLimits n work.reads work.writes) (ap length c.cells-cells.ensures.value) made.limits)
           made.read,
     )

@@ -16,7 +16,8 @@ returns-then-first-eq43 c =
     (λ starts.
     elim c.then-first-eq43.branch [
       | then-first-eq43-via-then-first-eq43 w ↦ starts.1 (sym first ∙ w.if-first-eq43.true)
-      | then-first-eq43-via-else-first-eq43+then-word-gt1 w ↦ let alone = starts.2 (sym first ∙ w.if-word-gt1.true.0) in let longer = w.if-word-gt1.true.1 in omega arith
+      | then-first-eq43-via-else-first-eq43+then-word-gt1 w ↦ let alone = starts.2 (sym first ∙ w.if-word-gt1.true.0) in let longer = w.if-word-gt1.true.1 in
+          omega arith
     ])
 
 pub returns-in_err-text : goal.returns-in_err-text

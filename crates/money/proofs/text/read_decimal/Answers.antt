@@ -5,7 +5,8 @@ use Rattle.std.specs.Int.{IsInRange}
 use Rattle.std.specs.Str.Parse.{digits_value}
 use Rattle.money.proofs.MoneyText.{decimal_shape, decimal_digit_at, prefix_below, digits_are_decimal, one_more_digit}
 use Rattle.money.proofs.text.read_decimal.Goals as goal
-use Rattle.money.proofs.text.read_decimal.Goals.{then-is_empty-via-then-is_empty, then-is_empty-via-else-is_empty+then-digits-gt-MAX_DIGITS, then-is_empty-via-else-is_empty+else-digits-gt-MAX_DIGITS+then-digits-gt1, then-digits-eq48, else-digits-eq48}
+use Rattle.money.proofs.text.read_decimal.Goals.{then-is_empty-via-then-is_empty, then-is_empty-via-else-is_empty+then-digits-gt-MAX_DIGITS}
+use Rattle.money.proofs.text.read_decimal.Goals.{then-is_empty-via-else-is_empty+else-digits-gt-MAX_DIGITS+then-digits-gt1, then-digits-eq48, else-digits-eq48}
 
 pub returns-then-is_empty-clause-none : goal.returns-then-is_empty-clause-none
 returns-then-is_empty-clause-none c = λ n small e.

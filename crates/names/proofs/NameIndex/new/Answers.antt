@@ -8,7 +8,8 @@ loop-key-preserved c = record {
   rising = c.in_ok-insert.ensures.ordered;
   names = λ q.
       let e : CustomerKey × Customer = (c.in-Some.key.now, c.in-Some.row.now) in
-      more q e _ _ c.args.customers.now.entries c.loop-key.key-iterator c.next.new.self c.in-Some.ensures.steps (inserted (named_entry e) q _ _ (c.in_ok-insert.ensures.updates.0 q)) (c.loop-key.invariant.names q);
+      more q e _ _ c.args.customers.now.entries c.loop-key.key-iterator c.next.new.self c.in-Some.ensures.steps
+      (inserted (named_entry e) q _ _ (c.in_ok-insert.ensures.updates.0 q)) (c.loop-key.invariant.names q);
 }
 
 pub returns : goal.returns

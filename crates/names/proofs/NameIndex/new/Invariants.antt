@@ -11,5 +11,6 @@ use Rattle.names.proofs.NameIndex.new.Given as goal
 abbrev pub invariant-loop-key : goal.invariant-loop-key
 invariant-loop-key l = record {
   rising : tree.IsOrdered name_cmp l.names;
-  names : (q : NameKey) → (list_any (eq_by_cmp name_cmp q) l.names.keys || list_any (eq_by_cmp name_cmp q) (map named_entry l.key-iterator)) ≡ list_any (eq_by_cmp name_cmp q) (map named_entry l.customers.entries);
+  names : (q : NameKey) → (list_any (eq_by_cmp name_cmp q) l.names.keys || list_any (eq_by_cmp name_cmp q) (map named_entry l.key-iterator)) ≡ list_any
+      (eq_by_cmp name_cmp q) (map named_entry l.customers.entries);
 }

@@ -30,8 +30,11 @@ returns-clause-reply g c = λ t h.
     let reads = c.read.new.transaction.reads in
     let read = read_at t0 reads found c.keys_of-keys.result _ c.keys_of-keys.ensures c.in_ok-found.ensures.found in
     let written = c.in_ok-write.ensures.written
-    ∙ ap (λ (keys : Keys). let w : WriteSetView = record { values = (puts_all t0.scale no_writes (changes_of keys values)).values; history_row = Some (history_row x c.args.customer) } in w) c.keys_of-keys.ensures in
+    ∙ ap (λ (keys : Keys). let w : WriteSetView =
+    record { values = (puts_all t0.scale no_writes (changes_of keys values)).values; history_row = Some (history_row x c.args.customer) } in w)
+    c.keys_of-keys.ensures in
     subst (λ (r : PaymentReply). IsCommitOf t (input.Payment x) c.write.new.transaction.writes (reply.Payment r)) (sym c.reply.ensures)
     (commits t0 x c.args.customer reads found c.requires.input c.requires.customer read c.requires.payer values
-    (λ w d k rows. let made = c.new_values.ensures w d k rows in subst (AreNewValues x.amount w d k) (same_values made.0 values (sym made.1 ∙ c.in-Some.is)) made.2)
+    (λ w d k rows. let made = c.new_values.ensures w d k rows in subst (AreNewValues x.amount w d k) (same_values made.0 values (sym made.1 ∙ c.in-Some.is))
+    made.2)
     c.write.new.transaction.writes written t (subst (λ (r : ReadSetView). IsCandidate t0 r t) c.write.ensures.reads h))

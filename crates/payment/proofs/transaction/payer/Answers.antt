@@ -9,4 +9,5 @@ returns-clause-customer c =
     let t0 = initial c.args.population.now in
     let x = c.args.payment.now in
     subst (IsNumber t0.scale.customers) (sym c.customer.ensures)
-    (is_number_of t0 (record { warehouse = x.customer_warehouse; district = x.customer_district }) x.who c.args.population.now.well_formed (c.requires.customer_warehouse, c.requires.customer_district) c.requires.who)
+    (is_number_of t0 (record { warehouse = x.customer_warehouse; district = x.customer_district }) x.who c.args.population.now.well_formed
+    (c.requires.customer_warehouse, c.requires.customer_district) c.requires.who)

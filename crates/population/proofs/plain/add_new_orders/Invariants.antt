@@ -5,4 +5,5 @@ use Rattle.population.specs.Adds.{is_in, is, AddsNewOrders}
 use Rattle.population.proofs.plain.add_new_orders.Given as goal
 
 abbrev pub invariant-loop-order : goal.invariant-loop-order
-invariant-loop-order l = AddsNewOrders (is l.fn.warehouse) (is l.fn.district) (is_in (delivered_orders l.fn.scale + 1) l.order) (from_entries l.fn.table.entries) (from_entries l.table.entries)
+invariant-loop-order l = AddsNewOrders (is l.fn.warehouse) (is l.fn.district) (is_in (delivered_orders l.fn.scale + 1) l.order)
+    (from_entries l.fn.table.entries) (from_entries l.table.entries)

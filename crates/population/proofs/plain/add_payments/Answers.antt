@@ -4,7 +4,9 @@ use Rattle.population.proofs.Lists.{rows_more}
 use Rattle.population.proofs.plain.add_payments.Goals as goal
 
 pub loop-payer-preserved : goal.loop-payer-preserved
-loop-payer-preserved c = c.in_ok-push.ensures.items ∙ rows_more (plain_history_row c.args.warehouse c.args.district) c.loop-payer.payer (c.loop-payer.payer + 1 - 1) _ _ _ (omega arith) (omega arith) c.history_row.ensures c.loop-payer.invariant
+loop-payer-preserved c = c.in_ok-push.ensures.items ∙ rows_more (plain_history_row c.args.warehouse c.args.district) c.loop-payer.payer
+    (c.loop-payer.payer + 1 - 1) _ _ _ (omega arith) (omega arith) c.history_row.ensures c.loop-payer.invariant
 
 pub returns-in_ok-push : goal.returns-in_ok-push
-returns-in_ok-push c = c.in_ok-push.ensures.items ∙ rows_more (plain_history_row c.args.warehouse c.args.district) c.loop-payer.payer c.args.scale.customers _ _ _ (omega arith) (omega arith) c.history_row.ensures c.loop-payer.invariant
+returns-in_ok-push c = c.in_ok-push.ensures.items ∙ rows_more (plain_history_row c.args.warehouse c.args.district) c.loop-payer.payer c.args.scale.customers _ _
+    _ (omega arith) (omega arith) c.history_row.ensures c.loop-payer.invariant

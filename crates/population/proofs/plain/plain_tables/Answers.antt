@@ -1,7 +1,8 @@
 use Rattle.std.proofs.Common.{◌≡◌, ap, ◌∙◌, ◌++◌}
 use Rattle.tables.specs.Database.{database, empty_database}
 use Rattle.population.specs.Plain.{plain_history}
-use Rattle.population.proofs.Whole.{same_table, warehouse_table, item_table, stock_table, district_table, customer_table, order_table, new_order_table, line_table}
+use Rattle.population.proofs.Whole.{same_table, warehouse_table, item_table, stock_table, district_table, customer_table, order_table, new_order_table}
+use Rattle.population.proofs.Whole.{line_table}
 use Rattle.population.proofs.plain.plain_tables.Goals as goal
 
 pub returns : goal.returns

@@ -23,5 +23,6 @@ pub returns-in-Err-script-clause-refused : goal.returns-in-Err-script-clause-ref
 returns-in-Err-script-clause-refused g c = λ bytes left.
     let beginning = c.in-Err-script.ensures.beginning bytes left in
     let limits = c.in-Ok.ensures.limits in
-    begun limits.1 (initial c.in-Ok-plain.population) beginning.0 (subst (λ (s : Sizes). IsPlain s (initial c.in-Ok-plain.population)) limits.0 c.in-Ok-plain.ensures.rows)
+    begun limits.1 (initial c.in-Ok-plain.population) beginning.0
+    (subst (λ (s : Sizes). IsPlain s (initial c.in-Ok-plain.population)) limits.0 c.in-Ok-plain.ensures.rows)
     c.in-Err-script.ensures.refusals beginning.1 beginning.2

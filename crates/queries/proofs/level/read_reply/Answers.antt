@@ -31,6 +31,8 @@ returns-clause-reply g c =
     let sold : (t : Database) → IsCandidate t0 last.reads t → (i : ℕ) → is_sold t home i ≡ list_any (λ j. j == i) items = λ t h.
     let before = candidate_still t0 second last _ c.count_low.ensures.reads t h in
     c.in_ok-items.ensures.sold t before (c.in_ok-next.ensures.next t (candidate_still t0 first second _ c.sold_items.ensures.reads t before)) in
-    let counted : (t : Database) → IsCandidate t0 last.reads t → length (filter (λ i. list_any (λ j. j == i) items && is_low t x.warehouse x.threshold i) (range_with_len 1 t0.scale.items)) ≡ c.in_ok-low.low = λ t h.
-    subst (λ (xs : List ℕ). length (filter (λ i. list_any (λ j. j == i) xs && is_low t x.warehouse x.threshold i) (range_with_len 1 t0.scale.items)) ≡ c.in_ok-low.low) c.as_slice.ensures.value (c.in_ok-low.ensures.low t h) in
+    let counted : (t : Database) → IsCandidate t0 last.reads t
+    → length (filter (λ i. list_any (λ j. j == i) items && is_low t x.warehouse x.threshold i) (range_with_len 1 t0.scale.items)) ≡ c.in_ok-low.low = λ t h.
+    subst (λ (xs : List ℕ). length (filter (λ i. list_any (λ j. j == i) xs && is_low t x.warehouse x.threshold i) (range_with_len 1 t0.scale.items))
+    ≡ c.in_ok-low.low) c.as_slice.ensures.value (c.in_ok-low.ensures.low t h) in
     explains t0 x last.reads items c.in_ok-low.low sold counted

@@ -30,7 +30,8 @@ loop-item-preserved g c =
     let more = c.count_once.ensures.reads in
     let is_item : IsItemKey t0.scale item = c.requires.items at 0 c.loop-item-test.true in
     record {
-      read_once = λ j is. held_after items at c.loop-item-test.true j (is_some (held old.reads (stock_number t0.scale query j))) (is_some (held new.reads (stock_number t0.scale query j)))
+      read_once = λ j is. held_after items at c.loop-item-test.true j (is_some (held old.reads (stock_number t0.scale query j)))
+          (is_some (held new.reads (stock_number t0.scale query j)))
           (i.read_once j is) (λ same. subst (λ (k : ℕ). is_some (held new.reads (stock_number t0.scale query k)) ≡ true) (sym same) c.in_ok-low.ensures.holds)
           (λ apart. ap is_some (c.count_once.ensures.others j is apart));
       counted = λ t h.
@@ -45,5 +46,7 @@ loop-item-preserved g c =
 pub returns-clause-low : goal.returns-clause-low
 returns-clause-low g c = λ t h.
     let all = take_all c.loop-item.item-index c.args.items.now (omega (arith, c.loop-item-test.false)) in
-    subst (λ (items : List ℕ). length (filter (λ i. list_any (λ j. j == i) items && is_low t c.args.query.now.warehouse c.args.query.now.threshold i) (range_with_len 1 g.K.Start.tables.scale.items)) ≡ c.loop-item.low) all
+    subst (λ (items : List ℕ). length
+    (filter (λ i. list_any (λ j. j == i) items && is_low t c.args.query.now.warehouse c.args.query.now.threshold i)
+    (range_with_len 1 g.K.Start.tables.scale.items)) ≡ c.loop-item.low) all
     (c.loop-item.invariant.counted t h)

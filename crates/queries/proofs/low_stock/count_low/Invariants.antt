@@ -10,9 +10,11 @@ use Rattle.queries.proofs.low_stock.count_low.Given as goal
 -- so many items are counted: the stock that was read is theirs
 abbrev pub invariant-loop-item : goal.invariant-loop-item
 invariant-loop-item g l = record {
-  read_once : (i : ℕ) → IsItemKey g.K.Start.tables.scale i → is_some (held l.transaction.reads (stock_number g.K.Start.tables.scale l.query i)) ≡ list_any (λ j. j == i) (take l.item-index l.items);
+  read_once : (i : ℕ) → IsItemKey g.K.Start.tables.scale i → is_some (held l.transaction.reads (stock_number g.K.Start.tables.scale l.query i)) ≡ list_any
+      (λ j. j == i) (take l.item-index l.items);
   counted : AtAll g.K.Start.tables l.transaction (λ t.
-      length (filter (λ i. list_any (λ j. j == i) (take l.item-index l.items) && is_low t l.query.warehouse l.query.threshold i) (range_with_len 1 g.K.Start.tables.scale.items)) ≡ l.low);
+      length (filter (λ i. list_any (λ j. j == i) (take l.item-index l.items) && is_low t l.query.warehouse l.query.threshold i)
+      (range_with_len 1 g.K.Start.tables.scale.items)) ≡ l.low);
   few : l.low ≤ l.item-index;
   reads : ReadsMore l.item-index l.fn.transaction l.transaction;
 }

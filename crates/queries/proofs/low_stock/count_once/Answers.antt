@@ -14,13 +14,17 @@ returns-in_default-clause-low g c = λ t h.
 pub returns-then-words-from-clause-low : goal.returns-then-words-from-clause-low
 returns-then-words-from-clause-low g c = λ t h.
     let k : StockKey = record { warehouse = c.args.query.now.warehouse; item = c.args.item } in
-    let fresh : is_some (held c.args.transaction.now.reads (stock_number g.K.Start.tables.scale c.args.query.now c.args.item)) ≡ false = sym c.has_read.ensures ∙ c.if-has_read.false in
-    first_counted g.K.Start.tables c.read.new.self.reads k (c.requires.input.warehouse, c.requires.item) t h c.in-Some.words (c.in_ok-words.ensures.words t h ∙ c.in-Some.is)
+    let fresh : is_some (held c.args.transaction.now.reads (stock_number g.K.Start.tables.scale c.args.query.now c.args.item)) ≡ false = sym c.has_read.ensures
+    ∙ c.if-has_read.false in
+    first_counted g.K.Start.tables c.read.new.self.reads k (c.requires.input.warehouse, c.requires.item) t h c.in-Some.words
+    (c.in_ok-words.ensures.words t h ∙ c.in-Some.is)
     c.args.query.now.threshold _ true fresh (grind (arith, nat_tests, c.if-words-from.true, c.from.ensures))
 
 pub returns-else-words-from-clause-low : goal.returns-else-words-from-clause-low
 returns-else-words-from-clause-low g c = λ t h.
     let k : StockKey = record { warehouse = c.args.query.now.warehouse; item = c.args.item } in
-    let fresh : is_some (held c.args.transaction.now.reads (stock_number g.K.Start.tables.scale c.args.query.now c.args.item)) ≡ false = sym c.has_read.ensures ∙ c.if-has_read.false in
-    first_counted g.K.Start.tables c.read.new.self.reads k (c.requires.input.warehouse, c.requires.item) t h c.in-Some.words (c.in_ok-words.ensures.words t h ∙ c.in-Some.is)
+    let fresh : is_some (held c.args.transaction.now.reads (stock_number g.K.Start.tables.scale c.args.query.now c.args.item)) ≡ false = sym c.has_read.ensures
+    ∙ c.if-has_read.false in
+    first_counted g.K.Start.tables c.read.new.self.reads k (c.requires.input.warehouse, c.requires.item) t h c.in-Some.words
+    (c.in_ok-words.ensures.words t h ∙ c.in-Some.is)
     c.args.query.now.threshold _ false fresh (grind (arith, nat_tests, c.if-words-from.false, c.from.ensures))

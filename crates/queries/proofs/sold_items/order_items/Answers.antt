@@ -15,13 +15,17 @@ loop-done-preserved g c =
     let more = c.read_item.ensures.reads in
     record {
       sold = λ first low start.
-          subst (λ (items : List ℕ). AreItems t0 (home_of c.args.order) first c.args.order.order (c.loop-done.done + 1) c.read_item.new.transaction.reads items) pushed
-          (next_line t0 (home_of c.args.order) first c.args.order.order c.loop-done.done c.loop-done.transaction.reads c.read_item.new.transaction.reads c.loop-done.items.items c.in_ok-item.item
+          subst (λ (items : List ℕ). AreItems t0 (home_of c.args.order) first c.args.order.order (c.loop-done.done + 1) c.read_item.new.transaction.reads items)
+          pushed
+          (next_line t0 (home_of c.args.order) first c.args.order.order c.loop-done.done c.loop-done.transaction.reads c.read_item.new.transaction.reads
+          c.loop-done.items.items c.in_ok-item.item
           (i.sold first low start) more.keeps c.in_ok-item.ensures.item);
-      keys = λ before. subst (All (IsItemKey t0.scale)) pushed (all_with (IsItemKey t0.scale) c.loop-done.items.items c.in_ok-item.item (i.keys before) c.in_ok-item.ensures.range);
+      keys = λ before. subst (All (IsItemKey t0.scale)) pushed
+          (all_with (IsItemKey t0.scale) c.loop-done.items.items c.in_ok-item.item (i.keys before) c.in_ok-item.ensures.range);
       count = let one = length_with c.loop-done.items.items c.in_ok-item.item in let same = ap length pushed in omega (arith, one, same, i.count);
       no_stock = λ k is. c.read_item.ensures.no_stock k is ∙ i.no_stock k is;
-      reads = reads_twice c.args.transaction.now c.loop-done.transaction c.read_item.new.transaction c.loop-done.done 1 (c.loop-done.done + 1) i.reads more (omega arith);
+      reads = reads_twice c.args.transaction.now c.loop-done.transaction c.read_item.new.transaction c.loop-done.done 1 (c.loop-done.done + 1) i.reads more
+          (omega arith);
     }
 
 pub returns-clause-sold : goal.returns-clause-sold
@@ -29,4 +33,5 @@ returns-clause-sold g c = λ first low start.
     let t0 = g.K.Start.tables in
     let all : c.loop-done.done ≡ MAX_ORDER_LINES = omega (arith, c.loop-done.auto.done-end, c.loop-done-test.false) in
     next_first t0 (home_of c.args.order) first c.args.order.order c.loop-done.transaction.reads c.loop-done.items.items low
-    (subst (λ m. AreItems t0 (home_of c.args.order) first c.args.order.order m c.loop-done.transaction.reads c.loop-done.items.items) all (c.loop-done.invariant.sold first low start))
+    (subst (λ m. AreItems t0 (home_of c.args.order) first c.args.order.order m c.loop-done.transaction.reads c.loop-done.items.items) all
+    (c.loop-done.invariant.sold first low start))

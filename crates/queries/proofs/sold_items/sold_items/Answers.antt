@@ -15,7 +15,8 @@ loop-order-init g c =
     record {
       low = omega arith;
       high = omega (arith, first, c.requires.next.0);
-      sold = subst (λ (items : List ℕ). AreItems t0 c.args.home low low 0 c.args.transaction.now.reads items) (sym c.new-items.ensures.items) (none_before t0 c.args.home low c.args.transaction.now.reads);
+      sold = subst (λ (items : List ℕ). AreItems t0 c.args.home low low 0 c.args.transaction.now.reads items) (sym c.new-items.ensures.items)
+          (none_before t0 c.args.home low c.args.transaction.now.reads);
       keys = subst (All (IsItemKey t0.scale)) (sym c.new-items.ensures.items) (All-nil (IsItemKey t0.scale));
       count = let empty = ap length c.new-items.ensures.items in omega (arith, empty);
       no_stock = λ k is. refl;
@@ -33,7 +34,8 @@ loop-order-preserved g c =
       keys = c.order_items.ensures.items i.keys;
       count = omega (arith, c.order_items.ensures.count, i.count, i.low);
       no_stock = λ k is. c.order_items.ensures.no_stock k is ∙ i.no_stock k is;
-      reads = reads_twice c.args.transaction.now c.loop-order.transaction c.order_items.new.transaction ((c.loop-order.order - low) * MAX_ORDER_LINES) MAX_ORDER_LINES ((c.loop-order.order + 1 - low) * MAX_ORDER_LINES)
+      reads = reads_twice c.args.transaction.now c.loop-order.transaction c.order_items.new.transaction ((c.loop-order.order - low) * MAX_ORDER_LINES)
+          MAX_ORDER_LINES ((c.loop-order.order + 1 - low) * MAX_ORDER_LINES)
           i.reads c.order_items.ensures.reads (omega (arith, i.low));
     }
 
@@ -42,4 +44,5 @@ returns-clause-sold g c = λ t h next.
     let all : c.loop-order.order ≡ c.args.next = omega (arith, c.loop-order.invariant.high, c.loop-order-test.false) in
     let first : c.first_recent-first.result ≡ max 1 (c.args.next - RECENT_ORDERS) = c.first_recent-first.ensures in
     all_sold g.K.Start.tables c.args.home c.args.next c.loop-order.transaction.reads c.loop-order.items.items
-    (subst (λ (q : ℕ × ℕ). AreItems g.K.Start.tables c.args.home q.0 q.1 0 c.loop-order.transaction.reads c.loop-order.items.items) (λ i. (first i, all i)) c.loop-order.invariant.sold) t h next
+    (subst (λ (q : ℕ × ℕ). AreItems g.K.Start.tables c.args.home q.0 q.1 0 c.loop-order.transaction.reads c.loop-order.items.items) (λ i. (first i, all i))
+    c.loop-order.invariant.sold) t h next

@@ -11,5 +11,6 @@ returns-clause-key c =
       c.requires.warehouse,
       c.requires.district,
       subst (IsNumber t0.scale.customers) (sym c.customer-customer.ensures)
-          (is_number_of t0 (record { warehouse = x.warehouse; district = x.district }) x.who c.args.population.now.well_formed (c.requires.warehouse, c.requires.district) c.requires.who),
+          (is_number_of t0 (record { warehouse = x.warehouse; district = x.district }) x.who c.args.population.now.well_formed
+          (c.requires.warehouse, c.requires.district) c.requires.who),
     )

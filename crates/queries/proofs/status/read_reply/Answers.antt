@@ -9,6 +9,7 @@ returns-clause-reply g c =
     let second = c.read_last.new.transaction in
     let last = c.read_order.new.transaction in
     status_explained t0 c.args.query.now c.args.customer c.requires.asked last.reads c.in_ok-balance.balance c.in_ok-order.order c.in_ok-order-2.order
-    (λ t h. c.in_ok-balance.ensures.balance t (candidate_still t0 first second _ c.read_last.ensures.reads t (candidate_still t0 second last _ c.read_order.ensures.reads t h)))
+    (λ t h. c.in_ok-balance.ensures.balance t
+    (candidate_still t0 first second _ c.read_last.ensures.reads t (candidate_still t0 second last _ c.read_order.ensures.reads t h)))
     (λ t h. c.in_ok-order.ensures.last t (candidate_still t0 second last _ c.read_order.ensures.reads t h))
     c.in_ok-order-2.ensures.told

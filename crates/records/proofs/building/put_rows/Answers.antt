@@ -16,11 +16,14 @@ loop-number-preserved c =
     let old = c.loop-number.tables in
     let done = c.loop-number.invariant in
     let more = λ (t : Tables). AreTables t0 (by_key t0.scale (below (n + 1) values)) (database t) in
-    let is : values n ≡ c.value.result = value_read c.args.newest.now n c.index-newest-number.result (omega arith) c.index-newest-number.is ∙ sym c.value.ensures in
+    let is : values n ≡ c.value.result = value_read c.args.newest.now n c.index-newest-number.result (omega arith) c.index-newest-number.is
+    ∙ sym c.value.ensures in
     elim c.match-value.branch [
       | in-Some+in_ok-put w ↦
-          let puts = subst (λ k. Puts t0 k (Some w.in-Some.words) (database old) (database w.put.new.tables)) w.key_of-key.ensures.value w.in_ok-put.ensures in record {
-            tables = subst more (sym w.tables-is) (goes_on t0 values (database old) (database w.put.new.tables) n w.in-Some.words (omega arith) (is ∙ w.in-Some.is) puts done.tables);
+          let puts = subst (λ k. Puts t0 k (Some w.in-Some.words) (database old) (database w.put.new.tables)) w.key_of-key.ensures.value w.in_ok-put.ensures in
+          record {
+            tables = subst more (sym w.tables-is)
+                (goes_on t0 values (database old) (database w.put.new.tables) n w.in-Some.words (omega arith) (is ∙ w.in-Some.is) puts done.tables);
             history = ap (λ (t : Tables). t.history.items) w.tables-is ∙ (puts.history ∙ done.history);
           }
       | in_default w ↦ record {

@@ -31,11 +31,16 @@ returns-clause-population c =
     let t0 = initial c.args.population.now in
     let t = database c.put_rows.new.tables in
     let values = value_at c.args.newest.now in
-    is_of t0 (by_key t0.scale values) t c.args.population.now.well_formed (lawful_by_key t0.scale values c.requires.lawful) (of_population _ t0 t values c.tables-first.ensures c.in_ok-put_rows.ensures.tables)
+    is_of t0 (by_key t0.scale values) t c.args.population.now.well_formed (lawful_by_key t0.scale values c.requires.lawful)
+    (of_population _ t0 t values c.tables-first.ensures c.in_ok-put_rows.ensures.tables)
 
 pub returns-clause-is : goal.returns-clause-is
 returns-clause-is c =
     let t0 = initial c.args.population.now in
     let t = database c.put_rows.new.tables in
     let values = value_at c.args.newest.now in
-    λ u of wf agree history. determined t0 (by_key t0.scale values) t u (of_population _ t0 t values c.tables-first.ensures c.in_ok-put_rows.ensures.tables) (are_tables t0 u of wf values agree) (c.in_ok-put_rows.ensures.history ∙ (ap (λ (d : Database). d.history) c.in_ok-tables.ensures ∙ ap (λ (d : Database). d.history ++ c.args.added.now) c.tables-first.ensures ∙ sym history))
+    λ u of wf agree history. determined t0 (by_key t0.scale values) t u (of_population _ t0 t values c.tables-first.ensures c.in_ok-put_rows.ensures.tables)
+    (are_tables t0 u of wf values agree)
+    (c.in_ok-put_rows.ensures.history
+    ∙ (ap (λ (d : Database). d.history) c.in_ok-tables.ensures ∙ ap (λ (d : Database). d.history ++ c.args.added.now) c.tables-first.ensures
+    ∙ sym history))

@@ -9,5 +9,7 @@ pub returns-clause-first : goal.returns-clause-first
 returns-clause-first c =
     let filled = c.begin_numbers.new.newest in
     let begun = are_first (database c.tables-tables.result.now) filled c.begin_numbers.ensures in
-    let count : length filled ≡ c.in_ok-newest.newest.len = begun.count ∙ sym c.in_ok-newest.ensures.count ∙ ap length (sym c.deref_mut.ensures.value) ∙ c.deref_mut.ensures.len in
-    subst (AreFirst (initial c.args.population.now)) (sym (take_at filled _ c.in_ok-newest.newest.len count)) (subst (λ (t : Database). AreFirst t filled) c.tables-tables.ensures begun)
+    let count : length filled ≡ c.in_ok-newest.newest.len = begun.count ∙ sym c.in_ok-newest.ensures.count ∙ ap length (sym c.deref_mut.ensures.value)
+    ∙ c.deref_mut.ensures.len in
+    subst (AreFirst (initial c.args.population.now)) (sym (take_at filled _ c.in_ok-newest.newest.len count))
+    (subst (λ (t : Database). AreFirst t filled) c.tables-tables.ensures begun)

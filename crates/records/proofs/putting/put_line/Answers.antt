@@ -15,4 +15,6 @@ pub returns : goal.returns
 returns c =
     let t0 = database c.args.population.now in
     let row = decoded_line t0.scale c.args.words.now c.requires.words in
-    puts_line t0 c.args.words.now (database c.args.tables.now) c.args.key c.line_of.result _ (insert-view exact_line c.args.tables.now.lines c.insert.new.self c.args.key c.line_of.result c.in_ok-insert.ensures.updates) c.requires.key (subst (IsLineRow t0.scale) (sym c.line_of.ensures) row.0) (row.1 ∙ ap line_words (sym c.line_of.ensures))
+    puts_line t0 c.args.words.now (database c.args.tables.now) c.args.key c.line_of.result _
+    (insert-view exact_line c.args.tables.now.lines c.insert.new.self c.args.key c.line_of.result c.in_ok-insert.ensures.updates) c.requires.key
+    (subst (IsLineRow t0.scale) (sym c.line_of.ensures) row.0) (row.1 ∙ ap line_words (sym c.line_of.ensures))

@@ -12,4 +12,6 @@ pub returns : goal.returns
 returns c =
     let t0 = database c.args.population.now in
     let row = decoded_order t0.scale c.args.words.now c.requires.words in
-    puts_order t0 c.args.words.now (database c.args.tables.now) c.args.key c.order_of.result _ (insert-view exact_order c.args.tables.now.orders c.insert.new.self c.args.key c.order_of.result c.in_ok-insert.ensures.updates) c.requires.key (subst (IsOrderIn t0.scale) (sym c.order_of.ensures) row.0) (row.1 ∙ ap order_words (sym c.order_of.ensures))
+    puts_order t0 c.args.words.now (database c.args.tables.now) c.args.key c.order_of.result _
+    (insert-view exact_order c.args.tables.now.orders c.insert.new.self c.args.key c.order_of.result c.in_ok-insert.ensures.updates) c.requires.key
+    (subst (IsOrderIn t0.scale) (sym c.order_of.ensures) row.0) (row.1 ∙ ap order_words (sym c.order_of.ensures))

@@ -6,7 +6,8 @@ use Rattle.script.proofs.Progress.{on_err, on_err_more, begun_none}
 use Rattle.script.proofs.running.script.Goals as goal
 
 pub returns-in_err-parts-clause-beginning : goal.returns-in_err-parts-clause-beginning
-returns-in_err-parts-clause-beginning g c = on_err _ c.from_residual.result (λ bytes left. ([], Appends-nil (g.W.Write.contents c.args.writer.now), begun_none (initial c.args.population) bytes))
+returns-in_err-parts-clause-beginning g c =
+    on_err _ c.from_residual.result (λ bytes left. ([], Appends-nil (g.W.Write.contents c.args.writer.now), begun_none (initial c.args.population) bytes))
 
 pub returns-clause-beginning : goal.returns-clause-beginning
 returns-clause-beginning g c = on_err_more _ _ c.run.result (λ front bytes left.

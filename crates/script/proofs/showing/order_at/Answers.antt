@@ -25,11 +25,17 @@ at_most_carrier None h = omega arith
 at_most_carrier (Some n) h = (h n refl).1
 
 -- the words of an order fit its columns
-order_fits : (t : Database) → IsWellFormed t → t.scale.customers ≤ MAX_CUSTOMERS → (k : OrderKey) (ws : List ℕ) → row_at t (key.Order k) ≡ Some ws → FitsColumn ws 0 × FitsColumn ws 1 × FitsColumn ws 2 × FitsColumn ws 3
+order_fits : (t : Database) → IsWellFormed t → t.scale.customers ≤ MAX_CUSTOMERS → (k : OrderKey) (ws : List ℕ) → row_at t (key.Order k) ≡ Some ws
+    → FitsColumn ws 0 × FitsColumn ws 1 × FitsColumn ws 2 × FitsColumn ws 3
 order_fits t wf cap k ws held = of_words (λ l. FitsColumn l 0 × FitsColumn l 1 × FitsColumn l 2 × FitsColumn l 3) ws (get t.orders k) held (λ r is.
     let range = wf.order_rows k r is in
-    let customer = (wf.customers _).0 (wf.order_customers k r is) in
-    (omega (arith, customer.2.1, cap), omega (arith, range.entry_date.1), omega (arith, at_most_carrier r.carrier range.carrier), omega (arith, range.line_count.1)))
+    let customer = (wf.customers _).0 (wf.order_customers k r is) in (
+      omega (arith, customer.2.1, cap),
+      omega (arith, range.entry_date.1),
+      omega (arith, at_most_carrier r.carrier range.carrier),
+      omega
+          (arith, range.line_count.1),
+    ))
 
 pub order_of-row-requires : goal.order_of-row-requires
 order_of-row-requires g c =

@@ -13,4 +13,5 @@ returns-clause-words g c =
     let t0 = g.K.Run.first in
     let t = replay t0 c.args.session.now.history in
     let scale : c.scale-scale.result ≡ t0.scale = c.scale-scale.ensures ∙ ap (λ (t : Database). t.scale) c.population.ensures in
-    c.record.ensures.words ∙ ap (rows t) (c.number_of_key.ensures.value ∙ ap (λ (z : Sizes). number_of_key z c.args.key) scale) ∙ record_at t0 t (replay-IsOf t0 c.args.session.now.history) c.args.key c.requires
+    c.record.ensures.words ∙ ap (rows t) (c.number_of_key.ensures.value ∙ ap (λ (z : Sizes). number_of_key z c.args.key) scale)
+    ∙ record_at t0 t (replay-IsOf t0 c.args.session.now.history) c.args.key c.requires

@@ -38,8 +38,10 @@ loop-number-preserved c =
     let made = c.loop-number.invariant in
     let pushed = c.in_ok-push.ensures.items in
     let lent = c.tables-tables.result.now in
-    let row = c.version.ensures ∙ (c.words-words.ensures ∙ (ap (row_at (database lent)) c.key_of.ensures.value ∙ ap (λ (d : Database). rows d n) c.tables-tables.ensures)) in
-    let more = below_more (λ k. value_at (old ++ c.version.result ∷ []) k ≡ rows (initial c.args.population.now) k) n (λ k h. before old c.version.result k (subst (λ l. k < l) (sym made.count) h) ∙ made.values k h) (added old c.version.result n made.count ∙ row) in
+    let row = c.version.ensures
+    ∙ (c.words-words.ensures ∙ (ap (row_at (database lent)) c.key_of.ensures.value ∙ ap (λ (d : Database). rows d n) c.tables-tables.ensures)) in
+    let more = below_more (λ k. value_at (old ++ c.version.result ∷ []) k ≡ rows (initial c.args.population.now) k) n
+    (λ k h. before old c.version.result k (subst (λ l. k < l) (sym made.count) h) ∙ made.values k h) (added old c.version.result n made.count ∙ row) in
     record {
       count = ap length pushed ∙ (length_push old c.version.result ∙ ap (λ l. l + 1) made.count);
       values = λ k h. ap (λ xs. value_at xs k) pushed ∙ more k h;
@@ -49,4 +51,5 @@ pub returns-clause-lawful : goal.returns-clause-lawful
 returns-clause-lawful c =
     let t0 = initial c.args.population.now in
     let all : row_count t0.scale ≡ 1063 = ap row_count c.requires in
-    λ n h. subst (MayHold t0.scale (key_of t0.scale n)) (sym (c.loop-number.invariant.values n (omega arith))) (lawful_values t0 c.args.population.now.well_formed n h)
+    λ n h. subst (MayHold t0.scale (key_of t0.scale n)) (sym (c.loop-number.invariant.values n (omega arith)))
+    (lawful_values t0 c.args.population.now.well_formed n h)

@@ -30,11 +30,13 @@ module _ (xs : List Newest) (i : ℕ) (x : Newest) where
       let e = slice_get-get_or (slice_set xs i x) n x (within n h) ∙ (ap Some (get_or-set_other xs i n x x other) ∙ sym (slice_get-get_or xs n x h)) in
       ap (λ found. value_in (option_map_or newest_words found [])) e
 
-  lawful : (s : Sizes) → length xs ≡ row_count s → i < length xs → AreLawful s (value_at xs) → MayHold s (key_of s i) (value_in (newest_words x)) → AreLawful s (value_at (slice_set xs i x))
+  lawful : (s : Sizes) → length xs ≡ row_count s → i < length xs → AreLawful s (value_at xs) → MayHold s (key_of s i) (value_in (newest_words x))
+      → AreLawful s (value_at (slice_set xs i x))
   lawful s count at before may n h = by_place (eqb n i) (λ j. eqb n i)
     where
       by_place : (b : Bool) → eqb n i ≡ b → MayHold s (key_of s n) (value_at (slice_set xs i x) n)
-      by_place true e = subst (λ m. MayHold s (key_of s m) (value_at (slice_set xs i x) m)) (sym (eqb-true n i e)) (subst (MayHold s (key_of s i)) (sym (written at)) may)
+      by_place true e = subst (λ m. MayHold s (key_of s m) (value_at (slice_set xs i x) m)) (sym (eqb-true n i e))
+          (subst (MayHold s (key_of s i)) (sym (written at)) may)
       by_place false e = subst (MayHold s (key_of s n)) (sym (elsewhere n (omega arith) (eqb-false n i e))) (before n h)
 
 pub index_mut-requires : goal.index_mut-requires
@@ -49,4 +51,5 @@ returns-clause-lawful c =
     let below = row_below s c.args.key c.requires.key c.requires.row in
     let key : key_of s i ≡ c.args.key = ap (key_of s) c.number_of_key-number.ensures.value ∙ (named s c.args.key c.requires.key).1 in
     let may = subst (λ k. MayHold s k (Some c.args.words)) (sym key) c.requires.words in
-    lawful c.args.newest.now.items i c.version.result s c.requires.count (omega arith) c.requires.lawful (subst (MayHold s (key_of s i)) (sym c.version.ensures) may)
+    lawful c.args.newest.now.items i c.version.result s c.requires.count (omega arith) c.requires.lawful
+    (subst (MayHold s (key_of s i)) (sym c.version.ensures) may)

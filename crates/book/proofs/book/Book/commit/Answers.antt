@@ -1,4 +1,5 @@
-use Rattle.std.proofs.Common.{◌≡◌, ◌≢◌, ℕ, ◌+◌, ◌<◌, ◌≤◌, ◌⊎◌, Option, Some, None, IsSome, inl, List, [], ◌∷◌, ◌++◌, inr, refl, sym, ap, ◌∙◌, subst, length, arith, rules, length-append}
+use Rattle.std.proofs.Common.{◌≡◌, ◌≢◌, ℕ, ◌+◌, ◌<◌, ◌≤◌, ◌⊎◌, Option, Some, None, IsSome, inl, List, [], ◌∷◌, ◌++◌, inr, refl, sym, ap, ◌∙◌, subst, length}
+use Rattle.std.proofs.Common.{arith, rules, length-append}
 use Rattle.std.specs.Prelude.{slice_index_or, slice_set}
 use Rattle.std.proofs.lemmas.Grind.{get_or_default_zero}
 use Rattle.money.specs.declared.refusal.Refusal.{Refusal}
@@ -40,13 +41,15 @@ abbrev kept : PenView → List Entry → BookView
 kept pen history = record { written = pen; history = history }
 
 -- the terminal's last TID, where the vector has it
-last_is : {terminals terminal last : ℕ} {history : List Entry} {lasts : List ℕ} → AreLast terminals history lasts → terminal < terminals → last ≡ slice_index_or lasts terminal last → last ≡ last_of terminal history
+last_is : {terminals terminal last : ℕ} {history : List Entry} {lasts : List ℕ} → AreLast terminals history lasts → terminal < terminals
+    → last ≡ slice_index_or lasts terminal last → last ≡ last_of terminal history
 last_is {terminal = terminal} {last = last} {lasts = lasts} are small is =
     let within : terminal < length lasts = subst (λ n. terminal < n) (sym are.count) small in
     is ∙ get_or_default_zero lasts terminal last within ∙ are.last terminal within
 
 never_full : (refusal : Refusal) (count cap : ℕ) (next : Option ℕ)
-    → ((refusal ≡ CommitsFull) × (cap ≤ count)) ⊎ ((refusal ≡ EpochFull) × (count < cap) × (next ≡ None)) ⊎ ((refusal ≡ OutOfMemory) × (count < cap) × IsSome next)
+    → ((refusal ≡ CommitsFull) × (cap ≤ count)) ⊎ ((refusal ≡ EpochFull) × (count < cap) × (next ≡ None))
+    ⊎ ((refusal ≡ OutOfMemory) × (count < cap) × IsSome next)
     → (count < cap → next ≡ None → ⊥) → refusal ≢ EpochFull
 never_full refusal count cap next (inl full) never e = other (sym full.0 ∙ e)
   where
@@ -60,7 +63,8 @@ never_full refusal count cap next (inr (inr memory)) never e = other (sym memory
 
 -- these refusals say nothing of a conflict, and of the epoch that there is no TID
 only_full : (refusal : Refusal) (count cap : ℕ) (next : Option ℕ)
-    → ((refusal ≡ CommitsFull) × (cap ≤ count)) ⊎ ((refusal ≡ EpochFull) × (count < cap) × (next ≡ None)) ⊎ ((refusal ≡ OutOfMemory) × (count < cap) × IsSome next)
+    → ((refusal ≡ CommitsFull) × (cap ≤ count)) ⊎ ((refusal ≡ EpochFull) × (count < cap) × (next ≡ None))
+    ⊎ ((refusal ≡ OutOfMemory) × (count < cap) × IsSome next)
     → (refusal ≢ Conflict) × (refusal ≡ EpochFull → next ≡ None)
 only_full refusal count cap next (inl full) = ((λ e. never (sym full.0 ∙ e)), (λ e. absurd (other (sym full.0 ∙ e))))
   where
@@ -92,16 +96,19 @@ returns-in-Err-clause-answer g c =
     let found = c.in-Some.ensures.latest in
     let lasts = c.self.invariant.5 in
     let last : c.index-last.result.now ≡ last_of c.share.inside.terminal items = last_is lasts c.share.invariant.1 c.index-last.ensures in
-    let same = same_next g.K.Run.first g.K.Run.cells (kept c.self.inside.pen items) (replay g.K.Run.first items) c.self.invariant.0 c.self.invariant.1 c.args.reader.now c.args.work c.requires.work found.0
+    let same = same_next g.K.Run.first g.K.Run.cells (kept c.self.inside.pen items) (replay g.K.Run.first items) c.self.invariant.0 c.self.invariant.1
+    c.args.reader.now c.args.work c.requires.work found.0
     c.share.inside.terminal c.in-Some.seen c.index-last.result.now found.2 found.1 last in (
       (λ i. record { written = c.validate.ensures.pen i; history = c.prepare.ensures.history i }) ∙ view,
       refl,
       inr (
         subst (λ (k : BookView). AreLatest k.written.all c.args.work.reads) view found.0,
         subst (λ (k : BookView). CommitsAt (replay g.K.Run.first k.history) c.args.work.input c.args.work.writes c.args.work.reply) view
-            (done_there g.K.Run.first g.K.Run.cells (kept c.self.inside.pen items) (replay g.K.Run.first items) c.self.invariant.0 c.self.invariant.1 c.args.reader.now c.args.work c.requires.work found.0),
+            (done_there g.K.Run.first g.K.Run.cells (kept c.self.inside.pen items) (replay g.K.Run.first items) c.self.invariant.0 c.self.invariant.1
+            c.args.reader.now c.args.work c.requires.work found.0),
         subst (λ (q : ℕ × BookView × Option ℕ). ((c.in-Err.refusal ≡ CommitsFull) × (q.0 ≤ length q.1.history))
-            ⊎ ((c.in-Err.refusal ≡ EpochFull) × (length q.1.history < q.0) × (q.2 ≡ None)) ⊎ ((c.in-Err.refusal ≡ OutOfMemory) × (length q.1.history < q.0) × IsSome q.2))
+            ⊎ ((c.in-Err.refusal ≡ EpochFull) × (length q.1.history < q.0) × (q.2 ≡ None))
+            ⊎ ((c.in-Err.refusal ≡ OutOfMemory) × (length q.1.history < q.0) × IsSome q.2))
             (λ i. (cap i, view i, (same ∙ (λ j. tid_for (view j).history (c.share.view_is j).terminal EPOCH c.args.work.reads)) i)) c.in-Err.ensures.refused,
       ),
     )
@@ -112,7 +119,9 @@ returns-in-Err-clause-cap_first g c =
     let cap = capped g.K.Run.first c.commits-cap.ensures.value c.scale.ensures c.deref.ensures c.self.invariant.3 in
     let found = c.in-Some.ensures.latest in
     let last : c.index-last.result.now ≡ last_of c.share.inside.terminal items = last_is c.self.invariant.5 c.share.invariant.1 c.index-last.ensures in
-    never_full c.in-Err.refusal (length items) c.commits-cap.result _ c.in-Err.ensures.refused (λ below none. there_is g.K.Run.first g.K.Run.cells (kept c.self.inside.pen items) (replay g.K.Run.first items) c.self.invariant.0 c.self.invariant.1 c.args.reader.now c.args.work c.requires.work found.0
+    never_full c.in-Err.refusal (length items) c.commits-cap.result _ c.in-Err.ensures.refused
+    (λ below none. there_is g.K.Run.first g.K.Run.cells (kept c.self.inside.pen items) (replay g.K.Run.first items) c.self.invariant.0 c.self.invariant.1
+    c.args.reader.now c.args.work c.requires.work found.0
     c.share.inside.terminal c.in-Some.seen c.index-last.result.now found.2 found.1 last (subst (λ n. length items < n) cap below) none)
 
 pub store-requires-clause-read : goal.store-requires-clause-read
@@ -125,8 +134,10 @@ store-requires-clause-larger g c =
     let items : List Entry = c.self.inside.history.items in
     let found = c.in-Some.ensures.latest in
     let last : c.index-last.result.now ≡ last_of c.share.inside.terminal items = last_is c.self.invariant.5 c.share.invariant.1 c.index-last.ensures in
-    subst (λ (w : PenView). (n : ℕ) (value : Option (List ℕ)) → value_for c.args.work.writes n ≡ Some value → last_tid (at w.all n) < c.in-Ok.prepared.tid) (sym c.validate.ensures.pen)
-    (taken_above g.K.Run.first g.K.Run.cells (kept c.self.inside.pen items) (replay g.K.Run.first items) c.self.invariant.0 c.self.invariant.1 c.args.reader.now c.args.work c.requires.work found.0
+    subst (λ (w : PenView). (n : ℕ) (value : Option (List ℕ)) → value_for c.args.work.writes n ≡ Some value → last_tid (at w.all n) < c.in-Ok.prepared.tid)
+    (sym c.validate.ensures.pen)
+    (taken_above g.K.Run.first g.K.Run.cells (kept c.self.inside.pen items) (replay g.K.Run.first items) c.self.invariant.0 c.self.invariant.1 c.args.reader.now
+    c.args.work c.requires.work found.0
     c.share.inside.terminal c.in-Some.seen c.index-last.result.now found.2 found.1 last c.in-Ok.prepared.tid c.in-Ok.ensures.lawful c.in-Ok.ensures.tid)
 
 pub returns-clause-reader : goal.returns-clause-reader
@@ -143,21 +154,38 @@ invariant_of-self-2 g c =
     let cells : c.store.new.pen.cells ≡ c.self.inside.pen.cells = c.store.ensures.cells ∙ ap (λ (w : PenView). w.cells) c.validate.ensures.pen in
     let last : c.index-last.result.now ≡ last_of c.share.inside.terminal items = last_is c.self.invariant.5 c.share.invariant.1 c.index-last.ensures in
     let tid : ℕ = c.in-Ok.prepared.tid in
-    let stores : (n : ℕ) → at c.store.new.pen.all n ≡ at c.self.inside.pen.all n ++ new_versions c.in-Ok.prepared.tid c.args.work.writes.values n = λ n. c.store.ensures.versions n ∙ (λ i. at (c.validate.ensures.pen i).all n ++ new_versions c.in-Ok.prepared.tid c.args.work.writes.values n) in
-    let made = next_kept g.K.Run.first g.K.Run.cells (kept c.self.inside.pen items) (replay g.K.Run.first items) c.self.invariant.0 c.self.invariant.1 c.args.reader.now c.args.work c.requires.work found.0
-    c.share.inside.terminal c.in-Some.seen c.index-last.result.now found.2 found.1 last c.in-Ok.prepared.tid c.in-Ok.ensures.lawful c.in-Ok.ensures.tid c.store.new.pen small cells stores in
+    let stores : (n : ℕ) → at c.store.new.pen.all n ≡ at c.self.inside.pen.all n ++ new_versions c.in-Ok.prepared.tid c.args.work.writes.values n =
+    λ n. c.store.ensures.versions n ∙ (λ i. at (c.validate.ensures.pen i).all n ++ new_versions c.in-Ok.prepared.tid c.args.work.writes.values n) in
+    let made = next_kept g.K.Run.first g.K.Run.cells (kept c.self.inside.pen items) (replay g.K.Run.first items) c.self.invariant.0 c.self.invariant.1
+    c.args.reader.now c.args.work c.requires.work found.0
+    c.share.inside.terminal c.in-Some.seen c.index-last.result.now found.2 found.1 last c.in-Ok.prepared.tid c.in-Ok.ensures.lawful c.in-Ok.ensures.tid
+    c.store.new.pen small cells stores in
     let history : c.push_reserved.new.self.items ≡ items ++ entry_of (length items + 1) c.in-Ok.prepared.tid c.share.inside.terminal c.args.work ∷ [] =
-    c.push_reserved.ensures.items ∙ (λ i. c.prepare.ensures.history i ++ record { number = next i; tid = c.in-Ok.prepared.tid; terminal = c.share.inside.terminal; input = c.args.work.input; reply = c.args.work.reply; writes = c.in-Ok.ensures.writes i } ∷ []) in
+    c.push_reserved.ensures.items
+    ∙ (λ i. c.prepare.ensures.history i
+    ++ record {
+      number = next i;
+      tid = c.in-Ok.prepared.tid;
+      terminal = c.share.inside.terminal;
+      input = c.args.work.input;
+      reply = c.args.work.reply;
+      writes = c.in-Ok.ensures.writes i;
+    } ∷ []) in
     let led : after (replay g.K.Run.first items) c.args.work.input ≡ replay g.K.Run.first c.push_reserved.new.self.items =
-    sym (replay_push g.K.Run.first items (entry_of (length items + 1) c.in-Ok.prepared.tid c.share.inside.terminal c.args.work)) ∙ ap (replay g.K.Run.first) (sym history) in (
-      subst (λ (q : List Entry × Database). IsSound g.K.Run.first (record { written = c.store.new.pen; history = q.0 }) q.1) (λ i. (sym history i, led i)) made.0,
-      subst (λ (q : List Entry × Database). IsReady g.K.Run.first g.K.Run.cells (record { written = c.store.new.pen; history = q.0 }) q.1) (λ i. (sym history i, led i)) made.1,
+    sym (replay_push g.K.Run.first items (entry_of (length items + 1) c.in-Ok.prepared.tid c.share.inside.terminal c.args.work))
+    ∙ ap (replay g.K.Run.first) (sym history) in (
+      subst (λ (q : List Entry × Database). IsSound g.K.Run.first (record { written = c.store.new.pen; history = q.0 }) q.1) (λ i. (sym history i, led i))
+          made.0,
+      subst (λ (q : List Entry × Database). IsReady g.K.Run.first g.K.Run.cells (record { written = c.store.new.pen; history = q.0 }) q.1)
+          (λ i. (sym history i, led i)) made.1,
       subst (AreNewest c.store.new.pen) (sym (given_back c.self.inside.newest.len c.store.new.newest c.self.inside.newest.items c.self.inside.newest.ok.0
           (c.store.ensures.newest.count ∙ ap length cells ∙ sym c.self.invariant.2.count))) c.store.ensures.newest,
       c.self.invariant.3,
-      c.add.ensures.total ∙ ap (λ n. n + 1) c.self.invariant.4 ∙ sym (ap length history ∙ length-append items (entry_of (length items + 1) c.in-Ok.prepared.tid c.share.inside.terminal c.args.work ∷ [])),
+      c.add.ensures.total ∙ ap (λ n. n + 1) c.self.invariant.4
+          ∙ sym (ap length history ∙ length-append items (entry_of (length items + 1) c.in-Ok.prepared.tid c.share.inside.terminal c.args.work ∷ [])),
       subst (λ (h : List Entry). AreLast g.K.Ledger.parts h (slice_set c.self.inside.lasts.items c.share.inside.terminal c.in-Ok.prepared.tid)) (sym history)
-          (lasts_next g.K.Ledger.parts items c.self.inside.lasts.items (entry_of (length items + 1) c.in-Ok.prepared.tid c.share.inside.terminal c.args.work) c.self.invariant.5
+          (lasts_next g.K.Ledger.parts items c.self.inside.lasts.items (entry_of (length items + 1) c.in-Ok.prepared.tid c.share.inside.terminal c.args.work)
+          c.self.invariant.5
           (subst (λ n. c.share.inside.terminal < n) (sym c.self.invariant.5.count) c.share.invariant.1)),
     )
 
@@ -171,19 +199,34 @@ returns-clause-answer g c =
     let next : c.len.result + 1 ≡ length items + 1 = ap (λ n. n + 1) (len ∙ ap length c.prepare.ensures.history) in
     let cells : c.store.new.pen.cells ≡ c.self.inside.pen.cells = c.store.ensures.cells ∙ ap (λ (w : PenView). w.cells) c.validate.ensures.pen in
     let last : c.index-last.result.now ≡ last_of c.share.inside.terminal items = last_is c.self.invariant.5 c.share.invariant.1 c.index-last.ensures in
-    let same = same_next g.K.Run.first g.K.Run.cells (kept c.self.inside.pen items) (replay g.K.Run.first items) c.self.invariant.0 c.self.invariant.1 c.args.reader.now c.args.work c.requires.work found.0
+    let same = same_next g.K.Run.first g.K.Run.cells (kept c.self.inside.pen items) (replay g.K.Run.first items) c.self.invariant.0 c.self.invariant.1
+    c.args.reader.now c.args.work c.requires.work found.0
     c.share.inside.terminal c.in-Some.seen c.index-last.result.now found.2 found.1 last in
-    let stores : (n : ℕ) → at c.store.new.pen.all n ≡ at c.self.inside.pen.all n ++ new_versions c.in-Ok.prepared.tid c.args.work.writes.values n = λ n. c.store.ensures.versions n ∙ (λ i. at (c.validate.ensures.pen i).all n ++ new_versions c.in-Ok.prepared.tid c.args.work.writes.values n) in
+    let stores : (n : ℕ) → at c.store.new.pen.all n ≡ at c.self.inside.pen.all n ++ new_versions c.in-Ok.prepared.tid c.args.work.writes.values n =
+    λ n. c.store.ensures.versions n ∙ (λ i. at (c.validate.ensures.pen i).all n ++ new_versions c.in-Ok.prepared.tid c.args.work.writes.values n) in
     let history : c.push_reserved.new.self.items ≡ items ++ entry_of (length items + 1) c.in-Ok.prepared.tid c.share.inside.terminal c.args.work ∷ [] =
-    c.push_reserved.ensures.items ∙ (λ i. c.prepare.ensures.history i ++ record { number = next i; tid = c.in-Ok.prepared.tid; terminal = c.share.inside.terminal; input = c.args.work.input; reply = c.args.work.reply; writes = c.in-Ok.ensures.writes i } ∷ []) in
-    let of : c.of.result ≡ record { number = length items + 1; tid = c.in-Ok.prepared.tid; reply = c.args.work.reply } = c.of.ensures ∙ (λ i. record { number = next i; tid = c.in-Ok.prepared.tid; reply = c.in-Ok.ensures.reply i }) in
+    c.push_reserved.ensures.items
+    ∙ (λ i. c.prepare.ensures.history i
+    ++ record {
+      number = next i;
+      tid = c.in-Ok.prepared.tid;
+      terminal = c.share.inside.terminal;
+      input = c.args.work.input;
+      reply = c.args.work.reply;
+      writes = c.in-Ok.ensures.writes i;
+    } ∷ []) in
+    let of : c.of.result ≡ record { number = length items + 1; tid = c.in-Ok.prepared.tid; reply = c.args.work.reply } = c.of.ensures
+    ∙ (λ i. record { number = next i; tid = c.in-Ok.prepared.tid; reply = c.in-Ok.ensures.reply i }) in
     subst (λ (q : BookView × ShareView × Done). AreLatest q.0.written.all c.args.work.reads × (length q.0.history < g.K.Run.first.scale.commits)
     × (tid_for q.0.history q.1.terminal EPOCH c.args.work.reads ≡ Some q.2.tid)
-    × Commits q.0 (record { written = c.store.new.pen; history = c.push_reserved.new.self.items }) (entry_of (length q.0.history + 1) q.2.tid q.1.terminal c.args.work)
+    × Commits q.0 (record { written = c.store.new.pen; history = c.push_reserved.new.self.items })
+    (entry_of (length q.0.history + 1) q.2.tid q.1.terminal c.args.work)
     × (q.2.number ≡ length q.0.history + 1) × (q.2.reply ≡ c.args.work.reply)
-    × (◌≡◌ {A = ShareView} (record { terminal = c.share.inside.terminal; parts = c.add.new.share.parts; commits = c.add.new.share.amount }) (record { terminal = q.1.terminal; parts = q.1.parts; commits = q.1.commits + 1 }))
+    × (◌≡◌ {A = ShareView} (record { terminal = c.share.inside.terminal; parts = c.add.new.share.parts; commits = c.add.new.share.amount })
+    (record { terminal = q.1.terminal; parts = q.1.parts; commits = q.1.commits + 1 }))
     × HasSeen c.store.new.reader c.store.new.pen c.args.work.writes
-    × CommitsAt (replay g.K.Run.first q.0.history) c.args.work.input c.args.work.writes c.args.work.reply) (λ i. (c.self.view_is i, c.share.view_is i, sym of i)) (
+    × CommitsAt (replay g.K.Run.first q.0.history) c.args.work.input c.args.work.writes c.args.work.reply)
+    (λ i. (c.self.view_is i, c.share.view_is i, sym of i)) (
       found.0,
       small,
       sym same ∙ c.in-Ok.ensures.tid,
@@ -196,7 +239,8 @@ returns-clause-answer g c =
       refl,
       (λ i. record { terminal = c.share.inside.terminal; parts = c.add.ensures.parts i; commits = c.add.ensures.amount i }),
       c.store.ensures.seen,
-      done_there g.K.Run.first g.K.Run.cells (kept c.self.inside.pen items) (replay g.K.Run.first items) c.self.invariant.0 c.self.invariant.1 c.args.reader.now c.args.work c.requires.work found.0,
+      done_there g.K.Run.first g.K.Run.cells (kept c.self.inside.pen items) (replay g.K.Run.first items) c.self.invariant.0 c.self.invariant.1 c.args.reader.now
+          c.args.work c.requires.work found.0,
     )
 
 pub returns-clause-next : goal.returns-clause-next
@@ -215,8 +259,10 @@ pub returns-in_default-clause-section : goal.returns-in_default-clause-section
 returns-in_default-clause-section g c m w shows =
     let items : List Entry = c.self.inside.history.items in
     record {
-      conflict = λ _. stale_run g.K.Run.first g.K.Run.cells (kept c.self.inside.pen items) (replay g.K.Run.first items) c.self.invariant.0 c.self.invariant.1 c.args.reader.now c.args.work c.requires.work c.in_order.ensures
-          c.args.share.now.terminal w m (subst (λ k. Mirrors k c.args.share.now.terminal EPOCH c.args.work.reads m w) (sym c.self.view_is) shows) c.in_default.ensures.latest;
+      conflict = λ _. stale_run g.K.Run.first g.K.Run.cells (kept c.self.inside.pen items) (replay g.K.Run.first items) c.self.invariant.0 c.self.invariant.1
+          c.args.reader.now c.args.work c.requires.work c.in_order.ensures
+          c.args.share.now.terminal w m (subst (λ k. Mirrors k c.args.share.now.terminal EPOCH c.args.work.reads m w) (sym c.self.view_is) shows)
+          c.in_default.ensures.latest;
       epoch_full = λ e. absurd (conflict_not_full e);
     }
 
@@ -225,13 +271,17 @@ returns-in-Err-clause-section g c m w shows =
     let items : List Entry = c.self.inside.history.items in
     let found = c.in-Some.ensures.latest in
     let last : c.index-last.result.now ≡ last_of c.share.inside.terminal items = last_is c.self.invariant.5 c.share.invariant.1 c.index-last.ensures in
-    let same = same_next g.K.Run.first g.K.Run.cells (kept c.self.inside.pen items) (replay g.K.Run.first items) c.self.invariant.0 c.self.invariant.1 c.args.reader.now c.args.work c.requires.work found.0
+    let same = same_next g.K.Run.first g.K.Run.cells (kept c.self.inside.pen items) (replay g.K.Run.first items) c.self.invariant.0 c.self.invariant.1
+    c.args.reader.now c.args.work c.requires.work found.0
     c.share.inside.terminal c.in-Some.seen c.index-last.result.now found.2 found.1 last in
     let only = only_full c.in-Err.refusal (length items) c.commits-cap.result _ c.in-Err.ensures.refused in
     record {
       conflict = λ e. absurd (only.0 e);
-      epoch_full = λ e. full_run g.K.Run.first g.K.Run.cells (kept c.self.inside.pen items) (replay g.K.Run.first items) c.self.invariant.0 c.self.invariant.1 c.args.reader.now c.args.work c.requires.work c.in_order.ensures
-          c.share.inside.terminal w m (subst (λ (q : BookView × ShareView). Mirrors q.0 q.1.terminal EPOCH c.args.work.reads m w) (λ i. (sym c.self.view_is i, sym c.share.view_is i)) shows) found.0 (sym same ∙ only.1 e);
+      epoch_full = λ e. full_run g.K.Run.first g.K.Run.cells (kept c.self.inside.pen items) (replay g.K.Run.first items) c.self.invariant.0 c.self.invariant.1
+          c.args.reader.now c.args.work c.requires.work c.in_order.ensures
+          c.share.inside.terminal w m
+          (subst (λ (q : BookView × ShareView). Mirrors q.0 q.1.terminal EPOCH c.args.work.reads m w) (λ i. (sym c.self.view_is i, sym c.share.view_is i))
+          shows) found.0 (sym same ∙ only.1 e);
     }
 
 pub returns-clause-section : goal.returns-clause-section
@@ -239,12 +289,17 @@ returns-clause-section g c m w shows =
     let items : List Entry = c.self.inside.history.items in
     let found = c.in-Some.ensures.latest in
     let last : c.index-last.result.now ≡ last_of c.share.inside.terminal items = last_is c.self.invariant.5 c.share.invariant.1 c.index-last.ensures in
-    let same = same_next g.K.Run.first g.K.Run.cells (kept c.self.inside.pen items) (replay g.K.Run.first items) c.self.invariant.0 c.self.invariant.1 c.args.reader.now c.args.work c.requires.work found.0
+    let same = same_next g.K.Run.first g.K.Run.cells (kept c.self.inside.pen items) (replay g.K.Run.first items) c.self.invariant.0 c.self.invariant.1
+    c.args.reader.now c.args.work c.requires.work found.0
     c.share.inside.terminal c.in-Some.seen c.index-last.result.now found.2 found.1 last in
     let cells : c.store.new.pen.cells ≡ c.self.inside.pen.cells = c.store.ensures.cells ∙ ap (λ (w : PenView). w.cells) c.validate.ensures.pen in
-    let stores : (n : ℕ) → at c.store.new.pen.all n ≡ at c.self.inside.pen.all n ++ new_versions c.in-Ok.prepared.tid c.args.work.writes.values n = λ n. c.store.ensures.versions n ∙ (λ i. at (c.validate.ensures.pen i).all n ++ new_versions c.in-Ok.prepared.tid c.args.work.writes.values n) in
+    let stores : (n : ℕ) → at c.store.new.pen.all n ≡ at c.self.inside.pen.all n ++ new_versions c.in-Ok.prepared.tid c.args.work.writes.values n =
+    λ n. c.store.ensures.versions n ∙ (λ i. at (c.validate.ensures.pen i).all n ++ new_versions c.in-Ok.prepared.tid c.args.work.writes.values n) in
     let tid : c.in-Ok.prepared.tid ≡ c.of.result.tid = sym (ap (λ (done : Done). done.tid) c.of.ensures) in
     subst (λ (n : ℕ). IsCommitRun m w (reads_of c.args.work.reads) c.args.work.writes.values n c.store.new.pen) tid
-    (run g.K.Run.first g.K.Run.cells (kept c.self.inside.pen items) (replay g.K.Run.first items) c.self.invariant.0 c.self.invariant.1 c.args.reader.now c.args.work c.requires.work c.in_order.ensures
-    c.share.inside.terminal w m (subst (λ (q : BookView × ShareView). Mirrors q.0 q.1.terminal EPOCH c.args.work.reads m w) (λ i. (sym c.self.view_is i, sym c.share.view_is i)) shows) found.0
+    (run g.K.Run.first g.K.Run.cells (kept c.self.inside.pen items) (replay g.K.Run.first items) c.self.invariant.0 c.self.invariant.1 c.args.reader.now
+    c.args.work c.requires.work c.in_order.ensures
+    c.share.inside.terminal w m
+    (subst (λ (q : BookView × ShareView). Mirrors q.0 q.1.terminal EPOCH c.args.work.reads m w) (λ i. (sym c.self.view_is i, sym c.share.view_is i)) shows)
+    found.0
     c.in-Ok.prepared.tid c.store.new.pen (sym same ∙ c.in-Ok.ensures.tid) c.in-Ok.ensures.lawful.bits cells stores)

@@ -14,7 +14,8 @@ returns g c =
     let newest = c.self.inside.newest.items in
     let k : BookView = record { written = c.self.inside.pen; history = c.self.inside.history.items } in
     let i = c.self.invariant in
-    let small : n < length c.self.inside.newest.items = subst (λ m. c.args.number < m) (sym (counted t0 g.K.Run.cells k (replay t0 k.history) newest i.0 i.1 i.2)) c.requires in
+    let small : n < length c.self.inside.newest.items =
+    subst (λ m. c.args.number < m) (sym (counted t0 g.K.Run.cells k (replay t0 k.history) newest i.0 i.1 i.2)) c.requires in
     c.value.ensures
     ∙ ap value_in (sym (words_found newest n c.index.result.now small c.index.ensures))
     ∙ value_held t0 g.K.Run.cells k (replay t0 k.history) newest i.0 i.1 i.2 n c.requires

@@ -18,14 +18,19 @@ pub tables_of-requires-clause-lawful : goal.tables_of-requires-clause-lawful
 tables_of-requires-clause-lawful g c =
     let k : BookView = record { written = c.self.inside.pen; history = c.self.inside.history.items } in
     let i = c.self.invariant in
-    subst (λ (q : Database × List Newest). AreLawful q.0.scale (value_at q.1)) (λ j. (sym (ap initial c.deref-2.ensures ∙ i.3) j, sym c.deref-3.ensures.value j))
+    subst (λ (q : Database × List Newest). AreLawful q.0.scale (value_at q.1))
+    (λ j. (sym (ap initial c.deref-2.ensures ∙ i.3) j, sym c.deref-3.ensures.value j))
     (lawful g.K.Run.first g.K.Run.cells k (replay g.K.Run.first k.history) c.self.inside.newest.items i.0 i.1 i.2)
 
 -- what is so of the tables made of any parts is so of those made of the book's
 are_made : {first t0 made : Database} {newest held : List Newest} {rows_given rows_here : List History} → first ≡ t0 → newest ≡ held → rows_given ≡ rows_here
-    → ((u : Database) → IsOf first u → IsWellFormed u → ((n : ℕ) → n < row_count first.scale → rows u n ≡ value_at newest n) → u.history ≡ first.history ++ rows_given → made ≡ u)
-    → (u : Database) → IsOf t0 u → IsWellFormed u → ((n : ℕ) → n < row_count t0.scale → rows u n ≡ value_at held n) → u.history ≡ t0.history ++ rows_here → made ≡ u
-are_made {made = made} a b d = subst (λ (q : Database × List Newest × List History). (u : Database) → IsOf q.0 u → IsWellFormed u → ((n : ℕ) → n < row_count q.0.scale → rows u n ≡ value_at q.1 n) → u.history ≡ q.0.history ++ q.2 → made ≡ u)
+    → ((u : Database) → IsOf first u → IsWellFormed u → ((n : ℕ) → n < row_count first.scale → rows u n ≡ value_at newest n) → u.history ≡ first.history
+    ++ rows_given → made ≡ u)
+    → (u : Database) → IsOf t0 u → IsWellFormed u → ((n : ℕ) → n < row_count t0.scale → rows u n ≡ value_at held n) → u.history ≡ t0.history ++ rows_here
+    → made ≡ u
+are_made {made = made} a b d =
+    subst (λ (q : Database × List Newest × List History). (u : Database) → IsOf q.0 u → IsWellFormed u
+    → ((n : ℕ) → n < row_count q.0.scale → rows u n ≡ value_at q.1 n) → u.history ≡ q.0.history ++ q.2 → made ≡ u)
     (λ i. (a i, b i, d i))
 
 pub returns-clause-tables : goal.returns-clause-tables
@@ -34,7 +39,8 @@ returns-clause-tables g c =
     let i = c.self.invariant in
     IfOk-weaker c.tables_of.result _ _
     (λ made is. are_committed g.K.Run.first g.K.Run.cells k (replay g.K.Run.first k.history) c.self.inside.newest.items i.0 i.1 i.2 (database made) refl
-    (are_made (ap initial c.deref-2.ensures ∙ i.3) c.deref-3.ensures.value (c.deref-4.ensures.value ∙ c.in_ok-added.ensures.rows ∙ ap rows_added c.deref.ensures.value) is)
+    (are_made (ap initial c.deref-2.ensures ∙ i.3) c.deref-3.ensures.value
+    (c.deref-4.ensures.value ∙ c.in_ok-added.ensures.rows ∙ ap rows_added c.deref.ensures.value) is)
     ∙ ap (λ (q : BookView). replay g.K.Run.first q.history) c.self.view_is)
     c.tables_of.ensures.is
 

@@ -20,7 +20,14 @@ invariant_of-book g c =
     let population = arc_value parts.population in
     let fresh = c.requires.fresh in
     let t0 : Database = initial population in
-    let few : t0.scale.commits ≤ MAX_COMMITS = omega (arith, c.commits.ensures.value, c.commits.ensures.limits, ap (λ (s : Sizes). s.commits) (c.scale.ensures ∙ ap (λ (p : Population). (initial p).scale) c.deref.ensures)) in
+    let few : t0.scale.commits ≤ MAX_COMMITS =
+    omega (
+      arith,
+      c.commits.ensures.value,
+      c.commits.ensures.limits,
+      ap (λ (s : Sizes). s.commits)
+          (c.scale.ensures ∙ ap (λ (p : Population). (initial p).scale) c.deref.ensures),
+    ) in
     let sound = first_sound t0 parts.cells parts.pen parts.newest.items fresh.newest fresh.count fresh.pen population.well_formed population.consistent in
     let ready = first_ready t0 parts.cells parts.pen parts.newest.items fresh.newest fresh.count fresh.pen population.room few in (
       subst (λ (q : Database × List Entry). IsSound q.0 (record { written = c.args.parts.pen; history = q.1 }) (replay q.0 q.1))

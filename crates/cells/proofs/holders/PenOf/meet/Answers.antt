@@ -21,13 +21,17 @@ returns-clause-reader g c =
     let meet = c.meet.ensures in
     let pen = c.index_mut.result.now in
     let within = has_pass ps n _ (ap (λ (w : PenView). slice_get w.cells n) c.self.view_is ∙ c.requires.own) in
-    let all : at c.args.self.now.all n ≡ (known pen).seen = ap (λ (w : PenView). at w.all n) (sym c.self.view_is) ∙ seen_here ps n pen c.meet.new.pen within c.index_mut.ensures.value in
-    let is_pen : IsPen (known pen) = subst (λ (p : CellPass). IsPen (known p)) (sym c.index_mut.ensures.value) (All-get_or (λ (p : CellPass). IsPen (known p)) ps n pen within c.self.invariant) in
+    let all : at c.args.self.now.all n ≡ (known pen).seen = ap (λ (w : PenView). at w.all n) (sym c.self.view_is)
+    ∙ seen_here ps n pen c.meet.new.pen within c.index_mut.ensures.value in
+    let is_pen : IsPen (known pen) = subst (λ (p : CellPass). IsPen (known p)) (sym c.index_mut.ensures.value)
+    (All-get_or (λ (p : CellPass). IsPen (known p)) ps n pen within c.self.invariant) in
     let rs = c.reader.inside.passes.items in
     let reader = c.index_mut-2.result.now in
     let there = has_pass rs n _ (ap (λ (s : ReaderView). slice_get s.cells n) c.reader.view_is ∙ c.requires.reader) in
-    let view : known c.meet.new.reader ≡ sight (at c.args.self.now.all n) (known reader).loads = subst (λ (l : List (List ℕ)). known c.meet.new.reader ≡ sight l (known reader).loads) (sym all) meet.reader in
-    let grows : StartsWith (at c.args.self.now.all n) (known reader).seen = subst (λ (l : List (List ℕ)). StartsWith l (known reader).seen) (sym all) meet.grows in
+    let view : known c.meet.new.reader ≡ sight (at c.args.self.now.all n) (known reader).loads =
+    subst (λ (l : List (List ℕ)). known c.meet.new.reader ≡ sight l (known reader).loads) (sym all) meet.reader in
+    let grows : StartsWith (at c.args.self.now.all n) (known reader).seen = subst (λ (l : List (List ℕ)). StartsWith l (known reader).seen) (sym all) meet.grows
+    in
     subst (λ (s : ReaderView). LearnsRecord c.args.self.now s (sights_of (set rs n c.meet.new.reader)) n) c.reader.view_is
     (sights_learn rs n reader c.meet.new.reader there c.index_mut-2.ensures.value c.args.self.now meet.own.1 view grows (subst IsRising (sym all) is_pen.2))
 

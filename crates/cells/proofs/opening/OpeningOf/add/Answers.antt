@@ -14,10 +14,13 @@ invariant_of-result g c =
     let t = c.in_ok-tell.ensures in
     let old = c.self.inside.readers in
     let first = c.in_ok-cell.pass in
-    let told : c.tell.new.readers ≡ map (λ s. sights_with s first.table_id (known first).seen) old.items = t.ok ∙ ap (λ (l : List ReaderView). map (λ s. sights_with s first.table_id (known first).seen) l) c.deref_mut.ensures.value in
-    let count : length c.tell.new.readers ≡ old.len = ap length told ∙ length-map old.items (λ s. sights_with s first.table_id (known first).seen) ∙ sym old.ok.0 in
+    let told : c.tell.new.readers ≡ map (λ s. sights_with s first.table_id (known first).seen) old.items = t.ok
+    ∙ ap (λ (l : List ReaderView). map (λ s. sights_with s first.table_id (known first).seen) l) c.deref_mut.ensures.value in
+    let count : length c.tell.new.readers ≡ old.len = ap length told ∙ length-map old.items (λ s. sights_with s first.table_id (known first).seen)
+    ∙ sym old.ok.0 in
     subst (λ (l : List ReaderView). All (λ s. s ≡ seen_all c.push.new.self) l) (sym (with_items_is old c.tell.new.readers count))
-    (all_seen-told c.self.inside.pen c.push.new.self first c.tell.new.pass old.items c.tell.new.readers t.kept.0 t.kept.1 told c.in_ok-push.ensures.ok c.self.invariant)
+    (all_seen-told c.self.inside.pen c.push.new.self first c.tell.new.pass old.items c.tell.new.readers t.kept.0 t.kept.1 told c.in_ok-push.ensures.ok
+    c.self.invariant)
 
 pub returns-clause-ok : goal.returns-clause-ok
 returns-clause-ok g c =
@@ -25,11 +28,14 @@ returns-clause-ok g c =
     let o = c.in_ok-cell.ensures in
     let old = c.self.inside.readers in
     let first = c.in_ok-cell.pass in
-    let told : c.tell.new.readers ≡ map (λ s. sights_with s first.table_id (known first).seen) old.items = t.ok ∙ ap (λ (l : List ReaderView). map (λ s. sights_with s first.table_id (known first).seen) l) c.deref_mut.ensures.value in
+    let told : c.tell.new.readers ≡ map (λ s. sights_with s first.table_id (known first).seen) old.items = t.ok
+    ∙ ap (λ (l : List ReaderView). map (λ s. sights_with s first.table_id (known first).seen) l) c.deref_mut.ensures.value in
     let count : length c.tell.new.readers ≡ length old.items = ap length told ∙ length-map old.items (λ s. sights_with s first.table_id (known first).seen) in
     let cell = c.in_ok-cell.cell.table.shared.table_id in (
       cell,
-      opened_with-written c.self.inside.pen c.push.new.self c.tell.new.pass cell c.args.first _ _ c.in_ok-push.ensures.ok (t.kept.0 ∙ o.0) (ap (λ (v : View). v.seen) t.kept.1 ∙ o.2)
-          (ap length (with_items_is old c.tell.new.readers (count ∙ sym old.ok.0)) ∙ count) ∙ ap (λ (x : Opened). opened_with x cell c.args.first) c.self.view_is,
+      opened_with-written c.self.inside.pen c.push.new.self c.tell.new.pass cell c.args.first _ _ c.in_ok-push.ensures.ok (t.kept.0 ∙ o.0)
+          (ap (λ (v : View). v.seen) t.kept.1 ∙ o.2)
+          (ap length (with_items_is old c.tell.new.readers (count ∙ sym old.ok.0)) ∙ count)
+          ∙ ap (λ (x : Opened). opened_with x cell c.args.first) c.self.view_is,
       c.in_ok-push-2.ensures.ok,
     )

@@ -10,7 +10,8 @@ use Rattle.conditions.proofs.shares.DeliveredShareLineKeyOrderLine.group.Goals a
 
 pub returns-in_default-clause-none : goal.returns-in_default-clause-none
 returns-in_default-clause-none c = λ k.
-    no_order (from_entries c.args.tables.now.orders.entries) k c.args.key.now c.args.row.now (get-view exact_order c.args.tables.now.orders (order_of c.args.key.now) ∙ sym (rw c.order_key.ensures at c.in_default.ensures.value))
+    no_order (from_entries c.args.tables.now.orders.entries) k c.args.key.now c.args.row.now
+    (get-view exact_order c.args.tables.now.orders (order_of c.args.key.now) ∙ sym (rw c.order_key.ensures at c.in_default.ensures.value))
 
 pub returns-clause-some : goal.returns-clause-some
 returns-clause-some c = λ k.

@@ -10,5 +10,6 @@ pub returns-clause-writes : goal.returns-clause-writes
 returns-clause-writes g c = λ plain ok.
     let reply = c.args.self.now.reply.now in
     let head = codes "delivery" ∷ decimal reply.warehouse ∷ [] in
-    let text = ap (λ orders. join_with_byte 32 head ++ delivered_text orders) c.as_slice-orders.ensures ∙ sym (joined delivered_word (codes "delivery") (decimal reply.warehouse ∷ []) reply.orders) in
+    let text = ap (λ orders. join_with_byte 32 head ++ delivered_text orders) c.as_slice-orders.ensures
+    ∙ sym (joined delivered_word (codes "delivery") (decimal reply.warehouse ∷ []) reply.orders) in
     has_written_of_eq g.W.Write.write_str_gives _ _ _ _ text (c.write.ensures.writes plain ok)

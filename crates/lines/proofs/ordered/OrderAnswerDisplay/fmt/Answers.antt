@@ -8,5 +8,6 @@ use Rattle.lines.proofs.ordered.OrderAnswerDisplay.fmt.Goals as goal
 pub returns-clause-writes : goal.returns-clause-writes
 returns-clause-writes g c = λ plain ok.
     let reply = c.args.self.now.reply.now in
-    let text = ap (λ lines. join_with_byte 32 (head_words reply) ++ supplied_text lines) c.as_slice-lines.ensures ∙ sym (joined supplied_word (codes "neworder") (drop 1 (head_words reply)) reply.lines) in
+    let text = ap (λ lines. join_with_byte 32 (head_words reply) ++ supplied_text lines) c.as_slice-lines.ensures
+    ∙ sym (joined supplied_word (codes "neworder") (drop 1 (head_words reply)) reply.lines) in
     has_written_of_eq g.W.Write.write_str_gives _ _ _ _ text (c.write.ensures.writes plain ok)

@@ -6,7 +6,8 @@ use Rattle.population.proofs.population.Population.plain.Goals as goal
 
 pub invariant_of-result : goal.invariant_of-result
 invariant_of-result c =
-    let fit : IsFit c.args.scale = record { districts = omega arith; some_customers = omega arith; customers = omega arith; orders = omega arith; items = omega arith } in
+    let fit : IsFit c.args.scale =
+    record { districts = omega arith; some_customers = omega arith; customers = omega arith; orders = omega arith; items = omega arith } in
     let made = database c.in_ok-tables.tables in record {
       room = has_room c.args.scale made fit c.in_ok-tables.ensures;
       well_formed = is_well_formed c.args.scale made fit c.in_ok-tables.ensures;

@@ -10,11 +10,13 @@ pub invariant_of-self : goal.invariant_of-self
 invariant_of-self g c =
     let i = c.self.invariant in
     let at = c.number_of_key-number.ensures.value ∙ ap (λ (q : Sizes). number_of_key q c.args.key) c.scale.ensures in
-    let read = subst (λ (x : TransactionView). IsSome (held x.reads (number_of_key g.K.Start.tables.scale c.args.key))) (sym c.self.view_is) c.requires.read in (
+    let read = subst (λ (x : TransactionView). IsSome (held x.reads (number_of_key g.K.Start.tables.scale c.args.key))) (sym c.self.view_is)
+    c.requires.read in (
       i.0,
       i.1,
       i.2,
-      put_under_way g.K.Start.reader c.self.inside.reader c.self.inside.reads c.self.inside.writes c.put.new.self c.number_of_key-number.result c.args.value
+      put_under_way g.K.Start.reader c.self.inside.reader c.self.inside.reads c.self.inside.writes c.put.new.self c.number_of_key-number.result
+          c.args.value
           c.put.result i.3
           (subst (λ n. IsSome (held c.self.inside.reads n)) (sym at) read) c.put.ensures.puts c.put.ensures.kept,
     )
