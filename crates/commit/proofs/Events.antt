@@ -10,7 +10,7 @@ use Rattle.commit.specs.Machine.{Machine, Worker, IsIdle, idle_worker, no_cell, 
 use Rattle.commit.specs.Events.{IsEnabled, with_worker, with_cell, still_holds, checked, validated_by, greatest_read, greatest_locked, seen_by, chosen}
 use Rattle.commit.specs.Events.{locked_cell, unlocked_cell, written_cell, after_event}
 use Rattle.commit.specs.Turns.{Place, decided, settle, turns_after}
-use Rattle.commit.specs.Turns.Turn.{Waiting}
+use Rattle.commit.specs.Turns.Place.{Waiting}
 use Rattle.commit.specs.Serial.{now, pending, to_install}
 use Rattle.commit.specs.declared.worker.Phase.TheVariants.{Begun, Entered, Chosen, Failed}
 use Rattle.commit.specs.declared.worker.Cell.{Cell}

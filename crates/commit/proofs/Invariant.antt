@@ -3,7 +3,7 @@ use Rattle.std.proofs.Common.{◌≡◌, ◌≢◌, ℕ, ◌%◌, ◌<◌, ◌�
 use Rattle.tidword.specs.TidWord.{tid_of, is_locked}
 use Rattle.commit.specs.Machine.{Worker, note_at, version_of}
 use Rattle.commit.specs.Turns.{IsWaiting, Transaction, Place, decided}
-use Rattle.commit.specs.Turns.Turn.{Waiting, Decided}
+use Rattle.commit.specs.Turns.Place.{Waiting, Decided}
 use Rattle.commit.specs.Serial.{now, to_install, IsStamped}
 use Rattle.commit.specs.declared.worker.Phase.{Phase}
 use Rattle.commit.specs.declared.worker.Phase.TheVariants.{Begun, Entered}

@@ -5,7 +5,7 @@ use Rattle.tidword.specs.TidWord.{tid_of}
 use Rattle.commit.specs.Machine.{Worker, IsIdle, note_at}
 use Rattle.commit.specs.Events.{checked, chosen}
 use Rattle.commit.specs.Turns.{IsWaiting, Place, transaction_of, decided, decide, give_up}
-use Rattle.commit.specs.Turns.Turn.{Waiting}
+use Rattle.commit.specs.Turns.Place.{Waiting}
 use Rattle.commit.specs.Serial.{now}
 use Rattle.commit.specs.declared.worker.Phase.{Phase}
 use Rattle.commit.specs.declared.worker.Phase.TheVariants.{Idle, Begun, Entered, Chosen, Failed}

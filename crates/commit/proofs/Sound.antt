@@ -5,7 +5,7 @@ use Rattle.std.proofs.lemmas.List.{get_or_past}
 use Rattle.commit.specs.Machine.{Machine, Worker, IsOpening, IsIdle, idle_worker, note_at, worker}
 use Rattle.commit.specs.Events.{AreEnabled, after_event}
 use Rattle.commit.specs.Turns.{Place, Run, decided, turns_after, run, run_on}
-use Rattle.commit.specs.Turns.Turn.{Waiting, Decided}
+use Rattle.commit.specs.Turns.Place.{Waiting, Decided}
 use Rattle.commit.specs.Serial.{IsSerial, HaveLawfulTids, NeverFall, first_versions, IsSerialRun}
 use Rattle.commit.specs.declared.worker.Version.{Version}
 use Rattle.commit.specs.declared.event.Event.{Event}

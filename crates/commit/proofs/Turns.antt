@@ -8,7 +8,7 @@ use Rattle.tidword.specs.TidWord.{tid_of}
 use Rattle.commit.specs.Machine.{Worker, note_at}
 use Rattle.commit.specs.Events.{checked, chosen}
 use Rattle.commit.specs.Turns.{IsWaiting, Transaction, Place, transaction_of, decided, decide, give_up}
-use Rattle.commit.specs.Turns.Turn.{Waiting, Decided}
+use Rattle.commit.specs.Turns.Place.{Waiting, Decided}
 use Rattle.commit.specs.Serial.{now, overwritten}
 use Rattle.commit.specs.declared.worker.Phase.TheVariants.{Entered}
 use Rattle.commit.specs.declared.worker.Version.{Version}
