@@ -9,3 +9,4 @@ mod LookedAt
 mod Pushed
 mod Counted
 mod LevelExplained
+mod OrderRead
