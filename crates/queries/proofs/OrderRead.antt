@@ -25,7 +25,9 @@ module _ (t0 : Database) (under_way : TransactionView) (k : OrderKey) (value : O
         go None found =
             let none : None ≡ Some words = sym (ap (option_map order_words) found) ∙ read t h ∙ is in
             absurd cc
-        go (Some r) found = (r, found, gives r (h.well_formed.order_rows k r found) (same_Some _ _ (sym is ∙ sym (read t h) ∙ ap (option_map order_words) found)))
+        go (Some r) found =
+            let same : words ≡ order_words r = same_Some _ _ (sym is ∙ sym (read t h) ∙ ap (option_map order_words) found) in
+            (r, found, gives r (h.well_formed.order_rows k r found) same)
 
     pub columns_read : (order : OrderColumns) → result ≡ Some order → AtAll t0 under_way (λ t. option_map columns_of (get t.orders k) ≡ Some order)
     columns_read order told t h = let there = order_at t h in ap (option_map columns_of) there.1 ∙ sym there.2 ∙ told
