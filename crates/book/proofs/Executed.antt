@@ -1,5 +1,6 @@
 -- What a reader that has executed a transaction has read, and where that explains the transaction.
-use Rattle.std.proofs.Common.{◌≡◌, ℕ, ◌<◌, Some, []}
+use Rattle.std.proofs.Common.{◌≡◌, ℕ, ◌<◌, Some, List, [], length, sym, subst}
+use Rattle.atomic_table.specs.Seated.{TableId}
 use Rattle.tables.specs.Database.{Database}
 use Rattle.tables.specs.Inputs.{IsInput}
 use Rattle.tables.specs.declared.input.Input.{Input}
@@ -36,13 +37,16 @@ explains_where_consistent t0 x reads writes reply explains t of_population well_
   agrees = agrees;
 })
 
--- what was executed, by what its clauses say, is this reader's work
-pub work_of : (t0 : Database) (cells : ℕ) (old new : ReaderView) (work : Work) → IsInput t0.scale work.input
-    → Explains t0 work.input work.reads work.writes work.reply
-    → IsWithinLimits cells work.reads work.writes → AreRead old new work.reads → IsWorkOf t0 cells new work
-work_of t0 cells old new work input explained limits read = record {
-  input = input;
-  explained = explained;
-  limits = limits;
-  read = read_by cells old new work.reads limits.reads_cells read;
-}
+-- what was executed over these cells, by what its clauses say, is this reader's work in a run of the same population and
+-- cells
+pub work_of : {here t0 : Database} → here ≡ t0 → {own cells : List TableId} → own ≡ cells → (x : Input) → IsInput t0.scale x → (old new : ReaderView)
+    → (work : Work) → work.input ≡ x → Explains here x work.reads work.writes work.reply
+    → IsWithinLimits (length own) work.reads work.writes → AreRead old new work.reads → IsWorkOf t0 (length cells) new work
+work_of {here} {t0} same {own} {cells} same_cells x input old new work is explained limits read =
+    let within = subst (λ (ids : List TableId). IsWithinLimits (length ids) work.reads work.writes) same_cells limits in
+    record {
+      input = subst (IsInput t0.scale) (sym is) input;
+      explained = subst (λ (q : Database × Input). Explains q.0 q.1 work.reads work.writes work.reply) (λ i. (same i, sym is i)) explained;
+      limits = within;
+      read = read_by (length cells) old new work.reads within.reads_cells read;
+    }

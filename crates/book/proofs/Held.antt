@@ -8,10 +8,10 @@ use Rattle.tables.specs.Database.{Database}
 use Rattle.tables.specs.Records.{record_count, key_of}
 use Rattle.tables.specs.Rows.{rows}
 use Rattle.cells.specs.declared.cells.Newest.{Newest}
-use Rattle.records.specs.Held.{row_count}
-use Rattle.records.specs.Newest.{words_at, value_at, AreLawful}
-use Rattle.records.proofs.Values.{lawful_values}
-use Rattle.records.specs.Puts.{MayHold}
+use Rattle.encoding.specs.Held.{row_count}
+use Rattle.encoding.specs.Newest.{words_at, value_at, AreLawful}
+use Rattle.encoding.proofs.Values.{lawful_values}
+use Rattle.encoding.specs.Puts.{MayHold}
 use Rattle.book.specs.History.{replay, rows_added}
 use Rattle.book.specs.Book.{BookView, IsSound}
 use Rattle.book.specs.Ready.{IsReady, AreNewest}

@@ -6,8 +6,8 @@ use Rattle.std.specs.Option.{option_map_or}
 use Rattle.std.specs.List.{slice_set}
 use Rattle.cells.specs.Records.{PenView, at, newest_words, StoresVersion}
 use Rattle.cells.specs.declared.cells.Newest.{Newest}
-use Rattle.records.specs.Newest.{words_at}
-use Rattle.records.proofs.Positions.{same_here, same_there}
+use Rattle.encoding.specs.Newest.{words_at}
+use Rattle.encoding.proofs.Positions.{same_here, same_there}
 use Rattle.book.specs.Ready.{AreNewest}
 
 -- a version that is stored and kept leaves the newest ones of all records kept

@@ -13,12 +13,12 @@ use Rattle.cells.specs.First.{first_version, firsts}
 use Rattle.cells.specs.Versions.{tid, last_tid, value_in}
 use Rattle.cells.specs.Records.{PenView, at}
 use Rattle.cells.specs.declared.cells.Newest.{Newest}
-use Rattle.records.specs.Newest.{words_at, AreFirst}
+use Rattle.encoding.specs.Newest.{words_at, AreFirst}
 use Rattle.laws.proofs.NamesKept.{IsOf-itself}
 use Rattle.book.specs.Book.{IsSound}
 use Rattle.book.specs.Ready.{IsWithin, IsPassed, IsFree, IsReady, AreLast, AreNewest}
 use Rattle.book.specs.declared.epoch.TheConstants.{EPOCH}
-use Rattle.records.proofs.Positions.{at_first}
+use Rattle.encoding.proofs.Positions.{at_first}
 use Rattle.book.proofs.Sound.{last_one}
 
 first_value : (w : Option (List ℕ)) → value_in (first_version w) ≡ w

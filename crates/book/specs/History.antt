@@ -1,5 +1,5 @@
 -- What has committed, in order, and what it makes of the tables and of the records' versions.
-use Rattle.std.specs.Prelude.{◌≡◌, ℕ, ◌+◌, Option, List, [], ◌∷◌, ◌++◌, replicate, flat_map, unwrap_or}
+use Rattle.std.specs.Prelude.{◌≡◌, ℕ, ◌+◌, Option, List, [], ◌∷◌, ◌++◌, flat_map, unwrap_or}
 use Rattle.std.specs.Option.{option_map_or}
 use Rattle.std.specs.Ordering.{nat_cmp}
 use Rattle.std.specs.Map.{lookup}
@@ -11,6 +11,7 @@ use Rattle.tables.specs.Rows.{rows}
 use Rattle.tables.specs.declared.input.Input.{Input}
 use Rattle.tables.specs.declared.reply.Reply.{Reply}
 use Rattle.tables.specs.declared.rows.History.{History}
+use Rattle.money.specs.Payload.{no_payload}
 use Rattle.tidword.specs.TidWord.{installed_word}
 use Rattle.cells.specs.Versions.{Versions}
 use Rattle.cells.specs.First.{first_version}
@@ -44,7 +45,7 @@ rows_added entries = flat_map (λ e. added e.writes.history_row) entries
 
 -- the version that a commit, by its TID, makes of a value
 abbrev pub committed_version : ℕ → Option (List ℕ) → List ℕ
-committed_version tid value = installed_word tid value ∷ unwrap_or value (replicate 7 0)
+committed_version tid value = installed_word tid value ∷ unwrap_or value no_payload
 
 -- the versions that these writes of a commit add to record n, and those of an entry: one or none
 abbrev pub new_versions : ℕ → List (ℕ × Option (List ℕ)) → ℕ → Versions

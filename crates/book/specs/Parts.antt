@@ -6,7 +6,7 @@ use Rattle.tables.specs.Database.{Database}
 use Rattle.population.specs.Initial.{initial}
 use Rattle.cells.specs.First.{firsts}
 use Rattle.cells.specs.Opening.{seen_all}
-use Rattle.records.specs.Newest.{AreFirst}
+use Rattle.encoding.specs.Newest.{AreFirst}
 use Rattle.book.specs.declared.engine.Parts.{Parts}
 
 -- the tables that a run of these parts begins with, its cells, its ledger, and how many loggers and terminals it has

@@ -7,10 +7,10 @@ use Rattle.tables.specs.Constant.{IsOf}
 use Rattle.tables.specs.WellFormed.{HasRoom}
 use Rattle.tables.specs.declared.limits.TheConstants.{MAX_COMMITS}
 use Rattle.tables.specs.Records.{record_count}
-use Rattle.tidword.specs.TidWord.{is_locked, is_latest}
-use Rattle.cells.specs.Versions.{EndsWith, last_tid}
+use Rattle.tidword.specs.TidWord.{is_locked, is_latest, epoch_of}
+use Rattle.cells.specs.Versions.{EndsWith, last_tid, word_in}
 use Rattle.cells.specs.declared.cells.Newest.{Newest}
-use Rattle.records.specs.Newest.{words_at}
+use Rattle.encoding.specs.Newest.{words_at}
 use Rattle.cells.specs.Records.{PenView, at}
 use Rattle.readset.specs.Writes.{value_for}
 use Rattle.book.specs.Stamps.{last_of}
@@ -21,13 +21,13 @@ use Rattle.book.specs.declared.epoch.TheConstants.{EPOCH}
 -- a TID without status bits, of an epoch up to this one, whose sequence is at most this count
 pub record IsWithin (epoch count tid : ℕ) : Type 0 where
   pub bits : tid % 8 ≡ 0
-  pub in_epoch : tid / 2 ^ 32 ≤ epoch
+  pub in_epoch : epoch_of tid ≤ epoch
   pub sequence : tid / 8 % 2 ^ 29 ≤ count
 
 -- what an entry's TID is to the book: of an epoch up to this one, and no larger than the last TID of each record that
 -- the entry wrote, nor than its terminal's
 pub record IsPassed (epoch : ℕ) (k : BookView) (e : Entry) : Type 0 where
-  pub in_epoch : e.tid / 2 ^ 32 ≤ epoch
+  pub in_epoch : epoch_of e.tid ≤ epoch
   pub records : (n : ℕ) → IsSome (value_for e.writes n) → e.tid ≤ last_tid (at k.written.all n)
   pub terminal : e.tid ≤ last_of e.terminal k.history
 
@@ -47,7 +47,7 @@ pub record IsReady (t0 : Database) (run_cells : List TableId) (k : BookView) (t 
   pub records : (n : ℕ) → n < length run_cells → IsWithin EPOCH (length k.history) (last_tid (at k.written.all n))
   pub terminals : (terminal : ℕ) → IsWithin EPOCH (length k.history) (last_of terminal k.history)
   -- each record's newest version says that it is the latest, and unlocked
-  pub free : (n : ℕ) → n < length run_cells → (v : List ℕ) → EndsWith (at k.written.all n) v → IsFree (slice_index v 0)
+  pub free : (n : ℕ) → n < length run_cells → (v : List ℕ) → EndsWith (at k.written.all n) v → IsFree (word_in v)
   -- the commit cap isn't passed, and there is room for the commits that are left
   pub cap : length k.history ≤ t0.scale.commits
   pub few : t0.scale.commits ≤ MAX_COMMITS

@@ -1,5 +1,5 @@
 -- What a machine of the commit protocol shows of the book, and what a commit of the book is to it (Silo, section 4.4).
-use Rattle.std.specs.Prelude.{◌≡◌, ℕ, ◌<◌, List, [], length, map, slice_index}
+use Rattle.std.specs.Prelude.{◌≡◌, ℕ, ◌<◌, List, [], length, map}
 use Rattle.money.specs.declared.refusal.Refusal.{Refusal}
 use Rattle.money.specs.declared.refusal.Refusal.TheVariants.{Conflict, EpochFull}
 use Rattle.tidword.specs.TidWord.{tid_of}
@@ -7,8 +7,9 @@ use Rattle.commit.specs.Machine.{Machine, note_at, cell, worker}
 use Rattle.commit.specs.Events.{AreEnabled, after_all}
 use Rattle.commit.specs.Sections.{Reads, Writes, section, full_section, stale_section, IsStale, HasCommitted, HasFailed}
 use Rattle.commit.specs.Weaving.{MayBeWoven}
+use Rattle.commit.specs.declared.worker.Cell.{Cell}
 use Rattle.commit.specs.declared.worker.Phase.TheVariants.{Begun}
-use Rattle.cells.specs.Versions.{EndsWith, value_in}
+use Rattle.cells.specs.Versions.{EndsWith, value_in, word_in}
 use Rattle.cells.specs.Records.{PenView, at}
 use Rattle.readset.specs.Reads.{ReadSetView, value_of}
 use Rattle.book.specs.Stamps.{last_of}
@@ -18,11 +19,15 @@ use Rattle.book.specs.Book.{BookView}
 abbrev pub reads_of : ReadSetView → Reads
 reads_of reads = map (λ read. (read.0, record { tid = tid_of read.1.word; value = value_of read.1 })) reads
 
--- the machine's records are the newest versions of the cells, word and value
+-- a version as a record of the machine has it: its TID word and its value
+abbrev pub shown_cell : List ℕ → Cell
+shown_cell version = record { word = word_in version; value = value_in version }
+
+-- the machine's records are the newest versions of the cells
 pub record HasNewest (m : Machine) (pen : PenView) : Type 0 where
   pub count : length m.records ≡ length pen.cells
   pub newest : (n : ℕ) → n < length pen.cells → (v : List ℕ) → EndsWith (at pen.all n) v
-      → cell m n ≡ record { word = slice_index v 0; value = value_in v }
+      → cell m n ≡ shown_cell v
 
 -- a machine shows the book to a terminal that has read this, as its worker w: its records are the book's newest
 -- versions, and the worker has read the same, in whatever order, has no lock yet, and took its last TID for the

@@ -1,7 +1,7 @@
 -- The TIDs of the history, and the one that a commit takes (Silo, sections 4.2 and 4.4).
-use Rattle.std.specs.Prelude.{◌≡◌, ℕ, ◌/◌, ◌%◌, ◌^◌, ◌≤◌, ◌<◌, ◌==◌, if◌then◌else◌, max, Option, IsSome, List, [], ◌∷◌}
+use Rattle.std.specs.Prelude.{◌≡◌, ℕ, ◌%◌, ◌≤◌, ◌<◌, ◌==◌, if◌then◌else◌, max, Option, IsSome, List, [], ◌∷◌}
 use Rattle.std.specs.List.{All}
-use Rattle.tidword.specs.TidWord.{tid_of}
+use Rattle.tidword.specs.TidWord.{tid_of, epoch_of}
 use Rattle.tidword.specs.Lawful.{next}
 use Rattle.readset.specs.Reads.{ReadSetView}
 use Rattle.readset.specs.Writes.{value_for}
@@ -10,7 +10,7 @@ use Rattle.book.specs.declared.entry.Entry.{Entry}
 -- a later entry as an earlier one wants it: of no earlier epoch, and of a larger TID where both write some record or
 -- are of one terminal
 pub record Follows (earlier later : Entry) : Type 0 where
-  pub epochs : earlier.tid / 2 ^ 32 ≤ later.tid / 2 ^ 32
+  pub epochs : epoch_of earlier.tid ≤ epoch_of later.tid
   pub records : (n : ℕ) → IsSome (value_for earlier.writes n) → IsSome (value_for later.writes n)
       → earlier.tid < later.tid
   pub terminals : earlier.terminal ≡ later.terminal → earlier.tid < later.tid

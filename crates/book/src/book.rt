@@ -6,9 +6,9 @@ use crate::run::Run;
 use crate::share::Share;
 use cells::{Newest, Pen};
 use conditions::{Report, check};
-use money::Refusal;
+use encoding::tables_of;
+use money::{Payload, Refusal};
 use population::Population;
-use records::tables_of;
 use std::alloc::Global;
 use std::marker::Model;
 use std::sync::{Arc, ledger};
@@ -72,7 +72,7 @@ impl<K: Run> Book<K> {
 
     /// What a record holds in the committed tables: the columns of its row that change, or an index record's number,
     /// and nothing where it is absent. Constant time, no memory.
-    pub fn record(&self, number: u32) -> Option<[u64; 7]>
+    pub fn record(&self, number: u32) -> Option<Payload>
         requires { number < record_count K.first.scale }
         ensures { result ≡ rows (replay K.first self.now.history) number }
     {

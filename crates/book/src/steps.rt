@@ -11,6 +11,7 @@ ghost use Rattle.book.specs.Book.{AreInOrder, AreLatest, HasConflict, HasSeen, I
 ghost use Rattle.book.specs.Ready.{AreNewest};
 
 use cells::{Cells, Newest, Pen, Reader};
+use money::{NO_PAYLOAD, Payload};
 use readset::Work;
 use std::sync::Wait;
 use tidword::TidWord;
@@ -89,7 +90,7 @@ pub(crate) fn store<R: Wait>(
 }
 
 /// The version that a commit with this TID makes of a value.
-fn version(tid: TidWord, value: &Option<[u64; 7]>) -> Newest
+fn version(tid: TidWord, value: &Option<Payload>) -> Newest
     requires no_bits { tid % 8 ≡ 0 }
     ensures words { newest_words result ≡ committed_version tid value.now }
     ensures tid { tid_of result.word ≡ tid }
@@ -98,7 +99,7 @@ fn version(tid: TidWord, value: &Option<[u64; 7]>) -> Newest
         word: tid.installed(value),
         payload: match value {
             Some(words) => *words,
-            None => [0; 7],
+            None => NO_PAYLOAD,
         },
     }
 }

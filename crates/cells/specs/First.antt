@@ -1,5 +1,6 @@
 -- The versions that cells begin with.
-use Rattle.std.specs.Prelude.{ℕ, true, false, Option, Some, None, List, [], ◌∷◌, map, replicate}
+use Rattle.std.specs.Prelude.{ℕ, true, false, Option, Some, None, List, [], ◌∷◌, map}
+use Rattle.money.specs.Payload.{no_payload}
 use Rattle.cells.specs.Versions.{AllVersions}
 use Rattle.cells.specs.Records.{newest_words}
 use Rattle.tidword.specs.TidWord.{tid_word}
@@ -15,7 +16,7 @@ absent_word = tid_word 0 0 (record { latest = true; absent = true; locked = fals
 -- what a record begins with: its row's words, or zeros
 abbrev pub first_version : Option (List ℕ) → List ℕ
 first_version (Some words) = populated_word ∷ words
-first_version None = absent_word ∷ replicate 7 0
+first_version None = absent_word ∷ no_payload
 
 -- these versions, each the only one of its record
 abbrev pub firsts : List Newest → AllVersions

@@ -11,9 +11,12 @@ Versions = List (List ℕ)
 abbrev pub AllVersions : Type 0
 AllVersions = List Versions
 
--- the TID of a version
+-- the TID word of a version, and its TID
+abbrev pub word_in : List ℕ → ℕ
+word_in version = slice_index version 0
+
 abbrev pub tid : List ℕ → ℕ
-tid version = tid_of (slice_index version 0)
+tid version = tid_of (word_in version)
 
 -- what a version says that its record holds: its data, or nothing where its absent bit (bit 2) is set
 abbrev pub value_in : List ℕ → Option (List ℕ)

@@ -9,38 +9,41 @@ ghost use Rattle.cells.specs.Records.{at, newest_words, StoresVersion, LoadsReco
 
 use crate::holders::{PenOf, ReaderOf};
 use crate::rule::Cell;
-use money::Refusal;
+use money::{PAYLOAD_WORDS, Payload, Refusal};
 use std::alloc::Global;
 use std::marker::Model;
 use std::sync::Wait;
 use tidword::TidWord;
 
+/// How many words a version has: its TID word, and its data.
+pub(crate) const CELL_WORDS: usize = 1 + PAYLOAD_WORDS;
+
 /// The right to store versions, of which there is one. Contracts see what it knows of each record, by record
 /// number: its cell, and all its versions (`PenView`). It has no bytes of its own a record.
-pub type Pen = PenOf<8>;
+pub type Pen = PenOf<CELL_WORDS>;
 
 /// The right to read. Contracts see what it knows of each record, by record number: its cell, which first ones of
 /// its versions this reader has seen, and how often it has loaded (`ReaderView`). It has no bytes of its own a record.
-pub type Reader = ReaderOf<8>;
+pub type Reader = ReaderOf<CELL_WORDS>;
 
 /// A version of a record: its record number, its TID word, and its data.
 #[derive(Clone, Copy, Debug, PartialEq, Eq)]
 pub struct Version {
     pub record: u32,
     pub word: TidWord,
-    pub payload: [u64; 7],
+    pub payload: Payload,
 }
 
 /// What a record's newest version has: its TID word, and its data.
 #[derive(Clone, Copy, Debug, PartialEq, Eq)]
 pub struct Newest {
     pub word: TidWord,
-    pub payload: [u64; 7],
+    pub payload: Payload,
 }
 
 impl Newest {
     /// What the version says that its record holds: its data, or nothing where the record is absent.
-    pub fn value(&self) -> Option<[u64; 7]>
+    pub fn value(&self) -> Option<Payload>
         ensures { result ≡ value_in (newest_words self.now) }
     {
         let payload = self.payload;
@@ -108,7 +111,7 @@ impl<const N: usize> CellList<N> {
 /// The cells of all records. Contracts see which cells they are, by record number.
 #[derive(Drop)]
 pub struct Cells {
-    list: CellList<8>,
+    list: CellList<CELL_WORDS>,
 }
 
 impl Model for Cells {
@@ -121,14 +124,14 @@ impl Cells {
     ghost use Rattle.cells.specs.Records.{words_of};
 
     // The cells of a list, by record number.
-    pub(crate) fn of_list(list: CellList<8>) -> Cells
+    pub(crate) fn of_list(list: CellList<CELL_WORDS>) -> Cells
         ensures { result ≡ list }
     {
         Cells { list }
     }
 
     // The cell of a record.
-    fn cell(&self, number: u32) -> &Cell<8>
+    fn cell(&self, number: u32) -> &Cell<CELL_WORDS>
         requires { number < length self.now }
         ensures { slice_get self.now number ≡ Some result.now.table.shared.table_id }
     {
@@ -162,7 +165,7 @@ impl Cells {
         pen: &mut Pen,
         number: u32,
         word: TidWord,
-        payload: [u64; 7],
+        payload: Payload,
     )
         requires own { pen.old.cells ≡ self.now }
         requires is_record { number < length self.now }
@@ -200,7 +203,7 @@ impl Cells {
 }
 
 // The words of a version.
-pub(crate) fn words(word: TidWord, payload: [u64; 7]) -> [u64; 8]
+pub(crate) fn words(word: TidWord, payload: Payload) -> [u64; CELL_WORDS]
     ensures { result ≡ word ∷ payload }
 {
     let [a, b, c, d, e, f, g] = payload;

@@ -4,7 +4,7 @@ ghost use Rattle.money.specs.declared.refusal.Refusal.TheVariants.{OutOfMemory};
 ghost use Rattle.cells.specs.Opening.{seen_all};
 ghost use Rattle.cells.specs.First.{firsts};
 
-use crate::cells::{CellList, Cells, Newest, Pen, Reader, words};
+use crate::cells::{CELL_WORDS, CellList, Cells, Newest, Pen, Reader, words};
 use crate::opening::OpeningOf;
 use money::Refusal;
 use std::alloc::Global;
@@ -43,7 +43,7 @@ fn open_all<R: Wait>(
     alloc: Global,
     first: &[Newest],
     readers: usize,
-) -> Result<(OpeningOf<8>, CellList<8>), Refusal>
+) -> Result<(OpeningOf<CELL_WORDS>, CellList<CELL_WORDS>), Refusal>
     ensures count { IfOk result (λ made. length made.1 ≡ length first.now) }
     ensures pen { IfOk result (λ made. made.0.written
         ≡ record { cells = made.1; all = firsts first.now }) }

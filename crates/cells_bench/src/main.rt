@@ -8,6 +8,7 @@ ghost use Rattle.cells.specs.Records.{at};
 
 use anyhow::bail;
 use cells::{Cells, Newest, Pen, Reader};
+use money::NO_PAYLOAD;
 use std::alloc::Global;
 use std::rt::{Clock, Env, Files};
 use std::sync::Wait;
@@ -109,7 +110,7 @@ fn firsts(alloc: Global, count: u32) -> anyhow::Result<Vec<Newest>>
 {
     let zeros = Newest {
         word: TidWord::POPULATED,
-        payload: [0; 7],
+        payload: NO_PAYLOAD,
     };
     let mut first = Vec::new(alloc);
     first.resize(count as usize, zeros)?;

@@ -1,8 +1,8 @@
 -- The machine of the commit protocol (Silo, sections 4.2 and 4.4): records with their words and values, workers, and
 -- the epoch.
-use Rattle.std.specs.Prelude.{◌≡◌, ℕ, ◌≤◌, ◌<◌, ◌/◌, ◌^◌, ◌⊎◌, ◌==◌, if◌then◌else◌, not, true, false, Option, Some}
+use Rattle.std.specs.Prelude.{◌≡◌, ℕ, ◌≤◌, ◌<◌, ◌⊎◌, ◌==◌, if◌then◌else◌, not, true, false, Option, Some}
 use Rattle.std.specs.Prelude.{None, List, [], ◌∷◌, length, filter, slice_index_or}
-use Rattle.tidword.specs.TidWord.{tid_of, is_locked, is_latest}
+use Rattle.tidword.specs.TidWord.{tid_of, is_locked, is_latest, epoch_of}
 use Rattle.commit.specs.declared.worker.Phase.{Phase}
 use Rattle.commit.specs.declared.worker.Phase.TheVariants.{Idle, Chosen, Failed}
 use Rattle.commit.specs.declared.worker.Cell.{Cell}
@@ -63,4 +63,4 @@ pub record IsOpening (m : Machine) : Type 0 where
   pub idle : (w : ℕ) → w < length m.workers → IsIdle (worker m w)
   pub unlocked : (r : ℕ) → r < length m.records → is_locked (cell m r).word ≡ false
   pub latest : (r : ℕ) → r < length m.records → is_latest (cell m r).word ≡ true
-  pub epochs : (r : ℕ) → r < length m.records → (cell m r).word / 2 ^ 32 ≤ m.epoch
+  pub epochs : (r : ℕ) → r < length m.records → epoch_of (cell m r).word ≤ m.epoch

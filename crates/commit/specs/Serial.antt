@@ -1,5 +1,6 @@
 -- What is true of every run: its transactions are serial in the order of their turns (Silo, section 4.4).
-use Rattle.std.specs.Prelude.{◌≡◌, ℕ, ◌≤◌, ◌<◌, ◌/◌, ◌%◌, ◌^◌, Option, Some, None, List, [], ◌∷◌, All}
+use Rattle.std.specs.Prelude.{◌≡◌, ℕ, ◌≤◌, ◌<◌, ◌%◌, Option, Some, None, List, [], ◌∷◌, All}
+use Rattle.tidword.specs.TidWord.{epoch_of}
 use Rattle.commit.specs.Machine.{Machine, Worker, note_at, cell, worker, version_of}
 use Rattle.commit.specs.Turns.{Transaction, Run, IsWaiting, decided}
 use Rattle.commit.specs.declared.worker.Phase.{Phase}
@@ -26,7 +27,7 @@ IsSerial first (t ∷ earlier) = ((r : ℕ) (v : Version) → note_at t.reads r 
 -- it replaces, and than those of its worker's earlier transactions (Silo, section 4.2)
 pub record IsStamped (first : ℕ → Version) (t : Transaction) (earlier : List Transaction) : Type 0 where
   pub bits : t.tid % 8 ≡ 0
-  pub in_epoch : t.tid / 2 ^ 32 ≡ t.epoch
+  pub in_epoch : epoch_of t.tid ≡ t.epoch
   pub above_read : (r : ℕ) (v : Version) → note_at t.reads r ≡ Some v → v.tid < t.tid
   pub above_replaced : (r : ℕ) (value : Option (List ℕ)) → note_at t.writes r ≡ Some value
       → (now first earlier r).tid < t.tid

@@ -1,16 +1,17 @@
 -- The machine as a struct that steps: how it is made, and what a step answers.
 use Rattle.std.specs.Prelude.{◌≡◌, ◌⊎◌, ℕ, Some, replicate, Result, MatchResult}
+use Rattle.money.specs.Payload.{no_payload}
 use Rattle.money.specs.declared.refusal.Refusal.{Refusal}
 use Rattle.money.specs.declared.refusal.Refusal.TheVariants.{OutOfMemory, BadInput}
 use Rattle.commit.specs.Machine.{Machine, idle_worker}
 use Rattle.commit.specs.Events.{IsEnabled, after_event}
 use Rattle.commit.specs.declared.event.Event.{Event}
 
--- the machine that is made of so many records and workers: each record is the population's and holds seven zeros, the
+-- the machine that is made of so many records and workers: each record is the population's and holds words 0, the
 -- workers are idle, and the epoch is 1
 abbrev pub fresh : ℕ → ℕ → Machine
 fresh records workers = record {
-  records = replicate records (record { word = 2; value = Some (replicate 7 0) });
+  records = replicate records (record { word = 2; value = Some no_payload });
   workers = replicate workers idle_worker;
   epoch = 1;
   finished = 0;

@@ -10,7 +10,7 @@ mod validating;
 
 use crate::event::Event;
 use crate::worker::{Cell, Phase, Worker};
-use money::Refusal;
+use money::{NO_PAYLOAD, Refusal};
 use std::alloc::Global;
 use std::marker::Model;
 use tidword::TidWord;
@@ -45,7 +45,7 @@ impl State {
     ghost use Rattle.commit.specs.Events.{with_cell};
     ghost use Rattle.commit.specs.State.{fresh, IsStep};
 
-    /// So many records, each with the word 2 (epoch 0, the latest version) and seven zeros, and so many workers, none
+    /// So many records, each with the word 2 (epoch 0, the latest version) and words 0, and so many workers, none
     /// of which has had a transaction, in epoch 1. A run may begin here. Costs a step a record and a worker.
     ///
     /// # Errors
@@ -58,7 +58,7 @@ impl State {
     {
         let populated = Cell {
             word: TidWord::POPULATED,
-            value: Some([0; 7]),
+            value: Some(NO_PAYLOAD),
         };
         let cells = vec![in alloc; populated; records as usize]?;
         let mut idle = Vec::with_capacity(alloc, usize::from(workers))?;

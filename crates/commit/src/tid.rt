@@ -3,6 +3,7 @@ ghost use Rattle.std.specs.Prelude.{◌≡◌, ◌%◌, max};
 ghost use Rattle.tidword.specs.TidWord.{tid_of, installed_word};
 ghost use Rattle.tidword.specs.Lawful.{next};
 
+use money::Payload;
 use std::marker::Model;
 use tidword::{TidWord, next_tid};
 
@@ -62,7 +63,7 @@ impl Tid {
     }
 
     /// The word of the version that a commit with this TID stores: the latest, unlocked, and absent with no value.
-    pub(crate) fn installed(self, value: Option<[u64; 7]>) -> TidWord
+    pub(crate) fn installed(self, value: Option<Payload>) -> TidWord
         ensures { result ≡ installed_word self value }
     {
         TidWord::new(self.word).installed(&value)

@@ -5,6 +5,7 @@ mod changes;
 
 use crate::notes::held;
 use crate::tid::Tid;
+use money::Payload;
 use std::alloc::Global;
 use std::marker::Model;
 use tidword::TidWord;
@@ -28,7 +29,7 @@ pub enum Phase {
 #[derive(Clone, Copy, Debug, PartialEq, Eq)]
 pub struct Cell {
     pub word: TidWord,
-    pub value: Option<[u64; 7]>,
+    pub value: Option<Payload>,
 }
 
 impl Cell {
@@ -65,7 +66,7 @@ impl Cell {
 #[derive(Clone, Copy, Debug, PartialEq, Eq)]
 pub struct Version {
     pub tid: Tid,
-    pub value: Option<[u64; 7]>,
+    pub value: Option<Payload>,
 }
 
 /// A worker: what it has read and has yet to validate, what it has validated, what it has locked and is to write, the
@@ -76,7 +77,7 @@ pub struct Worker {
     phase: Phase,
     reads: Vec<(u32, Version)>,
     validated: Vec<(u32, Version)>,
-    locks: Vec<(u32, Option<[u64; 7]>)>,
+    locks: Vec<(u32, Option<Payload>)>,
     epoch: u32,
     last: Tid,
 }
@@ -168,7 +169,7 @@ impl Worker {
     }
 
     /// What it may install in this record. Costs a pass over what it has locked.
-    pub(crate) fn to_install(&self, number: u32) -> Option<Option<[u64; 7]>>
+    pub(crate) fn to_install(&self, number: u32) -> Option<Option<Payload>>
         ensures { MatchOption result
             (¬ ((self.now.phase ≡ Chosen) × IsSome (note_at self.now.locks number)))
             (λ value. (self.now.phase ≡ Chosen) × (note_at self.now.locks number ≡ Some value)) }
@@ -180,7 +181,7 @@ impl Worker {
     }
 
     /// What it has locked, and is to write.
-    pub(crate) fn locks(&self) -> &[(u32, Option<[u64; 7]>)]
+    pub(crate) fn locks(&self) -> &[(u32, Option<Payload>)]
         ensures { result.now ≡ self.now.locks }
     {
         &self.locks
@@ -194,7 +195,7 @@ impl Worker {
     }
 
     /// A record as it leaves it that writes this there, by its last TID.
-    pub(crate) fn installed(&self, value: Option<[u64; 7]>) -> Cell
+    pub(crate) fn installed(&self, value: Option<Payload>) -> Cell
         ensures { result ≡ record { word = installed_word self.now.last value; value = value } }
     {
         Cell {

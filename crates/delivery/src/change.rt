@@ -12,13 +12,13 @@ ghost use Rattle.tables.specs.declared.delivery.DeliveryInput.{DeliveryInput};
 ghost use Rattle.tables.specs.declared.limits.TheConstants.{MAX_LINE_AMOUNT, MAX_MONEY_STEP, MAX_ORDER_LINES};
 
 use columns::{count_raised, money_column, money_raised};
-use money::Cents;
+use money::{Cents, Payload};
 use tables::limits::{MAX_LINE_AMOUNT, MAX_ORDER_LINES};
 
 /// An order's words once it has its carrier, its customer, and how many lines it has.
 #[derive(Clone, Copy)]
 pub(crate) struct Carried {
-    pub words: [u64; 7],
+    pub words: Payload,
     pub customer: u32,
     pub line_count: u32,
 }
@@ -26,12 +26,12 @@ pub(crate) struct Carried {
 /// A line's words once it has its date, and OL_AMOUNT: nothing and 0 where there is no line.
 #[derive(Clone, Copy)]
 pub(crate) struct Dated {
-    pub words: Option<[u64; 7]>,
+    pub words: Option<Payload>,
     pub amount: Cents,
 }
 
 /// O_CARRIER_ID set. None only where no order of well-formed tables with so many customers a district has these words.
-pub(crate) fn carry(words: &[u64; 7], carrier: u32, customers: u32) -> Option<Carried>
+pub(crate) fn carry(words: &Payload, carrier: u32, customers: u32) -> Option<Carried>
     ensures range { IfSome result (λ c. IsNumber customers c.customer × (c.line_count ≤ MAX_ORDER_LINES)) }
     ensures carried { (x : DeliveryInput) (r : Order) → x.carrier ≡ carrier → IsNumber customers r.customer
         → r.line_count ≤ MAX_ORDER_LINES → words.now ≡ order_words r
@@ -58,7 +58,7 @@ pub(crate) fn carry(words: &[u64; 7], carrier: u32, customers: u32) -> Option<Ca
 }
 
 /// OL_DELIVERY_D set, where there is a line. None only where no line of well-formed tables has these words.
-pub(crate) fn date(value: Option<[u64; 7]>, date: u32) -> Option<Dated>
+pub(crate) fn date(value: Option<Payload>, date: u32) -> Option<Dated>
     ensures range { IfSome result (λ d. (pos 0 ≤ℤ d.amount) × (d.amount ≤ℤ MAX_LINE_AMOUNT)) }
     ensures dated { (x : DeliveryInput) (w : Option OrderLine) → x.date ≡ date
         → ForSome w (λ r. (pos 0 ≤ℤ r.amount) × (r.amount ≤ℤ MAX_LINE_AMOUNT)) → value ≡ option_map line_words w
@@ -106,7 +106,7 @@ fn line_amount(word: u64) -> Option<Cents>
 
 /// C_BALANCE raised by an order's sum, and C_DELIVERY_CNT by 1. None only where no customer of well-formed tables has
 /// these words.
-pub(crate) fn credit(words: &[u64; 7], sum: Cents) -> Option<[u64; 7]>
+pub(crate) fn credit(words: &Payload, sum: Cents) -> Option<Payload>
     requires low { pos 0 ≤ℤ sum }
     requires high { sum ≤ℤ pos MAX_MONEY_STEP }
     ensures { (r : Customer) → IsCustomerRow r → words.now ≡ customer_words r

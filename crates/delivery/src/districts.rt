@@ -15,7 +15,7 @@ ghost use Rattle.readset.specs.Transaction.{Finds, GoesOn, IsStepRefusal, ReadsM
 ghost use Rattle.delivery.specs.Steps.{AreDone, AreTold};
 
 use crate::order::deliver_order;
-use money::Refusal;
+use money::{Payload, Refusal};
 use readset::{Start, Transaction};
 use std::alloc::Global;
 use std::sync::Wait;
@@ -116,8 +116,8 @@ fn read_waiting<R: Wait, K: Start>(
 /// The order that waits longest, by what OLDEST and the district's record hold: OLDEST where it is below D_NEXT_O_ID,
 /// and else none. None only where no well-formed tables with this order cap, and condition 2, have these.
 fn first_waiting(
-    oldest: Option<[u64; 7]>,
-    district: Option<[u64; 7]>,
+    oldest: Option<Payload>,
+    district: Option<Payload>,
     cap: u32,
 ) -> Option<Option<u32>>
     ensures waits { (o : ℕ) (r : District) → oldest ≡ Some (number_words o)

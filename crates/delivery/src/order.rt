@@ -16,7 +16,7 @@ ghost use Rattle.delivery.specs.Ending.{Waits, IsCarried, IsCredited, buyer_of, 
 
 use crate::change::{Carried, carry, credit};
 use crate::lines::date_lines;
-use money::{Cents, Refusal};
+use money::{Cents, Payload, Refusal};
 use readset::{Start, Transaction};
 use std::sync::Wait;
 use tables::{CustomerKey, DeliveryInput, DistrictKey, OrderKey, RecordKey};
@@ -90,7 +90,7 @@ fn credit_buyer<R: Wait, K: Start>(
     transaction: &mut Transaction<'_, K>,
     buyer: CustomerKey,
     sum: Cents,
-) -> Result<[u64; 7], Refusal>
+) -> Result<Payload, Refusal>
     requires buyer { IsCustomerKey K.tables.scale buyer }
     requires low { pos 0 ≤ℤ sum }
     requires high { sum ≤ℤ pos MAX_MONEY_STEP }
@@ -114,7 +114,7 @@ fn end_order<K: Start>(
     transaction: &mut Transaction<'_, K>,
     key: OrderKey,
     order: &Carried,
-    credited: [u64; 7],
+    credited: Payload,
 ) -> Result<(), Refusal>
     requires key { IsOrderKey K.tables.scale key }
     requires customer { IsNumber K.tables.scale.customers order.now.customer }

@@ -6,6 +6,7 @@ ghost use Rattle.cells.specs.Records.{at};
 
 use crate::stage::{CUSTOMER, DISTRICT, Stage, WAREHOUSE, open};
 use cells::{Cells, Pen, Reader, Version};
+use money::Payload;
 use std::alloc::Global;
 use std::sync::Wait;
 use std::test::Fail;
@@ -15,7 +16,7 @@ use tidword::{Status, TidWord};
 const TURNS: u64 = 200_000;
 
 /// The first version of a record.
-fn populated(record: u32, payload: [u64; 7]) -> Version {
+fn populated(record: u32, payload: Payload) -> Version {
     Version {
         record,
         word: TidWord::POPULATED,
@@ -36,7 +37,7 @@ fn read_three<R: Wait>(rt: &R, cells: &Cells, reader: &mut Reader) -> [Version; 
 }
 
 /// The three answers of `meet`, and what is stored.
-type Met = (bool, bool, bool, [u64; 7]);
+type Met = (bool, bool, bool, Payload);
 
 /// The answers of `meet` for a version that is the latest, for that version once another is stored, and for the
 /// other, and what is stored.
@@ -118,7 +119,7 @@ fn store_turns<R: Wait>(rt: &R, cells: &Cells, mut pen: Pen)
 }
 
 /// The payload of the version of a turn, where turn 0 is the population's.
-fn payload_of(turn: u64) -> [u64; 7] {
+fn payload_of(turn: u64) -> Payload {
     if turn == 0 { WAREHOUSE } else { [turn; 7] }
 }
 

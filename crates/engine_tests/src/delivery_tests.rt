@@ -5,14 +5,13 @@ ghost use Rattle.population.specs.Initial.{initial};
 
 use crate::deliveries::{delivery, delivery_told};
 use crate::pairs::{Asked, Committed, outcome_of};
-use crate::stage::{Stage, open};
+use crate::stage::{Stage, execute_on, open};
 use crate::told::{Told, told_of};
-use money::Refusal;
+use money::{Payload, Refusal};
 use readset::{Work, WriteSet};
 use std::alloc::Global;
 use std::sync::Wait;
 use std::test::Fail;
-use transactions::execute;
 
 /// What was seen of a Delivery that was executed: what it is told, how many records it reads and writes, and what some
 /// of each district are to hold.
@@ -25,7 +24,7 @@ struct Seen {
 }
 
 /// What a record is to hold, or that it is to be absent, where it is written.
-type Value = Option<Option<[u64; 7]>>;
+type Value = Option<Option<Payload>>;
 
 /// What the records of order 8 of a district are to hold: itself, the first and the last of its five lines, its
 /// customer, and its district's OLDEST.
@@ -99,14 +98,7 @@ fn deliver_at<R: Wait>(rt: &R, alloc: Global, stage: &mut Stage) -> Result<Seen,
     requires reader { stage.old.reader.cells ≡ stage.old.cells }
 {
     let input = delivery(&stage.population.scale())?;
-    let work = execute(
-        rt,
-        alloc,
-        &stage.cells,
-        &mut stage.reader,
-        &stage.population,
-        &input,
-    )?;
+    let work = execute_on(rt, alloc, stage, &input)?;
     Ok(seen_of(&work))
 }
 
@@ -122,7 +114,7 @@ fn a_delivery(rt: HostRuntime) -> Result<(), Fail> {
     let seen = deliver(&rt, rt.alloc())?;
     assert_eq!(rt; seen.told, delivery_told(8));
     assert_eq!(rt; (seen.reads, seen.writes), (20, 18));
-    let words = |words: [u64; 7]| Some(Some(words));
+    let words = |words: Payload| Some(Some(words));
     let written = Written {
         new_order: Some(None),
         order: words([8, 1, 4, 5, 1, 0, 0]),

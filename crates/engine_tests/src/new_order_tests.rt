@@ -7,10 +7,10 @@ ghost use Rattle.book.specs.Parts.{IsFresh, first_of, cells_of, ledger_name, led
 use crate::engine::{attempt, parts};
 use crate::new_orders::{five, line, new_order, order_told};
 use crate::pairs::{Asked, Committed, outcome_of};
-use crate::stage::{Stage, open};
+use crate::stage::{Stage, execute_on, open};
 use crate::told::{Told, told_of};
 use book::{Engine, Parts, Run, Seat};
-use money::Refusal;
+use money::{NO_PAYLOAD, Payload, Refusal};
 use population::Population;
 use readset::Work;
 use std::alloc::Global;
@@ -18,7 +18,6 @@ use std::marker::Brand;
 use std::sync::Wait;
 use std::test::Fail;
 use tables::{Reply, RequestedLine, Scale};
-use transactions::execute;
 
 /// What was seen of an order that was executed: what it is told, S_QUANTITY after each line, how many records it reads
 /// and writes, and what some of them are to hold.
@@ -35,13 +34,13 @@ struct Seen {
 /// items 1 and 2, and its customer's LAST.
 #[derive(Clone, Copy, Debug, PartialEq, Eq)]
 struct Written {
-    district: Option<[u64; 7]>,
-    new_order: Option<[u64; 7]>,
-    order: Option<[u64; 7]>,
-    first_line: Option<[u64; 7]>,
-    last_line: Option<[u64; 7]>,
-    stocks: [Option<[u64; 7]>; 2],
-    last: Option<[u64; 7]>,
+    district: Option<Payload>,
+    new_order: Option<Payload>,
+    order: Option<Payload>,
+    first_line: Option<Payload>,
+    last_line: Option<Payload>,
+    stocks: [Option<Payload>; 2],
+    last: Option<Payload>,
 }
 
 /// S_QUANTITY after each line.
@@ -79,14 +78,7 @@ fn order<R: Wait>(
     requires reader { stage.old.reader.cells ≡ stage.old.cells }
 {
     let input = new_order(alloc, &stage.population.scale(), 1, lines)?;
-    let work = execute(
-        rt,
-        alloc,
-        &stage.cells,
-        &mut stage.reader,
-        &stage.population,
-        &input,
-    )?;
+    let work = execute_on(rt, alloc, stage, &input)?;
     Ok(Seen {
         told: told_of(&work.reply),
         stocks: stocks_of(&work.reply),
@@ -113,7 +105,7 @@ fn an_item_that_comes_again(rt: HostRuntime) -> Result<(), Fail> {
     assert_eq!(rt; (seen.reads, seen.writes), (15, 15));
     let wanted = Written {
         district: Some([10_000, 12, 0, 0, 0, 0, 0]),
-        new_order: Some([0; 7]),
+        new_order: Some(NO_PAYLOAD),
         order: Some([1, 1, 0, 9, 1, 0, 0]),
         first_line: Some([1, 1, 0, 10, 1_000, 0, 0]),
         last_line: Some([2, 1, 0, 10, 2_000, 0, 0]),

@@ -1,7 +1,6 @@
 //! Payments on the small population: of the third customer, which is record 5, on its cells, and at an engine's
 //! terminals.
-ghost use Rattle.std.specs.Prelude.{◌≡◌, ℕ, ◌<◌, length, OnOk};
-ghost use Rattle.tables.specs.Payment.{IsPayment};
+ghost use Rattle.std.specs.Prelude.{◌≡◌, ℕ, ◌<◌, length};
 ghost use Rattle.cells.specs.Records.{at};
 ghost use Rattle.cells.specs.Versions.{last_tid};
 ghost use Rattle.tables.specs.Records.{record_count};
@@ -9,21 +8,20 @@ ghost use Rattle.population.specs.Initial.{initial};
 
 use crate::pairs::{Asked, Committed, outcome_of};
 use crate::payments::{history_row, payment, payment_told};
-use crate::stage::{CUSTOMER, DISTRICT, Stage, open, store};
+use crate::stage::{CUSTOMER, DISTRICT, Stage, execute_on, open, store};
 use crate::told::{Told, told_of};
-use money::{MAX_MONEY, Refusal};
-use payment::execute;
+use money::{MAX_MONEY, Payload, Refusal};
 use readset::{ReadSet, Work};
 use std::alloc::Global;
 use std::sync::Wait;
 use std::test::Fail;
-use tables::{History, Input, PaymentInput, Scale};
+use tables::{History, Input, PaymentInput};
 
 /// The TID word and the data of a version.
 #[derive(Clone, Copy, Debug, PartialEq, Eq)]
 struct Held {
     word: u64,
-    payload: [u64; 7],
+    payload: Payload,
 }
 
 /// What was seen of a payment that was executed: of its three records, the version read and what each is to hold.
@@ -49,17 +47,9 @@ struct Read {
 /// What the records are to hold.
 #[derive(Clone, Copy, Debug, PartialEq, Eq)]
 struct Written {
-    warehouse: Option<[u64; 7]>,
-    district: Option<[u64; 7]>,
-    customer: Option<[u64; 7]>,
-}
-
-/// Refuses a Payment outside the ranges of a scale.
-fn check_ranges(scale: &Scale, asked: &PaymentInput) -> Result<(), Refusal>
-    ensures { OnOk result (IsPayment scale.now asked.now) }
-{
-    let _input = Input::payment(scale, *asked)?;
-    Ok(())
+    warehouse: Option<Payload>,
+    district: Option<Payload>,
+    customer: Option<Payload>,
 }
 
 /// The version read of a record.
@@ -108,21 +98,13 @@ fn pay<R: Wait>(rt: &R, alloc: Global, stage: &mut Stage, amount: i64) -> Result
     ensures pen { stage.new.pen ≡ stage.old.pen }
     ensures reader { stage.new.reader.cells ≡ stage.old.reader.cells }
 {
-    let asked = payment(3, amount);
-    check_ranges(&stage.population.scale(), &asked)?;
-    let work = execute(
-        rt,
-        alloc,
-        &stage.cells,
-        &mut stage.reader,
-        &stage.population,
-        &asked,
-    )?;
+    let input = Input::payment(&stage.population.scale(), payment(3, amount))?;
+    let work = execute_on(rt, alloc, stage, &input)?;
     Ok(seen_of(&work))
 }
 
 /// What a payment of 12.34 is to write, where it leaves this of the warehouse.
-fn written_of_first(warehouse: [u64; 7]) -> Written {
+fn written_of_first(warehouse: Payload) -> Written {
     let customer = [(-2_234_i64).cast_unsigned(), 2_234, 2, 0, 0, 0, 0];
     Written {
         warehouse: Some(warehouse),
@@ -132,7 +114,7 @@ fn written_of_first(warehouse: [u64; 7]) -> Written {
 }
 
 /// A version of the population.
-fn populated(payload: [u64; 7]) -> Held {
+fn populated(payload: Payload) -> Held {
     Held { word: 2, payload }
 }
 
@@ -204,7 +186,7 @@ fn outcome<R: Wait>(
     rt: &R,
     alloc: Global,
     number: u32,
-    value: Option<[u64; 7]>,
+    value: Option<Payload>,
 ) -> Result<Result<Seen, Refusal>, Fail>
     requires { number < 1085 }
 {
@@ -213,7 +195,7 @@ fn outcome<R: Wait>(
     Ok(pay(rt, alloc, &mut stage, 1_234))
 }
 
-fn seen_where_stored<R: Wait>(rt: &R, alloc: Global, warehouse: [u64; 7]) -> Result<Seen, Fail> {
+fn seen_where_stored<R: Wait>(rt: &R, alloc: Global, warehouse: Payload) -> Result<Seen, Fail> {
     let mut stage = open(rt, alloc)?;
     store(rt, &mut stage, 0, Some(warehouse));
     Ok(pay(rt, alloc, &mut stage, 1_234)?)
@@ -245,7 +227,7 @@ fn is_stale<R: Wait>(
     rt: &R,
     alloc: Global,
     number: u32,
-    value: Option<[u64; 7]>,
+    value: Option<Payload>,
 ) -> Result<bool, Fail>
     requires { number < 1085 }
 {

@@ -7,13 +7,12 @@ use crate::new_orders::order_told;
 use crate::pairs::{Asked, Committed, input_of, outcome_of};
 use crate::payments::payment_told;
 use crate::query_inputs::status_told;
-use crate::stage::{Stage, open, store};
+use crate::stage::{Stage, execute_on, open, store};
 use crate::told::{Told, told_of};
-use money::{MAX_MONEY, Refusal};
+use money::{MAX_MONEY, Payload, Refusal};
 use std::alloc::Global;
 use std::sync::Wait;
 use std::test::Fail;
-use transactions::execute;
 
 /// The record of customer 3.
 const CUSTOMER: u32 = 5;
@@ -34,7 +33,7 @@ const DISTRICT: u32 = 1;
 const STOCK: u32 = 1_043;
 
 /// A value of a record: its words, or that it is absent.
-type Value = Option<[u64; 7]>;
+type Value = Option<Payload>;
 
 /// Executes what is asked for, and gives what is told.
 fn ask<R: Wait>(rt: &R, alloc: Global, stage: &mut Stage, asked: Asked) -> Result<Told, Refusal>
@@ -42,14 +41,7 @@ fn ask<R: Wait>(rt: &R, alloc: Global, stage: &mut Stage, asked: Asked) -> Resul
     requires reader { stage.old.reader.cells ≡ stage.old.cells }
 {
     let input = input_of(alloc, &stage.population.scale(), asked)?;
-    let work = execute(
-        rt,
-        alloc,
-        &stage.cells,
-        &mut stage.reader,
-        &stage.population,
-        &input,
-    )?;
+    let work = execute_on(rt, alloc, stage, &input)?;
     Ok(told_of(&work.reply))
 }
 

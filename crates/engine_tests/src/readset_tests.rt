@@ -3,7 +3,7 @@ ghost use Rattle.std.specs.Prelude.{◌≡◌, length};
 
 use crate::payments::history_row;
 use crate::stage::{Stage, WAREHOUSE, open};
-use money::Refusal;
+use money::{Payload, Refusal};
 use readset::limits::{MAX_READS, MAX_WRITES};
 use readset::{ReadSet, WriteSet};
 use std::alloc::Global;
@@ -15,8 +15,8 @@ use tables::History;
 #[derive(Clone, Copy, Debug, PartialEq, Eq)]
 struct Seen {
     count: usize,
-    value: Option<Option<[u64; 7]>>,
-    left: Option<[u64; 7]>,
+    value: Option<Option<Payload>>,
+    left: Option<Payload>,
 }
 
 /// Reads the warehouse, twice.
@@ -63,7 +63,7 @@ fn a_record_that_is_only_read_is_left_as_read(rt: HostRuntime) -> Result<(), Fai
 }
 
 /// Says what the warehouse is to hold.
-fn put(writes: &mut WriteSet, reads: &ReadSet, value: Option<[u64; 7]>) -> Result<Seen, Refusal> {
+fn put(writes: &mut WriteSet, reads: &ReadSet, value: Option<Payload>) -> Result<Seen, Refusal> {
     writes.put(0, value)?;
     Ok(seen_of(writes, reads, 0))
 }
@@ -102,8 +102,8 @@ fn the_last_value_put_is_left(rt: HostRuntime) -> Result<(), Fail> {
 struct Listed {
     rows: (Option<History>, Option<History>),
     count: usize,
-    first: Option<(u32, Option<[u64; 7]>)>,
-    last: Option<(u32, Option<[u64; 7]>)>,
+    first: Option<(u32, Option<Payload>)>,
+    last: Option<(u32, Option<Payload>)>,
 }
 
 fn seen_of_list(alloc: Global) -> Result<Listed, Refusal> {

@@ -2,28 +2,31 @@
 //! the warehouse, 1 and 2 are the districts, and from 3 on there are the customers of the first district.
 ghost use Rattle.std.specs.Prelude.{◌≡◌, ◌≢◌, ◌<◌, ℕ, length, IfOk};
 ghost use Rattle.population.specs.Initial.{initial};
+ghost use Rattle.tables.specs.Inputs.{IsInput};
 ghost use Rattle.tables.specs.Records.{record_count};
 ghost use Rattle.cells.specs.Records.{at};
 ghost use Rattle.cells.specs.Versions.{last_tid};
 
 use cells::{Cells, Pen, Reader};
-use money::Refusal;
+use encoding::newest_of;
+use money::{NO_PAYLOAD, Payload, Refusal};
 use population::Population;
-use records::newest_of;
+use readset::Work;
 use std::alloc::Global;
 use std::sync::Wait;
 use std::test::Fail;
-use tables::Scale;
+use tables::{Input, Scale};
 use tidword::{Status, TidWord};
+use transactions::execute;
 
 /// The words of the warehouse.
-pub(crate) const WAREHOUSE: [u64; 7] = [20_000, 0, 0, 0, 0, 0, 0];
+pub(crate) const WAREHOUSE: Payload = [20_000, 0, 0, 0, 0, 0, 0];
 
 /// The words of a district.
-pub(crate) const DISTRICT: [u64; 7] = [10_000, 11, 0, 0, 0, 0, 0];
+pub(crate) const DISTRICT: Payload = [10_000, 11, 0, 0, 0, 0, 0];
 
 /// The words of a customer, of which the first is a C_BALANCE of -10.00.
-pub(crate) const CUSTOMER: [u64; 7] = [u64::MAX - 999, 1_000, 1, 0, 0, 0, 0];
+pub(crate) const CUSTOMER: Payload = [u64::MAX - 999, 1_000, 1, 0, 0, 0, 0];
 
 pub(crate) fn small(alloc: Global) -> Result<Population, Refusal>
     ensures { IfOk result (λ population. record_count (initial population).scale ≡ 1085) }
@@ -59,8 +62,33 @@ pub(crate) fn open<R: Wait>(rt: &R, alloc: Global) -> Result<Stage, Fail>
     })
 }
 
+/// Executes a transaction with the one reader.
+pub(crate) fn execute_on<R: Wait>(
+    rt: &R,
+    alloc: Global,
+    stage: &mut Stage,
+    input: &Input,
+) -> Result<Work, Refusal>
+    requires input { IsInput (initial stage.old.population).scale input.now }
+    requires scale { length stage.old.cells ≡ record_count (initial stage.old.population).scale }
+    requires reader { stage.old.reader.cells ≡ stage.old.cells }
+    ensures population { stage.new.population ≡ stage.old.population }
+    ensures cells { stage.new.cells ≡ stage.old.cells }
+    ensures pen { stage.new.pen ≡ stage.old.pen }
+    ensures reader { stage.new.reader.cells ≡ stage.old.reader.cells }
+{
+    execute(
+        rt,
+        alloc,
+        &stage.cells,
+        &mut stage.reader,
+        &stage.population,
+        input,
+    )
+}
+
 /// Stores the version 1 of epoch 1 of a record: these words, or that it is absent.
-pub(crate) fn store<R: Wait>(rt: &R, stage: &mut Stage, number: u32, value: Option<[u64; 7]>)
+pub(crate) fn store<R: Wait>(rt: &R, stage: &mut Stage, number: u32, value: Option<Payload>)
     requires own { stage.old.pen.cells ≡ stage.old.cells }
     requires is_record { number < length stage.old.cells }
     requires first { last_tid (at stage.old.pen.all number) ≡ 0 }
@@ -76,7 +104,11 @@ pub(crate) fn store<R: Wait>(rt: &R, stage: &mut Stage, number: u32, value: Opti
         locked: false,
     };
     let word = TidWord::pack(1, 1, status);
-    stage
-        .cells
-        .store(rt, &mut stage.pen, number, word, value.unwrap_or([0; 7]));
+    stage.cells.store(
+        rt,
+        &mut stage.pen,
+        number,
+        word,
+        value.unwrap_or(NO_PAYLOAD),
+    );
 }

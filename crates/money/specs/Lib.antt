@@ -1,3 +1,4 @@
 pub mod Money
+pub mod Payload
 pub mod Refusal
 pub mod Total

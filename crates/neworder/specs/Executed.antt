@@ -1,17 +1,15 @@
 -- How the execution of a New-Order ends.
-use Rattle.std.specs.Prelude.{◌≡◌, ◌⊎◌, Result, Ok, Err, IfOk, IfErr, OnOk, length}
+use Rattle.std.specs.Prelude.{◌≡◌, ◌⊎◌, Result, Ok, Err}
 use Rattle.money.specs.declared.refusal.Refusal.{Refusal}
 use Rattle.money.specs.declared.refusal.Refusal.TheVariants.{OutOfMemory}
 use Rattle.tables.specs.Database.{Database}
 use Rattle.tables.specs.declared.new_order.NewOrderInput.{NewOrderInput}
 use Rattle.tables.specs.declared.input.Input.TheVariants as inputs
 use Rattle.tables.specs.declared.reply.Reply.{Reply}
-use Rattle.cells.specs.Records.{ReaderView, HasGrown}
-use Rattle.readset.specs.Reads.{ReadSetView, AreRead}
+use Rattle.readset.specs.Reads.{ReadSetView}
 use Rattle.readset.specs.Writes.{WriteSetView}
 use Rattle.readset.specs.Commit.{IsCommitOf}
-use Rattle.readset.specs.Explains.{Explains, IsWithinLimits}
-use Rattle.readset.specs.Refused.{NoneMissing, IsAboveCap, IsRefusal}
+use Rattle.readset.specs.Refused.{IsAboveCap}
 use Rattle.readset.specs.Transaction.{TransactionView, AtAll}
 use Rattle.readset.specs.declared.work.Work.{Work}
 
@@ -26,15 +24,3 @@ abbrev pub IsOrderWork : NewOrderInput → ReadSetView → WriteSetView → Resu
 IsOrderWork x reads writes reply (Ok work) = (reply ≡ Ok work.reply) × (work.input ≡ inputs.NewOrder x)
     × (work.reads ≡ reads) × (work.writes ≡ writes)
 IsOrderWork x reads writes reply (Err refusal) = (reply ≡ Err refusal) ⊎ (refusal ≡ OutOfMemory)
-
--- an execution of this order, from one state of its reader to another
-pub record IsOrderExecuted (t0 : Database) (x : NewOrderInput) (old new : ReaderView)
-    (result : Result Work Refusal) : Type 0 where
-  pub input : IfOk result (λ work. work.input ≡ inputs.NewOrder x)
-  pub none_missing : OnOk result (NoneMissing t0 (inputs.NewOrder x))
-  pub within_cap : IfOk result (λ work. ¬ IsAboveCap t0.scale (inputs.NewOrder x) work.reads)
-  pub read : IfOk result (λ work. AreRead old new work.reads)
-  pub explains : IfOk result (λ work. Explains t0 (inputs.NewOrder x) work.reads work.writes work.reply)
-  pub limits : IfOk result (λ work. IsWithinLimits (length old.cells) work.reads work.writes)
-  pub grown : HasGrown old new
-  pub refused : IfErr result (IsRefusal t0 (inputs.NewOrder x) old new)

@@ -16,7 +16,7 @@ ghost use Rattle.neworder.specs.Steps.{AreTaken, opening};
 ghost use Rattle.neworder.specs.Opening.{IsTakenOf, IsNumberTaken, IsHomeTaken, IsWithinCap, IsOrderRefusal};
 
 use crate::rows::order_words;
-use money::Refusal;
+use money::{NO_PAYLOAD, Payload, Refusal};
 use readset::{Start, Transaction};
 use std::sync::Wait;
 use tables::{CustomerKey, DistrictKey, NewOrderInput, OrderKey, RecordKey};
@@ -25,7 +25,7 @@ use tables::{CustomerKey, DistrictKey, NewOrderInput, OrderKey, RecordKey};
 #[derive(Clone, Copy)]
 pub(crate) struct Taken {
     pub order: u32,
-    pub district: [u64; 7],
+    pub district: Payload,
 }
 
 /// Opens an order: reads its district's record and takes D_NEXT_O_ID from it, reads the absent records of its rows and
@@ -90,7 +90,7 @@ fn take_number<R: Wait, K: Start>(
 /// # Errors
 ///
 /// `OrdersFull` where the number is above this cap; `Stale` where the record is absent or its number 0.
-fn number_taken(words: Option<[u64; 7]>, cap: u32) -> Result<Taken, Refusal>
+fn number_taken(words: Option<Payload>, cap: u32) -> Result<Taken, Refusal>
     ensures taken { IsNumberTaken cap words result }
     ensures row { (r : District) → 1 ≤ r.next_order → words ≡ Some (district_words r)
         → IsTakenOf cap r result }
@@ -141,7 +141,7 @@ fn write_rows<K: Start>(
     transaction: &mut Transaction<'_, K>,
     order: &NewOrderInput,
     key: OrderKey,
-    district: [u64; 7],
+    district: Payload,
 ) -> Result<(), Refusal>
     requires input { IsNewOrder K.tables.scale order.now }
     requires key { IsOrderKey K.tables.scale key }
@@ -170,7 +170,7 @@ fn write_rows<K: Start>(
     };
     let number = u64::from(key.order);
     transaction.put(RecordKey::District(home), Some(district))?;
-    transaction.put(RecordKey::NewOrder(key), Some([0; 7]))?;
+    transaction.put(RecordKey::NewOrder(key), Some(NO_PAYLOAD))?;
     transaction.put(RecordKey::Order(key), Some(order_words(order)))?;
     transaction.put(RecordKey::Last(buyer), Some([number, 0, 0, 0, 0, 0, 0]))
 }

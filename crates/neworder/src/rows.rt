@@ -6,12 +6,12 @@ ghost use Rattle.tables.specs.NewOrder.{order_row, line_row, line_amount};
 ghost use Rattle.tables.specs.Rows.{order_words, line_words};
 ghost use Rattle.tables.specs.declared.limits.TheConstants.{MAX_ORDER_LINES};
 
-use money::Cents;
+use money::{Cents, Payload};
 use tables::{NewOrderInput, Order, OrderLine, RequestedLine};
 
 /// The words of the order's row: not delivered, and O_ALL_LOCAL exactly where its warehouse supplies each line. Costs
 /// a pass over the lines.
-pub(crate) fn order_words(order: &NewOrderInput) -> [u64; 7]
+pub(crate) fn order_words(order: &NewOrderInput) -> Payload
     requires { length order.now.lines ≤ MAX_ORDER_LINES }
     ensures { result ≡ order_words (order_row order.now) }
 {
@@ -34,7 +34,7 @@ fn are_local(warehouse: u32, lines: &[RequestedLine]) -> bool
 }
 
 /// The words of a line's row, which has this amount: not delivered.
-pub(crate) fn line_words(line: &RequestedLine, amount: Cents) -> [u64; 7]
+pub(crate) fn line_words(line: &RequestedLine, amount: Cents) -> Payload
     ensures { (t : Database) → amount ≡ line_amount t line.now → result ≡ line_words (line_row t line.now) }
 {
     let row = OrderLine {

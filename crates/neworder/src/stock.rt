@@ -9,6 +9,7 @@ ghost use Rattle.tables.specs.declared.limits.TheConstants.{MIN_STOCK, RESTOCK};
 ghost use Rattle.neworder.specs.Drawn.{IsStockUpTo};
 
 use columns::count_raised;
+use money::Payload;
 use tables::RequestedLine;
 use tables::limits::{MAX_STOCK, MIN_STOCK, RESTOCK};
 
@@ -16,7 +17,7 @@ use tables::limits::{MAX_STOCK, MIN_STOCK, RESTOCK};
 /// by 91 less that where less than 10 would be left; S_YTD rises by it, S_ORDER_CNT by 1, and S_REMOTE_CNT by 1 where
 /// another warehouse supplies the line. None only where no stock of well-formed tables has these words, nor one from
 /// which 14 lines of the same order were drawn before.
-pub(crate) fn drawn(stock: Option<[u64; 7]>, home: u32, line: &RequestedLine) -> Option<[u64; 7]>
+pub(crate) fn drawn(stock: Option<Payload>, home: u32, line: &RequestedLine) -> Option<Payload>
     requires { line.now.quantity ≤ MAX_QUANTITY }
     ensures small { IfSome result (λ words. slice_index words 0 < 2 ^ 32) }
     ensures drawn { (r : Stock) → IsStockUpTo (MAX_COUNT + MAX_COUNT_STEP) r → stock ≡ Some (stock_words r)

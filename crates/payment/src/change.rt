@@ -9,18 +9,18 @@ ghost use Rattle.tables.specs.Payment.{raised_warehouse, raised_district, charge
 ghost use Rattle.tables.specs.declared.limits.TheConstants.{MAX_PAYMENT};
 
 use columns::{count_raised, money_column, money_raised};
-use money::Cents;
+use money::{Cents, Payload};
 use tables::money_to_word;
 
 /// A customer's words after a Payment, and C_BALANCE.
 #[derive(Clone, Copy)]
 pub struct Charged {
-    pub words: [u64; 7],
+    pub words: Payload,
     pub balance: Cents,
 }
 
 /// W_YTD raised. None only where no warehouse of well-formed tables holds this.
-pub fn raise_warehouse(value: Option<[u64; 7]>, amount: Cents) -> Option<[u64; 7]>
+pub fn raise_warehouse(value: Option<Payload>, amount: Cents) -> Option<Payload>
     requires low { pos 0 ≤ℤ amount }
     requires high { amount ≤ℤ MAX_PAYMENT }
     ensures { (r : Warehouse) → IsMoney r.year_to_date
@@ -32,7 +32,7 @@ pub fn raise_warehouse(value: Option<[u64; 7]>, amount: Cents) -> Option<[u64; 7
 }
 
 /// D_YTD raised. None only where no district of well-formed tables holds this.
-pub fn raise_district(value: Option<[u64; 7]>, amount: Cents) -> Option<[u64; 7]>
+pub fn raise_district(value: Option<Payload>, amount: Cents) -> Option<Payload>
     requires low { pos 0 ≤ℤ amount }
     requires high { amount ≤ℤ MAX_PAYMENT }
     ensures { (r : District) → IsMoney r.year_to_date
@@ -45,7 +45,7 @@ pub fn raise_district(value: Option<[u64; 7]>, amount: Cents) -> Option<[u64; 7]
 
 /// C_BALANCE lowered, C_YTD_PAYMENT raised, and one payment more. None only where no customer of well-formed
 /// tables holds this.
-pub fn charge_customer(value: Option<[u64; 7]>, amount: Cents) -> Option<Charged>
+pub fn charge_customer(value: Option<Payload>, amount: Cents) -> Option<Charged>
     requires low { pos 0 ≤ℤ amount }
     requires high { amount ≤ℤ MAX_PAYMENT }
     ensures { (r : Customer) → IsCustomerRow r → value ≡ Some (customer_words r)

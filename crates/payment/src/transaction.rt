@@ -1,5 +1,5 @@
 //! A Payment on record cells.
-ghost use Rattle.std.specs.Prelude.{◌≡◌, ◌≤◌, ◌⊎◌, ◌≤ℤ◌, pos, IsSome, [], length, Some, IfOk, IfErr, OnOk};
+ghost use Rattle.std.specs.Prelude.{◌≡◌, ◌≤◌, ◌≤ℤ◌, pos, IsSome, [], length, Some, IfErr, OnOk};
 ghost use Rattle.tables.specs.Sizes.{IsNumber};
 ghost use Rattle.tables.specs.Payment.{IsPayment, payer_number, history_row};
 ghost use Rattle.tables.specs.declared.limits.TheConstants.{MAX_PAYMENT};
@@ -8,26 +8,22 @@ ghost use Rattle.tables.specs.declared.rows.Warehouse.{Warehouse};
 ghost use Rattle.tables.specs.declared.rows.District.{District};
 ghost use Rattle.tables.specs.declared.rows.Customer.{Customer};
 ghost use Rattle.money.specs.declared.refusal.Refusal.TheVariants.{OutOfMemory, Stale};
-ghost use Rattle.tables.specs.Records.{number_of_key, record_count};
-ghost use Rattle.cells.specs.Records.{HasGrown};
+ghost use Rattle.tables.specs.Records.{number_of_key};
 ghost use Rattle.population.specs.Initial.{initial};
-ghost use Rattle.readset.specs.Reads.{ReadSetView, AreRead, held};
+ghost use Rattle.readset.specs.Reads.{held};
 ghost use Rattle.readset.specs.Writes.{no_writes};
 ghost use Rattle.readset.specs.Changes.{puts_all};
 ghost use Rattle.readset.specs.Commit.{IsCommitOf};
-ghost use Rattle.readset.specs.Explains.{Explains, NoCandidate, IsWithinLimits};
 ghost use Rattle.readset.specs.Transaction.{Finds, ReadsMore, IsExecuted};
 ghost use Rattle.payment.specs.declared.transaction.NewValues.{NewValues as Values};
 ghost use Rattle.payment.specs.Steps.{keys_at, AreFound, AreRows, AreNewValues, changes_of, reply_of};
 
 use crate::change::{Charged, charge_customer, raise_district, raise_warehouse};
-use cells::{Cells, Reader};
-use money::{Cents, Refusal};
+use cells::Reader;
+use money::{Cents, Payload, Refusal};
 use population::Population;
 use readset::{Start, Transaction, Work};
 use std::alloc::Global;
-use std::marker::Brand;
-use std::mem;
 use std::sync::Wait;
 use tables::{
     CustomerKey, DistrictKey, History, Input, PaymentInput, PaymentReply, RecordKey, Reply,
@@ -44,74 +40,38 @@ struct Keys {
 /// What those records hold.
 #[derive(Clone, Copy)]
 struct Found {
-    warehouse: Option<[u64; 7]>,
-    district: Option<[u64; 7]>,
-    customer: Option<[u64; 7]>,
+    warehouse: Option<Payload>,
+    district: Option<Payload>,
+    customer: Option<Payload>,
 }
 
 /// What they are to hold.
 #[derive(Clone, Copy)]
 struct NewValues {
-    warehouse: [u64; 7],
-    district: [u64; 7],
+    warehouse: Payload,
+    district: Payload,
     customer: Charged,
 }
 
-/// Executes a Payment (TPC-C 2.5.2.2): reads its records once each, and says what it is to write and to reply if it
-/// commits. No cell changes. Costs three loads and a few look-ups, whatever the tables' size, and by last name what
-/// `Population::customer` does.
+/// Executes a Payment (TPC-C 2.5.2.2) in a transaction that has read nothing: reads its records once each, and says
+/// what it is to write and to reply if it commits. No cell changes. Gives back the reader. Costs three loads and a
+/// few look-ups, whatever the tables' size, and by last name what `Population::customer` does.
 ///
 /// # Errors
 ///
-/// `Stale` only where no consistent, well-formed tables of this population have the versions that this call
-/// has read, as when they were never the latest ones together; `OutOfMemory`. After a refusal, too, the reader has
-/// seen what it had seen, and perhaps more.
-pub fn execute<R: Wait>(
+/// `Stale` only where no consistent, well-formed tables of this population have the versions that this call has read,
+/// as when they were never the latest ones together; `OutOfMemory`. After a refusal, too, the reader has seen what it
+/// had seen, and perhaps more.
+pub fn execute<R: Wait, K: Start>(
     rt: &R,
-    alloc: Global,
-    cells: &Cells,
-    reader: &mut Reader,
-    population: &Population,
-    payment: &PaymentInput,
-) -> Result<Work, Refusal>
-    requires input { IsPayment (initial population.now).scale payment.now }
-    requires own { reader.old.cells ≡ cells.now }
-    requires cells { length cells.now ≡ record_count (initial population.now).scale }
-    ensures input { IfOk result (λ work. work.input ≡ input_variants.Payment payment.now) }
-    ensures read { IfOk result (λ work. AreRead reader.old reader.new work.reads) }
-    ensures explains { IfOk result
-        (λ work. Explains (initial population.now) (input_variants.Payment payment.now) work.reads work.writes
-        work.reply) }
-    ensures limits { IfOk result (λ work. IsWithinLimits (length cells.now) work.reads work.writes) }
-    ensures grown { HasGrown reader.old reader.new }
-    ensures refused { IfErr result (λ refusal. (refusal ≡ OutOfMemory) ⊎
-        ((refusal ≡ Stale) × ((reads : ReadSetView) × AreRead reader.old reader.new reads
-        × NoCandidate (initial population.now) reads))) }
-{
-    let taken = mem::replace(reader, Reader::new(alloc));
-    let (after, work) = run::<Brand, R>(rt, alloc, cells, taken, population, payment);
-    *reader = after;
-    work
-}
-
-/// The same of a reader of its own.
-fn run<K: Start, R: Wait>(
-    rt: &R,
-    alloc: Global,
-    cells: &Cells,
-    reader: Reader,
-    population: &Population,
+    mut transaction: Transaction<'_, K>,
     payment: &PaymentInput,
 ) -> (Reader, Result<Work, Refusal>)
     requires input { IsPayment K.tables.scale payment.now }
-    requires tables { initial population.now ≡ K.tables }
-    requires reader { reader ≡ K.reader }
-    requires own { reader.cells ≡ cells.now }
-    requires cells { length cells.now ≡ record_count K.tables.scale }
+    requires begun { transaction ≡ record { reads = []; writes = no_writes } }
     ensures { IsExecuted K.tables (input_variants.Payment payment.now) K.reader result.0 result.1 }
 {
-    let customer = payer(population, payment);
-    let mut transaction = Transaction::<K>::begin(alloc, cells, population, reader);
+    let customer = payer(transaction.population(), payment);
     let reply = pay(rt, &mut transaction, payment, customer);
     transaction.finish(Input::Payment(*payment), reply)
 }

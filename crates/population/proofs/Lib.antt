@@ -1,3 +1,5 @@
+mod NameIndexMade
+mod NameRange
 mod Added
 mod Lists
 mod TableRows

@@ -9,9 +9,9 @@ ghost use Rattle.tables.specs.Database.{database};
 ghost use Rattle.tables.specs.WellFormed.{IsWellFormed, HasRoom};
 ghost use Rattle.tables.specs.declared.limits.TheConstants.{MAX_COMMITS};
 
+use crate::name_index::NameIndex;
 use crate::plain::plain_tables;
 use money::Refusal;
-use names::NameIndex;
 use std::alloc::Global;
 use tables::{DistrictKey, Scale, Tables, Who};
 

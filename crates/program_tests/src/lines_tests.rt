@@ -1,8 +1,8 @@
 ghost use Rattle.std.specs.Prelude.{◌<◌};
 
 use conditions::Report;
-use lines::{Answer, LineBuffer, Request, ShowKey, ShownRow, print_report, read_request};
 use money::{Cents, Rate, Refusal};
+use script_text::{Answer, LineBuffer, Request, ShowKey, ShownRow, print_report, read_request};
 use std::alloc::Global;
 use std::process::Abort;
 use std::test::Fail;

@@ -2,7 +2,7 @@
 ghost use Rattle.std.specs.Prelude.{◌≡◌, ◌<◌, length, IfOk};
 
 use commit::{Event, State};
-use money::Refusal;
+use money::{NO_PAYLOAD, Refusal};
 use std::alloc::Global;
 use std::test::Fail;
 
@@ -69,12 +69,12 @@ fn read(worker: u16, record: u32) -> Event {
     Event::Read { worker, record }
 }
 
-/// A lock of a record, to write seven zeros there.
+/// A lock of a record, to write words 0 there.
 fn lock(worker: u16, record: u32) -> Event {
     Event::Lock {
         worker,
         record,
-        value: Some([0; 7]),
+        value: Some(NO_PAYLOAD),
     }
 }
 

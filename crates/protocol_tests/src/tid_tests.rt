@@ -1,6 +1,6 @@
 //! TIDs at the ends of an epoch.
 
-use money::Refusal;
+use money::{NO_PAYLOAD, Refusal};
 use std::rt::HostRuntime;
 use std::test::Fail;
 use tidword::{Status, TidWord, next_tid};
@@ -51,7 +51,7 @@ fn status_bits_do_not_count(rt: HostRuntime) -> Result<(), Fail> {
         Ok((3, 8, 12_884_901_952))
     );
     assert_eq!(rt;
-        stored.tid().installed(&Some([0; 7])).word(),
+        stored.tid().installed(&Some(NO_PAYLOAD)).word(),
         12_884_901_946
     );
     Ok(())

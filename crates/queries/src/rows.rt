@@ -9,6 +9,7 @@ ghost use Rattle.tables.specs.declared.rows.Order.{Order};
 ghost use Rattle.tables.specs.declared.rows.OrderLine.{OrderLine as OrderLineValue};
 
 use columns::money_column;
+use money::Payload;
 use tables::limits::{MAX_CARRIER, MAX_DATE, MAX_ORDER_LINES, MAX_QUANTITY};
 use tables::{OrderLine, Scale};
 
@@ -21,7 +22,7 @@ pub(crate) struct OrderColumns {
 }
 
 /// Those columns. None only where no order of well-formed tables has these words.
-pub(crate) fn order_columns(words: &[u64; 7]) -> Option<OrderColumns>
+pub(crate) fn order_columns(words: &Payload) -> Option<OrderColumns>
     ensures range { IfSome result (λ c. c.line_count ≤ MAX_ORDER_LINES) }
     ensures columns { (r : Order) → IsOrderRow r → words.now ≡ order_words r
         → result ≡ Some (record { entry_date = r.entry_date; carrier = r.carrier; line_count = r.line_count }) }
@@ -37,7 +38,7 @@ pub(crate) fn order_columns(words: &[u64; 7]) -> Option<OrderColumns>
 }
 
 /// A row of ORDER-LINE. None only where no line of well-formed tables of this scale has these words.
-pub(crate) fn line_row(words: &[u64; 7], scale: &Scale) -> Option<OrderLine>
+pub(crate) fn line_row(words: &Payload, scale: &Scale) -> Option<OrderLine>
     ensures { (r : OrderLineValue) → IsLineRow scale.now r → words.now ≡ line_words r → result ≡ Some r }
 {
     let item = number(words[0], scale.items())?;

@@ -16,7 +16,7 @@ ghost use Rattle.money.specs.declared.refusal.Refusal.TheVariants.{OutOfMemory};
 ghost use Rattle.readset.specs.Transaction.{Finds, IsStepRefusal, ReadsMore};
 ghost use Rattle.queries.specs.SoldItems.{home_of, AreItems, SameStock};
 
-use money::Refusal;
+use money::{Payload, Refusal};
 use readset::{Start, Transaction};
 use std::alloc::Global;
 use std::sync::Wait;
@@ -48,7 +48,7 @@ pub(crate) fn read_next_order<R: Wait, K: Start>(
 
 /// D_NEXT_O_ID, by what a district's record holds. None only where no district of well-formed tables of this scale
 /// holds it.
-fn next_number(value: Option<[u64; 7]>, scale: &Scale) -> Option<u32>
+fn next_number(value: Option<Payload>, scale: &Scale) -> Option<u32>
     ensures next { (r : District) → value ≡ Some (district_words r)
         → IsNumber (scale.now.orders + 1) r.next_order → result ≡ Some r.next_order }
     ensures range { IfSome result (λ n. IsNumber (scale.now.orders + 1) n) }
@@ -166,7 +166,7 @@ fn read_item<R: Wait, K: Start>(
 }
 
 /// OL_I_ID, where there is a line. None only where no line of well-formed tables of this scale has these words.
-fn line_item(value: Option<[u64; 7]>, scale: &Scale) -> Option<Option<u32>>
+fn line_item(value: Option<Payload>, scale: &Scale) -> Option<Option<u32>>
     ensures item { (w : Option OrderLineValue) → ForSome w (λ r. IsItemKey scale.now r.item)
         → value ≡ option_map line_words w → result ≡ Some (option_map (λ r. r.item) w) }
     ensures range { IfSome result (λ o. ForSome o (λ i. IsItemKey scale.now i)) }

@@ -1,85 +1,44 @@
 //! An Order-Status on record cells.
-ghost use Rattle.std.specs.Prelude.{◌≡◌, ◌⊎◌, length, IfOk, IfErr};
+ghost use Rattle.std.specs.Prelude.{◌≡◌, []};
 ghost use Rattle.tables.specs.Keys.{IsCustomerKey};
 ghost use Rattle.tables.specs.OrderStatus.{IsOrderStatus, asked, asked_number};
-ghost use Rattle.tables.specs.Records.{record_count};
 ghost use Rattle.tables.specs.declared.input.Input.TheVariants as input_variants;
-ghost use Rattle.money.specs.declared.refusal.Refusal.TheVariants.{OutOfMemory, Stale};
 ghost use Rattle.population.specs.Initial.{initial};
-ghost use Rattle.cells.specs.Records.{HasGrown};
-ghost use Rattle.readset.specs.Reads.{ReadSetView, AreRead};
-ghost use Rattle.readset.specs.Explains.{Explains, NoCandidate, IsWithinLimits};
 ghost use Rattle.readset.specs.Writes.{no_writes};
 ghost use Rattle.readset.specs.Commit.{IsCommitOf};
 ghost use Rattle.readset.specs.Transaction.{Finds, ReadsMore, IsExecuted};
 
 use crate::last_order::{read_balance, read_last, read_order};
-use cells::{Cells, Reader};
+use cells::Reader;
 use money::Refusal;
 use population::Population;
 use readset::{Start, Transaction, Work};
 use std::alloc::Global;
-use std::marker::Brand;
-use std::mem;
 use std::sync::Wait;
 use tables::{
     CustomerKey, DistrictKey, Input, OrderKey, OrderStatusInput, OrderStatusReply, Reply,
 };
 
-/// Executes an Order-Status (TPC-C 2.6.2.2): reads its customer, the number of the customer's last order, and that
-/// order with its lines. No cell changes, and it writes nothing. Costs at most eighteen loads, by last name what
-/// `Population::customer` does, and memory for what it reads and replies, whatever the tables' size.
+/// Executes an Order-Status (TPC-C 2.6.2.2) in a transaction that has read nothing: reads its customer, the number of
+/// the customer's last order, and that order with its lines. No cell changes, and it writes nothing. Gives back the
+/// reader. Costs at most eighteen loads, by last name what `Population::customer` does, and memory for what it reads
+/// and replies, whatever the tables' size.
 ///
 /// # Errors
 ///
 /// `Stale` only where no well-formed tables of this population have the versions that this call has read;
 /// `OutOfMemory`. After a refusal, too, the reader has seen what it had seen, and perhaps more.
-pub fn order_status<R: Wait>(
+pub fn order_status<R: Wait, K: Start>(
     rt: &R,
     alloc: Global,
-    cells: &Cells,
-    reader: &mut Reader,
-    population: &Population,
-    query: &OrderStatusInput,
-) -> Result<Work, Refusal>
-    requires input { IsOrderStatus (initial population.now).scale query.now }
-    requires own { reader.old.cells ≡ cells.now }
-    requires cells { length cells.now ≡ record_count (initial population.now).scale }
-    ensures input { IfOk result (λ work. work.input ≡ input_variants.OrderStatus query.now) }
-    ensures read { IfOk result (λ work. AreRead reader.old reader.new work.reads) }
-    ensures explains { IfOk result
-        (λ work. Explains (initial population.now) (input_variants.OrderStatus query.now) work.reads work.writes
-        work.reply) }
-    ensures limits { IfOk result (λ work. IsWithinLimits (length cells.now) work.reads work.writes) }
-    ensures grown { HasGrown reader.old reader.new }
-    ensures refused { IfErr result (λ refusal. (refusal ≡ OutOfMemory) ⊎
-        ((refusal ≡ Stale) × ((reads : ReadSetView) × AreRead reader.old reader.new reads
-        × NoCandidate (initial population.now) reads))) }
-{
-    let taken = mem::replace(reader, Reader::new(alloc));
-    let (after, work) = run::<Brand, R>(rt, alloc, cells, taken, population, query);
-    *reader = after;
-    work
-}
-
-/// The same of a reader of its own.
-fn run<K: Start, R: Wait>(
-    rt: &R,
-    alloc: Global,
-    cells: &Cells,
-    reader: Reader,
-    population: &Population,
+    mut transaction: Transaction<'_, K>,
     query: &OrderStatusInput,
 ) -> (Reader, Result<Work, Refusal>)
     requires input { IsOrderStatus K.tables.scale query.now }
-    requires tables { initial population.now ≡ K.tables }
-    requires reader { reader ≡ K.reader }
-    requires own { reader.cells ≡ cells.now }
-    requires cells { length cells.now ≡ record_count K.tables.scale }
+    requires begun { transaction ≡ record { reads = []; writes = no_writes } }
     ensures { IsExecuted K.tables (input_variants.OrderStatus query.now) K.reader result.0 result.1 }
 {
-    let asked = asked_for(population, query);
-    let mut transaction = Transaction::<K>::begin(alloc, cells, population, reader);
+    let asked = asked_for(transaction.population(), query);
     let reply = read_reply(rt, alloc, &mut transaction, query, asked);
     transaction.finish(Input::OrderStatus(*query), reply)
 }

@@ -10,14 +10,16 @@ use Rattle.tables.specs.declared.records.RecordKey.{RecordKey}
 use Rattle.tables.specs.declared.input.Input.{Input}
 use Rattle.tables.specs.declared.reply.Reply.{Reply}
 use Rattle.money.specs.declared.refusal.Refusal.{Refusal}
+use Rattle.money.specs.declared.refusal.Refusal.TheVariants.{OutOfMemory, Stale}
 use Rattle.cells.specs.Records.{ReaderView, HasGrown}
 use Rattle.cells.specs.declared.cells.Version.{Version}
 use Rattle.readset.specs.Reads.{ReadSetView, Keeps, AreWithin, AreRead, held, value_of}
 use Rattle.readset.specs.Writes.{WriteSetView, puts}
 use Rattle.readset.specs.Commit.{IsCommitOf}
+use Rattle.readset.specs.Refused.{NoneMissing, IsAboveCap, IsRefusal}
 use Rattle.readset.specs.declared.limits.TheConstants.{MAX_READS, MAX_WRITES}
 use Rattle.readset.specs.Explains.{IsCandidate}
-use Rattle.readset.specs.Transaction.{TransactionView, IsUnderWay, ReadsMore, GoesOn, IsExecuted}
+use Rattle.readset.specs.Transaction.{TransactionView, IsUnderWay, ReadsMore, GoesOn, IsStepRefusal, IsExecuted}
 use Rattle.readset.proofs.LeftIs.{row_read}
 use Rattle.readset.proofs.MoreReads.{candidate_before}
 use Rattle.readset.proofs.WrittenRecords.{keeps_read, length-insert_entry, puts_read, written_within}
@@ -65,11 +67,13 @@ put_under_way start now reads writes more n value (Err e) h read put kept =
 
 -- the end of a transaction whose reply was found
 pub executed : (t0 : Database) (x : Input) (start now : ReaderView) (reads : ReadSetView) (writes : WriteSetView) (told : Reply)
-    → IsUnderWay start now (record { reads = reads; writes = writes })
+    → IsUnderWay start now (record { reads = reads; writes = writes }) → NoneMissing t0 x → ¬ IsAboveCap t0.scale x reads
     → ((t : Database) → IsCandidate t0 reads t → IsCommitOf t x writes told) → length reads ≤ MAX_READS → length writes.values ≤ MAX_WRITES
     → IsExecuted t0 x start now (Ok (record { input = x; reads = reads; writes = writes; reply = told }))
-executed t0 x start now reads writes told h explains few_reads few_writes = record {
+executed t0 x start now reads writes told h none within explains few_reads few_writes = record {
   input = refl;
+  none_missing = none;
+  within_cap = within;
   read = h.read;
   explains = explains;
   limits = record {
@@ -82,6 +86,28 @@ executed t0 x start now reads writes told h explains few_reads few_writes = reco
   grown = h.grown;
   refused = tt;
 }
+
+-- and of one that is refused
+pub refused : (t0 : Database) (x : Input) (start now : ReaderView) (refusal : Refusal) → HasGrown start now → IsRefusal t0 x start now refusal
+    → IsExecuted t0 x start now (Err refusal)
+refused t0 x start now refusal grown why = record {
+  input = tt;
+  none_missing = tt;
+  within_cap = tt;
+  read = tt;
+  explains = tt;
+  limits = tt;
+  grown = grown;
+  refused = why;
+}
+
+-- by a step, where no item is missing and no number above the order cap was read
+pub step_refused : (t0 : Database) (x : Input) (start now : ReaderView) (under_way : TransactionView) (refusal : Refusal)
+    → IsUnderWay start now under_way → NoneMissing t0 x
+    → ¬ IsAboveCap t0.scale x under_way.reads → IsStepRefusal t0 under_way refusal → IsRefusal t0 x start now refusal
+step_refused t0 x start now under_way OutOfMemory h none within why = tt
+step_refused t0 x start now under_way Stale h none within why = (none, (under_way.reads, h.read, within, why))
+step_refused t0 x start now under_way _ h none within why = absurd why
 
 -- steps in a row
 pub reads_none : (most : ℕ) (x : TransactionView) → ReadsMore most x x

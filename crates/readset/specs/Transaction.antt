@@ -1,5 +1,5 @@
 -- A transaction under way (Silo, section 4.4): what it has read and is to write so far, and what its steps say.
-use Rattle.std.specs.Prelude.{◌≡◌, ◌⊎◌, ℕ, ◌+◌, ◌≤◌, ⊤, Option, Some, List, Result, Ok, Err, IfOk, IfErr, length}
+use Rattle.std.specs.Prelude.{◌≡◌, ℕ, ◌+◌, ◌≤◌, ⊤, Option, Some, List, Result, Ok, Err, OnOk, IfOk, IfErr, length}
 use Rattle.money.specs.declared.refusal.Refusal.{Refusal}
 use Rattle.money.specs.declared.refusal.Refusal.TheVariants.{OutOfMemory, Stale}
 use Rattle.tables.specs.Database.{Database}
@@ -9,6 +9,7 @@ use Rattle.cells.specs.declared.cells.Version.{Version}
 use Rattle.readset.specs.Reads.{ReadSetView, Keeps, AreWithin, AreRead, held, value_of}
 use Rattle.readset.specs.Writes.{WriteSetView}
 use Rattle.readset.specs.Explains.{IsCandidate, NoCandidate, Explains, WritesAreRead, IsWithinLimits}
+use Rattle.readset.specs.Refused.{NoneMissing, IsAboveCap, IsRefusal}
 use Rattle.readset.specs.declared.work.Work.{Work}
 
 -- what contracts see of it
@@ -56,18 +57,14 @@ abbrev pub Finds : {X : Type 0} → Database → TransactionView → Result X Re
 Finds t0 x (Ok found) P = AtAll t0 x (P found)
 Finds t0 x (Err refusal) P = IsStepRefusal t0 x refusal
 
--- how an execution without refusals of its own is refused: for want of memory, or since there are no tables at which it
--- may have read
-abbrev pub IsReadRefusal : Database → ReaderView → ReaderView → Refusal → Type 0
-IsReadRefusal t0 old new refusal =
-    (refusal ≡ OutOfMemory) ⊎ ((refusal ≡ Stale)
-    × ((reads : ReadSetView) × AreRead old new reads × NoCandidate t0 reads))
-
--- an execution of this input, from one state of its reader to another
+-- an execution of this input, from one state of its reader to another. A work is of an input of which no item is
+-- missing, and of no order number above the order cap as read
 pub record IsExecuted (t0 : Database) (x : Input) (old new : ReaderView) (result : Result Work Refusal) : Type 0 where
   pub input : IfOk result (λ work. work.input ≡ x)
+  pub none_missing : OnOk result (NoneMissing t0 x)
+  pub within_cap : IfOk result (λ work. ¬ IsAboveCap t0.scale x work.reads)
   pub read : IfOk result (λ work. AreRead old new work.reads)
   pub explains : IfOk result (λ work. Explains t0 x work.reads work.writes work.reply)
   pub limits : IfOk result (λ work. IsWithinLimits (length old.cells) work.reads work.writes)
   pub grown : HasGrown old new
-  pub refused : IfErr result (IsReadRefusal t0 old new)
+  pub refused : IfErr result (IsRefusal t0 x old new)

@@ -5,6 +5,7 @@ ghost use Rattle.std.specs.Map.{keys_of};
 ghost use Rattle.std.specs.List.Sorted.{IsStrictlySortedBy};
 ghost use Rattle.readset.specs.Writes.{value_for};
 
+use money::Payload;
 use std::marker::Model;
 use tables::History;
 
@@ -12,7 +13,7 @@ use tables::History;
 /// it as `WriteSetView`, as they see a `WriteSet`.
 #[derive(Drop)]
 pub struct WriteList {
-    values: Vec<(u32, Option<[u64; 7]>)>,
+    values: Vec<(u32, Option<Payload>)>,
     history_row: Option<History>,
 }
 
@@ -32,7 +33,7 @@ impl Model for WriteList {
 impl WriteList {
     /// Of values by record number, in the order of the numbers.
     pub(crate) fn new(
-        values: Vec<(u32, Option<[u64; 7]>)>,
+        values: Vec<(u32, Option<Payload>)>,
         history_row: Option<History>,
     ) -> WriteList
         requires { IsStrictlySortedBy nat_cmp (keys_of values.items) }
@@ -45,7 +46,7 @@ impl WriteList {
     }
 
     /// What each record written holds after the commit, in the order of the record numbers.
-    pub fn values(&self) -> &[(u32, Option<[u64; 7]>)]
+    pub fn values(&self) -> &[(u32, Option<Payload>)]
         ensures values { result.now ≡ self.now.values }
         ensures found { All (λ e. value_for self.now e.0 ≡ Some e.1) self.now.values }
         ensures ordered { IsStrictlySortedBy nat_cmp (keys_of self.now.values) }

@@ -12,7 +12,7 @@ ghost use Rattle.cells.specs.Records.{ReaderView, LoadsRecord, HasGrown, words_o
 ghost use Rattle.cells.specs.declared.cells.Version.{Version};
 
 use cells::{Cells, Reader, Version};
-use money::Refusal;
+use money::{Payload, Refusal};
 use std::alloc::Global;
 use std::collections::BTreeMap;
 use std::collections::btree_map::Iter;
@@ -130,7 +130,7 @@ fn load<R: Wait>(
 }
 
 /// What a version says that its record holds: its words, or nothing where it is absent. Takes constant time.
-pub fn value_of(version: &Version) -> Option<[u64; 7]>
+pub fn value_of(version: &Version) -> Option<Payload>
     ensures { result ≡ value_of version.now }
 {
     if version.word.is_absent() {

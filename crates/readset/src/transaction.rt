@@ -10,13 +10,14 @@ ghost use Rattle.readset.specs.declared.limits.TheConstants.{MAX_READS, MAX_WRIT
 ghost use Rattle.readset.specs.Reads.{held};
 ghost use Rattle.readset.specs.Writes.{no_writes, puts, left_at};
 ghost use Rattle.readset.specs.Commit.{IsCommitOf};
+ghost use Rattle.readset.specs.Refused.{NoneMissing, IsAboveCap};
 ghost use Rattle.readset.specs.Transaction.{IsReadAs, IsUnderWay, ReadsMore, GoesOn, Finds, IsExecuted};
 
 use crate::reads::{ReadSet, value_of};
 use crate::work::Work;
 use crate::writes::WriteSet;
 use cells::{Cells, Reader};
-use money::Refusal;
+use money::{Payload, Refusal};
 use population::Population;
 use std::alloc::Global;
 use std::marker::{Brand, Model, PhantomData};
@@ -125,7 +126,7 @@ impl<'a, K: Start> Transaction<'a, K> {
     /// # Errors
     ///
     /// `OutOfMemory`, and no other. Nothing is read then.
-    pub fn read<R: Wait>(&mut self, rt: &R, key: RecordKey) -> Result<Option<[u64; 7]>, Refusal>
+    pub fn read<R: Wait>(&mut self, rt: &R, key: RecordKey) -> Result<Option<Payload>, Refusal>
         requires { IsRecordKey K.tables.scale key }
         ensures words { Finds K.tables self.new result (λ words t. row_at t key ≡ words) }
         ensures holds { OnOk result (IsSome (held self.new.reads (number_of_key K.tables.scale key))) }
@@ -142,7 +143,7 @@ impl<'a, K: Start> Transaction<'a, K> {
 
     /// What the transaction leaves of a record: what it is to write there, or else what it has read there. Costs the
     /// logarithms of the numbers of records written and read.
-    pub fn left(&self, key: RecordKey) -> Option<[u64; 7]>
+    pub fn left(&self, key: RecordKey) -> Option<Payload>
         requires { IsRecordKey K.tables.scale key }
         ensures { result ≡ left_at self.now.writes self.now.reads (number_of_key K.tables.scale key) }
     {
@@ -156,7 +157,7 @@ impl<'a, K: Start> Transaction<'a, K> {
     /// # Errors
     ///
     /// `OutOfMemory`, and no other. What was said is then as before.
-    pub fn put(&mut self, key: RecordKey, value: Option<[u64; 7]>) -> Result<(), Refusal>
+    pub fn put(&mut self, key: RecordKey, value: Option<Payload>) -> Result<(), Refusal>
         requires key { IsRecordKey K.tables.scale key }
         requires read { IsSome (held self.old.reads (number_of_key K.tables.scale key)) }
         ensures reads { self.new.reads ≡ self.old.reads }
@@ -205,6 +206,8 @@ impl<'a, K: Start> Transaction<'a, K> {
         reply: Result<Reply, Refusal>,
     ) -> (Reader, Result<Work, Refusal>)
         requires reply { Finds K.tables self reply (λ told t. IsCommitOf t input self.writes told) }
+        requires none_missing { NoneMissing K.tables input }
+        requires within_cap { ¬ IsAboveCap K.tables.scale input self.reads }
         requires reads { length self.reads ≤ MAX_READS }
         requires writes { length self.writes.values ≤ MAX_WRITES }
         ensures { IsExecuted K.tables input K.reader result.0 result.1 }

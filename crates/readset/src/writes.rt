@@ -7,19 +7,19 @@ ghost use Rattle.readset.specs.Writes.{no_writes, value_for, puts, left_at};
 
 use crate::list::WriteList;
 use crate::reads::{ReadSet, value_of};
-use money::Refusal;
+use money::{Payload, Refusal};
 use std::alloc::Global;
 use std::collections::BTreeMap;
 use std::collections::btree_map::Iter;
 use std::marker::Model;
 use tables::History;
 
-/// What a transaction is to write: for each record written the seven words that it is to hold, or nothing
+/// What a transaction is to write: for each record written the words that it is to hold, or nothing
 /// where it is to be absent, and at most one HISTORY row (Silo, section 4.4: the write set). Contracts see it
 /// as `WriteSetView`. A map, so that a transaction that writes some 200 records spends a few steps on each look-up.
 #[derive(Drop)]
 pub struct WriteSet {
-    values: BTreeMap<u32, Option<[u64; 7]>>,
+    values: BTreeMap<u32, Option<Payload>>,
     history_row: Option<History>,
 }
 
@@ -50,7 +50,7 @@ impl WriteSet {
     /// # Errors
     ///
     /// `OutOfMemory`, and no other. What was said is then as before.
-    pub fn put(&mut self, number: u32, value: Option<[u64; 7]>) -> Result<(), Refusal>
+    pub fn put(&mut self, number: u32, value: Option<Payload>) -> Result<(), Refusal>
         ensures puts { OnOk result (self.new ≡ puts self.old number value) }
         ensures kept { OnErr result (self.new ≡ self.old) }
         ensures only_memory { IfErr result (λ refusal. refusal ≡ OutOfMemory) }
@@ -69,7 +69,7 @@ impl WriteSet {
     }
 
     /// What a record is to hold, if it is written. Costs the logarithm of the number of records written.
-    pub fn value(&self, number: u32) -> Option<Option<[u64; 7]>>
+    pub fn value(&self, number: u32) -> Option<Option<Payload>>
         ensures { result ≡ value_for self.now number }
     {
         self.values.get(&number).copied()
@@ -77,7 +77,7 @@ impl WriteSet {
 
     /// What the transaction leaves of a record: what it is to write there, or else what it has read there. Nothing
     /// where it did neither. Costs the logarithms of the numbers of records written and read.
-    pub fn left(&self, reads: &ReadSet, number: u32) -> Option<[u64; 7]>
+    pub fn left(&self, reads: &ReadSet, number: u32) -> Option<Payload>
         ensures { result ≡ left_at self.now reads.now number }
     {
         match self.values.get(&number) {
@@ -87,7 +87,7 @@ impl WriteSet {
     }
 
     /// What each record written is to hold, by record number and in the order of the numbers.
-    pub fn values(&self) -> Iter<'_, u32, Option<[u64; 7]>>
+    pub fn values(&self) -> Iter<'_, u32, Option<Payload>>
         ensures values { result ≡ self.now.values }
         ensures found { All (λ e. value_for self.now e.0 ≡ Some e.1) self.now.values }
         ensures ordered { IsStrictlySortedBy nat_cmp (keys_of self.now.values) }

@@ -9,10 +9,10 @@ use Rattle.std.proofs.Common.{inl, inr}
 use Rattle.money.specs.declared.refusal.Refusal.{Refusal}
 use Rattle.money.specs.declared.refusal.Refusal.TheVariants.{OutOfMemory, BadInput}
 use Rattle.tables.specs.Database.{Database}
-use Rattle.lines.specs.Lines.{HasNoLineFeed, IsCut, buffered, held_after, last_line, text_lines}
-use Rattle.lines.specs.Output.{answer_text}
-use Rattle.lines.specs.declared.answer.Answer.{Answer}
-use Rattle.lines.proofs.Cutting.{lines_first, lines_of_cut, cut_line, cut_more, held_more}
+use Rattle.script_text.specs.Lines.{HasNoLineFeed, IsCut, buffered, held_after, last_line, text_lines}
+use Rattle.script_text.specs.Output.{answer_text}
+use Rattle.script_text.specs.declared.answer.Answer.{Answer}
+use Rattle.script_text.proofs.Cutting.{lines_first, lines_of_cut, cut_line, cut_more, held_more}
 use Rattle.script.specs.declared.running.TheConstants.{MAX_LINES}
 use Rattle.script.specs.Turns.{State, Turn, IsLineTurn, AreTurns}
 use Rattle.script.specs.Written.{start, answers_text, HasTooManyLines}

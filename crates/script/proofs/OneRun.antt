@@ -7,11 +7,11 @@ use Rattle.tables.specs.Database.{Database}
 use Rattle.tables.specs.Apply.{Outcome, Committed, RolledBack, apply, left_by, HasOrderNumber}
 use Rattle.tables.specs.declared.input.Input.{Input}
 use Rattle.tables.specs.declared.reply.Reply.{Reply}
-use Rattle.lines.specs.declared.request.Request.{Request}
-use Rattle.lines.specs.declared.request.Request.TheVariants.{Transaction, Show}
-use Rattle.lines.specs.declared.answer.Answer.{Answer}
-use Rattle.lines.specs.declared.answer.Answer.TheVariants as answer
-use Rattle.lines.proofs.OneText.{one_line_one_request}
+use Rattle.script_text.specs.declared.request.Request.{Request}
+use Rattle.script_text.specs.declared.request.Request.TheVariants.{Transaction, Show}
+use Rattle.script_text.specs.declared.answer.Answer.{Answer}
+use Rattle.script_text.specs.declared.answer.Answer.TheVariants as answer
+use Rattle.script_text.proofs.OneText.{one_line_one_request}
 use Rattle.book.specs.Next.{IsRefusedAt}
 use Rattle.script.specs.Turns.{State, Turn, committed, IsInputTurn, declined, done, IsAnswered, IsRequestTurn, beyond}
 use Rattle.script.specs.Turns.{within, IsLineTurn, long, unread, read, AreTurns, refused}

@@ -6,8 +6,8 @@ use Rattle.std.specs.declared.cmp.Ordering.{Ordering}
 use Rattle.std.specs.declared.cmp.Ordering.TheVariants.{Less, Equal, Greater}
 use Rattle.tables.specs.Database.{Database}
 use Rattle.tables.proofs.Orders.{IsExact, exact_number, exact_district, exact_customer, exact_order, exact_line}
-use Rattle.lines.specs.Lines.{text_lines}
-use Rattle.lines.specs.Report.{report_text}
+use Rattle.script_text.specs.Lines.{text_lines}
+use Rattle.script_text.specs.Report.{report_text}
 use Rattle.conditions.specs.Finds.{FindsLeast}
 use Rattle.conditions.specs.Report.{IsReportOf}
 use Rattle.conditions.specs.declared.report.Report.{Report}

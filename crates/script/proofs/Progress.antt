@@ -12,8 +12,8 @@ use Rattle.std.proofs.KnownBytes.{Appends-nil, Appends-trans}
 use Rattle.tables.specs.Database.{Database}
 use Rattle.conditions.specs.Report.{IsReportOf}
 use Rattle.conditions.specs.declared.report.Report.{Report}
-use Rattle.lines.specs.Lines.{text_lines}
-use Rattle.lines.specs.Report.{report_text}
+use Rattle.script_text.specs.Lines.{text_lines}
+use Rattle.script_text.specs.Report.{report_text}
 use Rattle.book.specs.declared.entry.Done.{Done}
 use Rattle.script.specs.Turns.{AreTurns, commits_of}
 use Rattle.script.specs.Written.{start, HasTooManyLines, IsWhole, IsBeginning, of_answers, of_whole}

@@ -9,13 +9,13 @@ use Rattle.std.proofs.lemmas.List.{length-map, length_push, map-append}
 use Rattle.tables.specs.Sizes.{Sizes}
 use Rattle.tables.specs.Database.{Database}
 use Rattle.tables.specs.declared.input.Input.{Input}
-use Rattle.lines.specs.declared.line_buffer.TheConstants.{MAX_LINE}
-use Rattle.lines.specs.Lines.{buffered}
-use Rattle.lines.specs.Requests.{IsRequestAt, IsInRange, IsRefusedLine, request_text}
-use Rattle.lines.specs.declared.request.Request.{Request}
-use Rattle.lines.specs.declared.answer.Answer.{Answer}
-use Rattle.lines.specs.declared.answer.Answer.TheVariants as answer
-use Rattle.lines.proofs.OneText.{in_reach}
+use Rattle.script_text.specs.declared.line_buffer.TheConstants.{MAX_LINE}
+use Rattle.script_text.specs.Lines.{buffered}
+use Rattle.script_text.specs.Requests.{IsRequestAt, IsInRange, IsRefusedLine, request_text}
+use Rattle.script_text.specs.declared.request.Request.{Request}
+use Rattle.script_text.specs.declared.answer.Answer.{Answer}
+use Rattle.script_text.specs.declared.answer.Answer.TheVariants as answer
+use Rattle.script_text.proofs.OneText.{in_reach}
 use Rattle.book.specs.declared.entry.Done.{Done}
 use Rattle.book.specs.History.{replay}
 use Rattle.book.proofs.Replaying.{replay-scale}

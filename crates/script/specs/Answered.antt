@@ -2,8 +2,8 @@
 use Rattle.std.specs.Prelude.{◌≡◌, ℕ, Option, List, ◌++◌, length, string_bytes}
 use Rattle.book.specs.History.{replay}
 use Rattle.tables.specs.Database.{Database}
-use Rattle.lines.specs.Lines.{IsCut, buffered, text_lines}
-use Rattle.lines.specs.declared.answer.Answer.{Answer}
+use Rattle.script_text.specs.Lines.{IsCut, buffered, text_lines}
+use Rattle.script_text.specs.declared.answer.Answer.{Answer}
 use Rattle.script.specs.declared.running.Desk.{Desk}
 use Rattle.session.specs.Session.{SessionView}
 use Rattle.script.specs.Turns.{State, AreTurns, commits_of}

@@ -8,16 +8,16 @@ use Rattle.tables.specs.Database.{Database}
 use Rattle.tables.specs.Apply.{Committed, apply, HasOrderNumber}
 use Rattle.tables.specs.declared.input.Input.{Input}
 use Rattle.tables.specs.declared.reply.Reply.{Reply}
-use Rattle.lines.specs.declared.line_buffer.TheConstants.{MAX_LINE}
-use Rattle.lines.specs.Requests.{IsRequestAt, IsInRange, request_text}
-use Rattle.lines.specs.declared.request.Request.{Request}
-use Rattle.lines.specs.declared.request.Request.TheVariants.{Transaction, Show}
-use Rattle.lines.specs.declared.request.ShowKey.{ShowKey}
-use Rattle.lines.specs.declared.request.ShowKey.TheVariants as key
-use Rattle.lines.specs.declared.shown.ShownRow.{ShownRow}
-use Rattle.lines.specs.declared.shown.ShownRow.TheVariants as shown
-use Rattle.lines.specs.declared.answer.Answer.{Answer}
-use Rattle.lines.specs.declared.answer.Answer.TheVariants as answer
+use Rattle.script_text.specs.declared.line_buffer.TheConstants.{MAX_LINE}
+use Rattle.script_text.specs.Requests.{IsRequestAt, IsInRange, request_text}
+use Rattle.script_text.specs.declared.request.Request.{Request}
+use Rattle.script_text.specs.declared.request.Request.TheVariants.{Transaction, Show}
+use Rattle.script_text.specs.declared.request.ShowKey.{ShowKey}
+use Rattle.script_text.specs.declared.request.ShowKey.TheVariants as key
+use Rattle.script_text.specs.declared.shown.ShownRow.{ShownRow}
+use Rattle.script_text.specs.declared.shown.ShownRow.TheVariants as shown
+use Rattle.script_text.specs.declared.answer.Answer.{Answer}
+use Rattle.script_text.specs.declared.answer.Answer.TheVariants as answer
 use Rattle.book.specs.declared.entry.Done.{Done}
 use Rattle.book.specs.Next.{IsRefusedAt}
 

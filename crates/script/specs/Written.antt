@@ -2,10 +2,10 @@
 use Rattle.std.specs.Prelude.{◌≡◌, ℕ, ◌<◌, List, [], ◌++◌, length, codes}
 use Rattle.std.specs.List.{flat_map}
 use Rattle.tables.specs.Database.{Database}
-use Rattle.lines.specs.Lines.{text_lines}
-use Rattle.lines.specs.Output.{answer_text}
-use Rattle.lines.specs.Report.{report_text}
-use Rattle.lines.specs.declared.answer.Answer.{Answer}
+use Rattle.script_text.specs.Lines.{text_lines}
+use Rattle.script_text.specs.Output.{answer_text}
+use Rattle.script_text.specs.Report.{report_text}
+use Rattle.script_text.specs.declared.answer.Answer.{Answer}
 use Rattle.conditions.specs.Report.{IsReportOf}
 use Rattle.conditions.specs.declared.report.Report.{Report}
 use Rattle.book.specs.declared.entry.Done.{Done}

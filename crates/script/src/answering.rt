@@ -5,15 +5,15 @@ ghost use Rattle.std.specs.Option.{option_copied};
 ghost use Rattle.money.specs.declared.refusal.Refusal.TheVariants.{OutOfMemory};
 ghost use Rattle.tables.specs.Inputs.{IsInput};
 ghost use Rattle.book.specs.declared.entry.Done.{Done as DoneValue};
-ghost use Rattle.lines.specs.Lines.{buffered};
-ghost use Rattle.lines.specs.declared.answer.Answer.TheVariants as answer;
+ghost use Rattle.script_text.specs.Lines.{buffered};
+ghost use Rattle.script_text.specs.declared.answer.Answer.TheVariants as answer;
 ghost use Rattle.script.specs.Answered.{state_of};
 ghost use Rattle.script.specs.Turns.{IsInputTurn, IsRequestTurn, IsLineTurn};
 
 use crate::showing::show;
 use book::{Done, Run};
-use lines::{Answer, Request, in_range, read_request};
 use money::Refusal;
+use script_text::{Answer, Request, in_range, read_request};
 use session::Session;
 use std::alloc::Global;
 use std::sync::Wait;

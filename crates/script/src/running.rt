@@ -5,8 +5,8 @@ ghost use Rattle.std.specs.Prelude.{string_bytes, IfErr, IfOk, OnOk, OnErr, IsEr
 ghost use Rattle.std.specs.Io.KnownBytes.{Appends, Consumes, IsAtEnd};
 ghost use Rattle.money.specs.declared.refusal.Refusal.TheVariants.{OutOfMemory, BadInput, Device};
 ghost use Rattle.population.specs.Initial.{initial};
-ghost use Rattle.lines.specs.Lines.{buffered};
-ghost use Rattle.lines.specs.Output.{answer_text};
+ghost use Rattle.script_text.specs.Lines.{buffered};
+ghost use Rattle.script_text.specs.Output.{answer_text};
 ghost use Rattle.book.specs.Parts.{IsFresh, first_of, cells_of, ledger_name, ledger_parts, terminals_of};
 ghost use Rattle.script.specs.Turns.{Turn, IsLineTurn};
 ghost use Rattle.script.specs.Written.{HasTooManyLines, IsWhole, IsBeginning};
@@ -15,9 +15,9 @@ ghost use Rattle.script.specs.Answered.{state_of, standing_of, HasAnswered, HasA
 use crate::answering::answer_line;
 use book::{Done, Engine, Parts, Run, Seat};
 use conditions::Report;
-use lines::{LineBuffer, print_report};
 use money::Refusal;
 use population::Population;
+use script_text::{LineBuffer, print_report};
 use session::Session;
 use std::alloc::Global;
 use std::io::{ErrorKind, Read, Write};

@@ -8,12 +8,13 @@ ghost use Rattle.tables.specs.Records.{IsRecordKey};
 ghost use Rattle.tables.specs.Rows.{row_at};
 ghost use Rattle.tables.specs.WellFormed.{IsWellFormed};
 ghost use Rattle.book.specs.History.{replay};
-ghost use Rattle.lines.specs.Requests.{IsShown};
+ghost use Rattle.script_text.specs.Requests.{IsShown};
 ghost use Rattle.script.specs.Turns.{row_of};
 
 use book::Run;
-use lines::{ShowKey, ShownRow};
-use records::{customer_of, district_of, order_of, stock_of, warehouse_of};
+use encoding::{customer_of, district_of, order_of, stock_of, warehouse_of};
+use money::Payload;
+use script_text::{ShowKey, ShownRow};
 use session::Session;
 use tables::limits::{MAX_CUSTOMERS, MAX_ORDERS};
 use tables::{Order, OrderKey, RecordKey, Tables, number_of_key};
@@ -93,7 +94,7 @@ fn first_tables<'s, K: Run>(session: &'s Session<'_, K>) -> &'s Tables
 }
 
 /// What the record of a key holds in the committed tables, which are well-formed.
-fn words_of<K: Run>(session: &Session<'_, K>, key: RecordKey) -> Option<[u64; 7]>
+fn words_of<K: Run>(session: &Session<'_, K>, key: RecordKey) -> Option<Payload>
     requires { IsRecordKey K.first.scale key }
     ensures words { result ≡ row_at (replay K.first session.now.history) key }
     ensures well_formed { IsWellFormed (replay K.first session.now.history) }

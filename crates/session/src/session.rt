@@ -15,7 +15,7 @@ ghost use Rattle.money.specs.declared.refusal.Refusal.TheVariants.{OutOfMemory};
 use crate::attempting::persist;
 use book::{Book, Done, Engine, Run, Seat};
 use conditions::Report;
-use money::Refusal;
+use money::{Payload, Refusal};
 use population::Population;
 use std::alloc::Global;
 use std::marker::Model;
@@ -76,9 +76,9 @@ impl<'e, K: Run> Session<'e, K> {
         self.engine.population()
     }
 
-    /// What one record holds in the committed tables, which are well-formed: its row's columns that change, as seven
+    /// What one record holds in the committed tables, which are well-formed: its row's columns that change, as
     /// words, or nothing where it is absent. Constant time, no memory.
-    pub fn record(&self, number: u32) -> Option<[u64; 7]>
+    pub fn record(&self, number: u32) -> Option<Payload>
         requires { number < record_count K.first.scale }
         ensures words { result ≡ rows (replay K.first self.now.history) number }
         ensures well_formed { IsWellFormed (replay K.first self.now.history) }

@@ -1,8 +1,9 @@
--- What records hold: the columns that change, as seven words, or nothing where a record is absent.
+-- What records hold: the columns that change, as words, or nothing where a record is absent.
 use Rattle.std.specs.Prelude.{ℕ, ◌-◌, ℤ, cond, Option, Some, List, [], ◌∷◌, ◌++◌, length, replicate, ◌==◌, ◌&&◌}
 use Rattle.std.specs.Int.{w64, cast_unsigned, cast_signed}
 use Rattle.std.specs.Option.{option_map, unwrap_or}
 use Rattle.std.specs.FinMap.{get}
+use Rattle.money.specs.declared.payload.TheConstants.{PAYLOAD_WORDS}
 use Rattle.tables.specs.Database.{Database}
 use Rattle.tables.specs.OrderNumbers.{least, greatest, order_numbers, numbers_in, next_order}
 use Rattle.tables.specs.Records.{key_of}
@@ -25,34 +26,36 @@ money_word z = cast_unsigned w64 z
 abbrev pub money_of : ℕ → ℤ
 money_of n = cast_signed w64 n
 
--- seven words: these, then zeros
-abbrev pub seven : List ℕ → List ℕ
-seven words = words ++ replicate (7 - length words) 0
+-- the data of a record with these columns: their words, then zeros
+abbrev pub payload_of : List ℕ → List ℕ
+payload_of words = words ++ replicate (PAYLOAD_WORDS - length words) 0
 
 abbrev pub warehouse_words : Warehouse → List ℕ
-warehouse_words r = seven (money_word r.year_to_date ∷ [])
+warehouse_words r = payload_of (money_word r.year_to_date ∷ [])
 
 abbrev pub district_words : District → List ℕ
-district_words r = seven (money_word r.year_to_date ∷ r.next_order ∷ [])
+district_words r = payload_of (money_word r.year_to_date ∷ r.next_order ∷ [])
 
 abbrev pub customer_words : Customer → List ℕ
-customer_words r = seven (money_word r.balance ∷ money_word r.paid ∷ r.payments ∷ r.deliveries ∷ [])
+customer_words r = payload_of (money_word r.balance ∷ money_word r.paid ∷ r.payments ∷ r.deliveries ∷ [])
 
 abbrev pub new_order_words : NewOrder → List ℕ
-new_order_words r = seven []
+new_order_words r = payload_of []
 
 -- null is 0
 abbrev pub order_words : Order → List ℕ
-order_words r = seven (r.customer ∷ r.entry_date ∷ unwrap_or r.carrier 0 ∷ r.line_count ∷ cond r.all_local 1 0 ∷ [])
+order_words r =
+    payload_of (r.customer ∷ r.entry_date ∷ unwrap_or r.carrier 0 ∷ r.line_count ∷ cond r.all_local 1 0 ∷ [])
 
 abbrev pub line_words : OrderLine → List ℕ
-line_words r = seven (r.item ∷ r.supply_warehouse ∷ unwrap_or r.delivery_date 0 ∷ r.quantity ∷ money_word r.amount ∷ [])
+line_words r =
+    payload_of (r.item ∷ r.supply_warehouse ∷ unwrap_or r.delivery_date 0 ∷ r.quantity ∷ money_word r.amount ∷ [])
 
 abbrev pub stock_words : Stock → List ℕ
-stock_words r = seven (r.quantity ∷ r.year_to_date ∷ r.orders ∷ r.remote_orders ∷ [])
+stock_words r = payload_of (r.quantity ∷ r.year_to_date ∷ r.orders ∷ r.remote_orders ∷ [])
 
 abbrev pub number_words : ℕ → List ℕ
-number_words n = seven (n ∷ [])
+number_words n = payload_of (n ∷ [])
 
 -- the least NO_O_ID of a district, or D_NEXT_O_ID where it has no NEW-ORDER row
 abbrev pub oldest : Database → DistrictKey → ℕ

@@ -9,11 +9,12 @@ ghost use Rattle.tables.specs.declared.records.RecordKey.TheVariants as record_k
 use crate::Tables;
 use crate::keys::{CustomerKey, DistrictKey, LineKey, OrderKey, StockKey};
 use crate::records::RecordKey;
+use money::Payload;
 
 impl Tables {
     /// The words of the row of a key: its columns that change, or None where the tables have no such row. One look-up.
     /// The two index records have no row, so no words are asked of them.
-    pub fn words(&self, key: RecordKey) -> Option<[u64; 7]>
+    pub fn words(&self, key: RecordKey) -> Option<Payload>
         requires { IsRowKey key }
         ensures { result ≡ row_at (database self.now) key }
     {
@@ -30,7 +31,7 @@ impl Tables {
     }
 }
 
-fn warehouse(tables: &Tables, key: u32) -> Option<[u64; 7]>
+fn warehouse(tables: &Tables, key: u32) -> Option<Payload>
     ensures { result ≡ row_at (database tables.now) (record_key.Warehouse key) }
 {
     match tables.warehouses.get(&key) {
@@ -39,7 +40,7 @@ fn warehouse(tables: &Tables, key: u32) -> Option<[u64; 7]>
     }
 }
 
-fn district(tables: &Tables, key: DistrictKey) -> Option<[u64; 7]>
+fn district(tables: &Tables, key: DistrictKey) -> Option<Payload>
     ensures { result ≡ row_at (database tables.now) (record_key.District key) }
 {
     match tables.districts.get(&key) {
@@ -48,7 +49,7 @@ fn district(tables: &Tables, key: DistrictKey) -> Option<[u64; 7]>
     }
 }
 
-fn customer(tables: &Tables, key: CustomerKey) -> Option<[u64; 7]>
+fn customer(tables: &Tables, key: CustomerKey) -> Option<Payload>
     ensures { result ≡ row_at (database tables.now) (record_key.Customer key) }
 {
     match tables.customers.get(&key) {
@@ -57,7 +58,7 @@ fn customer(tables: &Tables, key: CustomerKey) -> Option<[u64; 7]>
     }
 }
 
-fn new_order(tables: &Tables, key: OrderKey) -> Option<[u64; 7]>
+fn new_order(tables: &Tables, key: OrderKey) -> Option<Payload>
     ensures { result ≡ row_at (database tables.now) (record_key.NewOrder key) }
 {
     match tables.new_orders.get(&key) {
@@ -66,7 +67,7 @@ fn new_order(tables: &Tables, key: OrderKey) -> Option<[u64; 7]>
     }
 }
 
-fn order(tables: &Tables, key: OrderKey) -> Option<[u64; 7]>
+fn order(tables: &Tables, key: OrderKey) -> Option<Payload>
     ensures { result ≡ row_at (database tables.now) (record_key.Order key) }
 {
     match tables.orders.get(&key) {
@@ -75,7 +76,7 @@ fn order(tables: &Tables, key: OrderKey) -> Option<[u64; 7]>
     }
 }
 
-fn line(tables: &Tables, key: LineKey) -> Option<[u64; 7]>
+fn line(tables: &Tables, key: LineKey) -> Option<Payload>
     ensures { result ≡ row_at (database tables.now) (record_key.OrderLine key) }
 {
     match tables.lines.get(&key) {
@@ -84,7 +85,7 @@ fn line(tables: &Tables, key: LineKey) -> Option<[u64; 7]>
     }
 }
 
-fn stock(tables: &Tables, key: StockKey) -> Option<[u64; 7]>
+fn stock(tables: &Tables, key: StockKey) -> Option<Payload>
     ensures { result ≡ row_at (database tables.now) (record_key.Stock key) }
 {
     match tables.stock.get(&key) {

@@ -1,4 +1,4 @@
-//! The columns of a row that change, as the seven words that its record holds. Words past the columns are
+//! The columns of a row that change, as the words that its record holds. Words past the columns are
 //! 0.
 
 ghost use Rattle.std.specs.Prelude.{◌≡◌};
@@ -6,7 +6,7 @@ ghost use Rattle.tables.specs.Rows.{money_word, money_of, warehouse_words, distr
 ghost use Rattle.tables.specs.Rows.{new_order_words, order_words, line_words, stock_words};
 
 use crate::rows::{Customer, District, NewOrder, Order, OrderLine, Stock, Warehouse};
-use money::Cents;
+use money::{Cents, NO_PAYLOAD, Payload};
 
 /// An amount as a word of 64 bits, two's complement.
 pub fn money_to_word(amount: Cents) -> u64
@@ -24,7 +24,7 @@ pub fn money_from_word(word: u64) -> Cents
 
 impl Warehouse {
     /// W_YTD.
-    pub fn words(&self) -> [u64; 7]
+    pub fn words(&self) -> Payload
         ensures { result ≡ warehouse_words self.now }
     {
         [money_to_word(self.year_to_date), 0, 0, 0, 0, 0, 0]
@@ -33,7 +33,7 @@ impl Warehouse {
 
 impl District {
     /// D_YTD and D_NEXT_O_ID.
-    pub fn words(&self) -> [u64; 7]
+    pub fn words(&self) -> Payload
         ensures { result ≡ district_words self.now }
     {
         let next_order = u64::from(self.next_order);
@@ -43,7 +43,7 @@ impl District {
 
 impl Customer {
     /// C_BALANCE, C_YTD_PAYMENT, C_PAYMENT_CNT and C_DELIVERY_CNT.
-    pub fn words(&self) -> [u64; 7]
+    pub fn words(&self) -> Payload
         ensures { result ≡ customer_words self.now }
     {
         [
@@ -60,16 +60,16 @@ impl Customer {
 
 impl NewOrder {
     /// No column.
-    pub fn words(&self) -> [u64; 7]
+    pub fn words(&self) -> Payload
         ensures { result ≡ new_order_words self.now }
     {
-        [0; 7]
+        NO_PAYLOAD
     }
 }
 
 impl Order {
     /// O_C_ID, O_ENTRY_D, O_CARRIER_ID (0 where it is null), O_OL_CNT and O_ALL_LOCAL.
-    pub fn words(&self) -> [u64; 7]
+    pub fn words(&self) -> Payload
         ensures { result ≡ order_words self.now }
     {
         [
@@ -86,7 +86,7 @@ impl Order {
 
 impl OrderLine {
     /// OL_I_ID, OL_SUPPLY_W_ID, OL_DELIVERY_D (0 where it is null), OL_QUANTITY and OL_AMOUNT.
-    pub fn words(&self) -> [u64; 7]
+    pub fn words(&self) -> Payload
         ensures { result ≡ line_words self.now }
     {
         [
@@ -103,7 +103,7 @@ impl OrderLine {
 
 impl Stock {
     /// S_QUANTITY, S_YTD, S_ORDER_CNT and S_REMOTE_CNT.
-    pub fn words(&self) -> [u64; 7]
+    pub fn words(&self) -> Payload
         ensures { result ≡ stock_words self.now }
     {
         [

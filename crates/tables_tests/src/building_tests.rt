@@ -7,14 +7,14 @@ ghost use Rattle.tables.specs.Sizes.{sizes};
 ghost use Rattle.population.specs.Initial.{initial};
 ghost use Rattle.cells.specs.Versions.{value_in};
 ghost use Rattle.cells.specs.Records.{newest_words};
-ghost use Rattle.records.specs.Held.{row_count};
-ghost use Rattle.records.specs.Newest.{value_at, AreLawful};
-ghost use Rattle.records.specs.Puts.{MayHold};
+ghost use Rattle.encoding.specs.Held.{row_count};
+ghost use Rattle.encoding.specs.Newest.{value_at, AreLawful};
+ghost use Rattle.encoding.specs.Puts.{MayHold};
 
 use cells::Newest;
-use money::{Cents, Rate, Refusal};
+use encoding::tables_of;
+use money::{Cents, NO_PAYLOAD, Payload, Rate, Refusal};
 use population::Population;
-use records::tables_of;
 use std::alloc::{AllocError, Global};
 use std::test::Fail;
 use tables::{
@@ -156,7 +156,7 @@ fn change(newest: &mut Vec<Newest>, scale: &Scale)
 }
 
 /// Writes words into the record of a key.
-fn write(newest: &mut Vec<Newest>, scale: &Scale, key: RecordKey, words: [u64; 7])
+fn write(newest: &mut Vec<Newest>, scale: &Scale, key: RecordKey, words: Payload)
     requires key { IsRecordKey scale.now key }
     requires row { IsRowKey key }
     requires words { MayHold scale.now key (Some words) }
@@ -170,13 +170,13 @@ fn write(newest: &mut Vec<Newest>, scale: &Scale, key: RecordKey, words: [u64; 7
 }
 
 /// A newest version that says this.
-fn version(words: Option<[u64; 7]>) -> Newest
+fn version(words: Option<Payload>) -> Newest
     ensures { value_in (newest_words result) ≡ words }
 {
     match words {
         None => Newest {
             word: TidWord::ABSENT,
-            payload: [0; 7],
+            payload: NO_PAYLOAD,
         },
         Some(payload) => Newest {
             word: TidWord::POPULATED,

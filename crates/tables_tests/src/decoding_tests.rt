@@ -1,7 +1,7 @@
 //! Rows from the words of their records.
 
+use encoding::{line_of, order_of};
 use money::Cents;
-use records::{line_of, order_of};
 use std::test::Fail;
 use tables::{Order, OrderLine};
 

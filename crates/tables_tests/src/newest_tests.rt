@@ -1,18 +1,19 @@
 //! What the records of the plain population begin with.
 
 use cells::Newest;
+use encoding::newest_of;
+use money::{NO_PAYLOAD, Payload};
 use population::Population;
-use records::newest_of;
 use std::test::Fail;
 use tables::Scale;
 use tidword::TidWord;
 
 const ABSENT: Newest = Newest {
     word: TidWord::ABSENT,
-    payload: [0; 7],
+    payload: NO_PAYLOAD,
 };
 
-fn present(payload: [u64; 7]) -> Newest {
+fn present(payload: Payload) -> Newest {
     Newest {
         word: TidWord::POPULATED,
         payload,
@@ -33,7 +34,7 @@ fn newest_of_plain(rt: HostRuntime) -> Result<(), Fail> {
         (2, present([10_000, 11, 0, 0, 0, 0, 0])),
         (15, present([u64::MAX - 999, 1_000, 1, 0, 0, 0, 0])),
         (59, ABSENT),
-        (60, present([0; 7])),
+        (60, present(NO_PAYLOAD)),
         (119, present([7, 1, 1, 5, 1, 0, 0])),
         (122, present([10, 1, 0, 5, 1, 0, 0])),
         (123, ABSENT),

@@ -11,6 +11,13 @@ abbrev pub tid_word : ℕ → ℕ → Status → ℕ
 tid_word epoch sequence status = epoch * 2 ^ 32 + sequence * 8 + bit status.absent * 4 + bit status.latest * 2 + bit
     status.locked
 
+-- the epoch, and the sequence
+abbrev pub epoch_of : ℕ → ℕ
+epoch_of word = word / 2 ^ 32
+
+abbrev pub sequence_of : ℕ → ℕ
+sequence_of word = word / 8 % 2 ^ 29
+
 -- the TID: the word with its three status bits 0
 abbrev pub tid_of : ℕ → ℕ
 tid_of word = word - word % 8

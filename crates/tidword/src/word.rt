@@ -1,6 +1,7 @@
 //! TID words.
 ghost use Rattle.std.specs.Prelude.{◌≡◌, ℕ, ◌+◌, ◌*◌, ◌/◌, ◌%◌, ◌^◌, ◌<◌, ◌↔◌, IsTrue};
 
+use money::Payload;
 use std::marker::Model;
 
 /// The status bits of a TID word (Silo, section 4.2).
@@ -30,7 +31,7 @@ impl Model for TidWord {
 }
 
 impl TidWord {
-    ghost use Rattle.tidword.specs.TidWord.{tid_word, tid_of, installed_word};
+    ghost use Rattle.tidword.specs.TidWord.{tid_word, epoch_of, sequence_of, tid_of, installed_word};
 
     /// The word of a record that the population has: epoch 0, sequence 0, the latest version (`populated_word`).
     pub const POPULATED: TidWord = TidWord { word: 2 };
@@ -66,14 +67,14 @@ impl TidWord {
 
     /// The epoch, in bits 63 to 32.
     pub fn epoch(self) -> u32
-        ensures { result ≡ self / 2 ^ 32 }
+        ensures { result ≡ epoch_of self }
     {
         (self.word >> 32) as u32
     }
 
     /// The sequence, in bits 31 to 3.
     pub fn sequence(self) -> u32
-        ensures { result ≡ self / 8 % 2 ^ 29 }
+        ensures { result ≡ sequence_of self }
     {
         ((self.word >> 3) % (1 << 29)) as u32
     }
@@ -110,7 +111,7 @@ impl TidWord {
 
     /// The word of the version that a commit with this TID stores: unlocked, the latest, and absent where the record
     /// is to hold no value.
-    pub fn installed(self, value: &Option<[u64; 7]>) -> TidWord
+    pub fn installed(self, value: &Option<Payload>) -> TidWord
         ensures { result ≡ installed_word (tid_of self) value.now }
     {
         let word = self.word - self.word % 8;

@@ -7,12 +7,15 @@ ghost use Rattle.cells.specs.Records.{HasGrown};
 ghost use Rattle.readset.specs.Reads.{AreRead};
 ghost use Rattle.readset.specs.Explains.{Explains, IsWithinLimits};
 ghost use Rattle.readset.specs.Refused.{NoneMissing, IsAboveCap, IsRefusal};
+ghost use Rattle.readset.specs.Transaction.{IsExecuted};
 
 use cells::{Cells, Reader};
 use money::Refusal;
 use population::Population;
-use readset::Work;
+use readset::{Start, Transaction, Work};
 use std::alloc::Global;
+use std::marker::Brand;
+use std::mem;
 use std::sync::Wait;
 use tables::Input;
 
@@ -46,17 +49,34 @@ pub fn execute<R: Wait>(
     ensures grown { HasGrown reader.old reader.new }
     ensures refused { IfErr result (IsRefusal (initial population.now) input.now reader.old reader.new) }
 {
+    let taken = mem::replace(reader, Reader::new(alloc));
+    let (after, work) = run::<Brand, R>(rt, alloc, cells, taken, population, input);
+    *reader = after;
+    work
+}
+
+/// The same of a reader of its own.
+fn run<K: Start, R: Wait>(
+    rt: &R,
+    alloc: Global,
+    cells: &Cells,
+    reader: Reader,
+    population: &Population,
+    input: &Input,
+) -> (Reader, Result<Work, Refusal>)
+    requires input { IsInput K.tables.scale input.now }
+    requires tables { initial population.now ≡ K.tables }
+    requires reader { reader ≡ K.reader }
+    requires own { reader.cells ≡ cells.now }
+    requires cells { length cells.now ≡ record_count K.tables.scale }
+    ensures { IsExecuted K.tables input.now K.reader result.0 result.1 }
+{
+    let transaction = Transaction::<K>::begin(alloc, cells, population, reader);
     match input {
-        Input::Payment(payment) => payment::execute(rt, alloc, cells, reader, population, payment),
-        Input::NewOrder(order) => neworder::execute(rt, alloc, cells, reader, population, order),
-        Input::Delivery(delivery) => delivery::execute(
-            rt, alloc, cells, reader, population, delivery,
-        ),
-        Input::OrderStatus(query) => queries::order_status(
-            rt, alloc, cells, reader, population, query,
-        ),
-        Input::StockLevel(query) => queries::stock_level(
-            rt, alloc, cells, reader, population, query,
-        ),
+        Input::Payment(payment) => payment::execute(rt, transaction, payment),
+        Input::NewOrder(order) => neworder::execute(rt, alloc, transaction, order),
+        Input::Delivery(delivery) => delivery::execute(rt, alloc, transaction, delivery),
+        Input::OrderStatus(query) => queries::order_status(rt, alloc, transaction, query),
+        Input::StockLevel(query) => queries::stock_level(rt, alloc, transaction, query),
     }
 }

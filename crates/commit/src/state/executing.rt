@@ -6,7 +6,7 @@ ghost use Rattle.commit.specs.State.{IsStep};
 use crate::state::State;
 use crate::tid::Tid;
 use crate::worker::Version;
-use money::Refusal;
+use money::{Payload, Refusal};
 
 impl State {
     /// A worker begins.
@@ -45,7 +45,7 @@ impl State {
         &mut self,
         worker: u16,
         number: u32,
-        value: Option<[u64; 7]>,
+        value: Option<Payload>,
     ) -> Result<(), Refusal>
         ensures { IsStep self.old (Lock worker number value) result self.new }
     {

@@ -1,8 +1,5 @@
-use Rattle.std.proofs.Common.{length, ap, sym, subst}
+use Rattle.std.proofs.Common.{subst}
 use Rattle.tables.specs.Database.{Database}
-use Rattle.tables.specs.Inputs.{IsInput}
-use Rattle.tables.specs.declared.input.Input.{Input}
-use Rattle.readset.specs.Explains.{Explains, IsWithinLimits}
 use Rattle.readset.specs.Refused.{IsRefusal}
 use Rattle.book.proofs.Executed.{work_of}
 use Rattle.engine_tests.proofs.engine.attempt.Goals as goal
@@ -16,11 +13,6 @@ confirmed-requires-clause-refusal g c =
 
 pub commit-requires-clause-work : goal.commit-requires-clause-work
 commit-requires-clause-work g c =
-    let work = c.in-Ok.work in
-    let same = c.in-Ok.ensures.input in
-    work_of g.K.Run.first (length g.K.Run.cells) c.args.seat.now.reader c.execute.new.reader work
-    (subst (IsInput g.K.Run.first.scale) (sym same) c.requires.input)
-    (subst (λ (q : Database × Input). Explains q.0 q.1 work.reads work.writes work.reply)
-    (λ i. (c.population-population.ensures i, sym same i)) c.in-Ok.ensures.explains)
-    (subst (λ n. IsWithinLimits n work.reads work.writes) (ap length c.cells-cells.ensures.value) c.in-Ok.ensures.limits)
-    c.in-Ok.ensures.read
+    let made = c.in-Ok.ensures in
+    work_of c.population-population.ensures c.cells-cells.ensures.value c.args.input.now c.requires.input c.args.seat.now.reader c.execute.new.reader
+    c.in-Ok.work made.input made.explains made.limits made.read

@@ -5,7 +5,7 @@ use Rattle.cells.specs.Records.{PenView, at}
 use Rattle.cells.specs.Versions.{last_tid}
 use Rattle.cells.specs.First.{first_version, firsts}
 use Rattle.cells.specs.declared.cells.Newest.{Newest}
-use Rattle.records.proofs.Positions.{at_first}
+use Rattle.encoding.proofs.Positions.{at_first}
 use Rattle.engine_tests.proofs.stage.open.Goals as goal
 
 -- the first versions have the TID 0

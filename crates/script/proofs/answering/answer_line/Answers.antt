@@ -1,6 +1,6 @@
 use Rattle.std.proofs.Common.{sym, subst}
-use Rattle.lines.specs.Requests.{IsRefusedLine}
-use Rattle.lines.specs.declared.answer.Answer.{Answer}
+use Rattle.script_text.specs.Requests.{IsRefusedLine}
+use Rattle.script_text.specs.declared.answer.Answer.{Answer}
 use Rattle.script.specs.Answered.{state_of}
 use Rattle.script.specs.Turns.{IsLineTurn}
 use Rattle.script.proofs.TurnLemmas.{answered_turn, read_turn, unread_turn, but_memory}

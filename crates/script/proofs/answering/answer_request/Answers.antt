@@ -1,8 +1,8 @@
 use Rattle.std.proofs.Common.{refl, sym, ap, ◌∙◌, subst}
 use Rattle.tables.specs.Sizes.{Sizes}
 use Rattle.tables.specs.Database.{Database}
-use Rattle.lines.specs.Requests.{IsInRange}
-use Rattle.lines.specs.declared.request.Request.TheVariants.{Transaction, Show}
+use Rattle.script_text.specs.Requests.{IsInRange}
+use Rattle.script_text.specs.declared.request.Request.TheVariants.{Transaction, Show}
 use Rattle.script.proofs.TurnLemmas.{answered_turn, beyond_turn, within_turn}
 use Rattle.script.proofs.answering.answer_request.Goals as goal
 

@@ -10,9 +10,9 @@ use Rattle.tables.specs.declared.rows.District.{District}
 use Rattle.tables.specs.declared.rows.Customer.{Customer}
 use Rattle.book.specs.History.{replay}
 use Rattle.book.proofs.Replaying.{replay-IsOf, replay-scale}
-use Rattle.records.proofs.FromWords.{warehouse_from, district_from, district_fits, customer_from, customer_fits}
-use Rattle.lines.specs.Requests.{IsShown}
-use Rattle.lines.specs.declared.shown.ShownRow.TheVariants as shown
+use Rattle.encoding.proofs.FromWords.{warehouse_from, district_from, district_fits, customer_from, customer_fits}
+use Rattle.script_text.specs.Requests.{IsShown}
+use Rattle.script_text.specs.declared.shown.ShownRow.TheVariants as shown
 use Rattle.script.proofs.Shown.{warehouses, districts, customers, first_row, is_there, has_words}
 use Rattle.script.proofs.showing.find.Goals as goal
 

@@ -10,7 +10,7 @@ use Rattle.tables.specs.declared.limits.TheConstants.{MAX_CARRIER, MAX_CUSTOMERS
 use Rattle.tables.specs.declared.keys.OrderKey.{OrderKey}
 use Rattle.tables.specs.declared.rows.Order.{Order}
 use Rattle.tables.specs.declared.records.RecordKey.TheVariants as key
-use Rattle.records.specs.Words.{FitsColumn}
+use Rattle.encoding.specs.Words.{FitsColumn}
 use Rattle.book.specs.History.{replay}
 use Rattle.book.proofs.Replaying.{replay-scale}
 use Rattle.script.proofs.showing.order_at.Goals as goal

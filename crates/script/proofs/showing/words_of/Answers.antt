@@ -5,7 +5,7 @@ use Rattle.tables.specs.Rows.{rows}
 use Rattle.book.specs.History.{replay}
 use Rattle.tables.specs.Database.{Database}
 use Rattle.book.proofs.Replaying.{replay-IsOf}
-use Rattle.records.proofs.FromWords.{record_at}
+use Rattle.encoding.proofs.FromWords.{record_at}
 use Rattle.script.proofs.showing.words_of.Goals as goal
 
 pub returns-clause-words : goal.returns-clause-words

@@ -4,7 +4,7 @@ use Rattle.std.proofs.lemmas.Option.{none-some, same_Some}
 use Rattle.tables.specs.Sizes.{Sizes}
 use Rattle.tables.specs.declared.rows.District.{District}
 use Rattle.tables.specs.declared.rows.Order.{Order}
-use Rattle.records.specs.Held.{IsOrderIn}
+use Rattle.encoding.specs.Held.{IsOrderIn}
 use Rattle.tables_tests.proofs.building_tests.change.Goals as goal
 
 pub write-requires-clause-words : goal.write-requires-clause-words

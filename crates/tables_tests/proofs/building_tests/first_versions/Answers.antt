@@ -9,10 +9,10 @@ use Rattle.population.specs.Initial.{initial}
 use Rattle.cells.specs.Versions.{value_in}
 use Rattle.cells.specs.Records.{newest_words}
 use Rattle.cells.specs.declared.cells.Newest.{Newest}
-use Rattle.records.specs.Held.{row_count}
-use Rattle.records.specs.Newest.{value_at}
-use Rattle.records.specs.Puts.{MayHold}
-use Rattle.records.proofs.Values.{lawful_values}
+use Rattle.encoding.specs.Held.{row_count}
+use Rattle.encoding.specs.Newest.{value_at}
+use Rattle.encoding.specs.Puts.{MayHold}
+use Rattle.encoding.proofs.Values.{lawful_values}
 use Rattle.tables_tests.proofs.building_tests.first_versions.Goals as goal
 use borrow.Author.Count.{below_more}
 

@@ -1,7 +1,7 @@
 use Rattle.std.proofs.Common.{◌≡◌, ℕ, ◌<◌, length}
 use Rattle.tables.specs.Rows.{rows}
 use Rattle.population.specs.Initial.{initial}
-use Rattle.records.specs.Newest.{value_at}
+use Rattle.encoding.specs.Newest.{value_at}
 use Rattle.tables_tests.proofs.building_tests.first_versions.Given as goal
 
 abbrev pub invariant-loop-number : goal.invariant-loop-number

@@ -9,10 +9,10 @@ use Rattle.tables.proofs.Numbers.{named}
 use Rattle.cells.specs.Versions.{value_in}
 use Rattle.cells.specs.Records.{newest_words}
 use Rattle.cells.specs.declared.cells.Newest.{Newest}
-use Rattle.records.specs.Held.{row_count}
-use Rattle.records.specs.Newest.{value_at, AreLawful}
-use Rattle.records.specs.Puts.{MayHold}
-use Rattle.records.proofs.Numbered.{row_below}
+use Rattle.encoding.specs.Held.{row_count}
+use Rattle.encoding.specs.Newest.{value_at, AreLawful}
+use Rattle.encoding.specs.Puts.{MayHold}
+use Rattle.encoding.proofs.Numbered.{row_below}
 use Rattle.tables_tests.proofs.building_tests.write.Goals as goal
 
 module _ (xs : List Newest) (i : ℕ) (x : Newest) where

@@ -4,7 +4,7 @@ use Rattle.cells.specs.Versions.{value_in}
 use Rattle.book.specs.Book.{BookView}
 use Rattle.book.specs.History.{replay}
 use Rattle.book.proofs.Held.{counted, value_held}
-use Rattle.records.proofs.Positions.{words_found}
+use Rattle.encoding.proofs.Positions.{words_found}
 use Rattle.book.proofs.book.Book.record.Goals as goal
 
 pub returns : goal.returns

@@ -6,8 +6,8 @@ use Rattle.tables.specs.Rows.{rows}
 use Rattle.tables.specs.WellFormed.{IsWellFormed}
 use Rattle.tables.specs.declared.rows.History.{History}
 use Rattle.population.specs.Initial.{initial}
-use Rattle.records.specs.Held.{row_count}
-use Rattle.records.specs.Newest.{value_at, AreLawful}
+use Rattle.encoding.specs.Held.{row_count}
+use Rattle.encoding.specs.Newest.{value_at, AreLawful}
 use Rattle.cells.specs.declared.cells.Newest.{Newest}
 use Rattle.book.specs.Book.{BookView, IsSound}
 use Rattle.book.specs.History.{replay, rows_added}

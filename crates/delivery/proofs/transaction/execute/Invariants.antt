@@ -1,6 +1,0 @@
-use Rattle.population.specs.Initial.{initial}
-use Rattle.delivery.proofs.transaction.execute.Given as goal
-
--- the transaction starts as the call does
-abbrev pub ghosts-run : goal.ghosts-run
-ghosts-run g a = record { tables = initial a.population.now; reader = a.reader }

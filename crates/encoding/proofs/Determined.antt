@@ -1,0 +1,108 @@
+-- A population, the words of each record, and HISTORY determine the tables.
+use Rattle.std.proofs.Common.{◌≡◌, ℕ, List, Option, Some, None, IsSome, refl, sym, ap, ◌∙◌, subst}
+use Rattle.std.specs.Option.{option_map}
+use Rattle.std.specs.FinMap.{FinMap, get, same_map}
+use Rattle.std.specs.declared.cmp.Ordering.{Ordering}
+use Rattle.std.proofs.lemmas.Option.{none-some, same_Some}
+use Rattle.tables.specs.Database.{Database}
+use Rattle.tables.specs.WellFormed.{IsLineRow, IsStockRow}
+use Rattle.tables.specs.Sizes.{Sizes}
+use Rattle.tables.specs.Keys.{IsWarehouseKey, IsDistrictKey, IsCustomerKey, IsOrderKey, IsLineKey, IsStockKey}
+use Rattle.tables.specs.Rows.{warehouse_words, district_words, customer_words, new_order_words, order_words, line_words, stock_words}
+use Rattle.tables.specs.declared.keys.DistrictKey.{DistrictKey}
+use Rattle.tables.specs.declared.keys.CustomerKey.{CustomerKey}
+use Rattle.tables.specs.declared.rows.Warehouse.{Warehouse}
+use Rattle.tables.specs.declared.rows.District.{District}
+use Rattle.tables.specs.declared.rows.Customer.{Customer}
+use Rattle.tables.specs.declared.rows.Order.{Order}
+use Rattle.tables.specs.declared.rows.OrderLine.{OrderLine}
+use Rattle.tables.specs.declared.rows.Stock.{Stock}
+use Rattle.tables.specs.declared.records.RecordKey.{RecordKey}
+use Rattle.tables.proofs.Orders.{IsExact, exact_number, exact_district, exact_customer, exact_order, exact_line, exact_stock}
+use Rattle.encoding.specs.Words.{warehouse_of, district_of, customer_of, order_of_words, line_of_words, stock_of_words}
+use Rattle.encoding.specs.Held.{IsTableOf, IsWarehouseOf, IsDistrictOf, IsCustomerOf, IsOrderIn, AreTables}
+use Rattle.encoding.proofs.Backs.{warehouse_back, district_back, customer_back, order_back, line_back, stock_back}
+
+-- two values that one option has
+same_column : {X : Type 0} (o : Option X) (x y : X) → o ≡ Some x → o ≡ Some y → x ≡ y
+same_column o x y e f = same_Some x y (sym e ∙ f)
+
+-- two rows of one key that have the same words are the same
+same_warehouse : (t0 : Database) (w : ℕ) (r q : Warehouse) → IsWarehouseOf t0 w r → IsWarehouseOf t0 w q → warehouse_words r ≡ warehouse_words q → r ≡ q
+same_warehouse t0 w r q a b e = sym (warehouse_back r r refl a.range) ∙ (ap (warehouse_of r) e ∙ warehouse_back r q (same_column _ _ _ a.tax b.tax) b.range)
+
+same_district : (t0 : Database) (k : DistrictKey) (r q : District) → IsDistrictOf t0 k r → IsDistrictOf t0 k q → district_words r ≡ district_words q → r ≡ q
+same_district t0 k r q a b e = sym (district_back t0.scale r r refl a.range)
+    ∙ (ap (district_of r) e ∙ district_back t0.scale r q (same_column _ _ _ a.tax b.tax) b.range)
+
+same_customer : (t0 : Database) (k : CustomerKey) (r q : Customer) → IsCustomerOf t0 k r → IsCustomerOf t0 k q → customer_words r ≡ customer_words q → r ≡ q
+same_customer t0 k r q a b e =
+    sym (customer_back r r refl refl refl refl a.range)
+    ∙ (ap (customer_of r) e
+    ∙ customer_back r q (same_column _ _ _ a.first_name b.first_name) (same_column _ _ _ a.last_name b.last_name) (same_column _ _ _ a.credit b.credit)
+    (same_column _ _ _ a.discount b.discount) b.range)
+
+same_order : (s : Sizes) (r q : Order) → IsOrderIn s r → IsOrderIn s q → order_words r ≡ order_words q → r ≡ q
+same_order s r q a b e = sym (order_back r a.range) ∙ (ap order_of_words e ∙ order_back q b.range)
+
+same_line : (s : Sizes) (r q : OrderLine) → IsLineRow s r → IsLineRow s q → line_words r ≡ line_words q → r ≡ q
+same_line s r q a b e = sym (line_back s r a) ∙ (ap line_of_words e ∙ line_back s q b)
+
+same_stock : (r q : Stock) → stock_words r ≡ stock_words q → r ≡ q
+same_stock r q e = sym (stock_back r) ∙ (ap stock_of_words e ∙ stock_back q)
+
+module _ {K X : Type 0} {R : K → K → Ordering} (IsKey : K → Type 0) (IsIn : K → X → Type 0) (words : X → List ℕ) (value : K → Option (List ℕ))
+    (m n : FinMap R X) where
+  -- a row stands where the other table has one too
+  not_alone : IsTableOf IsKey IsIn words value m → IsTableOf IsKey IsIn words value n → (k : K) (r : X) → get m k ≡ Some r → get n k ≡ None → ⊥
+  not_alone a b k r e f =
+      let is = a.within k (subst IsSome (sym e) refl) in
+      none-some (words r) (ap (option_map words) (sym f) ∙ (b.rows k is ∙ (sym (a.rows k is) ∙ ap (option_map words) e)))
+
+  same_words : IsTableOf IsKey IsIn words value m → IsTableOf IsKey IsIn words value n → (k : K) (r q : X) → get m k ≡ Some r → get n k ≡ Some q
+      → words r ≡ words q
+  same_words a b k r q e f =
+      let is = a.within k (subst IsSome (sym e) refl) in
+      same_Some _ _ (ap (option_map words) (sym e) ∙ (a.rows k is ∙ (sym (b.rows k is) ∙ ap (option_map words) f)))
+
+-- two tables of the same values are the same, where words tell the rows of a key apart
+same_table : {K X : Type 0} {R : K → K → Ordering} → IsExact R → (IsKey : K → Type 0) (IsIn : K → X → Type 0) (words : X → List ℕ) (value : K → Option (List ℕ))
+    (m n : FinMap R X) → ((k : K) (r q : X) → IsIn k r → IsIn k q → words r ≡ words q → r ≡ q) → IsTableOf IsKey IsIn words value m
+    → IsTableOf IsKey IsIn words value n → m ≡ n
+same_table {K = K} {X = X} o IsKey IsIn words value m n same a b = same_map o.total o.same m n (λ k. at k (get m k) (get n k) refl refl)
+  where
+    at : (k : K) (v w : Option X) → get m k ≡ v → get n k ≡ w → get m k ≡ get n k
+    at k None None e f = e ∙ sym f
+    at k (Some r) None e f = absurd (not_alone IsKey IsIn words value m n a b k r e f)
+    at k None (Some q) e f = absurd (not_alone IsKey IsIn words value n m b a k q f e)
+    at k (Some r) (Some q) e f = e ∙ (ap Some (same k r q (a.each k r e) (b.each k q f) (same_words IsKey IsIn words value m n a b k r q e f)) ∙ sym f)
+
+pub determined : (t0 : Database) (values : RecordKey → Option (List ℕ)) (t u : Database) → AreTables t0 values t → AreTables t0 values u → t.history ≡ u.history
+    → t ≡ u
+determined t0 values t u a b history =
+    let s = t0.scale in
+    let scale = a.scale ∙ sym b.scale in
+    let items = a.items ∙ sym b.items in
+    let warehouses = same_table exact_number (IsWarehouseKey s) (IsWarehouseOf t0) warehouse_words _ t.warehouses u.warehouses (same_warehouse t0) a.warehouses
+    b.warehouses in
+    let districts = same_table exact_district (IsDistrictKey s) (IsDistrictOf t0) district_words _ t.districts u.districts (same_district t0) a.districts
+    b.districts in
+    let customers = same_table exact_customer (IsCustomerKey s) (IsCustomerOf t0) customer_words _ t.customers u.customers (same_customer t0) a.customers
+    b.customers in
+    let new_orders = same_table exact_order (IsOrderKey s) (λ k r. Unit {0}) new_order_words _ t.new_orders u.new_orders (λ k r q _ _ _. refl) a.new_orders
+    b.new_orders in
+    let orders = same_table exact_order (IsOrderKey s) (λ k r. IsOrderIn s r) order_words _ t.orders u.orders (λ k. same_order s) a.orders b.orders in
+    let lines = same_table exact_line (IsLineKey s) (λ k r. IsLineRow s r) line_words _ t.lines u.lines (λ k. same_line s) a.lines b.lines in
+    let stock = same_table exact_stock (IsStockKey s) (λ k r. IsStockRow r) stock_words _ t.stock u.stock (λ k r q _ _. same_stock r q) a.stock b.stock in
+    λ i. record {
+      scale = scale i;
+      warehouses = warehouses i;
+      districts = districts i;
+      customers = customers i;
+      history = history i;
+      new_orders = new_orders i;
+      orders = orders i;
+      lines = lines i;
+      items = items i;
+      stock = stock i;
+    }

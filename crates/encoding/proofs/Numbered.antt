@@ -1,0 +1,32 @@
+-- The records of rows stand before those of the two index records.
+use Rattle.std.proofs.Common.{◌<◌, arith}
+use Rattle.tables.specs.Sizes.{Sizes}
+use Rattle.tables.specs.Records.{size, table_of, place_of, number_of_key, IsRecordKey, IsRowKey}
+use Rattle.tables.proofs.Numbers.{warehouse_there, district_there, customer_there, order_there, line_there, stock_there}
+use Rattle.tables.specs.declared.records.RecordKey.{RecordKey}
+use Rattle.tables.specs.declared.records.RecordKey.TheVariants as key
+use Rattle.encoding.specs.Held.{row_count}
+
+module _ (s : Sizes) where
+  -- a table of rows ends before the index records begin
+  below_rows : (k : RecordKey) → IsRowKey k → place_of s k < size s (table_of k) → number_of_key s k < row_count s
+  below_rows (key.Warehouse k) row h = omega arith
+  below_rows (key.District k) row h = omega arith
+  below_rows (key.Customer k) row h = omega arith
+  below_rows (key.NewOrder k) row h = omega arith
+  below_rows (key.Order k) row h = omega arith
+  below_rows (key.OrderLine k) row h = omega arith
+  below_rows (key.Stock k) row h = omega arith
+  below_rows (key.Oldest k) row h = absurd row
+  below_rows (key.Last k) row h = absurd row
+
+  pub row_below : (k : RecordKey) → IsRecordKey s k → IsRowKey k → number_of_key s k < row_count s
+  row_below (key.Warehouse k) h row = below_rows (key.Warehouse k) row (warehouse_there s k h).0
+  row_below (key.District k) h row = below_rows (key.District k) row (district_there s k h).0
+  row_below (key.Customer k) h row = below_rows (key.Customer k) row (customer_there s k h).0
+  row_below (key.NewOrder k) h row = below_rows (key.NewOrder k) row (order_there s k h).0
+  row_below (key.Order k) h row = below_rows (key.Order k) row (order_there s k h).0
+  row_below (key.OrderLine k) h row = below_rows (key.OrderLine k) row (line_there s k h).0
+  row_below (key.Stock k) h row = below_rows (key.Stock k) row (stock_there s k h).0
+  row_below (key.Oldest k) h row = absurd row
+  row_below (key.Last k) h row = absurd row

@@ -1,0 +1,168 @@
+//! A record's words put into tables: the row of its key is inserted, or replaced.
+
+ghost use Rattle.std.specs.Prelude.{◌≡◌, Some, OnOk};
+ghost use Rattle.tables.specs.Database.{database};
+ghost use Rattle.tables.specs.Records.{IsRecordKey};
+ghost use Rattle.tables.specs.Sizes.{IsScale};
+ghost use Rattle.tables.specs.WellFormed.{IsWellFormed};
+ghost use Rattle.tables.specs.declared.records.RecordKey.TheVariants as record_key;
+ghost use Rattle.encoding.specs.Puts.{MayHold, Puts};
+
+use crate::decode::{customer_of, district_of, line_of, order_of, stock_of, warehouse_of};
+use money::Payload;
+use std::alloc::AllocError;
+use tables::{CustomerKey, DistrictKey, LineKey, NewOrder, OrderKey, RecordKey, StockKey, Tables};
+
+/// Puts the words of a record into tables: its row then has these words, and the columns that never change from
+/// the population's row. One look-up and one insert. The words of an index record change nothing, since it has
+/// no row.
+///
+/// # Errors
+///
+/// Want of memory.
+pub fn put(
+    tables: &mut Tables,
+    population: &Tables,
+    key: RecordKey,
+    words: &Payload,
+) -> Result<(), AllocError>
+    requires population { IsWellFormed (database population.now) }
+    requires lawful { IsScale (database population.now).scale }
+    requires key { IsRecordKey (database population.now).scale key }
+    requires words { MayHold (database population.now).scale key (Some words.now) }
+    ensures { OnOk result (Puts (database population.now) key (Some words.now)
+        (database tables.old) (database tables.new)) }
+{
+    match key {
+        RecordKey::Warehouse(key) => put_warehouse(tables, population, key, words),
+        RecordKey::District(key) => put_district(tables, population, key, words),
+        RecordKey::Customer(key) => put_customer(tables, population, key, words),
+        RecordKey::NewOrder(key) => put_new_order(tables, population, key, words),
+        RecordKey::Order(key) => put_order(tables, population, key, words),
+        RecordKey::OrderLine(key) => put_line(tables, population, key, words),
+        RecordKey::Stock(key) => put_stock(tables, population, key, words),
+        RecordKey::Oldest(_) | RecordKey::Last(_) => Ok(()),
+    }
+}
+
+fn put_warehouse(
+    tables: &mut Tables,
+    population: &Tables,
+    key: u32,
+    words: &Payload,
+) -> Result<(), AllocError>
+    requires population { IsWellFormed (database population.now) }
+    requires lawful { IsScale (database population.now).scale }
+    requires key { IsRecordKey (database population.now).scale (record_key.Warehouse key) }
+    requires words { MayHold (database population.now).scale (record_key.Warehouse key) (Some words.now) }
+    ensures { OnOk result (Puts (database population.now) (record_key.Warehouse key) (Some words.now)
+        (database tables.old) (database tables.new)) }
+{
+    let first = population.warehouses.get(&key).unwrap();
+    tables.warehouses.insert(key, warehouse_of(first, words))?;
+    Ok(())
+}
+
+fn put_district(
+    tables: &mut Tables,
+    population: &Tables,
+    key: DistrictKey,
+    words: &Payload,
+) -> Result<(), AllocError>
+    requires population { IsWellFormed (database population.now) }
+    requires lawful { IsScale (database population.now).scale }
+    requires key { IsRecordKey (database population.now).scale (record_key.District key) }
+    requires words { MayHold (database population.now).scale (record_key.District key) (Some words.now) }
+    ensures { OnOk result (Puts (database population.now) (record_key.District key) (Some words.now)
+        (database tables.old) (database tables.new)) }
+{
+    let first = population.districts.get(&key).unwrap();
+    tables.districts.insert(key, district_of(first, words))?;
+    Ok(())
+}
+
+fn put_customer(
+    tables: &mut Tables,
+    population: &Tables,
+    key: CustomerKey,
+    words: &Payload,
+) -> Result<(), AllocError>
+    requires population { IsWellFormed (database population.now) }
+    requires lawful { IsScale (database population.now).scale }
+    requires key { IsRecordKey (database population.now).scale (record_key.Customer key) }
+    requires words { MayHold (database population.now).scale (record_key.Customer key) (Some words.now) }
+    ensures { OnOk result (Puts (database population.now) (record_key.Customer key) (Some words.now)
+        (database tables.old) (database tables.new)) }
+{
+    let first = population.customers.get(&key).unwrap();
+    tables.customers.insert(key, customer_of(first, words))?;
+    Ok(())
+}
+
+fn put_new_order(
+    tables: &mut Tables,
+    population: &Tables,
+    key: OrderKey,
+    words: &Payload,
+) -> Result<(), AllocError>
+    requires population { IsWellFormed (database population.now) }
+    requires lawful { IsScale (database population.now).scale }
+    requires key { IsRecordKey (database population.now).scale (record_key.NewOrder key) }
+    requires words { MayHold (database population.now).scale (record_key.NewOrder key) (Some words.now) }
+    ensures { OnOk result (Puts (database population.now) (record_key.NewOrder key) (Some words.now)
+        (database tables.old) (database tables.new)) }
+{
+    tables.new_orders.insert(key, NewOrder)?;
+    Ok(())
+}
+
+fn put_order(
+    tables: &mut Tables,
+    population: &Tables,
+    key: OrderKey,
+    words: &Payload,
+) -> Result<(), AllocError>
+    requires population { IsWellFormed (database population.now) }
+    requires lawful { IsScale (database population.now).scale }
+    requires key { IsRecordKey (database population.now).scale (record_key.Order key) }
+    requires words { MayHold (database population.now).scale (record_key.Order key) (Some words.now) }
+    ensures { OnOk result (Puts (database population.now) (record_key.Order key) (Some words.now)
+        (database tables.old) (database tables.new)) }
+{
+    tables.orders.insert(key, order_of(words))?;
+    Ok(())
+}
+
+fn put_line(
+    tables: &mut Tables,
+    population: &Tables,
+    key: LineKey,
+    words: &Payload,
+) -> Result<(), AllocError>
+    requires population { IsWellFormed (database population.now) }
+    requires lawful { IsScale (database population.now).scale }
+    requires key { IsRecordKey (database population.now).scale (record_key.OrderLine key) }
+    requires words { MayHold (database population.now).scale (record_key.OrderLine key) (Some words.now) }
+    ensures { OnOk result (Puts (database population.now) (record_key.OrderLine key) (Some words.now)
+        (database tables.old) (database tables.new)) }
+{
+    tables.lines.insert(key, line_of(words))?;
+    Ok(())
+}
+
+fn put_stock(
+    tables: &mut Tables,
+    population: &Tables,
+    key: StockKey,
+    words: &Payload,
+) -> Result<(), AllocError>
+    requires population { IsWellFormed (database population.now) }
+    requires lawful { IsScale (database population.now).scale }
+    requires key { IsRecordKey (database population.now).scale (record_key.Stock key) }
+    requires words { MayHold (database population.now).scale (record_key.Stock key) (Some words.now) }
+    ensures { OnOk result (Puts (database population.now) (record_key.Stock key) (Some words.now)
+        (database tables.old) (database tables.new)) }
+{
+    tables.stock.insert(key, stock_of(words))?;
+    Ok(())
+}

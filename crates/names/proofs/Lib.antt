@@ -1,2 +1,0 @@
-mod Index
-mod Range

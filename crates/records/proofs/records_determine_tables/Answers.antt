@@ -1,5 +1,0 @@
-use Rattle.records.proofs.Held.{one_database}
-use Rattle.records.proofs.records_determine_tables.Goals as goal
-
-pub returns : goal.returns
-returns c = one_database
