@@ -7,18 +7,21 @@ use Rattle.tables.specs.WellFormed.{IsWellFormed}
 use Rattle.tables.specs.Database.{Database}
 use Rattle.tables.specs.Records.{record_count, key_of}
 use Rattle.tables.specs.Rows.{rows}
+use Rattle.cells.specs.Records.{PenView}
 use Rattle.cells.specs.declared.cells.Newest.{Newest}
 use Rattle.encoding.specs.Held.{row_count}
 use Rattle.encoding.specs.Newest.{words_at, value_at, AreLawful}
 use Rattle.encoding.proofs.Values.{lawful_values}
 use Rattle.encoding.specs.Puts.{MayHold}
 use Rattle.book.specs.History.{replay, rows_added}
-use Rattle.book.specs.Book.{BookView, IsSound}
+use Rattle.book.specs.Book.{IsSound}
 use Rattle.book.specs.Ready.{IsReady, AreNewest}
+use Rattle.book.specs.declared.entry.Entry.{Entry}
 use Rattle.book.proofs.Replaying.{replay-history}
 
-module _ (t0 : Database) (run_cells : List TableId) (k : BookView) (t : Database) (newest : List Newest) (sound : IsSound t0 k t)
-    (ready : IsReady t0 run_cells k t) (are : AreNewest k.written newest) where
+module _ (t0 : Database) (run_cells : List TableId) (epoch : ℕ) (written : PenView) (history : List Entry)
+    (t : Database) (newest : List Newest) (sound : IsSound t0 written history t)
+    (ready : IsReady t0 run_cells epoch written history t) (are : AreNewest written newest) where
   pub counted : length newest ≡ record_count t0.scale
   counted = are.count ∙ ap length ready.cells ∙ ready.count
 
@@ -36,8 +39,8 @@ module _ (t0 : Database) (run_cells : List TableId) (k : BookView) (t : Database
       (lawful_values t sound.well_formed n (subst (λ (s : Sizes). n < row_count s) (sym scale) h))
 
   -- tables that are told by them, whose HISTORY has the rows that were added, are the committed ones
-  pub are_committed : (made : Database) → replay t0 k.history ≡ t
+  pub are_committed : (made : Database) → replay t0 history ≡ t
       → ((u : Database) → IsOf t0 u → IsWellFormed u → ((n : ℕ) → n < row_count t0.scale → rows u n ≡ value_at newest n) → u.history ≡ t0.history
-      ++ rows_added k.history → made ≡ u) → made ≡ t
+      ++ rows_added history → made ≡ u) → made ≡ t
   are_committed made is one = one t ready.of_population sound.well_formed (λ n h. sym (value_held n (omega (arith, h, rows_first))))
-      (ap (λ (u : Database). u.history) (sym is) ∙ replay-history 1 t0 k.history sound.legal.replays)
+      (ap (λ (u : Database). u.history) (sym is) ∙ replay-history 1 t0 history sound.legal.replays)

@@ -7,6 +7,7 @@ mod Sound
 mod Tids
 mod Legal
 mod Taken
+mod Loaded
 mod Runs
 mod Showing
 pub mod Replaying

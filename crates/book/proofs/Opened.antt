@@ -17,7 +17,6 @@ use Rattle.encoding.specs.Newest.{words_at, AreFirst}
 use Rattle.laws.proofs.NamesKept.{IsOf-itself}
 use Rattle.book.specs.Book.{IsSound}
 use Rattle.book.specs.Ready.{IsWithin, IsPassed, IsFree, IsReady, AreLast, AreNewest}
-use Rattle.book.specs.declared.epoch.TheConstants.{EPOCH}
 use Rattle.encoding.proofs.Positions.{at_first}
 use Rattle.book.proofs.Sound.{last_one}
 
@@ -33,8 +32,8 @@ first_tid : (w : Option (List ℕ)) → tid (first_version w) ≡ 0
 first_tid (Some words) = omega arith
 first_tid None = omega arith
 
-within_first : (tid : ℕ) → tid ≡ 0 → IsWithin EPOCH 0 tid
-within_first tid none = subst (IsWithin EPOCH 0) (sym none) (record { bits = omega arith; in_epoch = omega arith; sequence = omega arith })
+within_first : (epoch tid : ℕ) → tid ≡ 0 → IsWithin epoch 0 tid
+within_first epoch tid none = subst (IsWithin epoch 0) (sym none) (record { bits = omega arith; in_epoch = omega arith; sequence = omega arith })
 
 -- no terminal has committed
 pub first_lasts : (terminals count : ℕ) (lasts : List ℕ) → lasts ≡ replicate count 0 → count ≡ terminals → AreLast terminals [] lasts
@@ -59,7 +58,7 @@ module _ (t0 : Database) (run_cells : List TableId) (pen : PenView) (newest : Li
       last = λ n h. ([], only n h);
     }
 
-    pub first_sound : IsWellFormed t0 → IsConsistent t0 → IsSound t0 (record { written = pen; history = [] }) t0
+    pub first_sound : IsWellFormed t0 → IsConsistent t0 → IsSound t0 pen [] t0
     first_sound well_formed consistent = record {
       legal = record { replays = tt; end = refl };
       stamped = tt;
@@ -70,14 +69,14 @@ module _ (t0 : Database) (run_cells : List TableId) (pen : PenView) (newest : Li
           ∙ first_value (rows t0 n);
     }
 
-    pub first_ready : HasRoom MAX_COMMITS t0 → t0.scale.commits ≤ MAX_COMMITS → IsReady t0 run_cells (record { written = pen; history = [] }) t0
-    first_ready room few = record {
+    pub first_ready : (epoch : ℕ) → HasRoom MAX_COMMITS t0 → t0.scale.commits ≤ MAX_COMMITS → IsReady t0 run_cells epoch pen [] t0
+    first_ready epoch room few = record {
       of_population = IsOf-itself t0;
       cells = ap (λ (w : PenView). w.cells) fresh;
       count = count ∙ are.count;
-      passed = All-nil (IsPassed EPOCH (record { written = pen; history = [] }));
-      records = λ n h. within_first (last_tid (at pen.all n)) (ap last_tid (first n h) ∙ first_tid (rows t0 n));
-      terminals = λ terminal. within_first 0 refl;
+      passed = All-nil (IsPassed epoch pen []);
+      records = λ n h. within_first epoch (last_tid (at pen.all n)) (ap last_tid (first n h) ∙ first_tid (rows t0 n));
+      terminals = λ terminal. within_first epoch 0 refl;
       free = λ n h v e. subst (λ (u : List ℕ). IsFree (slice_index u 0)) (sym (last_one e.0 [] v (first_version (rows t0 n)) (sym e.1 ∙ first n h)))
           (first_free (rows t0 n));
       cap = omega arith;

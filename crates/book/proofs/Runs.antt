@@ -42,7 +42,6 @@ use Rattle.book.specs.Stamps.{last_of, greatest_tid, tid_for}
 use Rattle.book.specs.Book.{BookView, IsSound, IsWorkOf, AreInOrder, AreLatest, HasConflict}
 use Rattle.book.specs.Ready.{IsReady, IsFree}
 use Rattle.book.specs.Shows.{reads_of, Mirrors, IsCommitRun, IsFullRun, IsStaleRun}
-use Rattle.book.specs.declared.epoch.TheConstants.{EPOCH}
 use Rattle.book.proofs.Sound.{value_in_version, last_one}
 use Rattle.book.proofs.Taken.{whole}
 
@@ -111,9 +110,10 @@ each_current : (m : Machine) (reads : ReadSetView) → AreCurrent m (reads_of re
 each_current m reads all n v e = All-contains (IsCurrent m) reads (n, v) (all_current m reads all)
     (Contains-from_lookup {eq = λ x y. is_eq (nat_cmp x y)} same_key n v reads e)
 
-module _ (t0 : Database) (run_cells : List TableId) (k : BookView) (t : Database) (sound : IsSound t0 k t) (ready : IsReady t0 run_cells k t)
+module _ (t0 : Database) (run_cells : List TableId) (epoch : ℕ) (k : BookView) (t : Database)
+    (sound : IsSound t0 k.written k.history t) (ready : IsReady t0 run_cells epoch k.written k.history t)
     (reader : ReaderView) (work : Work) (is_work : IsWorkOf t0 (length run_cells) reader work) (order : AreInOrder work.reads work.writes)
-    (terminal w : ℕ) (m : Machine) (shows : Mirrors k terminal EPOCH work.reads m w) where
+    (terminal w : ℕ) (m : Machine) (shows : Mirrors k terminal epoch work.reads m w) where
   abbrev reads : Reads
   reads = reads_of work.reads
 
@@ -166,14 +166,15 @@ module _ (t0 : Database) (run_cells : List TableId) (k : BookView) (t : Database
       (conflict.3 (sym (each_current m work.reads all conflict.0 conflict.1 conflict.2)
       ∙ same_tid conflict.0 (is_work.read.within conflict.0 conflict.1 conflict.2))))
       (λ (it : IsStale m reads).
-      let fails = sections.stale reads has_read it in
-      record {
-        first = it;
-        enabled = fails.0;
-        failed = fails.1;
-        woven =
-            woven m w (stale_section w it.passed it.at writes) (stale_section_own w it.passed it.at writes) fails.0;
-      })
+      let fails = sections.stale reads has_read it in (
+        it,
+        record {
+          enabled = fails.0;
+          ends = fails.1;
+          woven =
+              woven m w (stale_section w it.passed it.at writes) (stale_section_own w it.passed it.at writes) fails.0;
+        },
+      ))
       (current_or_stale m reads)
 
   module _ (latest : AreLatest k.written.all work.reads) where
@@ -187,15 +188,15 @@ module _ (t0 : Database) (run_cells : List TableId) (k : BookView) (t : Database
     all_read = All-weaker (λ (e : ℕ × Option (List ℕ)). value_for work.writes e.0 ≡ Some e.1) (λ (e : ℕ × Option (List ℕ)). IsSome (machine.note_at reads e.0))
         (λ e is. read_too work.reads e.0 ∙ is_work.limits.writes_read e.0 e.1 is) writes order.writes_found
 
-    next_is : next_for m w reads writes ≡ tid_for k.history terminal EPOCH work.reads
+    next_is : next_for m w reads writes ≡ tid_for k.history terminal epoch work.reads
     next_is = next_of_reads m w reads writes current all_read
         ∙ (λ i. next ((ap tid_of (same_greatest work.reads) ∙ whole (greatest_tid work.reads) (greatest_bits work.reads)) i)
         ((ap tid_of shows.last ∙ whole (last_of terminal k.history) (ready.terminals terminal).bits) i) (shows.in_epoch i))
 
-    pub full_run : tid_for k.history terminal EPOCH work.reads ≡ None → IsFullRun m w reads writes
+    pub full_run : tid_for k.history terminal epoch work.reads ≡ None → IsFullRun m w reads writes
     full_run none =
         let fails = sections.full reads has_read current (next_is ∙ none) in
-        record { enabled = fails.0; failed = fails.1; woven = woven m w (full_section w reads writes) (full_section_own w reads writes) fails.0 }
+        record { enabled = fails.0; ends = fails.1; woven = woven m w (full_section w reads writes) (full_section_own w reads writes) fails.0 }
 
     module _ (tid : ℕ) (new : PenView) (bits : tid % 8 ≡ 0) (after : Machine)
         (cells : (n : ℕ) → cell after n ≡ written_cell (cell m n) tid (machine.note_at writes n))
@@ -214,17 +215,19 @@ module _ (t0 : Database) (run_cells : List TableId) (k : BookView) (t : Database
                 some)))
           ] refl
 
-    pub run : (tid : ℕ) (new : PenView) → tid_for k.history terminal EPOCH work.reads ≡ Some tid → tid % 8 ≡ 0 → new.cells ≡ k.written.cells
+    pub run : (tid : ℕ) (new : PenView) → tid_for k.history terminal epoch work.reads ≡ Some tid → tid % 8 ≡ 0 → new.cells ≡ k.written.cells
         → ((n : ℕ) → at new.all n ≡ at k.written.all n ++ new_versions tid work.writes.values n) → IsCommitRun m w reads writes tid new
     run tid new is bits cells stores =
         let commits = sections.ok reads tid has_read current (next_is ∙ is) in
         record {
           enabled = commits.0;
-          committed = commits.1;
-          newest = record {
-            count = commits.1.rest.records ∙ shows.records.count ∙ sym (ap length cells);
-            newest = λ n h. newest_again tid new bits (after_all m (section w reads writes)) commits.1.cells stores n
-                (subst (λ (l : List TableId). n < length l) (cells ∙ ready.cells) h);
-          };
+          ends = (
+            commits.1,
+            record {
+              count = commits.1.rest.records ∙ shows.records.count ∙ sym (ap length cells);
+              newest = λ n h. newest_again tid new bits (after_all m (section w reads writes)) commits.1.cells stores n
+                  (subst (λ (l : List TableId). n < length l) (cells ∙ ready.cells) h);
+            },
+          );
           woven = woven m w (section w reads writes) (section_own w reads writes) commits.0;
         }

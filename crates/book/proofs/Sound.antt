@@ -25,10 +25,9 @@ use Rattle.readset.specs.Commit.{IsCommitOf}
 use Rattle.readset.specs.Explains.{Agrees}
 use Rattle.readset.specs.declared.work.Work.{Work}
 use Rattle.book.specs.History.{replay, CommitsAt, IsLegal, committed_version, new_versions, entry_versions, later_versions}
-use Rattle.book.specs.Book.{BookView, IsSound, IsWorkOf, IsRead, AreLatest, entry_of}
+use Rattle.book.specs.Book.{IsSound, IsWorkOf, IsRead, AreLatest, entry_of}
 use Rattle.book.specs.Stamps.{last_of}
 use Rattle.book.specs.Ready.{IsReady, IsWithin, IsFree}
-use Rattle.book.specs.declared.epoch.TheConstants.{EPOCH}
 use Rattle.book.proofs.Stamped.{all_stamped, all_passed, last_here, last_there, within_more}
 use Rattle.book.specs.declared.entry.Entry.{Entry}
 use Rattle.book.proofs.Executed.{explains_where_consistent}
@@ -75,8 +74,9 @@ last_one xs ys a b e = sym (end xs a) ∙ ap last_of e ∙ end ys b
 rest_of : (n : ℕ) → n < MAX_COMMITS → MAX_COMMITS - n ≡ MAX_COMMITS - (n + 1) + 1
 rest_of n h = omega arith
 
-module _ (t0 : Database) (run_cells : List TableId) (k : BookView) (t : Database) (sound : IsSound t0 k t) (ready : IsReady t0 run_cells k t)
-    (reader : ReaderView) (work : Work) (is_work : IsWorkOf t0 (length run_cells) reader work) (latest : AreLatest k.written.all work.reads) where
+module _ (t0 : Database) (run_cells : List TableId) (epoch : ℕ) (written : PenView) (history : List Entry) (t : Database)
+    (sound : IsSound t0 written history t) (ready : IsReady t0 run_cells epoch written history t)
+    (reader : ReaderView) (work : Work) (is_work : IsWorkOf t0 (length run_cells) reader work) (latest : AreLatest written.all work.reads) where
   agrees : Agrees t work.reads
   agrees n v e = sound.latest n (subst (λ m. n < m) ready.count (is_work.read.within n v e)) (words_of v) (latest n v e)
 
@@ -88,51 +88,48 @@ module _ (t0 : Database) (run_cells : List TableId) (k : BookView) (t : Database
   input_of = subst (λ s. IsInput s work.input) (sym ready.of_population.scale) is_work.input
 
   -- it is done at the tables that the history leads to, whether it commits or not
-  pub done_there : CommitsAt (replay t0 k.history) work.input work.writes work.reply
+  pub done_there : CommitsAt (replay t0 history) work.input work.writes work.reply
   done_there = subst (λ s. CommitsAt s work.input work.writes work.reply) (sym sound.legal.end) (record { input = input_of; commit = commits_there })
 
   -- a TID that a version read has is its record's last
-  pub read_within : (seen : ℕ) → IsRead work.reads seen → IsWithin EPOCH (length k.history) seen
-  read_within seen (inl none) = subst (IsWithin EPOCH (length k.history)) (sym none)
+  pub read_within : (seen : ℕ) → IsRead work.reads seen → IsWithin epoch (length history) seen
+  read_within seen (inl none) = subst (IsWithin epoch (length history)) (sym none)
       (record { bits = omega arith; in_epoch = omega arith; sequence = omega arith })
   read_within seen (inr read) =
-      subst (IsWithin EPOCH (length k.history)) (last_tid-last (at k.written.all read.0) (words_of read.1) (latest read.0 read.1 read.2) ∙ sym read.3)
+      subst (IsWithin epoch (length history)) (last_tid-last (at written.all read.0) (words_of read.1) (latest read.0 read.1 read.2) ∙ sym read.3)
       (ready.records read.0 (is_work.read.within read.0 read.1 read.2))
 
-  module _ (terminal tid_is : ℕ) (new : PenView) (below_cap : length k.history < t0.scale.commits) (cells : new.cells ≡ k.written.cells)
-      (within : IsWithin EPOCH (length k.history + 1) tid_is) (in_epoch : tid_is / 2 ^ 32 ≡ EPOCH)
-      (above_last : last_of terminal k.history < tid_is)
-      (above : (n : ℕ) (value : Option (List ℕ)) → value_for work.writes n ≡ Some value → last_tid (at k.written.all n) < tid_is)
-      (stores : (n : ℕ) → at new.all n ≡ at k.written.all n ++ new_versions tid_is work.writes.values n) where
+  module _ (terminal tid_is : ℕ) (new : PenView) (below_cap : length history < t0.scale.commits) (cells : new.cells ≡ written.cells)
+      (within : IsWithin epoch (length history + 1) tid_is) (in_epoch : tid_is / 2 ^ 32 ≡ epoch)
+      (above_last : last_of terminal history < tid_is)
+      (above : (n : ℕ) (value : Option (List ℕ)) → value_for work.writes n ≡ Some value → last_tid (at written.all n) < tid_is)
+      (stores : (n : ℕ) → at new.all n ≡ at written.all n ++ new_versions tid_is work.writes.values n) where
     abbrev entry : Entry
-    entry = entry_of (length k.history + 1) tid_is terminal work
+    entry = entry_of (length history + 1) tid_is terminal work
 
-    abbrev kept : BookView
-    kept = record { written = new; history = k.history ++ entry ∷ [] }
+    longer : length (history ++ entry ∷ []) ≡ length history + 1
+    longer = length-append history (entry ∷ [])
 
-    longer : length (k.history ++ entry ∷ []) ≡ length k.history + 1
-    longer = length-append k.history (entry ∷ [])
-
-    legal : IsLegal t0 (k.history ++ entry ∷ []) (after t work.input)
+    legal : IsLegal t0 (history ++ entry ∷ []) (after t work.input)
     legal = record {
-      replays = replays_push 1 t0 k.history entry sound.legal.replays (turned (length k.history)) done_there;
-      end = replay_push t0 k.history entry ∙ ap (λ s. after s work.input) sound.legal.end;
+      replays = replays_push 1 t0 history entry sound.legal.replays (turned (length history)) done_there;
+      end = replay_push t0 history entry ∙ ap (λ s. after s work.input) sound.legal.end;
     }
       where
         turned : (n : ℕ) → n + 1 ≡ 1 + n
         turned n = omega arith
 
-    roomy : HasRoom (MAX_COMMITS - (length k.history + 1) + 1) t
-    roomy = subst (λ n. HasRoom n t) (rest_of (length k.history) (omega (arith, below_cap, ready.few))) ready.room
+    roomy : HasRoom (MAX_COMMITS - (length history + 1) + 1) t
+    roomy = subst (λ n. HasRoom n t) (rest_of (length history) (omega (arith, below_cap, ready.few))) ready.room
 
     -- a record that isn't written, and one that is
-    unchanged : (n : ℕ) → value_for work.writes n ≡ None → at new.all n ≡ at k.written.all n
-    unchanged n none = stores n ∙ ap (λ w. at k.written.all n ++ option_map_or (λ value. committed_version tid_is value ∷ []) w []) none
-        ∙ append-nil (at k.written.all n)
+    unchanged : (n : ℕ) → value_for work.writes n ≡ None → at new.all n ≡ at written.all n
+    unchanged n none = stores n ∙ ap (λ w. at written.all n ++ option_map_or (λ value. committed_version tid_is value ∷ []) w []) none
+        ∙ append-nil (at written.all n)
 
-    changed : (n : ℕ) (value : Option (List ℕ)) → value_for work.writes n ≡ Some value → at new.all n ≡ at k.written.all n ++ committed_version tid_is value
+    changed : (n : ℕ) (value : Option (List ℕ)) → value_for work.writes n ≡ Some value → at new.all n ≡ at written.all n ++ committed_version tid_is value
         ∷ []
-    changed n value some = stores n ∙ ap (λ w. at k.written.all n ++ option_map_or (λ x. committed_version tid_is x ∷ []) w []) some
+    changed n value some = stores n ∙ ap (λ w. at written.all n ++ option_map_or (λ x. committed_version tid_is x ∷ []) w []) some
 
     last_value : (n : ℕ) → n < record_count t0.scale → (v : List ℕ) → EndsWith (at new.all n) v → value_in v ≡ rows (after t work.input) n
     last_value n h v e =
@@ -141,7 +138,7 @@ module _ (t0 : Database) (run_cells : List TableId) (k : BookView) (t : Database
         elim (value_for work.writes n) as (λ w. value_for work.writes n ≡ w → value_in v ≡ rows (after t work.input) n) [
           | None ↦ λ none. sound.latest n h v (subst (λ (l : List (List ℕ)). EndsWith l v) (unchanged n none) e)
               ∙ sym (leaves ∙ ap (λ w. unwrap_or w (rows t n)) none)
-          | Some value ↦ λ some. ap value_in (last_one e.0 (at k.written.all n) v (committed_version tid_is value) (sym e.1 ∙ changed n value some))
+          | Some value ↦ λ some. ap value_in (last_one e.0 (at written.all n) v (committed_version tid_is value) (sym e.1 ∙ changed n value some))
               ∙ value_in_version tid_is value within.bits
               ∙ sym (leaves ∙ ap (λ w. unwrap_or w (rows t n)) some)
         ] refl
@@ -151,25 +148,25 @@ module _ (t0 : Database) (run_cells : List TableId) (k : BookView) (t : Database
         elim (value_for work.writes n) as (λ w. value_for work.writes n ≡ w → IsFree (slice_index v 0)) [
           | None ↦ λ none. ready.free n h v (subst (λ (l : List (List ℕ)). EndsWith l v) (unchanged n none) e)
           | Some value ↦ λ some. subst (λ (u : List ℕ). IsFree (slice_index u 0))
-              (sym (last_one e.0 (at k.written.all n) v (committed_version tid_is value) (sym e.1 ∙ changed n value some)))
+              (sym (last_one e.0 (at written.all n) v (committed_version tid_is value) (sym e.1 ∙ changed n value some)))
               (free_version tid_is value within.bits)
         ] refl
 
     written_tid : (n : ℕ) (value : Option (List ℕ)) → value_for work.writes n ≡ Some value → last_tid (at new.all n) ≡ tid_is
-    written_tid n value some = ap last_tid (changed n value some) ∙ last_tid-push (at k.written.all n) (committed_version tid_is value)
+    written_tid n value some = ap last_tid (changed n value some) ∙ last_tid-push (at written.all n) (committed_version tid_is value)
         ∙ tid_version tid_is value within.bits
 
     -- what holds of a record's last TID before, or of the commit's, holds of its last TID after
-    by_record : (P : ℕ → Type 0) (n : ℕ) → (value_for work.writes n ≡ None → P (last_tid (at k.written.all n)))
+    by_record : (P : ℕ → Type 0) (n : ℕ) → (value_for work.writes n ≡ None → P (last_tid (at written.all n)))
         → ((value : Option (List ℕ)) → value_for work.writes n ≡ Some value → P tid_is) → P (last_tid (at new.all n))
     by_record P n was is = elim (value_for work.writes n) as (λ w. value_for work.writes n ≡ w → P (last_tid (at new.all n))) [
       | None ↦ λ none. subst P (sym (ap last_tid (unchanged n none))) (was none)
       | Some value ↦ λ some. subst P (sym (written_tid n value some)) (is value some)
     ] refl
 
-    grows : (n : ℕ) → last_tid (at k.written.all n) ≤ last_tid (at new.all n)
-    grows n = by_record (λ m. last_tid (at k.written.all n) ≤ m) n (λ _. same (last_tid (at k.written.all n)))
-        (λ value some. less (last_tid (at k.written.all n)) (above n value some))
+    grows : (n : ℕ) → last_tid (at written.all n) ≤ last_tid (at new.all n)
+    grows n = by_record (λ m. last_tid (at written.all n) ≤ m) n (λ _. same (last_tid (at written.all n)))
+        (λ value some. less (last_tid (at written.all n)) (above n value some))
       where
         same : (m : ℕ) → m ≤ m
         same m = omega arith
@@ -185,46 +182,48 @@ module _ (t0 : Database) (run_cells : List TableId) (k : BookView) (t : Database
           | Some value ↦ λ is. (value, is)
         ] refl
 
-    above_records : (n : ℕ) → IsSome (value_for work.writes n) → last_tid (at k.written.all n) < tid_is
+    above_records : (n : ℕ) → IsSome (value_for work.writes n) → last_tid (at written.all n) < tid_is
     above_records n some = let v = value_of_some n some in above n v.0 v.1
 
     written_records : (n : ℕ) → IsSome (value_for work.writes n) → last_tid (at new.all n) ≡ tid_is
     written_records n some = let v = value_of_some n some in written_tid n v.0 v.1
 
-    from_epoch : EPOCH ≤ tid_is / 2 ^ 32
+    from_epoch : epoch ≤ tid_is / 2 ^ 32
     from_epoch = omega (arith, in_epoch)
 
-    pub next_sound : IsSound t0 kept (after t work.input)
+    pub next_sound : IsSound t0 new (history ++ entry ∷ []) (after t work.input)
     next_sound = record {
       legal = legal;
-      stamped = all_stamped EPOCH k kept entry refl from_epoch above_last above_records written_records grows within.bits sound.stamped ready.passed;
-      well_formed = after-IsWellFormed t work.input (MAX_COMMITS - (length k.history + 1)) input_of commits_there.numbered sound.well_formed sound.consistent
+      stamped = all_stamped epoch written new history (history ++ entry ∷ []) entry refl from_epoch above_last above_records written_records grows
+          within.bits sound.stamped ready.passed;
+      well_formed = after-IsWellFormed t work.input (MAX_COMMITS - (length history + 1)) input_of commits_there.numbered sound.well_formed sound.consistent
           roomy;
       consistent = after-IsConsistent t work.input input_of sound.well_formed sound.consistent;
       versions = λ n h. stores n ∙ ap (λ (l : List (List ℕ)). l ++ new_versions tid_is work.writes.values n) (sound.versions n h)
-          ∙ ap (λ l. first_version (rows t0 n) ∷ l) (sym (later_push k.history entry n));
+          ∙ ap (λ l. first_version (rows t0 n) ∷ l) (sym (later_push history entry n));
       latest = last_value;
     }
 
-    terminals_within : (one : ℕ) → IsWithin EPOCH (length k.history + 1) (last_of one (k.history ++ entry ∷ []))
+    terminals_within : (one : ℕ) → IsWithin epoch (length history + 1) (last_of one (history ++ entry ∷ []))
     terminals_within one = ⊎_elim
-        (λ (same : terminal ≡ one). subst (IsWithin EPOCH (length k.history + 1)) (sym (last_here k.history entry one same)) within)
-        (λ (other : terminal ≢ one). subst (IsWithin EPOCH (length k.history + 1)) (sym (last_there k.history entry one other))
-        (within_more EPOCH (length k.history) _ (ready.terminals one)))
+        (λ (same : terminal ≡ one). subst (IsWithin epoch (length history + 1)) (sym (last_here history entry one same)) within)
+        (λ (other : terminal ≢ one). subst (IsWithin epoch (length history + 1)) (sym (last_there history entry one other))
+        (within_more epoch (length history) _ (ready.terminals one)))
         (cases_eq terminal one)
 
-    pub next_ready : IsReady t0 run_cells kept (after t work.input)
+    pub next_ready : IsReady t0 run_cells epoch new (history ++ entry ∷ []) (after t work.input)
     next_ready = record {
       of_population = after-IsOf t0 t work.input ready.of_population;
       cells = cells ∙ ready.cells;
       count = ready.count;
-      passed = all_passed EPOCH k kept entry refl from_epoch above_last above_records written_records grows within.in_epoch ready.passed;
-      records = λ n h. subst (λ m. IsWithin EPOCH m (last_tid (at new.all n))) (sym longer)
-          (by_record (IsWithin EPOCH (length k.history + 1)) n (λ _. within_more EPOCH (length k.history) _ (ready.records n h)) (λ _ _. within));
-      terminals = λ one. subst (λ m. IsWithin EPOCH m (last_of one (k.history ++ entry ∷ []))) (sym longer) (terminals_within one);
+      passed = all_passed epoch written new history (history ++ entry ∷ []) entry refl from_epoch above_last above_records written_records grows
+          within.in_epoch ready.passed;
+      records = λ n h. subst (λ m. IsWithin epoch m (last_tid (at new.all n))) (sym longer)
+          (by_record (IsWithin epoch (length history + 1)) n (λ _. within_more epoch (length history) _ (ready.records n h)) (λ _ _. within));
+      terminals = λ one. subst (λ m. IsWithin epoch m (last_of one (history ++ entry ∷ []))) (sym longer) (terminals_within one);
       free = last_free;
       cap = subst (λ n. n ≤ t0.scale.commits) (sym longer) (omega (arith, below_cap));
       few = ready.few;
       room = subst (λ n. HasRoom (MAX_COMMITS - n) (after t work.input)) (sym longer)
-          (after-HasRoom t work.input (MAX_COMMITS - (length k.history + 1)) input_of sound.well_formed roomy);
+          (after-HasRoom t work.input (MAX_COMMITS - (length history + 1)) input_of sound.well_formed roomy);
     }

@@ -11,12 +11,11 @@ use Rattle.tidword.specs.TidWord.{tid_of}
 use Rattle.tidword.specs.Lawful.{IsLawful, next}
 use Rattle.tidword.proofs.Sequences.{next-counts}
 use Rattle.cells.specs.Versions.{last_tid}
-use Rattle.cells.specs.Records.{at}
+use Rattle.cells.specs.Records.{PenView, at}
 use Rattle.cells.specs.declared.cells.Version.{Version}
 use Rattle.readset.specs.Reads.{ReadSetView}
 use Rattle.readset.specs.Writes.{value_for}
 use Rattle.book.specs.Stamps.{Follows, AreStamped, last_from, last_of, greatest_tid}
-use Rattle.book.specs.Book.{BookView}
 use Rattle.book.specs.Ready.{IsWithin, IsPassed, AreLast}
 use Rattle.book.specs.declared.entry.Entry.{Entry}
 
@@ -81,25 +80,25 @@ next_within epoch count seen last tid s l lawful is = record {
     same n h = omega (arith, h)
 
 -- a commit that takes a lawful TID: where it writes, the TID is larger than the record's last
-module _ (epoch : ℕ) (old new : BookView) (e : Entry) (history : new.history ≡ old.history ++ e ∷ [])
+module _ (epoch : ℕ) (old new : PenView) (before behind : List Entry) (e : Entry) (history : behind ≡ before ++ e ∷ [])
     (in_epoch : epoch ≤ e.tid / 2 ^ 32)
-    (above_last : last_of e.terminal old.history < e.tid)
-    (above_records : (n : ℕ) → IsSome (value_for e.writes n) → last_tid (at old.written.all n) < e.tid)
-    (written : (n : ℕ) → IsSome (value_for e.writes n) → last_tid (at new.written.all n) ≡ e.tid)
-    (grows : (n : ℕ) → last_tid (at old.written.all n) ≤ last_tid (at new.written.all n))
+    (above_last : last_of e.terminal before < e.tid)
+    (above_records : (n : ℕ) → IsSome (value_for e.writes n) → last_tid (at old.all n) < e.tid)
+    (written : (n : ℕ) → IsSome (value_for e.writes n) → last_tid (at new.all n) ≡ e.tid)
+    (grows : (n : ℕ) → last_tid (at old.all n) ≤ last_tid (at new.all n))
   where
-    last_grows : (terminal : ℕ) → last_of terminal old.history ≤ last_of terminal new.history
-    last_grows terminal = subst (λ (h : List Entry). last_of terminal old.history ≤ last_of terminal h) (sym history) (⊎_elim
-        (λ (same : e.terminal ≡ terminal). here same (last_here old.history e terminal same))
-        (λ (other : e.terminal ≢ terminal). there (last_there old.history e terminal other))
+    last_grows : (terminal : ℕ) → last_of terminal before ≤ last_of terminal behind
+    last_grows terminal = subst (λ (h : List Entry). last_of terminal before ≤ last_of terminal h) (sym history) (⊎_elim
+        (λ (same : e.terminal ≡ terminal). here same (last_here before e terminal same))
+        (λ (other : e.terminal ≢ terminal). there (last_there before e terminal other))
         (cases_eq e.terminal terminal))
       where
-        here : e.terminal ≡ terminal → last_of terminal (old.history ++ e ∷ []) ≡ e.tid
-            → last_of terminal old.history ≤ last_of terminal (old.history ++ e ∷ [])
-        here same is = let small : last_of terminal old.history < e.tid = subst (λ t. last_of t old.history < e.tid) same above_last in omega (arith, is, small)
+        here : e.terminal ≡ terminal → last_of terminal (before ++ e ∷ []) ≡ e.tid
+            → last_of terminal before ≤ last_of terminal (before ++ e ∷ [])
+        here same is = let small : last_of terminal before < e.tid = subst (λ t. last_of t before < e.tid) same above_last in omega (arith, is, small)
 
-        there : last_of terminal (old.history ++ e ∷ []) ≡ last_of terminal old.history
-            → last_of terminal old.history ≤ last_of terminal (old.history ++ e ∷ [])
+        there : last_of terminal (before ++ e ∷ []) ≡ last_of terminal before
+            → last_of terminal before ≤ last_of terminal (before ++ e ∷ [])
         there is = omega (arith, is)
 
     at_most : (a b c : ℕ) → a ≤ b → b ≤ c → a ≤ c
@@ -108,37 +107,37 @@ module _ (epoch : ℕ) (old new : BookView) (e : Entry) (history : new.history �
     less : (a b c : ℕ) → a ≤ b → b < c → a < c
     less a b c p q = omega (arith, p, q)
 
-    pub follows : (d : Entry) → IsPassed epoch old d → Follows d e
+    pub follows : (d : Entry) → IsPassed epoch old before d → Follows d e
     follows d passed = record {
       epochs = at_most (d.tid / 2 ^ 32) epoch (e.tid / 2 ^ 32) passed.in_epoch in_epoch;
-      records = λ n wrote writes. less d.tid (last_tid (at old.written.all n)) e.tid (passed.records n wrote) (above_records n writes);
-      terminals = λ same. less d.tid (last_of e.terminal old.history) e.tid (subst (λ t. d.tid ≤ last_of t old.history) same passed.terminal) above_last;
+      records = λ n wrote writes. less d.tid (last_tid (at old.all n)) e.tid (passed.records n wrote) (above_records n writes);
+      terminals = λ same. less d.tid (last_of e.terminal before) e.tid (subst (λ t. d.tid ≤ last_of t before) same passed.terminal) above_last;
     }
 
-    stays : (d : Entry) → IsPassed epoch old d → IsPassed epoch new d
+    stays : (d : Entry) → IsPassed epoch old before d → IsPassed epoch new behind d
     stays d passed = record {
       in_epoch = passed.in_epoch;
-      records = λ n wrote. at_most d.tid (last_tid (at old.written.all n)) (last_tid (at new.written.all n)) (passed.records n wrote) (grows n);
-      terminal = at_most d.tid (last_of d.terminal old.history) (last_of d.terminal new.history) passed.terminal (last_grows d.terminal);
+      records = λ n wrote. at_most d.tid (last_tid (at old.all n)) (last_tid (at new.all n)) (passed.records n wrote) (grows n);
+      terminal = at_most d.tid (last_of d.terminal before) (last_of d.terminal behind) passed.terminal (last_grows d.terminal);
     }
 
-    newest : e.tid / 2 ^ 32 ≤ epoch → IsPassed epoch new e
+    newest : e.tid / 2 ^ 32 ≤ epoch → IsPassed epoch new behind e
     newest small = record {
       in_epoch = small;
-      records = λ n writes. equal e.tid (last_tid (at new.written.all n)) (sym (written n writes));
-      terminal = equal e.tid (last_of e.terminal new.history) (sym (ap (last_of e.terminal) history ∙ last_here old.history e e.terminal refl));
+      records = λ n writes. equal e.tid (last_tid (at new.all n)) (sym (written n writes));
+      terminal = equal e.tid (last_of e.terminal behind) (sym (ap (last_of e.terminal) history ∙ last_here before e e.terminal refl));
     }
       where
         equal : (a b : ℕ) → a ≡ b → a ≤ b
         equal a b h = omega (arith, h)
 
-    pub all_passed : e.tid / 2 ^ 32 ≤ epoch → All (IsPassed epoch old) old.history → All (IsPassed epoch new) new.history
-    all_passed small passed = subst (All (IsPassed epoch new)) (sym history)
-        (All-push (IsPassed epoch new) old.history e (All-weaker (IsPassed epoch old) (IsPassed epoch new) stays old.history passed) (newest small))
+    pub all_passed : e.tid / 2 ^ 32 ≤ epoch → All (IsPassed epoch old before) before → All (IsPassed epoch new behind) behind
+    all_passed small passed = subst (All (IsPassed epoch new behind)) (sym history)
+        (All-push (IsPassed epoch new behind) before e (All-weaker (IsPassed epoch old before) (IsPassed epoch new behind) stays before passed) (newest small))
 
-    pub all_stamped : e.tid % 8 ≡ 0 → AreStamped old.history → All (IsPassed epoch old) old.history → AreStamped new.history
+    pub all_stamped : e.tid % 8 ≡ 0 → AreStamped before → All (IsPassed epoch old before) before → AreStamped behind
     all_stamped bits stamped passed = subst AreStamped (sym history)
-        (stamped_push old.history e bits stamped (All-weaker (IsPassed epoch old) (λ d. Follows d e) follows old.history passed))
+        (stamped_push before e bits stamped (All-weaker (IsPassed epoch old before) (λ d. Follows d e) follows before passed))
 
 -- the last TIDs of terminals, with the one that a commit took
 pub lasts_next : (terminals : ℕ) (old : List Entry) (lasts : List ℕ) (e : Entry) → AreLast terminals old lasts → e.terminal < length lasts

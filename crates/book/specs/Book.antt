@@ -18,27 +18,35 @@ use Rattle.readset.specs.Reads.{ReadSetView, held}
 use Rattle.readset.specs.Writes.{WriteSetView, value_for}
 use Rattle.readset.specs.Explains.{Explains, IsWithinLimits}
 use Rattle.readset.specs.declared.work.Work.{Work}
+use Rattle.board.specs.Seats.{SeatView}
 use Rattle.book.specs.History.{IsLegal, entry_versions, all_versions}
 use Rattle.book.specs.Stamps.{AreStamped}
 use Rattle.book.specs.declared.entry.Entry.{Entry}
 
--- what contracts see of the book: all versions of the records, and the history. The committed tables are the history's
--- replay
+-- what contracts see of the book: all versions of the records, the history, and its seat of the board. The committed
+-- tables are the history's replay
 pub record BookView : Type 0 where
   pub written : PenView
   pub history : List Entry
+  pub seat : SeatView
 
--- what is so whenever the book's lock is free, t0 being the tables that the run began with and t the committed ones
-pub record IsSound (t0 : Database) (k : BookView) (t : Database) : Type 0 where
+-- records and history are as they were
+pub record IsAsBefore (old new : BookView) : Type 0 where
+  pub written : new.written ≡ old.written
+  pub history : new.history ≡ old.history
+
+-- what is so whenever the book's lock is free, of the records' versions and the history, t0 being the tables that the
+-- run began with and t the committed ones
+pub record IsSound (t0 : Database) (written : PenView) (history : List Entry) (t : Database) : Type 0 where
   -- the committed tables are the history's serial replay, with every reply the same
-  pub legal : IsLegal t0 k.history t
+  pub legal : IsLegal t0 history t
   -- its TIDs rise by record and by terminal, and its epochs don't fall
-  pub stamped : AreStamped k.history
+  pub stamped : AreStamped history
   pub well_formed : IsWellFormed t
   pub consistent : IsConsistent t
   -- each record's versions are the values that it had along the history, and the last is what the tables have
-  pub versions : (n : ℕ) → n < record_count t0.scale → at k.written.all n ≡ all_versions t0 k.history n
-  pub latest : (n : ℕ) → n < record_count t0.scale → (v : List ℕ) → EndsWith (at k.written.all n) v
+  pub versions : (n : ℕ) → n < record_count t0.scale → at written.all n ≡ all_versions t0 history n
+  pub latest : (n : ℕ) → n < record_count t0.scale → (v : List ℕ) → EndsWith (at written.all n) v
       → value_in v ≡ rows t n
 
 -- each version is of its record, which has a cell, and is one that the reader has seen

@@ -1,5 +1,6 @@
 pub mod History
 pub mod Stamps
+pub mod Epochs
 pub mod Book
 pub mod Next
 pub mod Ready

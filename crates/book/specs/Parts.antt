@@ -7,14 +7,20 @@ use Rattle.population.specs.Initial.{initial}
 use Rattle.cells.specs.First.{firsts}
 use Rattle.cells.specs.Opening.{seen_all}
 use Rattle.encoding.specs.Newest.{AreFirst}
+use Rattle.board.specs.Seats.{BoardView}
+use Rattle.board.specs.Opening.{Opens}
 use Rattle.book.specs.declared.engine.Parts.{Parts}
 
--- the tables that a run of these parts begins with, its cells, its ledger, and how many loggers and terminals it has
+-- the tables that a run of these parts begins with, its cells, its board, its ledger, and how many loggers and
+-- terminals it has
 abbrev pub first_of : Parts → Database
 first_of p = initial (arc_value p.population)
 
 abbrev pub cells_of : Parts → List TableId
 cells_of p = p.cells
+
+abbrev pub board_of : Parts → BoardView
+board_of p = p.board
 
 abbrev pub ledger_name : Parts → ℕ
 ledger_name p = p.blank.name
@@ -23,13 +29,13 @@ abbrev pub ledger_parts : Parts → ℕ
 ledger_parts p = p.blank.parts
 
 abbrev pub loggers_of : Parts → ℕ
-loggers_of p = p.loggers
+loggers_of p = p.board.plan.loggers
 
 abbrev pub terminals_of : Parts → ℕ
 terminals_of p = length p.readers.items
 
--- nothing has committed: the cells have the first versions, which each reader has seen, and the ledger has a part a
--- terminal
+-- nothing has committed: the cells have the first versions, which each reader has seen, the ledger has a part a
+-- terminal, and nobody has stepped on the board
 pub record IsFresh (p : Parts) : Type 0 where
   pub lent : initial (arc_value p.lent) ≡ initial (arc_value p.population)
   pub newest : AreFirst (initial (arc_value p.population)) p.newest.items
@@ -40,3 +46,4 @@ pub record IsFresh (p : Parts) : Type 0 where
   pub readers : All (λ reader. reader ≡ seen_all p.pen) p.readers.items
   pub parts : p.blank.parts ≡ length p.readers.items
   pub few : length p.readers.items < 2 ^ 16
+  pub board : Opens p.board.plan (length p.readers.items) p.board p.seats

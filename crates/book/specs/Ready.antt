@@ -14,9 +14,7 @@ use Rattle.encoding.specs.Newest.{words_at}
 use Rattle.cells.specs.Records.{PenView, at}
 use Rattle.readset.specs.Writes.{value_for}
 use Rattle.book.specs.Stamps.{last_of}
-use Rattle.book.specs.Book.{BookView}
 use Rattle.book.specs.declared.entry.Entry.{Entry}
-use Rattle.book.specs.declared.epoch.TheConstants.{EPOCH}
 
 -- a TID without status bits, of an epoch up to this one, whose sequence is at most this count
 pub record IsWithin (epoch count tid : ℕ) : Type 0 where
@@ -26,32 +24,34 @@ pub record IsWithin (epoch count tid : ℕ) : Type 0 where
 
 -- what an entry's TID is to the book: of an epoch up to this one, and no larger than the last TID of each record that
 -- the entry wrote, nor than its terminal's
-pub record IsPassed (epoch : ℕ) (k : BookView) (e : Entry) : Type 0 where
+pub record IsPassed (epoch : ℕ) (written : PenView) (history : List Entry) (e : Entry) : Type 0 where
   pub in_epoch : epoch_of e.tid ≤ epoch
-  pub records : (n : ℕ) → IsSome (value_for e.writes n) → e.tid ≤ last_tid (at k.written.all n)
-  pub terminal : e.tid ≤ last_of e.terminal k.history
+  pub records : (n : ℕ) → IsSome (value_for e.writes n) → e.tid ≤ last_tid (at written.all n)
+  pub terminal : e.tid ≤ last_of e.terminal history
 
 -- the word of a version that is its record's latest, and that no writer has
 pub record IsFree (word : ℕ) : Type 0 where
   pub unlocked : is_locked word ≡ false
   pub latest : is_latest word ≡ true
 
-pub record IsReady (t0 : Database) (run_cells : List TableId) (k : BookView) (t : Database) : Type 0 where
+-- what the next commit needs of the book, whose TID is of this epoch or a later one
+pub record IsReady (t0 : Database) (run_cells : List TableId) (epoch : ℕ) (written : PenView) (history : List Entry)
+    (t : Database) : Type 0 where
   pub of_population : IsOf t0 t
   -- the pen is of the run's cells, one a record
-  pub cells : k.written.cells ≡ run_cells
+  pub cells : written.cells ≡ run_cells
   pub count : length run_cells ≡ record_count t0.scale
-  -- the next commit's TID is in this epoch or a later one, and is to be larger than those before it
-  pub passed : All (IsPassed EPOCH k) k.history
+  -- the next commit's TID is to be larger than those before it
+  pub passed : All (IsPassed epoch written history) history
   -- there is one: no sequence is larger than the number of commits
-  pub records : (n : ℕ) → n < length run_cells → IsWithin EPOCH (length k.history) (last_tid (at k.written.all n))
-  pub terminals : (terminal : ℕ) → IsWithin EPOCH (length k.history) (last_of terminal k.history)
+  pub records : (n : ℕ) → n < length run_cells → IsWithin epoch (length history) (last_tid (at written.all n))
+  pub terminals : (terminal : ℕ) → IsWithin epoch (length history) (last_of terminal history)
   -- each record's newest version says that it is the latest, and unlocked
-  pub free : (n : ℕ) → n < length run_cells → (v : List ℕ) → EndsWith (at k.written.all n) v → IsFree (word_in v)
+  pub free : (n : ℕ) → n < length run_cells → (v : List ℕ) → EndsWith (at written.all n) v → IsFree (word_in v)
   -- the commit cap isn't passed, and there is room for the commits that are left
-  pub cap : length k.history ≤ t0.scale.commits
+  pub cap : length history ≤ t0.scale.commits
   pub few : t0.scale.commits ≤ MAX_COMMITS
-  pub room : HasRoom (MAX_COMMITS - length k.history) t
+  pub room : HasRoom (MAX_COMMITS - length history) t
 
 -- these are the last TIDs of the terminals, so many of which there are
 pub record AreLast (terminals : ℕ) (history : List Entry) (lasts : List ℕ) : Type 0 where

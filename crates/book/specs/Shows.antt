@@ -5,6 +5,7 @@ use Rattle.money.specs.declared.refusal.Refusal.TheVariants.{Conflict, EpochFull
 use Rattle.tidword.specs.TidWord.{tid_of}
 use Rattle.commit.specs.Machine.{Machine, note_at, cell, worker}
 use Rattle.commit.specs.Events.{AreEnabled, after_all}
+use Rattle.commit.specs.declared.event.Event.{Event}
 use Rattle.commit.specs.Sections.{Reads, Writes, section, full_section, stale_section, IsStale, HasCommitted, HasFailed}
 use Rattle.commit.specs.Weaving.{MayBeWoven}
 use Rattle.commit.specs.declared.worker.Cell.{Cell}
@@ -41,25 +42,25 @@ pub record Mirrors (k : BookView) (terminal epoch : ℕ) (read : ReadSetView) (m
   pub last : (worker m w).last ≡ last_of terminal k.history
   pub in_epoch : m.epoch ≡ epoch
 
--- a commit with this TID is a run of the machine, with what others do between, which then has the newest versions again
-pub record IsCommitRun (m : Machine) (w : ℕ) (reads : Reads) (writes : Writes) (tid : ℕ) (pen : PenView) : Type 0 where
-  pub enabled : AreEnabled m (section w reads writes)
-  pub committed : HasCommitted m (after_all m (section w reads writes)) w writes tid
-  pub newest : HasNewest (after_all m (section w reads writes)) pen
-  pub woven : MayBeWoven m w (section w reads writes)
+-- events that a machine may do one after another, so that this holds at their end; others may do theirs between
+pub record IsRunTo (m : Machine) (w : ℕ) (events : List Event) (End : Machine → Type 0) : Type 0 where
+  pub enabled : AreEnabled m events
+  pub ends : End (after_all m events)
+  pub woven : MayBeWoven m w events
+
+-- a commit with this TID is such a run, after which the machine has the newest versions again
+abbrev pub IsCommitRun : Machine → ℕ → Reads → Writes → ℕ → PenView → Type 0
+IsCommitRun m w reads writes tid pen =
+    IsRunTo m w (section w reads writes) (λ end. HasCommitted m end w writes tid × HasNewest end pen)
 
 -- one that finds no TID is a run too, in which the worker fails
-pub record IsFullRun (m : Machine) (w : ℕ) (reads : Reads) (writes : Writes) : Type 0 where
-  pub enabled : AreEnabled m (full_section w reads writes)
-  pub failed : HasFailed m (after_all m (full_section w reads writes)) w
-  pub woven : MayBeWoven m w (full_section w reads writes)
+abbrev pub IsFullRun : Machine → ℕ → Reads → Writes → Type 0
+IsFullRun m w reads writes = IsRunTo m w (full_section w reads writes) (λ end. HasFailed m end w)
 
 -- and so is one that isn't current, which fails at the first read that isn't
-pub record IsStaleRun (m : Machine) (w : ℕ) (reads : Reads) (writes : Writes) : Type 0 where
-  pub first : IsStale m reads
-  pub enabled : AreEnabled m (stale_section w first.passed first.at writes)
-  pub failed : HasFailed m (after_all m (stale_section w first.passed first.at writes)) w
-  pub woven : MayBeWoven m w (stale_section w first.passed first.at writes)
+abbrev pub IsStaleRun : Machine → ℕ → Reads → Writes → Type 0
+IsStaleRun m w reads writes = (first : IsStale m reads)
+    × IsRunTo m w (stale_section w first.passed first.at writes) (λ end. HasFailed m end w)
 
 -- the refusals that are runs of the machine, which has no event for the others
 pub record IsFailedRun (m : Machine) (w : ℕ) (reads : Reads) (writes : Writes) (refusal : Refusal) : Type 0 where

@@ -4,6 +4,7 @@ use crate::entry::Entry;
 use crate::history_rows::added_rows;
 use crate::run::Run;
 use crate::share::Share;
+use board::BookSeat;
 use cells::{Newest, Pen};
 use conditions::{Report, check};
 use encoding::tables_of;
@@ -17,8 +18,9 @@ use tidword::TidWord;
 
 /// The committed state, which stands under the engine's lock: the newest version of each record, by record number,
 /// and what has committed. The committed tables are what these tell, and are kept nowhere. Its type keeps `IsSound` of
-/// what contracts see of it, that it is ready for the next commit, that it has each terminal's last TID, and that the
-/// terminals' shares sum to the length of the history.
+/// what contracts see of it, that it is ready for the next commit, that it has each terminal's last TID, that the
+/// terminals' shares sum to the length of the history, and that its seat of the board has counted each commit of the
+/// history, with its epoch.
 #[derive(Drop)]
 pub struct Book<K: Run> {
     pub(crate) pen: Pen,
@@ -27,6 +29,7 @@ pub struct Book<K: Run> {
     pub(crate) history: Vec<Entry>,
     pub(crate) lasts: Vec<TidWord>,
     pub(crate) shares: ledger::Book<K>,
+    pub(crate) seat: BookSeat,
 }
 
 impl<K: Run> Model for Book<K> {
@@ -36,17 +39,18 @@ impl<K: Run> Model for Book<K> {
     ghost use Rattle.book.specs.History.{replay};
     ghost use Rattle.book.specs.Book.{BookView, IsSound};
     ghost use Rattle.book.specs.Ready.{IsReady, AreLast, AreNewest};
+    ghost use Rattle.book.specs.Epochs.{HasCounted, found_epoch};
 
     ghost Value = { BookView };
 
-    ghost view = { λ b. record { written = b.pen; history = b.history.items } };
+    ghost view = { λ b. record { written = b.pen; history = b.history.items; seat = b.seat } };
 
-    ghost invariant = { λ b. let kept : BookView = record { written = b.pen; history = b.history.items } in
-        IsSound K.first kept (replay K.first b.history.items)
-        × IsReady K.first K.cells kept (replay K.first b.history.items)
+    ghost invariant = { λ b. IsSound K.first b.pen b.history.items (replay K.first b.history.items)
+        × IsReady K.first K.cells (found_epoch b.seat) b.pen b.history.items (replay K.first b.history.items)
         × AreNewest b.pen b.newest.items × (initial (arc_value b.population) ≡ K.first)
         × (b.shares.total ≡ length b.history.items)
-        × AreLast K.parts b.history.items b.lasts.items };
+        × AreLast K.parts b.history.items b.lasts.items
+        × (b.seat.board ≡ K.board) × HasCounted b.seat b.history.items };
 }
 
 impl<K: Run> Book<K> {
@@ -58,14 +62,17 @@ impl<K: Run> Book<K> {
     ghost use Rattle.conditions.specs.Report.{IsReportOf, IsGood};
     ghost use Rattle.book.specs.History.{replay};
     ghost use Rattle.book.specs.Book.{IsSound};
+    ghost use Rattle.book.specs.Epochs.{HasCounted};
 
     /// What has committed, in order. Takes no memory.
     ///
     /// The committed tables, `replay K.first` of it, meet the conditions, and each entry's reply is the one that
-    /// its transaction has at its place in the order.
+    /// its transaction has at its place in the order. The book's seat of the board has counted as many commits, each
+    /// with its epoch.
     pub fn history(&self) -> &[Entry]
         ensures history { result.now ≡ self.now.history }
-        ensures sound { IsSound K.first self.now (replay K.first self.now.history) }
+        ensures counted { HasCounted self.now.seat self.now.history }
+        ensures sound { IsSound K.first self.now.written self.now.history (replay K.first self.now.history) }
     {
         self.history.as_slice()
     }
@@ -83,7 +90,7 @@ impl<K: Run> Book<K> {
     /// the history. `OutOfMemory` is the only refusal.
     pub fn tables(&self) -> Result<Tables, Refusal>
         ensures tables { IfOk result (λ tables. database tables ≡ replay K.first self.now.history) }
-        ensures sound { IfOk result (λ tables. IsSound K.first self.now (database tables)) }
+        ensures sound { IfOk result (λ tables. IsSound K.first self.now.written self.now.history (database tables)) }
         ensures only_memory { IfErr result (λ refusal. refusal ≡ OutOfMemory) }
     {
         let alloc = *self.history.allocator();

@@ -6,18 +6,18 @@ ghost use Rattle.commit.specs.Machine.{Machine};
 ghost use Rattle.cells.specs.Records.{HasGrown};
 ghost use Rattle.book.specs.History.{replay, CommitsAt};
 ghost use Rattle.book.specs.Stamps.{tid_for};
-ghost use Rattle.book.specs.declared.epoch.TheConstants.{EPOCH as the_epoch};
-ghost use Rattle.book.specs.Book.{AreLatest, HasConflict, HasSeen, IsWorkOf, Commits, entry_of};
+ghost use Rattle.book.specs.Epochs.{CountsCommit, LoadsEpoch, found_epoch};
+ghost use Rattle.book.specs.Book.{AreLatest, HasConflict, HasSeen, IsAsBefore, IsWorkOf, Commits, entry_of};
 ghost use Rattle.book.specs.Next.{IsNextCommit, IsRefusedAt};
 ghost use Rattle.book.specs.Shows.{Mirrors, IsCommitRun, IsFailedRun, reads_of};
 
 use crate::book::Book;
 use crate::entry::{Done, Entry};
-use crate::epoch::EPOCH;
 use crate::prepare::{Prepared, prepare};
 use crate::run::Run;
 use crate::share::Share;
 use crate::steps::{in_order, store, validate};
+use board::Board;
 use cells::{Cells, Reader};
 use money::Refusal;
 use readset::Work;
@@ -29,9 +29,10 @@ impl<K: Run> Book<K> {
     /// constant time, amortized, for the history. May wait, at a record's cell alone.
     ///
     /// Where the versions read are the latest, the transaction is done at the committed tables: its reply and its
-    /// writes are those of its definition there, though it may be refused. Its TID is the least of the epoch that is
-    /// larger than all TIDs that it has read and than its terminal's last (`next_tid`). After Ok its input is the next
-    /// commit, and the reader has seen the versions stored.
+    /// writes are those of its definition there, though it may be refused. Its TID is the least of the epoch E that is
+    /// larger than all TIDs that it has read and than its terminal's last (`next_tid`). This call loads E from the
+    /// board, before it looks at the first version. After Ok its input is the next commit, the board has counted it
+    /// with this E, and the reader has seen the versions stored.
     ///
     /// To a machine of the commit protocol that shows the book to the terminal as any one of its workers, the commit is
     /// a run: the worker locks what it writes, reads the epoch, validates, takes this TID and installs, or fails at the
@@ -42,23 +43,28 @@ impl<K: Run> Book<K> {
     ///
     /// `Conflict` exactly where a version read isn't its record's latest; then `CommitsFull` exactly at the commit
     /// cap; then `EpochFull` exactly where `next_tid` has no TID, which doesn't happen: the commit cap comes first;
-    /// then `OutOfMemory`. A refusal drops the work, and book and share are as before; the reader may have seen more.
+    /// then `OutOfMemory`. A refusal drops the work, and records, history and share are as before; the reader may have
+    /// seen more, and the book's seat has loaded E.
     pub fn commit<R: Wait>(
         &mut self,
         rt: &R,
+        board: &Board,
         cells: &Cells,
         reader: &mut Reader,
         share: &mut Share<K>,
         work: Work,
     ) -> Result<Done, Refusal>
+        requires board { board.now ≡ K.board }
         requires cells { cells.now ≡ K.cells }
         requires reader { reader.old.cells ≡ K.cells }
         requires work { IsWorkOf K.first (length K.cells) reader.old work }
         ensures reader { HasGrown reader.old reader.new }
+        ensures epoch { MatchResult result (λ done. CountsCommit self.old.seat self.new.seat)
+            (λ refusal. LoadsEpoch self.old.seat self.new.seat) }
         ensures answer { MatchResult result
             (λ done. AreLatest self.old.written.all work.reads
             × (length self.old.history < K.first.scale.commits)
-            × (tid_for self.old.history share.old.terminal the_epoch work.reads ≡ Some done.tid)
+            × (tid_for self.old.history share.old.terminal (found_epoch self.new.seat) work.reads ≡ Some done.tid)
             × Commits self.old self.new (entry_of (length self.old.history + 1) done.tid share.old.terminal work)
             × (done.number ≡ length self.old.history + 1) × (done.reply ≡ work.reply)
             × (share.new ≡ record {
@@ -69,26 +75,27 @@ impl<K: Run> Book<K> {
             })
             × HasSeen reader.new self.new.written work.writes
             × CommitsAt (replay K.first self.old.history) work.input work.writes work.reply)
-            (λ refusal. (self.new ≡ self.old) × (share.new ≡ share.old)
+            (λ refusal. IsAsBefore self.old self.new × (share.new ≡ share.old)
             × (((refusal ≡ Conflict) × HasConflict self.old.written.all work.reads)
             ⊎ (AreLatest self.old.written.all work.reads
             × CommitsAt (replay K.first self.old.history) work.input work.writes work.reply
             × (((refusal ≡ CommitsFull) × (K.first.scale.commits ≤ length self.old.history))
             ⊎ ((refusal ≡ EpochFull) × (length self.old.history < K.first.scale.commits)
-            × (tid_for self.old.history share.old.terminal the_epoch work.reads ≡ None))
+            × (tid_for self.old.history share.old.terminal (found_epoch self.new.seat) work.reads ≡ None))
             ⊎ ((refusal ≡ OutOfMemory) × (length self.old.history < K.first.scale.commits)
-            × IsSome (tid_for self.old.history share.old.terminal the_epoch work.reads)))))) }
+            × IsSome (tid_for self.old.history share.old.terminal (found_epoch self.new.seat) work.reads)))))) }
         ensures next { IfOk result (IsNextCommit K.first self.old.history self.new.history work.input) }
         ensures refused { IfErr result (λ refusal. (refusal ≡ Conflict) ⊎ (refusal ≡ OutOfMemory)
             ⊎ IsRefusedAt (replay K.first self.old.history) (length self.old.history) work.input refusal) }
-        ensures section { (m : Machine) (w : ℕ) → Mirrors self.old share.old.terminal the_epoch work.reads m w
+        ensures section { (m : Machine) (w : ℕ)
+            → Mirrors self.old share.old.terminal (found_epoch self.new.seat) work.reads m w
             → MatchResult result
             (λ done. IsCommitRun m w (reads_of work.reads) work.writes.values done.tid self.new.written)
             (λ refusal. IsFailedRun m w (reads_of work.reads) work.writes.values refusal) }
         ensures cap_first { IfErr result (λ refusal. refusal ≢ EpochFull) }
     {
         in_order(&work);
-        let epoch = EPOCH;
+        let epoch = board.epoch(&mut self.seat);
         let Some(seen) = validate(rt, cells, &mut self.pen, reader, &work) else {
             return Err(Refusal::Conflict);
         };
@@ -96,7 +103,7 @@ impl<K: Run> Book<K> {
         let last = self.lasts[share.terminal as usize];
         let Prepared { tid, writes, reply } = match prepare(
             cap,
-            epoch,
+            epoch as u32,
             &mut self.history,
             seen,
             last,
@@ -125,6 +132,7 @@ impl<K: Run> Book<K> {
         });
         self.lasts[share.terminal as usize] = tid;
         self.shares.add(&mut share.part, 1);
+        board.commit_step(&mut self.seat, epoch);
         Ok(Done::of(number, tid, reply))
     }
 }

@@ -4,7 +4,11 @@ ghost use Rattle.std.specs.Arc.{arc_value};
 ghost use Rattle.money.specs.declared.refusal.Refusal.TheVariants.{OutOfMemory};
 ghost use Rattle.population.specs.Initial.{initial};
 ghost use Rattle.tables.specs.Records.{record_count};
-ghost use Rattle.book.specs.Parts.{IsFresh, first_of, cells_of, ledger_name, ledger_parts, loggers_of, terminals_of};
+ghost use Rattle.board.specs.declared.rule.Role.TheVariants.{Clock, Terminal};
+ghost use Rattle.board.specs.Seats.{new_seat};
+ghost use Rattle.board.specs.Opening.{logger_seats};
+ghost use Rattle.book.specs.Parts.{IsFresh, first_of, cells_of, board_of, ledger_name, ledger_parts};
+ghost use Rattle.book.specs.Parts.{loggers_of, terminals_of};
 ghost use Rattle.book.specs.declared.engine.TheConstants.{MAX_LOGGERS as the_most_loggers};
 ghost use Rattle.book.specs.declared.engine.TheConstants.{MAX_TERMINALS as the_most_terminals};
 
@@ -12,6 +16,7 @@ use crate::book::Book;
 use crate::entry::Entry;
 use crate::run::Run;
 use crate::share::Share;
+use board::{Board, BoardSeats, ClockSeat, LoggerSeat, TerminalSeat};
 use cells::{Cells, Newest, Pen, Reader};
 use encoding::newest_of;
 use money::Refusal;
@@ -34,7 +39,8 @@ pub struct Parts {
     pen: Pen,
     readers: Vec<Reader>,
     blank: Blank,
-    loggers: u16,
+    board: Board,
+    seats: BoardSeats,
 }
 
 /// The most loggers, and the most terminals.
@@ -44,8 +50,8 @@ pub const MAX_TERMINALS: u16 = 16;
 
 impl Parts {
     /// The parts of an engine over this population, for 1 to 8 loggers and 1 to 16 terminals, of which each gets a
-    /// seat. Costs what `newest_of` and `Cells::new` cost: a pass over the tables, and a step a record and terminal.
-    /// May wait, at a record's cell alone.
+    /// seat, with a board at epoch 1. Costs what `newest_of` and `Cells::new` cost: a pass over the tables, and a step
+    /// a record and terminal. May wait, at a record's cell alone.
     ///
     /// # Errors
     ///
@@ -68,6 +74,7 @@ impl Parts {
         let newest = newest_of(alloc, &population)?;
         let (cells, pen, readers) = Cells::new(rt, alloc, &newest, terminals as usize)?;
         let (population, lent) = shared(alloc, population)?;
+        let (board, seats) = Board::new(alloc, u64::from(loggers), u64::from(terminals))?;
         Ok(Parts {
             population,
             lent,
@@ -78,7 +85,8 @@ impl Parts {
             pen,
             readers,
             blank: Blank::new(u64::from(terminals)),
-            loggers,
+            board,
+            seats,
         })
     }
 }
@@ -98,12 +106,13 @@ fn shared(
     Ok((one, other))
 }
 
-/// An engine: the population, the record cells, which terminals read without a lock, and the book under one lock
-/// (Silo, section 4.1). Contracts see nothing of it but that it is of the run that `K` names.
+/// An engine: the population, the record cells, which terminals read without a lock, the board of epoch words, and the
+/// book under one lock (Silo, section 4.1). Contracts see nothing of it but that it is of the run that `K` names.
 #[derive(Drop)]
 pub struct Engine<K: Run> {
     population: Arc<Population, Global>,
     cells: Cells,
+    board: Board,
     book: Mutex<Book<K>>,
 }
 
@@ -118,18 +127,20 @@ impl<K: Run> Model for Engine<K> {
     ghost view = { λ e. tt };
 
     ghost invariant = { λ e. (initial (arc_value e.population) ≡ K.first) × (e.cells ≡ K.cells)
-        × (length K.cells ≡ record_count K.first.scale) };
+        × (length K.cells ≡ record_count K.first.scale) × (e.board ≡ K.board) };
 }
 
 impl<K: Run> Engine<K> {
-    /// An engine in which nothing has committed, which an audit of the whole share tells, and its terminals' seats.
-    /// Takes no memory.
+    /// An engine in which nothing has committed, which an audit of the whole share tells, and its seats. Takes no
+    /// memory.
     pub fn open(parts: Parts) -> (Engine<K>, Seats<K>)
         requires fresh { IsFresh parts }
-        requires run { (first_of parts ≡ K.first) × (cells_of parts ≡ K.cells) }
+        requires run { (first_of parts ≡ K.first) × (cells_of parts ≡ K.cells) × (board_of parts ≡ K.board) }
         requires ledger { (ledger_name parts ≡ K.name) × (ledger_parts parts ≡ K.parts) }
-        ensures left { result.1.left ≡ terminals_of parts }
-        ensures given { result.1.given ≡ 0 }
+        ensures clock { result.1.clock ≡ new_seat K.board Clock }
+        ensures loggers { result.1.loggers.items ≡ logger_seats K.board K.board.plan.loggers }
+        ensures left { result.1.terminals.left ≡ terminals_of parts }
+        ensures given { result.1.terminals.given ≡ 0 }
     {
         let Parts {
             population,
@@ -141,8 +152,15 @@ impl<K: Run> Engine<K> {
             pen,
             readers,
             blank,
-            loggers: _,
+            board,
+            seats,
         } = parts;
+        let BoardSeats {
+            book: seat,
+            clock,
+            loggers,
+            terminals,
+        } = seats;
         // The accessor's contract says that the commit cap is at most 600,000.
         let _ = population.scale().commits();
         let (shares, share) = blank.open::<K>();
@@ -153,16 +171,24 @@ impl<K: Run> Engine<K> {
             history,
             lasts,
             shares,
+            seat,
         };
         let engine = Engine {
             population,
             cells,
+            board,
             book: Mutex::new(book),
         };
-        let seats = Seats {
+        let terminals = TerminalSeats {
             readers,
+            seats: terminals,
             share,
             given: 0,
+        };
+        let seats = Seats {
+            clock,
+            loggers,
+            terminals,
         };
         (engine, seats)
     }
@@ -182,6 +208,13 @@ impl<K: Run> Engine<K> {
         &self.cells
     }
 
+    /// The board of epoch words.
+    pub fn board(&self) -> &Board
+        ensures { result.now ≡ K.board }
+    {
+        &self.board
+    }
+
     /// The book, once no other thread has it. While the lock is free, the committed tables are consistent and are
     /// the history's serial replay: the type of `Book` keeps it.
     pub fn lock<R: Wait>(&self, rt: &R) -> MutexGuard<'_, Book<K>> {
@@ -189,16 +222,27 @@ impl<K: Run> Engine<K> {
     }
 }
 
-/// What the terminals of an engine are given: a reader and a share each.
+/// The seats of an engine: what the clock, each logger, in order of their numbers, and each terminal are given.
 #[derive(Drop)]
 pub struct Seats<K: Run> {
+    pub clock: ClockSeat,
+    pub loggers: Vec<LoggerSeat>,
+    pub terminals: TerminalSeats<K>,
+}
+
+/// What the terminals of an engine are given: a reader, a seat of the board and a share each.
+#[derive(Drop)]
+pub struct TerminalSeats<K: Run> {
     readers: Vec<Reader>,
+    seats: Vec<TerminalSeat>,
     share: ledger::Share<K>,
     given: u16,
 }
 
-impl<K: Run> Model for Seats<K> {
+impl<K: Run> Model for TerminalSeats<K> {
     ghost use Rattle.std.specs.Prelude.{◌≡◌, ◌+◌, ◌<◌, ◌^◌, length, All};
+    ghost use Rattle.board.specs.declared.rule.Role.TheVariants.{Terminal};
+    ghost use Rattle.board.specs.Seats.{new_seat};
     ghost use Rattle.book.specs.Seats.{SeatsView};
 
     ghost Value = { SeatsView };
@@ -206,6 +250,8 @@ impl<K: Run> Model for Seats<K> {
     ghost view = { λ s. record { left = length s.readers.items; given = s.given } };
 
     ghost invariant = { λ s. All (λ reader. reader.cells ≡ K.cells) s.readers.items
+        × All (λ seat. seat ≡ new_seat K.board Terminal) s.seats.items
+        × (length s.seats.items ≡ length s.readers.items)
         × (s.share.parts ≡ length s.readers.items) × (s.share.amount ≡ 0) × (s.given + length s.readers.items ≡ K.parts)
         × (K.parts < 2 ^ 16) };
 }
@@ -214,24 +260,29 @@ impl<K: Run> Model for Seats<K> {
 #[derive(Drop)]
 pub struct Seat<K: Run> {
     pub reader: Reader,
+    pub board: TerminalSeat,
     pub share: Share<K>,
 }
 
-impl<K: Run> Seats<K> {
+impl<K: Run> TerminalSeats<K> {
     /// The next terminal's seat, while there is one. Terminals are numbered from 0. Takes no memory.
     pub fn next(&mut self) -> Option<Seat<K>>
-        ensures seat { IfSome result (λ seat. (seat.reader.cells ≡ K.cells)
+        ensures seat { IfSome result (λ seat. (seat.reader.cells ≡ K.cells) × (seat.board ≡ new_seat K.board Terminal)
             × (seat.share ≡ record { terminal = self.old.given; parts = 1; commits = 0 })) }
         ensures left { IfSome result (λ seat. (self.old.left ≡ self.new.left + 1)
             × (self.new.given ≡ self.old.given + 1)) }
         ensures none { IfNone result ((self.old.left ≡ 0) × (self.new ≡ self.old)) }
     {
         let reader = self.readers.pop()?;
+        let Some(board) = self.seats.pop() else {
+            unreachable!()
+        };
         let part = self.share.split_off(1, 0);
         let terminal = self.given;
         self.given = terminal + 1;
         Some(Seat {
             reader,
+            board,
             share: Share { part, terminal },
         })
     }

@@ -10,7 +10,6 @@ mod confirming;
 mod decided;
 mod engine;
 mod entry;
-mod epoch;
 mod history_rows;
 mod prepare;
 mod run;
@@ -20,7 +19,7 @@ mod steps;
 
 pub use book::Book;
 pub use decided::every_decided_run_is_legal;
-pub use engine::{Engine, MAX_LOGGERS, MAX_TERMINALS, Parts, Seat, Seats};
+pub use engine::{Engine, MAX_LOGGERS, MAX_TERMINALS, Parts, Seat, Seats, TerminalSeats};
 pub use entry::{Done, Entry};
 pub use run::Run;
 pub use share::Share;

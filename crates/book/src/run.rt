@@ -3,20 +3,25 @@
 use std::marker::Brand;
 use std::sync::ledger::Ledger;
 
-/// Names one run: the tables that it began with, its record cells, and, as a `Ledger`, its terminals' shares.
+/// Names one run: the tables that it began with, its record cells, its board of epoch words, and, as a `Ledger`, its
+/// terminals' shares.
 pub trait Run: Ledger {
     ghost use Rattle.std.specs.Prelude.{List};
     ghost use Rattle.atomic_table.specs.Seated.{TableId};
     ghost use Rattle.tables.specs.Database.{Database};
+    ghost use Rattle.board.specs.Seats.{BoardView};
 
     /// The tables that the run began with.
     ghost first: { Database };
 
     /// The cells of its records, by record number.
     ghost cells: { List TableId };
+
+    /// Its board.
+    ghost board: { BoardView };
 }
 
-/// Only so that there is one: a call at `Brand` names its own tables and cells.
+/// Only so that there is one: a call at `Brand` names its own tables, cells and board.
 impl Run for Brand {
     ghost use Rattle.std.specs.Prelude.{[]};
     ghost use Rattle.tables.specs.Sizes.{sizes};
@@ -25,4 +30,17 @@ impl Run for Brand {
     ghost first = { empty_database (sizes 1 1 10 20 10 1) };
 
     ghost cells = { [] };
+
+    ghost board = { record {
+      table = record {
+        words = 0;
+        slots = 0;
+        views_name = 0;
+        atom = 0;
+        block = 0;
+        offset = 0;
+        slot_names = [];
+      };
+      plan = record { loggers = 1; base = 0 };
+    } };
 }

@@ -6,7 +6,7 @@ ghost use Rattle.book.specs.Parts.{IsFresh, cells_of};
 use crate::payments::payment;
 use crate::stage::small;
 use crate::told::{Told, told_of};
-use book::{Done, Engine, Parts, Run, Seat, Seats};
+use book::{Done, Engine, Parts, Run, Seat, TerminalSeats};
 use money::Refusal;
 use readset::Work;
 use std::alloc::Global;
@@ -23,7 +23,7 @@ pub(crate) fn parts<R: Wait>(rt: &R, alloc: Global) -> Result<Parts, Refusal>
 }
 
 /// The seats of the two terminals.
-pub(crate) fn both_of<K: Run>(seats: &mut Seats<K>) -> Option<(Seat<K>, Seat<K>)>
+pub(crate) fn both_of<K: Run>(seats: &mut TerminalSeats<K>) -> Option<(Seat<K>, Seat<K>)>
     ensures left { IfSome result (λ both. both.0.reader.cells ≡ K.cells) }
     ensures right { IfSome result (λ both. both.1.reader.cells ≡ K.cells) }
 {
@@ -102,8 +102,9 @@ pub(crate) fn commit_executed<K: Run, R: Wait>(
         work,
     } = executed;
     let mut book = engine.lock(rt);
+    let (board, cells) = (engine.board(), engine.cells());
     let committed = book
-        .commit(rt, engine.cells(), &mut seat.reader, &mut seat.share, work)
+        .commit(rt, board, cells, &mut seat.reader, &mut seat.share, work)
         .map(|done| told_at(&done));
     drop(book);
     (seat, input, committed)
@@ -125,11 +126,11 @@ pub(crate) fn attempt<K: Run, R: Wait>(
     requires input { IsInput K.first.scale input.now }
     ensures reader { seat.new.reader.cells ≡ K.cells }
 {
-    let (cells, population) = (engine.cells(), engine.population());
+    let (board, cells, population) = (engine.board(), engine.cells(), engine.population());
     match execute(rt, alloc, cells, &mut seat.reader, population, input) {
         Ok(work) => engine
             .lock(rt)
-            .commit(rt, cells, &mut seat.reader, &mut seat.share, work)
+            .commit(rt, board, cells, &mut seat.reader, &mut seat.share, work)
             .map(|done| told_at(&done)),
         Err(refusal) => Err(engine.lock(rt).confirmed(input, refusal)),
     }

@@ -12,6 +12,8 @@ mod delivery_tests;
 #[cfg(test)]
 mod engine;
 #[cfg(test)]
+mod epoch_tests;
+#[cfg(test)]
 mod new_order_tests;
 #[cfg(test)]
 mod new_orders;

@@ -21,9 +21,9 @@ use Rattle.readset.specs.Reads.{ReadSetView, held}
 use Rattle.readset.specs.Writes.{WriteSetView, puts, left_at}
 use Rattle.readset.specs.Changes.{Holds}
 use Rattle.readset.specs.Explains.{IsCandidate, NoCandidate}
-use Rattle.readset.specs.Transaction.{TransactionView, ReadsMore}
+use Rattle.readset.specs.Transaction.{TransactionView, ReadsMore, GoesOn}
 use Rattle.readset.proofs.LeftIs.{left_is}
-use Rattle.readset.proofs.UnderWay.{candidate_still}
+use Rattle.readset.proofs.UnderWay.{candidate_still, goes_on, goes_on_twice}
 use Rattle.neworder.specs.Steps.{after_lines, AreTaken}
 use Rattle.neworder.specs.Drawn.{IsStockUpTo, NoneDrawable}
 use Rattle.neworder.proofs.HoldsSteps.{holds_lined}
@@ -118,3 +118,9 @@ module _ (t0 : Database) (x : NewOrderInput) (order : OrderKey) (ls : List Reque
             (λ i. puts (puts read.writes (number_of_key (s i) (key.OrderLine (line_key (named i) (length ls + 1)))) (Some (row_is i)))
             (number_of_key (s i) (key.Stock (stock_key l))) (Some (drew t h i)))
             (holds_lined t x read.writes ls l m.0 at_key at_line there m.1 (still t h))
+
+-- the steps of a line: its two reads, and two writes
+pub line_steps : (old read put last : TransactionView) → ReadsMore 2 old read → GoesOn 0 1 read put → GoesOn 0 1 put last → GoesOn 2 2 old last
+line_steps old read put last reads first then = goes_on_twice old put last 2 1 0 1 2 2
+    (goes_on_twice old read put 2 0 0 1 2 1 (goes_on 2 0 old read reads) first (omega arith) (omega arith))
+    then (omega arith) (omega arith)

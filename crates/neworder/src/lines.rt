@@ -41,7 +41,7 @@ pub(crate) fn take_lines<R: Wait, K: Start>(
     ensures goes_on { GoesOn (2 * length order.now.lines) (2 * length order.now.lines)
         transaction.old transaction.new }
 {
-    let mut supplied = Vec::new(alloc);
+    let mut supplied = Vec::with_capacity(alloc, amounts.len())?;
     let mut number = 0;
     for line in order.lines.as_slice() {
         let amount = amounts[number as usize];

@@ -41,7 +41,9 @@ pub(crate) fn price_lines(
     requires count { length lines.now ≤ MAX_ORDER_LINES }
     ensures { IsPricing (initial population.now) lines.now result }
 {
-    let mut amounts = Vec::new(alloc);
+    let Ok(mut amounts) = Vec::with_capacity(alloc, lines.len()) else {
+        return Pricing::OutOfMemory;
+    };
     let mut sum = Cents::new(0);
     for line in lines {
         let Some(amount) = price_line(population, line) else {

@@ -24,18 +24,9 @@ pub(crate) fn reply_to(
     requires high { sum ≤ℤ pos 1500000 }
     ensures { result ≡ order_reply_of (initial population.now) order.now key sum supplied.items }
 {
-    let home = DistrictKey {
-        warehouse: order.warehouse,
-        district: order.district,
-    };
-    let buyer = CustomerKey {
-        warehouse: order.warehouse,
-        district: order.district,
-        customer: order.customer,
-    };
-    let discount = discount_of(population, &buyer);
+    let discount = discount_of(population, order);
     let warehouse_tax = warehouse_tax_of(population, order.warehouse);
-    let district_tax = district_tax_of(population, &home);
+    let district_tax = district_tax_of(population, order);
     NewOrderReply {
         warehouse: order.warehouse,
         district: order.district,
@@ -47,11 +38,16 @@ pub(crate) fn reply_to(
     }
 }
 
-/// C_DISCOUNT.
-fn discount_of(population: &Population, key: &CustomerKey) -> Rate
-    ensures { result ≡ discount (initial population.now) key.now }
+/// C_DISCOUNT of an order's customer.
+fn discount_of(population: &Population, order: &NewOrderInput) -> Rate
+    ensures { result ≡ discount (initial population.now) (buyer order.now) }
 {
-    match population.tables().customers.get(key) {
+    let buyer = CustomerKey {
+        warehouse: order.warehouse,
+        district: order.district,
+        customer: order.customer,
+    };
+    match population.tables().customers.get(&buyer) {
         Some(row) => row.discount,
         None => no_rate(),
     }
@@ -67,11 +63,15 @@ fn warehouse_tax_of(population: &Population, warehouse: u32) -> Rate
     }
 }
 
-/// D_TAX.
-fn district_tax_of(population: &Population, key: &DistrictKey) -> Rate
-    ensures { result ≡ district_tax (initial population.now) key.now }
+/// D_TAX of an order's district.
+fn district_tax_of(population: &Population, order: &NewOrderInput) -> Rate
+    ensures { result ≡ district_tax (initial population.now) (home order.now) }
 {
-    match population.tables().districts.get(key) {
+    let home = DistrictKey {
+        warehouse: order.warehouse,
+        district: order.district,
+    };
+    match population.tables().districts.get(&home) {
         Some(row) => row.tax,
         None => no_rate(),
     }

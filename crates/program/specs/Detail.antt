@@ -9,8 +9,7 @@ use Rattle.tables.specs.declared.limits.TheConstants.{MIN_ITEMS, MAX_ITEMS, MAX_
 use Rattle.tables.specs.Sizes.{Sizes}
 
 -- `--orders is 9: it is to be from 10 (the customers) to 100000`, with a line feed. The note says whose number the
--- lower
--- limit is
+-- lower limit is
 abbrev pub limit_line : List ℕ → ℕ → ℕ → List ℕ → ℕ → List ℕ
 limit_line option number low note high =
     codes "--" ++ (option ++ (codes " is " ++ (decimal number ++ (codes ": it is to be from "

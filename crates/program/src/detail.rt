@@ -43,34 +43,37 @@ pub(crate) fn detail_of<R, W>(
 fn scale_detail(alloc: Global, options: &Options) -> Result<String, AllocError>
     ensures { IfOk result (λ line. string_bytes line ≡ scale_line (scale_of options.now)) }
 {
-    let Options {
-        warehouses,
-        districts,
-        customers,
-        items,
-        orders,
-        commits,
-        ..
-    } = *options;
-    if !is_between(1, MAX_WAREHOUSES, warehouses) {
-        return limit_detail(alloc, "warehouses", warehouses, (1, ""), MAX_WAREHOUSES);
+    if !is_between(1, MAX_WAREHOUSES, options.warehouses) {
+        return limit_detail(
+            alloc,
+            "warehouses",
+            options.warehouses,
+            (1, ""),
+            MAX_WAREHOUSES,
+        );
     }
-    if !is_between(1, MAX_DISTRICTS, districts) {
-        return limit_detail(alloc, "districts", districts, (1, ""), MAX_DISTRICTS);
+    if !is_between(1, MAX_DISTRICTS, options.districts) {
+        return limit_detail(
+            alloc,
+            "districts",
+            options.districts,
+            (1, ""),
+            MAX_DISTRICTS,
+        );
     }
-    if !is_between(MIN_CUSTOMERS, MAX_CUSTOMERS, customers) {
+    if !is_between(MIN_CUSTOMERS, MAX_CUSTOMERS, options.customers) {
         let least = (MIN_CUSTOMERS, "");
-        return limit_detail(alloc, "customers", customers, least, MAX_CUSTOMERS);
+        return limit_detail(alloc, "customers", options.customers, least, MAX_CUSTOMERS);
     }
-    if !is_between(MIN_ITEMS, MAX_ITEMS, items) {
-        return limit_detail(alloc, "items", items, (MIN_ITEMS, ""), MAX_ITEMS);
+    if !is_between(MIN_ITEMS, MAX_ITEMS, options.items) {
+        return limit_detail(alloc, "items", options.items, (MIN_ITEMS, ""), MAX_ITEMS);
     }
-    if !is_between(customers, MAX_ORDERS, orders) {
-        let least = (customers, " (the customers)");
-        return limit_detail(alloc, "orders", orders, least, MAX_ORDERS);
+    if !is_between(options.customers, MAX_ORDERS, options.orders) {
+        let least = (options.customers, " (the customers)");
+        return limit_detail(alloc, "orders", options.orders, least, MAX_ORDERS);
     }
-    if !is_between(1, MAX_COMMITS, commits) {
-        return limit_detail(alloc, "commits", commits, (1, ""), MAX_COMMITS);
+    if !is_between(1, MAX_COMMITS, options.commits) {
+        return limit_detail(alloc, "commits", options.commits, (1, ""), MAX_COMMITS);
     }
     Ok(String::new(alloc))
 }

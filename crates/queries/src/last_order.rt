@@ -138,7 +138,7 @@ fn read_lines<R: Wait, K: Start>(
     ensures lines { Finds K.tables transaction.new result (λ lines t. lines_up_to t key count ≡ lines) }
     ensures reads { ReadsMore count transaction.old transaction.new }
 {
-    let mut lines = Vec::new(alloc);
+    let mut lines = Vec::with_capacity(alloc, count as usize)?;
     for done in 0..count {
         let line = read_line(rt, transaction, key, done + 1)?;
         push_line(&mut lines, line)?;

@@ -117,7 +117,9 @@ impl<'a, K: Start> Transaction<'a, K> {
         requires { IsRecordKey K.tables.scale key }
         ensures { result ≡ is_some (held self.now.reads (number_of_key K.tables.scale key)) }
     {
-        self.reads.held(number_of_key(&self.scale(), key)).is_some()
+        self.reads
+            .held(number_of_key(&self.population.tables().scale, key))
+            .is_some()
     }
 
     /// The words of a record, or nothing where it is absent: as it was read before, or else by a load. Costs the
@@ -136,7 +138,7 @@ impl<'a, K: Start> Transaction<'a, K> {
         ensures reads { ReadsMore 1 self.old self.new }
         ensures only_memory { IfErr result (λ refusal. refusal ≡ OutOfMemory) }
     {
-        let number = number_of_key(&self.scale(), key);
+        let number = number_of_key(&self.population.tables().scale, key);
         let version = self.reads.get(rt, self.cells, &mut self.reader, number)?;
         Ok(value_of(&version))
     }
@@ -147,8 +149,10 @@ impl<'a, K: Start> Transaction<'a, K> {
         requires { IsRecordKey K.tables.scale key }
         ensures { result ≡ left_at self.now.writes self.now.reads (number_of_key K.tables.scale key) }
     {
-        self.writes
-            .left(&self.reads, number_of_key(&self.scale(), key))
+        self.writes.left(
+            &self.reads,
+            number_of_key(&self.population.tables().scale, key),
+        )
     }
 
     /// Says what a record that was read is to hold, in the place of what was said of it before. Costs the logarithm of
@@ -167,7 +171,7 @@ impl<'a, K: Start> Transaction<'a, K> {
         ensures goes_on { GoesOn 0 1 self.old self.new }
         ensures only_memory { IfErr result (λ refusal. refusal ≡ OutOfMemory) }
     {
-        let number = number_of_key(&self.scale(), key);
+        let number = number_of_key(&self.population.tables().scale, key);
         self.writes.put(number, value)
     }
 

@@ -21,6 +21,9 @@ pub enum Answer {
     Refused { refusal: Refusal, line: u64 },
 }
 
+/// Room for nearly all answers, so that few of them have to grow.
+const ANSWER_ROOM: usize = 256;
+
 impl Answer {
     ghost use Rattle.script_text.specs.Output.{answer_text};
 
@@ -31,7 +34,8 @@ impl Answer {
         ensures err { OnErr result (string_bytes out.new ≡ string_bytes out.old) }
         ensures memory { IfErr result (λ refusal. refusal ≡ Refusal.OutOfMemory) }
     {
-        let text = format!(in *out.allocator(); "{self}\n")?;
+        let mut text = String::with_capacity(*out.allocator(), ANSWER_ROOM)?;
+        write!(text, "{self}\n")?;
         out.push_str(text.as_str())?;
         Ok(())
     }

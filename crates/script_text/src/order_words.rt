@@ -10,6 +10,7 @@ use crate::cut::split_once;
 use crate::words::{last_number, read_number};
 use money::Refusal;
 use std::alloc::Global;
+use tables::limits::MAX_ORDER_LINES;
 use tables::{Lines, RequestedLine};
 
 /// The customer that the first word of a text is, and the order's lines that the words behind it are: none where
@@ -33,7 +34,7 @@ fn read_lines(alloc: Global, text: &[u8]) -> Result<Lines<RequestedLine>, Refusa
         (IsUnread (AreNoLines (words text.now))) }
     ensures numbers { IfOk result (All HasLineNumbers) }
 {
-    let mut lines = Vec::new(alloc);
+    let mut lines = Vec::with_capacity(alloc, MAX_ORDER_LINES as usize)?;
     let mut rest = text;
     while let Some((word, more)) = split_once(rest, b' ') {
         push_line(&mut lines, word)?;

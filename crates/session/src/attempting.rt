@@ -2,6 +2,7 @@
 ghost use Rattle.std.specs.Prelude.{◌≡◌, ◌⊎◌, ◌↔◌, Err, IsTrue, length, IfOk, IfErr, OnErr};
 ghost use Rattle.money.specs.declared.refusal.Refusal.TheVariants.{OutOfMemory, Conflict, Stale};
 ghost use Rattle.tables.specs.Inputs.{IsInput};
+ghost use Rattle.book.specs.Book.{IsAsBefore};
 ghost use Rattle.book.specs.History.{replay};
 ghost use Rattle.book.specs.Next.{IsNextCommit, IsRefusedAt};
 
@@ -31,7 +32,7 @@ pub(crate) fn persist<K: Run, R: Wait>(
     ensures commits { IfOk result (IsNextCommit K.first book.old.history book.new.history input.now) }
     ensures refusals { IfErr result (λ refusal. (refusal ≡ OutOfMemory)
         ⊎ IsRefusedAt (replay K.first book.old.history) (length book.old.history) input.now refusal) }
-    ensures err { OnErr result (book.new ≡ book.old) }
+    ensures err { OnErr result (IsAsBefore book.old book.new) }
 {
     for _ in rt.forever() {
         let outcome = attempt(rt, alloc, engine, book, seat, input);
@@ -63,11 +64,11 @@ fn attempt<K: Run, R: Wait>(
     ensures commits { IfOk result (IsNextCommit K.first book.old.history book.new.history input.now) }
     ensures refusals { IfErr result (λ refusal. (refusal ≡ Stale) ⊎ (refusal ≡ Conflict) ⊎ (refusal ≡ OutOfMemory)
         ⊎ IsRefusedAt (replay K.first book.old.history) (length book.old.history) input.now refusal) }
-    ensures err { OnErr result (book.new ≡ book.old) }
+    ensures err { OnErr result (IsAsBefore book.old book.new) }
 {
-    let (cells, population) = (engine.cells(), engine.population());
+    let (board, cells, population) = (engine.board(), engine.cells(), engine.population());
     match execute(rt, alloc, cells, &mut seat.reader, population, input) {
-        Ok(work) => book.commit(rt, cells, &mut seat.reader, &mut seat.share, work),
+        Ok(work) => book.commit(rt, board, cells, &mut seat.reader, &mut seat.share, work),
         Err(refusal) => Err(book.confirmed(input, refusal)),
     }
 }

@@ -8,7 +8,7 @@ use Rattle.tables.specs.declared.limits.TheConstants.{MAX_ORDER_LINES}
 use Rattle.tables.specs.declared.records.RecordKey.TheVariants as key
 use Rattle.readset.specs.Writes.{WriteSetView, puts}
 use Rattle.readset.proofs.UnderWay.{reads_twice, goes_on, goes_on_twice}
-use Rattle.neworder.proofs.Taken.{none_taken, line_taken}
+use Rattle.neworder.proofs.Taken.{none_taken, line_taken, line_steps}
 use Rattle.neworder.proofs.lines.take_line.Goals as goal
 
 pub returns-in_default-clause-taken : goal.returns-in_default-clause-taken
@@ -38,12 +38,9 @@ returns-in_err-put-clause-goes_on g c =
 pub returns-in_err-put-2-clause-goes_on : goal.returns-in_err-put-2-clause-goes_on
 returns-in_err-put-2-clause-goes_on g c =
     let old = c.args.transaction.now in
-    let read = c.read-2.new.self in
-    goes_on_twice old c.put.new.self c.put-2.new.self 2 1 0 1 2 2
-    (goes_on_twice old read c.put.new.self 2 0 0 1 2 1
-    (goes_on 2 0 old read (reads_twice old c.read.new.self read 1 1 2 c.read.ensures.reads c.read-2.ensures.reads (omega arith)))
-    c.put.ensures.goes_on (omega arith) (omega arith))
-    c.put-2.ensures.goes_on (omega arith) (omega arith)
+    line_steps old c.read-2.new.self c.put.new.self c.put-2.new.self
+    (reads_twice old c.read.new.self c.read-2.new.self 1 1 2 c.read.ensures.reads c.read-2.ensures.reads (omega arith))
+    c.put.ensures.goes_on c.put-2.ensures.goes_on
 
 pub returns-clause-taken : goal.returns-clause-taken
 returns-clause-taken g c = λ ls told number taken.
@@ -68,9 +65,6 @@ returns-clause-taken g c = λ ls told number taken.
 pub returns-clause-goes_on : goal.returns-clause-goes_on
 returns-clause-goes_on g c =
     let old = c.args.transaction.now in
-    let read = c.read-2.new.self in
-    goes_on_twice old c.put.new.self c.put-2.new.self 2 1 0 1 2 2
-    (goes_on_twice old read c.put.new.self 2 0 0 1 2 1
-    (goes_on 2 0 old read (reads_twice old c.read.new.self read 1 1 2 c.read.ensures.reads c.read-2.ensures.reads (omega arith)))
-    c.put.ensures.goes_on (omega arith) (omega arith))
-    c.put-2.ensures.goes_on (omega arith) (omega arith)
+    line_steps old c.read-2.new.self c.put.new.self c.put-2.new.self
+    (reads_twice old c.read.new.self c.read-2.new.self 1 1 2 c.read.ensures.reads c.read-2.ensures.reads (omega arith))
+    c.put.ensures.goes_on c.put-2.ensures.goes_on

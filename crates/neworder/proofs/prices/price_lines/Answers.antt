@@ -15,4 +15,4 @@ loop-line-preserved c =
     let next = priced_next t ls i c.loop-line.amounts.items c.loop-line.sum c.loop-line.invariant line none refl c.loop-line-test.true here.there
     c.in-Some.amount here.amount here.range.0 here.range.1 in
     subst (λ (sum : ℤ). IsPricedTo t ls (i + 1) c.push.new.self.items sum) (sym c.add-sum.ensures)
-    (subst (λ (amounts : List ℤ). IsPricedTo t ls (i + 1) amounts (c.loop-line.sum +ℤ c.in-Some.amount)) (sym c.in-Ok.ensures.items) next)
+    (subst (λ (amounts : List ℤ). IsPricedTo t ls (i + 1) amounts (c.loop-line.sum +ℤ c.in-Some.amount)) (sym c.in-Ok-push.ensures.items) next)

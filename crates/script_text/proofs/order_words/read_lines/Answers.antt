@@ -8,7 +8,7 @@ use Rattle.script_text.proofs.order_words.read_lines.Goals as goal
 pub returns-in_err-push_line-clause-words : goal.returns-in_err-push_line-clause-words
 returns-in_err-push_line-clause-words c =
     let before = map line_word c.loop-word.lines.items in
-    let is : c.from_residual.result ≡ Err c.in_err-push_line.field-0.0 = search rules in
+    let is : c.from_residual-in_err-push_line.result ≡ Err c.in_err-push_line.field-0.0 = search rules in
     let whole = c.loop-word.invariant.0 ∙ ap (λ (ws : List (List ℕ)). before ++ ws) c.in-Some.ensures.parts in
     rw is (unread_whole _ (λ wrong. subst AreNoLines (sym whole) (no_lines before c.in-Some.word.now (words c.in-Some.more.now) wrong))
     c.in_err-push_line.ensures.word)

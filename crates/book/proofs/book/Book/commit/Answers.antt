@@ -1,4 +1,4 @@
-use Rattle.std.proofs.Common.{◌≡◌, ◌≢◌, ℕ, ◌+◌, ◌<◌, ◌≤◌, ◌⊎◌, Option, Some, None, IsSome, inl, List, [], ◌∷◌, ◌++◌, inr, refl, sym, ap, ◌∙◌, subst, length}
+use Rattle.std.proofs.Common.{◌≡◌, ◌≢◌, ℕ, ◌+◌, ◌<◌, ◌≤◌, ◌^◌, ◌-◌, ◌⊎◌, Option, Some, None, IsSome, inl, List, [], ◌∷◌, ◌++◌, inr, refl, sym, ap, ◌∙◌, subst, length}
 use Rattle.std.proofs.Common.{arith, rules, length-append}
 use Rattle.std.specs.Prelude.{slice_index_or, slice_set}
 use Rattle.std.proofs.lemmas.Grind.{get_or_default_zero}
@@ -10,9 +10,16 @@ use Rattle.population.specs.Initial.{initial}
 use Rattle.population.specs.declared.population.Population.{Population}
 use Rattle.cells.specs.Versions.{last_tid}
 use Rattle.cells.specs.Records.{PenView, at}
+use Rattle.cells.specs.declared.cells.Newest.{Newest}
+use Rattle.atomic_table.specs.Seated.{TableId}
+use Rattle.std.specs.Arc.{arc_value}
 use Rattle.readset.specs.Writes.{value_for}
 use Rattle.cells.proofs.Grown.{grown_twice}
 use Rattle.book.specs.Book.{BookView, AreLatest, IsSound, IsReadBy, Commits, HasSeen, entry_of}
+use Rattle.board.specs.Steps.{counted}
+use Rattle.board.specs.Seats.{BoardView, SeatView, noted}
+use Rattle.board.specs.declared.rule.WordStep.TheVariants.{LoadEpoch, CountCommit}
+use Rattle.book.specs.Epochs.{found_epoch, HasCounted}
 use Rattle.book.specs.Ready.{IsReady, AreLast, AreNewest}
 use Rattle.book.specs.History.{replay, CommitsAt, new_versions}
 use Rattle.book.specs.Stamps.{last_of, tid_for}
@@ -24,21 +31,21 @@ use Rattle.book.proofs.Newest.{given_back}
 use Rattle.book.proofs.Replaying.{replay_push}
 use Rattle.book.proofs.Sound.{done_there}
 use Rattle.book.proofs.Stamped.{lasts_next}
+use Rattle.book.proofs.Loaded.{ready_loaded, counts_on, may_count}
 use Rattle.book.proofs.Taken.{same_next, there_is, taken_above, next_kept}
 use Rattle.book.proofs.Committed.{read_by_more}
 use Rattle.book.proofs.NextCommit.{is_next}
 use Rattle.book.proofs.RefusedThere.{refused_there}
 use Rattle.book.specs.declared.entry.Entry.{Entry}
 use Rattle.book.specs.declared.entry.Done.{Done}
-use Rattle.book.specs.declared.epoch.TheConstants.{EPOCH}
 use Rattle.book.proofs.book.Book.commit.Goals as goal
 
 -- the commit cap is that of the run's first tables
 capped : (t0 : Database) {p q : Population} {s : Sizes} {n : ℕ} → n ≡ s.commits → s ≡ (initial p).scale → p ≡ q → initial q ≡ t0 → n ≡ t0.scale.commits
 capped t0 a b d e = a ∙ ap (λ (s : Sizes). s.commits) (b ∙ ap (λ (r : Population). (initial r).scale) d ∙ ap (λ (t : Database). t.scale) e)
 
-abbrev kept : PenView → List Entry → BookView
-kept pen history = record { written = pen; history = history }
+abbrev kept : PenView → List Entry → SeatView → BookView
+kept pen history seat = record { written = pen; history = history; seat = seat }
 
 -- the terminal's last TID, where the vector has it
 last_is : {terminals terminal last : ℕ} {history : List Entry} {lasts : List ℕ} → AreLast terminals history lasts → terminal < terminals
@@ -88,39 +95,73 @@ only_full refusal count cap next (inr (inr memory)) = ((λ e. never (sym memory.
 conflict_not_full : Conflict ≢ EpochFull
 conflict_not_full h = cc
 
+-- what the type of the book keeps, of its pen, its history and its seat
+abbrev Keeps : (t0 lent : Database) (run_cells : List TableId) (run : BoardView) (parts total : ℕ) (newest : List Newest) (lasts : List ℕ)
+    → PenView × List Entry × SeatView → Type 0
+Keeps t0 lent run_cells run parts total newest lasts q = IsSound t0 q.0 q.1 (replay t0 q.1) × IsReady t0 run_cells (found_epoch q.2) q.0 q.1 (replay t0 q.1)
+    × AreNewest q.0 newest × (lent ≡ t0) × (total ≡ length q.1) × AreLast parts q.1 lasts × (q.2.board ≡ run) × HasCounted q.2 q.1
+
+pub invariant_of-self : goal.invariant_of-self
+invariant_of-self g c =
+    let kept = c.self.invariant in
+    let ready = ready_loaded c.self.inside.seat kept.6 c.requires.board c.epoch-epoch.ensures.later kept.1 in
+    subst (Keeps g.K.Run.first (initial (arc_value c.self.inside.population)) g.K.Run.cells g.K.Run.board g.K.Ledger.parts c.self.inside.shares.total
+    c.self.inside.newest.items c.self.inside.lasts.items)
+    (λ i. (sym c.validate.ensures.pen i, c.self.inside.history.items, sym c.epoch-epoch.ensures.step i))
+    (kept.0, ready, kept.2, kept.3, kept.4, kept.5, kept.6, kept.7)
+
+pub invariant_of-self-in-Err : goal.invariant_of-self-in-Err
+invariant_of-self-in-Err g c =
+    let kept = c.self.invariant in
+    let ready = ready_loaded c.self.inside.seat kept.6 c.requires.board c.epoch-epoch.ensures.later kept.1 in
+    subst (Keeps g.K.Run.first (initial (arc_value c.self.inside.population)) g.K.Run.cells g.K.Run.board g.K.Ledger.parts c.self.inside.shares.total
+    c.self.inside.newest.items c.self.inside.lasts.items)
+    (λ i. (sym c.validate.ensures.pen i, sym c.prepare.ensures.history i, sym c.epoch-epoch.ensures.step i))
+    (kept.0, ready, kept.2, kept.3, kept.4, kept.5, kept.6, kept.7)
+
 pub returns-in-Err-clause-answer : goal.returns-in-Err-clause-answer
 returns-in-Err-clause-answer g c =
     let view = c.self.view_is in
     let items : List Entry = c.self.inside.history.items in
+    let ready = ready_loaded c.self.inside.seat c.self.invariant.6 c.requires.board c.epoch-epoch.ensures.later c.self.invariant.1 in
     let cap = capped g.K.Run.first c.commits-cap.ensures.value c.scale.ensures c.deref.ensures c.self.invariant.3 in
     let found = c.in-Some.ensures.latest in
     let lasts = c.self.invariant.5 in
     let last : c.index-last.result.now ≡ last_of c.share.inside.terminal items = last_is lasts c.share.invariant.1 c.index-last.ensures in
-    let same = same_next g.K.Run.first g.K.Run.cells (kept c.self.inside.pen items) (replay g.K.Run.first items) c.self.invariant.0 c.self.invariant.1
+    let same = same_next g.K.Run.first g.K.Run.cells c.epoch-epoch.result c.self.inside.pen items (replay g.K.Run.first items) c.self.invariant.0 ready
     c.args.reader.now c.args.work c.requires.work found.0
     c.share.inside.terminal c.in-Some.seen c.index-last.result.now found.2 found.1 last in (
-      (λ i. record { written = c.validate.ensures.pen i; history = c.prepare.ensures.history i }) ∙ view,
+      record {
+        written = c.validate.ensures.pen ∙ ap (λ (k : BookView). k.written) view;
+        history = c.prepare.ensures.history ∙ ap (λ (k : BookView). k.history) view;
+      },
       refl,
       inr (
         subst (λ (k : BookView). AreLatest k.written.all c.args.work.reads) view found.0,
         subst (λ (k : BookView). CommitsAt (replay g.K.Run.first k.history) c.args.work.input c.args.work.writes c.args.work.reply) view
-            (done_there g.K.Run.first g.K.Run.cells (kept c.self.inside.pen items) (replay g.K.Run.first items) c.self.invariant.0 c.self.invariant.1
+            (done_there g.K.Run.first g.K.Run.cells c.epoch-epoch.result c.self.inside.pen items (replay g.K.Run.first items) c.self.invariant.0 ready
             c.args.reader.now c.args.work c.requires.work found.0),
         subst (λ (q : ℕ × BookView × Option ℕ). ((c.in-Err.refusal ≡ CommitsFull) × (q.0 ≤ length q.1.history))
             ⊎ ((c.in-Err.refusal ≡ EpochFull) × (length q.1.history < q.0) × (q.2 ≡ None))
             ⊎ ((c.in-Err.refusal ≡ OutOfMemory) × (length q.1.history < q.0) × IsSome q.2))
-            (λ i. (cap i, view i, (same ∙ (λ j. tid_for (view j).history (c.share.view_is j).terminal EPOCH c.args.work.reads)) i)) c.in-Err.ensures.refused,
+            (λ i. (
+              cap i,
+              view i,
+              (same ∙ (λ j. tid_for (view j).history (c.share.view_is j).terminal
+                  (sym (ap found_epoch c.epoch-epoch.ensures.step) j) c.args.work.reads)) i,
+            )) c.in-Err.ensures.refused,
       ),
     )
 
 pub returns-in-Err-clause-cap_first : goal.returns-in-Err-clause-cap_first
 returns-in-Err-clause-cap_first g c =
     let items : List Entry = c.self.inside.history.items in
+    let ready = ready_loaded c.self.inside.seat c.self.invariant.6 c.requires.board c.epoch-epoch.ensures.later c.self.invariant.1 in
     let cap = capped g.K.Run.first c.commits-cap.ensures.value c.scale.ensures c.deref.ensures c.self.invariant.3 in
     let found = c.in-Some.ensures.latest in
     let last : c.index-last.result.now ≡ last_of c.share.inside.terminal items = last_is c.self.invariant.5 c.share.invariant.1 c.index-last.ensures in
     never_full c.in-Err.refusal (length items) c.commits-cap.result _ c.in-Err.ensures.refused
-    (λ below none. there_is g.K.Run.first g.K.Run.cells (kept c.self.inside.pen items) (replay g.K.Run.first items) c.self.invariant.0 c.self.invariant.1
+    (λ below none. there_is g.K.Run.first g.K.Run.cells c.epoch-epoch.result c.self.inside.pen items (replay g.K.Run.first items) c.self.invariant.0 ready
     c.args.reader.now c.args.work c.requires.work found.0
     c.share.inside.terminal c.in-Some.seen c.index-last.result.now found.2 found.1 last (subst (λ n. length items < n) cap below) none)
 
@@ -132,11 +173,13 @@ store-requires-clause-read g c =
 pub store-requires-clause-larger : goal.store-requires-clause-larger
 store-requires-clause-larger g c =
     let items : List Entry = c.self.inside.history.items in
+    let ready = ready_loaded c.self.inside.seat c.self.invariant.6 c.requires.board c.epoch-epoch.ensures.later c.self.invariant.1 in
     let found = c.in-Some.ensures.latest in
     let last : c.index-last.result.now ≡ last_of c.share.inside.terminal items = last_is c.self.invariant.5 c.share.invariant.1 c.index-last.ensures in
     subst (λ (w : PenView). (n : ℕ) (value : Option (List ℕ)) → value_for c.args.work.writes n ≡ Some value → last_tid (at w.all n) < c.in-Ok.prepared.tid)
     (sym c.validate.ensures.pen)
-    (taken_above g.K.Run.first g.K.Run.cells (kept c.self.inside.pen items) (replay g.K.Run.first items) c.self.invariant.0 c.self.invariant.1 c.args.reader.now
+    (taken_above g.K.Run.first g.K.Run.cells c.epoch-epoch.result c.self.inside.pen items (replay g.K.Run.first items) c.self.invariant.0 ready
+    c.args.reader.now
     c.args.work c.requires.work found.0
     c.share.inside.terminal c.in-Some.seen c.index-last.result.now found.2 found.1 last c.in-Ok.prepared.tid c.in-Ok.ensures.lawful c.in-Ok.ensures.tid)
 
@@ -146,6 +189,9 @@ returns-clause-reader g c = grown_twice c.args.reader.now c.validate.new.reader 
 pub invariant_of-self-2 : goal.invariant_of-self-2
 invariant_of-self-2 g c =
     let items : List Entry = c.self.inside.history.items in
+    let ready = ready_loaded c.self.inside.seat c.self.invariant.6 c.requires.board c.epoch-epoch.ensures.later c.self.invariant.1 in
+    let seat : c.commit_step.new.seat ≡ noted (noted c.self.inside.seat (LoadEpoch c.epoch-epoch.result)) (CountCommit c.epoch-epoch.result) =
+    c.commit_step.ensures ∙ ap (λ (s : SeatView). noted s (CountCommit c.epoch-epoch.result)) c.epoch-epoch.ensures.step in
     let found = c.in-Some.ensures.latest in
     let cap = capped g.K.Run.first c.commits-cap.ensures.value c.scale.ensures c.deref.ensures c.self.invariant.3 in
     let len : c.len.result ≡ length c.prepare.new.history.items = search rules in
@@ -156,7 +202,7 @@ invariant_of-self-2 g c =
     let tid : ℕ = c.in-Ok.prepared.tid in
     let stores : (n : ℕ) → at c.store.new.pen.all n ≡ at c.self.inside.pen.all n ++ new_versions c.in-Ok.prepared.tid c.args.work.writes.values n =
     λ n. c.store.ensures.versions n ∙ (λ i. at (c.validate.ensures.pen i).all n ++ new_versions c.in-Ok.prepared.tid c.args.work.writes.values n) in
-    let made = next_kept g.K.Run.first g.K.Run.cells (kept c.self.inside.pen items) (replay g.K.Run.first items) c.self.invariant.0 c.self.invariant.1
+    let made = next_kept g.K.Run.first g.K.Run.cells c.epoch-epoch.result c.self.inside.pen items (replay g.K.Run.first items) c.self.invariant.0 ready
     c.args.reader.now c.args.work c.requires.work found.0
     c.share.inside.terminal c.in-Some.seen c.index-last.result.now found.2 found.1 last c.in-Ok.prepared.tid c.in-Ok.ensures.lawful c.in-Ok.ensures.tid
     c.store.new.pen small cells stores in
@@ -174,10 +220,10 @@ invariant_of-self-2 g c =
     let led : after (replay g.K.Run.first items) c.args.work.input ≡ replay g.K.Run.first c.push_reserved.new.self.items =
     sym (replay_push g.K.Run.first items (entry_of (length items + 1) c.in-Ok.prepared.tid c.share.inside.terminal c.args.work))
     ∙ ap (replay g.K.Run.first) (sym history) in (
-      subst (λ (q : List Entry × Database). IsSound g.K.Run.first (record { written = c.store.new.pen; history = q.0 }) q.1) (λ i. (sym history i, led i))
+      subst (λ (q : List Entry × Database). IsSound g.K.Run.first c.store.new.pen q.0 q.1) (λ i. (sym history i, led i))
           made.0,
-      subst (λ (q : List Entry × Database). IsReady g.K.Run.first g.K.Run.cells (record { written = c.store.new.pen; history = q.0 }) q.1)
-          (λ i. (sym history i, led i)) made.1,
+      subst (λ (q : List Entry × Database × ℕ). IsReady g.K.Run.first g.K.Run.cells q.2 c.store.new.pen q.0 q.1)
+          (λ i. (sym history i, led i, sym (ap found_epoch seat) i)) made.1,
       subst (AreNewest c.store.new.pen) (sym (given_back c.self.inside.newest.len c.store.new.newest c.self.inside.newest.items c.self.inside.newest.ok.0
           (c.store.ensures.newest.count ∙ ap length cells ∙ sym c.self.invariant.2.count))) c.store.ensures.newest,
       c.self.invariant.3,
@@ -187,19 +233,26 @@ invariant_of-self-2 g c =
           (lasts_next g.K.Ledger.parts items c.self.inside.lasts.items (entry_of (length items + 1) c.in-Ok.prepared.tid c.share.inside.terminal c.args.work)
           c.self.invariant.5
           (subst (λ n. c.share.inside.terminal < n) (sym c.self.invariant.5.count) c.share.invariant.1)),
+      ap (λ (s : SeatView). s.board) seat ∙ c.self.invariant.6,
+      subst (λ (q : SeatView × List Entry). HasCounted q.0 q.1) (λ i. (sym seat i, sym history i))
+          (counts_on c.self.inside.seat items c.epoch-epoch.result
+          (entry_of (length items + 1) c.in-Ok.prepared.tid c.share.inside.terminal c.args.work) c.self.invariant.7 c.in-Ok.ensures.lawful.in_epoch),
     )
 
 pub returns-clause-answer : goal.returns-clause-answer
 returns-clause-answer g c =
     let items : List Entry = c.self.inside.history.items in
+    let ready = ready_loaded c.self.inside.seat c.self.invariant.6 c.requires.board c.epoch-epoch.ensures.later c.self.invariant.1 in
     let found = c.in-Some.ensures.latest in
+    let seat : c.commit_step.new.seat ≡ noted (noted c.self.inside.seat (LoadEpoch c.epoch-epoch.result)) (CountCommit c.epoch-epoch.result) =
+    c.commit_step.ensures ∙ ap (λ (s : SeatView). noted s (CountCommit c.epoch-epoch.result)) c.epoch-epoch.ensures.step in
     let cap = capped g.K.Run.first c.commits-cap.ensures.value c.scale.ensures c.deref.ensures c.self.invariant.3 in
     let len : c.len.result ≡ length c.prepare.new.history.items = search rules in
     let small : length items < g.K.Run.first.scale.commits = omega (arith, c.in-Ok.ensures.below, cap) in
     let next : c.len.result + 1 ≡ length items + 1 = ap (λ n. n + 1) (len ∙ ap length c.prepare.ensures.history) in
     let cells : c.store.new.pen.cells ≡ c.self.inside.pen.cells = c.store.ensures.cells ∙ ap (λ (w : PenView). w.cells) c.validate.ensures.pen in
     let last : c.index-last.result.now ≡ last_of c.share.inside.terminal items = last_is c.self.invariant.5 c.share.invariant.1 c.index-last.ensures in
-    let same = same_next g.K.Run.first g.K.Run.cells (kept c.self.inside.pen items) (replay g.K.Run.first items) c.self.invariant.0 c.self.invariant.1
+    let same = same_next g.K.Run.first g.K.Run.cells c.epoch-epoch.result c.self.inside.pen items (replay g.K.Run.first items) c.self.invariant.0 ready
     c.args.reader.now c.args.work c.requires.work found.0
     c.share.inside.terminal c.in-Some.seen c.index-last.result.now found.2 found.1 last in
     let stores : (n : ℕ) → at c.store.new.pen.all n ≡ at c.self.inside.pen.all n ++ new_versions c.in-Ok.prepared.tid c.args.work.writes.values n =
@@ -217,16 +270,16 @@ returns-clause-answer g c =
     } ∷ []) in
     let of : c.of.result ≡ record { number = length items + 1; tid = c.in-Ok.prepared.tid; reply = c.args.work.reply } = c.of.ensures
     ∙ (λ i. record { number = next i; tid = c.in-Ok.prepared.tid; reply = c.in-Ok.ensures.reply i }) in
-    subst (λ (q : BookView × ShareView × Done). AreLatest q.0.written.all c.args.work.reads × (length q.0.history < g.K.Run.first.scale.commits)
-    × (tid_for q.0.history q.1.terminal EPOCH c.args.work.reads ≡ Some q.2.tid)
-    × Commits q.0 (record { written = c.store.new.pen; history = c.push_reserved.new.self.items })
+    subst (λ (q : BookView × ShareView × Done × ℕ). AreLatest q.0.written.all c.args.work.reads × (length q.0.history < g.K.Run.first.scale.commits)
+    × (tid_for q.0.history q.1.terminal q.3 c.args.work.reads ≡ Some q.2.tid)
+    × Commits q.0 (record { written = c.store.new.pen; history = c.push_reserved.new.self.items; seat = c.commit_step.new.seat })
     (entry_of (length q.0.history + 1) q.2.tid q.1.terminal c.args.work)
     × (q.2.number ≡ length q.0.history + 1) × (q.2.reply ≡ c.args.work.reply)
     × (◌≡◌ {A = ShareView} (record { terminal = c.share.inside.terminal; parts = c.add.new.share.parts; commits = c.add.new.share.amount })
     (record { terminal = q.1.terminal; parts = q.1.parts; commits = q.1.commits + 1 }))
     × HasSeen c.store.new.reader c.store.new.pen c.args.work.writes
     × CommitsAt (replay g.K.Run.first q.0.history) c.args.work.input c.args.work.writes c.args.work.reply)
-    (λ i. (c.self.view_is i, c.share.view_is i, sym of i)) (
+    (λ i. (c.self.view_is i, c.share.view_is i, sym of i, sym (ap found_epoch seat) i)) (
       found.0,
       small,
       sym same ∙ c.in-Ok.ensures.tid,
@@ -239,7 +292,8 @@ returns-clause-answer g c =
       refl,
       (λ i. record { terminal = c.share.inside.terminal; parts = c.add.ensures.parts i; commits = c.add.ensures.amount i }),
       c.store.ensures.seen,
-      done_there g.K.Run.first g.K.Run.cells (kept c.self.inside.pen items) (replay g.K.Run.first items) c.self.invariant.0 c.self.invariant.1 c.args.reader.now
+      done_there g.K.Run.first g.K.Run.cells c.epoch-epoch.result c.self.inside.pen items (replay g.K.Run.first items) c.self.invariant.0 ready
+          c.args.reader.now
           c.args.work c.requires.work found.0,
     )
 
@@ -252,16 +306,19 @@ returns-clause-next g c =
 pub returns-in-Err-clause-refused : goal.returns-in-Err-clause-refused
 returns-in-Err-clause-refused g c =
     refused_there g.K.Run.first c.args.self.now.history c.args.work c.in-Err.refusal
-    (tid_for c.args.self.now.history c.args.share.now.terminal EPOCH c.args.work.reads)
+    (tid_for c.args.self.now.history c.args.share.now.terminal (found_epoch c.epoch-epoch.new.seat) c.args.work.reads)
     (returns-in-Err-clause-cap_first g c) (returns-in-Err-clause-answer g c).2
 
 pub returns-in_default-clause-section : goal.returns-in_default-clause-section
 returns-in_default-clause-section g c m w shows =
     let items : List Entry = c.self.inside.history.items in
+    let ready = ready_loaded c.self.inside.seat c.self.invariant.6 c.requires.board c.epoch-epoch.ensures.later c.self.invariant.1 in
     record {
-      conflict = λ _. stale_run g.K.Run.first g.K.Run.cells (kept c.self.inside.pen items) (replay g.K.Run.first items) c.self.invariant.0 c.self.invariant.1
-          c.args.reader.now c.args.work c.requires.work c.in_order.ensures
-          c.args.share.now.terminal w m (subst (λ k. Mirrors k c.args.share.now.terminal EPOCH c.args.work.reads m w) (sym c.self.view_is) shows)
+      conflict = λ _. stale_run g.K.Run.first g.K.Run.cells c.epoch-epoch.result (kept c.self.inside.pen items c.self.inside.seat)
+          (replay g.K.Run.first items) c.self.invariant.0 ready c.args.reader.now c.args.work c.requires.work c.in_order.ensures
+          c.args.share.now.terminal w m
+          (subst (λ (q : BookView × ℕ). Mirrors q.0 c.args.share.now.terminal q.1 c.args.work.reads m w)
+          (λ i. (sym c.self.view_is i, ap found_epoch c.epoch-epoch.ensures.step i)) shows)
           c.in_default.ensures.latest;
       epoch_full = λ e. absurd (conflict_not_full e);
     }
@@ -269,27 +326,31 @@ returns-in_default-clause-section g c m w shows =
 pub returns-in-Err-clause-section : goal.returns-in-Err-clause-section
 returns-in-Err-clause-section g c m w shows =
     let items : List Entry = c.self.inside.history.items in
+    let ready = ready_loaded c.self.inside.seat c.self.invariant.6 c.requires.board c.epoch-epoch.ensures.later c.self.invariant.1 in
     let found = c.in-Some.ensures.latest in
     let last : c.index-last.result.now ≡ last_of c.share.inside.terminal items = last_is c.self.invariant.5 c.share.invariant.1 c.index-last.ensures in
-    let same = same_next g.K.Run.first g.K.Run.cells (kept c.self.inside.pen items) (replay g.K.Run.first items) c.self.invariant.0 c.self.invariant.1
+    let same = same_next g.K.Run.first g.K.Run.cells c.epoch-epoch.result c.self.inside.pen items (replay g.K.Run.first items) c.self.invariant.0 ready
     c.args.reader.now c.args.work c.requires.work found.0
     c.share.inside.terminal c.in-Some.seen c.index-last.result.now found.2 found.1 last in
     let only = only_full c.in-Err.refusal (length items) c.commits-cap.result _ c.in-Err.ensures.refused in
     record {
       conflict = λ e. absurd (only.0 e);
-      epoch_full = λ e. full_run g.K.Run.first g.K.Run.cells (kept c.self.inside.pen items) (replay g.K.Run.first items) c.self.invariant.0 c.self.invariant.1
-          c.args.reader.now c.args.work c.requires.work c.in_order.ensures
+      epoch_full = λ e. full_run g.K.Run.first g.K.Run.cells c.epoch-epoch.result (kept c.self.inside.pen items c.self.inside.seat)
+          (replay g.K.Run.first items) c.self.invariant.0 ready c.args.reader.now c.args.work c.requires.work c.in_order.ensures
           c.share.inside.terminal w m
-          (subst (λ (q : BookView × ShareView). Mirrors q.0 q.1.terminal EPOCH c.args.work.reads m w) (λ i. (sym c.self.view_is i, sym c.share.view_is i))
-          shows) found.0 (sym same ∙ only.1 e);
+          (subst (λ (q : BookView × ShareView × ℕ). Mirrors q.0 q.1.terminal q.2 c.args.work.reads m w)
+          (λ i. (sym c.self.view_is i, sym c.share.view_is i, ap found_epoch c.epoch-epoch.ensures.step i)) shows) found.0 (sym same ∙ only.1 e);
     }
 
 pub returns-clause-section : goal.returns-clause-section
 returns-clause-section g c m w shows =
     let items : List Entry = c.self.inside.history.items in
+    let ready = ready_loaded c.self.inside.seat c.self.invariant.6 c.requires.board c.epoch-epoch.ensures.later c.self.invariant.1 in
+    let seat : c.commit_step.new.seat ≡ noted (noted c.self.inside.seat (LoadEpoch c.epoch-epoch.result)) (CountCommit c.epoch-epoch.result) =
+    c.commit_step.ensures ∙ ap (λ (s : SeatView). noted s (CountCommit c.epoch-epoch.result)) c.epoch-epoch.ensures.step in
     let found = c.in-Some.ensures.latest in
     let last : c.index-last.result.now ≡ last_of c.share.inside.terminal items = last_is c.self.invariant.5 c.share.invariant.1 c.index-last.ensures in
-    let same = same_next g.K.Run.first g.K.Run.cells (kept c.self.inside.pen items) (replay g.K.Run.first items) c.self.invariant.0 c.self.invariant.1
+    let same = same_next g.K.Run.first g.K.Run.cells c.epoch-epoch.result c.self.inside.pen items (replay g.K.Run.first items) c.self.invariant.0 ready
     c.args.reader.now c.args.work c.requires.work found.0
     c.share.inside.terminal c.in-Some.seen c.index-last.result.now found.2 found.1 last in
     let cells : c.store.new.pen.cells ≡ c.self.inside.pen.cells = c.store.ensures.cells ∙ ap (λ (w : PenView). w.cells) c.validate.ensures.pen in
@@ -297,9 +358,19 @@ returns-clause-section g c m w shows =
     λ n. c.store.ensures.versions n ∙ (λ i. at (c.validate.ensures.pen i).all n ++ new_versions c.in-Ok.prepared.tid c.args.work.writes.values n) in
     let tid : c.in-Ok.prepared.tid ≡ c.of.result.tid = sym (ap (λ (done : Done). done.tid) c.of.ensures) in
     subst (λ (n : ℕ). IsCommitRun m w (reads_of c.args.work.reads) c.args.work.writes.values n c.store.new.pen) tid
-    (run g.K.Run.first g.K.Run.cells (kept c.self.inside.pen items) (replay g.K.Run.first items) c.self.invariant.0 c.self.invariant.1 c.args.reader.now
+    (run g.K.Run.first g.K.Run.cells c.epoch-epoch.result (kept c.self.inside.pen items c.self.inside.seat)
+    (replay g.K.Run.first items) c.self.invariant.0 ready
+    c.args.reader.now
     c.args.work c.requires.work c.in_order.ensures
     c.share.inside.terminal w m
-    (subst (λ (q : BookView × ShareView). Mirrors q.0 q.1.terminal EPOCH c.args.work.reads m w) (λ i. (sym c.self.view_is i, sym c.share.view_is i)) shows)
+    (subst (λ (q : BookView × ShareView × ℕ). Mirrors q.0 q.1.terminal q.2 c.args.work.reads m w)
+    (λ i. (sym c.self.view_is i, sym c.share.view_is i, ap found_epoch seat i)) shows)
     found.0
     c.in-Ok.prepared.tid c.store.new.pen (sym same ∙ c.in-Ok.ensures.tid) c.in-Ok.ensures.lawful.bits cells stores)
+
+pub commit_step-requires-clause-room : goal.commit_step-requires-clause-room
+commit_step-requires-clause-room g c =
+    let items : List Entry = c.self.inside.history.items in
+    let cap = capped g.K.Run.first c.commits-cap.ensures.value c.scale.ensures c.deref.ensures c.self.invariant.3 in
+    subst (λ (s : SeatView). length (counted s.steps) < 2 ^ 64 - 1) (sym c.epoch-epoch.ensures.step)
+    (may_count c.self.inside.seat items g.K.Run.first.scale.commits c.self.invariant.7 (omega (arith, c.in-Ok.ensures.below, cap)) c.self.invariant.1.few)

@@ -11,16 +11,18 @@ use Rattle.encoding.specs.Newest.{value_at, AreLawful}
 use Rattle.cells.specs.declared.cells.Newest.{Newest}
 use Rattle.book.specs.Book.{BookView, IsSound}
 use Rattle.book.specs.History.{replay, rows_added}
+use Rattle.book.specs.Epochs.{found_epoch}
 use Rattle.book.proofs.Held.{lawful, are_committed}
 use Rattle.book.proofs.book.Book.tables.Goals as goal
 
 pub tables_of-requires-clause-lawful : goal.tables_of-requires-clause-lawful
 tables_of-requires-clause-lawful g c =
-    let k : BookView = record { written = c.self.inside.pen; history = c.self.inside.history.items } in
+    let history = c.self.inside.history.items in
     let i = c.self.invariant in
     subst (λ (q : Database × List Newest). AreLawful q.0.scale (value_at q.1))
     (λ j. (sym (ap initial c.deref-2.ensures ∙ i.3) j, sym c.deref-3.ensures.value j))
-    (lawful g.K.Run.first g.K.Run.cells k (replay g.K.Run.first k.history) c.self.inside.newest.items i.0 i.1 i.2)
+    (lawful g.K.Run.first g.K.Run.cells (found_epoch c.self.inside.seat) c.self.inside.pen history (replay g.K.Run.first history)
+    c.self.inside.newest.items i.0 i.1 i.2)
 
 -- what is so of the tables made of any parts is so of those made of the book's
 are_made : {first t0 made : Database} {newest held : List Newest} {rows_given rows_here : List History} → first ≡ t0 → newest ≡ held → rows_given ≡ rows_here
@@ -35,10 +37,11 @@ are_made {made = made} a b d =
 
 pub returns-clause-tables : goal.returns-clause-tables
 returns-clause-tables g c =
-    let k : BookView = record { written = c.self.inside.pen; history = c.self.inside.history.items } in
+    let history = c.self.inside.history.items in
     let i = c.self.invariant in
     IfOk-weaker c.tables_of.result _ _
-    (λ made is. are_committed g.K.Run.first g.K.Run.cells k (replay g.K.Run.first k.history) c.self.inside.newest.items i.0 i.1 i.2 (database made) refl
+    (λ made is. are_committed g.K.Run.first g.K.Run.cells (found_epoch c.self.inside.seat) c.self.inside.pen history (replay g.K.Run.first history)
+    c.self.inside.newest.items i.0 i.1 i.2 (database made) refl
     (are_made (ap initial c.deref-2.ensures ∙ i.3) c.deref-3.ensures.value
     (c.deref-4.ensures.value ∙ c.in_ok-added.ensures.rows ∙ ap rows_added c.deref.ensures.value) is)
     ∙ ap (λ (q : BookView). replay g.K.Run.first q.history) c.self.view_is)
@@ -47,6 +50,6 @@ returns-clause-tables g c =
 pub returns-clause-sound : goal.returns-clause-sound
 returns-clause-sound g c =
     IfOk-weaker c.tables_of.result _ _
-    (λ made is. subst (IsSound g.K.Run.first c.args.self.now) (sym is)
-    (subst (λ (q : BookView). IsSound g.K.Run.first q (replay g.K.Run.first q.history)) c.self.view_is c.self.invariant.0))
+    (λ made is. subst (IsSound g.K.Run.first c.args.self.now.written c.args.self.now.history) (sym is)
+    (subst (λ (q : BookView). IsSound g.K.Run.first q.written q.history (replay g.K.Run.first q.history)) c.self.view_is c.self.invariant.0))
     (returns-clause-tables g c)

@@ -1,4 +1,6 @@
-use Rattle.std.proofs.Common.{◌<◌, ◌^◌, ◌≤◌, List, length, sym, ap, ◌∙◌, subst, arith, rules}
+use Rattle.std.proofs.Common.{◌≡◌, ◌<◌, ◌^◌, ◌≤◌, List, All, length, refl, sym, ap, ◌∙◌, subst, arith, rules}
+use Rattle.std.proofs.lemmas.List.{length-replicate}
+use Rattle.std.proofs.lemmas.List.Elements.{All-replicate}
 use Rattle.std.specs.Arc.{arc_value}
 use Rattle.atomic_table.specs.Seated.{TableId}
 use Rattle.tables.specs.Sizes.{Sizes}
@@ -11,6 +13,9 @@ use Rattle.book.specs.History.{replay}
 use Rattle.book.specs.Book.{IsSound}
 use Rattle.book.specs.declared.entry.Entry.{Entry}
 use Rattle.book.specs.Ready.{IsReady, AreLast}
+use Rattle.board.specs.declared.rule.Role.TheVariants.{Terminal}
+use Rattle.board.specs.Seats.{BoardView, SeatView, new_seat}
+use Rattle.book.specs.Epochs.{HasCounted, found_epoch}
 use Rattle.book.proofs.Opened.{first_sound, first_ready, first_lasts, first_newest}
 use Rattle.book.proofs.engine.Engine.open.Goals as goal
 
@@ -29,22 +34,29 @@ invariant_of-book g c =
           (c.scale.ensures ∙ ap (λ (p : Population). (initial p).scale) c.deref.ensures),
     ) in
     let sound = first_sound t0 parts.cells parts.pen parts.newest.items fresh.newest fresh.count fresh.pen population.well_formed population.consistent in
-    let ready = first_ready t0 parts.cells parts.pen parts.newest.items fresh.newest fresh.count fresh.pen population.room few in (
-      subst (λ (q : Database × List Entry). IsSound q.0 (record { written = c.args.parts.pen; history = q.1 }) (replay q.0 q.1))
+    let ready = first_ready t0 parts.cells parts.pen parts.newest.items fresh.newest fresh.count fresh.pen (found_epoch parts.seats.book)
+    population.room few in (
+      subst (λ (q : Database × List Entry). IsSound q.0 c.args.parts.pen q.1 (replay q.0 q.1))
           (λ i. (c.requires.run.0 i, sym fresh.history i)) sound,
-      subst (λ (q : Database × List TableId × List Entry). IsReady q.0 q.1 (record { written = c.args.parts.pen; history = q.2 }) (replay q.0 q.2))
+      subst (λ (q : Database × List TableId × List Entry). IsReady q.0 q.1 (found_epoch parts.seats.book) c.args.parts.pen q.2 (replay q.0 q.2))
           (λ i. (c.requires.run.0 i, c.requires.run.1 i, sym fresh.history i)) ready,
       first_newest t0 parts.cells parts.pen parts.newest.items fresh.newest fresh.count fresh.pen,
       fresh.lent ∙ c.requires.run.0,
       c.open-shares.ensures.total ∙ sym (ap length fresh.history),
       subst (λ (h : List Entry). AreLast g.K.Ledger.parts h c.args.parts.lasts.items) (sym fresh.history)
           (first_lasts g.K.Ledger.parts (length parts.readers.items) parts.lasts.items fresh.lasts (sym fresh.parts ∙ c.requires.ledger.1)),
+      ap (λ (s : SeatView). s.board) fresh.board.book ∙ c.requires.run.2,
+      subst (λ (q : SeatView × List Entry). HasCounted q.0 q.1) (λ i. (sym fresh.board.book i, sym fresh.history i)) refl,
     )
 
-pub invariant_of-seats : goal.invariant_of-seats
-invariant_of-seats g c =
+pub invariant_of-terminals : goal.invariant_of-terminals
+invariant_of-terminals g c =
     let fresh = c.requires.fresh in (
       (λ k d h. ap (λ (r : ReaderView). r.cells) (fresh.readers k d h) ∙ ap (λ (w : PenView). w.cells) fresh.pen ∙ c.requires.run.1),
+      subst (All (λ (s : SeatView). s ≡ new_seat g.K.Run.board Terminal)) (sym fresh.board.terminals)
+          (All-replicate (λ (s : SeatView). s ≡ new_seat g.K.Run.board Terminal) (length c.args.parts.readers.items) (new_seat c.args.parts.board Terminal)
+          (ap (λ (b : BoardView). new_seat b Terminal) c.requires.run.2)),
+      ap length fresh.board.terminals ∙ length-replicate (length c.args.parts.readers.items) (new_seat c.args.parts.board Terminal),
       search rules,
       search rules,
       omega (arith, sym fresh.parts ∙ c.requires.ledger.1),

@@ -1,5 +1,6 @@
 use Rattle.std.proofs.Common.{refl, ap, sym, ◌∙◌, subst, IsSome}
 use Rattle.tables.specs.Sizes.{Sizes}
+use Rattle.tables.specs.Database.{Database}
 use Rattle.tables.specs.Records.{number_of_key}
 use Rattle.readset.specs.Reads.{held}
 use Rattle.readset.specs.Transaction.{TransactionView, GoesOn}
@@ -9,7 +10,8 @@ use Rattle.readset.proofs.transaction.Transaction.put.Goals as goal
 pub invariant_of-self : goal.invariant_of-self
 invariant_of-self g c =
     let i = c.self.invariant in
-    let at = c.number_of_key-number.ensures.value ∙ ap (λ (q : Sizes). number_of_key q c.args.key) c.scale.ensures in
+    let at = c.number_of_key-number.ensures.value
+    ∙ ap (λ (q : Sizes). number_of_key q c.args.key) (ap (λ (t : Database). t.scale) (c.tables.ensures ∙ c.self.invariant.0)) in
     let read = subst (λ (x : TransactionView). IsSome (held x.reads (number_of_key g.K.Start.tables.scale c.args.key))) (sym c.self.view_is)
     c.requires.read in (
       i.0,

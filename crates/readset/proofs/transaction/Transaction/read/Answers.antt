@@ -1,5 +1,6 @@
 use Rattle.std.proofs.Common.{◌∙◌, ap, subst, length, IsSome}
 use Rattle.tables.specs.Sizes.{Sizes}
+use Rattle.tables.specs.Database.{Database}
 use Rattle.tables.specs.Records.{number_of_key}
 use Rattle.readset.specs.Reads.{held}
 use Rattle.readset.proofs.UnderWay.{loaded_under_way, row_told, some_is}
@@ -19,11 +20,13 @@ invariant_of-self-2 g c =
 
 pub returns-clause-words : goal.returns-clause-words
 returns-clause-words g c =
-    let at = c.number_of_key-number.ensures.value ∙ ap (λ (q : Sizes). number_of_key q c.args.key) c.scale.ensures in
+    let at = c.number_of_key-number.ensures.value
+    ∙ ap (λ (q : Sizes). number_of_key q c.args.key) (ap (λ (t : Database). t.scale) (c.tables.ensures ∙ c.self.invariant.0)) in
     row_told g.K.Start.tables c.get.new.self c.args.key c.number_of_key-number.result c.in_ok-version.version c.value_of.result at c.requires
     c.in_ok-version.ensures.holds c.value_of.ensures
 
 pub returns-clause-holds : goal.returns-clause-holds
 returns-clause-holds g c =
-    let at = c.number_of_key-number.ensures.value ∙ ap (λ (q : Sizes). number_of_key q c.args.key) c.scale.ensures in
+    let at = c.number_of_key-number.ensures.value
+    ∙ ap (λ (q : Sizes). number_of_key q c.args.key) (ap (λ (t : Database). t.scale) (c.tables.ensures ∙ c.self.invariant.0)) in
     subst (λ n. IsSome (held c.get.new.self n)) at (some_is _ c.in_ok-version.version c.in_ok-version.ensures.holds)

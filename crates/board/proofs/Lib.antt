@@ -1,0 +1,6 @@
+mod Standing
+mod Owned
+mod Moves
+mod Allowing
+mod Dealing
+mod Loads
