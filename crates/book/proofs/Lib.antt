@@ -8,6 +8,7 @@ mod Tids
 mod Legal
 mod Taken
 mod Loaded
+mod Streams
 mod Runs
 mod Showing
 pub mod Replaying

@@ -1,5 +1,5 @@
 -- The book once its seat has loaded E, and has counted a commit.
-use Rattle.std.proofs.Common.{◌≡◌, ℕ, ◌+◌, ◌-◌, ◌^◌, ◌<◌, ◌≤◌, List, [], ◌∷◌, ◌++◌, length, map, reverse, sym, ap, ◌∙◌, subst, arith}
+use Rattle.std.proofs.Common.{◌≡◌, ℕ, ◌-◌, ◌^◌, ◌<◌, ◌≤◌, List, [], ◌∷◌, ◌++◌, length, sym, ap, ◌∙◌, subst, arith}
 use Rattle.std.proofs.lemmas.Grind.{reverse_onto}
 use Rattle.std.proofs.lemmas.List.{length-map, length-reverse, map-append}
 use Rattle.std.proofs.lemmas.List.Elements.{All-weaker}
@@ -40,13 +40,17 @@ ready_later t0 run_cells old new written history t later r = record {
     within : (tid : ℕ) → IsWithin old (length history) tid → IsWithin new (length history) tid
     within tid w = record { bits = w.bits; in_epoch = up (epoch_of tid) w.in_epoch; sequence = w.sequence }
 
--- and so where it is E as the book's seat, of this board, has just loaded it
+-- E as the book's seat, of this board, has just loaded it
+pub found_later : (seat : SeatView) {run here : BoardView} {epoch : ℕ} → seat.board ≡ run → here ≡ run → known_epoch here.plan.base seat.steps ≤ epoch
+    → found_epoch seat ≤ epoch
+found_later seat {epoch = epoch} own same later = subst (λ (b : BoardView). known_epoch b.plan.base seat.steps ≤ epoch) (same ∙ sym own) later
+
 pub ready_loaded : (seat : SeatView) {run here : BoardView} {epoch : ℕ} {t0 t : Database} {run_cells : List TableId} {written : PenView}
     {history : List Entry} → seat.board ≡ run → here ≡ run → known_epoch here.plan.base seat.steps ≤ epoch
     → IsReady t0 run_cells (found_epoch seat) written history t → IsReady t0 run_cells epoch written history t
 ready_loaded seat {epoch = epoch} {t0 = t0} {t = t} {run_cells = run_cells} {written = written} {history = history} own same later =
     ready_later t0 run_cells (found_epoch seat) epoch written history t
-    (subst (λ (b : BoardView). known_epoch b.plan.base seat.steps ≤ epoch) (same ∙ sym own) later)
+    (found_later seat own same later)
 
 -- a commit that is counted, with its epoch
 pub counts_on : (seat : SeatView) (history : List Entry) (epoch : ℕ) (entry : Entry) → HasCounted seat history → epoch_of entry.tid ≡ epoch

@@ -8,7 +8,7 @@ use Rattle.book.specs.History.{replay, CommitsAt}
 use Rattle.book.specs.Book.{entry_of}
 use Rattle.book.specs.Next.{IsNextCommit}
 use Rattle.book.specs.declared.entry.Entry.{Entry}
-use Rattle.book.specs.declared.entry.Done.{Done}
+use Rattle.book.specs.Done.{Done}
 use Rattle.book.proofs.Replaying.{replay_push}
 
 module _ (t0 : Database) (old new : List Entry) (terminal : ℕ) (work : Work) (done : Done)

@@ -23,17 +23,22 @@ use Rattle.book.specs.History.{IsLegal, entry_versions, all_versions}
 use Rattle.book.specs.Stamps.{AreStamped}
 use Rattle.book.specs.declared.entry.Entry.{Entry}
 
--- what contracts see of the book: all versions of the records, the history, and its seat of the board. The committed
--- tables are the history's replay
+-- what contracts see of the book: all versions of the records, the history, its seat of the board, and of each logger
+-- how many entries of its stream were taken, and the mark of the last take. The committed tables are the history's
+-- replay
 pub record BookView : Type 0 where
   pub written : PenView
   pub history : List Entry
   pub seat : SeatView
+  pub taken : List ℕ
+  pub marks : List ℕ
 
--- records and history are as they were
+-- records, history and streams are as they were
 pub record IsAsBefore (old new : BookView) : Type 0 where
   pub written : new.written ≡ old.written
   pub history : new.history ≡ old.history
+  pub taken : new.taken ≡ old.taken
+  pub marks : new.marks ≡ old.marks
 
 -- what is so whenever the book's lock is free, of the records' versions and the history, t0 being the tables that the
 -- run began with and t the committed ones
@@ -99,10 +104,12 @@ entry_of number tid terminal work =
           work.writes;
     }
 
--- a work has committed as this entry: the history has it at its end, and each record that it writes has one version
--- more
+-- a work has committed as this entry: the history has it at its end, each record that it writes has one version more,
+-- and nothing more was taken
 pub record Commits (old new : BookView) (entry : Entry) : Type 0 where
   pub history : new.history ≡ old.history ++ entry ∷ []
+  pub taken : new.taken ≡ old.taken
+  pub marks : new.marks ≡ old.marks
   pub cells : new.written.cells ≡ old.written.cells
   pub versions : (n : ℕ) → n < length old.written.cells → at new.written.all n ≡ at old.written.all n
       ++ entry_versions entry n

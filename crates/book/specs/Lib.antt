@@ -1,7 +1,10 @@
 pub mod History
 pub mod Stamps
 pub mod Epochs
+pub mod Streams
+pub mod Done
 pub mod Book
+pub mod Batches
 pub mod Next
 pub mod Ready
 pub mod Shows

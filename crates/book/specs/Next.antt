@@ -8,7 +8,7 @@ use Rattle.tables.specs.declared.input.Input.{Input}
 use Rattle.readset.specs.Commit.{IsCommitted}
 use Rattle.book.specs.History.{replay}
 use Rattle.book.specs.declared.entry.Entry.{Entry}
-use Rattle.book.specs.declared.entry.Done.{Done}
+use Rattle.book.specs.Done.{Done}
 
 -- an input is the next commit, below the cap: its tables and its reply are those of the transaction at the tables
 -- before, and this is what its terminal is told: the number, the TID and the reply of its entry

@@ -4,6 +4,7 @@ use crate::entry::Entry;
 use crate::history_rows::added_rows;
 use crate::run::Run;
 use crate::share::Share;
+use crate::stream::Stream;
 use board::BookSeat;
 use cells::{Newest, Pen};
 use conditions::{Report, check};
@@ -19,42 +20,55 @@ use tidword::TidWord;
 /// The committed state, which stands under the engine's lock: the newest version of each record, by record number,
 /// and what has committed. The committed tables are what these tell, and are kept nowhere. Its type keeps `IsSound` of
 /// what contracts see of it, that it is ready for the next commit, that it has each terminal's last TID, that the
-/// terminals' shares sum to the length of the history, and that its seat of the board has counted each commit of the
-/// history, with its epoch.
+/// terminals' shares sum to the length of the history, that its seat of the board has counted each commit of the
+/// history, with its epoch, and that what waits for a logger is what of its stream was not taken, each entry of an epoch
+/// behind the mark of the last take.
 #[derive(Drop)]
 pub struct Book<K: Run> {
     pub(crate) pen: Pen,
     pub(crate) population: Arc<Population, Global>,
     pub(crate) newest: Vec<Newest>,
-    pub(crate) history: Vec<Entry>,
+    pub(crate) history: Vec<Arc<Entry, Global>>,
+    pub(crate) streams: Vec<Stream>,
     pub(crate) lasts: Vec<TidWord>,
     pub(crate) shares: ledger::Book<K>,
     pub(crate) seat: BookSeat,
 }
 
 impl<K: Run> Model for Book<K> {
-    ghost use Rattle.std.specs.Prelude.{◌≡◌, length};
+    ghost use Rattle.std.specs.Prelude.{◌≡◌, length, map};
     ghost use Rattle.std.specs.Arc.{arc_value};
-    ghost use Rattle.population.specs.Initial.{initial};
+    ghost use Rattle.population.specs.Initial.{initial, seed_of};
     ghost use Rattle.book.specs.History.{replay};
     ghost use Rattle.book.specs.Book.{BookView, IsSound};
     ghost use Rattle.book.specs.Ready.{IsReady, AreLast, AreNewest};
     ghost use Rattle.book.specs.Epochs.{HasCounted, found_epoch};
+    ghost use Rattle.book.specs.Streams.{AreStreams};
 
     ghost Value = { BookView };
 
-    ghost view = { λ b. record { written = b.pen; history = b.history.items; seat = b.seat } };
+    ghost view = { λ b. record {
+        written = b.pen;
+        history = map arc_value b.history.items;
+        seat = b.seat;
+        taken = map (λ s. s.taken) b.streams.items;
+        marks = map (λ s. s.mark) b.streams.items;
+    } };
 
-    ghost invariant = { λ b. IsSound K.first b.pen b.history.items (replay K.first b.history.items)
-        × IsReady K.first K.cells (found_epoch b.seat) b.pen b.history.items (replay K.first b.history.items)
+    ghost invariant = { λ b. let history = map arc_value b.history.items in
+        IsSound K.first b.pen history (replay K.first history)
+        × IsReady K.first K.cells (found_epoch b.seat) b.pen history (replay K.first history)
         × AreNewest b.pen b.newest.items × (initial (arc_value b.population) ≡ K.first)
-        × (b.shares.total ≡ length b.history.items)
-        × AreLast K.parts b.history.items b.lasts.items
-        × (b.seat.board ≡ K.board) × HasCounted b.seat b.history.items };
+        × (b.shares.total ≡ length history)
+        × AreLast K.parts history b.lasts.items
+        × (b.seat.board ≡ K.board) × HasCounted b.seat history
+        × (seed_of (arc_value b.population) ≡ K.seed)
+        × AreStreams K.board.plan.loggers (found_epoch b.seat) history b.streams.items };
 }
 
 impl<K: Run> Book<K> {
-    ghost use Rattle.std.specs.Prelude.{◌≡◌, ◌+◌, ◌<◌, length, IfOk, IfErr};
+    ghost use Rattle.std.specs.Prelude.{◌≡◌, ◌+◌, ◌<◌, length, map, IfOk, IfErr};
+    ghost use Rattle.std.specs.Arc.{arc_value};
     ghost use Rattle.money.specs.declared.refusal.Refusal.TheVariants.{OutOfMemory};
     ghost use Rattle.tables.specs.Database.{database};
     ghost use Rattle.tables.specs.Records.{record_count};
@@ -69,8 +83,8 @@ impl<K: Run> Book<K> {
     /// The committed tables, `replay K.first` of it, meet the conditions, and each entry's reply is the one that
     /// its transaction has at its place in the order. The book's seat of the board has counted as many commits, each
     /// with its epoch.
-    pub fn history(&self) -> &[Entry]
-        ensures history { result.now ≡ self.now.history }
+    pub fn history(&self) -> &[Arc<Entry, Global>]
+        ensures history { map arc_value result.now ≡ self.now.history }
         ensures counted { HasCounted self.now.seat self.now.history }
         ensures sound { IsSound K.first self.now.written self.now.history (replay K.first self.now.history) }
     {

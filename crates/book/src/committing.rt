@@ -12,11 +12,11 @@ ghost use Rattle.book.specs.Next.{IsNextCommit, IsRefusedAt};
 ghost use Rattle.book.specs.Shows.{Mirrors, IsCommitRun, IsFailedRun, reads_of};
 
 use crate::book::Book;
-use crate::entry::{Done, Entry};
-use crate::prepare::{Prepared, prepare};
+use crate::done::Done;
+use crate::prepare::{Place, Prepared, prepare};
 use crate::run::Run;
 use crate::share::Share;
-use crate::steps::{in_order, store, validate};
+use crate::steps::{Footprint, in_order, store, validate};
 use board::Board;
 use cells::{Cells, Reader};
 use money::Refusal;
@@ -25,8 +25,8 @@ use std::sync::Wait;
 
 impl<K: Run> Book<K> {
     /// Commits a transaction that this reader has executed, as the next in the history (Silo, section 4.4). Costs a
-    /// comparison a record read; a store, a comparison and two copies a record written; a copy of the reply; and
-    /// constant time, amortized, for the history. May wait, at a record's cell alone.
+    /// comparison a record read; a store, a comparison and two copies a record written; and constant time, amortized,
+    /// for the history and the logger's stream. May wait, at a record's cell alone.
     ///
     /// Where the versions read are the latest, the transaction is done at the committed tables: its reply and its
     /// writes are those of its definition there, though it may be refused. Its TID is the least of the epoch E that is
@@ -94,21 +94,33 @@ impl<K: Run> Book<K> {
             (λ refusal. IsFailedRun m w (reads_of work.reads) work.writes.values refusal) }
         ensures cap_first { IfErr result (λ refusal. refusal ≢ EpochFull) }
     {
-        in_order(&work);
+        let Work {
+            input,
+            reads,
+            writes,
+            reply,
+        } = work;
+        let footprint = Footprint { reads, writes };
+        in_order(&footprint);
         let epoch = board.epoch(&mut self.seat);
-        let Some(seen) = validate(rt, cells, &mut self.pen, reader, &work) else {
+        let Some(seen) = validate(rt, cells, &mut self.pen, reader, &footprint) else {
             return Err(Refusal::Conflict);
         };
-        let cap = self.population.scale().commits();
-        let last = self.lasts[share.terminal as usize];
-        let Prepared { tid, writes, reply } = match prepare(
-            cap,
-            epoch as u32,
-            &mut self.history,
+        let place = Place {
+            cap: self.population.scale().commits(),
+            epoch: epoch as u32,
             seen,
-            last,
-            &work,
-        ) {
+            terminal: share.terminal,
+            last: self.lasts[share.terminal as usize],
+        };
+        let logger = share.terminal as usize % self.streams.len();
+        let stream = &mut self.streams[logger];
+        let Prepared {
+            tid,
+            entry,
+            waiting,
+            done,
+        } = match prepare(&mut self.history, stream, place, input, reply, &footprint.writes) {
             Ok(prepared) => prepared,
             Err(refusal) => return Err(refusal),
         };
@@ -118,21 +130,14 @@ impl<K: Run> Book<K> {
             &mut self.pen,
             reader,
             &mut self.newest,
-            &work,
+            &footprint,
             tid,
         );
-        let number = self.history.len() as u32 + 1;
-        self.history.push_reserved(Entry {
-            number,
-            tid,
-            terminal: share.terminal,
-            input: work.input,
-            reply: work.reply,
-            writes,
-        });
+        stream.add(waiting);
+        self.history.push_reserved(entry);
         self.lasts[share.terminal as usize] = tid;
         self.shares.add(&mut share.part, 1);
         board.commit_step(&mut self.seat, epoch);
-        Ok(Done::of(number, tid, reply))
+        Ok(done)
     }
 }

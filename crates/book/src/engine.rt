@@ -7,8 +7,8 @@ ghost use Rattle.tables.specs.Records.{record_count};
 ghost use Rattle.board.specs.declared.rule.Role.TheVariants.{Clock, Terminal};
 ghost use Rattle.board.specs.Seats.{new_seat};
 ghost use Rattle.board.specs.Opening.{logger_seats};
-ghost use Rattle.book.specs.Parts.{IsFresh, first_of, cells_of, board_of, ledger_name, ledger_parts};
-ghost use Rattle.book.specs.Parts.{loggers_of, terminals_of};
+ghost use Rattle.book.specs.Parts.{IsFresh, IsRunOf, AreEmpty, first_of, ledger_name, ledger_parts};
+ghost use Rattle.book.specs.Parts.{base_of, loggers_of, terminals_of};
 ghost use Rattle.book.specs.declared.engine.TheConstants.{MAX_LOGGERS as the_most_loggers};
 ghost use Rattle.book.specs.declared.engine.TheConstants.{MAX_TERMINALS as the_most_terminals};
 
@@ -16,6 +16,8 @@ use crate::book::Book;
 use crate::entry::Entry;
 use crate::run::Run;
 use crate::share::Share;
+use crate::shared::shared;
+use crate::stream::Stream;
 use board::{Board, BoardSeats, ClockSeat, LoggerSeat, TerminalSeat};
 use cells::{Cells, Newest, Pen, Reader};
 use encoding::newest_of;
@@ -33,7 +35,8 @@ pub struct Parts {
     population: Arc<Population, Global>,
     lent: Arc<Population, Global>,
     newest: Vec<Newest>,
-    history: Vec<Entry>,
+    history: Vec<Arc<Entry, Global>>,
+    streams: Vec<Stream>,
     lasts: Vec<TidWord>,
     cells: Cells,
     pen: Pen,
@@ -67,6 +70,7 @@ impl Parts {
         requires terminals { (0 < terminals) × (terminals ≤ the_most_terminals) }
         ensures fresh { IfOk result IsFresh }
         ensures first { IfOk result (λ parts. first_of parts ≡ initial population) }
+        ensures base { IfOk result (λ parts. base_of parts ≡ 0) }
         ensures loggers { IfOk result (λ parts. loggers_of parts ≡ loggers) }
         ensures terminals { IfOk result (λ parts. terminals_of parts ≡ terminals) }
         ensures only_memory { IfErr result (λ refusal. refusal ≡ OutOfMemory) }
@@ -80,6 +84,7 @@ impl Parts {
             lent,
             newest,
             history: Vec::new(alloc),
+            streams: streams(alloc, loggers)?,
             lasts: vec![in alloc; TidWord::new(0); terminals as usize]?,
             cells,
             pen,
@@ -91,19 +96,16 @@ impl Parts {
     }
 }
 
-/// A population that two may have.
-fn shared(
-    alloc: Global,
-    population: Population,
-) -> Result<(Arc<Population, Global>, Arc<Population, Global>), Refusal>
-    ensures both { IfOk result (λ made. (arc_value made.0 ≡ population) × (arc_value made.1 ≡ population)) }
+/// The streams of loggers that have taken nothing. `OutOfMemory` is the only refusal.
+fn streams(alloc: Global, loggers: u16) -> Result<Vec<Stream>, Refusal>
+    ensures empty { IfOk result (λ streams. AreEmpty loggers 0 streams.items) }
     ensures only_memory { IfErr result (λ refusal. refusal ≡ OutOfMemory) }
 {
-    let Ok(one) = Arc::new(alloc, population) else {
-        return Err(Refusal::OutOfMemory);
-    };
-    let other = Arc::try_clone(&one)?;
-    Ok((one, other))
+    let mut streams = Vec::new(alloc);
+    for _ in 0..loggers {
+        streams.push(Stream::new(alloc, 0))?;
+    }
+    Ok(streams)
 }
 
 /// An engine: the population, the record cells, which terminals read without a lock, the board of epoch words, and the
@@ -135,7 +137,7 @@ impl<K: Run> Engine<K> {
     /// memory.
     pub fn open(parts: Parts) -> (Engine<K>, Seats<K>)
         requires fresh { IsFresh parts }
-        requires run { (first_of parts ≡ K.first) × (cells_of parts ≡ K.cells) × (board_of parts ≡ K.board) }
+        requires run { IsRunOf parts K.first K.cells K.board K.seed }
         requires ledger { (ledger_name parts ≡ K.name) × (ledger_parts parts ≡ K.parts) }
         ensures clock { result.1.clock ≡ new_seat K.board Clock }
         ensures loggers { result.1.loggers.items ≡ logger_seats K.board K.board.plan.loggers }
@@ -147,6 +149,7 @@ impl<K: Run> Engine<K> {
             lent,
             newest,
             history,
+            streams,
             lasts,
             cells,
             pen,
@@ -169,6 +172,7 @@ impl<K: Run> Engine<K> {
             population: lent,
             newest,
             history,
+            streams,
             lasts,
             shares,
             seat,

@@ -1,5 +1,4 @@
 //! What has committed.
-ghost use Rattle.std.specs.Prelude.{◌≡◌};
 
 use readset::WriteList;
 use tables::{Input, Reply};
@@ -17,42 +16,4 @@ pub struct Entry {
     pub input: Input,
     pub reply: Reply,
     pub writes: WriteList,
-}
-
-/// What a terminal is told of a commit. Only a commit makes one.
-#[derive(Debug, Drop, PartialEq)]
-pub struct Done {
-    number: u32,
-    tid: TidWord,
-    reply: Reply,
-}
-
-impl Done {
-    /// Of a commit.
-    pub(crate) fn of(number: u32, tid: TidWord, reply: Reply) -> Done
-        ensures { result ≡ record { number = number; tid = tid; reply = reply } }
-    {
-        Done { number, tid, reply }
-    }
-
-    /// The commit number, from 1.
-    pub fn number(&self) -> u32
-        ensures { result ≡ self.now.number }
-    {
-        self.number
-    }
-
-    /// The commit's TID, without status bits; the words of the versions that it stored have it.
-    pub fn tid(&self) -> TidWord
-        ensures { result ≡ self.now.tid }
-    {
-        self.tid
-    }
-
-    /// The reply to the transaction.
-    pub fn reply(&self) -> &Reply
-        ensures { result.now ≡ self.now.reply }
-    {
-        &self.reply
-    }
 }

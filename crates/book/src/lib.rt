@@ -4,23 +4,30 @@
 //! history.
 #![tactic(auto)]
 
+mod batch;
 mod book;
 mod committing;
 mod confirming;
 mod decided;
+mod done;
 mod engine;
 mod entry;
 mod history_rows;
 mod prepare;
 mod run;
 mod share;
+mod shared;
 mod shown;
 mod steps;
+mod stream;
+mod taking;
 
+pub use batch::Batch;
 pub use book::Book;
 pub use decided::every_decided_run_is_legal;
+pub use done::Done;
 pub use engine::{Engine, MAX_LOGGERS, MAX_TERMINALS, Parts, Seat, Seats, TerminalSeats};
-pub use entry::{Done, Entry};
+pub use entry::Entry;
 pub use run::Run;
 pub use share::Share;
 pub use shown::every_book_is_shown;

@@ -1,63 +1,111 @@
 //! What may be refused of a commit, all of which comes before its first store.
-ghost use Rattle.std.specs.Prelude.{◌≡◌, ◌<◌, ◌≤◌, ◌⊎◌, ℕ, Some, None, IsSome, length, vec_len, vec_capacity, IfOk};
-ghost use Rattle.std.specs.Prelude.{IfErr, OnOk};
+ghost use Rattle.std.specs.Prelude.{◌≡◌, ◌+◌, ◌<◌, ◌≤◌, ◌⊎◌, ℕ, Some, None, IsSome, length, vec_len, vec_capacity};
+ghost use Rattle.std.specs.Prelude.{IfOk, IfErr, OnOk};
+ghost use Rattle.std.specs.Arc.{arc_value};
 ghost use Rattle.money.specs.declared.refusal.Refusal.TheVariants.{OutOfMemory, CommitsFull, EpochFull};
 ghost use Rattle.tidword.specs.TidWord.{tid_of};
 ghost use Rattle.tidword.specs.Lawful.{IsLawful, next};
 
+use crate::done::Done;
 use crate::entry::Entry;
+use crate::shared::shared;
+use crate::stream::Stream;
 use money::Refusal;
-use readset::{Work, WriteList};
-use tables::Reply;
+use readset::WriteSet;
+use std::alloc::Global;
+use std::sync::Arc;
+use tables::{Input, Reply};
 use tidword::{TidWord, next_tid};
 
-/// What a commit that isn't refused puts into the history.
-pub(crate) struct Prepared {
-    pub tid: TidWord,
-    pub writes: WriteList,
-    pub reply: Reply,
+/// What a commit's place in the history comes from: the commit cap, the epoch, the greatest TID that it has seen, and
+/// the terminal with the TID of its last commit.
+#[derive(Clone, Copy)]
+pub(crate) struct Place {
+    pub cap: u32,
+    pub epoch: u32,
+    pub seen: TidWord,
+    pub terminal: u16,
+    pub last: TidWord,
 }
 
-/// Takes the TID in this epoch, and the memory for one entry more, for its writes and for a copy of its reply.
+/// The entry of a commit that isn't refused, which stands in memory once: for the history, for its stream, and for its
+/// terminal.
+pub(crate) struct Prepared {
+    pub tid: TidWord,
+    pub entry: Arc<Entry, Global>,
+    pub waiting: Arc<Entry, Global>,
+    pub done: Done,
+}
+
+/// Takes the TID in this epoch, and makes the entry, with memory for a place in the history and one in the stream.
 ///
 /// # Errors
 ///
 /// `CommitsFull` exactly at the commit cap, then `EpochFull` exactly where `next_tid` has no TID of the greatest one
-/// seen and the terminal's last, then `OutOfMemory`. The history is then as before.
+/// seen and the terminal's last, then `OutOfMemory`. History and stream are then as before.
 pub(crate) fn prepare(
-    cap: u32,
-    epoch: u32,
-    history: &mut Vec<Entry>,
-    seen: TidWord,
-    last: TidWord,
-    work: &Work,
+    history: &mut Vec<Arc<Entry, Global>>,
+    stream: &mut Stream,
+    place: Place,
+    input: Input,
+    reply: Reply,
+    writes: &WriteSet,
 ) -> Result<Prepared, Refusal>
-    ensures tid { IfOk result (λ made. next (tid_of seen) (tid_of last) epoch ≡ Some made.tid) }
-    ensures lawful { IfOk result (λ made. IsLawful seen last epoch made.tid) }
-    ensures writes { IfOk result (λ made. made.writes ≡ work.now.writes) }
-    ensures reply { IfOk result (λ made. made.reply ≡ work.now.reply) }
-    ensures below { OnOk result (length history.old.items < cap) }
-    ensures room { OnOk result (vec_len history.new < vec_capacity history.new) }
+    ensures tid { IfOk result (λ made.
+        next (tid_of place.seen) (tid_of place.last) place.epoch ≡ Some made.tid) }
+    ensures lawful { IfOk result (λ made. IsLawful place.seen place.last place.epoch made.tid) }
+    ensures entry { IfOk result (λ made. arc_value made.entry ≡ record {
+      number = length history.old.items + 1;
+      tid = made.tid;
+      terminal = place.terminal;
+      input = input;
+      reply = reply;
+      writes = writes.now;
+    }) }
+    ensures waiting { IfOk result (λ made. arc_value made.waiting ≡ arc_value made.entry) }
+    ensures done { IfOk result (λ made.
+        made.done ≡ record { number = length history.old.items + 1; tid = made.tid; reply = reply }) }
+    ensures below { OnOk result (length history.old.items < place.cap) }
     ensures history { history.new.items ≡ history.old.items }
+    ensures stream { (stream.new.taken ≡ stream.old.taken) × (stream.new.number ≡ stream.old.number)
+        × (stream.new.waiting.items ≡ stream.old.waiting.items) × (stream.new.mark ≡ stream.old.mark) }
+    ensures room { OnOk result ((vec_len history.new < vec_capacity history.new)
+        × (vec_len stream.new.waiting < vec_capacity stream.new.waiting)) }
     ensures refused { IfErr result (λ refusal.
-        ((refusal ≡ CommitsFull) × (cap ≤ length history.old.items))
-        ⊎ ((refusal ≡ EpochFull) × (length history.old.items < cap)
-        × (next (tid_of seen) (tid_of last) epoch ≡ None))
-        ⊎ ((refusal ≡ OutOfMemory) × (length history.old.items < cap)
-        × IsSome (next (tid_of seen) (tid_of last) epoch))) }
+        ((refusal ≡ CommitsFull) × (place.cap ≤ length history.old.items))
+        ⊎ ((refusal ≡ EpochFull) × (length history.old.items < place.cap)
+        × (next (tid_of place.seen) (tid_of place.last) place.epoch ≡ None))
+        ⊎ ((refusal ≡ OutOfMemory) × (length history.old.items < place.cap)
+        × IsSome (next (tid_of place.seen) (tid_of place.last) place.epoch))) }
 {
-    if history.len() >= cap as usize {
+    if history.len() >= place.cap as usize {
         return Err(Refusal::CommitsFull);
     }
-    let tid = next_tid(seen, last, epoch)?;
+    let tid = next_tid(place.seen, place.last, place.epoch)?;
+    let alloc = *history.allocator();
     let Ok(()) = history.reserve(1) else {
         return Err(Refusal::OutOfMemory);
     };
-    let Ok(writes) = work.writes.list(*history.allocator()) else {
+    stream.reserve()?;
+    let Ok(writes) = writes.list(alloc) else {
         return Err(Refusal::OutOfMemory);
     };
-    match work.reply.copied() {
-        Ok(reply) => Ok(Prepared { tid, writes, reply }),
-        Err(_) => Err(Refusal::OutOfMemory),
-    }
+    let (entry, waiting) = shared(
+        alloc,
+        Entry {
+            number: history.len() as u32 + 1,
+            tid,
+            terminal: place.terminal,
+            input,
+            reply,
+            writes,
+        },
+    )?;
+    let told = Arc::try_clone(&entry)?;
+    Ok(Prepared {
+        tid,
+        entry,
+        waiting,
+        done: Done::of(told),
+    })
 }

@@ -3,16 +3,19 @@
 use std::marker::Brand;
 use std::sync::ledger::Ledger;
 
-/// Names one run: the tables that it began with, its record cells, its board of epoch words, and, as a `Ledger`, its
-/// terminals' shares.
+/// Names one run: the tables that it began with and their population's seed, its record cells, its board of epoch words,
+/// and, as a `Ledger`, its terminals' shares.
 pub trait Run: Ledger {
-    ghost use Rattle.std.specs.Prelude.{List};
+    ghost use Rattle.std.specs.Prelude.{ℕ, List};
     ghost use Rattle.atomic_table.specs.Seated.{TableId};
     ghost use Rattle.tables.specs.Database.{Database};
     ghost use Rattle.board.specs.Seats.{BoardView};
 
     /// The tables that the run began with.
     ghost first: { Database };
+
+    /// The seed of the population.
+    ghost seed: { ℕ };
 
     /// The cells of its records, by record number.
     ghost cells: { List TableId };
@@ -21,13 +24,15 @@ pub trait Run: Ledger {
     ghost board: { BoardView };
 }
 
-/// Only so that there is one: a call at `Brand` names its own tables, cells and board.
+/// Only so that there is one: a call at `Brand` names its own tables, seed, cells and board.
 impl Run for Brand {
     ghost use Rattle.std.specs.Prelude.{[]};
     ghost use Rattle.tables.specs.Sizes.{sizes};
     ghost use Rattle.tables.specs.Database.{empty_database};
 
     ghost first = { empty_database (sizes 1 1 10 20 10 1) };
+
+    ghost seed = { 0 };
 
     ghost cells = { [] };
 

@@ -12,16 +12,23 @@ ghost use Rattle.book.specs.Ready.{AreNewest};
 
 use cells::{Cells, Newest, Pen, Reader};
 use money::{NO_PAYLOAD, Payload};
-use readset::Work;
+use readset::{ReadSet, WriteSet};
 use std::sync::Wait;
 use tidword::TidWord;
 
+/// What a transaction has read, and is to write.
+#[derive(Drop)]
+pub(crate) struct Footprint {
+    pub reads: ReadSet,
+    pub writes: WriteSet,
+}
+
 /// For proofs: what was read and what is to be written stand in the order of their records. Changes nothing.
-pub(crate) fn in_order(work: &Work)
-    ensures { AreInOrder work.now.reads work.now.writes }
+pub(crate) fn in_order(footprint: &Footprint)
+    ensures { AreInOrder footprint.now.reads footprint.now.writes }
 {
-    work.reads.versions();
-    work.writes.values();
+    footprint.reads.versions();
+    footprint.writes.values();
 }
 
 /// The greatest TID of what was read, if each version read is still its record's latest (phase 2). The reader may have
@@ -31,18 +38,18 @@ pub(crate) fn validate<R: Wait>(
     cells: &Cells,
     pen: &mut Pen,
     reader: &mut Reader,
-    work: &Work,
+    footprint: &Footprint,
 ) -> Option<TidWord>
     requires own { (pen.old.cells ≡ cells.now) × (reader.old.cells ≡ cells.now) }
-    requires read { IsReadBy (length cells.now) reader.old work.now.reads }
+    requires read { IsReadBy (length cells.now) reader.old footprint.now.reads }
     ensures pen { pen.new ≡ pen.old }
     ensures reader { HasGrown reader.old reader.new }
-    ensures latest { MatchOption result (HasConflict pen.old.all work.now.reads)
-        (λ seen. AreLatest pen.old.all work.now.reads × (seen ≡ greatest_tid work.now.reads)
-        × IsRead work.now.reads seen) }
+    ensures latest { MatchOption result (HasConflict pen.old.all footprint.now.reads)
+        (λ seen. AreLatest pen.old.all footprint.now.reads × (seen ≡ greatest_tid footprint.now.reads)
+        × IsRead footprint.now.reads seen) }
 {
     let mut seen = 0;
-    for (_, version) in work.reads.versions() {
+    for (_, version) in footprint.reads.versions() {
         if !cells.meet(rt, pen, reader, version) {
             return None;
         }
@@ -59,28 +66,28 @@ pub(crate) fn store<R: Wait>(
     pen: &mut Pen,
     reader: &mut Reader,
     newest: &mut [Newest],
-    work: &Work,
+    footprint: &Footprint,
     tid: TidWord,
 )
     requires own { (pen.old.cells ≡ cells.now) × (reader.old.cells ≡ cells.now) }
-    requires read { IsReadBy (length cells.now) reader.old work.now.reads }
-    requires written_read { WritesAreRead work.now.writes work.now.reads }
+    requires read { IsReadBy (length cells.now) reader.old footprint.now.reads }
+    requires written_read { WritesAreRead footprint.now.writes footprint.now.reads }
     requires no_bits { tid % 8 ≡ 0 }
-    requires larger { (n : ℕ) (value : Option (List ℕ)) → value_for work.now.writes n ≡ Some value
+    requires larger { (n : ℕ) (value : Option (List ℕ)) → value_for footprint.now.writes n ≡ Some value
         → last_tid (at pen.old.all n) < tid }
     requires newest { AreNewest pen.old newest.old }
     ensures cells { pen.new.cells ≡ pen.old.cells }
     ensures versions { (n : ℕ)
-        → at pen.new.all n ≡ at pen.old.all n ++ new_versions tid work.now.writes.values n }
+        → at pen.new.all n ≡ at pen.old.all n ++ new_versions tid footprint.now.writes.values n }
     ensures reader { HasGrown reader.old reader.new }
-    ensures seen { HasSeen reader.new pen.new work.now.writes }
+    ensures seen { HasSeen reader.new pen.new footprint.now.writes }
     ensures newest { AreNewest pen.new newest.new }
 {
-    for (record, value) in work.writes.values() {
+    for (record, value) in footprint.writes.values() {
         let version = version(tid, value);
         cells.store(rt, pen, *record, version.word, version.payload);
         newest[*record as usize] = version;
-        match work.reads.held(*record) {
+        match footprint.reads.held(*record) {
             Some(held) => {
                 cells.meet(rt, pen, reader, held);
             }

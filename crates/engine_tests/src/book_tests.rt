@@ -1,6 +1,6 @@
 //! Two Payments to one district, both executed before either commits, by threads that take no lock.
 ghost use Rattle.std.specs.Prelude.{◌≡◌, length};
-ghost use Rattle.book.specs.Parts.{IsFresh, first_of, cells_of, board_of, ledger_name, ledger_parts};
+ghost use Rattle.book.specs.Parts.{IsFresh, IsRunOf, cells_of, ledger_name, ledger_parts};
 
 use crate::engine::{Committed, Executed, both_of, commit_executed, parts, pay};
 use crate::payments::{history_row, payment_told};
@@ -271,7 +271,7 @@ fn pay_twice<K: Run + Send + Sync, R: Threads + Wait + Clock + Sync>(
 ) -> Result<Outcome, Fail>
     requires fresh { IsFresh parts }
     requires cells { length (cells_of parts) ≡ 1085 }
-    requires run { (first_of parts ≡ K.first) × (cells_of parts ≡ K.cells) × (board_of parts ≡ K.board) }
+    requires run { IsRunOf parts K.first K.cells K.board K.seed }
     requires ledger { (ledger_name parts ≡ K.name) × (ledger_parts parts ≡ K.parts) }
 {
     let (engine, mut seats) = Engine::<K>::open(parts);

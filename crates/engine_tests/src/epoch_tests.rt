@@ -1,6 +1,6 @@
 //! A commit in the epoch that the clock has made.
 ghost use Rattle.std.specs.Prelude.{◌≡◌};
-ghost use Rattle.book.specs.Parts.{IsFresh, first_of, cells_of, board_of, ledger_name, ledger_parts};
+ghost use Rattle.book.specs.Parts.{IsFresh, IsRunOf, ledger_name, ledger_parts};
 
 use crate::engine::{Committed, commit_executed, parts, pay};
 use crate::payments::payment_told;
@@ -18,7 +18,7 @@ fn pay_in_the_next_epoch<K: Run, R: Wait>(
     parts: Parts,
 ) -> Result<(u64, Committed), Refusal>
     requires fresh { IsFresh parts }
-    requires run { (first_of parts ≡ K.first) × (cells_of parts ≡ K.cells) × (board_of parts ≡ K.board) }
+    requires run { IsRunOf parts K.first K.cells K.board K.seed }
     requires ledger { (ledger_name parts ≡ K.name) × (ledger_parts parts ≡ K.parts) }
 {
     let (engine, mut seats) = Engine::<K>::open(parts);

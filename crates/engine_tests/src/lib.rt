@@ -32,4 +32,6 @@ mod readset_tests;
 #[cfg(test)]
 mod stage;
 #[cfg(test)]
+mod streams_tests;
+#[cfg(test)]
 mod told;

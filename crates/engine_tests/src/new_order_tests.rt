@@ -2,7 +2,7 @@
 ghost use Rattle.std.specs.Prelude.{◌≡◌, length, IfOk};
 ghost use Rattle.tables.specs.Records.{record_count};
 ghost use Rattle.population.specs.Initial.{initial};
-ghost use Rattle.book.specs.Parts.{IsFresh, first_of, cells_of, board_of, ledger_name, ledger_parts};
+ghost use Rattle.book.specs.Parts.{IsFresh, IsRunOf, ledger_name, ledger_parts};
 
 use crate::engine::{attempt, parts};
 use crate::new_orders::{five, line, new_order, order_told};
@@ -146,7 +146,7 @@ type Tries = (
 
 fn try_both<K: Run, R: Wait>(rt: &R, alloc: Global, parts: Parts) -> Result<Tries, Fail>
     requires fresh { IsFresh parts }
-    requires run { (first_of parts ≡ K.first) × (cells_of parts ≡ K.cells) × (board_of parts ≡ K.board) }
+    requires run { IsRunOf parts K.first K.cells K.board K.seed }
     requires ledger { (ledger_name parts ≡ K.name) × (ledger_parts parts ≡ K.parts) }
 {
     let (engine, mut seats) = Engine::<K>::open(parts);

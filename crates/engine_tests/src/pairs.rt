@@ -1,7 +1,7 @@
 //! Two transactions at two terminals, of which both are executed before either commits.
 ghost use Rattle.std.specs.Prelude.{◌≡◌, IfOk};
 ghost use Rattle.tables.specs.Inputs.{IsInput};
-ghost use Rattle.book.specs.Parts.{IsFresh, first_of, cells_of, board_of, ledger_name, ledger_parts};
+ghost use Rattle.book.specs.Parts.{IsFresh, IsRunOf, ledger_name, ledger_parts};
 
 use crate::deliveries::delivery;
 use crate::engine::{self, Executed, both_of, commit_executed, execute_at, parts};
@@ -145,7 +145,7 @@ fn outcome_on<K: Run, R: Wait>(
     asked: (Asked, Asked),
 ) -> Result<Outcome, Fail>
     requires fresh { IsFresh parts }
-    requires run { (first_of parts ≡ K.first) × (cells_of parts ≡ K.cells) × (board_of parts ≡ K.board) }
+    requires run { IsRunOf parts K.first K.cells K.board K.seed }
     requires ledger { (ledger_name parts ≡ K.name) × (ledger_parts parts ≡ K.parts) }
 {
     let (engine, mut seats) = Engine::<K>::open(parts);

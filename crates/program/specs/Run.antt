@@ -10,7 +10,7 @@ use Rattle.tables.specs.Database.{Database}
 use Rattle.population.specs.Plain.{IsPlain}
 use Rattle.conditions.specs.Report.{IsGood}
 use Rattle.conditions.specs.declared.report.Report.{Report}
-use Rattle.book.specs.declared.entry.Done.{Done}
+use Rattle.book.specs.Done.{Done}
 use Rattle.script.specs.Written.{IsWhole, IsBeginning}
 use Rattle.command_line.specs.CommandLine.{IsAskedBy, IsOptionsRefusal}
 use Rattle.command_line.specs.declared.asked.Options.{Options}

@@ -11,7 +11,7 @@ use Rattle.script_text.specs.Report.{report_text}
 use Rattle.conditions.specs.Finds.{FindsLeast}
 use Rattle.conditions.specs.Report.{IsReportOf}
 use Rattle.conditions.specs.declared.report.Report.{Report}
-use Rattle.book.specs.declared.entry.Done.{Done}
+use Rattle.book.specs.Done.{Done}
 use Rattle.script.specs.Turns.{commits_of}
 use Rattle.script.specs.Written.{start, answers_text, IsWhole}
 use Rattle.script.proofs.OneRun.{one_run}

@@ -14,7 +14,7 @@ use Rattle.conditions.specs.Report.{IsReportOf}
 use Rattle.conditions.specs.declared.report.Report.{Report}
 use Rattle.script_text.specs.Lines.{text_lines}
 use Rattle.script_text.specs.Report.{report_text}
-use Rattle.book.specs.declared.entry.Done.{Done}
+use Rattle.book.specs.Done.{Done}
 use Rattle.script.specs.Turns.{AreTurns, commits_of}
 use Rattle.script.specs.Written.{start, HasTooManyLines, IsWhole, IsBeginning, of_answers, of_whole}
 use Rattle.script.specs.Answered.{state_of, Standing, HasAnswered, HasAnsweredAll, HasTooMany}

@@ -16,7 +16,7 @@ use Rattle.script_text.specs.declared.request.Request.{Request}
 use Rattle.script_text.specs.declared.answer.Answer.{Answer}
 use Rattle.script_text.specs.declared.answer.Answer.TheVariants as answer
 use Rattle.script_text.proofs.OneText.{in_reach}
-use Rattle.book.specs.declared.entry.Done.{Done}
+use Rattle.book.specs.Done.{Done}
 use Rattle.book.specs.History.{replay}
 use Rattle.book.proofs.Replaying.{replay-scale}
 use Rattle.book.specs.Next.{IsNextCommit, IsRefusedAt}

@@ -18,7 +18,7 @@ use Rattle.script_text.specs.declared.shown.ShownRow.{ShownRow}
 use Rattle.script_text.specs.declared.shown.ShownRow.TheVariants as shown
 use Rattle.script_text.specs.declared.answer.Answer.{Answer}
 use Rattle.script_text.specs.declared.answer.Answer.TheVariants as answer
-use Rattle.book.specs.declared.entry.Done.{Done}
+use Rattle.book.specs.Done.{Done}
 use Rattle.book.specs.Next.{IsRefusedAt}
 
 -- what a terminal is told of a commit: its number and its reply. Its TID, which it is told too, is the engine's own

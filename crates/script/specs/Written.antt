@@ -8,7 +8,7 @@ use Rattle.script_text.specs.Report.{report_text}
 use Rattle.script_text.specs.declared.answer.Answer.{Answer}
 use Rattle.conditions.specs.Report.{IsReportOf}
 use Rattle.conditions.specs.declared.report.Report.{Report}
-use Rattle.book.specs.declared.entry.Done.{Done}
+use Rattle.book.specs.Done.{Done}
 use Rattle.script.specs.declared.running.TheConstants.{MAX_LINES}
 use Rattle.script.specs.Turns.{State, AreTurns, commits_of}
 

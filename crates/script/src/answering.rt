@@ -4,7 +4,7 @@ ghost use Rattle.std.specs.Prelude.{◌≡◌, ◌≢◌, ◌<◌, ℕ, List, []
 ghost use Rattle.std.specs.Option.{option_copied};
 ghost use Rattle.money.specs.declared.refusal.Refusal.TheVariants.{OutOfMemory};
 ghost use Rattle.tables.specs.Inputs.{IsInput};
-ghost use Rattle.book.specs.declared.entry.Done.{Done as DoneValue};
+ghost use Rattle.book.specs.Done.{Done as DoneValue};
 ghost use Rattle.script_text.specs.Lines.{buffered};
 ghost use Rattle.script_text.specs.declared.answer.Answer.TheVariants as answer;
 ghost use Rattle.script.specs.Answered.{state_of};

@@ -7,7 +7,7 @@ ghost use Rattle.money.specs.declared.refusal.Refusal.TheVariants.{OutOfMemory, 
 ghost use Rattle.population.specs.Initial.{initial};
 ghost use Rattle.script_text.specs.Lines.{buffered};
 ghost use Rattle.script_text.specs.Output.{answer_text};
-ghost use Rattle.book.specs.Parts.{IsFresh, first_of, cells_of, board_of, ledger_name, ledger_parts, terminals_of};
+ghost use Rattle.book.specs.Parts.{IsFresh, IsRunOf, ledger_name, ledger_parts, terminals_of};
 ghost use Rattle.script.specs.Turns.{Turn, IsLineTurn};
 ghost use Rattle.script.specs.Written.{HasTooManyLines, IsWhole, IsBeginning};
 ghost use Rattle.script.specs.Answered.{state_of, standing_of, HasAnswered, HasAnsweredAll, HasTooMany};
@@ -83,7 +83,7 @@ fn run<K: Run, R: Read, W: Write, T: Wait>(
 ) -> Result<(Report, Vec<Done>), Refusal>
     requires fresh { IsFresh parts }
     requires one { terminals_of parts ≡ 1 }
-    requires run { (first_of parts ≡ K.first) × (cells_of parts ≡ K.cells) × (board_of parts ≡ K.board) }
+    requires run { IsRunOf parts K.first K.cells K.board K.seed }
     requires ledger { (ledger_name parts ≡ K.name) × (ledger_parts parts ≡ K.parts) }
     ensures whole { IfOk result (λ closed. (bytes : List ℕ) → R.remaining reader.old ≡ Some bytes
         → (text : List ℕ)

@@ -3,7 +3,7 @@ ghost use Rattle.std.specs.Prelude.{◌≡◌, ℕ, List};
 ghost use Rattle.tables.specs.Database.{Database};
 ghost use Rattle.script_text.specs.declared.answer.Answer.{Answer};
 ghost use Rattle.conditions.specs.declared.report.Report.{Report};
-ghost use Rattle.book.specs.declared.entry.Done.{Done};
+ghost use Rattle.book.specs.Done.{Done};
 ghost use Rattle.script.specs.Turns.{State, AreTurns, commits_of};
 ghost use Rattle.script.specs.Written.{IsWhole};
 

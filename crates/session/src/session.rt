@@ -9,7 +9,7 @@ ghost use Rattle.population.specs.Initial.{initial};
 ghost use Rattle.conditions.specs.Report.{IsReportOf};
 ghost use Rattle.book.specs.History.{replay};
 ghost use Rattle.book.specs.Next.{IsNextCommit, IsRefusedAt};
-ghost use Rattle.book.specs.declared.entry.Done.{Done as DoneValue};
+ghost use Rattle.book.specs.Done.{Done as DoneValue};
 ghost use Rattle.money.specs.declared.refusal.Refusal.TheVariants.{OutOfMemory};
 
 use crate::attempting::persist;

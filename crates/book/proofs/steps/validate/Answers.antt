@@ -5,7 +5,7 @@ use Rattle.book.proofs.Checks.{begins, within, seen, grown, conflict, goes_on, a
 use Rattle.book.proofs.steps.validate.Goals as goal
 
 pub loop-version-init : goal.loop-version-init
-loop-version-init g c = begins c.args.pen.now c.args.reader.now c.args.work.now.reads c.into_iter-version-iterator.result
+loop-version-init g c = begins c.args.pen.now c.args.reader.now c.args.footprint.now.reads c.into_iter-version-iterator.result
     (c.into_iter-version-iterator.ensures.into_iter_gives ∙ c.versions-version-items.ensures.versions) c.versions-version-items.ensures.found
 
 pub meet-requires-clause-own : goal.meet-requires-clause-own
@@ -13,12 +13,12 @@ meet-requires-clause-own g c =
     (ap (λ (w : PenView). w.cells) c.loop-version.invariant.same ∙ c.requires.own.0, c.loop-version.invariant.grown.cells ∙ c.requires.own.1)
 
 pub meet-requires-clause-is_record : goal.meet-requires-clause-is_record
-meet-requires-clause-is_record g c = within (length c.args.cells.now) c.args.pen.now c.args.reader.now c.args.work.now.reads c.requires.read c.loop-version.pen
+meet-requires-clause-is_record g c = within (length c.args.cells.now) c.args.pen.now c.args.reader.now c.args.footprint.now.reads c.requires.read c.loop-version.pen
     c.loop-version.reader c.loop-version.version-iterator c.loop-version.seen c.loop-version.invariant c.in-Some.field-0-0.now c.in-Some.version.now
     c.next.new.self c.in-Some.ensures.steps
 
 pub meet-requires-clause-seen : goal.meet-requires-clause-seen
-meet-requires-clause-seen g c = seen (length c.args.cells.now) c.args.pen.now c.args.reader.now c.args.work.now.reads c.requires.read c.loop-version.pen
+meet-requires-clause-seen g c = seen (length c.args.cells.now) c.args.pen.now c.args.reader.now c.args.footprint.now.reads c.requires.read c.loop-version.pen
     c.loop-version.reader c.loop-version.version-iterator c.loop-version.seen c.loop-version.invariant c.in-Some.field-0-0.now c.in-Some.version.now
     c.next.new.self c.in-Some.ensures.steps
 
@@ -26,18 +26,18 @@ pub returns-then-not-meet-clause-pen : goal.returns-then-not-meet-clause-pen
 returns-then-not-meet-clause-pen g c = c.meet.ensures.pen ∙ c.loop-version.invariant.same
 
 pub returns-then-not-meet-clause-reader : goal.returns-then-not-meet-clause-reader
-returns-then-not-meet-clause-reader g c = grown (length c.args.cells.now) c.args.pen.now c.args.reader.now c.args.work.now.reads c.requires.read
+returns-then-not-meet-clause-reader g c = grown (length c.args.cells.now) c.args.pen.now c.args.reader.now c.args.footprint.now.reads c.requires.read
     c.loop-version.pen c.loop-version.reader c.loop-version.version-iterator c.loop-version.seen c.loop-version.invariant c.in-Some.field-0-0.now
     c.in-Some.version.now c.next.new.self c.in-Some.ensures.steps c.meet.new.pen c.meet.new.reader c.meet.ensures.pen c.meet.ensures.reader
 
 pub returns-then-not-meet-clause-latest : goal.returns-then-not-meet-clause-latest
-returns-then-not-meet-clause-latest g c = conflict (length c.args.cells.now) c.args.pen.now c.args.reader.now c.args.work.now.reads c.requires.read
+returns-then-not-meet-clause-latest g c = conflict (length c.args.cells.now) c.args.pen.now c.args.reader.now c.args.footprint.now.reads c.requires.read
     c.loop-version.pen c.loop-version.reader c.loop-version.version-iterator c.loop-version.seen c.loop-version.invariant c.in-Some.field-0-0.now
     c.in-Some.version.now c.next.new.self c.in-Some.ensures.steps c.meet.new.pen c.meet.new.reader c.meet.ensures.pen c.meet.ensures.reader
     c.if-not-meet.ensures.latest
 
 pub loop-version-preserved : goal.loop-version-preserved
-loop-version-preserved g c = goes_on (length c.args.cells.now) c.args.pen.now c.args.reader.now c.args.work.now.reads c.requires.read c.loop-version.pen
+loop-version-preserved g c = goes_on (length c.args.cells.now) c.args.pen.now c.args.reader.now c.args.footprint.now.reads c.requires.read c.loop-version.pen
     c.loop-version.reader c.loop-version.version-iterator c.loop-version.seen c.loop-version.invariant c.in-Some.field-0-0.now c.in-Some.version.now
     c.next.new.self c.in-Some.ensures.steps c.meet.new.pen c.meet.new.reader c.meet.ensures.pen c.meet.ensures.reader c.if-not-meet.ensures.latest
     c.max-seen.result (search rules)
@@ -50,9 +50,9 @@ returns-clause-reader g c = c.loop-version.invariant.grown
 
 pub returns-clause-latest : goal.returns-clause-latest
 returns-clause-latest g c = (
-  all_latest c.args.pen.now c.args.reader.now c.args.work.now.reads c.loop-version.pen c.loop-version.reader c.loop-version.version-iterator c.loop-version.seen
+  all_latest c.args.pen.now c.args.reader.now c.args.footprint.now.reads c.loop-version.pen c.loop-version.reader c.loop-version.version-iterator c.loop-version.seen
       c.loop-version.invariant c.in-None.ensures.steps.0,
-  c.new.ensures ∙ all_greatest c.args.pen.now c.args.reader.now c.args.work.now.reads c.loop-version.pen c.loop-version.reader c.loop-version.version-iterator
+  c.new.ensures ∙ all_greatest c.args.pen.now c.args.reader.now c.args.footprint.now.reads c.loop-version.pen c.loop-version.reader c.loop-version.version-iterator
       c.loop-version.seen c.loop-version.invariant c.in-None.ensures.steps.0,
-  subst (IsRead c.args.work.now.reads) (sym c.new.ensures) c.loop-version.invariant.is_read,
+  subst (IsRead c.args.footprint.now.reads) (sym c.new.ensures) c.loop-version.invariant.is_read,
 )

@@ -1,12 +1,13 @@
-use Rattle.std.proofs.Common.{◌≡◌, ◌≢◌, ℕ, ◌+◌, ◌<◌, ◌≤◌, ◌^◌, ◌-◌, ◌⊎◌, Option, Some, None, IsSome, inl, List, [], ◌∷◌, ◌++◌, inr, refl, sym, ap, ◌∙◌, subst, length}
-use Rattle.std.proofs.Common.{arith, rules, length-append}
-use Rattle.std.specs.Prelude.{slice_index_or, slice_set}
+use Rattle.std.proofs.Common.{◌≡◌, ◌≢◌, ℕ, ◌+◌, ◌<◌, ◌≤◌, ◌^◌, ◌-◌, ◌⊎◌, Option, Some, None, IsSome, inl, List, [], ◌∷◌, ◌++◌, map, inr, refl, sym, ap, ◌∙◌, subst, length}
+use Rattle.std.proofs.Common.{rules, length-append}
+use Rattle.std.specs.Prelude.{slice_index_or, slice_set, ◌%◌}
+use Rattle.std.proofs.lemmas.List.{length-map, map-append}
 use Rattle.std.proofs.lemmas.Grind.{get_or_default_zero}
 use Rattle.money.specs.declared.refusal.Refusal.{Refusal}
 use Rattle.money.specs.declared.refusal.Refusal.TheVariants.{OutOfMemory, Conflict, CommitsFull, EpochFull}
 use Rattle.tables.specs.Sizes.{Sizes}
 use Rattle.tables.specs.Database.{Database}
-use Rattle.population.specs.Initial.{initial}
+use Rattle.population.specs.Initial.{initial, seed_of}
 use Rattle.population.specs.declared.population.Population.{Population}
 use Rattle.cells.specs.Versions.{last_tid}
 use Rattle.cells.specs.Records.{PenView, at}
@@ -20,6 +21,8 @@ use Rattle.board.specs.Steps.{counted}
 use Rattle.board.specs.Seats.{BoardView, SeatView, noted}
 use Rattle.board.specs.declared.rule.WordStep.TheVariants.{LoadEpoch, CountCommit}
 use Rattle.book.specs.Epochs.{found_epoch, HasCounted}
+use Rattle.book.specs.Streams.{AreStreams}
+use Rattle.book.specs.declared.stream.Stream.{Stream}
 use Rattle.book.specs.Ready.{IsReady, AreLast, AreNewest}
 use Rattle.book.specs.History.{replay, CommitsAt, new_versions}
 use Rattle.book.specs.Stamps.{last_of, tid_for}
@@ -31,21 +34,28 @@ use Rattle.book.proofs.Newest.{given_back}
 use Rattle.book.proofs.Replaying.{replay_push}
 use Rattle.book.proofs.Sound.{done_there}
 use Rattle.book.proofs.Stamped.{lasts_next}
-use Rattle.book.proofs.Loaded.{ready_loaded, counts_on, may_count}
+use Rattle.book.proofs.Loaded.{found_later, ready_loaded, counts_on, may_count}
+use Rattle.book.proofs.Streams.{streams_later, streams_reserved, streams_added, same_parts}
 use Rattle.book.proofs.Taken.{same_next, there_is, taken_above, next_kept}
 use Rattle.book.proofs.Committed.{read_by_more}
 use Rattle.book.proofs.NextCommit.{is_next}
 use Rattle.book.proofs.RefusedThere.{refused_there}
 use Rattle.book.specs.declared.entry.Entry.{Entry}
-use Rattle.book.specs.declared.entry.Done.{Done}
+use Rattle.book.specs.Done.{Done}
 use Rattle.book.proofs.book.Book.commit.Goals as goal
 
 -- the commit cap is that of the run's first tables
 capped : (t0 : Database) {p q : Population} {s : Sizes} {n : ℕ} → n ≡ s.commits → s ≡ (initial p).scale → p ≡ q → initial q ≡ t0 → n ≡ t0.scale.commits
 capped t0 a b d e = a ∙ ap (λ (s : Sizes). s.commits) (b ∙ ap (λ (r : Population). (initial r).scale) d ∙ ap (λ (t : Database). t.scale) e)
 
-abbrev kept : PenView → List Entry → SeatView → BookView
-kept pen history seat = record { written = pen; history = history; seat = seat }
+abbrev kept : PenView → List Entry → SeatView → List Stream → BookView
+kept pen history seat streams = record {
+  written = pen;
+  history = history;
+  seat = seat;
+  taken = map (λ s. s.taken) streams;
+  marks = map (λ s. s.mark) streams;
+}
 
 -- the terminal's last TID, where the vector has it
 last_is : {terminals terminal last : ℕ} {history : List Entry} {lasts : List ℕ} → AreLast terminals history lasts → terminal < terminals
@@ -92,48 +102,75 @@ only_full refusal count cap next (inr (inr memory)) = ((λ e. never (sym memory.
     other : OutOfMemory ≢ EpochFull
     other h = cc
 
+-- there are as many streams as loggers
+many : {loggers epoch : ℕ} {history : List Entry} (streams : List Stream) (n : ℕ) → n ≡ length streams → AreStreams loggers epoch history streams
+    → n ≡ loggers
+many streams n is are = is ∙ are.count
+
 conflict_not_full : Conflict ≢ EpochFull
 conflict_not_full h = cc
 
--- what the type of the book keeps, of its pen, its history and its seat
-abbrev Keeps : (t0 lent : Database) (run_cells : List TableId) (run : BoardView) (parts total : ℕ) (newest : List Newest) (lasts : List ℕ)
-    → PenView × List Entry × SeatView → Type 0
-Keeps t0 lent run_cells run parts total newest lasts q = IsSound t0 q.0 q.1 (replay t0 q.1) × IsReady t0 run_cells (found_epoch q.2) q.0 q.1 (replay t0 q.1)
+-- what the type of the book keeps, of its pen, its history, its seat and its streams
+abbrev Keeps : (t0 lent : Database) (run_cells : List TableId) (run : BoardView) (seed seed_lent parts total : ℕ) (newest : List Newest) (lasts : List ℕ)
+    → PenView × List Entry × SeatView × List Stream → Type 0
+Keeps t0 lent run_cells run seed seed_lent parts total newest lasts q = IsSound t0 q.0 q.1 (replay t0 q.1)
+    × IsReady t0 run_cells (found_epoch q.2) q.0 q.1 (replay t0 q.1)
     × AreNewest q.0 newest × (lent ≡ t0) × (total ≡ length q.1) × AreLast parts q.1 lasts × (q.2.board ≡ run) × HasCounted q.2 q.1
+    × (seed_lent ≡ seed) × AreStreams run.plan.loggers (found_epoch q.2) q.1 q.3
 
 pub invariant_of-self : goal.invariant_of-self
 invariant_of-self g c =
     let kept = c.self.invariant in
-    let ready = ready_loaded c.self.inside.seat kept.6 c.requires.board c.epoch-epoch.ensures.later kept.1 in
-    subst (Keeps g.K.Run.first (initial (arc_value c.self.inside.population)) g.K.Run.cells g.K.Run.board g.K.Ledger.parts c.self.inside.shares.total
-    c.self.inside.newest.items c.self.inside.lasts.items)
-    (λ i. (sym c.validate.ensures.pen i, c.self.inside.history.items, sym c.epoch-epoch.ensures.step i))
-    (kept.0, ready, kept.2, kept.3, kept.4, kept.5, kept.6, kept.7)
+    let seat = c.self.inside.seat in
+    let ready = ready_loaded seat kept.6 c.requires.board c.epoch-epoch.ensures.later kept.1 in
+    let streams = streams_later g.K.Run.board.plan.loggers (found_epoch seat) c.epoch-epoch.result (map arc_value c.self.inside.history.items)
+    c.self.inside.streams.items (found_later seat kept.6 c.requires.board c.epoch-epoch.ensures.later) kept.9 in
+    subst (Keeps g.K.Run.first (initial (arc_value c.self.inside.population)) g.K.Run.cells g.K.Run.board g.K.Run.seed
+    (seed_of (arc_value c.self.inside.population)) g.K.Ledger.parts c.self.inside.shares.total c.self.inside.newest.items c.self.inside.lasts.items)
+    (λ i. (sym c.validate.ensures.pen i, map arc_value c.self.inside.history.items, sym c.epoch-epoch.ensures.step i, c.self.inside.streams.items))
+    (kept.0, ready, kept.2, kept.3, kept.4, kept.5, kept.6, kept.7, kept.8, streams)
 
 pub invariant_of-self-in-Err : goal.invariant_of-self-in-Err
 invariant_of-self-in-Err g c =
     let kept = c.self.invariant in
-    let ready = ready_loaded c.self.inside.seat kept.6 c.requires.board c.epoch-epoch.ensures.later kept.1 in
-    subst (Keeps g.K.Run.first (initial (arc_value c.self.inside.population)) g.K.Run.cells g.K.Run.board g.K.Ledger.parts c.self.inside.shares.total
-    c.self.inside.newest.items c.self.inside.lasts.items)
-    (λ i. (sym c.validate.ensures.pen i, sym c.prepare.ensures.history i, sym c.epoch-epoch.ensures.step i))
-    (kept.0, ready, kept.2, kept.3, kept.4, kept.5, kept.6, kept.7)
+    let seat = c.self.inside.seat in
+    let streams = c.self.inside.streams.items in
+    let ready = ready_loaded seat kept.6 c.requires.board c.epoch-epoch.ensures.later kept.1 in
+    let count : c.len.result ≡ g.K.Run.board.plan.loggers = many streams c.len.result (search rules) kept.9 in
+    let same = c.prepare.ensures.stream in
+    let reserved = streams_reserved g.K.Run.board.plan.loggers (found_epoch seat) c.epoch-epoch.result c.len.result c.share.inside.terminal
+    (map arc_value c.self.inside.history.items) streams c.index_mut-stream.result.now
+    (found_later seat kept.6 c.requires.board c.epoch-epoch.ensures.later) count kept.9 c.index_mut-stream.ensures.value c.prepare.new.stream
+    (record { taken = same.0; number = same.1; waiting = same.2; mark = same.3 }) in
+    subst (Keeps g.K.Run.first (initial (arc_value c.self.inside.population)) g.K.Run.cells g.K.Run.board g.K.Run.seed
+    (seed_of (arc_value c.self.inside.population)) g.K.Ledger.parts c.self.inside.shares.total c.self.inside.newest.items c.self.inside.lasts.items)
+    (λ i. (
+      sym c.validate.ensures.pen i,
+      map arc_value (sym c.prepare.ensures.history i),
+      sym c.epoch-epoch.ensures.step i,
+      slice_set c.self.inside.streams.items (c.share.inside.terminal % c.len.result) c.prepare.new.stream,
+    ))
+    (kept.0, ready, kept.2, kept.3, kept.4, kept.5, kept.6, kept.7, kept.8, reserved)
 
 pub returns-in-Err-clause-answer : goal.returns-in-Err-clause-answer
 returns-in-Err-clause-answer g c =
     let view = c.self.view_is in
-    let items : List Entry = c.self.inside.history.items in
+    let items : List Entry = map arc_value c.self.inside.history.items in
     let ready = ready_loaded c.self.inside.seat c.self.invariant.6 c.requires.board c.epoch-epoch.ensures.later c.self.invariant.1 in
-    let cap = capped g.K.Run.first c.commits-cap.ensures.value c.scale.ensures c.deref.ensures c.self.invariant.3 in
+    let cap = capped g.K.Run.first c.commits.ensures.value c.scale.ensures c.deref.ensures c.self.invariant.3 in
     let found = c.in-Some.ensures.latest in
     let lasts = c.self.invariant.5 in
-    let last : c.index-last.result.now ≡ last_of c.share.inside.terminal items = last_is lasts c.share.invariant.1 c.index-last.ensures in
+    let last : c.index.result.now ≡ last_of c.share.inside.terminal items = last_is lasts c.share.invariant.1 c.index.ensures in
     let same = same_next g.K.Run.first g.K.Run.cells c.epoch-epoch.result c.self.inside.pen items (replay g.K.Run.first items) c.self.invariant.0 ready
     c.args.reader.now c.args.work c.requires.work found.0
-    c.share.inside.terminal c.in-Some.seen c.index-last.result.now found.2 found.1 last in (
+    c.share.inside.terminal c.in-Some.seen c.index.result.now found.2 found.1 last in (
       record {
         written = c.validate.ensures.pen ∙ ap (λ (k : BookView). k.written) view;
-        history = c.prepare.ensures.history ∙ ap (λ (k : BookView). k.history) view;
+        history = ap (map arc_value) c.prepare.ensures.history ∙ ap (λ (k : BookView). k.history) view;
+        taken = same_parts (λ s. s.taken) c.self.inside.streams.items (c.share.inside.terminal % c.len.result) c.index_mut-stream.result.now
+            c.prepare.new.stream c.index_mut-stream.ensures.value c.prepare.ensures.stream.0 ∙ ap (λ (k : BookView). k.taken) view;
+        marks = same_parts (λ s. s.mark) c.self.inside.streams.items (c.share.inside.terminal % c.len.result) c.index_mut-stream.result.now
+            c.prepare.new.stream c.index_mut-stream.ensures.value c.prepare.ensures.stream.3 ∙ ap (λ (k : BookView). k.marks) view;
       },
       refl,
       inr (
@@ -141,12 +178,12 @@ returns-in-Err-clause-answer g c =
         subst (λ (k : BookView). CommitsAt (replay g.K.Run.first k.history) c.args.work.input c.args.work.writes c.args.work.reply) view
             (done_there g.K.Run.first g.K.Run.cells c.epoch-epoch.result c.self.inside.pen items (replay g.K.Run.first items) c.self.invariant.0 ready
             c.args.reader.now c.args.work c.requires.work found.0),
-        subst (λ (q : ℕ × BookView × Option ℕ). ((c.in-Err.refusal ≡ CommitsFull) × (q.0 ≤ length q.1.history))
-            ⊎ ((c.in-Err.refusal ≡ EpochFull) × (length q.1.history < q.0) × (q.2 ≡ None))
-            ⊎ ((c.in-Err.refusal ≡ OutOfMemory) × (length q.1.history < q.0) × IsSome q.2))
+        subst (λ (q : ℕ × ℕ × Option ℕ). ((c.in-Err.refusal ≡ CommitsFull) × (q.0 ≤ q.1))
+            ⊎ ((c.in-Err.refusal ≡ EpochFull) × (q.1 < q.0) × (q.2 ≡ None))
+            ⊎ ((c.in-Err.refusal ≡ OutOfMemory) × (q.1 < q.0) × IsSome q.2))
             (λ i. (
               cap i,
-              view i,
+              (sym (length-map c.self.inside.history.items arc_value) ∙ ap (λ (k : BookView). length k.history) view) i,
               (same ∙ (λ j. tid_for (view j).history (c.share.view_is j).terminal
                   (sym (ap found_epoch c.epoch-epoch.ensures.step) j) c.args.work.reads)) i,
             )) c.in-Err.ensures.refused,
@@ -155,15 +192,15 @@ returns-in-Err-clause-answer g c =
 
 pub returns-in-Err-clause-cap_first : goal.returns-in-Err-clause-cap_first
 returns-in-Err-clause-cap_first g c =
-    let items : List Entry = c.self.inside.history.items in
+    let items : List Entry = map arc_value c.self.inside.history.items in
     let ready = ready_loaded c.self.inside.seat c.self.invariant.6 c.requires.board c.epoch-epoch.ensures.later c.self.invariant.1 in
-    let cap = capped g.K.Run.first c.commits-cap.ensures.value c.scale.ensures c.deref.ensures c.self.invariant.3 in
+    let cap = capped g.K.Run.first c.commits.ensures.value c.scale.ensures c.deref.ensures c.self.invariant.3 in
     let found = c.in-Some.ensures.latest in
-    let last : c.index-last.result.now ≡ last_of c.share.inside.terminal items = last_is c.self.invariant.5 c.share.invariant.1 c.index-last.ensures in
-    never_full c.in-Err.refusal (length items) c.commits-cap.result _ c.in-Err.ensures.refused
+    let last : c.index.result.now ≡ last_of c.share.inside.terminal items = last_is c.self.invariant.5 c.share.invariant.1 c.index.ensures in
+    never_full c.in-Err.refusal (length c.self.inside.history.items) c.commits.result _ c.in-Err.ensures.refused
     (λ below none. there_is g.K.Run.first g.K.Run.cells c.epoch-epoch.result c.self.inside.pen items (replay g.K.Run.first items) c.self.invariant.0 ready
     c.args.reader.now c.args.work c.requires.work found.0
-    c.share.inside.terminal c.in-Some.seen c.index-last.result.now found.2 found.1 last (subst (λ n. length items < n) cap below) none)
+    c.share.inside.terminal c.in-Some.seen c.index.result.now found.2 found.1 last (subst (λ (q : ℕ × ℕ). q.0 < q.1) (λ i. (sym (length-map c.self.inside.history.items arc_value) i, cap i)) below) none)
 
 pub store-requires-clause-read : goal.store-requires-clause-read
 store-requires-clause-read g c =
@@ -172,52 +209,55 @@ store-requires-clause-read g c =
 
 pub store-requires-clause-larger : goal.store-requires-clause-larger
 store-requires-clause-larger g c =
-    let items : List Entry = c.self.inside.history.items in
+    let items : List Entry = map arc_value c.self.inside.history.items in
     let ready = ready_loaded c.self.inside.seat c.self.invariant.6 c.requires.board c.epoch-epoch.ensures.later c.self.invariant.1 in
     let found = c.in-Some.ensures.latest in
-    let last : c.index-last.result.now ≡ last_of c.share.inside.terminal items = last_is c.self.invariant.5 c.share.invariant.1 c.index-last.ensures in
+    let last : c.index.result.now ≡ last_of c.share.inside.terminal items = last_is c.self.invariant.5 c.share.invariant.1 c.index.ensures in
     subst (λ (w : PenView). (n : ℕ) (value : Option (List ℕ)) → value_for c.args.work.writes n ≡ Some value → last_tid (at w.all n) < c.in-Ok.prepared.tid)
     (sym c.validate.ensures.pen)
     (taken_above g.K.Run.first g.K.Run.cells c.epoch-epoch.result c.self.inside.pen items (replay g.K.Run.first items) c.self.invariant.0 ready
     c.args.reader.now
     c.args.work c.requires.work found.0
-    c.share.inside.terminal c.in-Some.seen c.index-last.result.now found.2 found.1 last c.in-Ok.prepared.tid c.in-Ok.ensures.lawful c.in-Ok.ensures.tid)
+    c.share.inside.terminal c.in-Some.seen c.index.result.now found.2 found.1 last c.in-Ok.prepared.tid c.in-Ok.ensures.lawful c.in-Ok.ensures.tid)
 
 pub returns-clause-reader : goal.returns-clause-reader
 returns-clause-reader g c = grown_twice c.args.reader.now c.validate.new.reader c.store.new.reader c.validate.ensures.reader c.store.ensures.reader
 
 pub invariant_of-self-2 : goal.invariant_of-self-2
 invariant_of-self-2 g c =
-    let items : List Entry = c.self.inside.history.items in
+    let items : List Entry = map arc_value c.self.inside.history.items in
     let ready = ready_loaded c.self.inside.seat c.self.invariant.6 c.requires.board c.epoch-epoch.ensures.later c.self.invariant.1 in
     let seat : c.commit_step.new.seat ≡ noted (noted c.self.inside.seat (LoadEpoch c.epoch-epoch.result)) (CountCommit c.epoch-epoch.result) =
     c.commit_step.ensures ∙ ap (λ (s : SeatView). noted s (CountCommit c.epoch-epoch.result)) c.epoch-epoch.ensures.step in
     let found = c.in-Some.ensures.latest in
-    let cap = capped g.K.Run.first c.commits-cap.ensures.value c.scale.ensures c.deref.ensures c.self.invariant.3 in
-    let len : c.len.result ≡ length c.prepare.new.history.items = search rules in
-    let small : length items < g.K.Run.first.scale.commits = omega (arith, c.in-Ok.ensures.below, cap) in
-    let next : c.len.result + 1 ≡ length items + 1 = ap (λ n. n + 1) (len ∙ ap length c.prepare.ensures.history) in
+    let cap = capped g.K.Run.first c.commits.ensures.value c.scale.ensures c.deref.ensures c.self.invariant.3 in
+    let size = sym (length-map c.self.inside.history.items arc_value) in
+    let small : length items < g.K.Run.first.scale.commits = subst (λ (q : ℕ × ℕ). q.0 < q.1) (λ i. (size i, cap i)) c.in-Ok.ensures.below in
     let cells : c.store.new.pen.cells ≡ c.self.inside.pen.cells = c.store.ensures.cells ∙ ap (λ (w : PenView). w.cells) c.validate.ensures.pen in
-    let last : c.index-last.result.now ≡ last_of c.share.inside.terminal items = last_is c.self.invariant.5 c.share.invariant.1 c.index-last.ensures in
+    let last : c.index.result.now ≡ last_of c.share.inside.terminal items = last_is c.self.invariant.5 c.share.invariant.1 c.index.ensures in
     let tid : ℕ = c.in-Ok.prepared.tid in
     let stores : (n : ℕ) → at c.store.new.pen.all n ≡ at c.self.inside.pen.all n ++ new_versions c.in-Ok.prepared.tid c.args.work.writes.values n =
     λ n. c.store.ensures.versions n ∙ (λ i. at (c.validate.ensures.pen i).all n ++ new_versions c.in-Ok.prepared.tid c.args.work.writes.values n) in
     let made = next_kept g.K.Run.first g.K.Run.cells c.epoch-epoch.result c.self.inside.pen items (replay g.K.Run.first items) c.self.invariant.0 ready
     c.args.reader.now c.args.work c.requires.work found.0
-    c.share.inside.terminal c.in-Some.seen c.index-last.result.now found.2 found.1 last c.in-Ok.prepared.tid c.in-Ok.ensures.lawful c.in-Ok.ensures.tid
+    c.share.inside.terminal c.in-Some.seen c.index.result.now found.2 found.1 last c.in-Ok.prepared.tid c.in-Ok.ensures.lawful c.in-Ok.ensures.tid
     c.store.new.pen small cells stores in
-    let history : c.push_reserved.new.self.items ≡ items ++ entry_of (length items + 1) c.in-Ok.prepared.tid c.share.inside.terminal c.args.work ∷ [] =
-    c.push_reserved.ensures.items
-    ∙ (λ i. c.prepare.ensures.history i
-    ++ record {
-      number = next i;
-      tid = c.in-Ok.prepared.tid;
-      terminal = c.share.inside.terminal;
-      input = c.args.work.input;
-      reply = c.args.work.reply;
-      writes = c.in-Ok.ensures.writes i;
-    } ∷ []) in
-    let led : after (replay g.K.Run.first items) c.args.work.input ≡ replay g.K.Run.first c.push_reserved.new.self.items =
+    let entry : arc_value c.in-Ok.prepared.entry ≡ entry_of (length items + 1) c.in-Ok.prepared.tid c.share.inside.terminal c.args.work =
+    c.in-Ok.ensures.entry ∙ (λ i. entry_of (size i + 1) c.in-Ok.prepared.tid c.share.inside.terminal c.args.work) in
+    let history : map arc_value c.push_reserved.new.self.items ≡ items
+    ++ entry_of (length items + 1) c.in-Ok.prepared.tid c.share.inside.terminal c.args.work ∷ [] =
+    ap (map arc_value) c.push_reserved.ensures.items ∙ map-append arc_value c.prepare.new.history.items (c.in-Ok.prepared.entry ∷ [])
+    ∙ (λ i. map arc_value (c.prepare.ensures.history i) ++ entry i ∷ []) in
+    let count : c.len.result ≡ g.K.Run.board.plan.loggers = many c.self.inside.streams.items c.len.result (search rules) c.self.invariant.9 in
+    let added = streams_added g.K.Run.board.plan.loggers (found_epoch c.self.inside.seat) c.epoch-epoch.result c.len.result c.share.inside.terminal
+    items c.self.inside.streams.items c.index_mut-stream.result.now
+    (found_later c.self.inside.seat c.self.invariant.6 c.requires.board c.epoch-epoch.ensures.later) count c.self.invariant.9
+    c.index_mut-stream.ensures.value c.add.new.self (entry_of (length items + 1) c.in-Ok.prepared.tid c.share.inside.terminal c.args.work) refl
+    c.in-Ok.ensures.lawful.in_epoch (c.add.ensures.same.0 ∙ c.prepare.ensures.stream.0) (c.add.ensures.same.1 ∙ c.prepare.ensures.stream.1)
+    (c.add.ensures.same.2 ∙ c.prepare.ensures.stream.3)
+    (ap (map arc_value) c.add.ensures.waiting ∙ map-append arc_value c.prepare.new.stream.waiting.items (c.in-Ok.prepared.waiting ∷ [])
+    ∙ (λ i. map arc_value (c.prepare.ensures.stream.2 i) ++ (c.in-Ok.ensures.waiting ∙ entry) i ∷ [])) in
+    let led : after (replay g.K.Run.first items) c.args.work.input ≡ replay g.K.Run.first (map arc_value c.push_reserved.new.self.items) =
     sym (replay_push g.K.Run.first items (entry_of (length items + 1) c.in-Ok.prepared.tid c.share.inside.terminal c.args.work))
     ∙ ap (replay g.K.Run.first) (sym history) in (
       subst (λ (q : List Entry × Database). IsSound g.K.Run.first c.store.new.pen q.0 q.1) (λ i. (sym history i, led i))
@@ -227,7 +267,7 @@ invariant_of-self-2 g c =
       subst (AreNewest c.store.new.pen) (sym (given_back c.self.inside.newest.len c.store.new.newest c.self.inside.newest.items c.self.inside.newest.ok.0
           (c.store.ensures.newest.count ∙ ap length cells ∙ sym c.self.invariant.2.count))) c.store.ensures.newest,
       c.self.invariant.3,
-      c.add.ensures.total ∙ ap (λ n. n + 1) c.self.invariant.4
+      c.add-2.ensures.total ∙ ap (λ n. n + 1) c.self.invariant.4
           ∙ sym (ap length history ∙ length-append items (entry_of (length items + 1) c.in-Ok.prepared.tid c.share.inside.terminal c.args.work ∷ [])),
       subst (λ (h : List Entry). AreLast g.K.Ledger.parts h (slice_set c.self.inside.lasts.items c.share.inside.terminal c.in-Ok.prepared.tid)) (sym history)
           (lasts_next g.K.Ledger.parts items c.self.inside.lasts.items (entry_of (length items + 1) c.in-Ok.prepared.tid c.share.inside.terminal c.args.work)
@@ -237,45 +277,43 @@ invariant_of-self-2 g c =
       subst (λ (q : SeatView × List Entry). HasCounted q.0 q.1) (λ i. (sym seat i, sym history i))
           (counts_on c.self.inside.seat items c.epoch-epoch.result
           (entry_of (length items + 1) c.in-Ok.prepared.tid c.share.inside.terminal c.args.work) c.self.invariant.7 c.in-Ok.ensures.lawful.in_epoch),
+      c.self.invariant.8,
+      subst (λ (q : SeatView × List Entry). AreStreams g.K.Run.board.plan.loggers (found_epoch q.0) q.1
+          (slice_set c.self.inside.streams.items (c.share.inside.terminal % c.len.result) c.add.new.self)) (λ i. (sym seat i, sym history i)) added,
     )
 
 pub returns-clause-answer : goal.returns-clause-answer
 returns-clause-answer g c =
-    let items : List Entry = c.self.inside.history.items in
+    let items : List Entry = map arc_value c.self.inside.history.items in
     let ready = ready_loaded c.self.inside.seat c.self.invariant.6 c.requires.board c.epoch-epoch.ensures.later c.self.invariant.1 in
     let found = c.in-Some.ensures.latest in
     let seat : c.commit_step.new.seat ≡ noted (noted c.self.inside.seat (LoadEpoch c.epoch-epoch.result)) (CountCommit c.epoch-epoch.result) =
     c.commit_step.ensures ∙ ap (λ (s : SeatView). noted s (CountCommit c.epoch-epoch.result)) c.epoch-epoch.ensures.step in
-    let cap = capped g.K.Run.first c.commits-cap.ensures.value c.scale.ensures c.deref.ensures c.self.invariant.3 in
-    let len : c.len.result ≡ length c.prepare.new.history.items = search rules in
-    let small : length items < g.K.Run.first.scale.commits = omega (arith, c.in-Ok.ensures.below, cap) in
-    let next : c.len.result + 1 ≡ length items + 1 = ap (λ n. n + 1) (len ∙ ap length c.prepare.ensures.history) in
+    let cap = capped g.K.Run.first c.commits.ensures.value c.scale.ensures c.deref.ensures c.self.invariant.3 in
+    let size = sym (length-map c.self.inside.history.items arc_value) in
+    let small : length items < g.K.Run.first.scale.commits = subst (λ (q : ℕ × ℕ). q.0 < q.1) (λ i. (size i, cap i)) c.in-Ok.ensures.below in
     let cells : c.store.new.pen.cells ≡ c.self.inside.pen.cells = c.store.ensures.cells ∙ ap (λ (w : PenView). w.cells) c.validate.ensures.pen in
-    let last : c.index-last.result.now ≡ last_of c.share.inside.terminal items = last_is c.self.invariant.5 c.share.invariant.1 c.index-last.ensures in
+    let last : c.index.result.now ≡ last_of c.share.inside.terminal items = last_is c.self.invariant.5 c.share.invariant.1 c.index.ensures in
     let same = same_next g.K.Run.first g.K.Run.cells c.epoch-epoch.result c.self.inside.pen items (replay g.K.Run.first items) c.self.invariant.0 ready
     c.args.reader.now c.args.work c.requires.work found.0
-    c.share.inside.terminal c.in-Some.seen c.index-last.result.now found.2 found.1 last in
+    c.share.inside.terminal c.in-Some.seen c.index.result.now found.2 found.1 last in
     let stores : (n : ℕ) → at c.store.new.pen.all n ≡ at c.self.inside.pen.all n ++ new_versions c.in-Ok.prepared.tid c.args.work.writes.values n =
     λ n. c.store.ensures.versions n ∙ (λ i. at (c.validate.ensures.pen i).all n ++ new_versions c.in-Ok.prepared.tid c.args.work.writes.values n) in
-    let history : c.push_reserved.new.self.items ≡ items ++ entry_of (length items + 1) c.in-Ok.prepared.tid c.share.inside.terminal c.args.work ∷ [] =
-    c.push_reserved.ensures.items
-    ∙ (λ i. c.prepare.ensures.history i
-    ++ record {
-      number = next i;
-      tid = c.in-Ok.prepared.tid;
-      terminal = c.share.inside.terminal;
-      input = c.args.work.input;
-      reply = c.args.work.reply;
-      writes = c.in-Ok.ensures.writes i;
-    } ∷ []) in
-    let of : c.of.result ≡ record { number = length items + 1; tid = c.in-Ok.prepared.tid; reply = c.args.work.reply } = c.of.ensures
-    ∙ (λ i. record { number = next i; tid = c.in-Ok.prepared.tid; reply = c.in-Ok.ensures.reply i }) in
+    let entry : arc_value c.in-Ok.prepared.entry ≡ entry_of (length items + 1) c.in-Ok.prepared.tid c.share.inside.terminal c.args.work =
+    c.in-Ok.ensures.entry ∙ (λ i. entry_of (size i + 1) c.in-Ok.prepared.tid c.share.inside.terminal c.args.work) in
+    let history : map arc_value c.push_reserved.new.self.items ≡ items
+    ++ entry_of (length items + 1) c.in-Ok.prepared.tid c.share.inside.terminal c.args.work ∷ [] =
+    ap (map arc_value) c.push_reserved.ensures.items ∙ map-append arc_value c.prepare.new.history.items (c.in-Ok.prepared.entry ∷ [])
+    ∙ (λ i. map arc_value (c.prepare.ensures.history i) ++ entry i ∷ []) in
+    let of : c.in-Ok.prepared.done ≡ record { number = length items + 1; tid = c.in-Ok.prepared.tid; reply = c.args.work.reply } = c.in-Ok.ensures.done
+    ∙ (λ i. record { number = size i + 1; tid = c.in-Ok.prepared.tid; reply = c.args.work.reply }) in
     subst (λ (q : BookView × ShareView × Done × ℕ). AreLatest q.0.written.all c.args.work.reads × (length q.0.history < g.K.Run.first.scale.commits)
     × (tid_for q.0.history q.1.terminal q.3 c.args.work.reads ≡ Some q.2.tid)
-    × Commits q.0 (record { written = c.store.new.pen; history = c.push_reserved.new.self.items; seat = c.commit_step.new.seat })
+    × Commits q.0 (kept c.store.new.pen (map arc_value c.push_reserved.new.self.items) c.commit_step.new.seat
+    (slice_set c.self.inside.streams.items (c.share.inside.terminal % c.len.result) c.add.new.self))
     (entry_of (length q.0.history + 1) q.2.tid q.1.terminal c.args.work)
     × (q.2.number ≡ length q.0.history + 1) × (q.2.reply ≡ c.args.work.reply)
-    × (◌≡◌ {A = ShareView} (record { terminal = c.share.inside.terminal; parts = c.add.new.share.parts; commits = c.add.new.share.amount })
+    × (◌≡◌ {A = ShareView} (record { terminal = c.share.inside.terminal; parts = c.add-2.new.share.parts; commits = c.add-2.new.share.amount })
     (record { terminal = q.1.terminal; parts = q.1.parts; commits = q.1.commits + 1 }))
     × HasSeen c.store.new.reader c.store.new.pen c.args.work.writes
     × CommitsAt (replay g.K.Run.first q.0.history) c.args.work.input c.args.work.writes c.args.work.reply)
@@ -285,12 +323,16 @@ returns-clause-answer g c =
       sym same ∙ c.in-Ok.ensures.tid,
       record {
         history = history;
+        taken = same_parts (λ s. s.taken) c.self.inside.streams.items (c.share.inside.terminal % c.len.result) c.index_mut-stream.result.now
+            c.add.new.self c.index_mut-stream.ensures.value (c.add.ensures.same.0 ∙ c.prepare.ensures.stream.0);
+        marks = same_parts (λ s. s.mark) c.self.inside.streams.items (c.share.inside.terminal % c.len.result) c.index_mut-stream.result.now
+            c.add.new.self c.index_mut-stream.ensures.value (c.add.ensures.same.2 ∙ c.prepare.ensures.stream.3);
         cells = cells;
         versions = λ n _. stores n;
       },
       refl,
       refl,
-      (λ i. record { terminal = c.share.inside.terminal; parts = c.add.ensures.parts i; commits = c.add.ensures.amount i }),
+      (λ i. record { terminal = c.share.inside.terminal; parts = c.add-2.ensures.parts i; commits = c.add-2.ensures.amount i }),
       c.store.ensures.seen,
       done_there g.K.Run.first g.K.Run.cells c.epoch-epoch.result c.self.inside.pen items (replay g.K.Run.first items) c.self.invariant.0 ready
           c.args.reader.now
@@ -300,7 +342,7 @@ returns-clause-answer g c =
 pub returns-clause-next : goal.returns-clause-next
 returns-clause-next g c =
     let answer = returns-clause-answer g c in
-    is_next g.K.Run.first c.args.self.now.history c.push_reserved.new.self.items c.args.share.now.terminal c.args.work c.of.result
+    is_next g.K.Run.first c.args.self.now.history (map arc_value c.push_reserved.new.self.items) c.args.share.now.terminal c.args.work c.in-Ok.prepared.done
     answer.3.history answer.4 answer.5 answer.8 answer.1
 
 pub returns-in-Err-clause-refused : goal.returns-in-Err-clause-refused
@@ -311,10 +353,10 @@ returns-in-Err-clause-refused g c =
 
 pub returns-in_default-clause-section : goal.returns-in_default-clause-section
 returns-in_default-clause-section g c m w shows =
-    let items : List Entry = c.self.inside.history.items in
+    let items : List Entry = map arc_value c.self.inside.history.items in
     let ready = ready_loaded c.self.inside.seat c.self.invariant.6 c.requires.board c.epoch-epoch.ensures.later c.self.invariant.1 in
     record {
-      conflict = λ _. stale_run g.K.Run.first g.K.Run.cells c.epoch-epoch.result (kept c.self.inside.pen items c.self.inside.seat)
+      conflict = λ _. stale_run g.K.Run.first g.K.Run.cells c.epoch-epoch.result (kept c.self.inside.pen items c.self.inside.seat c.self.inside.streams.items)
           (replay g.K.Run.first items) c.self.invariant.0 ready c.args.reader.now c.args.work c.requires.work c.in_order.ensures
           c.args.share.now.terminal w m
           (subst (λ (q : BookView × ℕ). Mirrors q.0 c.args.share.now.terminal q.1 c.args.work.reads m w)
@@ -325,17 +367,17 @@ returns-in_default-clause-section g c m w shows =
 
 pub returns-in-Err-clause-section : goal.returns-in-Err-clause-section
 returns-in-Err-clause-section g c m w shows =
-    let items : List Entry = c.self.inside.history.items in
+    let items : List Entry = map arc_value c.self.inside.history.items in
     let ready = ready_loaded c.self.inside.seat c.self.invariant.6 c.requires.board c.epoch-epoch.ensures.later c.self.invariant.1 in
     let found = c.in-Some.ensures.latest in
-    let last : c.index-last.result.now ≡ last_of c.share.inside.terminal items = last_is c.self.invariant.5 c.share.invariant.1 c.index-last.ensures in
+    let last : c.index.result.now ≡ last_of c.share.inside.terminal items = last_is c.self.invariant.5 c.share.invariant.1 c.index.ensures in
     let same = same_next g.K.Run.first g.K.Run.cells c.epoch-epoch.result c.self.inside.pen items (replay g.K.Run.first items) c.self.invariant.0 ready
     c.args.reader.now c.args.work c.requires.work found.0
-    c.share.inside.terminal c.in-Some.seen c.index-last.result.now found.2 found.1 last in
-    let only = only_full c.in-Err.refusal (length items) c.commits-cap.result _ c.in-Err.ensures.refused in
+    c.share.inside.terminal c.in-Some.seen c.index.result.now found.2 found.1 last in
+    let only = only_full c.in-Err.refusal (length c.self.inside.history.items) c.commits.result _ c.in-Err.ensures.refused in
     record {
       conflict = λ e. absurd (only.0 e);
-      epoch_full = λ e. full_run g.K.Run.first g.K.Run.cells c.epoch-epoch.result (kept c.self.inside.pen items c.self.inside.seat)
+      epoch_full = λ e. full_run g.K.Run.first g.K.Run.cells c.epoch-epoch.result (kept c.self.inside.pen items c.self.inside.seat c.self.inside.streams.items)
           (replay g.K.Run.first items) c.self.invariant.0 ready c.args.reader.now c.args.work c.requires.work c.in_order.ensures
           c.share.inside.terminal w m
           (subst (λ (q : BookView × ShareView × ℕ). Mirrors q.0 q.1.terminal q.2 c.args.work.reads m w)
@@ -344,21 +386,21 @@ returns-in-Err-clause-section g c m w shows =
 
 pub returns-clause-section : goal.returns-clause-section
 returns-clause-section g c m w shows =
-    let items : List Entry = c.self.inside.history.items in
+    let items : List Entry = map arc_value c.self.inside.history.items in
     let ready = ready_loaded c.self.inside.seat c.self.invariant.6 c.requires.board c.epoch-epoch.ensures.later c.self.invariant.1 in
     let seat : c.commit_step.new.seat ≡ noted (noted c.self.inside.seat (LoadEpoch c.epoch-epoch.result)) (CountCommit c.epoch-epoch.result) =
     c.commit_step.ensures ∙ ap (λ (s : SeatView). noted s (CountCommit c.epoch-epoch.result)) c.epoch-epoch.ensures.step in
     let found = c.in-Some.ensures.latest in
-    let last : c.index-last.result.now ≡ last_of c.share.inside.terminal items = last_is c.self.invariant.5 c.share.invariant.1 c.index-last.ensures in
+    let last : c.index.result.now ≡ last_of c.share.inside.terminal items = last_is c.self.invariant.5 c.share.invariant.1 c.index.ensures in
     let same = same_next g.K.Run.first g.K.Run.cells c.epoch-epoch.result c.self.inside.pen items (replay g.K.Run.first items) c.self.invariant.0 ready
     c.args.reader.now c.args.work c.requires.work found.0
-    c.share.inside.terminal c.in-Some.seen c.index-last.result.now found.2 found.1 last in
+    c.share.inside.terminal c.in-Some.seen c.index.result.now found.2 found.1 last in
     let cells : c.store.new.pen.cells ≡ c.self.inside.pen.cells = c.store.ensures.cells ∙ ap (λ (w : PenView). w.cells) c.validate.ensures.pen in
     let stores : (n : ℕ) → at c.store.new.pen.all n ≡ at c.self.inside.pen.all n ++ new_versions c.in-Ok.prepared.tid c.args.work.writes.values n =
     λ n. c.store.ensures.versions n ∙ (λ i. at (c.validate.ensures.pen i).all n ++ new_versions c.in-Ok.prepared.tid c.args.work.writes.values n) in
-    let tid : c.in-Ok.prepared.tid ≡ c.of.result.tid = sym (ap (λ (done : Done). done.tid) c.of.ensures) in
+    let tid : c.in-Ok.prepared.tid ≡ c.in-Ok.prepared.done.tid = sym (ap (λ (done : Done). done.tid) c.in-Ok.ensures.done) in
     subst (λ (n : ℕ). IsCommitRun m w (reads_of c.args.work.reads) c.args.work.writes.values n c.store.new.pen) tid
-    (run g.K.Run.first g.K.Run.cells c.epoch-epoch.result (kept c.self.inside.pen items c.self.inside.seat)
+    (run g.K.Run.first g.K.Run.cells c.epoch-epoch.result (kept c.self.inside.pen items c.self.inside.seat c.self.inside.streams.items)
     (replay g.K.Run.first items) c.self.invariant.0 ready
     c.args.reader.now
     c.args.work c.requires.work c.in_order.ensures
@@ -370,7 +412,8 @@ returns-clause-section g c m w shows =
 
 pub commit_step-requires-clause-room : goal.commit_step-requires-clause-room
 commit_step-requires-clause-room g c =
-    let items : List Entry = c.self.inside.history.items in
-    let cap = capped g.K.Run.first c.commits-cap.ensures.value c.scale.ensures c.deref.ensures c.self.invariant.3 in
+    let items : List Entry = map arc_value c.self.inside.history.items in
+    let cap = capped g.K.Run.first c.commits.ensures.value c.scale.ensures c.deref.ensures c.self.invariant.3 in
     subst (λ (s : SeatView). length (counted s.steps) < 2 ^ 64 - 1) (sym c.epoch-epoch.ensures.step)
-    (may_count c.self.inside.seat items g.K.Run.first.scale.commits c.self.invariant.7 (omega (arith, c.in-Ok.ensures.below, cap)) c.self.invariant.1.few)
+    (may_count c.self.inside.seat items g.K.Run.first.scale.commits c.self.invariant.7
+    (subst (λ (q : ℕ × ℕ). q.0 < q.1) (λ i. (sym (length-map c.self.inside.history.items arc_value) i, cap i)) c.in-Ok.ensures.below) c.self.invariant.1.few)

@@ -1,4 +1,5 @@
-use Rattle.std.proofs.Common.{◌<◌, length, sym, ap, ◌∙◌, subst}
+use Rattle.std.proofs.Common.{◌<◌, length, map, sym, ap, ◌∙◌, subst}
+use Rattle.std.specs.Arc.{arc_value}
 use Rattle.tables.specs.Rows.{rows}
 use Rattle.cells.specs.Versions.{value_in}
 use Rattle.book.specs.Book.{BookView}
@@ -13,7 +14,7 @@ returns g c =
     let t0 = g.K.Run.first in
     let n = c.args.number in
     let newest = c.self.inside.newest.items in
-    let history = c.self.inside.history.items in
+    let history = map arc_value c.self.inside.history.items in
     let i = c.self.invariant in
     let small : n < length c.self.inside.newest.items =
     subst (λ m. c.args.number < m) (sym (counted t0 g.K.Run.cells (found_epoch c.self.inside.seat) c.self.inside.pen history (replay t0 history) newest

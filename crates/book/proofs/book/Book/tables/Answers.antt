@@ -1,5 +1,6 @@
-use Rattle.std.proofs.Common.{◌≡◌, ℕ, ◌<◌, ◌++◌, List, refl, sym, ap, ◌∙◌, subst}
+use Rattle.std.proofs.Common.{◌≡◌, ℕ, ◌<◌, ◌++◌, List, map, refl, sym, ap, ◌∙◌, subst}
 use Rattle.std.proofs.lemmas.Result.{IfOk-weaker}
+use Rattle.std.specs.Arc.{arc_value}
 use Rattle.tables.specs.Constant.{IsOf}
 use Rattle.tables.specs.Database.{Database, database}
 use Rattle.tables.specs.Rows.{rows}
@@ -17,7 +18,7 @@ use Rattle.book.proofs.book.Book.tables.Goals as goal
 
 pub tables_of-requires-clause-lawful : goal.tables_of-requires-clause-lawful
 tables_of-requires-clause-lawful g c =
-    let history = c.self.inside.history.items in
+    let history = map arc_value c.self.inside.history.items in
     let i = c.self.invariant in
     subst (λ (q : Database × List Newest). AreLawful q.0.scale (value_at q.1))
     (λ j. (sym (ap initial c.deref-2.ensures ∙ i.3) j, sym c.deref-3.ensures.value j))
@@ -37,13 +38,13 @@ are_made {made = made} a b d =
 
 pub returns-clause-tables : goal.returns-clause-tables
 returns-clause-tables g c =
-    let history = c.self.inside.history.items in
+    let history = map arc_value c.self.inside.history.items in
     let i = c.self.invariant in
     IfOk-weaker c.tables_of.result _ _
     (λ made is. are_committed g.K.Run.first g.K.Run.cells (found_epoch c.self.inside.seat) c.self.inside.pen history (replay g.K.Run.first history)
     c.self.inside.newest.items i.0 i.1 i.2 (database made) refl
     (are_made (ap initial c.deref-2.ensures ∙ i.3) c.deref-3.ensures.value
-    (c.deref-4.ensures.value ∙ c.in_ok-added.ensures.rows ∙ ap rows_added c.deref.ensures.value) is)
+    (c.deref-4.ensures.value ∙ c.in_ok-added.ensures.rows ∙ ap (λ (es : List _). rows_added (map arc_value es)) c.deref.ensures.value) is)
     ∙ ap (λ (q : BookView). replay g.K.Run.first q.history) c.self.view_is)
     c.tables_of.ensures.is
 

@@ -1,0 +1,140 @@
+use Rattle.std.proofs.Common.{◌≡◌, ℕ, ◌+◌, ◌-◌, ◌<◌, ◌≤◌, ◌^◌, List, All, length, map, drop, refl, sym, ap, ◌∙◌, subst, arith, rules}
+use Rattle.std.proofs.lemmas.List.{get_or-map, length-map, length-drop}
+use lib.Seq.{map-set}
+use Rattle.std.proofs.lemmas.List.Elements.{All-drop, All-filter, All-weaker}
+use Rattle.std.specs.Arc.{arc_value}
+use Rattle.std.specs.Prelude.{slice_set, ◌%◌, ◌==◌}
+use Rattle.tidword.specs.TidWord.{epoch_of}
+use Rattle.tables.specs.declared.limits.TheConstants.{MAX_COMMITS}
+use Rattle.board.specs.Seats.{SeatView}
+use Rattle.book.specs.Epochs.{HasCounted, found_epoch}
+use Rattle.book.specs.History.{replay}
+use Rattle.book.specs.Ready.{IsReady, IsPassed}
+use Rattle.book.specs.Book.{BookView}
+use Rattle.book.specs.Streams.{stream, AreStreams}
+use Rattle.book.specs.Batches.{IsBatchOf}
+use Rattle.book.specs.declared.entry.Entry.{Entry}
+use Rattle.book.specs.declared.stream.Stream.{Stream}
+use Rattle.book.proofs.Loaded.{found_later, ready_loaded}
+use Rattle.book.proofs.Streams.{found, streams_later, stream_set, stream_taken, stream_within}
+use Rattle.book.proofs.book.Book.take.Goals as goal
+
+begun : (mark seen epoch : ℕ) → mark < seen → seen ≤ epoch → (1 ≤ epoch) × (mark ≤ epoch - 1) × (epoch - 1 < epoch) × (epoch - 1 + 1 ≡ epoch)
+begun mark seen epoch p q = (omega (arith, p, q), omega (arith, p, q), omega (arith, p, q), omega (arith, p, q))
+
+pub overflow_sub-mark : goal.overflow_sub-mark
+overflow_sub-mark g c =
+    let i = c.self.invariant in
+    let is = found g.K.Run.board.plan.loggers (found_epoch c.self.inside.seat) c.args.logger (map arc_value c.self.inside.history.items)
+    c.self.inside.streams.items c.index_mut-stream.result.now i.9 c.requires.logger c.index_mut-stream.ensures.value in
+    (begun c.index_mut-stream.result.now.mark (found_epoch c.self.inside.seat) c.floor-epoch.result is.mark
+    (found_later c.self.inside.seat i.6 c.requires.board c.floor-epoch.ensures.later)).0
+
+-- there are few entries
+few : {taken waiting all history cap : ℕ} → taken ≤ all → waiting ≡ all - taken → all ≤ history → history ≤ cap → cap ≤ MAX_COMMITS
+    → taken + waiting < 2 ^ 64
+few a b d e f = omega (arith, a, b, d, e, f)
+
+pub take-entries-requires : goal.take-entries-requires
+take-entries-requires g c =
+    let i = c.self.invariant in
+    let loggers = g.K.Run.board.plan.loggers in
+    let history = map arc_value c.self.inside.history.items in
+    let s = c.index_mut-stream.result.now in
+    let is = found loggers (found_epoch c.self.inside.seat) c.args.logger history c.self.inside.streams.items s i.9 c.requires.logger
+    c.index_mut-stream.ensures.value in
+    few is.taken (sym (length-map s.waiting.items arc_value) ∙ ap length is.waiting ∙ length-drop s.taken (stream loggers c.args.logger history))
+    (stream_within loggers c.args.logger history) i.1.cap i.1.few
+
+pub invariant_of-self : goal.invariant_of-self
+invariant_of-self g c =
+    let i = c.self.invariant in
+    let t0 = g.K.Run.first in
+    let loggers = g.K.Run.board.plan.loggers in
+    let seat = c.self.inside.seat in
+    let epoch = c.floor-epoch.result in
+    let history = map arc_value c.self.inside.history.items in
+    let streams = c.self.inside.streams.items in
+    let s = c.index_mut-stream.result.now in
+    let later = found_later seat i.6 c.requires.board c.floor-epoch.ensures.later in
+    let is = found loggers (found_epoch seat) c.args.logger history streams s i.9 c.requires.logger c.index_mut-stream.ensures.value in
+    let mark = begun s.mark (found_epoch seat) epoch is.mark later in
+    let step = c.floor-epoch.ensures.step in
+    let left = c.take-entries.ensures in
+    let taken = stream_set loggers epoch history history streams c.args.logger c.take-entries.new.self
+    (streams_later loggers (found_epoch seat) epoch history streams later i.9) c.requires.logger (λ k _. refl)
+    (stream_taken (found_epoch seat) epoch (epoch - 1) (stream loggers c.args.logger history) s c.take-entries.new.self is mark.2
+    left.taken left.number left.mark left.waiting) in (
+      i.0,
+      subst (λ (q : SeatView). IsReady t0 g.K.Run.cells (found_epoch q) c.self.inside.pen (map arc_value c.self.inside.history.items)
+          (replay t0 (map arc_value c.self.inside.history.items))) (sym step)
+          (ready_loaded seat i.6 c.requires.board c.floor-epoch.ensures.later i.1),
+      i.2,
+      i.3,
+      i.4,
+      i.5,
+      ap (λ (q : SeatView). q.board) step ∙ i.6,
+      subst (λ (q : SeatView). HasCounted q (map arc_value c.self.inside.history.items)) (sym step) i.7,
+      i.8,
+      subst (λ (q : SeatView). AreStreams g.K.Run.board.plan.loggers (found_epoch q) (map arc_value c.self.inside.history.items)
+          (slice_set c.self.inside.streams.items c.args.logger c.take-entries.new.self)) (sym step) taken,
+    )
+
+pub returns-clause-batch : goal.returns-clause-batch
+returns-clause-batch g c =
+    let i = c.self.invariant in
+    let loggers = g.K.Run.board.plan.loggers in
+    let seat = c.self.inside.seat in
+    let history = map arc_value c.self.inside.history.items in
+    let streams = c.self.inside.streams.items in
+    let s = c.index_mut-stream.result.now in
+    let later = found_later seat i.6 c.requires.board c.floor-epoch.ensures.later in
+    let is = found loggers (found_epoch seat) c.args.logger history streams s i.9 c.requires.logger c.index_mut-stream.ensures.value in
+    let mark = begun s.mark (found_epoch seat) c.floor-epoch.result is.mark later in
+    let here : c.args.logger < length streams = subst (λ n. c.args.logger < n) (sym i.9.count) c.requires.logger in
+    let count : c.len-loggers.result ≡ length streams = search rules in
+    let entries : map arc_value c.take-entries.result.items ≡ drop s.taken (stream loggers c.args.logger history) =
+    ap (map arc_value) c.take-entries.ensures.entries ∙ is.waiting in
+    let passed : All (λ (e : Entry). epoch_of e.tid ≤ c.floor-epoch.result - 1 + 1) history =
+    All-weaker (IsPassed (found_epoch seat) c.self.inside.pen history) (λ (e : Entry). epoch_of e.tid ≤ c.floor-epoch.result - 1 + 1)
+    (λ e p. at_most (epoch_of e.tid) (found_epoch seat) c.floor-epoch.result p.in_epoch later mark.3) history i.1.passed in
+    let up_to = All-drop (λ (e : Entry). epoch_of e.tid ≤ c.floor-epoch.result - 1 + 1) s.taken (stream loggers c.args.logger history)
+    (All-filter (λ (e : Entry). e.terminal % loggers == c.args.logger) (λ (e : Entry). epoch_of e.tid ≤ c.floor-epoch.result - 1 + 1) history passed) in
+    subst (λ (q : BookView). IsBatchOf g.K.Run.board.plan.loggers c.args.logger q (record {
+      logger = c.args.logger;
+      loggers = c.len-loggers.result;
+      scale = c.scale.result;
+      seed = c.seed.result;
+      first = c.index_mut-stream.result.now.taken;
+      number_before = c.index_mut-stream.result.now.number;
+      mark_before = c.index_mut-stream.result.now.mark;
+      entries = c.take-entries.result;
+      mark = c.floor-epoch.result - 1;
+    })) c.self.view_is (record {
+      logger_is = refl;
+      loggers_are = count ∙ i.9.count;
+      first = sym (get_or-map (λ (t : Stream). t.taken) streams c.args.logger s 0 here ∙ ap (λ (t : Stream). t.taken) (sym c.index_mut-stream.ensures.value));
+      within = is.taken;
+      number_before = is.number;
+      mark_before = sym (get_or-map (λ (t : Stream). t.mark) streams c.args.logger s 0 here ∙ ap (λ (t : Stream). t.mark) (sym c.index_mut-stream.ensures.value));
+      entries = entries;
+      epochs = subst (All (λ (e : Entry). (s.mark < epoch_of e.tid) × (epoch_of e.tid ≤ c.floor-epoch.result - 1 + 1))) (sym entries)
+          (λ k d h. (is.above k d h, up_to k d h));
+      marks_rise = mark.1;
+    })
+  where
+    at_most : (n seen epoch : ℕ) {more : ℕ} → n ≤ seen → seen ≤ epoch → more ≡ epoch → n ≤ more
+    at_most n seen epoch p q r = omega (arith, p, q, r)
+
+pub returns-clause-taken : goal.returns-clause-taken
+returns-clause-taken g c = record {
+  written = ap (λ (q : BookView). q.written) c.self.view_is;
+  history = ap (λ (q : BookView). q.history) c.self.view_is;
+  taken = map-set (λ (t : Stream). t.taken) c.self.inside.streams.items c.args.logger c.take-entries.new.self
+      ∙ (λ i. slice_set (c.self.view_is i).taken c.args.logger (all i));
+  marks = map-set (λ (t : Stream). t.mark) c.self.inside.streams.items c.args.logger c.take-entries.new.self
+      ∙ (λ i. slice_set (c.self.view_is i).marks c.args.logger (c.take-entries.ensures.mark i));
+}
+  where
+    all : c.take-entries.new.self.taken ≡ c.index_mut-stream.result.now.taken + length c.take-entries.result.items
+    all = c.take-entries.ensures.taken ∙ ap (λ (es : List _). c.index_mut-stream.result.now.taken + length es) (sym c.take-entries.ensures.entries)

@@ -1,0 +1,29 @@
+-- What a take gives a logger, and what it leaves.
+use Rattle.std.specs.Prelude.{◌≡◌, ℕ, ◌+◌, ◌<◌, ◌≤◌, length, map, take, drop, slice_index, slice_set}
+use Rattle.std.specs.List.{All}
+use Rattle.std.specs.Arc.{arc_value}
+use Rattle.tidword.specs.TidWord.{epoch_of}
+use Rattle.book.specs.Book.{BookView}
+use Rattle.book.specs.Streams.{stream, last_number}
+use Rattle.book.specs.declared.batch.Batch.{Batch}
+
+-- the batch of this logger, one of so many, from a book: what its stream has behind what was taken before, in order,
+-- all of it of an epoch behind the mark before, and at most that behind its own mark
+pub record IsBatchOf (loggers logger : ℕ) (book : BookView) (batch : Batch) : Type 0 where
+  pub logger_is : batch.logger ≡ logger
+  pub loggers_are : batch.loggers ≡ loggers
+  pub first : batch.first ≡ slice_index book.taken logger
+  pub within : batch.first ≤ length (stream loggers logger book.history)
+  pub number_before : batch.number_before ≡ last_number 0 (take batch.first (stream loggers logger book.history))
+  pub mark_before : batch.mark_before ≡ slice_index book.marks logger
+  pub entries : map arc_value batch.entries.items ≡ drop batch.first (stream loggers logger book.history)
+  pub epochs : All (λ e. (batch.mark_before < epoch_of e.tid) × (epoch_of e.tid ≤ batch.mark + 1))
+      (map arc_value batch.entries.items)
+  pub marks_rise : batch.mark_before ≤ batch.mark
+
+-- the whole stream of this logger is then taken, at the batch's mark; all else is as before
+pub record IsTaken (logger : ℕ) (old : BookView) (batch : Batch) (new : BookView) : Type 0 where
+  pub written : new.written ≡ old.written
+  pub history : new.history ≡ old.history
+  pub taken : new.taken ≡ slice_set old.taken logger (batch.first + length batch.entries.items)
+  pub marks : new.marks ≡ slice_set old.marks logger batch.mark
