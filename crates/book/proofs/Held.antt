@@ -1,5 +1,5 @@
 -- What the newest versions say is what the committed tables have.
-use Rattle.std.proofs.Common.{◌≡◌, ℕ, ◌<◌, ◌≤◌, ◌++◌, List, Option, length, sym, ap, ◌∙◌, subst, arith}
+use Rattle.std.proofs.Common.{◌≡◌, ℕ, ◌+◌, ◌<◌, ◌≤◌, ◌++◌, List, Option, length, sym, ap, ◌∙◌, subst, arith}
 use Rattle.atomic_table.specs.Seated.{TableId}
 use Rattle.tables.specs.Sizes.{Sizes}
 use Rattle.tables.specs.Constant.{IsOf}
@@ -19,9 +19,9 @@ use Rattle.book.specs.Ready.{IsReady, AreNewest}
 use Rattle.book.specs.declared.entry.Entry.{Entry}
 use Rattle.book.proofs.Replaying.{replay-history}
 
-module _ (t0 : Database) (run_cells : List TableId) (epoch : ℕ) (written : PenView) (history : List Entry)
-    (t : Database) (newest : List Newest) (sound : IsSound t0 written history t)
-    (ready : IsReady t0 run_cells epoch written history t) (are : AreNewest written newest) where
+module _ (past : ℕ) (t0 : Database) (run_cells : List TableId) (epoch : ℕ) (written : PenView) (history : List Entry)
+    (t : Database) (newest : List Newest) (sound : IsSound past t0 written history t)
+    (ready : IsReady past t0 run_cells epoch written history t) (are : AreNewest written newest) where
   pub counted : length newest ≡ record_count t0.scale
   counted = are.count ∙ ap length ready.cells ∙ ready.count
 
@@ -43,4 +43,4 @@ module _ (t0 : Database) (run_cells : List TableId) (epoch : ℕ) (written : Pen
       → ((u : Database) → IsOf t0 u → IsWellFormed u → ((n : ℕ) → n < row_count t0.scale → rows u n ≡ value_at newest n) → u.history ≡ t0.history
       ++ rows_added history → made ≡ u) → made ≡ t
   are_committed made is one = one t ready.of_population sound.well_formed (λ n h. sym (value_held n (omega (arith, h, rows_first))))
-      (ap (λ (u : Database). u.history) (sym is) ∙ replay-history 1 t0 history sound.legal.replays)
+      (ap (λ (u : Database). u.history) (sym is) ∙ replay-history (past + 1) t0 history sound.legal.replays)

@@ -18,9 +18,9 @@ use Rattle.book.specs.Stamps.{last_of}
 use Rattle.book.specs.declared.entry.Entry.{Entry}
 
 -- a book that is ready for an epoch is ready for a later one
-pub ready_later : (t0 : Database) (run_cells : List TableId) (old new : ℕ) (written : PenView) (history : List Entry) (t : Database) → old ≤ new
-    → IsReady t0 run_cells old written history t → IsReady t0 run_cells new written history t
-ready_later t0 run_cells old new written history t later r = record {
+pub ready_later : (past : ℕ) (t0 : Database) (run_cells : List TableId) (old new : ℕ) (written : PenView) (history : List Entry) (t : Database) → old ≤ new
+    → IsReady past t0 run_cells old written history t → IsReady past t0 run_cells new written history t
+ready_later past t0 run_cells old new written history t later r = record {
   of_population = r.of_population;
   cells = r.cells;
   count = r.count;
@@ -45,11 +45,11 @@ pub found_later : (seat : SeatView) {run here : BoardView} {epoch : ℕ} → sea
     → found_epoch seat ≤ epoch
 found_later seat {epoch = epoch} own same later = subst (λ (b : BoardView). known_epoch b.plan.base seat.steps ≤ epoch) (same ∙ sym own) later
 
-pub ready_loaded : (seat : SeatView) {run here : BoardView} {epoch : ℕ} {t0 t : Database} {run_cells : List TableId} {written : PenView}
+pub ready_loaded : (seat : SeatView) {run here : BoardView} {epoch past : ℕ} {t0 t : Database} {run_cells : List TableId} {written : PenView}
     {history : List Entry} → seat.board ≡ run → here ≡ run → known_epoch here.plan.base seat.steps ≤ epoch
-    → IsReady t0 run_cells (found_epoch seat) written history t → IsReady t0 run_cells epoch written history t
-ready_loaded seat {epoch = epoch} {t0 = t0} {t = t} {run_cells = run_cells} {written = written} {history = history} own same later =
-    ready_later t0 run_cells (found_epoch seat) epoch written history t
+    → IsReady past t0 run_cells (found_epoch seat) written history t → IsReady past t0 run_cells epoch written history t
+ready_loaded seat {epoch = epoch} {past = past} {t0 = t0} {t = t} {run_cells = run_cells} {written = written} {history = history} own same later =
+    ready_later past t0 run_cells (found_epoch seat) epoch written history t
     (found_later seat own same later)
 
 -- a commit that is counted, with its epoch

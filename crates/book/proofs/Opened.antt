@@ -58,7 +58,7 @@ module _ (t0 : Database) (run_cells : List TableId) (pen : PenView) (newest : Li
       last = λ n h. ([], only n h);
     }
 
-    pub first_sound : IsWellFormed t0 → IsConsistent t0 → IsSound t0 pen [] t0
+    pub first_sound : IsWellFormed t0 → IsConsistent t0 → IsSound 0 t0 pen [] t0
     first_sound well_formed consistent = record {
       legal = record { replays = tt; end = refl };
       stamped = tt;
@@ -69,7 +69,7 @@ module _ (t0 : Database) (run_cells : List TableId) (pen : PenView) (newest : Li
           ∙ first_value (rows t0 n);
     }
 
-    pub first_ready : (epoch : ℕ) → HasRoom MAX_COMMITS t0 → t0.scale.commits ≤ MAX_COMMITS → IsReady t0 run_cells epoch pen [] t0
+    pub first_ready : (epoch : ℕ) → HasRoom MAX_COMMITS t0 → t0.scale.commits ≤ MAX_COMMITS → IsReady 0 t0 run_cells epoch pen [] t0
     first_ready epoch room few = record {
       of_population = IsOf-itself t0;
       cells = ap (λ (w : PenView). w.cells) fresh;

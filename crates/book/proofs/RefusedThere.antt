@@ -1,5 +1,5 @@
 -- Refusals at the committed tables, from what an execution and a commit say.
-use Rattle.std.proofs.Common.{◌≡◌, ◌≢◌, ℕ, ◌<◌, ◌≤◌, ◌⊎◌, inl, inr, Option, None, IsSome, List, length, refl, sym, subst}
+use Rattle.std.proofs.Common.{◌≡◌, ◌≢◌, ℕ, ◌+◌, ◌<◌, ◌≤◌, ◌⊎◌, inl, inr, Option, None, IsSome, List, length, refl, sym, subst}
 use Rattle.money.specs.declared.refusal.Refusal.{Refusal}
 use Rattle.money.specs.declared.refusal.Refusal.TheVariants.{OutOfMemory, Conflict, Stale, ItemNotValid, OrdersFull, CommitsFull, EpochFull}
 use Rattle.tables.specs.Sizes.{Sizes}
@@ -15,15 +15,15 @@ use Rattle.book.specs.declared.entry.Entry.{Entry}
 use Rattle.book.proofs.Replaying.{replay-IsOf, replay-scale}
 use Rattle.book.specs.Next.{IsRefusedAt}
 
-module _ (t0 : Database) (history : List Entry) (x : Input) where
+module _ (past : ℕ) (t0 : Database) (history : List Entry) (x : Input) where
   -- where no order number is left there
   pub orders_full : (old new : ReaderView) → IsRefusal t0 x old new OrdersFull → ¬ HasOrderNumber (replay t0 history) x
-      → IsRefusedAt (replay t0 history) (length history) x OrdersFull
+      → IsRefusedAt (replay t0 history) (past + length history) x OrdersFull
   orders_full old new h none = (h.0 (replay t0 history) (replay-IsOf t0 history), none)
 
   -- any other refusal of an execution
   pub as_refused : (old new : ReaderView) (refusal : Refusal) → IsRefusal t0 x old new refusal → refusal ≢ OrdersFull
-      → (refusal ≡ Stale) ⊎ (refusal ≡ OutOfMemory) ⊎ IsRefusedAt (replay t0 history) (length history) x refusal
+      → (refusal ≡ Stale) ⊎ (refusal ≡ OutOfMemory) ⊎ IsRefusedAt (replay t0 history) (past + length history) x refusal
   as_refused old new OutOfMemory h other = inr (inl refl)
   as_refused old new (ItemNotValid item) h other = inr (inr (h (replay t0 history) (replay-IsOf t0 history)))
   as_refused old new OrdersFull h other = absurd (other refl)
@@ -31,23 +31,23 @@ module _ (t0 : Database) (history : List Entry) (x : Input) where
   as_refused old new _ h other = absurd h
 
 -- a work that is done there, and comes at the commit cap
-commits_full : (t0 : Database) (history : List Entry) (work : Work) → CommitsAt (replay t0 history) work.input work.writes work.reply
-    → t0.scale.commits ≤ length history → IsRefusedAt (replay t0 history) (length history) work.input CommitsFull
-commits_full t0 history work done cap = (
+commits_full : (past : ℕ) (t0 : Database) (history : List Entry) (work : Work) → CommitsAt (replay t0 history) work.input work.writes work.reply
+    → t0.scale.commits ≤ past + length history → IsRefusedAt (replay t0 history) (past + length history) work.input CommitsFull
+commits_full past t0 history work done cap = (
   subst IsCommitted (sym done.commit.commits) tt,
   done.commit.numbered,
-  subst (λ (s : Sizes). s.commits ≤ length history) (sym (replay-scale t0 history)) cap,
+  subst (λ (s : Sizes). s.commits ≤ past + length history) (sym (replay-scale t0 history)) cap,
 )
 
 -- a refusal of a commit, by what its clauses say of each
-pub refused_there : (t0 : Database) (history : List Entry) (work : Work) (refusal : Refusal) (next : Option ℕ) {C L : Type 0} → refusal ≢ EpochFull
+pub refused_there : (past : ℕ) (t0 : Database) (history : List Entry) (work : Work) (refusal : Refusal) (next : Option ℕ) {C L : Type 0} → refusal ≢ EpochFull
     → ((refusal ≡ Conflict) × C) ⊎ (L × CommitsAt (replay t0 history) work.input work.writes work.reply
-    × (((refusal ≡ CommitsFull) × (t0.scale.commits ≤ length history))
-    ⊎ ((refusal ≡ EpochFull) × (length history < t0.scale.commits) × (next ≡ None))
-    ⊎ ((refusal ≡ OutOfMemory) × (length history < t0.scale.commits) × IsSome next)))
-    → (refusal ≡ Conflict) ⊎ (refusal ≡ OutOfMemory) ⊎ IsRefusedAt (replay t0 history) (length history) work.input refusal
-refused_there t0 history work refusal next never (inl conflict) = inl conflict.0
-refused_there t0 history work refusal next never (inr (_, done, inl full)) =
-    inr (inr (subst (IsRefusedAt (replay t0 history) (length history) work.input) (sym full.0) (commits_full t0 history work done full.1)))
-refused_there t0 history work refusal next never (inr (_, done, inr (inl epoch))) = absurd (never epoch.0)
-refused_there t0 history work refusal next never (inr (_, done, inr (inr memory))) = inr (inl memory.0)
+    × (((refusal ≡ CommitsFull) × (t0.scale.commits ≤ past + length history))
+    ⊎ ((refusal ≡ EpochFull) × (past + length history < t0.scale.commits) × (next ≡ None))
+    ⊎ ((refusal ≡ OutOfMemory) × (past + length history < t0.scale.commits) × IsSome next)))
+    → (refusal ≡ Conflict) ⊎ (refusal ≡ OutOfMemory) ⊎ IsRefusedAt (replay t0 history) (past + length history) work.input refusal
+refused_there past t0 history work refusal next never (inl conflict) = inl conflict.0
+refused_there past t0 history work refusal next never (inr (_, done, inl full)) =
+    inr (inr (subst (IsRefusedAt (replay t0 history) (past + length history) work.input) (sym full.0) (commits_full past t0 history work done full.1)))
+refused_there past t0 history work refusal next never (inr (_, done, inr (inl epoch))) = absurd (never epoch.0)
+refused_there past t0 history work refusal next never (inr (_, done, inr (inr memory))) = inr (inl memory.0)

@@ -74,8 +74,11 @@ last_one xs ys a b e = sym (end xs a) ∙ ap last_of e ∙ end ys b
 rest_of : (n : ℕ) → n < MAX_COMMITS → MAX_COMMITS - n ≡ MAX_COMMITS - (n + 1) + 1
 rest_of n h = omega arith
 
-module _ (t0 : Database) (run_cells : List TableId) (epoch : ℕ) (written : PenView) (history : List Entry) (t : Database)
-    (sound : IsSound t0 written history t) (ready : IsReady t0 run_cells epoch written history t)
+further : (k n : ℕ) → k + n + 1 ≡ k + (n + 1)
+further k n = omega arith
+
+module _ (past : ℕ) (t0 : Database) (run_cells : List TableId) (epoch : ℕ) (written : PenView) (history : List Entry) (t : Database)
+    (sound : IsSound past t0 written history t) (ready : IsReady past t0 run_cells epoch written history t)
     (reader : ReaderView) (work : Work) (is_work : IsWorkOf t0 (length run_cells) reader work) (latest : AreLatest written.all work.reads) where
   agrees : Agrees t work.reads
   agrees n v e = sound.latest n (subst (λ m. n < m) ready.count (is_work.read.within n v e)) (words_of v) (latest n v e)
@@ -99,28 +102,28 @@ module _ (t0 : Database) (run_cells : List TableId) (epoch : ℕ) (written : Pen
       subst (IsWithin epoch (length history)) (last_tid-last (at written.all read.0) (words_of read.1) (latest read.0 read.1 read.2) ∙ sym read.3)
       (ready.records read.0 (is_work.read.within read.0 read.1 read.2))
 
-  module _ (terminal tid_is : ℕ) (new : PenView) (below_cap : length history < t0.scale.commits) (cells : new.cells ≡ written.cells)
+  module _ (terminal tid_is : ℕ) (new : PenView) (below_cap : past + length history < t0.scale.commits) (cells : new.cells ≡ written.cells)
       (within : IsWithin epoch (length history + 1) tid_is) (in_epoch : tid_is / 2 ^ 32 ≡ epoch)
       (above_last : last_of terminal history < tid_is)
       (above : (n : ℕ) (value : Option (List ℕ)) → value_for work.writes n ≡ Some value → last_tid (at written.all n) < tid_is)
       (stores : (n : ℕ) → at new.all n ≡ at written.all n ++ new_versions tid_is work.writes.values n) where
     abbrev entry : Entry
-    entry = entry_of (length history + 1) tid_is terminal work
+    entry = entry_of (past + length history + 1) tid_is terminal work
 
     longer : length (history ++ entry ∷ []) ≡ length history + 1
     longer = length-append history (entry ∷ [])
 
-    legal : IsLegal t0 (history ++ entry ∷ []) (after t work.input)
+    legal : IsLegal past t0 (history ++ entry ∷ []) (after t work.input)
     legal = record {
-      replays = replays_push 1 t0 history entry sound.legal.replays (turned (length history)) done_there;
+      replays = replays_push (past + 1) t0 history entry sound.legal.replays (turned past (length history)) done_there;
       end = replay_push t0 history entry ∙ ap (λ s. after s work.input) sound.legal.end;
     }
       where
-        turned : (n : ℕ) → n + 1 ≡ 1 + n
-        turned n = omega arith
+        turned : (k n : ℕ) → k + n + 1 ≡ k + 1 + n
+        turned k n = omega arith
 
-    roomy : HasRoom (MAX_COMMITS - (length history + 1) + 1) t
-    roomy = subst (λ n. HasRoom n t) (rest_of (length history) (omega (arith, below_cap, ready.few))) ready.room
+    roomy : HasRoom (MAX_COMMITS - (past + length history + 1) + 1) t
+    roomy = subst (λ n. HasRoom n t) (rest_of (past + length history) (omega (arith, below_cap, ready.few))) ready.room
 
     -- a record that isn't written, and one that is
     unchanged : (n : ℕ) → value_for work.writes n ≡ None → at new.all n ≡ at written.all n
@@ -191,12 +194,12 @@ module _ (t0 : Database) (run_cells : List TableId) (epoch : ℕ) (written : Pen
     from_epoch : epoch ≤ tid_is / 2 ^ 32
     from_epoch = omega (arith, in_epoch)
 
-    pub next_sound : IsSound t0 new (history ++ entry ∷ []) (after t work.input)
+    pub next_sound : IsSound past t0 new (history ++ entry ∷ []) (after t work.input)
     next_sound = record {
       legal = legal;
       stamped = all_stamped epoch written new history (history ++ entry ∷ []) entry refl from_epoch above_last above_records written_records grows
           within.bits sound.stamped ready.passed;
-      well_formed = after-IsWellFormed t work.input (MAX_COMMITS - (length history + 1)) input_of commits_there.numbered sound.well_formed sound.consistent
+      well_formed = after-IsWellFormed t work.input (MAX_COMMITS - (past + length history + 1)) input_of commits_there.numbered sound.well_formed sound.consistent
           roomy;
       consistent = after-IsConsistent t work.input input_of sound.well_formed sound.consistent;
       versions = λ n h. stores n ∙ ap (λ (l : List (List ℕ)). l ++ new_versions tid_is work.writes.values n) (sound.versions n h)
@@ -211,7 +214,7 @@ module _ (t0 : Database) (run_cells : List TableId) (epoch : ℕ) (written : Pen
         (within_more epoch (length history) _ (ready.terminals one)))
         (cases_eq terminal one)
 
-    pub next_ready : IsReady t0 run_cells epoch new (history ++ entry ∷ []) (after t work.input)
+    pub next_ready : IsReady past t0 run_cells epoch new (history ++ entry ∷ []) (after t work.input)
     next_ready = record {
       of_population = after-IsOf t0 t work.input ready.of_population;
       cells = cells ∙ ready.cells;
@@ -222,8 +225,8 @@ module _ (t0 : Database) (run_cells : List TableId) (epoch : ℕ) (written : Pen
           (by_record (IsWithin epoch (length history + 1)) n (λ _. within_more epoch (length history) _ (ready.records n h)) (λ _ _. within));
       terminals = λ one. subst (λ m. IsWithin epoch m (last_of one (history ++ entry ∷ []))) (sym longer) (terminals_within one);
       free = last_free;
-      cap = subst (λ n. n ≤ t0.scale.commits) (sym longer) (omega (arith, below_cap));
+      cap = subst (λ n. past + n ≤ t0.scale.commits) (sym longer) (omega (arith, below_cap));
       few = ready.few;
-      room = subst (λ n. HasRoom (MAX_COMMITS - n) (after t work.input)) (sym longer)
-          (after-HasRoom t work.input (MAX_COMMITS - (length history + 1)) input_of sound.well_formed roomy);
+      room = subst (λ n. HasRoom (MAX_COMMITS - n) (after t work.input)) (further past (length history) ∙ ap (λ n. past + n) (sym longer))
+          (after-HasRoom t work.input (MAX_COMMITS - (past + length history + 1)) input_of sound.well_formed roomy);
     }

@@ -30,12 +30,12 @@ use Rattle.book.proofs.Sound.{read_within, next_sound, next_ready}
 pub whole : (n : ℕ) → n % 8 ≡ 0 → tid_of n ≡ n
 whole n even = omega (arith, even)
 
-module _ (t0 : Database) (run_cells : List TableId) (epoch : ℕ) (written : PenView) (history : List Entry) (t : Database)
-    (sound : IsSound t0 written history t) (ready : IsReady t0 run_cells epoch written history t)
+module _ (past : ℕ) (t0 : Database) (run_cells : List TableId) (epoch : ℕ) (written : PenView) (history : List Entry) (t : Database)
+    (sound : IsSound past t0 written history t) (ready : IsReady past t0 run_cells epoch written history t)
     (reader : ReaderView) (work : Work) (is_work : IsWorkOf t0 (length run_cells) reader work) (latest : AreLatest written.all work.reads)
     (terminal seen last : ℕ) (is_read : IsRead work.reads seen) (greatest : seen ≡ greatest_tid work.reads) (last_is : last ≡ last_of terminal history) where
   seen_within : IsWithin epoch (length history) seen
-  seen_within = read_within t0 run_cells epoch written history t sound ready reader work is_work latest seen is_read
+  seen_within = read_within past t0 run_cells epoch written history t sound ready reader work is_work latest seen is_read
 
   last_within : IsWithin epoch (length history) last
   last_within = subst (IsWithin epoch (length history)) (sym last_is) (ready.terminals terminal)
@@ -45,13 +45,13 @@ module _ (t0 : Database) (run_cells : List TableId) (epoch : ℕ) (written : Pen
   same_next = λ i. next ((whole seen seen_within.bits ∙ greatest) i) ((whole last last_within.bits ∙ last_is) i) epoch
 
   -- there is one, as the commit cap isn't passed
-  pub there_is : length history < t0.scale.commits → next (tid_of seen) (tid_of last) epoch ≡ None → ⊥
+  pub there_is : past + length history < t0.scale.commits → next (tid_of seen) (tid_of last) epoch ≡ None → ⊥
   there_is below none = next-exists (length history) seen last epoch
       ((λ i. next (sym (whole seen seen_within.bits) i) (sym (whole last last_within.bits) i) epoch) ∙ none)
-      seen_within.in_epoch last_within.in_epoch seen_within.sequence last_within.sequence (few (length history) t0.scale.commits below ready.few)
+      seen_within.in_epoch last_within.in_epoch seen_within.sequence last_within.sequence (few past (length history) t0.scale.commits below ready.few)
     where
-      few : (n cap : ℕ) → n < cap → cap ≤ MAX_COMMITS → n < 536870911
-      few n cap p q = omega (arith, p, q)
+      few : (k n cap : ℕ) → k + n < cap → cap ≤ MAX_COMMITS → n < 536870911
+      few k n cap p q = omega (arith, p, q)
 
   module _ (tid : ℕ) (lawful : IsLawful seen last epoch tid) (is : next (tid_of seen) (tid_of last) epoch ≡ Some tid) where
     taken_within : IsWithin epoch (length history + 1) tid
@@ -81,13 +81,13 @@ module _ (t0 : Database) (run_cells : List TableId) (epoch : ℕ) (written : Pen
         above_some None is some = absurd (true≢false (sym some ∙ ap is_some is))
 
     -- so the book is sound and ready behind a commit that takes it
-    pub next_kept : (new : PenView) → length history < t0.scale.commits → new.cells ≡ written.cells
+    pub next_kept : (new : PenView) → past + length history < t0.scale.commits → new.cells ≡ written.cells
         → ((n : ℕ) → at new.all n ≡ at written.all n ++ new_versions tid work.writes.values n)
-        → IsSound t0 new (history ++ entry_of (length history + 1) tid terminal work ∷ []) (after t work.input)
-        × IsReady t0 run_cells epoch new (history ++ entry_of (length history + 1) tid terminal work ∷ []) (after t work.input)
+        → IsSound past t0 new (history ++ entry_of (past + length history + 1) tid terminal work ∷ []) (after t work.input)
+        × IsReady past t0 run_cells epoch new (history ++ entry_of (past + length history + 1) tid terminal work ∷ []) (after t work.input)
     next_kept new below cells stores = (
-      next_sound t0 run_cells epoch written history t sound ready reader work is_work latest terminal tid new below cells taken_within lawful.in_epoch
+      next_sound past t0 run_cells epoch written history t sound ready reader work is_work latest terminal tid new below cells taken_within lawful.in_epoch
           taken_above_last taken_above stores,
-      next_ready t0 run_cells epoch written history t sound ready reader work is_work latest terminal tid new below cells taken_within lawful.in_epoch
+      next_ready past t0 run_cells epoch written history t sound ready reader work is_work latest terminal tid new below cells taken_within lawful.in_epoch
           taken_above_last taken_above stores,
     )

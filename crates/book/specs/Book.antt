@@ -41,10 +41,10 @@ pub record IsAsBefore (old new : BookView) : Type 0 where
   pub marks : new.marks ≡ old.marks
 
 -- what is so whenever the book's lock is free, of the records' versions and the history, t0 being the tables that the
--- run began with and t the committed ones
-pub record IsSound (t0 : Database) (written : PenView) (history : List Entry) (t : Database) : Type 0 where
+-- run began with, which so many past commits have made, and t the committed ones
+pub record IsSound (past : ℕ) (t0 : Database) (written : PenView) (history : List Entry) (t : Database) : Type 0 where
   -- the committed tables are the history's serial replay, with every reply the same
-  pub legal : IsLegal t0 history t
+  pub legal : IsLegal past t0 history t
   -- its TIDs rise by record and by terminal, and its epochs don't fall
   pub stamped : AreStamped history
   pub well_formed : IsWellFormed t

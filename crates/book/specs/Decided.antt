@@ -64,7 +64,7 @@ history_of _ _ = []
 -- a legal history with lawful TIDs, which leads to well-formed, consistent tables, whose rows are the values of these
 -- versions
 pub record LeadsTo (t0 : Database) (history : List Entry) (versions : ℕ → noted.Version) : Type 0 where
-  pub legal : IsLegal t0 history (replay t0 history)
+  pub legal : IsLegal 0 t0 history (replay t0 history)
   pub stamped : AreStamped history
   pub well_formed : IsWellFormed (replay t0 history)
   pub consistent : IsConsistent (replay t0 history)

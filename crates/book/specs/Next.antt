@@ -1,5 +1,5 @@
 -- What an input comes to at the committed tables: it is the next commit, or it is refused there.
-use Rattle.std.specs.Prelude.{◌≡◌, ℕ, ◌<◌, ◌≤◌, List, [], ◌∷◌, ◌++◌, length}
+use Rattle.std.specs.Prelude.{◌≡◌, ℕ, ◌+◌, ◌<◌, ◌≤◌, List, [], ◌∷◌, ◌++◌, length}
 use Rattle.money.specs.declared.refusal.Refusal.{Refusal}
 use Rattle.money.specs.declared.refusal.Refusal.TheVariants.{ItemNotValid, OrdersFull, CommitsFull}
 use Rattle.tables.specs.Database.{Database}
@@ -11,12 +11,13 @@ use Rattle.book.specs.declared.entry.Entry.{Entry}
 use Rattle.book.specs.Done.{Done}
 
 -- an input is the next commit, below the cap: its tables and its reply are those of the transaction at the tables
--- before, and this is what its terminal is told: the number, the TID and the reply of its entry
-pub record IsNextCommit (t0 : Database) (old new : List Entry) (x : Input) (done : Done) : Type 0 where
-  pub below : length old < t0.scale.commits
+-- before, and this is what its terminal is told: the number, behind those of past commits, the TID and the reply of its
+-- entry
+pub record IsNextCommit (past : ℕ) (t0 : Database) (old new : List Entry) (x : Input) (done : Done) : Type 0 where
+  pub below : past + length old < t0.scale.commits
   pub numbered : HasOrderNumber (replay t0 old) x
   pub commits : apply (replay t0 old) x ≡ Committed (replay t0 new) done.reply
-  pub number : done.number ≡ length new
+  pub number : done.number ≡ past + length new
   pub entry : (e : Entry) × (new ≡ old ++ e ∷ []) × (e.tid ≡ done.tid)
 
 -- an input has this refusal at the committed tables t, when so many transactions have committed: the first of its

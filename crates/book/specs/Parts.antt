@@ -12,10 +12,13 @@ use Rattle.board.specs.Opening.{Opens}
 use Rattle.book.specs.declared.stream.Stream.{Stream}
 use Rattle.book.specs.declared.engine.Parts.{Parts}
 
--- the tables that a run of these parts begins with, the seed of its population, its cells, its board and what that opened
--- with, its ledger, and how many loggers and terminals it has
+-- the tables that a run of these parts begins with, how many commits made them, the seed of its population, its cells,
+-- its board and what that opened with, its ledger, and how many loggers and terminals it has
 abbrev pub first_of : Parts → Database
 first_of p = initial (arc_value p.population)
+
+abbrev pub past_of : Parts → ℕ
+past_of p = p.past
 
 abbrev pub population_seed : Parts → ℕ
 population_seed p = seed_of (arc_value p.population)
@@ -42,8 +45,9 @@ abbrev pub terminals_of : Parts → ℕ
 terminals_of p = length p.readers.items
 
 -- the run of these parts is named so
-pub record IsRunOf (p : Parts) (first : Database) (cells : List TableId) (board : BoardView) (seed : ℕ) : Type 0 where
+pub record IsRunOf (p : Parts) (first : Database) (past : ℕ) (cells : List TableId) (board : BoardView) (seed : ℕ) : Type 0 where
   pub first_is : first_of p ≡ first
+  pub past_is : past_of p ≡ past
   pub cells_are : cells_of p ≡ cells
   pub board_is : board_of p ≡ board
   pub seed_is : population_seed p ≡ seed
@@ -59,6 +63,7 @@ pub record IsFresh (p : Parts) : Type 0 where
   pub lent : arc_value p.lent ≡ arc_value p.population
   pub newest : AreFirst (initial (arc_value p.population)) p.newest.items
   pub history : p.history.items ≡ []
+  pub past : p.past ≡ 0
   pub lasts : p.lasts.items ≡ replicate (length p.readers.items) 0
   pub count : length p.cells ≡ length p.newest.items
   pub pen : p.pen ≡ record { cells = p.cells; all = firsts p.newest.items }

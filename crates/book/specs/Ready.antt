@@ -1,5 +1,5 @@
 -- What the next commit needs of the book: bookkeeping, and what follows from the rest.
-use Rattle.std.specs.Prelude.{◌≡◌, ℕ, ◌-◌, ◌/◌, ◌%◌, ◌^◌, ◌<◌, ◌≤◌, true, false, IsSome, List, length, slice_index}
+use Rattle.std.specs.Prelude.{◌≡◌, ℕ, ◌+◌, ◌-◌, ◌/◌, ◌%◌, ◌^◌, ◌<◌, ◌≤◌, true, false, IsSome, List, length, slice_index}
 use Rattle.std.specs.List.{All}
 use Rattle.atomic_table.specs.Seated.{TableId}
 use Rattle.tables.specs.Database.{Database}
@@ -35,8 +35,8 @@ pub record IsFree (word : ℕ) : Type 0 where
   pub latest : is_latest word ≡ true
 
 -- what the next commit needs of the book, whose TID is of this epoch or a later one
-pub record IsReady (t0 : Database) (run_cells : List TableId) (epoch : ℕ) (written : PenView) (history : List Entry)
-    (t : Database) : Type 0 where
+pub record IsReady (past : ℕ) (t0 : Database) (run_cells : List TableId) (epoch : ℕ) (written : PenView)
+    (history : List Entry) (t : Database) : Type 0 where
   pub of_population : IsOf t0 t
   -- the pen is of the run's cells, one a record
   pub cells : written.cells ≡ run_cells
@@ -49,9 +49,9 @@ pub record IsReady (t0 : Database) (run_cells : List TableId) (epoch : ℕ) (wri
   -- each record's newest version says that it is the latest, and unlocked
   pub free : (n : ℕ) → n < length run_cells → (v : List ℕ) → EndsWith (at written.all n) v → IsFree (word_in v)
   -- the commit cap isn't passed, and there is room for the commits that are left
-  pub cap : length history ≤ t0.scale.commits
+  pub cap : past + length history ≤ t0.scale.commits
   pub few : t0.scale.commits ≤ MAX_COMMITS
-  pub room : HasRoom (MAX_COMMITS - length history) t
+  pub room : HasRoom (MAX_COMMITS - (past + length history)) t
 
 -- these are the last TIDs of the terminals, so many of which there are
 pub record AreLast (terminals : ℕ) (history : List Entry) (lasts : List ℕ) : Type 0 where

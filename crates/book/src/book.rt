@@ -27,6 +27,7 @@ use tidword::TidWord;
 pub struct Book<K: Run> {
     pub(crate) pen: Pen,
     pub(crate) population: Arc<Population, Global>,
+    pub(crate) past: u32,
     pub(crate) newest: Vec<Newest>,
     pub(crate) history: Vec<Arc<Entry, Global>>,
     pub(crate) streams: Vec<Stream>,
@@ -48,21 +49,21 @@ impl<K: Run> Model for Book<K> {
     ghost Value = { BookView };
 
     ghost view = { λ b. record {
-        written = b.pen;
-        history = map arc_value b.history.items;
-        seat = b.seat;
-        taken = map (λ s. s.taken) b.streams.items;
-        marks = map (λ s. s.mark) b.streams.items;
+      written = b.pen;
+      history = map arc_value b.history.items;
+      seat = b.seat;
+      taken = map (λ s. s.taken) b.streams.items;
+      marks = map (λ s. s.mark) b.streams.items;
     } };
 
     ghost invariant = { λ b. let history = map arc_value b.history.items in
-        IsSound K.first b.pen history (replay K.first history)
-        × IsReady K.first K.cells (found_epoch b.seat) b.pen history (replay K.first history)
+        IsSound K.past K.first b.pen history (replay K.first history)
+        × IsReady K.past K.first K.cells (found_epoch b.seat) b.pen history (replay K.first history)
         × AreNewest b.pen b.newest.items × (initial (arc_value b.population) ≡ K.first)
         × (b.shares.total ≡ length history)
         × AreLast K.parts history b.lasts.items
         × (b.seat.board ≡ K.board) × HasCounted b.seat history
-        × (seed_of (arc_value b.population) ≡ K.seed)
+        × (seed_of (arc_value b.population) ≡ K.seed) × (b.past ≡ K.past)
         × AreStreams K.board.plan.loggers (found_epoch b.seat) history b.streams.items };
 }
 
@@ -86,7 +87,7 @@ impl<K: Run> Book<K> {
     pub fn history(&self) -> &[Arc<Entry, Global>]
         ensures history { map arc_value result.now ≡ self.now.history }
         ensures counted { HasCounted self.now.seat self.now.history }
-        ensures sound { IsSound K.first self.now.written self.now.history (replay K.first self.now.history) }
+        ensures sound { IsSound K.past K.first self.now.written self.now.history (replay K.first self.now.history) }
     {
         self.history.as_slice()
     }
@@ -104,7 +105,7 @@ impl<K: Run> Book<K> {
     /// the history. `OutOfMemory` is the only refusal.
     pub fn tables(&self) -> Result<Tables, Refusal>
         ensures tables { IfOk result (λ tables. database tables ≡ replay K.first self.now.history) }
-        ensures sound { IfOk result (λ tables. IsSound K.first self.now.written self.now.history (database tables)) }
+        ensures sound { IfOk result (λ tables. IsSound K.past K.first self.now.written self.now.history (database tables)) }
         ensures only_memory { IfErr result (λ refusal. refusal ≡ OutOfMemory) }
     {
         let alloc = *self.history.allocator();

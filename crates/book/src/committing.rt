@@ -63,10 +63,10 @@ impl<K: Run> Book<K> {
             (λ refusal. LoadsEpoch self.old.seat self.new.seat) }
         ensures answer { MatchResult result
             (λ done. AreLatest self.old.written.all work.reads
-            × (length self.old.history < K.first.scale.commits)
+            × (K.past + length self.old.history < K.first.scale.commits)
             × (tid_for self.old.history share.old.terminal (found_epoch self.new.seat) work.reads ≡ Some done.tid)
-            × Commits self.old self.new (entry_of (length self.old.history + 1) done.tid share.old.terminal work)
-            × (done.number ≡ length self.old.history + 1) × (done.reply ≡ work.reply)
+            × Commits self.old self.new (entry_of (K.past + length self.old.history + 1) done.tid share.old.terminal work)
+            × (done.number ≡ K.past + length self.old.history + 1) × (done.reply ≡ work.reply)
             × (share.new ≡ record {
               terminal = share.old.terminal;
               parts = share.old.parts;
@@ -79,14 +79,14 @@ impl<K: Run> Book<K> {
             × (((refusal ≡ Conflict) × HasConflict self.old.written.all work.reads)
             ⊎ (AreLatest self.old.written.all work.reads
             × CommitsAt (replay K.first self.old.history) work.input work.writes work.reply
-            × (((refusal ≡ CommitsFull) × (K.first.scale.commits ≤ length self.old.history))
-            ⊎ ((refusal ≡ EpochFull) × (length self.old.history < K.first.scale.commits)
+            × (((refusal ≡ CommitsFull) × (K.first.scale.commits ≤ K.past + length self.old.history))
+            ⊎ ((refusal ≡ EpochFull) × (K.past + length self.old.history < K.first.scale.commits)
             × (tid_for self.old.history share.old.terminal (found_epoch self.new.seat) work.reads ≡ None))
-            ⊎ ((refusal ≡ OutOfMemory) × (length self.old.history < K.first.scale.commits)
+            ⊎ ((refusal ≡ OutOfMemory) × (K.past + length self.old.history < K.first.scale.commits)
             × IsSome (tid_for self.old.history share.old.terminal (found_epoch self.new.seat) work.reads)))))) }
-        ensures next { IfOk result (IsNextCommit K.first self.old.history self.new.history work.input) }
+        ensures next { IfOk result (IsNextCommit K.past K.first self.old.history self.new.history work.input) }
         ensures refused { IfErr result (λ refusal. (refusal ≡ Conflict) ⊎ (refusal ≡ OutOfMemory)
-            ⊎ IsRefusedAt (replay K.first self.old.history) (length self.old.history) work.input refusal) }
+            ⊎ IsRefusedAt (replay K.first self.old.history) (K.past + length self.old.history) work.input refusal) }
         ensures section { (m : Machine) (w : ℕ)
             → Mirrors self.old share.old.terminal (found_epoch self.new.seat) work.reads m w
             → MatchResult result
@@ -108,6 +108,7 @@ impl<K: Run> Book<K> {
         };
         let place = Place {
             cap: self.population.scale().commits(),
+            past: self.past,
             epoch: epoch as u32,
             seen,
             terminal: share.terminal,
@@ -120,7 +121,14 @@ impl<K: Run> Book<K> {
             entry,
             waiting,
             done,
-        } = match prepare(&mut self.history, stream, place, input, reply, &footprint.writes) {
+        } = match prepare(
+            &mut self.history,
+            stream,
+            place,
+            input,
+            reply,
+            &footprint.writes,
+        ) {
             Ok(prepared) => prepared,
             Err(refusal) => return Err(refusal),
         };

@@ -1,5 +1,5 @@
 //! Refusals of executions, as they are at the committed tables.
-ghost use Rattle.std.specs.Prelude.{◌≡◌, ◌⊎◌, length, MatchBool};
+ghost use Rattle.std.specs.Prelude.{◌≡◌, ◌+◌, ◌⊎◌, length, MatchBool};
 ghost use Rattle.money.specs.declared.refusal.Refusal.TheVariants.{OutOfMemory, OrdersFull, Stale};
 ghost use Rattle.tables.specs.Inputs.{IsInput};
 ghost use Rattle.tables.specs.Apply.{HasOrderNumber};
@@ -21,7 +21,7 @@ impl<K: Run> Book<K> {
         requires input { IsInput K.first.scale input.now }
         requires refusal { (old : ReaderView) × ((new : ReaderView) × IsRefusal K.first input.now old new refusal) }
         ensures there { (result ≡ Stale) ⊎ (result ≡ OutOfMemory)
-            ⊎ IsRefusedAt (replay K.first self.now.history) (length self.now.history) input.now result }
+            ⊎ IsRefusedAt (replay K.first self.now.history) (K.past + length self.now.history) input.now result }
         ensures stale { result ≡ Stale → (refusal ≡ Stale)
             ⊎ ((refusal ≡ OrdersFull) × HasOrderNumber (replay K.first self.now.history) input.now) }
         ensures memory { result ≡ OutOfMemory → refusal ≡ OutOfMemory }

@@ -8,7 +8,7 @@ ghost use Rattle.board.specs.declared.rule.Role.TheVariants.{Clock, Terminal};
 ghost use Rattle.board.specs.Seats.{new_seat};
 ghost use Rattle.board.specs.Opening.{logger_seats};
 ghost use Rattle.book.specs.Parts.{IsFresh, IsRunOf, AreEmpty, first_of, ledger_name, ledger_parts};
-ghost use Rattle.book.specs.Parts.{base_of, loggers_of, terminals_of};
+ghost use Rattle.book.specs.Parts.{base_of, past_of, loggers_of, terminals_of};
 ghost use Rattle.book.specs.declared.engine.TheConstants.{MAX_LOGGERS as the_most_loggers};
 ghost use Rattle.book.specs.declared.engine.TheConstants.{MAX_TERMINALS as the_most_terminals};
 
@@ -34,6 +34,7 @@ use tidword::TidWord;
 pub struct Parts {
     population: Arc<Population, Global>,
     lent: Arc<Population, Global>,
+    past: u32,
     newest: Vec<Newest>,
     history: Vec<Arc<Entry, Global>>,
     streams: Vec<Stream>,
@@ -70,7 +71,7 @@ impl Parts {
         requires terminals { (0 < terminals) × (terminals ≤ the_most_terminals) }
         ensures fresh { IfOk result IsFresh }
         ensures first { IfOk result (λ parts. first_of parts ≡ initial population) }
-        ensures base { IfOk result (λ parts. base_of parts ≡ 0) }
+        ensures begins { IfOk result (λ parts. (base_of parts ≡ 0) × (past_of parts ≡ 0)) }
         ensures loggers { IfOk result (λ parts. loggers_of parts ≡ loggers) }
         ensures terminals { IfOk result (λ parts. terminals_of parts ≡ terminals) }
         ensures only_memory { IfErr result (λ refusal. refusal ≡ OutOfMemory) }
@@ -82,6 +83,7 @@ impl Parts {
         Ok(Parts {
             population,
             lent,
+            past: 0,
             newest,
             history: Vec::new(alloc),
             streams: streams(alloc, loggers)?,
@@ -137,7 +139,7 @@ impl<K: Run> Engine<K> {
     /// memory.
     pub fn open(parts: Parts) -> (Engine<K>, Seats<K>)
         requires fresh { IsFresh parts }
-        requires run { IsRunOf parts K.first K.cells K.board K.seed }
+        requires run { IsRunOf parts K.first K.past K.cells K.board K.seed }
         requires ledger { (ledger_name parts ≡ K.name) × (ledger_parts parts ≡ K.parts) }
         ensures clock { result.1.clock ≡ new_seat K.board Clock }
         ensures loggers { result.1.loggers.items ≡ logger_seats K.board K.board.plan.loggers }
@@ -147,6 +149,7 @@ impl<K: Run> Engine<K> {
         let Parts {
             population,
             lent,
+            past,
             newest,
             history,
             streams,
@@ -170,6 +173,7 @@ impl<K: Run> Engine<K> {
         let book = Book {
             pen,
             population: lent,
+            past,
             newest,
             history,
             streams,

@@ -17,11 +17,12 @@ use std::sync::Arc;
 use tables::{Input, Reply};
 use tidword::{TidWord, next_tid};
 
-/// What a commit's place in the history comes from: the commit cap, the epoch, the greatest TID that it has seen, and
-/// the terminal with the TID of its last commit.
+/// What a commit's place in the history comes from: the commit cap, how many commits the run began with, the epoch, the
+/// greatest TID that it has seen, and the terminal with the TID of its last commit.
 #[derive(Clone, Copy)]
 pub(crate) struct Place {
     pub cap: u32,
+    pub past: u32,
     pub epoch: u32,
     pub seen: TidWord,
     pub terminal: u16,
@@ -55,7 +56,7 @@ pub(crate) fn prepare(
         next (tid_of place.seen) (tid_of place.last) place.epoch ≡ Some made.tid) }
     ensures lawful { IfOk result (λ made. IsLawful place.seen place.last place.epoch made.tid) }
     ensures entry { IfOk result (λ made. arc_value made.entry ≡ record {
-      number = length history.old.items + 1;
+      number = place.past + length history.old.items + 1;
       tid = made.tid;
       terminal = place.terminal;
       input = input;
@@ -64,21 +65,21 @@ pub(crate) fn prepare(
     }) }
     ensures waiting { IfOk result (λ made. arc_value made.waiting ≡ arc_value made.entry) }
     ensures done { IfOk result (λ made.
-        made.done ≡ record { number = length history.old.items + 1; tid = made.tid; reply = reply }) }
-    ensures below { OnOk result (length history.old.items < place.cap) }
+        made.done ≡ record { number = place.past + length history.old.items + 1; tid = made.tid; reply = reply }) }
+    ensures below { OnOk result (place.past + length history.old.items < place.cap) }
     ensures history { history.new.items ≡ history.old.items }
     ensures stream { (stream.new.taken ≡ stream.old.taken) × (stream.new.number ≡ stream.old.number)
         × (stream.new.waiting.items ≡ stream.old.waiting.items) × (stream.new.mark ≡ stream.old.mark) }
     ensures room { OnOk result ((vec_len history.new < vec_capacity history.new)
         × (vec_len stream.new.waiting < vec_capacity stream.new.waiting)) }
     ensures refused { IfErr result (λ refusal.
-        ((refusal ≡ CommitsFull) × (place.cap ≤ length history.old.items))
-        ⊎ ((refusal ≡ EpochFull) × (length history.old.items < place.cap)
+        ((refusal ≡ CommitsFull) × (place.cap ≤ place.past + length history.old.items))
+        ⊎ ((refusal ≡ EpochFull) × (place.past + length history.old.items < place.cap)
         × (next (tid_of place.seen) (tid_of place.last) place.epoch ≡ None))
-        ⊎ ((refusal ≡ OutOfMemory) × (length history.old.items < place.cap)
+        ⊎ ((refusal ≡ OutOfMemory) × (place.past + length history.old.items < place.cap)
         × IsSome (next (tid_of place.seen) (tid_of place.last) place.epoch))) }
 {
-    if history.len() >= place.cap as usize {
+    if place.past as usize + history.len() >= place.cap as usize {
         return Err(Refusal::CommitsFull);
     }
     let tid = next_tid(place.seen, place.last, place.epoch)?;
@@ -93,7 +94,7 @@ pub(crate) fn prepare(
     let (entry, waiting) = shared(
         alloc,
         Entry {
-            number: history.len() as u32 + 1,
+            number: place.past + history.len() as u32 + 1,
             tid,
             terminal: place.terminal,
             input,

@@ -3,8 +3,8 @@
 use std::marker::Brand;
 use std::sync::ledger::Ledger;
 
-/// Names one run: the tables that it began with and their population's seed, its record cells, its board of epoch words,
-/// and, as a `Ledger`, its terminals' shares.
+/// Names one run: the tables that it began with, their population's seed and how many commits made them, its record
+/// cells, its board of epoch words, and, as a `Ledger`, its terminals' shares.
 pub trait Run: Ledger {
     ghost use Rattle.std.specs.Prelude.{ℕ, List};
     ghost use Rattle.atomic_table.specs.Seated.{TableId};
@@ -17,6 +17,9 @@ pub trait Run: Ledger {
     /// The seed of the population.
     ghost seed: { ℕ };
 
+    /// How many transactions had committed before it began.
+    ghost past: { ℕ };
+
     /// The cells of its records, by record number.
     ghost cells: { List TableId };
 
@@ -24,7 +27,7 @@ pub trait Run: Ledger {
     ghost board: { BoardView };
 }
 
-/// Only so that there is one: a call at `Brand` names its own tables, seed, cells and board.
+/// Only so that there is one: a call at `Brand` names its own.
 impl Run for Brand {
     ghost use Rattle.std.specs.Prelude.{[]};
     ghost use Rattle.tables.specs.Sizes.{sizes};
@@ -33,6 +36,8 @@ impl Run for Brand {
     ghost first = { empty_database (sizes 1 1 10 20 10 1) };
 
     ghost seed = { 0 };
+
+    ghost past = { 0 };
 
     ghost cells = { [] };
 

@@ -271,7 +271,7 @@ fn pay_twice<K: Run + Send + Sync, R: Threads + Wait + Clock + Sync>(
 ) -> Result<Outcome, Fail>
     requires fresh { IsFresh parts }
     requires cells { length (cells_of parts) ≡ 1085 }
-    requires run { IsRunOf parts K.first K.cells K.board K.seed }
+    requires run { IsRunOf parts K.first K.past K.cells K.board K.seed }
     requires ledger { (ledger_name parts ≡ K.name) × (ledger_parts parts ≡ K.parts) }
 {
     let (engine, mut seats) = Engine::<K>::open(parts);

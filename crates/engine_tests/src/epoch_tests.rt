@@ -18,7 +18,7 @@ fn pay_in_the_next_epoch<K: Run, R: Wait>(
     parts: Parts,
 ) -> Result<(u64, Committed), Refusal>
     requires fresh { IsFresh parts }
-    requires run { IsRunOf parts K.first K.cells K.board K.seed }
+    requires run { IsRunOf parts K.first K.past K.cells K.board K.seed }
     requires ledger { (ledger_name parts ≡ K.name) × (ledger_parts parts ≡ K.parts) }
 {
     let (engine, mut seats) = Engine::<K>::open(parts);

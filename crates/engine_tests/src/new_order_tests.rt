@@ -146,7 +146,7 @@ type Tries = (
 
 fn try_both<K: Run, R: Wait>(rt: &R, alloc: Global, parts: Parts) -> Result<Tries, Fail>
     requires fresh { IsFresh parts }
-    requires run { IsRunOf parts K.first K.cells K.board K.seed }
+    requires run { IsRunOf parts K.first K.past K.cells K.board K.seed }
     requires ledger { (ledger_name parts ≡ K.name) × (ledger_parts parts ≡ K.parts) }
 {
     let (engine, mut seats) = Engine::<K>::open(parts);

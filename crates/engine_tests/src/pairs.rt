@@ -145,7 +145,7 @@ fn outcome_on<K: Run, R: Wait>(
     asked: (Asked, Asked),
 ) -> Result<Outcome, Fail>
     requires fresh { IsFresh parts }
-    requires run { IsRunOf parts K.first K.cells K.board K.seed }
+    requires run { IsRunOf parts K.first K.past K.cells K.board K.seed }
     requires ledger { (ledger_name parts ≡ K.name) × (ledger_parts parts ≡ K.parts) }
 {
     let (engine, mut seats) = Engine::<K>::open(parts);

@@ -148,7 +148,7 @@ fn both(board: &Board, mut seats: Vec<LoggerSeat>) -> Option<(Logger, Logger)>
 /// An engine in epoch 1.
 fn open<K: Run>(parts: Parts) -> Option<Stage<K>>
     requires fresh { IsFresh parts }
-    requires run { IsRunOf parts K.first K.cells K.board K.seed }
+    requires run { IsRunOf parts K.first K.past K.cells K.board K.seed }
     requires ledger { (ledger_name parts ≡ K.name) × (ledger_parts parts ≡ K.parts) }
     requires loggers { (loggers_of parts ≡ 2) × (base_of parts ≡ 0) }
 {
@@ -177,7 +177,7 @@ fn pay_in_two_epochs<K: Run, R: Wait>(
     parts: Parts,
 ) -> Result<(Turns, Turns), Refusal>
     requires fresh { IsFresh parts }
-    requires run { IsRunOf parts K.first K.cells K.board K.seed }
+    requires run { IsRunOf parts K.first K.past K.cells K.board K.seed }
     requires ledger { (ledger_name parts ≡ K.name) × (ledger_parts parts ≡ K.parts) }
     requires loggers { (loggers_of parts ≡ 2) × (base_of parts ≡ 0) }
 {

@@ -33,17 +33,17 @@ answered_turn P Q (Err refusal) is leads = tt
 -- what a commit leaves
 pub committed_turn : (t0 : Database) (old new : SessionView) (n : ℕ) (x : Input) (d : Done) (told : Answer) → told ≡ answer.Reply d.reply
     → length old.dones ≡ length old.history → new.dones ≡ old.dones ++ d ∷ []
-    → IsNextCommit t0 old.history new.history x d → IsInputTurn (state_of t0 old) n x (record { answer = told; state = state_of t0 new })
+    → IsNextCommit 0 t0 old.history new.history x d → IsInputTurn (state_of t0 old) n x (record { answer = told; state = state_of t0 new })
 committed_turn t0 old new n x d told says count dones next =
     let scale : (replay t0 old.history).scale ≡ t0.scale = replay-scale t0 old.history in
     let number : d.number ≡ length old.dones + 1 =
-    next.number ∙ (ap length next.entry.1 ∙ length_push old.history next.entry.0) ∙ ap (λ m. m + 1) (sym count) in
+    omega (arith, next.number, ap length next.entry.1 ∙ length_push old.history next.entry.0, count) in
     let length_is : length (commits_of old.dones) ≡ length old.dones = length-map old.dones _ in
     let last : ℕ → Commit = λ m. record { number = m; reply = d.reply } in
     let one : commits_of new.dones ≡ commits_of old.dones ++ last (length (commits_of old.dones) + 1) ∷ [] =
     ap commits_of dones ∙ map-append _ old.dones (d ∷ []) ∙ ap (λ m. commits_of old.dones ++ last m ∷ []) (number ∙ ap (λ m. m + 1) (sym length_is)) in
     done (replay t0 new.history) d.reply next.numbered
-    (subst (λ (s : Sizes). length (commits_of old.dones) < s.commits) (sym scale) (subst (λ m. m < t0.scale.commits) (sym (length_is ∙ count)) next.below))
+    (subst (λ (s : Sizes). length (commits_of old.dones) < s.commits) (sym scale) (subst (λ m. m < t0.scale.commits) (sym (length_is ∙ count)) (omega (arith, next.below))))
     next.commits
     (λ i. record { answer = says i; state = record { tables = replay t0 new.history; commits = one i } })
 

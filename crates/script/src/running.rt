@@ -7,7 +7,7 @@ ghost use Rattle.money.specs.declared.refusal.Refusal.TheVariants.{OutOfMemory, 
 ghost use Rattle.population.specs.Initial.{initial};
 ghost use Rattle.script_text.specs.Lines.{buffered};
 ghost use Rattle.script_text.specs.Output.{answer_text};
-ghost use Rattle.book.specs.Parts.{IsFresh, IsRunOf, ledger_name, ledger_parts, terminals_of};
+ghost use Rattle.book.specs.Parts.{IsFresh, IsRunOf, past_of, ledger_name, ledger_parts, terminals_of};
 ghost use Rattle.script.specs.Turns.{Turn, IsLineTurn};
 ghost use Rattle.script.specs.Written.{HasTooManyLines, IsWhole, IsBeginning};
 ghost use Rattle.script.specs.Answered.{state_of, standing_of, HasAnswered, HasAnsweredAll, HasTooMany};
@@ -83,7 +83,8 @@ fn run<K: Run, R: Read, W: Write, T: Wait>(
 ) -> Result<(Report, Vec<Done>), Refusal>
     requires fresh { IsFresh parts }
     requires one { terminals_of parts ≡ 1 }
-    requires run { IsRunOf parts K.first K.cells K.board K.seed }
+    requires run { IsRunOf parts K.first K.past K.cells K.board K.seed }
+    requires begins { past_of parts ≡ 0 }
     requires ledger { (ledger_name parts ≡ K.name) × (ledger_parts parts ≡ K.parts) }
     ensures whole { IfOk result (λ closed. (bytes : List ℕ) → R.remaining reader.old ≡ Some bytes
         → (text : List ℕ)
@@ -127,6 +128,7 @@ impl<'e, K: Run> Desk<'e, K> {
         requires reader { seat.reader.cells ≡ K.cells }
         requires only { seat.share.parts ≡ K.parts }
         requires none { seat.share.commits ≡ 0 }
+        requires begins { K.past ≡ 0 }
         ensures start { IfOk result (λ desk. HasAnswered K.first [] [] (standing_of desk)) }
         ensures memory { IfErr result (λ refusal. refusal ≡ OutOfMemory) }
     {

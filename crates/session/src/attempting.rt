@@ -1,5 +1,5 @@
 //! A transaction that is executed and committed while its terminal has the book: an attempt, and one after another.
-ghost use Rattle.std.specs.Prelude.{◌≡◌, ◌⊎◌, ◌↔◌, Err, IsTrue, length, IfOk, IfErr, OnErr};
+ghost use Rattle.std.specs.Prelude.{◌≡◌, ◌+◌, ◌⊎◌, ◌↔◌, Err, IsTrue, length, IfOk, IfErr, OnErr};
 ghost use Rattle.money.specs.declared.refusal.Refusal.TheVariants.{OutOfMemory, Conflict, Stale};
 ghost use Rattle.tables.specs.Inputs.{IsInput};
 ghost use Rattle.book.specs.Book.{IsAsBefore};
@@ -29,9 +29,9 @@ pub(crate) fn persist<K: Run, R: Wait>(
     requires input { IsInput K.first.scale input.now }
     requires reader { seat.old.reader.cells ≡ K.cells }
     ensures reader { seat.new.reader.cells ≡ K.cells }
-    ensures commits { IfOk result (IsNextCommit K.first book.old.history book.new.history input.now) }
+    ensures commits { IfOk result (IsNextCommit K.past K.first book.old.history book.new.history input.now) }
     ensures refusals { IfErr result (λ refusal. (refusal ≡ OutOfMemory)
-        ⊎ IsRefusedAt (replay K.first book.old.history) (length book.old.history) input.now refusal) }
+        ⊎ IsRefusedAt (replay K.first book.old.history) (K.past + length book.old.history) input.now refusal) }
     ensures err { OnErr result (IsAsBefore book.old book.new) }
 {
     for _ in rt.forever() {
@@ -61,9 +61,9 @@ fn attempt<K: Run, R: Wait>(
     requires input { IsInput K.first.scale input.now }
     requires reader { seat.old.reader.cells ≡ K.cells }
     ensures reader { seat.new.reader.cells ≡ K.cells }
-    ensures commits { IfOk result (IsNextCommit K.first book.old.history book.new.history input.now) }
+    ensures commits { IfOk result (IsNextCommit K.past K.first book.old.history book.new.history input.now) }
     ensures refusals { IfErr result (λ refusal. (refusal ≡ Stale) ⊎ (refusal ≡ Conflict) ⊎ (refusal ≡ OutOfMemory)
-        ⊎ IsRefusedAt (replay K.first book.old.history) (length book.old.history) input.now refusal) }
+        ⊎ IsRefusedAt (replay K.first book.old.history) (K.past + length book.old.history) input.now refusal) }
     ensures err { OnErr result (IsAsBefore book.old book.new) }
 {
     let (board, cells, population) = (engine.board(), engine.cells(), engine.population());

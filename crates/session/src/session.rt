@@ -22,7 +22,8 @@ use std::marker::Model;
 use std::sync::{MutexGuard, Wait};
 use tables::Input;
 
-/// The one terminal of an engine. It has the book for as long as it lasts, since no other terminal waits for it.
+/// The one terminal of an engine, whose run begins with a population. It has the book for as long as it lasts, since no
+/// other terminal waits for it.
 /// Contracts see the book's history, and what the terminal was told.
 #[derive(Drop)]
 pub struct Session<'e, K: Run> {
@@ -41,7 +42,8 @@ impl<'e, K: Run> Model for Session<'e, K> {
 
     ghost view = { λ s. record { history = s.book.value.history; dones = s.dones.items } };
 
-    ghost invariant = { λ s. (s.seat.reader.cells ≡ K.cells) × (length s.dones.items ≡ length s.book.value.history) };
+    ghost invariant = { λ s. (s.seat.reader.cells ≡ K.cells) × (length s.dones.items ≡ length s.book.value.history)
+        × (K.past ≡ 0) };
 }
 
 impl<'e, K: Run> Session<'e, K> {
@@ -55,6 +57,7 @@ impl<'e, K: Run> Session<'e, K> {
         requires reader { seat.reader.cells ≡ K.cells }
         requires only { seat.share.parts ≡ K.parts }
         requires none { seat.share.commits ≡ 0 }
+        requires begins { K.past ≡ 0 }
         ensures { result ≡ record { history = []; dones = [] } }
     {
         let mut seat = seat;
@@ -99,7 +102,7 @@ impl<'e, K: Run> Session<'e, K> {
     pub fn commit<R: Wait>(&mut self, rt: &R, input: &Input) -> Result<(), Refusal>
         requires input { IsInput K.first.scale input.now }
         ensures next { OnOk result ((done : DoneValue)
-            × IsNextCommit K.first self.old.history self.new.history input.now done
+            × IsNextCommit 0 K.first self.old.history self.new.history input.now done
             × (self.new.dones ≡ self.old.dones ++ done ∷ [])) }
         ensures count { length self.old.dones ≡ length self.old.history }
         ensures refusals { IfErr result (λ refusal. (refusal ≡ OutOfMemory)

@@ -1,5 +1,5 @@
 use Rattle.std.proofs.Common.{◌≡◌, ◌≢◌, ℕ, ◌+◌, ◌<◌, ◌≤◌, ◌^◌, ◌-◌, ◌⊎◌, Option, Some, None, IsSome, inl, List, [], ◌∷◌, ◌++◌, map, inr, refl, sym, ap, ◌∙◌, subst, length}
-use Rattle.std.proofs.Common.{rules, length-append}
+use Rattle.std.proofs.Common.{arith, rules, length-append}
 use Rattle.std.specs.Prelude.{slice_index_or, slice_set, ◌%◌}
 use Rattle.std.proofs.lemmas.List.{length-map, map-append}
 use Rattle.std.proofs.lemmas.Grind.{get_or_default_zero}
@@ -102,6 +102,9 @@ only_full refusal count cap next (inr (inr memory)) = ((λ e. never (sym memory.
     other : OutOfMemory ≢ EpochFull
     other h = cc
 
+within : (past n cap : ℕ) → past + n < cap → n < cap
+within past n cap h = omega (arith, h)
+
 -- there are as many streams as loggers
 many : {loggers epoch : ℕ} {history : List Entry} (streams : List Stream) (n : ℕ) → n ≡ length streams → AreStreams loggers epoch history streams
     → n ≡ loggers
@@ -111,12 +114,12 @@ conflict_not_full : Conflict ≢ EpochFull
 conflict_not_full h = cc
 
 -- what the type of the book keeps, of its pen, its history, its seat and its streams
-abbrev Keeps : (t0 lent : Database) (run_cells : List TableId) (run : BoardView) (seed seed_lent parts total : ℕ) (newest : List Newest) (lasts : List ℕ)
+abbrev Keeps : (t0 lent : Database) (run_cells : List TableId) (run : BoardView) (seed seed_lent past past_here parts total : ℕ) (newest : List Newest) (lasts : List ℕ)
     → PenView × List Entry × SeatView × List Stream → Type 0
-Keeps t0 lent run_cells run seed seed_lent parts total newest lasts q = IsSound t0 q.0 q.1 (replay t0 q.1)
-    × IsReady t0 run_cells (found_epoch q.2) q.0 q.1 (replay t0 q.1)
+Keeps t0 lent run_cells run seed seed_lent past past_here parts total newest lasts q = IsSound past t0 q.0 q.1 (replay t0 q.1)
+    × IsReady past t0 run_cells (found_epoch q.2) q.0 q.1 (replay t0 q.1)
     × AreNewest q.0 newest × (lent ≡ t0) × (total ≡ length q.1) × AreLast parts q.1 lasts × (q.2.board ≡ run) × HasCounted q.2 q.1
-    × (seed_lent ≡ seed) × AreStreams run.plan.loggers (found_epoch q.2) q.1 q.3
+    × (seed_lent ≡ seed) × (past_here ≡ past) × AreStreams run.plan.loggers (found_epoch q.2) q.1 q.3
 
 pub invariant_of-self : goal.invariant_of-self
 invariant_of-self g c =
@@ -124,11 +127,11 @@ invariant_of-self g c =
     let seat = c.self.inside.seat in
     let ready = ready_loaded seat kept.6 c.requires.board c.epoch-epoch.ensures.later kept.1 in
     let streams = streams_later g.K.Run.board.plan.loggers (found_epoch seat) c.epoch-epoch.result (map arc_value c.self.inside.history.items)
-    c.self.inside.streams.items (found_later seat kept.6 c.requires.board c.epoch-epoch.ensures.later) kept.9 in
+    c.self.inside.streams.items (found_later seat kept.6 c.requires.board c.epoch-epoch.ensures.later) kept.10 in
     subst (Keeps g.K.Run.first (initial (arc_value c.self.inside.population)) g.K.Run.cells g.K.Run.board g.K.Run.seed
-    (seed_of (arc_value c.self.inside.population)) g.K.Ledger.parts c.self.inside.shares.total c.self.inside.newest.items c.self.inside.lasts.items)
+    (seed_of (arc_value c.self.inside.population)) g.K.Run.past c.self.inside.past g.K.Ledger.parts c.self.inside.shares.total c.self.inside.newest.items c.self.inside.lasts.items)
     (λ i. (sym c.validate.ensures.pen i, map arc_value c.self.inside.history.items, sym c.epoch-epoch.ensures.step i, c.self.inside.streams.items))
-    (kept.0, ready, kept.2, kept.3, kept.4, kept.5, kept.6, kept.7, kept.8, streams)
+    (kept.0, ready, kept.2, kept.3, kept.4, kept.5, kept.6, kept.7, kept.8, kept.9, streams)
 
 pub invariant_of-self-in-Err : goal.invariant_of-self-in-Err
 invariant_of-self-in-Err g c =
@@ -136,21 +139,21 @@ invariant_of-self-in-Err g c =
     let seat = c.self.inside.seat in
     let streams = c.self.inside.streams.items in
     let ready = ready_loaded seat kept.6 c.requires.board c.epoch-epoch.ensures.later kept.1 in
-    let count : c.len.result ≡ g.K.Run.board.plan.loggers = many streams c.len.result (search rules) kept.9 in
+    let count : c.len.result ≡ g.K.Run.board.plan.loggers = many streams c.len.result (search rules) kept.10 in
     let same = c.prepare.ensures.stream in
     let reserved = streams_reserved g.K.Run.board.plan.loggers (found_epoch seat) c.epoch-epoch.result c.len.result c.share.inside.terminal
     (map arc_value c.self.inside.history.items) streams c.index_mut-stream.result.now
-    (found_later seat kept.6 c.requires.board c.epoch-epoch.ensures.later) count kept.9 c.index_mut-stream.ensures.value c.prepare.new.stream
+    (found_later seat kept.6 c.requires.board c.epoch-epoch.ensures.later) count kept.10 c.index_mut-stream.ensures.value c.prepare.new.stream
     (record { taken = same.0; number = same.1; waiting = same.2; mark = same.3 }) in
     subst (Keeps g.K.Run.first (initial (arc_value c.self.inside.population)) g.K.Run.cells g.K.Run.board g.K.Run.seed
-    (seed_of (arc_value c.self.inside.population)) g.K.Ledger.parts c.self.inside.shares.total c.self.inside.newest.items c.self.inside.lasts.items)
+    (seed_of (arc_value c.self.inside.population)) g.K.Run.past c.self.inside.past g.K.Ledger.parts c.self.inside.shares.total c.self.inside.newest.items c.self.inside.lasts.items)
     (λ i. (
       sym c.validate.ensures.pen i,
       map arc_value (sym c.prepare.ensures.history i),
       sym c.epoch-epoch.ensures.step i,
       slice_set c.self.inside.streams.items (c.share.inside.terminal % c.len.result) c.prepare.new.stream,
     ))
-    (kept.0, ready, kept.2, kept.3, kept.4, kept.5, kept.6, kept.7, kept.8, reserved)
+    (kept.0, ready, kept.2, kept.3, kept.4, kept.5, kept.6, kept.7, kept.8, kept.9, reserved)
 
 pub returns-in-Err-clause-answer : goal.returns-in-Err-clause-answer
 returns-in-Err-clause-answer g c =
@@ -161,7 +164,7 @@ returns-in-Err-clause-answer g c =
     let found = c.in-Some.ensures.latest in
     let lasts = c.self.invariant.5 in
     let last : c.index.result.now ≡ last_of c.share.inside.terminal items = last_is lasts c.share.invariant.1 c.index.ensures in
-    let same = same_next g.K.Run.first g.K.Run.cells c.epoch-epoch.result c.self.inside.pen items (replay g.K.Run.first items) c.self.invariant.0 ready
+    let same = same_next g.K.Run.past g.K.Run.first g.K.Run.cells c.epoch-epoch.result c.self.inside.pen items (replay g.K.Run.first items) c.self.invariant.0 ready
     c.args.reader.now c.args.work c.requires.work found.0
     c.share.inside.terminal c.in-Some.seen c.index.result.now found.2 found.1 last in (
       record {
@@ -176,14 +179,14 @@ returns-in-Err-clause-answer g c =
       inr (
         subst (λ (k : BookView). AreLatest k.written.all c.args.work.reads) view found.0,
         subst (λ (k : BookView). CommitsAt (replay g.K.Run.first k.history) c.args.work.input c.args.work.writes c.args.work.reply) view
-            (done_there g.K.Run.first g.K.Run.cells c.epoch-epoch.result c.self.inside.pen items (replay g.K.Run.first items) c.self.invariant.0 ready
+            (done_there g.K.Run.past g.K.Run.first g.K.Run.cells c.epoch-epoch.result c.self.inside.pen items (replay g.K.Run.first items) c.self.invariant.0 ready
             c.args.reader.now c.args.work c.requires.work found.0),
         subst (λ (q : ℕ × ℕ × Option ℕ). ((c.in-Err.refusal ≡ CommitsFull) × (q.0 ≤ q.1))
             ⊎ ((c.in-Err.refusal ≡ EpochFull) × (q.1 < q.0) × (q.2 ≡ None))
             ⊎ ((c.in-Err.refusal ≡ OutOfMemory) × (q.1 < q.0) × IsSome q.2))
             (λ i. (
               cap i,
-              (sym (length-map c.self.inside.history.items arc_value) ∙ ap (λ (k : BookView). length k.history) view) i,
+              c.self.invariant.9 i + (sym (length-map c.self.inside.history.items arc_value) ∙ ap (λ (k : BookView). length k.history) view) i,
               (same ∙ (λ j. tid_for (view j).history (c.share.view_is j).terminal
                   (sym (ap found_epoch c.epoch-epoch.ensures.step) j) c.args.work.reads)) i,
             )) c.in-Err.ensures.refused,
@@ -197,10 +200,11 @@ returns-in-Err-clause-cap_first g c =
     let cap = capped g.K.Run.first c.commits.ensures.value c.scale.ensures c.deref.ensures c.self.invariant.3 in
     let found = c.in-Some.ensures.latest in
     let last : c.index.result.now ≡ last_of c.share.inside.terminal items = last_is c.self.invariant.5 c.share.invariant.1 c.index.ensures in
-    never_full c.in-Err.refusal (length c.self.inside.history.items) c.commits.result _ c.in-Err.ensures.refused
-    (λ below none. there_is g.K.Run.first g.K.Run.cells c.epoch-epoch.result c.self.inside.pen items (replay g.K.Run.first items) c.self.invariant.0 ready
+    never_full c.in-Err.refusal (c.self.inside.past + length c.self.inside.history.items) c.commits.result _ c.in-Err.ensures.refused
+    (λ below none. there_is g.K.Run.past g.K.Run.first g.K.Run.cells c.epoch-epoch.result c.self.inside.pen items (replay g.K.Run.first items) c.self.invariant.0 ready
     c.args.reader.now c.args.work c.requires.work found.0
-    c.share.inside.terminal c.in-Some.seen c.index.result.now found.2 found.1 last (subst (λ (q : ℕ × ℕ). q.0 < q.1) (λ i. (sym (length-map c.self.inside.history.items arc_value) i, cap i)) below) none)
+    c.share.inside.terminal c.in-Some.seen c.index.result.now found.2 found.1 last (subst (λ (q : ℕ × ℕ). q.0 < q.1)
+    (λ i. (c.self.invariant.9 i + sym (length-map c.self.inside.history.items arc_value) i, cap i)) below) none)
 
 pub store-requires-clause-read : goal.store-requires-clause-read
 store-requires-clause-read g c =
@@ -215,7 +219,7 @@ store-requires-clause-larger g c =
     let last : c.index.result.now ≡ last_of c.share.inside.terminal items = last_is c.self.invariant.5 c.share.invariant.1 c.index.ensures in
     subst (λ (w : PenView). (n : ℕ) (value : Option (List ℕ)) → value_for c.args.work.writes n ≡ Some value → last_tid (at w.all n) < c.in-Ok.prepared.tid)
     (sym c.validate.ensures.pen)
-    (taken_above g.K.Run.first g.K.Run.cells c.epoch-epoch.result c.self.inside.pen items (replay g.K.Run.first items) c.self.invariant.0 ready
+    (taken_above g.K.Run.past g.K.Run.first g.K.Run.cells c.epoch-epoch.result c.self.inside.pen items (replay g.K.Run.first items) c.self.invariant.0 ready
     c.args.reader.now
     c.args.work c.requires.work found.0
     c.share.inside.terminal c.in-Some.seen c.index.result.now found.2 found.1 last c.in-Ok.prepared.tid c.in-Ok.ensures.lawful c.in-Ok.ensures.tid)
@@ -231,53 +235,56 @@ invariant_of-self-2 g c =
     c.commit_step.ensures ∙ ap (λ (s : SeatView). noted s (CountCommit c.epoch-epoch.result)) c.epoch-epoch.ensures.step in
     let found = c.in-Some.ensures.latest in
     let cap = capped g.K.Run.first c.commits.ensures.value c.scale.ensures c.deref.ensures c.self.invariant.3 in
+    let here = c.self.invariant.9 in
     let size = sym (length-map c.self.inside.history.items arc_value) in
-    let small : length items < g.K.Run.first.scale.commits = subst (λ (q : ℕ × ℕ). q.0 < q.1) (λ i. (size i, cap i)) c.in-Ok.ensures.below in
+    let small : g.K.Run.past + length items < g.K.Run.first.scale.commits = subst (λ (q : ℕ × ℕ × ℕ). q.0 + q.1 < q.2) (λ i. (here i, size i, cap i))
+    c.in-Ok.ensures.below in
     let cells : c.store.new.pen.cells ≡ c.self.inside.pen.cells = c.store.ensures.cells ∙ ap (λ (w : PenView). w.cells) c.validate.ensures.pen in
     let last : c.index.result.now ≡ last_of c.share.inside.terminal items = last_is c.self.invariant.5 c.share.invariant.1 c.index.ensures in
     let tid : ℕ = c.in-Ok.prepared.tid in
     let stores : (n : ℕ) → at c.store.new.pen.all n ≡ at c.self.inside.pen.all n ++ new_versions c.in-Ok.prepared.tid c.args.work.writes.values n =
     λ n. c.store.ensures.versions n ∙ (λ i. at (c.validate.ensures.pen i).all n ++ new_versions c.in-Ok.prepared.tid c.args.work.writes.values n) in
-    let made = next_kept g.K.Run.first g.K.Run.cells c.epoch-epoch.result c.self.inside.pen items (replay g.K.Run.first items) c.self.invariant.0 ready
+    let made = next_kept g.K.Run.past g.K.Run.first g.K.Run.cells c.epoch-epoch.result c.self.inside.pen items (replay g.K.Run.first items) c.self.invariant.0 ready
     c.args.reader.now c.args.work c.requires.work found.0
     c.share.inside.terminal c.in-Some.seen c.index.result.now found.2 found.1 last c.in-Ok.prepared.tid c.in-Ok.ensures.lawful c.in-Ok.ensures.tid
     c.store.new.pen small cells stores in
-    let entry : arc_value c.in-Ok.prepared.entry ≡ entry_of (length items + 1) c.in-Ok.prepared.tid c.share.inside.terminal c.args.work =
-    c.in-Ok.ensures.entry ∙ (λ i. entry_of (size i + 1) c.in-Ok.prepared.tid c.share.inside.terminal c.args.work) in
+    let entry : arc_value c.in-Ok.prepared.entry ≡ entry_of (g.K.Run.past + length items + 1) c.in-Ok.prepared.tid c.share.inside.terminal c.args.work =
+    c.in-Ok.ensures.entry ∙ (λ i. entry_of (here i + size i + 1) c.in-Ok.prepared.tid c.share.inside.terminal c.args.work) in
     let history : map arc_value c.push_reserved.new.self.items ≡ items
-    ++ entry_of (length items + 1) c.in-Ok.prepared.tid c.share.inside.terminal c.args.work ∷ [] =
+    ++ entry_of (g.K.Run.past + length items + 1) c.in-Ok.prepared.tid c.share.inside.terminal c.args.work ∷ [] =
     ap (map arc_value) c.push_reserved.ensures.items ∙ map-append arc_value c.prepare.new.history.items (c.in-Ok.prepared.entry ∷ [])
     ∙ (λ i. map arc_value (c.prepare.ensures.history i) ++ entry i ∷ []) in
-    let count : c.len.result ≡ g.K.Run.board.plan.loggers = many c.self.inside.streams.items c.len.result (search rules) c.self.invariant.9 in
+    let count : c.len.result ≡ g.K.Run.board.plan.loggers = many c.self.inside.streams.items c.len.result (search rules) c.self.invariant.10 in
     let added = streams_added g.K.Run.board.plan.loggers (found_epoch c.self.inside.seat) c.epoch-epoch.result c.len.result c.share.inside.terminal
     items c.self.inside.streams.items c.index_mut-stream.result.now
-    (found_later c.self.inside.seat c.self.invariant.6 c.requires.board c.epoch-epoch.ensures.later) count c.self.invariant.9
-    c.index_mut-stream.ensures.value c.add.new.self (entry_of (length items + 1) c.in-Ok.prepared.tid c.share.inside.terminal c.args.work) refl
+    (found_later c.self.inside.seat c.self.invariant.6 c.requires.board c.epoch-epoch.ensures.later) count c.self.invariant.10
+    c.index_mut-stream.ensures.value c.add.new.self (entry_of (g.K.Run.past + length items + 1) c.in-Ok.prepared.tid c.share.inside.terminal c.args.work) refl
     c.in-Ok.ensures.lawful.in_epoch (c.add.ensures.same.0 ∙ c.prepare.ensures.stream.0) (c.add.ensures.same.1 ∙ c.prepare.ensures.stream.1)
     (c.add.ensures.same.2 ∙ c.prepare.ensures.stream.3)
     (ap (map arc_value) c.add.ensures.waiting ∙ map-append arc_value c.prepare.new.stream.waiting.items (c.in-Ok.prepared.waiting ∷ [])
     ∙ (λ i. map arc_value (c.prepare.ensures.stream.2 i) ++ (c.in-Ok.ensures.waiting ∙ entry) i ∷ [])) in
     let led : after (replay g.K.Run.first items) c.args.work.input ≡ replay g.K.Run.first (map arc_value c.push_reserved.new.self.items) =
-    sym (replay_push g.K.Run.first items (entry_of (length items + 1) c.in-Ok.prepared.tid c.share.inside.terminal c.args.work))
+    sym (replay_push g.K.Run.first items (entry_of (g.K.Run.past + length items + 1) c.in-Ok.prepared.tid c.share.inside.terminal c.args.work))
     ∙ ap (replay g.K.Run.first) (sym history) in (
-      subst (λ (q : List Entry × Database). IsSound g.K.Run.first c.store.new.pen q.0 q.1) (λ i. (sym history i, led i))
+      subst (λ (q : List Entry × Database). IsSound g.K.Run.past g.K.Run.first c.store.new.pen q.0 q.1) (λ i. (sym history i, led i))
           made.0,
-      subst (λ (q : List Entry × Database × ℕ). IsReady g.K.Run.first g.K.Run.cells q.2 c.store.new.pen q.0 q.1)
+      subst (λ (q : List Entry × Database × ℕ). IsReady g.K.Run.past g.K.Run.first g.K.Run.cells q.2 c.store.new.pen q.0 q.1)
           (λ i. (sym history i, led i, sym (ap found_epoch seat) i)) made.1,
       subst (AreNewest c.store.new.pen) (sym (given_back c.self.inside.newest.len c.store.new.newest c.self.inside.newest.items c.self.inside.newest.ok.0
           (c.store.ensures.newest.count ∙ ap length cells ∙ sym c.self.invariant.2.count))) c.store.ensures.newest,
       c.self.invariant.3,
       c.add-2.ensures.total ∙ ap (λ n. n + 1) c.self.invariant.4
-          ∙ sym (ap length history ∙ length-append items (entry_of (length items + 1) c.in-Ok.prepared.tid c.share.inside.terminal c.args.work ∷ [])),
+          ∙ sym (ap length history ∙ length-append items (entry_of (g.K.Run.past + length items + 1) c.in-Ok.prepared.tid c.share.inside.terminal c.args.work ∷ [])),
       subst (λ (h : List Entry). AreLast g.K.Ledger.parts h (slice_set c.self.inside.lasts.items c.share.inside.terminal c.in-Ok.prepared.tid)) (sym history)
-          (lasts_next g.K.Ledger.parts items c.self.inside.lasts.items (entry_of (length items + 1) c.in-Ok.prepared.tid c.share.inside.terminal c.args.work)
+          (lasts_next g.K.Ledger.parts items c.self.inside.lasts.items (entry_of (g.K.Run.past + length items + 1) c.in-Ok.prepared.tid c.share.inside.terminal c.args.work)
           c.self.invariant.5
           (subst (λ n. c.share.inside.terminal < n) (sym c.self.invariant.5.count) c.share.invariant.1)),
       ap (λ (s : SeatView). s.board) seat ∙ c.self.invariant.6,
       subst (λ (q : SeatView × List Entry). HasCounted q.0 q.1) (λ i. (sym seat i, sym history i))
           (counts_on c.self.inside.seat items c.epoch-epoch.result
-          (entry_of (length items + 1) c.in-Ok.prepared.tid c.share.inside.terminal c.args.work) c.self.invariant.7 c.in-Ok.ensures.lawful.in_epoch),
+          (entry_of (g.K.Run.past + length items + 1) c.in-Ok.prepared.tid c.share.inside.terminal c.args.work) c.self.invariant.7 c.in-Ok.ensures.lawful.in_epoch),
       c.self.invariant.8,
+      c.self.invariant.9,
       subst (λ (q : SeatView × List Entry). AreStreams g.K.Run.board.plan.loggers (found_epoch q.0) q.1
           (slice_set c.self.inside.streams.items (c.share.inside.terminal % c.len.result) c.add.new.self)) (λ i. (sym seat i, sym history i)) added,
     )
@@ -290,29 +297,31 @@ returns-clause-answer g c =
     let seat : c.commit_step.new.seat ≡ noted (noted c.self.inside.seat (LoadEpoch c.epoch-epoch.result)) (CountCommit c.epoch-epoch.result) =
     c.commit_step.ensures ∙ ap (λ (s : SeatView). noted s (CountCommit c.epoch-epoch.result)) c.epoch-epoch.ensures.step in
     let cap = capped g.K.Run.first c.commits.ensures.value c.scale.ensures c.deref.ensures c.self.invariant.3 in
+    let here = c.self.invariant.9 in
     let size = sym (length-map c.self.inside.history.items arc_value) in
-    let small : length items < g.K.Run.first.scale.commits = subst (λ (q : ℕ × ℕ). q.0 < q.1) (λ i. (size i, cap i)) c.in-Ok.ensures.below in
+    let small : g.K.Run.past + length items < g.K.Run.first.scale.commits = subst (λ (q : ℕ × ℕ × ℕ). q.0 + q.1 < q.2) (λ i. (here i, size i, cap i))
+    c.in-Ok.ensures.below in
     let cells : c.store.new.pen.cells ≡ c.self.inside.pen.cells = c.store.ensures.cells ∙ ap (λ (w : PenView). w.cells) c.validate.ensures.pen in
     let last : c.index.result.now ≡ last_of c.share.inside.terminal items = last_is c.self.invariant.5 c.share.invariant.1 c.index.ensures in
-    let same = same_next g.K.Run.first g.K.Run.cells c.epoch-epoch.result c.self.inside.pen items (replay g.K.Run.first items) c.self.invariant.0 ready
+    let same = same_next g.K.Run.past g.K.Run.first g.K.Run.cells c.epoch-epoch.result c.self.inside.pen items (replay g.K.Run.first items) c.self.invariant.0 ready
     c.args.reader.now c.args.work c.requires.work found.0
     c.share.inside.terminal c.in-Some.seen c.index.result.now found.2 found.1 last in
     let stores : (n : ℕ) → at c.store.new.pen.all n ≡ at c.self.inside.pen.all n ++ new_versions c.in-Ok.prepared.tid c.args.work.writes.values n =
     λ n. c.store.ensures.versions n ∙ (λ i. at (c.validate.ensures.pen i).all n ++ new_versions c.in-Ok.prepared.tid c.args.work.writes.values n) in
-    let entry : arc_value c.in-Ok.prepared.entry ≡ entry_of (length items + 1) c.in-Ok.prepared.tid c.share.inside.terminal c.args.work =
-    c.in-Ok.ensures.entry ∙ (λ i. entry_of (size i + 1) c.in-Ok.prepared.tid c.share.inside.terminal c.args.work) in
+    let entry : arc_value c.in-Ok.prepared.entry ≡ entry_of (g.K.Run.past + length items + 1) c.in-Ok.prepared.tid c.share.inside.terminal c.args.work =
+    c.in-Ok.ensures.entry ∙ (λ i. entry_of (here i + size i + 1) c.in-Ok.prepared.tid c.share.inside.terminal c.args.work) in
     let history : map arc_value c.push_reserved.new.self.items ≡ items
-    ++ entry_of (length items + 1) c.in-Ok.prepared.tid c.share.inside.terminal c.args.work ∷ [] =
+    ++ entry_of (g.K.Run.past + length items + 1) c.in-Ok.prepared.tid c.share.inside.terminal c.args.work ∷ [] =
     ap (map arc_value) c.push_reserved.ensures.items ∙ map-append arc_value c.prepare.new.history.items (c.in-Ok.prepared.entry ∷ [])
     ∙ (λ i. map arc_value (c.prepare.ensures.history i) ++ entry i ∷ []) in
-    let of : c.in-Ok.prepared.done ≡ record { number = length items + 1; tid = c.in-Ok.prepared.tid; reply = c.args.work.reply } = c.in-Ok.ensures.done
-    ∙ (λ i. record { number = size i + 1; tid = c.in-Ok.prepared.tid; reply = c.args.work.reply }) in
-    subst (λ (q : BookView × ShareView × Done × ℕ). AreLatest q.0.written.all c.args.work.reads × (length q.0.history < g.K.Run.first.scale.commits)
+    let of : c.in-Ok.prepared.done ≡ record { number = g.K.Run.past + length items + 1; tid = c.in-Ok.prepared.tid; reply = c.args.work.reply } = c.in-Ok.ensures.done
+    ∙ (λ i. record { number = here i + size i + 1; tid = c.in-Ok.prepared.tid; reply = c.args.work.reply }) in
+    subst (λ (q : BookView × ShareView × Done × ℕ). AreLatest q.0.written.all c.args.work.reads × (g.K.Run.past + length q.0.history < g.K.Run.first.scale.commits)
     × (tid_for q.0.history q.1.terminal q.3 c.args.work.reads ≡ Some q.2.tid)
     × Commits q.0 (kept c.store.new.pen (map arc_value c.push_reserved.new.self.items) c.commit_step.new.seat
     (slice_set c.self.inside.streams.items (c.share.inside.terminal % c.len.result) c.add.new.self))
-    (entry_of (length q.0.history + 1) q.2.tid q.1.terminal c.args.work)
-    × (q.2.number ≡ length q.0.history + 1) × (q.2.reply ≡ c.args.work.reply)
+    (entry_of (g.K.Run.past + length q.0.history + 1) q.2.tid q.1.terminal c.args.work)
+    × (q.2.number ≡ g.K.Run.past + length q.0.history + 1) × (q.2.reply ≡ c.args.work.reply)
     × (◌≡◌ {A = ShareView} (record { terminal = c.share.inside.terminal; parts = c.add-2.new.share.parts; commits = c.add-2.new.share.amount })
     (record { terminal = q.1.terminal; parts = q.1.parts; commits = q.1.commits + 1 }))
     × HasSeen c.store.new.reader c.store.new.pen c.args.work.writes
@@ -334,7 +343,7 @@ returns-clause-answer g c =
       refl,
       (λ i. record { terminal = c.share.inside.terminal; parts = c.add-2.ensures.parts i; commits = c.add-2.ensures.amount i }),
       c.store.ensures.seen,
-      done_there g.K.Run.first g.K.Run.cells c.epoch-epoch.result c.self.inside.pen items (replay g.K.Run.first items) c.self.invariant.0 ready
+      done_there g.K.Run.past g.K.Run.first g.K.Run.cells c.epoch-epoch.result c.self.inside.pen items (replay g.K.Run.first items) c.self.invariant.0 ready
           c.args.reader.now
           c.args.work c.requires.work found.0,
     )
@@ -342,12 +351,12 @@ returns-clause-answer g c =
 pub returns-clause-next : goal.returns-clause-next
 returns-clause-next g c =
     let answer = returns-clause-answer g c in
-    is_next g.K.Run.first c.args.self.now.history (map arc_value c.push_reserved.new.self.items) c.args.share.now.terminal c.args.work c.in-Ok.prepared.done
+    is_next g.K.Run.past g.K.Run.first c.args.self.now.history (map arc_value c.push_reserved.new.self.items) c.args.share.now.terminal c.args.work c.in-Ok.prepared.done
     answer.3.history answer.4 answer.5 answer.8 answer.1
 
 pub returns-in-Err-clause-refused : goal.returns-in-Err-clause-refused
 returns-in-Err-clause-refused g c =
-    refused_there g.K.Run.first c.args.self.now.history c.args.work c.in-Err.refusal
+    refused_there g.K.Run.past g.K.Run.first c.args.self.now.history c.args.work c.in-Err.refusal
     (tid_for c.args.self.now.history c.args.share.now.terminal (found_epoch c.epoch-epoch.new.seat) c.args.work.reads)
     (returns-in-Err-clause-cap_first g c) (returns-in-Err-clause-answer g c).2
 
@@ -356,7 +365,7 @@ returns-in_default-clause-section g c m w shows =
     let items : List Entry = map arc_value c.self.inside.history.items in
     let ready = ready_loaded c.self.inside.seat c.self.invariant.6 c.requires.board c.epoch-epoch.ensures.later c.self.invariant.1 in
     record {
-      conflict = λ _. stale_run g.K.Run.first g.K.Run.cells c.epoch-epoch.result (kept c.self.inside.pen items c.self.inside.seat c.self.inside.streams.items)
+      conflict = λ _. stale_run g.K.Run.past g.K.Run.first g.K.Run.cells c.epoch-epoch.result (kept c.self.inside.pen items c.self.inside.seat c.self.inside.streams.items)
           (replay g.K.Run.first items) c.self.invariant.0 ready c.args.reader.now c.args.work c.requires.work c.in_order.ensures
           c.args.share.now.terminal w m
           (subst (λ (q : BookView × ℕ). Mirrors q.0 c.args.share.now.terminal q.1 c.args.work.reads m w)
@@ -371,13 +380,13 @@ returns-in-Err-clause-section g c m w shows =
     let ready = ready_loaded c.self.inside.seat c.self.invariant.6 c.requires.board c.epoch-epoch.ensures.later c.self.invariant.1 in
     let found = c.in-Some.ensures.latest in
     let last : c.index.result.now ≡ last_of c.share.inside.terminal items = last_is c.self.invariant.5 c.share.invariant.1 c.index.ensures in
-    let same = same_next g.K.Run.first g.K.Run.cells c.epoch-epoch.result c.self.inside.pen items (replay g.K.Run.first items) c.self.invariant.0 ready
+    let same = same_next g.K.Run.past g.K.Run.first g.K.Run.cells c.epoch-epoch.result c.self.inside.pen items (replay g.K.Run.first items) c.self.invariant.0 ready
     c.args.reader.now c.args.work c.requires.work found.0
     c.share.inside.terminal c.in-Some.seen c.index.result.now found.2 found.1 last in
-    let only = only_full c.in-Err.refusal (length c.self.inside.history.items) c.commits.result _ c.in-Err.ensures.refused in
+    let only = only_full c.in-Err.refusal (c.self.inside.past + length c.self.inside.history.items) c.commits.result _ c.in-Err.ensures.refused in
     record {
       conflict = λ e. absurd (only.0 e);
-      epoch_full = λ e. full_run g.K.Run.first g.K.Run.cells c.epoch-epoch.result (kept c.self.inside.pen items c.self.inside.seat c.self.inside.streams.items)
+      epoch_full = λ e. full_run g.K.Run.past g.K.Run.first g.K.Run.cells c.epoch-epoch.result (kept c.self.inside.pen items c.self.inside.seat c.self.inside.streams.items)
           (replay g.K.Run.first items) c.self.invariant.0 ready c.args.reader.now c.args.work c.requires.work c.in_order.ensures
           c.share.inside.terminal w m
           (subst (λ (q : BookView × ShareView × ℕ). Mirrors q.0 q.1.terminal q.2 c.args.work.reads m w)
@@ -392,7 +401,7 @@ returns-clause-section g c m w shows =
     c.commit_step.ensures ∙ ap (λ (s : SeatView). noted s (CountCommit c.epoch-epoch.result)) c.epoch-epoch.ensures.step in
     let found = c.in-Some.ensures.latest in
     let last : c.index.result.now ≡ last_of c.share.inside.terminal items = last_is c.self.invariant.5 c.share.invariant.1 c.index.ensures in
-    let same = same_next g.K.Run.first g.K.Run.cells c.epoch-epoch.result c.self.inside.pen items (replay g.K.Run.first items) c.self.invariant.0 ready
+    let same = same_next g.K.Run.past g.K.Run.first g.K.Run.cells c.epoch-epoch.result c.self.inside.pen items (replay g.K.Run.first items) c.self.invariant.0 ready
     c.args.reader.now c.args.work c.requires.work found.0
     c.share.inside.terminal c.in-Some.seen c.index.result.now found.2 found.1 last in
     let cells : c.store.new.pen.cells ≡ c.self.inside.pen.cells = c.store.ensures.cells ∙ ap (λ (w : PenView). w.cells) c.validate.ensures.pen in
@@ -400,7 +409,7 @@ returns-clause-section g c m w shows =
     λ n. c.store.ensures.versions n ∙ (λ i. at (c.validate.ensures.pen i).all n ++ new_versions c.in-Ok.prepared.tid c.args.work.writes.values n) in
     let tid : c.in-Ok.prepared.tid ≡ c.in-Ok.prepared.done.tid = sym (ap (λ (done : Done). done.tid) c.in-Ok.ensures.done) in
     subst (λ (n : ℕ). IsCommitRun m w (reads_of c.args.work.reads) c.args.work.writes.values n c.store.new.pen) tid
-    (run g.K.Run.first g.K.Run.cells c.epoch-epoch.result (kept c.self.inside.pen items c.self.inside.seat c.self.inside.streams.items)
+    (run g.K.Run.past g.K.Run.first g.K.Run.cells c.epoch-epoch.result (kept c.self.inside.pen items c.self.inside.seat c.self.inside.streams.items)
     (replay g.K.Run.first items) c.self.invariant.0 ready
     c.args.reader.now
     c.args.work c.requires.work c.in_order.ensures
@@ -416,4 +425,5 @@ commit_step-requires-clause-room g c =
     let cap = capped g.K.Run.first c.commits.ensures.value c.scale.ensures c.deref.ensures c.self.invariant.3 in
     subst (λ (s : SeatView). length (counted s.steps) < 2 ^ 64 - 1) (sym c.epoch-epoch.ensures.step)
     (may_count c.self.inside.seat items g.K.Run.first.scale.commits c.self.invariant.7
-    (subst (λ (q : ℕ × ℕ). q.0 < q.1) (λ i. (sym (length-map c.self.inside.history.items arc_value) i, cap i)) c.in-Ok.ensures.below) c.self.invariant.1.few)
+    (within g.K.Run.past (length items) g.K.Run.first.scale.commits (subst (λ (q : ℕ × ℕ). q.0 < q.1)
+    (λ i. (c.self.invariant.9 i + sym (length-map c.self.inside.history.items arc_value) i, cap i)) c.in-Ok.ensures.below)) c.self.invariant.1.few)

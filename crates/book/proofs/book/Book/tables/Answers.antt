@@ -22,7 +22,7 @@ tables_of-requires-clause-lawful g c =
     let i = c.self.invariant in
     subst (λ (q : Database × List Newest). AreLawful q.0.scale (value_at q.1))
     (λ j. (sym (ap initial c.deref-2.ensures ∙ i.3) j, sym c.deref-3.ensures.value j))
-    (lawful g.K.Run.first g.K.Run.cells (found_epoch c.self.inside.seat) c.self.inside.pen history (replay g.K.Run.first history)
+    (lawful g.K.Run.past g.K.Run.first g.K.Run.cells (found_epoch c.self.inside.seat) c.self.inside.pen history (replay g.K.Run.first history)
     c.self.inside.newest.items i.0 i.1 i.2)
 
 -- what is so of the tables made of any parts is so of those made of the book's
@@ -41,7 +41,7 @@ returns-clause-tables g c =
     let history = map arc_value c.self.inside.history.items in
     let i = c.self.invariant in
     IfOk-weaker c.tables_of.result _ _
-    (λ made is. are_committed g.K.Run.first g.K.Run.cells (found_epoch c.self.inside.seat) c.self.inside.pen history (replay g.K.Run.first history)
+    (λ made is. are_committed g.K.Run.past g.K.Run.first g.K.Run.cells (found_epoch c.self.inside.seat) c.self.inside.pen history (replay g.K.Run.first history)
     c.self.inside.newest.items i.0 i.1 i.2 (database made) refl
     (are_made (ap initial c.deref-2.ensures ∙ i.3) c.deref-3.ensures.value
     (c.deref-4.ensures.value ∙ c.in_ok-added.ensures.rows ∙ ap (λ (es : List _). rows_added (map arc_value es)) c.deref.ensures.value) is)
@@ -51,6 +51,6 @@ returns-clause-tables g c =
 pub returns-clause-sound : goal.returns-clause-sound
 returns-clause-sound g c =
     IfOk-weaker c.tables_of.result _ _
-    (λ made is. subst (IsSound g.K.Run.first c.args.self.now.written c.args.self.now.history) (sym is)
-    (subst (λ (q : BookView). IsSound g.K.Run.first q.written q.history (replay g.K.Run.first q.history)) c.self.view_is c.self.invariant.0))
+    (λ made is. subst (IsSound g.K.Run.past g.K.Run.first c.args.self.now.written c.args.self.now.history) (sym is)
+    (subst (λ (q : BookView). IsSound g.K.Run.past g.K.Run.first q.written q.history (replay g.K.Run.first q.history)) c.self.view_is c.self.invariant.0))
     (returns-clause-tables g c)

@@ -26,14 +26,14 @@ pub overflow_sub-mark : goal.overflow_sub-mark
 overflow_sub-mark g c =
     let i = c.self.invariant in
     let is = found g.K.Run.board.plan.loggers (found_epoch c.self.inside.seat) c.args.logger (map arc_value c.self.inside.history.items)
-    c.self.inside.streams.items c.index_mut-stream.result.now i.9 c.requires.logger c.index_mut-stream.ensures.value in
+    c.self.inside.streams.items c.index_mut-stream.result.now i.10 c.requires.logger c.index_mut-stream.ensures.value in
     (begun c.index_mut-stream.result.now.mark (found_epoch c.self.inside.seat) c.floor-epoch.result is.mark
     (found_later c.self.inside.seat i.6 c.requires.board c.floor-epoch.ensures.later)).0
 
 -- there are few entries
-few : {taken waiting all history cap : ℕ} → taken ≤ all → waiting ≡ all - taken → all ≤ history → history ≤ cap → cap ≤ MAX_COMMITS
+few : {taken waiting all history cap : ℕ} (past : ℕ) → taken ≤ all → waiting ≡ all - taken → all ≤ history → past + history ≤ cap → cap ≤ MAX_COMMITS
     → taken + waiting < 2 ^ 64
-few a b d e f = omega (arith, a, b, d, e, f)
+few past a b d e f = omega (arith, a, b, d, e, f)
 
 pub take-entries-requires : goal.take-entries-requires
 take-entries-requires g c =
@@ -41,9 +41,9 @@ take-entries-requires g c =
     let loggers = g.K.Run.board.plan.loggers in
     let history = map arc_value c.self.inside.history.items in
     let s = c.index_mut-stream.result.now in
-    let is = found loggers (found_epoch c.self.inside.seat) c.args.logger history c.self.inside.streams.items s i.9 c.requires.logger
+    let is = found loggers (found_epoch c.self.inside.seat) c.args.logger history c.self.inside.streams.items s i.10 c.requires.logger
     c.index_mut-stream.ensures.value in
-    few is.taken (sym (length-map s.waiting.items arc_value) ∙ ap length is.waiting ∙ length-drop s.taken (stream loggers c.args.logger history))
+    few g.K.Run.past is.taken (sym (length-map s.waiting.items arc_value) ∙ ap length is.waiting ∙ length-drop s.taken (stream loggers c.args.logger history))
     (stream_within loggers c.args.logger history) i.1.cap i.1.few
 
 pub invariant_of-self : goal.invariant_of-self
@@ -57,16 +57,16 @@ invariant_of-self g c =
     let streams = c.self.inside.streams.items in
     let s = c.index_mut-stream.result.now in
     let later = found_later seat i.6 c.requires.board c.floor-epoch.ensures.later in
-    let is = found loggers (found_epoch seat) c.args.logger history streams s i.9 c.requires.logger c.index_mut-stream.ensures.value in
+    let is = found loggers (found_epoch seat) c.args.logger history streams s i.10 c.requires.logger c.index_mut-stream.ensures.value in
     let mark = begun s.mark (found_epoch seat) epoch is.mark later in
     let step = c.floor-epoch.ensures.step in
     let left = c.take-entries.ensures in
     let taken = stream_set loggers epoch history history streams c.args.logger c.take-entries.new.self
-    (streams_later loggers (found_epoch seat) epoch history streams later i.9) c.requires.logger (λ k _. refl)
+    (streams_later loggers (found_epoch seat) epoch history streams later i.10) c.requires.logger (λ k _. refl)
     (stream_taken (found_epoch seat) epoch (epoch - 1) (stream loggers c.args.logger history) s c.take-entries.new.self is mark.2
     left.taken left.number left.mark left.waiting) in (
       i.0,
-      subst (λ (q : SeatView). IsReady t0 g.K.Run.cells (found_epoch q) c.self.inside.pen (map arc_value c.self.inside.history.items)
+      subst (λ (q : SeatView). IsReady g.K.Run.past t0 g.K.Run.cells (found_epoch q) c.self.inside.pen (map arc_value c.self.inside.history.items)
           (replay t0 (map arc_value c.self.inside.history.items))) (sym step)
           (ready_loaded seat i.6 c.requires.board c.floor-epoch.ensures.later i.1),
       i.2,
@@ -76,6 +76,7 @@ invariant_of-self g c =
       ap (λ (q : SeatView). q.board) step ∙ i.6,
       subst (λ (q : SeatView). HasCounted q (map arc_value c.self.inside.history.items)) (sym step) i.7,
       i.8,
+      i.9,
       subst (λ (q : SeatView). AreStreams g.K.Run.board.plan.loggers (found_epoch q) (map arc_value c.self.inside.history.items)
           (slice_set c.self.inside.streams.items c.args.logger c.take-entries.new.self)) (sym step) taken,
     )
@@ -89,9 +90,9 @@ returns-clause-batch g c =
     let streams = c.self.inside.streams.items in
     let s = c.index_mut-stream.result.now in
     let later = found_later seat i.6 c.requires.board c.floor-epoch.ensures.later in
-    let is = found loggers (found_epoch seat) c.args.logger history streams s i.9 c.requires.logger c.index_mut-stream.ensures.value in
+    let is = found loggers (found_epoch seat) c.args.logger history streams s i.10 c.requires.logger c.index_mut-stream.ensures.value in
     let mark = begun s.mark (found_epoch seat) c.floor-epoch.result is.mark later in
-    let here : c.args.logger < length streams = subst (λ n. c.args.logger < n) (sym i.9.count) c.requires.logger in
+    let here : c.args.logger < length streams = subst (λ n. c.args.logger < n) (sym i.10.count) c.requires.logger in
     let count : c.len-loggers.result ≡ length streams = search rules in
     let entries : map arc_value c.take-entries.result.items ≡ drop s.taken (stream loggers c.args.logger history) =
     ap (map arc_value) c.take-entries.ensures.entries ∙ is.waiting in
@@ -112,7 +113,7 @@ returns-clause-batch g c =
       mark = c.floor-epoch.result - 1;
     })) c.self.view_is (record {
       logger_is = refl;
-      loggers_are = count ∙ i.9.count;
+      loggers_are = count ∙ i.10.count;
       first = sym (get_or-map (λ (t : Stream). t.taken) streams c.args.logger s 0 here ∙ ap (λ (t : Stream). t.taken) (sym c.index_mut-stream.ensures.value));
       within = is.taken;
       number_before = is.number;

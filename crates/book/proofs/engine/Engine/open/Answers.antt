@@ -1,4 +1,4 @@
-use Rattle.std.proofs.Common.{◌≡◌, ◌<◌, ◌^◌, ◌≤◌, List, [], All, length, map, refl, sym, ap, ◌∙◌, subst, arith, rules}
+use Rattle.std.proofs.Common.{◌≡◌, ℕ, ◌<◌, ◌^◌, ◌≤◌, List, [], All, length, map, refl, sym, ap, ◌∙◌, subst, arith, rules}
 use Rattle.std.proofs.lemmas.List.{length-replicate}
 use Rattle.std.proofs.lemmas.List.Elements.{All-replicate}
 use Rattle.std.specs.Arc.{arc_value}
@@ -36,13 +36,14 @@ invariant_of-book g c =
           (c.scale.ensures ∙ ap (λ (p : Population). (initial p).scale) c.deref.ensures),
     ) in
     let none : map arc_value parts.history.items ≡ [] = ap (map arc_value) fresh.history in
+    let past : 0 ≡ g.K.Run.past = sym fresh.past ∙ c.requires.run.past_is in
     let sound = first_sound t0 parts.cells parts.pen parts.newest.items fresh.newest fresh.count fresh.pen population.well_formed population.consistent in
     let ready = first_ready t0 parts.cells parts.pen parts.newest.items fresh.newest fresh.count fresh.pen (found_epoch parts.seats.book)
     population.room few in (
-      subst (λ (q : Database × List Entry). IsSound q.0 c.args.parts.pen q.1 (replay q.0 q.1))
-          (λ i. (c.requires.run.first_is i, sym none i)) sound,
-      subst (λ (q : Database × List TableId × List Entry). IsReady q.0 q.1 (found_epoch parts.seats.book) c.args.parts.pen q.2 (replay q.0 q.2))
-          (λ i. (c.requires.run.first_is i, c.requires.run.cells_are i, sym none i)) ready,
+      subst (λ (q : Database × ℕ × List Entry). IsSound q.1 q.0 c.args.parts.pen q.2 (replay q.0 q.2))
+          (λ i. (c.requires.run.first_is i, past i, sym none i)) sound,
+      subst (λ (q : Database × ℕ × List TableId × List Entry). IsReady q.1 q.0 q.2 (found_epoch parts.seats.book) c.args.parts.pen q.3 (replay q.0 q.3))
+          (λ i. (c.requires.run.first_is i, past i, c.requires.run.cells_are i, sym none i)) ready,
       first_newest t0 parts.cells parts.pen parts.newest.items fresh.newest fresh.count fresh.pen,
       ap initial fresh.lent ∙ c.requires.run.first_is,
       c.open-shares.ensures.total ∙ sym (ap length none),
@@ -51,6 +52,7 @@ invariant_of-book g c =
       ap (λ (s : SeatView). s.board) fresh.board.book ∙ c.requires.run.board_is,
       subst (λ (q : SeatView × List Entry). HasCounted q.0 q.1) (λ i. (sym fresh.board.book i, sym none i)) refl,
       ap seed_of fresh.lent ∙ c.requires.run.seed_is,
+      c.requires.run.past_is,
       subst (λ (q : BoardView × SeatView × List Entry). AreStreams q.0.plan.loggers (found_epoch q.1) q.2 c.args.parts.streams.items)
           (λ i. (c.requires.run.board_is i, sym fresh.board.book i, sym none i))
           (first_streams parts.board.plan.loggers parts.board.plan.base parts.streams.items fresh.loggers.0 fresh.loggers.1 fresh.streams),
