@@ -199,7 +199,8 @@ module _ (past : ℕ) (t0 : Database) (run_cells : List TableId) (epoch : ℕ) (
       legal = legal;
       stamped = all_stamped epoch written new history (history ++ entry ∷ []) entry refl from_epoch above_last above_records written_records grows
           within.bits sound.stamped ready.passed;
-      well_formed = after-IsWellFormed t work.input (MAX_COMMITS - (past + length history + 1)) input_of commits_there.numbered sound.well_formed sound.consistent
+      well_formed = after-IsWellFormed t work.input (MAX_COMMITS - (past + length history + 1)) input_of commits_there.numbered sound.well_formed
+          sound.consistent
           roomy;
       consistent = after-IsConsistent t work.input input_of sound.well_formed sound.consistent;
       versions = λ n h. stores n ∙ ap (λ (l : List (List ℕ)). l ++ new_versions tid_is work.writes.values n) (sound.versions n h)

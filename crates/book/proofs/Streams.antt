@@ -61,14 +61,19 @@ stream_set loggers epoch old new streams l s are within others is = record {
   count = length-set streams l s ∙ are.count;
   each = λ k h d. ⊎_elim
       (λ (same : k ≡ l). subst (λ (q : ℕ × Stream). IsStreamOf epoch (stream loggers q.0 new) q.1)
-      (λ i. (sym same i, (sym (get_or-set_same streams l s d (subst (λ n. l < n) (sym are.count) within)) ∙ ap (λ n. slice_index_or (slice_set streams l s) n d) (sym same)) i)) is)
+      (λ i. (
+        sym same i,
+        (sym (get_or-set_same streams l s d (subst (λ n. l < n) (sym are.count) within)) ∙ ap
+            (λ n. slice_index_or (slice_set streams l s) n d) (sym same)) i,
+      )) is)
       (λ (other : k ≢ l). subst (λ (q : List Entry × Stream). IsStreamOf epoch q.0 q.1)
       (λ i. (sym (others k other) i, sym (get_or-set_other streams l k s d other) i)) (are.each k h d))
       (cases_eq k l);
 }
 
 -- an entry is at the end of its own stream
-stream_here : (loggers l : ℕ) (history : List Entry) (e : Entry) → e.terminal % loggers ≡ l → stream loggers l (history ++ e ∷ []) ≡ stream loggers l history ++ e ∷ []
+stream_here : (loggers l : ℕ) (history : List Entry) (e : Entry) → e.terminal % loggers ≡ l → stream loggers l (history ++ e ∷ []) ≡ stream loggers l
+    history ++ e ∷ []
 stream_here loggers l history e same = filter-append (λ (d : Entry). d.terminal % loggers == l) history (e ∷ [])
     ∙ ap (λ b. stream loggers l history ++ cond b (e ∷ []) []) (⊎_elim (λ yes. yes.0) (λ no. absurd (no.1 same)) (eqb_tells (e.terminal % loggers) l))
 
@@ -172,7 +177,8 @@ found loggers epoch l history streams s are within is = subst (IsStreamOf epoch 
 -- what stays of one stays of all
 pub same_parts : (f : Stream → ℕ) (streams : List Stream) (l : ℕ) (s t : Stream) → s ≡ slice_index_or streams l s → f t ≡ f s
     → map f (slice_set streams l t) ≡ map f streams
-same_parts f streams l s t is same = map-set f streams l t ∙ ap (slice_set (map f streams) l) (same ∙ ap f is) ∙ sym (map-set f streams l (slice_index_or streams l s))
+same_parts f streams l s t is same = map-set f streams l t ∙ ap (slice_set (map f streams) l) (same ∙ ap f is) ∙ sym
+    (map-set f streams l (slice_index_or streams l s))
     ∙ ap (map f) (set-get_or streams l s)
 
 module _ (loggers old new n terminal : ℕ) (history : List Entry) (streams : List Stream) (s : Stream) (later : old ≤ new) (count : n ≡ loggers)

@@ -34,8 +34,8 @@ abbrev pub Replays : ℕ → Database → List Entry → Type 0
 Replays n t [] = Unit {0}
 Replays n t (e ∷ es) = (e.number ≡ n) × CommitsAt t e.input e.writes e.reply × Replays (n + 1) (after t e.input) es
 
--- a history from t0, which so many past commits have made, to t: numbers behind theirs, each entry done in its turn, and
--- the end is t
+-- a history from t0, which so many past commits have made, to t: numbers behind theirs, each entry done in its turn,
+-- and the end is t
 pub record IsLegal (past : ℕ) (t0 : Database) (history : List Entry) (t : Database) : Type 0 where
   pub replays : Replays (past + 1) t0 history
   pub end : replay t0 history ≡ t

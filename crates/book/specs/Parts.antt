@@ -45,7 +45,8 @@ abbrev pub terminals_of : Parts → ℕ
 terminals_of p = length p.readers.items
 
 -- the run of these parts is named so
-pub record IsRunOf (p : Parts) (first : Database) (past : ℕ) (cells : List TableId) (board : BoardView) (seed : ℕ) : Type 0 where
+pub record IsRunOf (p : Parts) (first : Database) (past : ℕ) (cells : List TableId) (board : BoardView) (seed : ℕ)
+    : Type 0 where
   pub first_is : first_of p ≡ first
   pub past_is : past_of p ≡ past
   pub cells_are : cells_of p ≡ cells

@@ -30,4 +30,5 @@ pub record AreStreams (loggers epoch : ℕ) (history : List Entry) (streams : Li
   pub some : 0 < loggers
   pub few : loggers ≤ 8
   pub count : length streams ≡ loggers
-  pub each : (l : ℕ) → l < loggers → (d : Stream) → IsStreamOf epoch (stream loggers l history) (slice_index_or streams l d)
+  pub each : (l : ℕ) → l < loggers → (d : Stream)
+      → IsStreamOf epoch (stream loggers l history) (slice_index_or streams l d)

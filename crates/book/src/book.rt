@@ -21,8 +21,8 @@ use tidword::TidWord;
 /// and what has committed. The committed tables are what these tell, and are kept nowhere. Its type keeps `IsSound` of
 /// what contracts see of it, that it is ready for the next commit, that it has each terminal's last TID, that the
 /// terminals' shares sum to the length of the history, that its seat of the board has counted each commit of the
-/// history, with its epoch, and that what waits for a logger is what of its stream was not taken, each entry of an epoch
-/// behind the mark of the last take.
+/// history, with its epoch, and that what waits for a logger is what of its stream was not taken, each entry above the
+/// mark of the last take.
 #[derive(Drop)]
 pub struct Book<K: Run> {
     pub(crate) pen: Pen,
@@ -105,7 +105,8 @@ impl<K: Run> Book<K> {
     /// the history. `OutOfMemory` is the only refusal.
     pub fn tables(&self) -> Result<Tables, Refusal>
         ensures tables { IfOk result (λ tables. database tables ≡ replay K.first self.now.history) }
-        ensures sound { IfOk result (λ tables. IsSound K.past K.first self.now.written self.now.history (database tables)) }
+        ensures sound { IfOk result (λ tables.
+            IsSound K.past K.first self.now.written self.now.history (database tables)) }
         ensures only_memory { IfErr result (λ refusal. refusal ≡ OutOfMemory) }
     {
         let alloc = *self.history.allocator();

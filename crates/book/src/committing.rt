@@ -65,7 +65,8 @@ impl<K: Run> Book<K> {
             (λ done. AreLatest self.old.written.all work.reads
             × (K.past + length self.old.history < K.first.scale.commits)
             × (tid_for self.old.history share.old.terminal (found_epoch self.new.seat) work.reads ≡ Some done.tid)
-            × Commits self.old self.new (entry_of (K.past + length self.old.history + 1) done.tid share.old.terminal work)
+            × Commits self.old self.new
+            (entry_of (K.past + length self.old.history + 1) done.tid share.old.terminal work)
             × (done.number ≡ K.past + length self.old.history + 1) × (done.reply ≡ work.reply)
             × (share.new ≡ record {
               terminal = share.old.terminal;

@@ -43,7 +43,8 @@ committed_turn t0 old new n x d told says count dones next =
     let one : commits_of new.dones ≡ commits_of old.dones ++ last (length (commits_of old.dones) + 1) ∷ [] =
     ap commits_of dones ∙ map-append _ old.dones (d ∷ []) ∙ ap (λ m. commits_of old.dones ++ last m ∷ []) (number ∙ ap (λ m. m + 1) (sym length_is)) in
     done (replay t0 new.history) d.reply next.numbered
-    (subst (λ (s : Sizes). length (commits_of old.dones) < s.commits) (sym scale) (subst (λ m. m < t0.scale.commits) (sym (length_is ∙ count)) (omega (arith, next.below))))
+    (subst (λ (s : Sizes). length (commits_of old.dones) < s.commits) (sym scale)
+    (subst (λ m. m < t0.scale.commits) (sym (length_is ∙ count)) (omega (arith, next.below))))
     next.commits
     (λ i. record { answer = says i; state = record { tables = replay t0 new.history; commits = one i } })
 

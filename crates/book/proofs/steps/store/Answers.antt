@@ -13,12 +13,14 @@ loop-record-init g c = (
 )
 
 pub store-requires-clause-is_record : goal.store-requires-clause-is_record
-store-requires-clause-is_record g c = within (length c.args.cells.now) c.args.tid c.args.pen.now c.args.reader.now c.args.footprint.now.reads c.args.footprint.now.writes
+store-requires-clause-is_record g c = within (length c.args.cells.now) c.args.tid c.args.pen.now c.args.reader.now c.args.footprint.now.reads
+    c.args.footprint.now.writes
     c.requires.read c.requires.written_read c.requires.larger c.loop-record.pen c.loop-record.reader c.loop-record.record-iterator c.loop-record.invariant.0
     c.in-Some.record.now c.in-Some.value.now c.next.new.self c.in-Some.ensures.steps
 
 pub store-requires-clause-larger : goal.store-requires-clause-larger
-store-requires-clause-larger g c = larger (length c.args.cells.now) c.args.tid c.args.pen.now c.args.reader.now c.args.footprint.now.reads c.args.footprint.now.writes
+store-requires-clause-larger g c = larger (length c.args.cells.now) c.args.tid c.args.pen.now c.args.reader.now c.args.footprint.now.reads
+    c.args.footprint.now.writes
     c.requires.read c.requires.written_read c.requires.larger c.loop-record.pen c.loop-record.reader c.loop-record.record-iterator c.loop-record.invariant.0
     c.in-Some.record.now c.in-Some.value.now c.next.new.self c.in-Some.ensures.steps c.version-version.result.word c.version-version.ensures.tid
 

@@ -13,7 +13,8 @@ meet-requires-clause-own g c =
     (ap (λ (w : PenView). w.cells) c.loop-version.invariant.same ∙ c.requires.own.0, c.loop-version.invariant.grown.cells ∙ c.requires.own.1)
 
 pub meet-requires-clause-is_record : goal.meet-requires-clause-is_record
-meet-requires-clause-is_record g c = within (length c.args.cells.now) c.args.pen.now c.args.reader.now c.args.footprint.now.reads c.requires.read c.loop-version.pen
+meet-requires-clause-is_record g c = within (length c.args.cells.now) c.args.pen.now c.args.reader.now c.args.footprint.now.reads c.requires.read
+    c.loop-version.pen
     c.loop-version.reader c.loop-version.version-iterator c.loop-version.seen c.loop-version.invariant c.in-Some.field-0-0.now c.in-Some.version.now
     c.next.new.self c.in-Some.ensures.steps
 
@@ -50,9 +51,11 @@ returns-clause-reader g c = c.loop-version.invariant.grown
 
 pub returns-clause-latest : goal.returns-clause-latest
 returns-clause-latest g c = (
-  all_latest c.args.pen.now c.args.reader.now c.args.footprint.now.reads c.loop-version.pen c.loop-version.reader c.loop-version.version-iterator c.loop-version.seen
+  all_latest c.args.pen.now c.args.reader.now c.args.footprint.now.reads c.loop-version.pen c.loop-version.reader c.loop-version.version-iterator
+      c.loop-version.seen
       c.loop-version.invariant c.in-None.ensures.steps.0,
-  c.new.ensures ∙ all_greatest c.args.pen.now c.args.reader.now c.args.footprint.now.reads c.loop-version.pen c.loop-version.reader c.loop-version.version-iterator
+  c.new.ensures ∙ all_greatest c.args.pen.now c.args.reader.now c.args.footprint.now.reads c.loop-version.pen c.loop-version.reader
+      c.loop-version.version-iterator
       c.loop-version.seen c.loop-version.invariant c.in-None.ensures.steps.0,
   subst (IsRead c.args.footprint.now.reads) (sym c.new.ensures) c.loop-version.invariant.is_read,
 )

@@ -3,7 +3,14 @@ use Rattle.script.proofs.running.script.Given as goal
 
 -- the run is that of the parts
 abbrev pub ghosts-run-K-Run : goal.ghosts-run-K-Run
-ghosts-run-K-Run g a = record { first = first_of a.parts; past = past_of a.parts; cells = cells_of a.parts; board = board_of a.parts; seed = population_seed a.parts }
+ghosts-run-K-Run g a = record {
+  first = first_of a.parts;
+  past = past_of a.parts;
+  cells = cells_of a.parts;
+  board = board_of a.parts;
+  seed = population_seed
+      a.parts;
+}
 
 abbrev pub ghosts-run-K-Ledger : goal.ghosts-run-K-Ledger
 ghosts-run-K-Ledger g a = record { name = ledger_name a.parts; parts = ledger_parts a.parts }

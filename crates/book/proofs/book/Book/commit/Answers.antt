@@ -114,7 +114,8 @@ conflict_not_full : Conflict ≢ EpochFull
 conflict_not_full h = cc
 
 -- what the type of the book keeps, of its pen, its history, its seat and its streams
-abbrev Keeps : (t0 lent : Database) (run_cells : List TableId) (run : BoardView) (seed seed_lent past past_here parts total : ℕ) (newest : List Newest) (lasts : List ℕ)
+abbrev Keeps : (t0 lent : Database) (run_cells : List TableId) (run : BoardView) (seed seed_lent past past_here parts total : ℕ) (newest : List Newest)
+    (lasts : List ℕ)
     → PenView × List Entry × SeatView × List Stream → Type 0
 Keeps t0 lent run_cells run seed seed_lent past past_here parts total newest lasts q = IsSound past t0 q.0 q.1 (replay t0 q.1)
     × IsReady past t0 run_cells (found_epoch q.2) q.0 q.1 (replay t0 q.1)
@@ -129,7 +130,8 @@ invariant_of-self g c =
     let streams = streams_later g.K.Run.board.plan.loggers (found_epoch seat) c.epoch-epoch.result (map arc_value c.self.inside.history.items)
     c.self.inside.streams.items (found_later seat kept.6 c.requires.board c.epoch-epoch.ensures.later) kept.10 in
     subst (Keeps g.K.Run.first (initial (arc_value c.self.inside.population)) g.K.Run.cells g.K.Run.board g.K.Run.seed
-    (seed_of (arc_value c.self.inside.population)) g.K.Run.past c.self.inside.past g.K.Ledger.parts c.self.inside.shares.total c.self.inside.newest.items c.self.inside.lasts.items)
+    (seed_of (arc_value c.self.inside.population)) g.K.Run.past c.self.inside.past g.K.Ledger.parts c.self.inside.shares.total c.self.inside.newest.items
+    c.self.inside.lasts.items)
     (λ i. (sym c.validate.ensures.pen i, map arc_value c.self.inside.history.items, sym c.epoch-epoch.ensures.step i, c.self.inside.streams.items))
     (kept.0, ready, kept.2, kept.3, kept.4, kept.5, kept.6, kept.7, kept.8, kept.9, streams)
 
@@ -146,7 +148,8 @@ invariant_of-self-in-Err g c =
     (found_later seat kept.6 c.requires.board c.epoch-epoch.ensures.later) count kept.10 c.index_mut-stream.ensures.value c.prepare.new.stream
     (record { taken = same.0; number = same.1; waiting = same.2; mark = same.3 }) in
     subst (Keeps g.K.Run.first (initial (arc_value c.self.inside.population)) g.K.Run.cells g.K.Run.board g.K.Run.seed
-    (seed_of (arc_value c.self.inside.population)) g.K.Run.past c.self.inside.past g.K.Ledger.parts c.self.inside.shares.total c.self.inside.newest.items c.self.inside.lasts.items)
+    (seed_of (arc_value c.self.inside.population)) g.K.Run.past c.self.inside.past g.K.Ledger.parts c.self.inside.shares.total c.self.inside.newest.items
+    c.self.inside.lasts.items)
     (λ i. (
       sym c.validate.ensures.pen i,
       map arc_value (sym c.prepare.ensures.history i),
@@ -164,7 +167,8 @@ returns-in-Err-clause-answer g c =
     let found = c.in-Some.ensures.latest in
     let lasts = c.self.invariant.5 in
     let last : c.index.result.now ≡ last_of c.share.inside.terminal items = last_is lasts c.share.invariant.1 c.index.ensures in
-    let same = same_next g.K.Run.past g.K.Run.first g.K.Run.cells c.epoch-epoch.result c.self.inside.pen items (replay g.K.Run.first items) c.self.invariant.0 ready
+    let same = same_next g.K.Run.past g.K.Run.first g.K.Run.cells c.epoch-epoch.result c.self.inside.pen items (replay g.K.Run.first items)
+    c.self.invariant.0 ready
     c.args.reader.now c.args.work c.requires.work found.0
     c.share.inside.terminal c.in-Some.seen c.index.result.now found.2 found.1 last in (
       record {
@@ -179,7 +183,8 @@ returns-in-Err-clause-answer g c =
       inr (
         subst (λ (k : BookView). AreLatest k.written.all c.args.work.reads) view found.0,
         subst (λ (k : BookView). CommitsAt (replay g.K.Run.first k.history) c.args.work.input c.args.work.writes c.args.work.reply) view
-            (done_there g.K.Run.past g.K.Run.first g.K.Run.cells c.epoch-epoch.result c.self.inside.pen items (replay g.K.Run.first items) c.self.invariant.0 ready
+            (done_there g.K.Run.past g.K.Run.first g.K.Run.cells c.epoch-epoch.result c.self.inside.pen items (replay g.K.Run.first items)
+            c.self.invariant.0 ready
             c.args.reader.now c.args.work c.requires.work found.0),
         subst (λ (q : ℕ × ℕ × Option ℕ). ((c.in-Err.refusal ≡ CommitsFull) × (q.0 ≤ q.1))
             ⊎ ((c.in-Err.refusal ≡ EpochFull) × (q.1 < q.0) × (q.2 ≡ None))
@@ -201,7 +206,8 @@ returns-in-Err-clause-cap_first g c =
     let found = c.in-Some.ensures.latest in
     let last : c.index.result.now ≡ last_of c.share.inside.terminal items = last_is c.self.invariant.5 c.share.invariant.1 c.index.ensures in
     never_full c.in-Err.refusal (c.self.inside.past + length c.self.inside.history.items) c.commits.result _ c.in-Err.ensures.refused
-    (λ below none. there_is g.K.Run.past g.K.Run.first g.K.Run.cells c.epoch-epoch.result c.self.inside.pen items (replay g.K.Run.first items) c.self.invariant.0 ready
+    (λ below none. there_is g.K.Run.past g.K.Run.first g.K.Run.cells c.epoch-epoch.result c.self.inside.pen items (replay g.K.Run.first items)
+    c.self.invariant.0 ready
     c.args.reader.now c.args.work c.requires.work found.0
     c.share.inside.terminal c.in-Some.seen c.index.result.now found.2 found.1 last (subst (λ (q : ℕ × ℕ). q.0 < q.1)
     (λ i. (c.self.invariant.9 i + sym (length-map c.self.inside.history.items arc_value) i, cap i)) below) none)
@@ -244,7 +250,8 @@ invariant_of-self-2 g c =
     let tid : ℕ = c.in-Ok.prepared.tid in
     let stores : (n : ℕ) → at c.store.new.pen.all n ≡ at c.self.inside.pen.all n ++ new_versions c.in-Ok.prepared.tid c.args.work.writes.values n =
     λ n. c.store.ensures.versions n ∙ (λ i. at (c.validate.ensures.pen i).all n ++ new_versions c.in-Ok.prepared.tid c.args.work.writes.values n) in
-    let made = next_kept g.K.Run.past g.K.Run.first g.K.Run.cells c.epoch-epoch.result c.self.inside.pen items (replay g.K.Run.first items) c.self.invariant.0 ready
+    let made = next_kept g.K.Run.past g.K.Run.first g.K.Run.cells c.epoch-epoch.result c.self.inside.pen items (replay g.K.Run.first items)
+    c.self.invariant.0 ready
     c.args.reader.now c.args.work c.requires.work found.0
     c.share.inside.terminal c.in-Some.seen c.index.result.now found.2 found.1 last c.in-Ok.prepared.tid c.in-Ok.ensures.lawful c.in-Ok.ensures.tid
     c.store.new.pen small cells stores in
@@ -274,15 +281,18 @@ invariant_of-self-2 g c =
           (c.store.ensures.newest.count ∙ ap length cells ∙ sym c.self.invariant.2.count))) c.store.ensures.newest,
       c.self.invariant.3,
       c.add-2.ensures.total ∙ ap (λ n. n + 1) c.self.invariant.4
-          ∙ sym (ap length history ∙ length-append items (entry_of (g.K.Run.past + length items + 1) c.in-Ok.prepared.tid c.share.inside.terminal c.args.work ∷ [])),
+          ∙ sym (ap length history ∙ length-append items (entry_of (g.K.Run.past + length items + 1) c.in-Ok.prepared.tid c.share.inside.terminal
+          c.args.work ∷ [])),
       subst (λ (h : List Entry). AreLast g.K.Ledger.parts h (slice_set c.self.inside.lasts.items c.share.inside.terminal c.in-Ok.prepared.tid)) (sym history)
-          (lasts_next g.K.Ledger.parts items c.self.inside.lasts.items (entry_of (g.K.Run.past + length items + 1) c.in-Ok.prepared.tid c.share.inside.terminal c.args.work)
+          (lasts_next g.K.Ledger.parts items c.self.inside.lasts.items (entry_of (g.K.Run.past + length items + 1) c.in-Ok.prepared.tid
+          c.share.inside.terminal c.args.work)
           c.self.invariant.5
           (subst (λ n. c.share.inside.terminal < n) (sym c.self.invariant.5.count) c.share.invariant.1)),
       ap (λ (s : SeatView). s.board) seat ∙ c.self.invariant.6,
       subst (λ (q : SeatView × List Entry). HasCounted q.0 q.1) (λ i. (sym seat i, sym history i))
           (counts_on c.self.inside.seat items c.epoch-epoch.result
-          (entry_of (g.K.Run.past + length items + 1) c.in-Ok.prepared.tid c.share.inside.terminal c.args.work) c.self.invariant.7 c.in-Ok.ensures.lawful.in_epoch),
+          (entry_of (g.K.Run.past + length items + 1) c.in-Ok.prepared.tid c.share.inside.terminal c.args.work) c.self.invariant.7
+          c.in-Ok.ensures.lawful.in_epoch),
       c.self.invariant.8,
       c.self.invariant.9,
       subst (λ (q : SeatView × List Entry). AreStreams g.K.Run.board.plan.loggers (found_epoch q.0) q.1
@@ -303,7 +313,8 @@ returns-clause-answer g c =
     c.in-Ok.ensures.below in
     let cells : c.store.new.pen.cells ≡ c.self.inside.pen.cells = c.store.ensures.cells ∙ ap (λ (w : PenView). w.cells) c.validate.ensures.pen in
     let last : c.index.result.now ≡ last_of c.share.inside.terminal items = last_is c.self.invariant.5 c.share.invariant.1 c.index.ensures in
-    let same = same_next g.K.Run.past g.K.Run.first g.K.Run.cells c.epoch-epoch.result c.self.inside.pen items (replay g.K.Run.first items) c.self.invariant.0 ready
+    let same = same_next g.K.Run.past g.K.Run.first g.K.Run.cells c.epoch-epoch.result c.self.inside.pen items (replay g.K.Run.first items)
+    c.self.invariant.0 ready
     c.args.reader.now c.args.work c.requires.work found.0
     c.share.inside.terminal c.in-Some.seen c.index.result.now found.2 found.1 last in
     let stores : (n : ℕ) → at c.store.new.pen.all n ≡ at c.self.inside.pen.all n ++ new_versions c.in-Ok.prepared.tid c.args.work.writes.values n =
@@ -314,9 +325,11 @@ returns-clause-answer g c =
     ++ entry_of (g.K.Run.past + length items + 1) c.in-Ok.prepared.tid c.share.inside.terminal c.args.work ∷ [] =
     ap (map arc_value) c.push_reserved.ensures.items ∙ map-append arc_value c.prepare.new.history.items (c.in-Ok.prepared.entry ∷ [])
     ∙ (λ i. map arc_value (c.prepare.ensures.history i) ++ entry i ∷ []) in
-    let of : c.in-Ok.prepared.done ≡ record { number = g.K.Run.past + length items + 1; tid = c.in-Ok.prepared.tid; reply = c.args.work.reply } = c.in-Ok.ensures.done
+    let of : c.in-Ok.prepared.done ≡ record { number = g.K.Run.past + length items + 1; tid = c.in-Ok.prepared.tid; reply = c.args.work.reply } =
+    c.in-Ok.ensures.done
     ∙ (λ i. record { number = here i + size i + 1; tid = c.in-Ok.prepared.tid; reply = c.args.work.reply }) in
-    subst (λ (q : BookView × ShareView × Done × ℕ). AreLatest q.0.written.all c.args.work.reads × (g.K.Run.past + length q.0.history < g.K.Run.first.scale.commits)
+    subst (λ (q : BookView × ShareView × Done × ℕ). AreLatest q.0.written.all c.args.work.reads ×
+    (g.K.Run.past + length q.0.history < g.K.Run.first.scale.commits)
     × (tid_for q.0.history q.1.terminal q.3 c.args.work.reads ≡ Some q.2.tid)
     × Commits q.0 (kept c.store.new.pen (map arc_value c.push_reserved.new.self.items) c.commit_step.new.seat
     (slice_set c.self.inside.streams.items (c.share.inside.terminal % c.len.result) c.add.new.self))
@@ -351,7 +364,8 @@ returns-clause-answer g c =
 pub returns-clause-next : goal.returns-clause-next
 returns-clause-next g c =
     let answer = returns-clause-answer g c in
-    is_next g.K.Run.past g.K.Run.first c.args.self.now.history (map arc_value c.push_reserved.new.self.items) c.args.share.now.terminal c.args.work c.in-Ok.prepared.done
+    is_next g.K.Run.past g.K.Run.first c.args.self.now.history (map arc_value c.push_reserved.new.self.items) c.args.share.now.terminal c.args.work
+    c.in-Ok.prepared.done
     answer.3.history answer.4 answer.5 answer.8 answer.1
 
 pub returns-in-Err-clause-refused : goal.returns-in-Err-clause-refused
@@ -365,7 +379,8 @@ returns-in_default-clause-section g c m w shows =
     let items : List Entry = map arc_value c.self.inside.history.items in
     let ready = ready_loaded c.self.inside.seat c.self.invariant.6 c.requires.board c.epoch-epoch.ensures.later c.self.invariant.1 in
     record {
-      conflict = λ _. stale_run g.K.Run.past g.K.Run.first g.K.Run.cells c.epoch-epoch.result (kept c.self.inside.pen items c.self.inside.seat c.self.inside.streams.items)
+      conflict = λ _. stale_run g.K.Run.past g.K.Run.first g.K.Run.cells c.epoch-epoch.result
+          (kept c.self.inside.pen items c.self.inside.seat c.self.inside.streams.items)
           (replay g.K.Run.first items) c.self.invariant.0 ready c.args.reader.now c.args.work c.requires.work c.in_order.ensures
           c.args.share.now.terminal w m
           (subst (λ (q : BookView × ℕ). Mirrors q.0 c.args.share.now.terminal q.1 c.args.work.reads m w)
@@ -380,13 +395,15 @@ returns-in-Err-clause-section g c m w shows =
     let ready = ready_loaded c.self.inside.seat c.self.invariant.6 c.requires.board c.epoch-epoch.ensures.later c.self.invariant.1 in
     let found = c.in-Some.ensures.latest in
     let last : c.index.result.now ≡ last_of c.share.inside.terminal items = last_is c.self.invariant.5 c.share.invariant.1 c.index.ensures in
-    let same = same_next g.K.Run.past g.K.Run.first g.K.Run.cells c.epoch-epoch.result c.self.inside.pen items (replay g.K.Run.first items) c.self.invariant.0 ready
+    let same = same_next g.K.Run.past g.K.Run.first g.K.Run.cells c.epoch-epoch.result c.self.inside.pen items (replay g.K.Run.first items)
+    c.self.invariant.0 ready
     c.args.reader.now c.args.work c.requires.work found.0
     c.share.inside.terminal c.in-Some.seen c.index.result.now found.2 found.1 last in
     let only = only_full c.in-Err.refusal (c.self.inside.past + length c.self.inside.history.items) c.commits.result _ c.in-Err.ensures.refused in
     record {
       conflict = λ e. absurd (only.0 e);
-      epoch_full = λ e. full_run g.K.Run.past g.K.Run.first g.K.Run.cells c.epoch-epoch.result (kept c.self.inside.pen items c.self.inside.seat c.self.inside.streams.items)
+      epoch_full = λ e. full_run g.K.Run.past g.K.Run.first g.K.Run.cells c.epoch-epoch.result
+          (kept c.self.inside.pen items c.self.inside.seat c.self.inside.streams.items)
           (replay g.K.Run.first items) c.self.invariant.0 ready c.args.reader.now c.args.work c.requires.work c.in_order.ensures
           c.share.inside.terminal w m
           (subst (λ (q : BookView × ShareView × ℕ). Mirrors q.0 q.1.terminal q.2 c.args.work.reads m w)
@@ -401,7 +418,8 @@ returns-clause-section g c m w shows =
     c.commit_step.ensures ∙ ap (λ (s : SeatView). noted s (CountCommit c.epoch-epoch.result)) c.epoch-epoch.ensures.step in
     let found = c.in-Some.ensures.latest in
     let last : c.index.result.now ≡ last_of c.share.inside.terminal items = last_is c.self.invariant.5 c.share.invariant.1 c.index.ensures in
-    let same = same_next g.K.Run.past g.K.Run.first g.K.Run.cells c.epoch-epoch.result c.self.inside.pen items (replay g.K.Run.first items) c.self.invariant.0 ready
+    let same = same_next g.K.Run.past g.K.Run.first g.K.Run.cells c.epoch-epoch.result c.self.inside.pen items (replay g.K.Run.first items)
+    c.self.invariant.0 ready
     c.args.reader.now c.args.work c.requires.work found.0
     c.share.inside.terminal c.in-Some.seen c.index.result.now found.2 found.1 last in
     let cells : c.store.new.pen.cells ≡ c.self.inside.pen.cells = c.store.ensures.cells ∙ ap (λ (w : PenView). w.cells) c.validate.ensures.pen in

@@ -12,5 +12,6 @@ returns-else-has_order_number-clause-there g c =
 
 pub returns-in_default-clause-there : goal.returns-in_default-clause-there
 returns-in_default-clause-there g c =
-    as_refused g.K.Run.past g.K.Run.first c.args.self.now.history c.args.input.now c.requires.refusal.0 c.requires.refusal.1.0 c.args.refusal c.requires.refusal.1.1
+    as_refused g.K.Run.past g.K.Run.first c.args.self.now.history c.args.input.now c.requires.refusal.0 c.requires.refusal.1.0 c.args.refusal
+    c.requires.refusal.1.1
     c.in_default.not-OrdersFull

@@ -17,7 +17,8 @@ returns g c =
     let history = map arc_value c.self.inside.history.items in
     let i = c.self.invariant in
     let small : n < length c.self.inside.newest.items =
-    subst (λ m. c.args.number < m) (sym (counted g.K.Run.past t0 g.K.Run.cells (found_epoch c.self.inside.seat) c.self.inside.pen history (replay t0 history) newest
+    subst (λ m. c.args.number < m) (sym (counted g.K.Run.past t0 g.K.Run.cells (found_epoch c.self.inside.seat) c.self.inside.pen history
+    (replay t0 history) newest
     i.0 i.1 i.2)) c.requires in
     c.value.ensures
     ∙ ap value_in (sym (words_found newest n c.index.result.now small c.index.ensures))

@@ -117,7 +117,8 @@ returns-clause-batch g c =
       first = sym (get_or-map (λ (t : Stream). t.taken) streams c.args.logger s 0 here ∙ ap (λ (t : Stream). t.taken) (sym c.index_mut-stream.ensures.value));
       within = is.taken;
       number_before = is.number;
-      mark_before = sym (get_or-map (λ (t : Stream). t.mark) streams c.args.logger s 0 here ∙ ap (λ (t : Stream). t.mark) (sym c.index_mut-stream.ensures.value));
+      mark_before = sym (get_or-map (λ (t : Stream). t.mark) streams c.args.logger s 0 here ∙ ap (λ (t : Stream). t.mark)
+          (sym c.index_mut-stream.ensures.value));
       entries = entries;
       epochs = subst (All (λ (e : Entry). (s.mark < epoch_of e.tid) × (epoch_of e.tid ≤ c.floor-epoch.result - 1 + 1))) (sym entries)
           (λ k d h. (is.above k d h, up_to k d h));
