@@ -1,5 +1,5 @@
 -- What an engine is opened with.
-use Rattle.std.specs.Prelude.{◌≡◌, ℕ, ◌<◌, ◌≤◌, ◌^◌, List, [], length, replicate, All}
+use Rattle.std.specs.Prelude.{◌≡◌, ℕ, ◌<◌, ◌^◌, List, [], length, replicate, All}
 use Rattle.std.specs.Arc.{arc_value}
 use Rattle.atomic_table.specs.Seated.{TableId}
 use Rattle.tables.specs.Database.{Database}
@@ -9,7 +9,7 @@ use Rattle.cells.specs.Opening.{seen_all}
 use Rattle.encoding.specs.Newest.{AreFirst}
 use Rattle.board.specs.Seats.{BoardView}
 use Rattle.board.specs.Opening.{Opens}
-use Rattle.book.specs.declared.stream.Stream.{Stream}
+use Rattle.book.specs.declared.untaken.Untaken.{Untaken}
 use Rattle.book.specs.declared.engine.Parts.{Parts}
 
 -- the tables that a run of these parts begins with, how many commits made them, the seed of its population, its cells,
@@ -54,12 +54,13 @@ pub record IsRunOf (p : Parts) (first : Database) (past : ℕ) (cells : List Tab
   pub seed_is : population_seed p ≡ seed
 
 -- these are the streams of so many loggers, of which nothing was taken and nothing waits, at this mark
-pub record AreEmpty (loggers mark : ℕ) (streams : List Stream) : Type 0 where
+pub record AreEmpty (loggers mark : ℕ) (streams : List Untaken) : Type 0 where
   pub count : length streams ≡ loggers
-  pub empty : All (λ s. (s.taken ≡ 0) × (s.number ≡ 0) × (s.waiting.items ≡ []) × (s.mark ≡ mark)) streams
+  pub empty : All (λ s. (s.taken ≡ 0) × (s.last_taken ≡ 0) × (s.waiting.items ≡ []) × (s.mark ≡ mark)) streams
 
--- nothing has committed: the cells have the first versions, which each reader has seen, the ledger has a part a
--- terminal, and nobody has stepped on the board
+-- the run has no past and nothing has committed: the cells have the first versions, which each reader has seen, no
+-- terminal has a TID, the ledger has a part a terminal, nobody has stepped on the board, and of no logger's stream
+-- anything was taken. Both that have the population have the same
 pub record IsFresh (p : Parts) : Type 0 where
   pub lent : arc_value p.lent ≡ arc_value p.population
   pub newest : AreFirst (initial (arc_value p.population)) p.newest.items
@@ -72,5 +73,5 @@ pub record IsFresh (p : Parts) : Type 0 where
   pub parts : p.blank.parts ≡ length p.readers.items
   pub few : length p.readers.items < 2 ^ 16
   pub board : Opens p.board.plan (length p.readers.items) p.board p.seats
-  pub loggers : (0 < p.board.plan.loggers) × (p.board.plan.loggers ≤ 8)
+  pub loggers : (0 < p.board.plan.loggers) × (p.board.plan.loggers < 2 ^ 16)
   pub streams : AreEmpty p.board.plan.loggers p.board.plan.base p.streams.items

@@ -4,7 +4,7 @@ use crate::entry::Entry;
 use crate::history_rows::added_rows;
 use crate::run::Run;
 use crate::share::Share;
-use crate::stream::Stream;
+use crate::untaken::Untaken;
 use board::BookSeat;
 use cells::{Newest, Pen};
 use conditions::{Report, check};
@@ -30,7 +30,7 @@ pub struct Book<K: Run> {
     pub(crate) past: u32,
     pub(crate) newest: Vec<Newest>,
     pub(crate) history: Vec<Arc<Entry, Global>>,
-    pub(crate) streams: Vec<Stream>,
+    pub(crate) streams: Vec<Untaken>,
     pub(crate) lasts: Vec<TidWord>,
     pub(crate) shares: ledger::Book<K>,
     pub(crate) seat: BookSeat,
@@ -64,7 +64,7 @@ impl<K: Run> Model for Book<K> {
         × AreLast K.parts history b.lasts.items
         × (b.seat.board ≡ K.board) × HasCounted b.seat history
         × (seed_of (arc_value b.population) ≡ K.seed) × (b.past ≡ K.past)
-        × AreStreams K.board.plan.loggers (found_epoch b.seat) history b.streams.items };
+        × AreStreams K.board.plan (found_epoch b.seat) history b.streams.items };
 }
 
 impl<K: Run> Book<K> {

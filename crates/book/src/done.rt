@@ -9,7 +9,7 @@ use std::sync::Arc;
 use tables::Reply;
 use tidword::TidWord;
 
-/// What a terminal is told of a commit: its place in the history. Only a commit makes one.
+/// What a terminal is told of a commit: its number, TID and reply. Only a commit makes one.
 #[derive(Drop)]
 pub struct Done {
     entry: Arc<Entry, Global>,
@@ -34,7 +34,7 @@ impl Done {
         Done { entry }
     }
 
-    /// The commit number, from 1.
+    /// The commit number: from 1, in a run with no past.
     pub fn number(&self) -> u32
         ensures { result ≡ self.now.number }
     {

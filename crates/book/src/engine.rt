@@ -2,13 +2,13 @@
 ghost use Rattle.std.specs.Prelude.{◌≡◌, ◌<◌, ◌≤◌, ◌+◌, length, IfOk, IfErr, IfSome, IfNone};
 ghost use Rattle.std.specs.Arc.{arc_value};
 ghost use Rattle.money.specs.declared.refusal.Refusal.TheVariants.{OutOfMemory};
-ghost use Rattle.population.specs.Initial.{initial};
+ghost use Rattle.population.specs.Initial.{initial, seed_of};
 ghost use Rattle.tables.specs.Records.{record_count};
 ghost use Rattle.board.specs.declared.rule.Role.TheVariants.{Clock, Terminal};
 ghost use Rattle.board.specs.Seats.{new_seat};
 ghost use Rattle.board.specs.Opening.{logger_seats};
 ghost use Rattle.book.specs.Parts.{IsFresh, IsRunOf, AreEmpty, first_of, ledger_name, ledger_parts};
-ghost use Rattle.book.specs.Parts.{base_of, past_of, loggers_of, terminals_of};
+ghost use Rattle.book.specs.Parts.{base_of, past_of, population_seed, loggers_of, terminals_of};
 ghost use Rattle.book.specs.declared.engine.TheConstants.{MAX_LOGGERS as the_most_loggers};
 ghost use Rattle.book.specs.declared.engine.TheConstants.{MAX_TERMINALS as the_most_terminals};
 
@@ -17,7 +17,7 @@ use crate::entry::Entry;
 use crate::run::Run;
 use crate::share::Share;
 use crate::shared::shared;
-use crate::stream::Stream;
+use crate::untaken::Untaken;
 use board::{Board, BoardSeats, ClockSeat, LoggerSeat, TerminalSeat};
 use cells::{Cells, Newest, Pen, Reader};
 use encoding::newest_of;
@@ -37,7 +37,7 @@ pub struct Parts {
     past: u32,
     newest: Vec<Newest>,
     history: Vec<Arc<Entry, Global>>,
-    streams: Vec<Stream>,
+    streams: Vec<Untaken>,
     lasts: Vec<TidWord>,
     cells: Cells,
     pen: Pen,
@@ -47,9 +47,10 @@ pub struct Parts {
     seats: BoardSeats,
 }
 
-/// The most loggers, and the most terminals.
+/// The most loggers.
 pub const MAX_LOGGERS: u16 = 8;
 
+/// The most terminals.
 pub const MAX_TERMINALS: u16 = 16;
 
 impl Parts {
@@ -71,6 +72,7 @@ impl Parts {
         requires terminals { (0 < terminals) × (terminals ≤ the_most_terminals) }
         ensures fresh { IfOk result IsFresh }
         ensures first { IfOk result (λ parts. first_of parts ≡ initial population) }
+        ensures seed { IfOk result (λ parts. population_seed parts ≡ seed_of population) }
         ensures begins { IfOk result (λ parts. (base_of parts ≡ 0) × (past_of parts ≡ 0)) }
         ensures loggers { IfOk result (λ parts. loggers_of parts ≡ loggers) }
         ensures terminals { IfOk result (λ parts. terminals_of parts ≡ terminals) }
@@ -99,13 +101,13 @@ impl Parts {
 }
 
 /// The streams of loggers that have taken nothing. `OutOfMemory` is the only refusal.
-fn streams(alloc: Global, loggers: u16) -> Result<Vec<Stream>, Refusal>
+fn streams(alloc: Global, loggers: u16) -> Result<Vec<Untaken>, Refusal>
     ensures empty { IfOk result (λ streams. AreEmpty loggers 0 streams.items) }
     ensures only_memory { IfErr result (λ refusal. refusal ≡ OutOfMemory) }
 {
     let mut streams = Vec::new(alloc);
     for _ in 0..loggers {
-        streams.push(Stream::new(alloc, 0))?;
+        streams.push(Untaken::new(alloc, 0))?;
     }
     Ok(streams)
 }
@@ -122,7 +124,7 @@ pub struct Engine<K: Run> {
 
 impl<K: Run> Model for Engine<K> {
     ghost use Rattle.std.specs.Prelude.{◌≡◌, length};
-    ghost use Rattle.population.specs.Initial.{initial};
+    ghost use Rattle.population.specs.Initial.{initial, seed_of};
     ghost use Rattle.std.specs.Arc.{arc_value};
     ghost use Rattle.tables.specs.Records.{record_count};
 

@@ -7,7 +7,7 @@ use tidword::TidWord;
 /// A committed transaction as the history has it.
 #[derive(Drop)]
 pub struct Entry {
-    /// The commit number, from 1.
+    /// The commit number: from 1, in a run with no past.
     pub number: u32,
     /// Its TID, which the words of the versions that it stored have (Silo, section 4.2).
     pub tid: TidWord,

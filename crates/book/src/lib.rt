@@ -19,8 +19,8 @@ mod share;
 mod shared;
 mod shown;
 mod steps;
-mod stream;
 mod taking;
+mod untaken;
 
 pub use batch::Batch;
 pub use book::Book;

@@ -9,7 +9,7 @@ ghost use Rattle.tidword.specs.Lawful.{IsLawful, next};
 use crate::done::Done;
 use crate::entry::Entry;
 use crate::shared::shared;
-use crate::stream::Stream;
+use crate::untaken::Untaken;
 use money::Refusal;
 use readset::WriteSet;
 use std::alloc::Global;
@@ -46,7 +46,7 @@ pub(crate) struct Prepared {
 /// seen and the terminal's last, then `OutOfMemory`. History and stream are then as before.
 pub(crate) fn prepare(
     history: &mut Vec<Arc<Entry, Global>>,
-    stream: &mut Stream,
+    stream: &mut Untaken,
     place: Place,
     input: Input,
     reply: Reply,
@@ -68,7 +68,7 @@ pub(crate) fn prepare(
         made.done ≡ record { number = place.past + length history.old.items + 1; tid = made.tid; reply = reply }) }
     ensures below { OnOk result (place.past + length history.old.items < place.cap) }
     ensures history { history.new.items ≡ history.old.items }
-    ensures stream { (stream.new.taken ≡ stream.old.taken) × (stream.new.number ≡ stream.old.number)
+    ensures stream { (stream.new.taken ≡ stream.old.taken) × (stream.new.last_taken ≡ stream.old.last_taken)
         × (stream.new.waiting.items ≡ stream.old.waiting.items) × (stream.new.mark ≡ stream.old.mark) }
     ensures room { OnOk result ((vec_len history.new < vec_capacity history.new)
         × (vec_len stream.new.waiting < vec_capacity stream.new.waiting)) }

@@ -13,7 +13,8 @@ use board::Board;
 impl<K: Run> Book<K> {
     /// Takes what has committed of a logger's stream since the last take, for the logger to write outside the lock
     /// (Silo, section 4.10). The mark is E - 1, where E is the epoch that this call loads and stores as the logger's
-    /// floor: every later commit has this E or a later one, since it loads it later. Constant time, without memory.
+    /// floor: every later commit has this E or a later one, since it loads E after this call. Constant time, without
+    /// memory.
     pub fn take(&mut self, board: &Board, logger: u16) -> Batch
         requires board { board.now ≡ K.board }
         requires logger { logger < K.board.plan.loggers }
@@ -22,12 +23,12 @@ impl<K: Run> Book<K> {
         ensures later { found_epoch self.old.seat ≤ result.mark + 1 }
         ensures batch { IsBatchOf K.board.plan.loggers logger self.old result }
         ensures population { (result.scale ≡ K.first.scale) × (result.seed ≡ K.seed) }
-        ensures taken { IsTaken logger self.old result self.new }
+        ensures taken { IsTaken K.board.plan.loggers logger self.old result self.new }
     {
         let epoch = board.floor(&mut self.seat, u64::from(logger));
         let loggers = self.streams.len() as u16;
         let stream = &mut self.streams[logger as usize];
-        let (first, number_before, mark_before) = (stream.taken, stream.number, stream.mark);
+        let (first, number_before, mark_before) = (stream.taken, stream.last_taken, stream.mark);
         let mark = epoch - 1;
         let entries = stream.take(mark);
         Batch {

@@ -49,7 +49,7 @@ struct Turn {
 }
 
 /// A logger takes, keeps what it took, and publishes.
-fn turn<K: Run, R: Wait>(
+fn take_turn<K: Run, R: Wait>(
     rt: &R,
     engine: &Engine<K>,
     logger: &mut Logger,
@@ -117,10 +117,10 @@ impl<K: Run> Stage<K> {
         committed.map(|told| told.0)
     }
 
-    fn turns<R: Wait>(&mut self, rt: &R) -> (Option<Turn>, Option<Turn>) {
+    fn take_turns<R: Wait>(&mut self, rt: &R) -> Turns {
         (
-            turn(rt, &self.engine, &mut self.first, 0),
-            turn(rt, &self.engine, &mut self.second, 1),
+            take_turn(rt, &self.engine, &mut self.first, 0),
+            take_turn(rt, &self.engine, &mut self.second, 1),
         )
     }
 }
@@ -187,10 +187,10 @@ fn pay_in_two_epochs<K: Run, R: Wait>(
     stage.advance()?;
     stage.advance()?;
     stage.pay(rt, alloc)?;
-    let third = stage.turns(rt);
+    let third = stage.take_turns(rt);
     stage.advance()?;
     stage.pay(rt, alloc)?;
-    Ok((third, stage.turns(rt)))
+    Ok((third, stage.take_turns(rt)))
 }
 
 fn parts<R: Wait>(rt: &R, alloc: Global) -> Result<Parts, Refusal>

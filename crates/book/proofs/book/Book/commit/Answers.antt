@@ -18,11 +18,12 @@ use Rattle.readset.specs.Writes.{value_for}
 use Rattle.cells.proofs.Grown.{grown_twice}
 use Rattle.book.specs.Book.{BookView, AreLatest, IsSound, IsReadBy, Commits, HasSeen, entry_of}
 use Rattle.board.specs.Steps.{counted}
+use Rattle.board.specs.declared.rule.Plan.{Plan}
 use Rattle.board.specs.Seats.{BoardView, SeatView, noted}
 use Rattle.board.specs.declared.rule.WordStep.TheVariants.{LoadEpoch, CountCommit}
 use Rattle.book.specs.Epochs.{found_epoch, HasCounted}
 use Rattle.book.specs.Streams.{AreStreams}
-use Rattle.book.specs.declared.stream.Stream.{Stream}
+use Rattle.book.specs.declared.untaken.Untaken.{Untaken}
 use Rattle.book.specs.Ready.{IsReady, AreLast, AreNewest}
 use Rattle.book.specs.History.{replay, CommitsAt, new_versions}
 use Rattle.book.specs.Stamps.{last_of, tid_for}
@@ -48,7 +49,7 @@ use Rattle.book.proofs.book.Book.commit.Goals as goal
 capped : (t0 : Database) {p q : Population} {s : Sizes} {n : ℕ} → n ≡ s.commits → s ≡ (initial p).scale → p ≡ q → initial q ≡ t0 → n ≡ t0.scale.commits
 capped t0 a b d e = a ∙ ap (λ (s : Sizes). s.commits) (b ∙ ap (λ (r : Population). (initial r).scale) d ∙ ap (λ (t : Database). t.scale) e)
 
-abbrev kept : PenView → List Entry → SeatView → List Stream → BookView
+abbrev kept : PenView → List Entry → SeatView → List Untaken → BookView
 kept pen history seat streams = record {
   written = pen;
   history = history;
@@ -106,8 +107,8 @@ within : (past n cap : ℕ) → past + n < cap → n < cap
 within past n cap h = omega (arith, h)
 
 -- there are as many streams as loggers
-many : {loggers epoch : ℕ} {history : List Entry} (streams : List Stream) (n : ℕ) → n ≡ length streams → AreStreams loggers epoch history streams
-    → n ≡ loggers
+many : {plan : Plan} {epoch : ℕ} {history : List Entry} (streams : List Untaken) (n : ℕ) → n ≡ length streams → AreStreams plan epoch history streams
+    → n ≡ plan.loggers
 many streams n is are = is ∙ are.count
 
 conflict_not_full : Conflict ≢ EpochFull
@@ -116,18 +117,18 @@ conflict_not_full h = cc
 -- what the type of the book keeps, of its pen, its history, its seat and its streams
 abbrev Keeps : (t0 lent : Database) (run_cells : List TableId) (run : BoardView) (seed seed_lent past past_here parts total : ℕ) (newest : List Newest)
     (lasts : List ℕ)
-    → PenView × List Entry × SeatView × List Stream → Type 0
+    → PenView × List Entry × SeatView × List Untaken → Type 0
 Keeps t0 lent run_cells run seed seed_lent past past_here parts total newest lasts q = IsSound past t0 q.0 q.1 (replay t0 q.1)
     × IsReady past t0 run_cells (found_epoch q.2) q.0 q.1 (replay t0 q.1)
     × AreNewest q.0 newest × (lent ≡ t0) × (total ≡ length q.1) × AreLast parts q.1 lasts × (q.2.board ≡ run) × HasCounted q.2 q.1
-    × (seed_lent ≡ seed) × (past_here ≡ past) × AreStreams run.plan.loggers (found_epoch q.2) q.1 q.3
+    × (seed_lent ≡ seed) × (past_here ≡ past) × AreStreams run.plan (found_epoch q.2) q.1 q.3
 
 pub invariant_of-self : goal.invariant_of-self
 invariant_of-self g c =
     let kept = c.self.invariant in
     let seat = c.self.inside.seat in
     let ready = ready_loaded seat kept.6 c.requires.board c.epoch-epoch.ensures.later kept.1 in
-    let streams = streams_later g.K.Run.board.plan.loggers (found_epoch seat) c.epoch-epoch.result (map arc_value c.self.inside.history.items)
+    let streams = streams_later g.K.Run.board.plan (found_epoch seat) c.epoch-epoch.result (map arc_value c.self.inside.history.items)
     c.self.inside.streams.items (found_later seat kept.6 c.requires.board c.epoch-epoch.ensures.later) kept.10 in
     subst (Keeps g.K.Run.first (initial (arc_value c.self.inside.population)) g.K.Run.cells g.K.Run.board g.K.Run.seed
     (seed_of (arc_value c.self.inside.population)) g.K.Run.past c.self.inside.past g.K.Ledger.parts c.self.inside.shares.total c.self.inside.newest.items
@@ -143,10 +144,10 @@ invariant_of-self-in-Err g c =
     let ready = ready_loaded seat kept.6 c.requires.board c.epoch-epoch.ensures.later kept.1 in
     let count : c.len.result ≡ g.K.Run.board.plan.loggers = many streams c.len.result (search rules) kept.10 in
     let same = c.prepare.ensures.stream in
-    let reserved = streams_reserved g.K.Run.board.plan.loggers (found_epoch seat) c.epoch-epoch.result c.len.result c.share.inside.terminal
+    let reserved = streams_reserved g.K.Run.board.plan (found_epoch seat) c.epoch-epoch.result c.len.result c.share.inside.terminal
     (map arc_value c.self.inside.history.items) streams c.index_mut-stream.result.now
     (found_later seat kept.6 c.requires.board c.epoch-epoch.ensures.later) count kept.10 c.index_mut-stream.ensures.value c.prepare.new.stream
-    (record { taken = same.0; number = same.1; waiting = same.2; mark = same.3 }) in
+    (record { taken = same.0; last_taken = same.1; waiting = same.2; mark = same.3 }) in
     subst (Keeps g.K.Run.first (initial (arc_value c.self.inside.population)) g.K.Run.cells g.K.Run.board g.K.Run.seed
     (seed_of (arc_value c.self.inside.population)) g.K.Run.past c.self.inside.past g.K.Ledger.parts c.self.inside.shares.total c.self.inside.newest.items
     c.self.inside.lasts.items)
@@ -262,7 +263,7 @@ invariant_of-self-2 g c =
     ap (map arc_value) c.push_reserved.ensures.items ∙ map-append arc_value c.prepare.new.history.items (c.in-Ok.prepared.entry ∷ [])
     ∙ (λ i. map arc_value (c.prepare.ensures.history i) ++ entry i ∷ []) in
     let count : c.len.result ≡ g.K.Run.board.plan.loggers = many c.self.inside.streams.items c.len.result (search rules) c.self.invariant.10 in
-    let added = streams_added g.K.Run.board.plan.loggers (found_epoch c.self.inside.seat) c.epoch-epoch.result c.len.result c.share.inside.terminal
+    let added = streams_added g.K.Run.board.plan (found_epoch c.self.inside.seat) c.epoch-epoch.result c.len.result c.share.inside.terminal
     items c.self.inside.streams.items c.index_mut-stream.result.now
     (found_later c.self.inside.seat c.self.invariant.6 c.requires.board c.epoch-epoch.ensures.later) count c.self.invariant.10
     c.index_mut-stream.ensures.value c.add.new.self (entry_of (g.K.Run.past + length items + 1) c.in-Ok.prepared.tid c.share.inside.terminal c.args.work) refl
@@ -295,7 +296,7 @@ invariant_of-self-2 g c =
           c.in-Ok.ensures.lawful.in_epoch),
       c.self.invariant.8,
       c.self.invariant.9,
-      subst (λ (q : SeatView × List Entry). AreStreams g.K.Run.board.plan.loggers (found_epoch q.0) q.1
+      subst (λ (q : SeatView × List Entry). AreStreams g.K.Run.board.plan (found_epoch q.0) q.1
           (slice_set c.self.inside.streams.items (c.share.inside.terminal % c.len.result) c.add.new.self)) (λ i. (sym seat i, sym history i)) added,
     )
 

@@ -1,4 +1,4 @@
-use Rattle.std.proofs.Common.{◌≡◌, ℕ, ◌+◌, ◌-◌, ◌<◌, ◌≤◌, ◌^◌, List, All, length, map, drop, refl, sym, ap, ◌∙◌, subst, arith, rules}
+use Rattle.std.proofs.Common.{◌≡◌, ℕ, ◌+◌, ◌-◌, ◌<◌, ◌≤◌, ◌^◌, All, length, map, drop, refl, sym, ap, ◌∙◌, subst, arith, rules}
 use Rattle.std.proofs.lemmas.List.{get_or-map, length-map, length-drop}
 use lib.Seq.{map-set}
 use Rattle.std.proofs.lemmas.List.Elements.{All-drop, All-filter, All-weaker}
@@ -14,18 +14,21 @@ use Rattle.book.specs.Book.{BookView}
 use Rattle.book.specs.Streams.{stream, AreStreams}
 use Rattle.book.specs.Batches.{IsBatchOf}
 use Rattle.book.specs.declared.entry.Entry.{Entry}
-use Rattle.book.specs.declared.stream.Stream.{Stream}
+use Rattle.book.specs.declared.untaken.Untaken.{Untaken}
 use Rattle.book.proofs.Loaded.{found_later, ready_loaded}
-use Rattle.book.proofs.Streams.{found, streams_later, stream_set, stream_taken, stream_within}
+use Rattle.book.proofs.Streams.{all_of, found, streams_later, stream_set, stream_taken, stream_within}
 use Rattle.book.proofs.book.Book.take.Goals as goal
 
 begun : (mark seen epoch : ℕ) → mark < seen → seen ≤ epoch → (1 ≤ epoch) × (mark ≤ epoch - 1) × (epoch - 1 < epoch) × (epoch - 1 + 1 ≡ epoch)
 begun mark seen epoch p q = (omega (arith, p, q), omega (arith, p, q), omega (arith, p, q), omega (arith, p, q))
 
+at_least : (a b n : ℕ) → a ≤ b → b ≤ n → a ≤ n
+at_least a b n p q = omega (arith, p, q)
+
 pub overflow_sub-mark : goal.overflow_sub-mark
 overflow_sub-mark g c =
     let i = c.self.invariant in
-    let is = found g.K.Run.board.plan.loggers (found_epoch c.self.inside.seat) c.args.logger (map arc_value c.self.inside.history.items)
+    let is = found g.K.Run.board.plan (found_epoch c.self.inside.seat) c.args.logger (map arc_value c.self.inside.history.items)
     c.self.inside.streams.items c.index_mut-stream.result.now i.10 c.requires.logger c.index_mut-stream.ensures.value in
     (begun c.index_mut-stream.result.now.mark (found_epoch c.self.inside.seat) c.floor-epoch.result is.mark
     (found_later c.self.inside.seat i.6 c.requires.board c.floor-epoch.ensures.later)).0
@@ -38,10 +41,11 @@ few past a b d e f = omega (arith, a, b, d, e, f)
 pub take-entries-requires : goal.take-entries-requires
 take-entries-requires g c =
     let i = c.self.invariant in
-    let loggers = g.K.Run.board.plan.loggers in
+    let plan = g.K.Run.board.plan in
+    let loggers = plan.loggers in
     let history = map arc_value c.self.inside.history.items in
     let s = c.index_mut-stream.result.now in
-    let is = found loggers (found_epoch c.self.inside.seat) c.args.logger history c.self.inside.streams.items s i.10 c.requires.logger
+    let is = found plan (found_epoch c.self.inside.seat) c.args.logger history c.self.inside.streams.items s i.10 c.requires.logger
     c.index_mut-stream.ensures.value in
     few g.K.Run.past is.taken (sym (length-map s.waiting.items arc_value) ∙ ap length is.waiting ∙ length-drop s.taken (stream loggers c.args.logger history))
     (stream_within loggers c.args.logger history) i.1.cap i.1.few
@@ -50,21 +54,23 @@ pub invariant_of-self : goal.invariant_of-self
 invariant_of-self g c =
     let i = c.self.invariant in
     let t0 = g.K.Run.first in
-    let loggers = g.K.Run.board.plan.loggers in
+    let plan = g.K.Run.board.plan in
+    let loggers = plan.loggers in
     let seat = c.self.inside.seat in
     let epoch = c.floor-epoch.result in
     let history = map arc_value c.self.inside.history.items in
     let streams = c.self.inside.streams.items in
     let s = c.index_mut-stream.result.now in
     let later = found_later seat i.6 c.requires.board c.floor-epoch.ensures.later in
-    let is = found loggers (found_epoch seat) c.args.logger history streams s i.10 c.requires.logger c.index_mut-stream.ensures.value in
+    let is = found plan (found_epoch seat) c.args.logger history streams s i.10 c.requires.logger c.index_mut-stream.ensures.value in
     let mark = begun s.mark (found_epoch seat) epoch is.mark later in
     let step = c.floor-epoch.ensures.step in
     let left = c.take-entries.ensures in
-    let taken = stream_set loggers epoch history history streams c.args.logger c.take-entries.new.self
-    (streams_later loggers (found_epoch seat) epoch history streams later i.10) c.requires.logger (λ k _. refl)
-    (stream_taken (found_epoch seat) epoch (epoch - 1) (stream loggers c.args.logger history) s c.take-entries.new.self is mark.2
-    left.taken left.number left.mark left.waiting) in (
+    let taken = stream_set plan epoch history history streams c.args.logger c.take-entries.new.self
+    (streams_later plan (found_epoch seat) epoch history streams later i.10) c.requires.logger (λ k _. refl)
+    (stream_taken plan.base (found_epoch seat) epoch (epoch - 1) (stream loggers c.args.logger history) s c.take-entries.new.self is
+    (at_least plan.base s.mark (epoch - 1) is.least mark.1) mark.2
+    left.taken left.last_taken left.mark left.waiting) in (
       i.0,
       subst (λ (q : SeatView). IsReady g.K.Run.past t0 g.K.Run.cells (found_epoch q) c.self.inside.pen (map arc_value c.self.inside.history.items)
           (replay t0 (map arc_value c.self.inside.history.items))) (sym step)
@@ -77,20 +83,21 @@ invariant_of-self g c =
       subst (λ (q : SeatView). HasCounted q (map arc_value c.self.inside.history.items)) (sym step) i.7,
       i.8,
       i.9,
-      subst (λ (q : SeatView). AreStreams g.K.Run.board.plan.loggers (found_epoch q) (map arc_value c.self.inside.history.items)
+      subst (λ (q : SeatView). AreStreams g.K.Run.board.plan (found_epoch q) (map arc_value c.self.inside.history.items)
           (slice_set c.self.inside.streams.items c.args.logger c.take-entries.new.self)) (sym step) taken,
     )
 
 pub returns-clause-batch : goal.returns-clause-batch
 returns-clause-batch g c =
     let i = c.self.invariant in
-    let loggers = g.K.Run.board.plan.loggers in
+    let plan = g.K.Run.board.plan in
+    let loggers = plan.loggers in
     let seat = c.self.inside.seat in
     let history = map arc_value c.self.inside.history.items in
     let streams = c.self.inside.streams.items in
     let s = c.index_mut-stream.result.now in
     let later = found_later seat i.6 c.requires.board c.floor-epoch.ensures.later in
-    let is = found loggers (found_epoch seat) c.args.logger history streams s i.10 c.requires.logger c.index_mut-stream.ensures.value in
+    let is = found plan (found_epoch seat) c.args.logger history streams s i.10 c.requires.logger c.index_mut-stream.ensures.value in
     let mark = begun s.mark (found_epoch seat) c.floor-epoch.result is.mark later in
     let here : c.args.logger < length streams = subst (λ n. c.args.logger < n) (sym i.10.count) c.requires.logger in
     let count : c.len-loggers.result ≡ length streams = search rules in
@@ -107,17 +114,19 @@ returns-clause-batch g c =
       scale = c.scale.result;
       seed = c.seed.result;
       first = c.index_mut-stream.result.now.taken;
-      number_before = c.index_mut-stream.result.now.number;
+      number_before = c.index_mut-stream.result.now.last_taken;
       mark_before = c.index_mut-stream.result.now.mark;
       entries = c.take-entries.result;
       mark = c.floor-epoch.result - 1;
     })) c.self.view_is (record {
       logger_is = refl;
       loggers_are = count ∙ i.10.count;
-      first = sym (get_or-map (λ (t : Stream). t.taken) streams c.args.logger s 0 here ∙ ap (λ (t : Stream). t.taken) (sym c.index_mut-stream.ensures.value));
+      places = length-map streams (λ (t : Untaken). t.taken) ∙ i.10.count;
+      marks = length-map streams (λ (t : Untaken). t.mark) ∙ i.10.count;
+      first = sym (get_or-map (λ (t : Untaken). t.taken) streams c.args.logger s 0 here ∙ ap (λ (t : Untaken). t.taken) (sym c.index_mut-stream.ensures.value));
       within = is.taken;
-      number_before = is.number;
-      mark_before = sym (get_or-map (λ (t : Stream). t.mark) streams c.args.logger s 0 here ∙ ap (λ (t : Stream). t.mark)
+      number_before = is.last_taken;
+      mark_before = sym (get_or-map (λ (t : Untaken). t.mark) streams c.args.logger s 0 here ∙ ap (λ (t : Untaken). t.mark)
           (sym c.index_mut-stream.ensures.value));
       entries = entries;
       epochs = subst (All (λ (e : Entry). (s.mark < epoch_of e.tid) × (epoch_of e.tid ≤ c.floor-epoch.result - 1 + 1))) (sym entries)
@@ -129,14 +138,21 @@ returns-clause-batch g c =
     at_most n seen epoch p q r = omega (arith, p, q, r)
 
 pub returns-clause-taken : goal.returns-clause-taken
-returns-clause-taken g c = record {
-  written = ap (λ (q : BookView). q.written) c.self.view_is;
-  history = ap (λ (q : BookView). q.history) c.self.view_is;
-  taken = map-set (λ (t : Stream). t.taken) c.self.inside.streams.items c.args.logger c.take-entries.new.self
-      ∙ (λ i. slice_set (c.self.view_is i).taken c.args.logger (all i));
-  marks = map-set (λ (t : Stream). t.mark) c.self.inside.streams.items c.args.logger c.take-entries.new.self
-      ∙ (λ i. slice_set (c.self.view_is i).marks c.args.logger (c.take-entries.ensures.mark i));
-}
-  where
-    all : c.take-entries.new.self.taken ≡ c.index_mut-stream.result.now.taken + length c.take-entries.result.items
-    all = c.take-entries.ensures.taken ∙ ap (λ (es : List _). c.index_mut-stream.result.now.taken + length es) (sym c.take-entries.ensures.entries)
+returns-clause-taken g c =
+    let i = c.self.invariant in
+    let plan = g.K.Run.board.plan in
+    let streams = c.self.inside.streams.items in
+    let history = map arc_value c.self.inside.history.items in
+    let s = c.index_mut-stream.result.now in
+    let is = found plan (found_epoch c.self.inside.seat) c.args.logger history streams s i.10 c.requires.logger c.index_mut-stream.ensures.value in
+    let all = c.take-entries.ensures.taken
+    ∙ all_of plan.base (found_epoch c.self.inside.seat) (stream plan.loggers c.args.logger history) s is in
+    record {
+      written = ap (λ (q : BookView). q.written) c.self.view_is;
+      history = ap (λ (q : BookView). q.history) c.self.view_is;
+      taken = map-set (λ (t : Untaken). t.taken) streams c.args.logger c.take-entries.new.self
+          ∙ ap (slice_set (map (λ (t : Untaken). t.taken) streams) c.args.logger) all
+          ∙ ap (λ (q : BookView). slice_set q.taken c.args.logger (length (stream g.K.Run.board.plan.loggers c.args.logger q.history))) c.self.view_is;
+      marks = map-set (λ (t : Untaken). t.mark) streams c.args.logger c.take-entries.new.self
+          ∙ (λ j. slice_set (c.self.view_is j).marks c.args.logger (c.take-entries.ensures.mark j));
+    }

@@ -53,9 +53,9 @@ invariant_of-book g c =
       subst (λ (q : SeatView × List Entry). HasCounted q.0 q.1) (λ i. (sym fresh.board.book i, sym none i)) refl,
       ap seed_of fresh.lent ∙ c.requires.run.seed_is,
       c.requires.run.past_is,
-      subst (λ (q : BoardView × SeatView × List Entry). AreStreams q.0.plan.loggers (found_epoch q.1) q.2 c.args.parts.streams.items)
+      subst (λ (q : BoardView × SeatView × List Entry). AreStreams q.0.plan (found_epoch q.1) q.2 c.args.parts.streams.items)
           (λ i. (c.requires.run.board_is i, sym fresh.board.book i, sym none i))
-          (first_streams parts.board.plan.loggers parts.board.plan.base parts.streams.items fresh.loggers.0 fresh.loggers.1 fresh.streams),
+          (first_streams parts.board.plan parts.streams.items fresh.loggers.0 fresh.loggers.1 fresh.streams),
     )
 
 pub invariant_of-terminals : goal.invariant_of-terminals

@@ -3,7 +3,7 @@ use Rattle.std.proofs.lemmas.List.{get_or-map, length-map}
 use Rattle.std.specs.Arc.{arc_value}
 use Rattle.book.specs.declared.entry.Entry.{Entry}
 use Rattle.book.proofs.Streams.{last_at}
-use Rattle.book.proofs.stream.last_number.Goals as goal
+use Rattle.book.proofs.untaken.last_number.Goals as goal
 
 before : (n : ℕ) → 0 < n → n - 1 < n
 before n h = omega (arith, h)
@@ -17,4 +17,4 @@ returns-in-Some c =
     let is : c.deref.result.now ≡ slice_index_or entries (length arcs - 1) c.deref.result.now = c.deref.ensures ∙ ap arc_value (last.1 c.in-Some.entry.now)
     ∙ sym (get_or-map arc_value arcs (length arcs - 1) c.in-Some.entry.now c.deref.result.now (before (length arcs) last.0)) in
     ap (λ (e : Entry). e.number) is ∙ (λ i. (slice_index_or entries (sym (length-map arcs arc_value) i - 1) c.deref.result.now).number)
-    ∙ last_at c.args.none entries c.deref.result.now some
+    ∙ last_at c.args.before entries c.deref.result.now some
