@@ -41,10 +41,10 @@ impl<K: Run> Book<K> {
     ///
     /// # Errors
     ///
-    /// `Conflict` exactly where a version read isn't its record's latest; then `CommitsFull` exactly at the commit
-    /// cap; then `EpochFull` exactly where `next_tid` has no TID, which doesn't happen: the commit cap comes first;
-    /// then `OutOfMemory`. A refusal drops the work, and records, history, streams and share are as before; the reader may have
-    /// seen more, and the book's seat has loaded E.
+    /// `Conflict` exactly where a version read isn't its record's latest; then `CommitsFull` exactly at the commit cap;
+    /// then `EpochFull` exactly where `next_tid` has no TID, which doesn't happen: the commit cap comes first; then
+    /// `OutOfMemory`. A refusal drops the work, and records, history, streams and share are as before; the reader may
+    /// have seen more, and the book's seat has loaded E.
     pub fn commit<R: Wait>(
         &mut self,
         rt: &R,

@@ -41,9 +41,9 @@ pub const MAX_LINES: u32 = 4_000_000_000;
 /// What is written is the text of a whole script of the bytes that the reader has, in whatever pieces they
 /// come, and what is returned is that script's report and its commits in order (`specs/Written.antt`).
 ///
-/// What was answered is written before each read, so it is out before a read can wait. Memory beside the
-/// population is the engine's (a cell and a newest version a record, and for each commit an entry with its writes
-/// and its places in history and stream), one piece and its answers, a [`Done`] for each commit, and, at the end, the report's sums by
+/// What was answered is written before each read, so it is out before a read can wait. Memory beside the population is
+/// the engine's (a cell and a newest version a record, and for each commit an entry with its writes and its places in
+/// history and stream), one piece and its answers, a [`Done`] for each commit, and, at the end, the report's sums by
 /// customer.
 ///
 /// Refuses by `Device` where the reader or the writer fails, or comes to no end in 2^64 - 1 calls, by `BadInput`

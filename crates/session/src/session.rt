@@ -22,9 +22,8 @@ use std::marker::Model;
 use std::sync::{MutexGuard, Wait};
 use tables::Input;
 
-/// The one terminal of an engine whose run has no past. It has the book for as long as it lasts, since no other terminal
-/// waits for it.
-/// Contracts see the book's history, and what the terminal was told.
+/// The one terminal of an engine whose run has no past. It has the book for as long as it lasts, since no other
+/// terminal waits for it. Contracts see the book's history, and what the terminal was told.
 #[derive(Drop)]
 pub struct Session<'e, K: Run> {
     alloc: Global,
