@@ -76,7 +76,7 @@ many-takes : {A : Type 0} {ta : A → List ℕ} {read : Reader A} {FA : A → Ty
     → IsBytes bytes → many n read bytes ≡ Some x → (bytes ≡ flat_map ta x.0 ++ x.1) × ((length x.0 ≡ n) × AllByRecursion FA x.0)
 unfolding many
 many-takes {A} {ta} {read} {FA} c zero bytes x h e =
-    let same : (let none : List A × List ℕ = ([], bytes) in none) ≡ x = cc in
+    let same : ◌≡◌ {A = List A × List ℕ} ([], bytes) x = cc in
     subst (λ (y : List A × List ℕ). (bytes ≡ flat_map ta y.0 ++ y.1) × ((length y.0 ≡ 0) × AllByRecursion FA y.0)) same (refl, (refl, tt))
 many-takes {A} {ta} {read} {FA} c (suc n) bytes x h e =
     let p = and_then_some (λ (a : A × List ℕ). option_map (λ (others : List A × List ℕ). (a.0 ∷ others.0, others.1)) (many n read a.1)) (read bytes) x e in

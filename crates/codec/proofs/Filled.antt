@@ -1,5 +1,5 @@
 -- Values of one codec up to the last byte.
-use Rattle.std.proofs.Common.{◌≡◌, ℕ, zero, suc, ◌<◌, ◌≤◌, List, [], ◌∷◌, ◌++◌, length, refl, sym, ap, ◌∙◌, subst, Option, Some, None, arith}
+use Rattle.std.proofs.Common.{◌≡◌, ℕ, zero, suc, ◌<◌, ◌≤◌, List, [], ◌∷◌, ◌++◌, length, refl, ap, ◌∙◌, subst, Some, arith}
 use Rattle.std.proofs.lemmas.List.{length-append}
 use Rattle.std.specs.Prelude.{flat_map}
 use Rattle.std.specs.List.{AllByRecursion}
@@ -7,14 +7,14 @@ use Rattle.std.specs.Option.{option_map, option_and_then}
 use Rattle.codec.specs.Numbers.{Reader, IsBytes}
 use Rattle.codec.specs.Readers.{filled}
 use Rattle.codec.specs.Codec.{IsCodec}
-use Rattle.codec.proofs.Codecs.{and_then_some, map_some, Takes, taken}
+use Rattle.codec.proofs.Codecs.{and_then_some, map_some, taken}
 
 -- bytes that are filled are the texts of what is read, and all of it fits
 pub filled_takes : {A : Type 0} {ta : A → List ℕ} {read : Reader A} {FA : A → Type 0} → IsCodec ta read FA → (n : ℕ) (bytes : List ℕ) (xs : List A)
     → IsBytes bytes → filled read bytes n ≡ Some xs → (bytes ≡ flat_map ta xs) × AllByRecursion FA xs
 unfolding filled
 filled_takes {A} {ta} {read} {FA} c n [] xs h e =
-    let same : (let none : List A = [] in none) ≡ xs = cc in
+    let same : ◌≡◌ {A = List A} [] xs = cc in
     subst (λ (ys : List A). ([] ≡ flat_map ta ys) × AllByRecursion FA ys) same (refl, tt)
 filled_takes c zero (b ∷ bs) xs h e = absurd cc
 filled_takes {A} {ta} {read} {FA} c (suc n) (b ∷ bs) xs h e =

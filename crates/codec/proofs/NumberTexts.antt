@@ -1,10 +1,10 @@
 -- The bytes of a number and the number in bytes.
 use Rattle.std.proofs.Common.{◌≡◌, ℕ, zero, suc, ◌+◌, ◌*◌, ◌/◌, ◌%◌, ◌^◌, ◌<◌, ◌≤◌, true, false, List, [], ◌∷◌, ◌++◌, length, take, drop, refl}
-use Rattle.std.proofs.Common.{sym, ap, ◌∙◌, subst, get_or, Option, Some, None, arith}
+use Rattle.std.proofs.Common.{sym, ap, ◌∙◌, subst, Some, None, arith}
 use Rattle.std.specs.Prelude.{nat_lt, if◌then◌else◌}
-use Rattle.std.proofs.Math.Nat.{div-div-eq-div-mul, pow-succ', div-one}
+use Rattle.std.proofs.Math.Nat.{div-div-eq-div-mul, pow-succ'}
 use Rattle.std.proofs.Math.Seq.{drop-append_seam}
-use Rattle.std.proofs.lemmas.Bool.{ltb-false, ltb-true, le-ltb}
+use Rattle.std.proofs.lemmas.Bool.{ltb-false, le-ltb}
 use Rattle.std.proofs.lemmas.List.{take-append-drop, length-append, get_or-append-add}
 use Rattle.std.specs.Int.{byte_at, bytes_low_first}
 use Rattle.byteorder.specs.Endian.{little_from}
@@ -67,9 +67,10 @@ number-number_at width bytes x is e =
     ] refl e
   where
     found : width ≤ length bytes → (little_from 0 width bytes, drop width bytes) ≡ x → (bytes ≡ bytes_low_first 0 width x.0 ++ x.1) × (x.0 < 256 ^ width)
-    found enough same = subst (λ (y : ℕ × List ℕ). (bytes ≡ bytes_low_first 0 width y.0 ++ y.1) × (y.0 < 256 ^ width)) same
-        (sym (take-append-drop width bytes) ∙ ap (λ (front : List ℕ). front ++ drop width bytes) (sym (bytes_of_number width bytes enough is)),
-         little_from-lt 0 width bytes is)
+    found enough same = subst (λ (y : ℕ × List ℕ). (bytes ≡ bytes_low_first 0 width y.0 ++ y.1) × (y.0 < 256 ^ width)) same (
+      sym (take-append-drop width bytes) ∙ ap (λ (front : List ℕ). front ++ drop width bytes) (sym (bytes_of_number width bytes enough is)),
+      little_from-lt 0 width bytes is,
+    )
 
 -- a number and its reader are a codec
 pub codec-number : (width : ℕ) → IsCodec (number width) (number_at width) (λ n. n < 256 ^ width)
