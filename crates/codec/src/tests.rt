@@ -26,34 +26,34 @@ fn read(bytes: &[u8]) -> Option<(u8, u16, u32, u64, usize)> {
 fn numbers_have_their_lowest_byte_first(rt: HostRuntime) -> Result<(), Fail> {
     let bytes = written(rt.alloc(), 1, 256, 0x0102_0304, u64::MAX)?;
     let expected = [1, 0, 1, 4, 3, 2, 1, 255, 255, 255, 255, 255, 255, 255, 255];
-    assert_eq!(rt; bytes.as_slice(), expected.as_slice());
-    assert_eq!(rt; read(&bytes), Some((1, 256, 0x0102_0304, u64::MAX, 0)));
+    assert!(rt; bytes.as_slice() == expected.as_slice());
+    assert!(rt; read(&bytes) == Some((1, 256, 0x0102_0304, u64::MAX, 0)));
     Ok(())
 }
 
 #[test]
 fn the_largest_numbers_are_read_back(rt: HostRuntime) -> Result<(), Fail> {
     let bytes = written(rt.alloc(), u8::MAX, 65_535, u32::MAX, 256)?;
-    assert_eq!(rt; read(&bytes), Some((u8::MAX, 65_535, u32::MAX, 256, 0)));
+    assert!(rt; read(&bytes) == Some((u8::MAX, 65_535, u32::MAX, 256, 0)));
     Ok(())
 }
 
 #[test]
 fn a_number_leaves_what_stands_behind_it(rt: HostRuntime) -> Result<(), Fail> {
     let bytes = [1, 2, 3, 4, 5, 6, 7, 8, 9];
-    assert_eq!(rt; u8_at(&bytes), Some((1, &bytes[1..])));
-    assert_eq!(rt; u16_at(&bytes), Some((0x0201, &bytes[2..])));
-    assert_eq!(rt; u32_at(&bytes), Some((0x0403_0201, &bytes[4..])));
-    assert_eq!(rt; u64_at(&bytes), Some((0x0807_0605_0403_0201, &bytes[8..])));
+    assert!(rt; u8_at(&bytes) == Some((1, &bytes[1..])));
+    assert!(rt; u16_at(&bytes) == Some((0x0201, &bytes[2..])));
+    assert!(rt; u32_at(&bytes) == Some((0x0403_0201, &bytes[4..])));
+    assert!(rt; u64_at(&bytes) == Some((0x0807_0605_0403_0201, &bytes[8..])));
     Ok(())
 }
 
 #[test]
 fn too_few_bytes_are_no_number(rt: HostRuntime) -> Result<(), Fail> {
     let bytes = [255; 7];
-    assert_eq!(rt; u8_at(&bytes[..0]), None);
-    assert_eq!(rt; u16_at(&bytes[..1]), None);
-    assert_eq!(rt; u32_at(&bytes[..3]), None);
-    assert_eq!(rt; u64_at(&bytes), None);
+    assert!(rt; u8_at(&bytes[..0]).is_none());
+    assert!(rt; u16_at(&bytes[..1]).is_none());
+    assert!(rt; u32_at(&bytes[..3]).is_none());
+    assert!(rt; u64_at(&bytes).is_none());
     Ok(())
 }
