@@ -18,8 +18,8 @@ many zero read bytes = Some ([], bytes)
 many (suc n) read bytes =
     option_and_then (λ a. option_map (λ others. (a.0 ∷ others.0, others.1)) (many n read a.1)) (read bytes)
 
--- values one behind the other up to the last byte, at most so many; None where bytes are left that are none, or after
--- that many. The number of bytes is enough where a value has one at least
+-- values one behind the other up to the last byte; None where what is left begins with no value, or where bytes are
+-- left after so many values. Where each value has a byte, the number of bytes is enough
 unfoldable pub filled : {A : Type 0} → Reader A → List ℕ → ℕ → Option (List A)
 filled read [] n = Some []
 filled read (b ∷ bs) zero = None
