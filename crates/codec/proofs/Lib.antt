@@ -1,0 +1,3 @@
+pub mod NumberTexts
+pub mod Codecs
+pub mod Filled
