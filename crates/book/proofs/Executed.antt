@@ -2,17 +2,20 @@
 use Rattle.std.proofs.Common.{◌≡◌, ℕ, ◌<◌, Some, List, [], length, sym, subst}
 use Rattle.atomic_table.specs.Seated.{TableId}
 use Rattle.tables.specs.Database.{Database}
+use Rattle.tables.specs.Constant.{IsOf}
 use Rattle.tables.specs.Inputs.{IsInput}
+use Rattle.tables.specs.Conditions.{IsConsistent}
+use Rattle.tables.specs.WellFormed.{IsWellFormed}
 use Rattle.tables.specs.declared.input.Input.{Input}
 use Rattle.tables.specs.declared.reply.Reply.{Reply}
 use Rattle.cells.specs.Records.{ReaderView}
 use Rattle.cells.specs.declared.cells.Version.{Version}
 use Rattle.readset.specs.Reads.{ReadSetView, AreRead, held}
-use Rattle.readset.specs.Explains.{Explains, IsWithinLimits}
+use Rattle.readset.specs.Explains.{Explains, Agrees, IsWithinLimits}
 use Rattle.readset.specs.Writes.{WriteSetView}
+use Rattle.readset.specs.Commit.{IsCommitOf}
 use Rattle.readset.specs.declared.work.Work.{Work}
 use Rattle.book.specs.Book.{IsReadBy, IsWorkOf}
-use Rattle.book.specs.Decided.{ExplainsWhereConsistent}
 
 read_by : (cells : ℕ) (old new : ReaderView) (reads : ReadSetView) → ((n : ℕ) (v : Version) → held reads n ≡ Some v → n < cells) → AreRead old new reads
     → IsReadBy cells new reads
@@ -24,7 +27,7 @@ read_by cells old new reads within read = record {
 
 -- consistent tables have the conditions of each district that was read
 pub explains_where_consistent : (t0 : Database) (x : Input) (reads : ReadSetView) (writes : WriteSetView) (reply : Reply) → Explains t0 x reads writes reply
-    → ExplainsWhereConsistent t0 x reads writes reply
+    → (t : Database) → IsOf t0 t → IsWellFormed t → IsConsistent t → Agrees t reads → IsCommitOf t x writes reply
 explains_where_consistent t0 x reads writes reply explains t of_population well_formed consistent agrees = explains t (record {
   of_population = of_population;
   well_formed = well_formed;

@@ -2,10 +2,8 @@ mod Checks
 mod Newest
 mod Held
 mod Stores
-mod Stamped
+pub mod Stamped
 mod Sound
-mod Tids
-mod Legal
 mod Taken
 mod Loaded
 mod Streams

@@ -11,4 +11,3 @@ pub mod Shows
 pub mod Share
 pub mod Parts
 pub mod Seats
-pub mod Decided

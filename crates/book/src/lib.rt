@@ -8,7 +8,6 @@ mod batch;
 mod book;
 mod committing;
 mod confirming;
-mod decided;
 mod done;
 mod engine;
 mod entry;
@@ -24,7 +23,6 @@ mod untaken;
 
 pub use batch::Batch;
 pub use book::Book;
-pub use decided::every_decided_run_is_legal;
 pub use done::Done;
 pub use engine::{Engine, MAX_LOGGERS, MAX_TERMINALS, Parts, Seat, Seats, TerminalSeats};
 pub use entry::Entry;

@@ -168,9 +168,10 @@ fn open<K: Run>(parts: Parts) -> Option<Stage<K>>
     })
 }
 
-/// The turns of both loggers in epoch 3, in which the first terminal has paid, and in epoch 4, in which the second has.
+/// The turns of both loggers.
 type Turns = (Option<Turn>, Option<Turn>);
 
+/// The turns in epoch 3, in which the first terminal has paid, and in epoch 4, in which the second has.
 fn pay_in_two_epochs<K: Run, R: Wait>(
     rt: &R,
     alloc: Global,

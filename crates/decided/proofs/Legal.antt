@@ -21,10 +21,10 @@ use Rattle.commit.specs.Turns.{Transaction}
 use Rattle.commit.specs.Serial.{overwritten, now, IsSerial, HaveLawfulTids, NeverFall, first_versions}
 use Rattle.commit.specs.declared.worker.Version as noted
 use Rattle.book.specs.History.{replay, CommitsAt, Replays}
-use Rattle.book.specs.Decided.{HoldsRows, IsTransactionOf, AreTransactionsOf, LeadsTo, entry_after, history_of}
+use Rattle.decided.specs.Decided.{HoldsRows, IsTransactionOf, AreTransactionsOf, LeadsTo, entry_after, history_of}
 use Rattle.book.specs.declared.entry.Entry.{Entry}
 use Rattle.book.proofs.Replaying.{replay_push, replays_push}
-use Rattle.book.proofs.Tids.{all_stamped}
+use Rattle.decided.proofs.Tids.{all_stamped}
 
 -- the tables t where a run stands that has left these versions, with room for so many commits more
 record Stands (t0 t : Database) (versions : ℕ → noted.Version) (left : ℕ) : Type 0 where

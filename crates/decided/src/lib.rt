@@ -1,4 +1,6 @@
-//! What a run of the commit machine makes of the tables.
+//! What a run of the commit machine makes of the tables, where each transaction is explained by what it read.
+#![tactic(auto)]
+
 ghost use Rattle.std.specs.Prelude.{◌≤◌, List, length};
 ghost use Rattle.tables.specs.Database.{Database};
 ghost use Rattle.tables.specs.Conditions.{IsConsistent};
@@ -10,7 +12,7 @@ ghost use Rattle.commit.specs.Events.{AreEnabled};
 ghost use Rattle.commit.specs.Turns.{decided, run};
 ghost use Rattle.commit.specs.Serial.{now, first_versions};
 ghost use Rattle.commit.specs.declared.event.Event.{Event};
-ghost use Rattle.book.specs.Decided.{HoldsRows, AreTransactionsOf, LeadsTo, history_of};
+ghost use Rattle.decided.specs.Decided.{HoldsRows, AreTransactionsOf, LeadsTo, history_of};
 
 use commit::every_interleaving;
 

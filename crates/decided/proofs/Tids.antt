@@ -10,7 +10,7 @@ use Rattle.commit.specs.Turns.{Transaction}
 use Rattle.commit.specs.Serial.{overwritten, now, HaveLawfulTids, NeverFall}
 use Rattle.commit.specs.declared.worker.Version.{Version}
 use Rattle.book.specs.Stamps as stamps
-use Rattle.book.specs.Decided.{IsTransactionOf, AreTransactionsOf, entry_after, history_of}
+use Rattle.decided.specs.Decided.{IsTransactionOf, AreTransactionsOf, entry_after, history_of}
 use Rattle.book.specs.declared.entry.Entry.{Entry}
 use Rattle.book.proofs.Stamped.{stamped_push}
 

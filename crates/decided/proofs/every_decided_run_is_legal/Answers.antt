@@ -1,6 +1,6 @@
 use Rattle.commit.specs.Turns.{run}
-use Rattle.book.proofs.Legal.{leads_to}
-use Rattle.book.proofs.decided.every_decided_run_is_legal.Goals as goal
+use Rattle.decided.proofs.Legal.{leads_to}
+use Rattle.decided.proofs.every_decided_run_is_legal.Goals as goal
 
 pub returns : goal.returns
 returns c = λ t0 opening events works well_formed consistent room opens holds enabled are few.

@@ -1,0 +1,2 @@
+mod Tids
+mod Legal
