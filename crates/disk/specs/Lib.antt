@@ -1,0 +1,4 @@
+pub mod Calls
+pub mod Crashes
+pub mod Memory
+pub mod Replayed

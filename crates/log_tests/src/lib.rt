@@ -1,0 +1,11 @@
+//! Tests of disks and of the text of log files, on public calls: a crate's own tests would prove it again.
+#![tactic(auto)]
+
+#[cfg(test)]
+mod body_tests;
+#[cfg(test)]
+mod disk_tests;
+#[cfg(test)]
+mod file_tests;
+#[cfg(test)]
+mod header_tests;

@@ -1,0 +1,9 @@
+pub mod Columns
+pub mod Writes
+pub mod Header
+pub mod HeaderReading
+pub mod Entries
+pub mod Bodies
+pub mod File
+pub mod Reads
+pub mod Loops

@@ -1,0 +1,69 @@
+-- How bytes are read as writes, entries and bodies, before their rules are asked.
+use Rattle.std.specs.Prelude.{◌≡◌, ◌≢◌, ℕ, ◌+◌, ◌-◌, nat_le, ◌==◌, ◌&&◌, Bool, true, false, Option, Some, None}
+use Rattle.std.specs.Prelude.{if◌then◌else◌, List, length, take, drop, find, Result, Ok, Err}
+use Rattle.std.specs.Option.{option_map, option_and_then}
+use Rattle.codec.specs.Numbers.{Reader, number_at}
+use Rattle.codec.specs.Readers.{both, chosen, many, filled}
+use Rattle.money.specs.declared.refusal.Refusal.{Refusal}
+use Rattle.money.specs.declared.refusal.Refusal.TheVariants.{OutOfMemory, Damaged}
+use Rattle.tables.specs.Records.{table_number, tables}
+use Rattle.tables.specs.Rows.{payload_of}
+use Rattle.tables.specs.declared.records.Table.{Table}
+use Rattle.log_text.specs.Columns.{width}
+use Rattle.log_text.specs.Entries.{EntryView}
+use Rattle.log_text.specs.Bodies.{BodyView}
+use Rattle.log_text.specs.declared.limits.TheConstants.{MAX_WRITES}
+use Rattle.log_text.specs.declared.write.Write.{Write}
+
+-- the table of a number
+abbrev pub table_numbered : ℕ → Option Table
+table_numbered n = find (λ t. table_number t == n) tables
+
+unfoldable pub table_from : Reader Table
+table_from bytes = chosen table_numbered (number_at 1) bytes
+
+-- columns, and zeros past them
+unfoldable pub words_from : ℕ → Reader (List ℕ)
+words_from n bytes = chosen (λ words. Some (payload_of words)) (many n (number_at 8)) bytes
+
+-- whether a record of this kind is present
+abbrev pub kind_numbered : ℕ → Option Bool
+kind_numbered n = if n == 1 then Some true else if n == 0 then Some false else None
+
+abbrev pub words_if : ℕ → Bool → Reader (Option (List ℕ))
+words_if n true bytes = chosen (λ words. Some (Some words)) (words_from n) bytes
+words_if n false bytes = Some (None, bytes)
+
+unfoldable pub value_from : Table → Reader (Option (List ℕ))
+value_from t bytes = chosen (λ x. Some x.1) (both (chosen kind_numbered (number_at 1)) (words_if (width t))) bytes
+
+unfoldable pub write_from : Reader Write
+write_from bytes = chosen (λ x. Some (record { table = x.0; place = x.1.0; words = x.1.1 }))
+    (both table_from (λ t. both (number_at 4) (λ place. value_from t))) bytes
+
+-- no entry has more writes than these, that of HISTORY among them
+abbrev pub count_numbered : ℕ → Option ℕ
+count_numbered n = if nat_le n (MAX_WRITES + 1) then Some n else None
+
+unfoldable pub entry_from : Reader EntryView
+entry_from bytes = chosen (λ x. Some (record { number = x.0; tid = x.1.0; terminal = x.1.1.0; writes = x.1.1.1.1 }))
+    (both (number_at 8) (λ number. both (number_at 8) (λ tid. both (number_at 2) (λ terminal.
+    both (chosen count_numbered (number_at 2)) (λ count. many count write_from))))) bytes
+
+-- entries up to the last byte
+unfoldable pub entries_from : List ℕ → Option (List EntryView)
+entries_from bytes = filled entry_from bytes (length bytes)
+
+unfoldable pub content_from : List ℕ → Option BodyView
+content_from bytes = option_and_then (λ mark. option_map (λ entries. record { mark = mark.0; entries = entries })
+    (entries_from mark.1)) (number_at 8 bytes)
+
+unfoldable pub body_from : Reader BodyView
+body_from bytes = option_and_then (λ size. if nat_le 9 size.0 && nat_le (size.0 - 1) (length size.1)
+    then option_map (λ b. (b, drop (size.0 - 1) size.1)) (content_from (take (size.0 - 1) size.1)) else None)
+    (number_at 8 bytes)
+
+-- what a call gives of what is read: just that, or, unless memory was short, `Damaged` where nothing is read
+abbrev pub Gives : {X Y : Type 0} → (X → Y) → Result X Refusal → Option Y → Type 0
+Gives view (Ok x) read = read ≡ Some (view x)
+Gives view (Err refusal) read = (refusal ≢ OutOfMemory) → (refusal ≡ Damaged) × (read ≡ None)

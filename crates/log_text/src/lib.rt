@@ -1,0 +1,29 @@
+//! The text of a log file and its value: a header, and the bodies that loggers append. Reading is exact both ways: what
+//! is read has the bytes as its text, and where nothing is read the bytes are no such text.
+#![tactic(auto)]
+
+mod bodies;
+mod body;
+mod columns;
+mod entry;
+mod files;
+mod header;
+mod last;
+mod laws;
+pub mod limits;
+mod reading;
+mod reading_entries;
+mod rules;
+mod write;
+mod write_rules;
+mod writing;
+
+pub use bodies::read_body;
+pub use body::Body;
+pub use entry::LoggedEntry;
+pub use files::read_file;
+pub use header::{Header, one_header, put_header, read_header};
+pub use last::Last;
+pub use laws::one_file;
+pub use write::Write;
+pub use writing::put_body;

@@ -1,0 +1,96 @@
+//! Reading entries and bodies. Vectors grow by what is read, one after the other, so no count of a file takes memory
+//! that its bytes don't pay for.
+ghost use Rattle.std.specs.Prelude.{◌≡◌, ◌≤◌, ◌+◌, ◌-◌, length, map};
+ghost use Rattle.codec.specs.Readers.{many, filled};
+ghost use Rattle.log_text.specs.Entries.{logged};
+ghost use Rattle.log_text.specs.Bodies.{body_of};
+ghost use Rattle.log_text.specs.Reads.{Gives, body_from, content_from, entries_from, entry_from, write_from};
+
+use crate::body::Body;
+use crate::entry::LoggedEntry;
+use crate::limits::MAX_WRITES;
+use crate::reading::write_from;
+use crate::write::Write;
+use codec::{u16_at, u64_at};
+use money::Refusal;
+use std::alloc::Global;
+
+/// So many writes, one behind the other.
+fn writes_from(alloc: Global, count: u16, bytes: &[u8]) -> Result<(Vec<Write>, &[u8]), Refusal>
+    ensures { Gives (λ x. (x.0.items, x.1.now)) result (many count write_from bytes.now) }
+{
+    let mut writes = Vec::new(alloc);
+    let mut rest = bytes;
+    'writes: for _ in 0..count {
+        let Some((write, behind)) = write_from(rest) else {
+            return Err(Refusal::Damaged);
+        };
+        let Ok(()) = writes.push(write) else {
+            return Err(Refusal::OutOfMemory);
+        };
+        rest = behind;
+    }
+    Ok((writes, rest))
+}
+
+/// The entry that the bytes begin with, and the bytes behind it. Its count of writes is tested before they are read.
+#[tactic(auto, unfolding(crate::specs::Reads::entry_from, codec::specs::Readers::both, codec::specs::Readers::chosen))]
+fn entry_from(alloc: Global, bytes: &[u8]) -> Result<(LoggedEntry, &[u8]), Refusal>
+    ensures { Gives (λ x. (logged x.0, x.1.now)) result (entry_from bytes.now) }
+{
+    let (number, rest) = u64_at(bytes).ok_or(Refusal::Damaged)?;
+    let (tid, rest) = u64_at(rest).ok_or(Refusal::Damaged)?;
+    let (terminal, rest) = u16_at(rest).ok_or(Refusal::Damaged)?;
+    let (count, rest) = u16_at(rest).ok_or(Refusal::Damaged)?;
+    if usize::from(count) > MAX_WRITES + 1 {
+        return Err(Refusal::Damaged);
+    }
+    let (writes, rest) = writes_from(alloc, count, rest)?;
+    let entry = LoggedEntry {
+        number,
+        tid,
+        terminal,
+        writes,
+    };
+    Ok((entry, rest))
+}
+
+/// Entries up to the last byte.
+fn entries_from(alloc: Global, bytes: &[u8]) -> Result<Vec<LoggedEntry>, Refusal>
+    ensures { Gives (λ entries. map logged entries.items) result (entries_from bytes.now) }
+{
+    let mut entries = Vec::new(alloc);
+    let mut rest = bytes;
+    'entries: while rest.len() > 0 {
+        let (entry, behind) = entry_from(alloc, rest)?;
+        let Ok(()) = entries.push(entry) else {
+            return Err(Refusal::OutOfMemory);
+        };
+        rest = behind;
+    }
+    Ok(entries)
+}
+
+#[tactic(auto, unfolding(crate::specs::Reads::content_from))]
+fn content_from(alloc: Global, bytes: &[u8]) -> Result<Body, Refusal>
+    ensures { Gives body_of result (content_from bytes.now) }
+{
+    let (mark, rest) = u64_at(bytes).ok_or(Refusal::Damaged)?;
+    let entries = entries_from(alloc, rest)?;
+    Ok(Body { mark, entries })
+}
+
+/// The body that the bytes begin with, before its rules are asked, and the bytes behind it, the first of which is to be
+/// the next gate.
+#[tactic(auto, unfolding(crate::specs::Reads::body_from))]
+pub(crate) fn body_from(alloc: Global, bytes: &[u8]) -> Result<(Body, &[u8]), Refusal>
+    ensures { Gives (λ x. (body_of x.0, x.1.now)) result (body_from bytes.now) }
+{
+    let (size, rest) = u64_at(bytes).ok_or(Refusal::Damaged)?;
+    if size < 9 || size - 1 > rest.len() as u64 {
+        return Err(Refusal::Damaged);
+    }
+    let (content, rest) = rest.split_at(size as usize - 1);
+    let body = content_from(alloc, content)?;
+    Ok((body, rest))
+}

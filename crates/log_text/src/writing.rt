@@ -1,0 +1,120 @@
+//! Writing entries and bodies.
+ghost use Rattle.std.specs.Prelude.{◌≡◌, ◌++◌, ◌≤◌, ◌<◌, ◌^◌, ◌+◌, length, flat_map, ℕ, List, OnOk};
+ghost use Rattle.std.specs.List.{All};
+ghost use Rattle.codec.specs.Numbers.{number};
+ghost use Rattle.log_text.specs.Columns.{width};
+ghost use Rattle.log_text.specs.Writes.{value_text, write_text};
+ghost use Rattle.log_text.specs.Entries.{entry_text, front_text, logged};
+ghost use Rattle.log_text.specs.Bodies.{body_of, body_text, content_text};
+
+use crate::body::Body;
+use crate::columns::width;
+use crate::entry::LoggedEntry;
+use crate::write::Write;
+use crate::write_rules::table_number;
+use byteorder::{ByteOrder, LittleEndian};
+use codec::{put_u8, put_u16, put_u32, put_u64};
+use money::Payload;
+use std::alloc::AllocError;
+use tables::Table;
+
+/// Appends the words of the first columns.
+fn put_words(out: &mut Vec<u8>, words: &[u64]) -> Result<(), AllocError>
+    ensures { OnOk result (out.new.items ≡ out.old.items ++ flat_map (number 8) words.now) }
+{
+    for word in words {
+        put_u64(out, *word)?;
+    }
+    Ok(())
+}
+
+fn put_value(out: &mut Vec<u8>, table: Table, words: &Option<Payload>) -> Result<(), AllocError>
+    ensures { OnOk result (out.new.items ≡ out.old.items ++ value_text table words.now) }
+{
+    match words {
+        Some(words) => {
+            put_u8(out, 1)?;
+            put_words(out, &words[..width(table)])
+        }
+        None => put_u8(out, 0),
+    }
+}
+
+/// Appends a write.
+pub(crate) fn put_write(out: &mut Vec<u8>, write: &Write) -> Result<(), AllocError>
+    ensures { OnOk result (out.new.items ≡ out.old.items ++ write_text write.now) }
+{
+    put_u8(out, table_number(write.table))?;
+    put_u32(out, write.place)?;
+    put_value(out, write.table, &write.words)
+}
+
+/// Appends an entry, which has at most 201 writes.
+pub(crate) fn put_entry(out: &mut Vec<u8>, entry: &LoggedEntry) -> Result<(), AllocError>
+    requires { length entry.now.writes.items < 2 ^ 16 }
+    ensures { OnOk result (out.new.items ≡ out.old.items ++ entry_text (logged entry.now)) }
+{
+    put_front(
+        out,
+        entry.number,
+        entry.tid,
+        entry.terminal,
+        entry.writes.len() as u16,
+    )?;
+    for write in &entry.writes {
+        put_write(out, write)?;
+    }
+    Ok(())
+}
+
+/// Appends what an entry has in front of its writes.
+pub fn put_front(
+    out: &mut Vec<u8>,
+    number: u64,
+    tid: u64,
+    terminal: u16,
+    count: u16,
+) -> Result<(), AllocError>
+    ensures { OnOk result (out.new.items ≡ out.old.items ++ front_text number tid terminal count) }
+{
+    put_u64(out, number)?;
+    put_u64(out, tid)?;
+    put_u16(out, terminal)?;
+    put_u16(out, count)
+}
+
+/// Sets the length of the body that begins there, where eight bytes are kept for it: its text goes on to the end.
+fn set_length(bytes: &mut [u8], start: usize)
+    requires { start + 8 ≤ length bytes.old }
+    ensures length { length bytes.new ≡ length bytes.old }
+    ensures set { (front content : List ℕ) → length front ≡ start → bytes.old ≡ front ++ (number 8 0 ++ content)
+        → bytes.new ≡ front ++ (number 8 (length content + 1) ++ content) }
+{
+    let size = (bytes.len() - start - 8) as u64 + 1;
+    let mut field = [0; 8];
+    LittleEndian::write_u64(&mut field, size);
+    bytes[start..start + 8].copy_from_slice(&field);
+}
+
+/// Appends a body whose entries have at most 65,535 writes each.
+pub fn put_body(out: &mut Vec<u8>, body: &Body) -> Result<(), AllocError>
+    requires { All (λ e. length e.writes.items < 2 ^ 16) body.now.entries.items }
+    ensures { OnOk result (out.new.items ≡ out.old.items ++ body_text (body_of body.now)) }
+{
+    let start = out.len();
+    put_u64(out, 0)?;
+    put_content(out, body)?;
+    set_length(out.as_mut_slice(), start);
+    Ok(())
+}
+
+fn put_content(out: &mut Vec<u8>, body: &Body) -> Result<(), AllocError>
+    requires { All (λ e. length e.writes.items < 2 ^ 16) body.now.entries.items }
+    ensures { OnOk result (out.new.items ≡ out.old.items ++ content_text (body_of body.now)) }
+{
+    put_u64(out, body.mark)?;
+    for entry in &body.entries {
+        put_entry(out, entry)?;
+    }
+    Ok(())
+}
