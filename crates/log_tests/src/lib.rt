@@ -1,4 +1,5 @@
-//! Tests of disks and of the text of log files, on public calls: a crate's own tests would prove it again.
+//! Tests of numbers as bytes, of disks and of the text of log files, on public calls: a crate's own tests would prove it
+//! again.
 #![tactic(auto)]
 
 #[cfg(test)]
@@ -9,3 +10,5 @@ mod disk_tests;
 mod file_tests;
 #[cfg(test)]
 mod header_tests;
+#[cfg(test)]
+mod number_tests;

@@ -1,5 +1,5 @@
 //! Numbers whose bytes are known, there and back.
-use super::{put_u8, put_u16, put_u32, put_u64, u8_at, u16_at, u32_at, u64_at};
+use codec::{put_u8, put_u16, put_u32, put_u64, u8_at, u16_at, u32_at, u64_at};
 use std::alloc::{AllocError, Global};
 use std::test::Fail;
 
