@@ -2,7 +2,8 @@
 ghost use Rattle.std.specs.Prelude.{◌≡◌, ◌<◌, ◌^◌, length, IfOk};
 ghost use Rattle.std.specs.List.{All};
 
-use log_text::{Body, Header, Last, LoggedEntry, Write, put_body, read_body};
+use log_header::Header;
+use log_text::{Body, Last, LoggedEntry, Write, put_body, read_body};
 use money::Refusal;
 use std::alloc::{AllocError, Global};
 use std::test::Fail;

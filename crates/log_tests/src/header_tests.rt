@@ -1,6 +1,6 @@
 //! Headers whose bytes are known, there and back.
 use codec::put_u8;
-use log_text::{Header, put_header, read_header};
+use log_header::{Header, put_header, read_header};
 use std::test::Fail;
 use tables::Scale;
 

@@ -15,7 +15,7 @@ use Rattle.codec.proofs.Codecs.{and_then_some, map_some, taken}
 use Rattle.codec.proofs.Filled.{filled_takes, filled_again}
 use Rattle.log_text.specs.Entries.{EntryView, entry_text}
 use Rattle.log_text.specs.Bodies.{BodyView, content_text, body_text}
-use Rattle.log_text.specs.Header.{HeaderView, IsHeader}
+use Rattle.log_header.specs.Header.{HeaderView, IsHeader}
 use Rattle.log_text.specs.File.{IsBody}
 use Rattle.log_text.specs.declared.last.Last.{Last}
 use Rattle.log_text.specs.Reads.{entry_from, entries_from, content_from, body_from}

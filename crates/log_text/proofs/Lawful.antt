@@ -6,7 +6,7 @@ use Rattle.std.specs.List.{AllByRecursion}
 use Rattle.std.specs.Option.{option_and_then}
 use Rattle.tidword.specs.TidWord.{epoch_of}
 use Rattle.codec.proofs.Codecs.{and_then_some}
-use Rattle.log_text.specs.Header.{HeaderView, IsHeader}
+use Rattle.log_header.specs.Header.{HeaderView, IsHeader}
 use Rattle.log_text.specs.Writes.{are_writes}
 use Rattle.log_text.specs.Entries.{EntryView}
 use Rattle.log_text.specs.Bodies.{BodyView, is_next, is_timed, is_asked, is_entry, behind, entries_after, marked, body_after}

@@ -1,4 +1,3 @@
-pub mod Headers
 mod Words
 mod Looping
 pub mod Texts

@@ -5,11 +5,11 @@ use Rattle.std.specs.Option.{option_and_then}
 use Rattle.codec.specs.Numbers.{number}
 use Rattle.codec.proofs.NumberTexts.{length-number}
 use Rattle.codec.proofs.Codecs.{one_value, and_then_some}
-use Rattle.log_text.specs.Header.{HeaderView, IsHeader, header_text}
+use Rattle.log_header.specs.Header.{HeaderView, IsHeader, header_text}
 use Rattle.log_text.specs.Bodies.{BodyView, content_text, body_text, body_after, bodies_after, start}
 use Rattle.log_text.specs.File.{IsFile, IsBody, AreBodies, opened}
 use Rattle.log_text.specs.declared.last.Last.{Last}
-use Rattle.log_text.proofs.Headers.{codec-header}
+use Rattle.log_header.proofs.Headers.{codec-header}
 use Rattle.log_text.proofs.Lawful.{body_fits}
 use Rattle.log_text.proofs.BodyTexts.{FitsLength, codec-body}
 

@@ -1,6 +1,6 @@
 -- A log file: its header, and the bodies in front of its first closed gate.
 use Rattle.std.specs.Prelude.{◌≡◌, ◌≢◌, ℕ, Some, IsSome, List, [], ◌∷◌, ◌++◌}
-use Rattle.log_text.specs.Header.{HeaderView, header_text, IsHeader}
+use Rattle.log_header.specs.Header.{HeaderView, header_text, IsHeader}
 use Rattle.log_text.specs.Bodies.{BodyView, body_text, body_after, bodies_after, start}
 use Rattle.log_text.specs.declared.last.Last.{Last}
 

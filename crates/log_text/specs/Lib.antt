@@ -1,7 +1,5 @@
 pub mod Columns
 pub mod Writes
-pub mod Header
-pub mod HeaderReading
 pub mod Entries
 pub mod Bodies
 pub mod File

@@ -6,7 +6,7 @@ ghost use Rattle.log_text.specs.File.{IsBody};
 ghost use Rattle.log_text.specs.declared.last.Last.{Last};
 
 use crate::body::Body;
-use crate::header::Header;
+use log_header::Header;
 use crate::last::Last;
 use crate::reading_entries::body_from;
 use crate::rules::body_after;

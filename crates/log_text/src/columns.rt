@@ -10,7 +10,7 @@ use tables::limits::{
 use tables::{Scale, Table};
 
 /// The whole numbers from `low` to `high`, as words: two's complement where they are negative.
-#[derive(Clone, Copy, Debug, PartialEq, Eq)]
+#[derive(Clone, Copy)]
 pub(crate) struct Range {
     pub(crate) low: i64,
     pub(crate) high: i64,

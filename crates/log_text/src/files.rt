@@ -1,13 +1,13 @@
 //! Reading a whole log file.
 ghost use Rattle.std.specs.Prelude.{◌≡◌, ◌≢◌, List, map, IfOk, IfErr, IsErrOf};
 ghost use Rattle.money.specs.declared.refusal.Refusal.TheVariants.{OutOfMemory, Damaged};
-ghost use Rattle.log_text.specs.Header.{HeaderView, IsHeader};
+ghost use Rattle.log_header.specs.Header.{HeaderView, IsHeader};
 ghost use Rattle.log_text.specs.Bodies.{BodyView, body_of};
 ghost use Rattle.log_text.specs.File.{AreBodies, IsFile};
 
 use crate::bodies::read_body;
 use crate::body::Body;
-use crate::header::{Header, read_header};
+use log_header::{Header, read_header};
 use crate::last::Last;
 use money::Refusal;
 use std::alloc::Global;

@@ -1,6 +1,6 @@
 //! The law of log files. The function of this file does nothing: its contract is the law.
 ghost use Rattle.std.specs.Prelude.{◌≡◌, ◌<◌, ◌^◌, ℕ, List, length};
-ghost use Rattle.log_text.specs.Header.{HeaderView};
+ghost use Rattle.log_header.specs.Header.{HeaderView};
 ghost use Rattle.log_text.specs.Bodies.{BodyView};
 ghost use Rattle.log_text.specs.File.{IsFile};
 

@@ -7,7 +7,7 @@ ghost use Rattle.log_text.specs.declared.limits.TheConstants.{MAX_MARK};
 
 use crate::body::Body;
 use crate::entry::LoggedEntry;
-use crate::header::Header;
+use log_header::Header;
 use crate::last::Last;
 use crate::limits::{MAX_MARK, MAX_TERMINALS};
 use crate::write_rules::are_writes;

@@ -1,7 +1,7 @@
 use Rattle.std.proofs.Common.{◌≡◌, ◌≢◌, ◌<◌, ◌^◌, ℕ, List, Some, None, length, sym, ap, ◌∙◌, subst, rules}
 use Rattle.std.proofs.Math.Facts.{Fits-lt-pow}
 use Rattle.money.specs.declared.refusal.Refusal.TheVariants.{OutOfMemory}
-use Rattle.log_text.specs.Header.{IsHeader}
+use Rattle.log_header.specs.Header.{IsHeader}
 use Rattle.log_text.specs.Bodies.{BodyView, body_of, body_after}
 use Rattle.log_text.specs.Reads.{body_from}
 use Rattle.log_text.proofs.Texts.{pair_is}

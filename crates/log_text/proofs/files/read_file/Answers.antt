@@ -1,8 +1,8 @@
 use Rattle.std.proofs.Common.{◌++◌, ◌∷◌, sym, ◌∙◌, subst, rules}
 use Rattle.codec.proofs.Codecs.{one_value}
-use Rattle.log_text.specs.Header.{HeaderView}
+use Rattle.log_header.specs.Header.{HeaderView}
 use Rattle.log_text.specs.File.{AreBodies, opened}
-use Rattle.log_text.proofs.Headers.{codec-header}
+use Rattle.log_header.proofs.Headers.{codec-header}
 use Rattle.log_text.proofs.files.read_file.Goals as goal
 
 pub returns-in_err-bodies-clause-damaged : goal.returns-in_err-bodies-clause-damaged

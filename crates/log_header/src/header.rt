@@ -4,8 +4,8 @@ ghost use Rattle.std.specs.Prelude.{length, take};
 ghost use Rattle.std.specs.Option.{option_map};
 ghost use Rattle.codec.specs.Readers.{chosen};
 ghost use Rattle.tables.specs.Sizes.{IsScale};
-ghost use Rattle.log_text.specs.Header.{HeaderView, IsHeader, scale_text, header_text};
-ghost use Rattle.log_text.specs.HeaderReading.{scale_if, scale_from, header_if, parts};
+ghost use Rattle.log_header.specs.Header.{HeaderView, IsHeader, scale_text, header_text};
+ghost use Rattle.log_header.specs.HeaderReading.{scale_if, scale_from, header_if, parts};
 
 use codec::{put_u16, put_u32, put_u64, u16_at, u32_at, u64_at};
 use std::alloc::AllocError;
@@ -32,7 +32,7 @@ pub struct Header {
 }
 
 impl Model for Header {
-    ghost use Rattle.log_text.specs.Header.{HeaderView, IsHeader, header_view};
+    ghost use Rattle.log_header.specs.Header.{HeaderView, IsHeader, header_view};
 
     ghost Value = { HeaderView };
 
@@ -44,7 +44,7 @@ impl Model for Header {
 }
 
 impl Header {
-    ghost use Rattle.log_text.specs.Header.{IsHeader, header_view};
+    ghost use Rattle.log_header.specs.Header.{IsHeader, header_view};
 
     /// The header of the logger with this number, from 0, among 1 to 8 loggers, over a scale and the population of this
     /// seed, where 0 stands for the plain one.

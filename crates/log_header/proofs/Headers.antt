@@ -11,10 +11,10 @@ use Rattle.codec.proofs.Codecs.{codec-both, codec-chosen, codec-same}
 use Rattle.tables.specs.Sizes.{Sizes, IsScale, IsBetween}
 use Rattle.tables.specs.declared.limits.TheConstants.{MAX_WAREHOUSES, MAX_DISTRICTS, MIN_CUSTOMERS, MAX_CUSTOMERS}
 use Rattle.tables.specs.declared.limits.TheConstants.{MIN_ITEMS, MAX_ITEMS, MAX_ORDERS, MAX_COMMITS}
-use Rattle.log_text.specs.declared.header.TheConstants.{MAGIC, VERSION}
-use Rattle.log_text.specs.Header.{HeaderView, IsHeader, scale_text, header_text}
-use Rattle.log_text.specs.HeaderReading.{SixNumbers, Parts, is_between, is_scale, is_logger, sizes_of, scale_if, header_if, view_of, six_numbers, parts}
-use Rattle.log_text.specs.HeaderReading.{scale_from, header_from}
+use Rattle.log_header.specs.declared.header.TheConstants.{MAGIC, VERSION}
+use Rattle.log_header.specs.Header.{HeaderView, IsHeader, scale_text, header_text}
+use Rattle.log_header.specs.HeaderReading.{SixNumbers, Parts, is_between, is_scale, is_logger, sizes_of, scale_if, header_if, view_of, six_numbers, parts}
+use Rattle.log_header.specs.HeaderReading.{scale_from, header_from}
 
 -- what is decided against is false
 false_from_Decides : {P : Type 0} (r : Bool) → Decides r P → ¬ P → r ≡ false

@@ -5,8 +5,8 @@ use Rattle.codec.specs.Readers.{both, chosen}
 use Rattle.tables.specs.Sizes.{Sizes, sizes}
 use Rattle.tables.specs.declared.limits.TheConstants.{MAX_WAREHOUSES, MAX_DISTRICTS, MIN_CUSTOMERS, MAX_CUSTOMERS}
 use Rattle.tables.specs.declared.limits.TheConstants.{MIN_ITEMS, MAX_ITEMS, MAX_ORDERS, MAX_COMMITS}
-use Rattle.log_text.specs.declared.header.TheConstants.{MAGIC, VERSION}
-use Rattle.log_text.specs.Header.{HeaderView, header_view}
+use Rattle.log_header.specs.declared.header.TheConstants.{MAGIC, VERSION}
+use Rattle.log_header.specs.Header.{HeaderView, header_view}
 
 abbrev pub is_between : ℕ → ℕ → ℕ → Bool
 is_between low high n = nat_le low n && nat_le n high

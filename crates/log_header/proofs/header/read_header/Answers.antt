@@ -3,10 +3,10 @@ use Rattle.std.proofs.Math.Facts.{Fits-lt-pow}
 use Rattle.std.specs.Prelude.{IfSome, IfNone}
 use Rattle.std.specs.Option.{option_map}
 use Rattle.codec.specs.Numbers.{IsBytes}
-use Rattle.log_text.specs.Header.{HeaderView, IsHeader, header_text}
-use Rattle.log_text.specs.HeaderReading.{header_from}
-use Rattle.log_text.proofs.Headers.{codec-header}
-use Rattle.log_text.proofs.header.read_header.Goals as goal
+use Rattle.log_header.specs.Header.{HeaderView, IsHeader, header_text}
+use Rattle.log_header.specs.HeaderReading.{header_from}
+use Rattle.log_header.proofs.Headers.{codec-header}
+use Rattle.log_header.proofs.header.read_header.Goals as goal
 
 found : (bytes : List ℕ) (r : Option (HeaderView × Bor (List ℕ))) → IsBytes bytes → option_map (λ x. (x.0, x.1.now)) r ≡ header_from bytes
     → IfSome r (λ x. IsHeader x.0 × (bytes ≡ header_text x.0 ++ x.1.now))

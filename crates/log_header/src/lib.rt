@@ -1,0 +1,6 @@
+//! The header of a log file: its bytes, and the value that they stand for.
+#![tactic(auto)]
+
+mod header;
+
+pub use header::{Header, one_header, put_header, read_header};
