@@ -12,3 +12,5 @@ mod file_tests;
 mod header_tests;
 #[cfg(test)]
 mod number_tests;
+#[cfg(test)]
+mod scan_tests;

@@ -1,0 +1,3 @@
+mod Tearing
+mod Moments
+mod Staging

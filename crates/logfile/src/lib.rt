@@ -1,0 +1,8 @@
+//! Log files on disks: bytes come in so that a crash at any moment leaves them whole or not at all (Silo, section
+//! 4.10), and are read back.
+#![tactic(auto)]
+
+mod scanning;
+mod storing;
+
+pub use scanning::scan;

@@ -1,0 +1,47 @@
+//! Reading a log file back.
+ghost use Rattle.std.specs.Prelude.{◌≡◌, ◌≢◌, ◌+◌, ◌-◌, ◌^◌, min, List, map, IfOk, IfErr, IsErrOf};
+ghost use Rattle.money.specs.declared.refusal.Refusal.TheVariants.{OutOfMemory, Damaged, Device};
+ghost use Rattle.log_header.specs.Header.{HeaderView};
+ghost use Rattle.log_text.specs.Bodies.{BodyView, body_of};
+ghost use Rattle.log_text.specs.File.{IsFile};
+
+use disk::Disk;
+use log_header::Header;
+use log_text::{Body, read_file};
+use money::Refusal;
+use std::alloc::Global;
+
+/// The header and the bodies of the log file on a disk: those in front of its first closed gate. Two calls of the disk,
+/// which reads the file at once, and one pass over it. It takes memory for the file only once the disk's length shows
+/// that the bytes are there.
+///
+/// Refuses by `Device` only where one of these calls fails, by `Damaged` exactly where none fails and the bytes are no
+/// log file, unless it refuses for memory.
+pub fn scan<D: Disk>(alloc: Global, disk: &mut D) -> Result<(Header, Vec<Body>), Refusal>
+    ensures found { D.is_modelled → IfOk result (λ x. IsFile (D.seen disk.old) x.0 (map body_of x.1.items)) }
+    ensures damaged { D.is_modelled → IsErrOf result Damaged → (h : HeaderView) (bodies : List BodyView)
+        → IsFile (D.seen disk.old) h bodies → ⊥ }
+    ensures failed { IsErrOf result Device → D.failed disk.new ≡ min (D.failed disk.old + 1) (2 ^ 64 - 1) }
+    ensures not_failed { (IsErrOf result Device → ⊥) → D.failed disk.new ≡ D.failed disk.old }
+    ensures others { IfErr result (λ refusal. (refusal ≢ OutOfMemory) → (refusal ≢ Device) → refusal ≡ Damaged) }
+    ensures seen { D.is_modelled → D.seen disk.new ≡ D.seen disk.old }
+    ensures story { D.is_modelled → D.story disk.new ≡ D.story disk.old }
+{
+    let bytes = contents(alloc, disk)?;
+    read_file(alloc, &bytes)
+}
+
+fn contents<D: Disk>(alloc: Global, disk: &mut D) -> Result<Vec<u8>, Refusal>
+    ensures bytes { D.is_modelled → IfOk result (λ bytes. bytes.items ≡ D.seen disk.old) }
+    ensures failed { IsErrOf result Device → D.failed disk.new ≡ min (D.failed disk.old + 1) (2 ^ 64 - 1) }
+    ensures not_failed { (IsErrOf result Device → ⊥) → D.failed disk.new ≡ D.failed disk.old }
+    ensures others { IfErr result (λ refusal. (refusal ≢ OutOfMemory) → refusal ≡ Device) }
+    ensures seen { D.is_modelled → D.seen disk.new ≡ D.seen disk.old }
+    ensures story { D.is_modelled → D.story disk.new ≡ D.story disk.old }
+{
+    let size = disk.len()?;
+    let mut bytes = Vec::new(alloc);
+    bytes.resize(size as usize, 0)?;
+    disk.read_at(0, bytes.as_mut_slice())?;
+    Ok(bytes)
+}
