@@ -6,10 +6,10 @@ ghost use Rattle.log_text.specs.File.{IsBody};
 ghost use Rattle.log_text.specs.declared.last.Last.{Last};
 
 use crate::body::Body;
-use log_header::Header;
 use crate::last::Last;
 use crate::reading_entries::body_from;
 use crate::rules::body_after;
+use log_header::Header;
 use money::Refusal;
 use std::alloc::Global;
 

@@ -7,8 +7,8 @@ ghost use Rattle.log_text.specs.File.{AreBodies, IsFile};
 
 use crate::bodies::read_body;
 use crate::body::Body;
-use log_header::{Header, read_header};
 use crate::last::Last;
+use log_header::{Header, read_header};
 use money::Refusal;
 use std::alloc::Global;
 

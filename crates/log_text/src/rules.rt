@@ -7,10 +7,10 @@ ghost use Rattle.log_text.specs.declared.limits.TheConstants.{MAX_MARK};
 
 use crate::body::Body;
 use crate::entry::LoggedEntry;
-use log_header::Header;
 use crate::last::Last;
 use crate::limits::{MAX_MARK, MAX_TERMINALS};
 use crate::write_rules::are_writes;
+use log_header::Header;
 
 fn is_next(header: &Header, last: Last, number: u64) -> bool
     ensures { result ≡ is_next header.now last number }
