@@ -1,4 +1,4 @@
-//! Tests of numbers as bytes, of disks and of the text of log files, on public calls: a crate's own tests would prove it
+//! Tests of numbers as bytes, of disks and of log files, on public calls: a crate's own tests would prove it
 //! again.
 #![tactic(auto)]
 

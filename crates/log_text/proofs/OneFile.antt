@@ -10,6 +10,7 @@ use Rattle.log_text.specs.Bodies.{BodyView, content_text, body_text, body_after,
 use Rattle.log_text.specs.File.{IsFile, IsBody, AreBodies, opened}
 use Rattle.log_text.specs.declared.last.Last.{Last}
 use Rattle.log_header.proofs.Headers.{codec-header}
+use Rattle.log_text.proofs.Texts.{some_is}
 use Rattle.log_text.proofs.Lawful.{body_fits}
 use Rattle.log_text.proofs.BodyTexts.{FitsLength, codec-body}
 
@@ -29,9 +30,6 @@ first_byte x y xs ys e = cc
 
 other_bytes : (x y : ℕ) (xs ys : List ℕ) → x ∷ xs ≡ y ∷ ys → xs ≡ ys
 other_bytes x y xs ys e = cc
-
-same_last : (x y : Last) → Some x ≡ Some y → x ≡ y
-same_last x y e = cc
 
 length_fits : (h : HeaderView) → IsHeader h → (last : Last) (b : BodyView) (now : Last) (rest : List ℕ) → body_after h last b ≡ Some now
     → length (body_text b ++ rest) < 2 ^ 64 → FitsLength b
@@ -66,13 +64,10 @@ same_front h is last (b ∷ bs) (c ∷ cs) rest tail gate closed lawful others s
     let one = one_value codec-body b c (opened bs ++ rest) (opened cs ++ gate ∷ tail)
     (length_fits h is last b here.0 (opened bs ++ rest) here.1 size)
     (length_fits h is last c there.0 (opened cs ++ gate ∷ tail) there.1 (subst (λ (l : List ℕ). length l < 2 ^ 64) texts size)) texts in
-    let now : here.0 ≡ there.0 = some_one here.0 there.0 (sym here.1 ∙ ap (body_after h last) one.0 ∙ there.1) in
+    let now : here.0 ≡ there.0 = some_is here.0 there.0 (sym here.1 ∙ ap (body_after h last) one.0 ∙ there.1) in
     let later = same_front h is here.0 bs cs rest tail gate closed here.2
     (subst (λ (l : Last). IsSome (bodies_after h l cs)) (sym now) there.2) (omega (arith, size, length-append (body_text b) (opened bs ++ rest))) one.1 in
     record { more = later.more; all_is = (λ i. sym one.0 i ∷ later.all_is i); rest_is = later.rest_is }
-  where
-    some_one : (x y : Last) → Some x ≡ Some y → x ≡ y
-    some_one x y e = cc
 
 pub one_file : (file : List ℕ) (g h : HeaderView) (a b : List BodyView) → length file < 2 ^ 64 → IsFile file g a → IsFile file h b → (g ≡ h) × (a ≡ b)
 one_file file g h a b small is other =
@@ -97,7 +92,7 @@ opened_push (c ∷ cs) b rest =
 pub after_push : (h : HeaderView) (first : Last) (bs : List BodyView) (b : BodyView) (last now : Last) → bodies_after h first bs ≡ Some last
     → body_after h last b ≡ Some now → bodies_after h first (bs ++ b ∷ []) ≡ Some now
 after_push h first [] b last now e lawful =
-    ap (option_and_then (λ (l : Last). Some l)) (ap (λ (l : Last). body_after h l b) (same_last first last e) ∙ lawful)
+    ap (option_and_then (λ (l : Last). Some l)) (ap (λ (l : Last). body_after h l b) (some_is first last e) ∙ lawful)
 after_push h first (c ∷ cs) b last now e lawful =
     let step = and_then_some (λ (l : Last). bodies_after h l cs) (body_after h first c) last e in
     ap (option_and_then (λ (l : Last). bodies_after h l (cs ++ b ∷ []))) step.1 ∙ after_push h step.0 cs b last now step.2 lawful
@@ -107,12 +102,12 @@ next_of : (h : HeaderView) (first : Last) (read : List BodyView) (b : BodyView) 
     → IsSome (bodies_after h first (read ++ b ∷ bs)) → (now : Last) × (body_after h last b ≡ Some now)
 next_of h first [] b bs last e lawful =
     let step = goes_on (λ (l : Last). bodies_after h l bs) (body_after h first b) lawful in
-    (step.0, ap (λ (l : Last). body_after h l b) (sym (same_last first last e)) ∙ step.1)
+    (step.0, ap (λ (l : Last). body_after h l b) (sym (some_is first last e)) ∙ step.1)
 next_of h first (c ∷ cs) b bs last e lawful =
     let step = and_then_some (λ (l : Last). bodies_after h l cs) (body_after h first c) last e in
     let other = goes_on (λ (l : Last). bodies_after h l (cs ++ b ∷ bs)) (body_after h first c) lawful in
     next_of h step.0 cs b bs last step.2
-    (subst (λ (l : Last). IsSome (bodies_after h l (cs ++ b ∷ bs))) (same_last other.0 step.0 (sym other.1 ∙ step.1)) other.2)
+    (subst (λ (l : Last). IsSome (bodies_after h l (cs ++ b ∷ bs))) (some_is other.0 step.0 (sym other.1 ∙ step.1)) other.2)
 
 -- where bodies were read in front of the rest, and the whole is bodies, the rest is a closed gate, or an open one and a body that may follow
 pub data Next (h : HeaderView) (last : Last) (rest : List ℕ) : Type 0 where

@@ -58,17 +58,10 @@ pub(crate) fn ranges(scale: &Scale, table: Table) -> [Range; PAYLOAD_WORDS]
     let date = span(1, MAX_DATE);
     let district = span(1, scale.districts());
     let warehouse = span(1, scale.warehouses());
+    let next_order = span(1, scale.orders() + 1);
     match table {
         Table::Warehouse => [MONEY, none, none, none, none, none, none],
-        Table::District => [
-            MONEY,
-            span(1, scale.orders() + 1),
-            none,
-            none,
-            none,
-            none,
-            none,
-        ],
+        Table::District => [MONEY, next_order, none, none, none, none, none],
         Table::Customer => [MONEY, MONEY, count, count, none, none, none],
         Table::History => [
             span(1, scale.customers()),
@@ -113,15 +106,7 @@ pub(crate) fn ranges(scale: &Scale, table: Table) -> [Range; PAYLOAD_WORDS]
             none,
             none,
         ],
-        Table::Oldest => [
-            span(1, scale.orders() + 1),
-            none,
-            none,
-            none,
-            none,
-            none,
-            none,
-        ],
+        Table::Oldest => [next_order, none, none, none, none, none, none],
         Table::Last => [span(0, scale.orders()), none, none, none, none, none, none],
     }
 }

@@ -68,7 +68,7 @@ pub(crate) fn put_entry(out: &mut Vec<u8>, entry: &LoggedEntry) -> Result<(), Al
 }
 
 /// Appends what an entry has in front of its writes.
-pub fn put_front(
+fn put_front(
     out: &mut Vec<u8>,
     number: u64,
     tid: u64,
