@@ -110,7 +110,7 @@ few_districts : (s : Sizes) → IsScale s → s.warehouses * s.districts ≤ 8 *
 few_districts s is = mul-le-mul is.warehouses.1 is.districts.1
 
 -- a table's places are numbers of four bytes
-few_places : (s : Sizes) → IsScale s → (t : Table) → places s t < 256 ^ 4
+pub few_places : (s : Sizes) → IsScale s → (t : Table) → places s t < 256 ^ 4
 few_places s is table.Warehouse = omega (arith, is.warehouses.1)
 few_places s is table.District = omega (arith, few_districts s is)
 few_places s is table.Customer = omega (arith, mul-le-mul (few_districts s is) is.customers.1)

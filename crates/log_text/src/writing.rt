@@ -41,7 +41,7 @@ fn put_value(out: &mut Vec<u8>, table: Table, words: &Option<Payload>) -> Result
 }
 
 /// Appends a write.
-pub(crate) fn put_write(out: &mut Vec<u8>, write: &Write) -> Result<(), AllocError>
+pub fn put_write(out: &mut Vec<u8>, write: &Write) -> Result<(), AllocError>
     ensures { OnOk result (out.new.items ≡ out.old.items ++ write_text write.now) }
 {
     put_u8(out, table_number(write.table))?;
@@ -68,7 +68,7 @@ pub(crate) fn put_entry(out: &mut Vec<u8>, entry: &LoggedEntry) -> Result<(), Al
 }
 
 /// Appends what an entry has in front of its writes.
-fn put_front(
+pub fn put_front(
     out: &mut Vec<u8>,
     number: u64,
     tid: u64,

@@ -1,0 +1,42 @@
+-- An entry of the book's history, as an entry of a log file.
+use Rattle.std.specs.Prelude.{ℕ, Bool, not, nat_lt, Option, Some, List, [], ◌∷◌, ◌++◌, map}
+use Rattle.std.specs.List.{filter}
+use Rattle.tables.specs.Sizes.{Sizes}
+use Rattle.tables.specs.Records.{first_number, table_at, place_at}
+use Rattle.tables.specs.Rows.{money_word, payload_of}
+use Rattle.tables.specs.declared.rows.History.{History}
+use Rattle.tables.specs.declared.records.Table.TheVariants as table
+use Rattle.readset.specs.Writes.{WriteSetView, added}
+use Rattle.book.specs.declared.entry.Entry.{Entry}
+use Rattle.log_text.specs.Entries.{EntryView}
+use Rattle.log_text.specs.declared.write.Write.{Write}
+
+-- what the record of a number holds, as a write
+abbrev pub write_at : Sizes → ℕ × Option (List ℕ) → Write
+write_at s e = record { table = table_at s e.0; place = place_at s e.0; words = e.1 }
+
+-- the columns of a HISTORY row, one word each
+abbrev pub history_words : History → List ℕ
+history_words r = payload_of (r.customer ∷ r.customer_district ∷ r.customer_warehouse ∷ r.district ∷ r.warehouse
+    ∷ r.date ∷ money_word r.amount ∷ [])
+
+-- a row that HISTORY gets, as a write
+abbrev pub history_write : History → Write
+history_write r = record { table = table.History; place = 0; words = Some (history_words r) }
+
+-- whether a record is one of WAREHOUSE, DISTRICT or CUSTOMER, which come before HISTORY
+abbrev pub is_before_history : Sizes → ℕ × Option (List ℕ) → Bool
+is_before_history s e = nat_lt e.0 (first_number s table.NewOrder)
+
+abbrev pub is_behind_history : Sizes → ℕ × Option (List ℕ) → Bool
+is_behind_history s e = not (is_before_history s e)
+
+-- what a transaction wrote, in the order of the tables: HISTORY's row stands between the records before and behind it
+abbrev pub writes_of : Sizes → WriteSetView → List Write
+writes_of s writes = map (write_at s) (filter (is_before_history s) writes.values)
+    ++ (map history_write (added writes.history_row)
+    ++ map (write_at s) (filter (is_behind_history s) writes.values))
+
+-- its commit number, TID and terminal, and what it wrote
+abbrev pub entry_of : Sizes → Entry → EntryView
+entry_of s e = record { number = e.number; tid = e.tid; terminal = e.terminal; writes = writes_of s e.writes }

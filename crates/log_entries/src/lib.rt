@@ -1,0 +1,2 @@
+//! An entry of the book's history, as an entry of a log file.
+#![tactic(auto)]
