@@ -4,6 +4,6 @@ pub mod LeftIs
 pub mod MoreReads
 pub mod WrittenRecords
 mod Lookups
-mod Entries
+pub mod Entries
 mod Loaded
 pub mod UnderWay
