@@ -105,7 +105,7 @@ module _ (t0 : Database) (x : NewOrderInput) (taken : Taken) (valid : IsNewOrder
         subst (λ (writes : WriteSetView). Holds t writes (row_at (after_lines t x [])))
         (λ i. puts_all (s i) no_writes (opening x (e i) (w i)))
         (holds_opened t x no_writes r.row h.well_formed r.condition_2 number (v.warehouse, v.district) (v.warehouse, v.district, v.customer) r.at
-        (holds_first t no_writes (λ n. refl)))
+        (holds_first t))
 
     pub opened_taken : (last : TransactionView) → Keeps first.reads last.reads → last.writes ≡ puts_all t0.scale no_writes (opening x k taken.district)
         → AreTaken t0 x k [] last []

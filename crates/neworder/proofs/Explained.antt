@@ -97,6 +97,7 @@ module _ (t0 : Database) (x : NewOrderInput) (k : OrderKey) (under_way : Transac
             numbered = subst (λ (q : ℕ × Sizes). q.0 ≤ q.1.orders) (λ i. (sym number i, sym h.of_population.scale i)) is_key.2.1;
             rows = λ n small. ap (λ (d : Database). rows d n) left ∙ (taken.holds t h).put_in n small;
             history = ap (λ (d : Database). d.history) left ∙ sym (append-nil t.history) ∙ ap (λ q. t.history ++ added q) (sym no_history);
+            absent = (taken.holds t h).absent;
           }
 
     pub commits : AtAll t0 under_way (λ t. IsCommitOf t (input.NewOrder x) under_way.writes (reply.NewOrder (order_reply_of t0 x k priced.sum supplied)))

@@ -16,7 +16,7 @@ use Rattle.tables.specs.declared.new_order.RequestedLine.{RequestedLine}
 use Rattle.tables.specs.declared.new_order.NewOrderInput.{NewOrderInput}
 use Rattle.readset.specs.Writes.{WriteSetView}
 use Rattle.readset.specs.Changes.{Holds, puts_all}
-use Rattle.readset.proofs.HoldsChanges.{holds-changes}
+use Rattle.readset.proofs.HoldsChanges.{holds-changes, not_taken}
 use Rattle.neworder.specs.Steps.{after_lines, opening, lining}
 use Rattle.neworder.proofs.Opened.{opened, opened_others}
 use Rattle.neworder.proofs.Lined.{lined, lined_others}
@@ -37,6 +37,7 @@ module _ (t : Database) (x : NewOrderInput) where
       let at_key : IsOrderKey t.scale (new_key t x) = new_key_there at_home second number in
       holds-changes t (opening x (new_key t x) (district_words (numbered_district r))) writes (row_at t) (row_at (after_lines t x [])) h
       (at_home, (at_key, (at_key, (at_buyer, tt))))
+      (not_taken _ _, (not_taken _ _, (not_taken _ _, (not_taken _ _, tt))))
       (opened t x wf second r found)
       (λ j _ apart. opened_others t x wf second r j apart)
 
@@ -50,5 +51,6 @@ module _ (t : Database) (x : NewOrderInput) where
       holds-changes t (lining (new_key t x) (length ls + 1) l (line_row t l) (stock_words (drawn x.warehouse l r))) writes (row_at (after_lines t x ls))
       (row_at (after_lines t x (ls ++ l ∷ []))) h
       ((at_key.0, at_key.1, at_key.2, at_line), (at_stock, tt))
+      (not_taken _ _, (not_taken _ _, tt))
       (lined t x ls l r found)
       (λ j _ apart. lined_others t x ls l r j apart)

@@ -15,11 +15,11 @@ use Rattle.tables.specs.declared.input.Input.TheVariants as input
 use Rattle.tables.specs.declared.reply.Reply.TheVariants as reply
 use Rattle.laws.proofs.NamesKept.{same_number}
 use Rattle.readset.specs.Reads.{ReadSetView}
-use Rattle.readset.specs.Writes.{WriteSetView, no_writes, rows_with}
+use Rattle.readset.specs.Writes.{WriteSetView, no_writes, value_for, rows_with}
 use Rattle.readset.specs.Commit.{IsCommitOf}
 use Rattle.readset.specs.Explains.{IsCandidate}
 use Rattle.readset.specs.Changes.{Holds, puts_all}
-use Rattle.readset.proofs.HoldsChanges.{holds-changes, holds_first}
+use Rattle.readset.proofs.HoldsChanges.{holds-changes, holds_first, not_taken}
 use Rattle.payment.specs.Steps.{keys_at, AreFound, AreRows, AreNewValues, changes_of, reply_of}
 use Rattle.payment.specs.declared.transaction.Keys.{Keys}
 use Rattle.payment.specs.declared.transaction.Found.{Found}
@@ -104,13 +104,13 @@ module _ (t0 : Database) (x : PaymentInput) (id : ℕ) (reads : ReadSetView) (fo
           let r = rows_of t h in
           let p = made r.w r.d r.c r.are in
           let v : IsPayment t.scale x = subst (λ (q : Sizes). IsPayment q x) (sym h.of_population.scale) valid in
-          holds-changes t (changes_of (keys_at x id) values) no_writes (row_at t) (row_at (after_payment_of t x id)) (holds_first t no_writes (λ n. refl)) (
+          holds-changes t (changes_of (keys_at x id) values) no_writes (row_at t) (row_at (after_payment_of t x id)) (holds_first t) (
             v.warehouse,
             (
               (v.warehouse, v.district),
               ((v.customer_warehouse, v.customer_district, subst (λ (q : Sizes). IsNumber q.customers id) (sym h.of_population.scale) is_number), tt),
             ),
-          ) (
+          ) (not_taken _ values.warehouse, (not_taken _ values.district, (not_taken _ values.customer.words, tt))) (
             warehouse_changed t x id r.w r.at_w
                 ∙ ap Some (sym p.warehouse),
             (district_changed t x id r.d r.at_d ∙ ap Some (sym p.district), (customer_changed t x id r.c r.at_c ∙ ap Some (sym p.customer), tt)),
@@ -129,4 +129,6 @@ module _ (t0 : Database) (x : PaymentInput) (id : ℕ) (reads : ReadSetView) (fo
             rows = λ n small. ap (λ i. rows (after_payment_of t x i) n) same ∙ (changed t h).put_in n small
                 ∙ ap (λ (s : Sizes). rows_with (puts_all s no_writes (changes_of (keys_at x id) values)) (rows t) n) h.of_population.scale;
             history = ap (λ i. t.history ++ history_row x i ∷ []) same;
+            absent = λ n small out. (changed t h).absent n small
+                (ap (λ (s : Sizes). value_for (puts_all s no_writes (changes_of (keys_at x id) values)) n) h.of_population.scale ∙ out);
           })
