@@ -64,8 +64,8 @@ module _ (t : Database) (x : DeliveryInput) (n o : ℕ) where
   begun (key.Last c) is = refl
 
   -- one line more: its row, where there is one, gets its date
-  abbrev pub dating : ℕ → Option OrderLine → Changes
-  dating m l = (key.OrderLine (line_key k (m + 1)), option_map (λ r. line_words (dated x r)) l) ∷ []
+  abbrev pub dating : ℕ → OrderLine → Changes
+  dating m r = (key.OrderLine (line_key k (m + 1)), Some (line_words (dated x r))) ∷ []
 
   module _ (m : ℕ) where
     last_among : is_among k (m + 1) (line_key k (m + 1)) ≡ true
@@ -73,18 +73,13 @@ module _ (t : Database) (x : DeliveryInput) (n o : ℕ) where
         let up_to : nat_le (m + 1) (m + 1) ≡ true = grind (arith, nat_tests) in
         λ i. ((self x.warehouse i && self (n + 1) i) && self o i) && up_to i
 
-    pub dated_line : Says (row_at (with_dates t x n k (m + 1))) (dating m (get t.lines (line_key k (m + 1))))
-    dated_line = (
+    pub dated_line : (r : OrderLine) → get t.lines (line_key k (m + 1)) ≡ Some r → Says (row_at (with_dates t x n k (m + 1))) (dating m r)
+    dated_line r found = (
       ap (option_map line_words)
           (line_at (m + 1) (line_key k (m + 1))
-          ∙ (λ i. option_map (λ l. cond (is_taken_before t x n o i || last_among i) (dated x l) l) (get t.lines (line_key k (m + 1)))))
-          ∙ composed (get t.lines (line_key k (m + 1))),
+          ∙ (λ i. option_map (λ l. cond (is_taken_before t x n o i || last_among i) (dated x l) l) (found i))),
       tt,
     )
-      where
-        composed : (w : Option OrderLine) → option_map line_words (option_map (dated x) w) ≡ option_map (λ r. line_words (dated x r)) w
-        composed None = refl
-        composed (Some l) = refl
 
     other_line : (j : LineKey) → j ≢ line_key k (m + 1) → is_among k (m + 1) j ≡ is_among k m j
     other_line j apart = elim (is_order k.warehouse k.district k.order (order_of j)) as
@@ -96,13 +91,31 @@ module _ (t : Database) (x : DeliveryInput) (n o : ℕ) where
           | false ↦ λ e. refl
         ] refl
 
-    pub dated_others : (l : Option OrderLine) (j : RecordKey) → Apart j (dating m l) → row_at (with_dates t x n k (m + 1)) j ≡ row_at (with_dates t x n k m) j
-    dated_others l (key.Warehouse w) apart = refl
-    dated_others l (key.District h) apart = refl
-    dated_others l (key.Customer c) apart = refl
-    dated_others l (key.NewOrder j) apart = refl
-    dated_others l (key.Order j) apart = refl
-    dated_others l (key.OrderLine j) apart = same_lines (m + 1) m j (other_line j (λ same. apart.0 (ap key.OrderLine same)))
-    dated_others l (key.Stock h) apart = refl
-    dated_others l (key.Oldest h) apart = refl
-    dated_others l (key.Last c) apart = refl
+    pub dated_others : (r : OrderLine) (j : RecordKey) → Apart j (dating m r) → row_at (with_dates t x n k (m + 1)) j ≡ row_at (with_dates t x n k m) j
+    dated_others r (key.Warehouse w) apart = refl
+    dated_others r (key.District h) apart = refl
+    dated_others r (key.Customer c) apart = refl
+    dated_others r (key.NewOrder j) apart = refl
+    dated_others r (key.Order j) apart = refl
+    dated_others r (key.OrderLine j) apart = same_lines (m + 1) m j (other_line j (λ same. apart.0 (ap key.OrderLine same)))
+    dated_others r (key.Stock h) apart = refl
+    dated_others r (key.Oldest h) apart = refl
+    dated_others r (key.Last c) apart = refl
+
+    -- where there is no row, nothing changes
+    pub none_dated : get t.lines (line_key k (m + 1)) ≡ None → (j : RecordKey) → row_at (with_dates t x n k (m + 1)) j ≡ row_at (with_dates t x n k m) j
+    none_dated none (key.Warehouse w) = refl
+    none_dated none (key.District h) = refl
+    none_dated none (key.Customer c) = refl
+    none_dated none (key.NewOrder j) = refl
+    none_dated none (key.Order j) = refl
+    none_dated none (key.OrderLine j) = go (get t.lines j) refl
+      where
+        go : (w : Option OrderLine) → get t.lines j ≡ w → row_at (with_dates t x n k (m + 1)) (key.OrderLine j) ≡ row_at (with_dates t x n k m) (key.OrderLine j)
+        go None e =
+            let still : (a : ℕ) → get (with_dates t x n k a).lines j ≡ None = λ a. line_at a j ∙ ap (option_map (λ l. cond (test a j) (dated x l) l)) e in
+            ap (option_map line_words) (still (m + 1) ∙ sym (still m))
+        go (Some l) e = same_lines (m + 1) m j (other_line j (λ same. let gone : Some l ≡ None = sym e ∙ ap (get t.lines) same ∙ none in absurd cc))
+    none_dated none (key.Stock h) = refl
+    none_dated none (key.Oldest h) = refl
+    none_dated none (key.Last c) = refl

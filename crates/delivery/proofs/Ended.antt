@@ -21,7 +21,7 @@ use Rattle.readset.specs.Reads.{ReadSetView}
 use Rattle.readset.specs.Writes.{WriteSetView, puts}
 use Rattle.readset.specs.Changes.{Holds, puts_all}
 use Rattle.readset.specs.Explains.{IsCandidate, HasOrderConditions}
-use Rattle.readset.proofs.HoldsChanges.{holds-changes}
+use Rattle.readset.proofs.HoldsChanges.{holds-changes, not_taken}
 use Rattle.readset.specs.Transaction.{TransactionView, AtAll, ReadsMore}
 use Rattle.readset.proofs.UnderWay.{candidate_still}
 use Rattle.delivery.specs.Steps.{next_home, next_key, with_dates, amount_up_to, AreDone, AreDated, after_districts}
@@ -41,7 +41,7 @@ pub none_dated_yet : (t0 : Database) (x : DeliveryInput) (n o : ℕ) (old new : 
     → AreDated t0 x n o 0 new (pos 0)
 none_dated_yet t0 x n o old new most done more = record {
   holds = λ t h. holds-changes t [] new.writes (row_at (after_districts t x n)) (row_at (with_dates t x n (next_key x n o) 0))
-      (done_with_more t0 x n old new most done more t h) tt tt (λ j is _. begun t x n o j is);
+      (done_with_more t0 x n old new most done more t h) tt tt tt (λ j is _. begun t x n o j is);
   sum_is = λ t h. refl;
 }
 
@@ -50,7 +50,7 @@ pub none_to_do : (t0 : Database) (x : DeliveryInput) (n : ℕ) (old new : Transa
     → AtAll t0 new (λ t. Rattle.tables.specs.Delivery.waiting t (next_home x n) ≡ None) → AreDone t0 x (n + 1) new
 none_to_do t0 x n old new most done more none t h =
     holds-changes t [] new.writes (row_at (after_districts t x n)) (row_at (after_districts t x (n + 1))) (done_with_more t0 x n old new most done more t h) tt
-    tt (λ j is _. none_changed t x n (none t h) j)
+    tt tt (λ j is _. none_changed t x n (none t h) j)
 
 same_amount : (t : Database) (k : OrderKey) (m : ℕ) → amount_up_to t k m ≡ amount_to t.lines k m
 same_amount t k zero = refl
@@ -91,6 +91,7 @@ module _ (t0 : Database) (x : DeliveryInput) (n : ℕ) (k : OrderKey) (named : k
         holds-changes t (ending t x n o w.first r.0 c.0) new.writes (row_at (with_dates t x n j r.0.line_count)) (row_at (after_districts t x (n + 1)))
         (subst (λ m. Holds t new.writes (row_at (with_dates t x n j m))) count so_far)
         (key_there, (key_there, (buyer_there, ((key_there.0, key_there.1), tt))))
+        ((λ _. (j, refl)), (not_taken _ _, (not_taken _ _, (not_taken _ _, tt))))
         (ended t x n o w.first r.0 c.0 r.1 his gapless)
         (λ i _ apart. ended_others t x n o w.first r.0 c.0 r.1 his gapless h.well_formed i apart) in
         let amount : order_amount t j ≡ sum = order_amount-counted t h.well_formed j r.0 r.1 ∙ sym (same_amount t j r.0.line_count)

@@ -43,4 +43,5 @@ module _ (t0 : Database) (x : DeliveryInput) (under_way : TransactionView) (orde
       numbered = tt;
       rows = λ n small. (holds t h).put_in n small;
       history = sym (append-nil t.history) ∙ ap (λ q. t.history ++ added q) (sym no_history);
+      absent = (holds t h).absent;
     }

@@ -58,5 +58,5 @@ module _ (t : Database) (x : DeliveryInput) where
 
 -- before the first district
 pub none_done : (t0 : Database) (x : DeliveryInput) (reads : ReadSetView) → AreDone t0 x 0 (record { reads = reads; writes = no_writes })
-none_done t0 x reads t h = holds-changes t [] no_writes (row_at t) (row_at (after_districts t x 0)) (holds_first t no_writes (λ n. refl)) tt tt
+none_done t0 x reads t h = holds-changes t [] no_writes (row_at t) (row_at (after_districts t x 0)) (holds_first t) tt tt tt
     (λ j is _. none_taken_yet t x j is)

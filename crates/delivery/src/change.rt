@@ -1,6 +1,5 @@
 //! What a Delivery makes of the words of an order, of a line and of a customer (TPC-C 2.7.4.2).
-ghost use Rattle.std.specs.Prelude.{◌≡◌, ◌+◌, ◌≤◌, ℤ, ◌+ℤ◌, ◌≤ℤ◌, pos, Option, Some, IfSome};
-ghost use Rattle.std.specs.Option.{ForSome, option_map, option_map_or};
+ghost use Rattle.std.specs.Prelude.{◌≡◌, ◌+◌, ◌≤◌, ℤ, ◌+ℤ◌, ◌≤ℤ◌, pos, Some, IfSome};
 ghost use Rattle.tables.specs.Sizes.{IsNumber};
 ghost use Rattle.tables.specs.WellFormed.{IsCustomerRow};
 ghost use Rattle.tables.specs.Rows.{money_word, order_words, line_words, customer_words};
@@ -23,10 +22,10 @@ pub(crate) struct Carried {
     pub line_count: u32,
 }
 
-/// A line's words once it has its date, and OL_AMOUNT: nothing and 0 where there is no line.
+/// A line's words once it has its date, and OL_AMOUNT.
 #[derive(Clone, Copy)]
 pub(crate) struct Dated {
-    pub words: Option<Payload>,
+    pub words: Payload,
     pub amount: Cents,
 }
 
@@ -57,28 +56,16 @@ pub(crate) fn carry(words: &Payload, carrier: u32, customers: u32) -> Option<Car
     })
 }
 
-/// OL_DELIVERY_D set, where there is a line. None only where no line of well-formed tables has these words.
-pub(crate) fn date(value: Option<Payload>, date: u32) -> Option<Dated>
+/// OL_DELIVERY_D set. None only where no line of well-formed tables has these words.
+pub(crate) fn date(words: &Payload, date: u32) -> Option<Dated>
     ensures range { IfSome result (λ d. (pos 0 ≤ℤ d.amount) × (d.amount ≤ℤ MAX_LINE_AMOUNT)) }
-    ensures dated { (x : DeliveryInput) (w : Option OrderLine) → x.date ≡ date
-        → ForSome w (λ r. (pos 0 ≤ℤ r.amount) × (r.amount ≤ℤ MAX_LINE_AMOUNT)) → value ≡ option_map line_words w
-        → result ≡ Some (record {
-          words = option_map (λ r. line_words (dated x r)) w;
-          amount =
-              option_map_or (λ r. r.amount) w (pos 0);
-        }) }
+    ensures dated { (x : DeliveryInput) (r : OrderLine) → x.date ≡ date
+        → pos 0 ≤ℤ r.amount → r.amount ≤ℤ MAX_LINE_AMOUNT → words.now ≡ line_words r
+        → result ≡ Some (record { words = line_words (dated x r); amount = r.amount }) }
 {
-    let Some(words) = value else {
-        return Some(Dated {
-            words: None,
-            amount: Cents::new(0),
-        });
-    };
-    let Some(amount) = line_amount(words[4]) else {
-        return None;
-    };
+    let amount = line_amount(words[4])?;
     Some(Dated {
-        words: Some([
+        words: [
             words[0],
             words[1],
             u64::from(date),
@@ -86,7 +73,7 @@ pub(crate) fn date(value: Option<Payload>, date: u32) -> Option<Dated>
             words[4],
             0,
             0,
-        ]),
+        ],
         amount,
     })
 }

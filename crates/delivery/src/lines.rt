@@ -44,7 +44,7 @@ pub(crate) fn date_lines<R: Wait, K: Start>(
     Ok(sum)
 }
 
-/// Sets OL_DELIVERY_D of one line, and gives its OL_AMOUNT: of a line that isn't there neither.
+/// Sets OL_DELIVERY_D of one line, and gives its OL_AMOUNT. Writes nothing of a line that isn't there, and gives 0.
 fn date_line<R: Wait, K: Start>(
     rt: &R,
     transaction: &mut Transaction<'_, K>,
@@ -69,10 +69,12 @@ fn date_line<R: Wait, K: Start>(
         order: order.order,
         line: number,
     });
-    let value = transaction.read(rt, key)?;
-    let Some(dated) = date(value, delivery.date) else {
+    let Some(words) = transaction.read(rt, key)? else {
+        return Ok(Cents::new(0));
+    };
+    let Some(dated) = date(&words, delivery.date) else {
         return Err(Refusal::Stale);
     };
-    transaction.put(key, dated.words)?;
+    transaction.put(key, Some(dated.words))?;
     Ok(dated.amount)
 }
