@@ -12,6 +12,8 @@ mod Showing
 pub mod Replaying
 mod Committed
 mod NextCommit
+mod Loggable
+mod Batched
 mod NumberLeft
 mod RefusedThere
 mod Opened

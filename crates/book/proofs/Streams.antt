@@ -1,5 +1,5 @@
 -- The streams of the loggers, through a commit and a take.
-use Rattle.std.proofs.Common.{◌≡◌, ◌≢◌, ℕ, suc, ◌+◌, ◌-◌, ◌%◌, ◌^◌, ◌<◌, ◌≤◌, ◌==◌, Bool, true, false, cond, ⊎_elim, List, [], ◌∷◌, ◌++◌, length, map, take, drop, refl, sym, ap, ◌∙◌}
+use Rattle.std.proofs.Common.{◌≡◌, ◌≢◌, ℕ, suc, ◌+◌, ◌-◌, ◌%◌, ◌<◌, ◌≤◌, ◌==◌, Bool, true, false, cond, ⊎_elim, List, [], ◌∷◌, ◌++◌, length, map, take, drop, refl, sym, ap, ◌∙◌}
 use Rattle.std.proofs.Common.{subst, arith, All, mod-lt}
 use Rattle.std.proofs.lemmas.Bool.{cases_eq}
 use Rattle.std.proofs.lemmas.Bool.Decides.{eqb_tells}
@@ -14,6 +14,7 @@ use Rattle.tidword.specs.TidWord.{epoch_of}
 use Rattle.board.specs.declared.rule.Plan.{Plan}
 use Rattle.book.specs.Parts.{AreEmpty}
 use Rattle.book.specs.Streams.{stream, last_number, IsUntakenOf, AreStreams}
+use Rattle.book.specs.declared.engine.TheConstants.{MAX_LOGGERS}
 use Rattle.book.specs.declared.entry.Entry.{Entry}
 use Rattle.book.specs.declared.untaken.Untaken.{Untaken}
 
@@ -137,7 +138,7 @@ stream_taken base old new mark entries s t is more below taken number mark_is wa
     none = drop_all t.taken entries (omega (arith, all))
 
 -- the streams with which a run opens, at a board's base
-pub first_streams : (plan : Plan) (streams : List Untaken) → 0 < plan.loggers → plan.loggers < 2 ^ 16
+pub first_streams : (plan : Plan) (streams : List Untaken) → 0 < plan.loggers → plan.loggers ≤ MAX_LOGGERS
     → AreEmpty plan.loggers plan.base streams → AreStreams plan (plan.base + 1) [] streams
 first_streams plan streams some few are = record {
   some = some;

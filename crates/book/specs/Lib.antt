@@ -3,6 +3,7 @@ pub mod Stamps
 pub mod Epochs
 pub mod Streams
 pub mod Done
+pub mod Loggable
 pub mod Book
 pub mod Batches
 pub mod Next

@@ -1,5 +1,5 @@
 -- What an engine is opened with.
-use Rattle.std.specs.Prelude.{◌≡◌, ℕ, ◌<◌, ◌^◌, List, [], length, replicate, All}
+use Rattle.std.specs.Prelude.{◌≡◌, ℕ, ◌<◌, ◌≤◌, List, [], length, replicate, All}
 use Rattle.std.specs.Arc.{arc_value}
 use Rattle.atomic_table.specs.Seated.{TableId}
 use Rattle.tables.specs.Database.{Database}
@@ -11,6 +11,7 @@ use Rattle.board.specs.Seats.{BoardView}
 use Rattle.board.specs.Opening.{Opens}
 use Rattle.book.specs.declared.untaken.Untaken.{Untaken}
 use Rattle.book.specs.declared.engine.Parts.{Parts}
+use Rattle.book.specs.declared.engine.TheConstants.{MAX_LOGGERS, MAX_TERMINALS}
 
 -- the tables that a run of these parts begins with, how many commits made them, the seed of its population, its cells,
 -- its board and what that opened with, its ledger, and how many loggers and terminals it has
@@ -71,7 +72,7 @@ pub record IsFresh (p : Parts) : Type 0 where
   pub pen : p.pen ≡ record { cells = p.cells; all = firsts p.newest.items }
   pub readers : All (λ reader. reader ≡ seen_all p.pen) p.readers.items
   pub parts : p.blank.parts ≡ length p.readers.items
-  pub few : length p.readers.items < 2 ^ 16
+  pub few : length p.readers.items ≤ MAX_TERMINALS
   pub board : Opens p.board.plan (length p.readers.items) p.board p.seats
-  pub loggers : (0 < p.board.plan.loggers) × (p.board.plan.loggers < 2 ^ 16)
+  pub loggers : (0 < p.board.plan.loggers) × (p.board.plan.loggers ≤ MAX_LOGGERS)
   pub streams : AreEmpty p.board.plan.loggers p.board.plan.base p.streams.items

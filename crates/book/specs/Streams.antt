@@ -1,11 +1,12 @@
 -- What each logger is to take: its stream, and the rest of it that wasn't taken yet (Silo, section 4.10).
-use Rattle.std.specs.Prelude.{◌≡◌, ℕ, ◌%◌, ◌==◌, ◌^◌, ◌<◌, ◌≤◌, List, [], ◌∷◌, length, filter, map, take, drop}
+use Rattle.std.specs.Prelude.{◌≡◌, ℕ, ◌%◌, ◌==◌, ◌<◌, ◌≤◌, List, [], ◌∷◌, length, filter, map, take, drop}
 use Rattle.std.specs.Prelude.{slice_index_or}
 use Rattle.std.specs.List.{All}
 use Rattle.std.specs.Arc.{arc_value}
 use Rattle.tidword.specs.TidWord.{epoch_of}
 use Rattle.board.specs.declared.rule.Plan.{Plan}
 use Rattle.book.specs.declared.entry.Entry.{Entry}
+use Rattle.book.specs.declared.engine.TheConstants.{MAX_LOGGERS}
 use Rattle.book.specs.declared.untaken.Untaken.{Untaken}
 
 -- the stream of one of so many loggers: the entries of the terminals that are its own
@@ -29,10 +30,10 @@ pub record IsUntakenOf (base epoch : ℕ) (entries : List Entry) (s : Untaken) :
   pub above : All (λ e. s.mark < epoch_of e.tid) (drop s.taken entries)
 
 -- what the book has of each logger's stream, by the loggers' numbers, on a board of this plan: of one logger or more,
--- whose numbers have 16 bits
+-- which are few
 pub record AreStreams (plan : Plan) (epoch : ℕ) (history : List Entry) (streams : List Untaken) : Type 0 where
   pub some : 0 < plan.loggers
-  pub few : plan.loggers < 2 ^ 16
+  pub few : plan.loggers ≤ MAX_LOGGERS
   pub count : length streams ≡ plan.loggers
   pub each : (l : ℕ) → l < plan.loggers → (d : Untaken)
       → IsUntakenOf plan.base epoch (stream plan.loggers l history) (slice_index_or streams l d)

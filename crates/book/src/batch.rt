@@ -1,14 +1,16 @@
 //! What a logger takes from the book, and writes outside the lock.
-ghost use Rattle.std.specs.Prelude.{◌≡◌};
+ghost use Rattle.std.specs.Prelude.{◌≡◌, map};
+ghost use Rattle.std.specs.Arc.{arc_value};
 
 use crate::entry::Entry;
 use std::alloc::Global;
+use std::marker::Model;
 use std::sync::Arc;
 use tables::Scale;
 
 /// A part of a logger's stream, with the mark up to which the stream is then whole (Silo, section 4.10): each commit of
 /// the logger's terminals that isn't in this batch or an earlier one has a later epoch than the mark. Only a take makes
-/// one.
+/// one, and its type keeps what a log file asks of it.
 #[derive(Drop)]
 pub struct Batch {
     pub(crate) logger: u16,
@@ -22,7 +24,41 @@ pub struct Batch {
     pub(crate) mark: u64,
 }
 
+impl Model for Batch {
+    ghost use Rattle.std.specs.Prelude.{map};
+    ghost use Rattle.std.specs.Arc.{arc_value};
+    ghost use Rattle.book.specs.Batches.{BatchView, IsBatch};
+
+    ghost Value = { BatchView };
+
+    ghost view = { λ b. record {
+      logger = b.logger;
+      loggers = b.loggers;
+      scale = b.scale;
+      seed = b.seed;
+      first = b.first;
+      number_before = b.number_before;
+      mark_before = b.mark_before;
+      entries = map arc_value b.entries.items;
+      mark = b.mark;
+    } };
+
+    ghost invariant = { λ b. IsBatch (record {
+      logger = b.logger;
+      loggers = b.loggers;
+      scale = b.scale;
+      seed = b.seed;
+      first = b.first;
+      number_before = b.number_before;
+      mark_before = b.mark_before;
+      entries = map arc_value b.entries.items;
+      mark = b.mark;
+    }) };
+}
+
 impl Batch {
+    ghost use Rattle.book.specs.Batches.{IsBatch};
+
     /// The logger's number, from 0.
     pub fn logger(&self) -> u16
         ensures { result ≡ self.now.logger }
@@ -72,9 +108,10 @@ impl Batch {
         self.mark_before
     }
 
-    /// The entries, in the order in which they committed.
+    /// The entries, in the order in which they committed. The batch is as a log file asks: its type keeps it.
     pub fn entries(&self) -> &[Arc<Entry, Global>]
-        ensures { result.now ≡ self.now.entries.items }
+        ensures entries { map arc_value result.now ≡ self.now.entries }
+        ensures lawful { IsBatch self.now }
     {
         self.entries.as_slice()
     }

@@ -21,8 +21,8 @@ use tidword::TidWord;
 /// and what has committed. The committed tables are what these tell, and are kept nowhere. Its type keeps `IsSound` of
 /// what contracts see of it, that it is ready for the next commit, that it has each terminal's last TID, that the
 /// terminals' shares sum to the length of the history, that its seat of the board has counted each commit of the
-/// history, with its epoch, and that what waits for a logger is what of its stream was not taken, each entry above the
-/// mark of the last take.
+/// history, with its epoch, that what waits for a logger is what of its stream was not taken, each entry above the
+/// mark of the last take, and that each entry may be written to a log file.
 #[derive(Drop)]
 pub struct Book<K: Run> {
     pub(crate) pen: Pen,
@@ -45,6 +45,7 @@ impl<K: Run> Model for Book<K> {
     ghost use Rattle.book.specs.Ready.{IsReady, AreLast, AreNewest};
     ghost use Rattle.book.specs.Epochs.{HasCounted, found_epoch};
     ghost use Rattle.book.specs.Streams.{AreStreams};
+    ghost use Rattle.book.specs.Loggable.{AreLoggable};
 
     ghost Value = { BookView };
 
@@ -64,7 +65,8 @@ impl<K: Run> Model for Book<K> {
         × AreLast K.parts history b.lasts.items
         × (b.seat.board ≡ K.board) × HasCounted b.seat history
         × (seed_of (arc_value b.population) ≡ K.seed) × (b.past ≡ K.past)
-        × AreStreams K.board.plan (found_epoch b.seat) history b.streams.items };
+        × AreStreams K.board.plan (found_epoch b.seat) history b.streams.items
+        × AreLoggable K.first.scale K.parts history };
 }
 
 impl<K: Run> Book<K> {

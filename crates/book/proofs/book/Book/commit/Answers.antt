@@ -23,6 +23,7 @@ use Rattle.board.specs.Seats.{BoardView, SeatView, noted}
 use Rattle.board.specs.declared.rule.WordStep.TheVariants.{LoadEpoch, CountCommit}
 use Rattle.book.specs.Epochs.{found_epoch, HasCounted}
 use Rattle.book.specs.Streams.{AreStreams}
+use Rattle.book.specs.Loggable.{AreLoggable}
 use Rattle.book.specs.declared.untaken.Untaken.{Untaken}
 use Rattle.book.specs.Ready.{IsReady, AreLast, AreNewest}
 use Rattle.book.specs.History.{replay, CommitsAt, new_versions}
@@ -40,6 +41,7 @@ use Rattle.book.proofs.Streams.{streams_later, streams_reserved, streams_added, 
 use Rattle.book.proofs.Taken.{same_next, there_is, taken_above, next_kept}
 use Rattle.book.proofs.Committed.{read_by_more}
 use Rattle.book.proofs.NextCommit.{is_next}
+use Rattle.book.proofs.Loggable.{next_loggable}
 use Rattle.book.proofs.RefusedThere.{refused_there}
 use Rattle.book.specs.declared.entry.Entry.{Entry}
 use Rattle.book.specs.Done.{Done}
@@ -121,7 +123,7 @@ abbrev Keeps : (t0 lent : Database) (run_cells : List TableId) (run : BoardView)
 Keeps t0 lent run_cells run seed seed_lent past past_here parts total newest lasts q = IsSound past t0 q.0 q.1 (replay t0 q.1)
     × IsReady past t0 run_cells (found_epoch q.2) q.0 q.1 (replay t0 q.1)
     × AreNewest q.0 newest × (lent ≡ t0) × (total ≡ length q.1) × AreLast parts q.1 lasts × (q.2.board ≡ run) × HasCounted q.2 q.1
-    × (seed_lent ≡ seed) × (past_here ≡ past) × AreStreams run.plan (found_epoch q.2) q.1 q.3
+    × (seed_lent ≡ seed) × (past_here ≡ past) × AreStreams run.plan (found_epoch q.2) q.1 q.3 × AreLoggable t0.scale parts q.1
 
 pub invariant_of-self : goal.invariant_of-self
 invariant_of-self g c =
@@ -134,7 +136,7 @@ invariant_of-self g c =
     (seed_of (arc_value c.self.inside.population)) g.K.Run.past c.self.inside.past g.K.Ledger.parts c.self.inside.shares.total c.self.inside.newest.items
     c.self.inside.lasts.items)
     (λ i. (sym c.validate.ensures.pen i, map arc_value c.self.inside.history.items, sym c.epoch-epoch.ensures.step i, c.self.inside.streams.items))
-    (kept.0, ready, kept.2, kept.3, kept.4, kept.5, kept.6, kept.7, kept.8, kept.9, streams)
+    (kept.0, ready, kept.2, kept.3, kept.4, kept.5, kept.6, kept.7, kept.8, kept.9, streams, kept.11)
 
 pub invariant_of-self-in-Err : goal.invariant_of-self-in-Err
 invariant_of-self-in-Err g c =
@@ -157,7 +159,7 @@ invariant_of-self-in-Err g c =
       sym c.epoch-epoch.ensures.step i,
       slice_set c.self.inside.streams.items (c.share.inside.terminal % c.len.result) c.prepare.new.stream,
     ))
-    (kept.0, ready, kept.2, kept.3, kept.4, kept.5, kept.6, kept.7, kept.8, kept.9, reserved)
+    (kept.0, ready, kept.2, kept.3, kept.4, kept.5, kept.6, kept.7, kept.8, kept.9, reserved, kept.11)
 
 pub returns-in-Err-clause-answer : goal.returns-in-Err-clause-answer
 returns-in-Err-clause-answer g c =
@@ -298,6 +300,12 @@ invariant_of-self-2 g c =
       c.self.invariant.9,
       subst (λ (q : SeatView × List Entry). AreStreams g.K.Run.board.plan (found_epoch q.0) q.1
           (slice_set c.self.inside.streams.items (c.share.inside.terminal % c.len.result) c.add.new.self)) (λ i. (sym seat i, sym history i)) added,
+      subst (AreLoggable g.K.Run.first.scale g.K.Ledger.parts) (sym history) (next_loggable g.K.Run.first g.K.Ledger.parts (length g.K.Run.cells) items
+          c.args.reader.now c.args.work (g.K.Run.past + length items + 1) c.in-Ok.prepared.tid c.share.inside.terminal c.self.invariant.11 c.requires.work
+          ready.count c.in_order.ensures
+          (done_there g.K.Run.past g.K.Run.first g.K.Run.cells c.epoch-epoch.result c.self.inside.pen items (replay g.K.Run.first items) c.self.invariant.0
+          ready c.args.reader.now c.args.work c.requires.work found.0)
+          made.0.well_formed c.share.invariant.1),
     )
 
 pub returns-clause-answer : goal.returns-clause-answer

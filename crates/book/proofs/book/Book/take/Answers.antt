@@ -1,20 +1,23 @@
 use Rattle.std.proofs.Common.{◌≡◌, ℕ, ◌+◌, ◌-◌, ◌<◌, ◌≤◌, ◌^◌, All, length, map, drop, refl, sym, ap, ◌∙◌, subst, arith, rules}
 use Rattle.std.proofs.lemmas.List.{get_or-map, length-map, length-drop}
 use lib.Seq.{map-set}
-use Rattle.std.proofs.lemmas.List.Elements.{All-drop, All-filter, All-weaker}
 use Rattle.std.specs.Arc.{arc_value}
-use Rattle.std.specs.Prelude.{slice_set, ◌%◌, ◌==◌}
+use Rattle.std.specs.Prelude.{slice_set}
 use Rattle.tidword.specs.TidWord.{epoch_of}
+use Rattle.tables.specs.Database.{Database}
 use Rattle.tables.specs.declared.limits.TheConstants.{MAX_COMMITS}
+use Rattle.population.specs.Initial.{initial}
+use Rattle.population.specs.declared.population.Population.{Population}
 use Rattle.board.specs.Seats.{SeatView}
 use Rattle.book.specs.Epochs.{HasCounted, found_epoch}
 use Rattle.book.specs.History.{replay}
-use Rattle.book.specs.Ready.{IsReady, IsPassed}
+use Rattle.book.specs.Ready.{IsReady}
 use Rattle.book.specs.Book.{BookView}
 use Rattle.book.specs.Streams.{stream, AreStreams}
 use Rattle.book.specs.Batches.{IsBatchOf}
 use Rattle.book.specs.declared.entry.Entry.{Entry}
 use Rattle.book.specs.declared.untaken.Untaken.{Untaken}
+use Rattle.book.proofs.Batched.{epochs_left, lawful_batch}
 use Rattle.book.proofs.Loaded.{found_later, ready_loaded}
 use Rattle.book.proofs.Streams.{all_of, found, streams_later, stream_set, stream_taken, stream_within}
 use Rattle.book.proofs.book.Book.take.Goals as goal
@@ -85,7 +88,24 @@ invariant_of-self g c =
       i.9,
       subst (λ (q : SeatView). AreStreams g.K.Run.board.plan (found_epoch q) (map arc_value c.self.inside.history.items)
           (slice_set c.self.inside.streams.items c.args.logger c.take-entries.new.self)) (sym step) taken,
+      i.11,
     )
+
+pub invariant_of-result : goal.invariant_of-result
+invariant_of-result g c =
+    let i = c.self.invariant in
+    let plan = g.K.Run.board.plan in
+    let seat = c.self.inside.seat in
+    let history = map arc_value c.self.inside.history.items in
+    let s = c.index_mut-stream.result.now in
+    let is = found plan (found_epoch seat) c.args.logger history c.self.inside.streams.items s i.10 c.requires.logger c.index_mut-stream.ensures.value in
+    let count : c.len-loggers.result ≡ length c.self.inside.streams.items = search rules in
+    lawful_batch g.K.Run.past g.K.Run.first g.K.Run.cells (found_epoch seat) c.self.inside.pen history (replay g.K.Run.first history) plan
+    g.K.Ledger.parts c.args.logger s i.0 i.1 i.11 is i.10.few c.requires.logger c.floor-epoch.result
+    (found_later seat i.6 c.requires.board c.floor-epoch.ensures.later) c.floor-epoch.ensures.bound
+    c.len-loggers.result s.taken c.seed.result c.scale.result (map arc_value c.take-entries.result.items) (count ∙ i.10.count)
+    (c.scale.ensures ∙ ap (λ (p : Population). (initial p).scale) c.deref.ensures ∙ ap (λ (t : Database). t.scale) i.3)
+    (ap (map arc_value) c.take-entries.ensures.entries ∙ is.waiting)
 
 pub returns-clause-batch : goal.returns-clause-batch
 returns-clause-batch g c =
@@ -103,11 +123,6 @@ returns-clause-batch g c =
     let count : c.len-loggers.result ≡ length streams = search rules in
     let entries : map arc_value c.take-entries.result.items ≡ drop s.taken (stream loggers c.args.logger history) =
     ap (map arc_value) c.take-entries.ensures.entries ∙ is.waiting in
-    let passed : All (λ (e : Entry). epoch_of e.tid ≤ c.floor-epoch.result - 1 + 1) history =
-    All-weaker (IsPassed (found_epoch seat) c.self.inside.pen history) (λ (e : Entry). epoch_of e.tid ≤ c.floor-epoch.result - 1 + 1)
-    (λ e p. at_most (epoch_of e.tid) (found_epoch seat) c.floor-epoch.result p.in_epoch later mark.3) history i.1.passed in
-    let up_to = All-drop (λ (e : Entry). epoch_of e.tid ≤ c.floor-epoch.result - 1 + 1) s.taken (stream loggers c.args.logger history)
-    (All-filter (λ (e : Entry). e.terminal % loggers == c.args.logger) (λ (e : Entry). epoch_of e.tid ≤ c.floor-epoch.result - 1 + 1) history passed) in
     subst (λ (q : BookView). IsBatchOf g.K.Run.board.plan.loggers c.args.logger q (record {
       logger = c.args.logger;
       loggers = c.len-loggers.result;
@@ -116,7 +131,7 @@ returns-clause-batch g c =
       first = c.index_mut-stream.result.now.taken;
       number_before = c.index_mut-stream.result.now.last_taken;
       mark_before = c.index_mut-stream.result.now.mark;
-      entries = c.take-entries.result;
+      entries = map arc_value c.take-entries.result.items;
       mark = c.floor-epoch.result - 1;
     })) c.self.view_is (record {
       logger_is = refl;
@@ -130,12 +145,10 @@ returns-clause-batch g c =
           (sym c.index_mut-stream.ensures.value));
       entries = entries;
       epochs = subst (All (λ (e : Entry). (s.mark < epoch_of e.tid) × (epoch_of e.tid ≤ c.floor-epoch.result - 1 + 1))) (sym entries)
-          (λ k d h. (is.above k d h, up_to k d h));
+          (epochs_left g.K.Run.past g.K.Run.first g.K.Run.cells (found_epoch seat) c.self.inside.pen history (replay g.K.Run.first history) plan
+          g.K.Ledger.parts c.args.logger s i.0 i.1 i.11 is i.10.few c.requires.logger c.floor-epoch.result later c.floor-epoch.ensures.bound);
       marks_rise = mark.1;
     })
-  where
-    at_most : (n seen epoch : ℕ) {more : ℕ} → n ≤ seen → seen ≤ epoch → more ≡ epoch → n ≤ more
-    at_most n seen epoch p q r = omega (arith, p, q, r)
 
 pub returns-clause-taken : goal.returns-clause-taken
 returns-clause-taken g c =

@@ -17,8 +17,11 @@ use Rattle.board.specs.declared.rule.Role.TheVariants.{Terminal}
 use Rattle.board.specs.Seats.{BoardView, SeatView, new_seat}
 use Rattle.book.specs.Epochs.{HasCounted, found_epoch}
 use Rattle.book.specs.Streams.{AreStreams}
+use Rattle.book.specs.Loggable.{AreLoggable}
+use Rattle.book.specs.declared.engine.TheConstants.{MAX_TERMINALS}
 use Rattle.book.proofs.Opened.{first_sound, first_ready, first_lasts, first_newest}
 use Rattle.book.proofs.Streams.{first_streams}
+use Rattle.book.proofs.Loggable.{first_loggable}
 use Rattle.book.proofs.engine.Engine.open.Goals as goal
 
 pub invariant_of-book : goal.invariant_of-book
@@ -56,6 +59,8 @@ invariant_of-book g c =
       subst (λ (q : BoardView × SeatView × List Entry). AreStreams q.0.plan (found_epoch q.1) q.2 c.args.parts.streams.items)
           (λ i. (c.requires.run.board_is i, sym fresh.board.book i, sym none i))
           (first_streams parts.board.plan parts.streams.items fresh.loggers.0 fresh.loggers.1 fresh.streams),
+      subst (AreLoggable g.K.Run.first.scale g.K.Ledger.parts) (sym none)
+          (first_loggable g.K.Run.first.scale g.K.Ledger.parts (subst (λ n. n ≤ MAX_TERMINALS) (sym fresh.parts ∙ c.requires.ledger.1) fresh.few)),
     )
 
 pub invariant_of-terminals : goal.invariant_of-terminals
@@ -69,5 +74,5 @@ invariant_of-terminals g c =
       search rules,
       search rules,
       omega (arith, sym fresh.parts ∙ c.requires.ledger.1),
-      subst (λ n. n < 2 ^ 16) (sym fresh.parts ∙ c.requires.ledger.1) fresh.few,
+      omega (arith, sym fresh.parts ∙ c.requires.ledger.1, fresh.few),
     )
