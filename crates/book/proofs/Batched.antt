@@ -1,6 +1,7 @@
 -- What holds of a history holds of a batch of it.
-use Rattle.std.proofs.Common.{◌≡◌, ℕ, suc, ◌+◌, ◌-◌, ◌%◌, ◌<◌, ◌≤◌, ◌==◌, Bool, true, false, cond, true≢false, ⊎_elim, List, [], ◌∷◌, length, filter}
-use Rattle.std.proofs.Common.{take, drop, sym, ap, ◌∙◌, subst, arith}
+use Rattle.std.proofs.Common.{◌≡◌, ℕ, zero, suc, ◌+◌, ◌-◌, ◌%◌, ◌<◌, ◌≤◌, ◌==◌, Bool, true, false, cond, true≢false, ⊎_elim, List, [], ◌∷◌, length, filter}
+use Rattle.std.proofs.Common.{take, drop, sym, ◌∙◌, subst, arith}
+use Rattle.std.specs.Prelude.{slice_index_or}
 use Rattle.std.specs.List.{All}
 use Rattle.std.proofs.lemmas.Bool.Decides.{eqb_tells}
 use Rattle.std.proofs.lemmas.List.Elements.{All-nil, All-cons, All-drop, All-filter, All-weaker, filter_passes}
@@ -12,7 +13,7 @@ use Rattle.tidword.specs.TidWord.{epoch_of}
 use Rattle.cells.specs.Records.{PenView}
 use Rattle.board.specs.Words.{last_epoch}
 use Rattle.board.specs.declared.rule.Plan.{Plan}
-use Rattle.book.specs.Batches.{BatchView, IsBatch}
+use Rattle.book.specs.Batches.{IsBatch}
 use Rattle.book.specs.Book.{IsSound}
 use Rattle.book.specs.History.{Replays}
 use Rattle.book.specs.Loggable.{IsLoggable, AreLoggable, NumbersRise}
@@ -68,13 +69,13 @@ stamped_drop (suc k) (e ∷ es) h = stamped_drop k es h.2
 -- what holds of each entry, and of a terminal of the logger's own, holds of each that is left of its stream
 left_of : (P : Entry → Type 0) (k loggers l : ℕ) (es : List Entry) → All P es → All (λ (e : Entry). P e × (e.terminal % loggers ≡ l)) (drop k (stream loggers l es))
 left_of P k loggers l es h = All-drop (λ (e : Entry). P e × (e.terminal % loggers ≡ l)) k (stream loggers l es)
-    (λ i d lt. (All-filter own P es h i d lt, its (filter_passes own es i d lt)))
+    (λ i d lt. (All-filter own P es h i d lt, its (slice_index_or (stream loggers l es) i d) (filter_passes own es i d lt)))
   where
     own : Entry → Bool
     own e = e.terminal % loggers == l
 
-    its : {e : Entry} → (e.terminal % loggers == l) ≡ true → e.terminal % loggers ≡ l
-    its {e = e} is = ⊎_elim (λ yes. yes.1) (λ no. absurd (true≢false (sym is ∙ no.0))) (eqb_tells (e.terminal % loggers) l)
+    its : (e : Entry) → (e.terminal % loggers == l) ≡ true → e.terminal % loggers ≡ l
+    its e is = ⊎_elim (λ yes. yes.1) (λ no. absurd (true≢false (sym is ∙ no.0))) (eqb_tells (e.terminal % loggers) l)
 
 module _ (past : ℕ) (t0 : Database) (run_cells : List TableId) (seen : ℕ) (written : PenView) (history : List Entry) (t : Database) (plan : Plan)
     (terminals logger : ℕ) (s : Untaken) (sound : IsSound past t0 written history t) (ready : IsReady past t0 run_cells seen written history t)
