@@ -67,7 +67,8 @@ stamped_drop (suc k) [] h = tt
 stamped_drop (suc k) (e ∷ es) h = stamped_drop k es h.2
 
 -- what holds of each entry, and of a terminal of the logger's own, holds of each that is left of its stream
-left_of : (P : Entry → Type 0) (k loggers l : ℕ) (es : List Entry) → All P es → All (λ (e : Entry). P e × (e.terminal % loggers ≡ l)) (drop k (stream loggers l es))
+left_of : (P : Entry → Type 0) (k loggers l : ℕ) (es : List Entry) → All P es
+    → All (λ (e : Entry). P e × (e.terminal % loggers ≡ l)) (drop k (stream loggers l es))
 left_of P k loggers l es h = All-drop (λ (e : Entry). P e × (e.terminal % loggers ≡ l)) k (stream loggers l es)
     (λ i d lt. (All-filter own P es h i d lt, its (slice_index_or (stream loggers l es) i d) (filter_passes own es i d lt)))
   where
