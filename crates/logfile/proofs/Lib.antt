@@ -1,3 +1,4 @@
 mod Tearing
 mod Moments
 mod Staging
+mod Appending

@@ -2,7 +2,9 @@
 //! 4.10), and are read back.
 #![tactic(auto)]
 
+mod log_file;
 mod scanning;
 mod storing;
 
+pub use log_file::LogFile;
 pub use scanning::scan;

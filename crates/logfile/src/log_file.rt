@@ -1,0 +1,191 @@
+//! An open log file.
+ghost use Rattle.std.specs.Prelude.{◌≡◌, ◌≢◌, ◌⊎◌, ℕ, ◌+◌, ◌<◌, ◌^◌, true, false, Some, List, [], ◌∷◌, ◌++◌, length, min};
+ghost use Rattle.std.specs.Prelude.{IfOk, IfErr, OnOk, OnErr, IsErr, IsErrOf};
+ghost use Rattle.money.specs.declared.refusal.Refusal.TheVariants.{OutOfMemory, Device};
+ghost use Rattle.disk.specs.Calls.{Wrote, Synced, Counts};
+ghost use Rattle.disk.specs.Crashes.{LeavesOnly};
+ghost use Rattle.log_header.specs.Header.{header_text};
+ghost use Rattle.log_text.specs.Bodies.{BodyView, body_after, body_text, start};
+ghost use Rattle.log_text.specs.declared.last.Last.{Last};
+ghost use Rattle.logfile.specs.Standing.{Stands, IsWithOrWithout, IsKept};
+
+use crate::storing::store;
+use board::Keeper;
+use codec::put_u8;
+use disk::Disk;
+use log_header::{Header, put_header};
+use log_text::Last;
+use money::Refusal;
+use std::alloc::Global;
+use std::marker::Model;
+
+// The gate behind the last body: what stands behind it doesn't count.
+const CLOSED: u8 = 0;
+
+/// A log file that is open for appending. Its type keeps, of a modelled disk, that the file stands there with its bodies
+/// (`Stands`) until the device fails, and what a crash can't take (`IsKept`) whatever fails.
+#[derive(Drop)]
+pub struct LogFile<D: Disk> {
+    disk: D,
+    header: Header,
+    end: u64,
+    last: Last,
+    count: u64,
+    failed: bool,
+    // The text of a body, kept from one to the next for its room.
+    buffer: Vec<u8>,
+}
+
+impl<D: Disk> Model for LogFile<D> {
+    ghost use Rattle.std.specs.Prelude.{◌≡◌, ◌<◌, ◌^◌, false};
+    ghost use Rattle.logfile.specs.Standing.{LogFileView, IsOpen, IsKept};
+
+    ghost Value = { LogFileView D };
+
+    ghost view = { λ f. record {
+      disk = f.disk;
+      header = f.header;
+      end = f.end;
+      last = f.last;
+      count = f.count;
+      failed = f.failed;
+    } };
+
+    ghost invariant = { λ f. (f.end < 2 ^ 63)
+        × (D.is_modelled → f.failed ≡ false → IsOpen f.header f.end f.last (D.seen f.disk) (D.story f.disk))
+        × (D.is_modelled → ∥ IsKept f.header (D.story f.disk) f.last.mark ∥₁) };
+}
+
+impl<D: Disk> LogFile<D> {
+    /// A log file on an empty disk: its header and a closed gate, by two calls of the device.
+    ///
+    /// # Errors
+    ///
+    /// `Device` where the device fails, and only there; `OutOfMemory`, before the first call of the device. The disk is
+    /// dropped then.
+    pub fn create(alloc: Global, disk: D, header: Header) -> Result<LogFile<D>, Refusal>
+    where
+        D: Drop,
+        requires empty { D.is_modelled → D.seen disk ≡ [] }
+        ensures header { IfOk result (λ file. file.header ≡ header) }
+        ensures last { IfOk result (λ file. (file.last ≡ start) × (file.count ≡ 0) × (file.failed ≡ false)) }
+        ensures stands { D.is_modelled → IfOk result (λ file.
+            Stands file.header [] file.end file.last (D.seen file.disk) (D.story file.disk)) }
+        ensures calls { D.is_modelled → IfOk result (λ file.
+            D.story file.disk ≡ Synced (D.seen file.disk) ∷ Wrote 0 (file.end + 1) ∷ D.story disk) }
+        ensures none_failed { IfOk result (λ file. D.failed file.disk ≡ D.failed disk) }
+        ensures others { IfErr result (λ refusal. (refusal ≢ OutOfMemory) → refusal ≡ Device) }
+    {
+        // Who reads a field of a header knows its rules.
+        let _loggers = header.loggers;
+        let mut disk = disk;
+        let buffer = first_text(alloc, &header)?;
+        disk.write_at(0, &buffer)?;
+        disk.sync()?;
+        Ok(LogFile {
+            disk,
+            header,
+            end: buffer.len() as u64 - 1,
+            last: Last::start(),
+            count: 0,
+            failed: false,
+            buffer,
+        })
+    }
+
+    /// Whose file it is, and over what.
+    pub fn header(&self) -> Header
+        ensures { result ≡ self.now.header }
+    {
+        self.header
+    }
+
+    /// How many entries were appended to this open file.
+    pub fn count(&self) -> u64
+        ensures { result ≡ self.now.count }
+    {
+        self.count
+    }
+
+    /// The commit number of the last entry, and 0 where there is none.
+    pub fn last(&self) -> u64
+        ensures { result ≡ self.now.last.number }
+    {
+        self.last.number
+    }
+
+    /// The mark of the last body, and 0 where there is none.
+    pub fn mark(&self) -> u64
+        ensures { result ≡ self.now.last.mark }
+    {
+        self.last.mark
+    }
+}
+
+impl<D: Disk> LogFile<D> {
+    /// Appends a body, whose text and closed gate these are, behind which the file stands at `now`, with so many entries
+    /// more.
+    pub(crate) fn add(&mut self, text: &[u8], now: Last, entries: u64) -> Result<(), Refusal>
+        requires usable { self.old.failed ≡ false }
+        requires body { (body : BodyView) × (text.now ≡ body_text body ++ CLOSED ∷ [])
+            × (body_after self.old.header self.old.last body ≡ Some now) }
+        requires count { self.old.count + entries < 2 ^ 64 }
+        ensures header { self.new.header ≡ self.old.header }
+        ensures ok { OnOk result ((self.new.last ≡ now) × (self.new.count ≡ self.old.count + entries)
+            × (self.new.failed ≡ false)) }
+        ensures err { OnErr result ((self.new.last ≡ self.old.last) × (self.new.count ≡ self.old.count)
+            × (self.new.failed ≡ true)) }
+        ensures added { D.is_modelled → (bodies : List BodyView) (body : BodyView)
+            → Stands self.old.header bodies self.old.end self.old.last (D.seen self.old.disk) (D.story self.old.disk)
+            → text.now ≡ body_text body ++ CLOSED ∷ []
+            → body_after self.old.header self.old.last body ≡ Some now
+            → OnOk result (Stands self.new.header (bodies ++ body ∷ []) self.new.end self.new.last
+            (D.seen self.new.disk) (D.story self.new.disk)) }
+        ensures moments { D.is_modelled → (bodies : List BodyView) (body : BodyView)
+            → Stands self.old.header bodies self.old.end self.old.last (D.seen self.old.disk) (D.story self.old.disk)
+            → text.now ≡ body_text body ++ CLOSED ∷ []
+            → body_after self.old.header self.old.last body ≡ Some now
+            → LeavesOnly (IsWithOrWithout self.old.header bodies body) (D.story self.old.disk)
+            (D.story self.new.disk) }
+        ensures calls { D.is_modelled
+            → OnOk result (length (D.story self.new.disk) ≡ length (D.story self.old.disk) + 4) }
+        ensures cause { Counts result (D.failed self.old.disk) (D.failed self.new.disk) }
+    {
+        match store(&mut self.disk, self.end, text) {
+            Ok(()) => {
+                self.end += text.len() as u64;
+                self.last = now;
+                self.count += entries;
+                Ok(())
+            }
+            Err(refusal) => {
+                self.failed = true;
+                Err(refusal)
+            }
+        }
+    }
+}
+
+/// The text of a file without bodies: its header, and a closed gate.
+fn first_text(alloc: Global, header: &Header) -> Result<Vec<u8>, Refusal>
+    ensures text { IfOk result (λ text. text.items ≡ header_text header.now ++ CLOSED ∷ []) }
+    ensures only_memory { IfErr result (λ refusal. refusal ≡ OutOfMemory) }
+{
+    let mut text = Vec::new(alloc);
+    put_header(&mut text, header)?;
+    put_u8(&mut text, CLOSED)?;
+    Ok(text)
+}
+
+impl<D: Disk> Keeper for LogFile<D> {
+    ghost mark = { λ f. f.last.mark };
+
+    /// The mark of the last body that no crash can take, and 0 where there is none: whatever a crash leaves, also after
+    /// an append that failed, has the bodies up to this mark, and it may leave no more (`IsKept`).
+    fn kept(&self) -> u64
+        ensures mark { result ≡ self.now.last.mark }
+        ensures kept { D.is_modelled → ∥ IsKept self.now.header (D.story self.now.disk) result ∥₁ }
+    {
+        self.last.mark
+    }
+}
