@@ -1,0 +1,94 @@
+-- A batch may follow where its file stands.
+use Rattle.std.proofs.Common.{◌≡◌, ℕ, ◌+◌, ◌%◌, ◌<◌, ◌≤◌, ◌==◌, Bool, true, ◌&&◌, Some, None, List, [], ◌∷◌, map, length, get_or, refl, sym, ap, ◌∙◌, subst, arith}
+use Rattle.std.specs.Prelude.{nat_lt, nat_le, if◌then◌else◌}
+use Rattle.std.specs.List.{All}
+use Rattle.std.specs.Option.{option_and_then}
+use Rattle.std.proofs.lemmas.Bool.{and_from, lt-ltb, le-leb, eq-eqb}
+use Rattle.std.proofs.lemmas.List.Elements.{All-head, All-tail, All-weaker}
+use Rattle.tables.specs.Sizes.{Sizes}
+use Rattle.tidword.specs.TidWord.{epoch_of}
+use Rattle.log_header.specs.Header.{HeaderView}
+use Rattle.log_text.specs.Writes.{are_writes}
+use Rattle.log_text.specs.Bodies.{is_next, is_timed, is_asked, is_entry, entries_after, behind, marked, body_after}
+use Rattle.log_text.specs.declared.last.Last.{Last}
+use Rattle.log_text.specs.declared.limits.TheConstants.{MAX_MARK, MAX_TERMINALS}
+use Rattle.book.specs.Batches.{BatchView, IsBatch}
+use Rattle.book.specs.Loggable.{NumbersRise}
+use Rattle.book.specs.Stamps.{AreStamped, Follows}
+use Rattle.book.specs.Streams.{last_number}
+use Rattle.book.specs.declared.entry.Entry.{Entry}
+use Rattle.log_entries.specs.Logged.{writes_of, entry_of}
+use Rattle.log_entries.specs.Following.{body_of_batch, last_epoch_of, behind_batch, Continues}
+
+-- what is asked of an entry, but for its turn
+pub record IsFit (h : HeaderView) (least mark : ℕ) (e : Entry) : Type 0 where
+  pub cap : e.number ≤ h.scale.commits
+  pub above : least < epoch_of e.tid
+  pub near : epoch_of e.tid ≤ mark + 1
+  pub terminal : e.terminal < MAX_TERMINALS
+  pub asked : e.terminal % h.loggers ≡ h.logger
+  pub writes : are_writes h.scale (writes_of h.scale e.writes) ≡ true
+
+module _ (h : HeaderView) (mark : ℕ) where
+  fits : (last : Last) (e : Entry) → last.number < e.number → last.epoch ≤ epoch_of e.tid → e.tid % 8 ≡ 0 → IsFit h last.mark mark e
+      → is_entry h mark last (entry_of h.scale e) ≡ true
+  fits last e rise epoch bits fit =
+      and_from _ _
+      (and_from _ _
+      (and_from _ _ (lt-ltb last.number e.number rise) (le-leb e.number h.scale.commits fit.cap))
+      (and_from _ _ (eq-eqb (e.tid % 8) 0 bits)
+      (and_from _ _ (le-leb last.epoch (epoch_of e.tid) epoch)
+      (and_from _ _ (lt-ltb last.mark (epoch_of e.tid) fit.above) (le-leb (epoch_of e.tid) (mark + 1) fit.near)))))
+      (and_from _ _
+      (and_from _ _ (lt-ltb e.terminal MAX_TERMINALS fit.terminal) (eq-eqb (e.terminal % h.loggers) h.logger fit.asked))
+      fit.writes)
+
+  entries_follow : (last : Last) (es : List Entry) → NumbersRise last.number es → AreStamped es → All (λ (e : Entry). last.epoch ≤ epoch_of e.tid) es
+      → All (IsFit h last.mark mark) es
+      → entries_after h mark last (map (entry_of h.scale) es)
+      ≡ Some (record { mark = last.mark; number = last_number last.number es; epoch = last_epoch_of last.epoch es })
+  entries_follow last [] rise stamped epochs fit = refl
+  entries_follow last (e ∷ es) rise stamped epochs fit =
+      let this = fits last e rise.0 (All-head (λ (d : Entry). last.epoch ≤ epoch_of d.tid) e es epochs) stamped.0 (All-head (IsFit h last.mark mark) e es fit) in
+      let later = All-weaker (Follows e) (λ (d : Entry). epoch_of e.tid ≤ epoch_of d.tid) (λ d f. f.epochs) es stamped.1 in
+      ap (λ (b : Bool). if b then entries_after h mark (behind last (entry_of h.scale e)) (map (entry_of h.scale) es) else None) this
+      ∙ entries_follow (behind last (entry_of h.scale e)) es rise.1 stamped.2 later (All-tail (IsFit h last.mark mark) e es fit)
+
+-- a batch that continues a file may follow where the file stands
+pub batch_follows : (h : HeaderView) (count : ℕ) (last : Last) (b : BatchView) → IsBatch b → Continues h count last b → last.epoch ≤ last.mark + 1
+    → All (λ (e : Entry). are_writes b.scale (writes_of b.scale e.writes) ≡ true) b.entries
+    → body_after h last (body_of_batch b) ≡ Some (behind_batch last b)
+batch_follows h count last b is at epoch writes =
+    let marks : (nat_le last.mark b.mark && nat_le b.mark MAX_MARK) ≡ true
+    = and_from _ _ (le-leb last.mark b.mark (omega (arith, at.mark_before, is.marks_rise))) (le-leb b.mark MAX_MARK (omega (arith, is.last_mark))) in
+    let rise : NumbersRise last.number b.entries = subst (λ (n : ℕ). NumbersRise n b.entries) at.number_before is.rise in
+    let fit : All (IsFit h last.mark b.mark) b.entries = (λ k d lt. record {
+      cap = subst (λ (s : Sizes). (get_or b.entries k d).number ≤ s.commits) at.scale (is.cap k d lt);
+      above = omega (arith, (is.epochs k d lt).0, at.mark_before);
+      near = (is.epochs k d lt).1;
+      terminal = (is.asked k d lt).0;
+      asked = subst (λ (n : ℕ). (get_or b.entries k d).terminal % n ≡ h.logger) at.loggers ((is.asked k d lt).1 ∙ at.logger);
+      writes = subst (λ (s : Sizes). are_writes s (writes_of s (get_or b.entries k d).writes) ≡ true) at.scale (writes k d lt);
+    }) in
+    let epochs : All (λ (e : Entry). last.epoch ≤ epoch_of e.tid) b.entries
+    = (λ k d lt. omega (arith, epoch, (is.epochs k d lt).0, at.mark_before)) in
+    let entries = entries_follow h b.mark last b.entries rise is.stamped epochs fit in
+    ap (λ (t : Bool). if t then option_and_then (λ (l : Last). Some (marked b.mark l)) (entries_after h b.mark last (map (entry_of b.scale) b.entries)) else None) marks
+    ∙ ap (λ (s : Sizes). option_and_then (λ (l : Last). Some (marked b.mark l)) (entries_after h b.mark last (map (entry_of s) b.entries))) at.scale
+    ∙ ap (option_and_then (λ (l : Last). Some (marked b.mark l))) entries
+
+-- behind it the epoch is at most one above the mark
+epoch_near : (mark : ℕ) (before : ℕ) (es : List Entry) → before ≤ mark + 1 → All (λ (e : Entry). epoch_of e.tid ≤ mark + 1) es → last_epoch_of before es ≤ mark + 1
+epoch_near mark before [] small near = small
+epoch_near mark before (e ∷ es) small near =
+    epoch_near mark (epoch_of e.tid) es (All-head (λ (d : Entry). epoch_of d.tid ≤ mark + 1) e es near) (All-tail (λ (d : Entry). epoch_of d.tid ≤ mark + 1) e es near)
+
+pub batch_near : (last : Last) (b : BatchView) → IsBatch b → b.mark_before ≡ last.mark → last.epoch ≤ last.mark + 1
+    → (behind_batch last b).epoch ≤ (behind_batch last b).mark + 1
+batch_near last b is same epoch =
+    epoch_near b.mark last.epoch b.entries (omega (arith, epoch, same, is.marks_rise)) (λ k d lt. (is.epochs k d lt).1)
+
+-- the numbers of so many entries rise by no less
+pub number_rises : (before : ℕ) (es : List Entry) → NumbersRise before es → before + length es ≤ last_number before es
+number_rises before [] rise = omega arith
+number_rises before (e ∷ es) rise = omega (arith, rise.0, number_rises e.number es rise.1)
