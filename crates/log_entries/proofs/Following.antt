@@ -1,11 +1,25 @@
 -- A batch may follow where its file stands.
-use Rattle.std.proofs.Common.{◌≡◌, ℕ, ◌+◌, ◌%◌, ◌<◌, ◌≤◌, ◌==◌, Bool, true, ◌&&◌, Some, None, List, [], ◌∷◌, map, length, get_or, refl, sym, ap, ◌∙◌, subst, arith}
+use Rattle.std.proofs.Common.{◌≡◌, ℕ, ◌+◌, ◌%◌, ◌<◌, ◌≤◌, ◌==◌, Bool, true, ◌&&◌, Option, Some, None, List, ◌++◌, [], ◌∷◌, map, length, get_or, refl, sym, ap, ◌∙◌, subst, arith}
 use Rattle.std.specs.Prelude.{nat_lt, nat_le, if◌then◌else◌}
 use Rattle.std.specs.List.{All}
 use Rattle.std.specs.Option.{option_and_then}
 use Rattle.std.proofs.lemmas.Bool.{and_from, lt-ltb, le-leb, eq-eqb}
 use Rattle.std.proofs.lemmas.List.Elements.{All-head, All-tail, All-weaker}
-use Rattle.tables.specs.Sizes.{Sizes}
+use Rattle.std.specs.Option.{unwrap_or}
+use Rattle.std.specs.Coded.{Coded-set, coded_bool}
+use Rattle.std.proofs.Math.Logic.{∥∥₁_elim}
+use Rattle.tables.specs.Sizes.{Sizes, IsScale}
+use Rattle.tables.specs.Database.{Database}
+use Rattle.tables.specs.Apply.{after}
+use Rattle.tables.specs.Records.{record_count, key_of}
+use Rattle.tables.specs.Rows.{rows}
+use Rattle.tables.specs.WellFormed.{IsHistoryRow}
+use Rattle.tables.specs.declared.keys.OrderKey.{OrderKey}
+use Rattle.tables.specs.declared.records.RecordKey.TheVariants as key
+use Rattle.tables.specs.declared.rows.History.{History}
+use Rattle.laws.proofs.Kept.{after-IsOf}
+use Rattle.laws.proofs.NamesKept.{IsOf-itself}
+use Rattle.readset.specs.Writes.{value_for, added}
 use Rattle.tidword.specs.TidWord.{epoch_of}
 use Rattle.log_header.specs.Header.{HeaderView}
 use Rattle.log_text.specs.Writes.{are_writes}
@@ -13,11 +27,12 @@ use Rattle.log_text.specs.Bodies.{is_next, is_timed, is_asked, is_entry, entries
 use Rattle.log_text.specs.declared.last.Last.{Last}
 use Rattle.log_text.specs.declared.limits.TheConstants.{MAX_MARK, MAX_TERMINALS}
 use Rattle.book.specs.Batches.{BatchView, IsBatch}
-use Rattle.book.specs.Loggable.{NumbersRise}
+use Rattle.book.specs.Loggable.{IsDone, IsLoggable, NumbersRise}
 use Rattle.book.specs.Stamps.{AreStamped, Follows}
 use Rattle.book.specs.Streams.{last_number}
 use Rattle.book.specs.declared.entry.Entry.{Entry}
 use Rattle.log_entries.specs.Logged.{writes_of, entry_of}
+use Rattle.log_entries.proofs.Lawful.{are_lawful}
 use Rattle.log_entries.specs.Following.{body_of_batch, last_epoch_of, behind_batch, Continues}
 
 -- what is asked of an entry, but for its turn
@@ -54,11 +69,35 @@ module _ (h : HeaderView) (mark : ℕ) where
       ap (λ (b : Bool). if b then entries_after h mark (behind last (entry_of h.scale e)) (map (entry_of h.scale) es) else None) this
       ∙ entries_follow (behind last (entry_of h.scale e)) es rise.1 stamped.2 later (All-tail (IsFit h last.mark mark) e es fit)
 
+-- what holds of all holds of the last ones
+all_behind : {X : Type 0} (P : X → Type 0) (xs ys : List X) → All P (xs ++ ys) → All P ys
+all_behind P [] ys h = h
+all_behind P (x ∷ xs) ys h = all_behind P xs ys (All-tail P x (xs ++ ys) h)
+
+-- an entry that is done at some tables has writes that an entry of a log file may have
+done_writes : (s : Sizes) → IsScale s → (e : Entry) → IsLoggable s e → IsDone s e → are_writes s (writes_of s e.writes) ≡ true
+done_writes s scale e h d =
+    let t : Database = after d.tables e.input in
+    let same : t.scale ≡ s = (after-IsOf d.tables d.tables e.input (IsOf-itself d.tables)).scale ∙ d.scale in
+    let commit = d.commits.commit in
+    let stands : (n : ℕ) (value : Option (List ℕ)) → value_for e.writes n ≡ Some value → rows t n ≡ value
+    = (λ n value found. commit.rows n (subst (λ (z : Sizes). n < record_count z) (sym d.scale) (h.records n value found))
+    ∙ ap (λ (v : Option (Option (List ℕ))). unwrap_or v (rows d.tables n)) found) in
+    let row : All (IsHistoryRow s) (added e.writes.history_row)
+    = all_behind (IsHistoryRow s) d.tables.history (added e.writes.history_row)
+    (subst (λ (z : Sizes). All (IsHistoryRow z) (d.tables.history ++ added e.writes.history_row)) same
+    (subst (λ (l : List History). All (IsHistoryRow t.scale) l) commit.history d.well_formed.history_rows)) in
+    let absent : (n : ℕ) → n < record_count s → value_for e.writes n ≡ Some None → (k : OrderKey) × (key_of s n ≡ key.NewOrder k)
+    = subst (λ (z : Sizes). (n : ℕ) → n < record_count z → value_for e.writes n ≡ Some None → (k : OrderKey) × (key_of z n ≡ key.NewOrder k)) d.scale commit.absent in
+    are_lawful s scale e.writes t same d.well_formed h.ordered h.limit h.records stands row absent
+
+pub writes_lawful : (s : Sizes) → IsScale s → (e : Entry) → IsLoggable s e → are_writes s (writes_of s e.writes) ≡ true
+writes_lawful s scale e h = ∥∥₁_elim h.done (Coded-set coded_bool _ _) (λ d. done_writes s scale e h d)
+
 -- a batch that continues a file may follow where the file stands
 pub batch_follows : (h : HeaderView) (count : ℕ) (last : Last) (b : BatchView) → IsBatch b → Continues h count last b → last.epoch ≤ last.mark + 1
-    → All (λ (e : Entry). are_writes b.scale (writes_of b.scale e.writes) ≡ true) b.entries
-    → body_after h last (body_of_batch b) ≡ Some (behind_batch last b)
-batch_follows h count last b is at epoch writes =
+    → IsScale b.scale → body_after h last (body_of_batch b) ≡ Some (behind_batch last b)
+batch_follows h count last b is at epoch scale =
     let marks : (nat_le last.mark b.mark && nat_le b.mark MAX_MARK) ≡ true
     = and_from _ _ (le-leb last.mark b.mark (omega (arith, at.mark_before, is.marks_rise))) (le-leb b.mark MAX_MARK (omega (arith, is.last_mark))) in
     let rise : NumbersRise last.number b.entries = subst (λ (n : ℕ). NumbersRise n b.entries) at.number_before is.rise in
@@ -68,7 +107,7 @@ batch_follows h count last b is at epoch writes =
       near = (is.epochs k d lt).1;
       terminal = (is.asked k d lt).0;
       asked = subst (λ (n : ℕ). (get_or b.entries k d).terminal % n ≡ h.logger) at.loggers ((is.asked k d lt).1 ∙ at.logger);
-      writes = subst (λ (s : Sizes). are_writes s (writes_of s (get_or b.entries k d).writes) ≡ true) at.scale (writes k d lt);
+      writes = subst (λ (s : Sizes). are_writes s (writes_of s (get_or b.entries k d).writes) ≡ true) at.scale (writes_lawful b.scale scale (get_or b.entries k d) (is.each k d lt));
     }) in
     let epochs : All (λ (e : Entry). last.epoch ≤ epoch_of e.tid) b.entries
     = (λ k d lt. omega (arith, epoch, (is.epochs k d lt).0, at.mark_before)) in

@@ -1,3 +1,4 @@
 pub mod Turns
 pub mod Within
 pub mod Lawful
+pub mod Following
