@@ -2,7 +2,7 @@
 ghost use Rattle.std.specs.Prelude.{◌≡◌, length};
 ghost use Rattle.book.specs.Parts.{IsFresh, IsRunOf, cells_of, ledger_name, ledger_parts};
 
-use crate::engine::{Committed, Executed, both_of, commit_executed, parts, pay};
+use crate::engine::{Committed, Executed, both_of, commit_executed, is_good, parts, pay};
 use crate::payments::{history_row, payment_told};
 use book::{Engine, Parts, Run, Seat};
 use cells::Reader;
@@ -108,14 +108,7 @@ fn pay_both_meanwhile<K: Run + Send + Sync, R: Threads + Wait + Clock + Sync>(
     if !is_executed {
         return None;
     }
-    both_executed(paid)
-}
-
-fn both_executed<K: Run>(
-    paid: (Option<Executed<K>>, Option<Executed<K>>),
-) -> Option<(Executed<K>, Executed<K>)> {
-    let (third, fourth) = paid;
-    Some((third?, fourth?))
+    paid.0.zip(paid.1)
 }
 
 /// How many have committed, W_YTD in the committed tables, and the TID words and first words of the warehouse, the
@@ -168,16 +161,23 @@ struct Account {
     added: Option<History>,
 }
 
+/// How many HISTORY rows a copy of the committed tables has.
+fn payments_of<K: Run, R: Wait>(rt: &R, engine: &Engine<K>) -> Result<usize, Refusal> {
+    Ok(engine.lock(rt).tables()?.history.len())
+}
+
 fn account_of<K: Run, R: Wait>(
     rt: &R,
     alloc: Global,
     engine: &Engine<K>,
 ) -> Result<Account, Refusal> {
+    let payments = payments_of(rt, engine)?;
+    let is_good = is_good(rt, alloc, engine)?;
     let book = engine.lock(rt);
     let first = book.history().first();
     Ok(Account {
-        payments: book.tables()?.history.len(),
-        is_good: book.report(alloc)?.is_good(),
+        payments,
+        is_good,
         terminal: first.map(|entry| entry.terminal),
         writes: first.map(|entry| entry.writes.values().len()),
         added: first.and_then(|entry| entry.writes.history_row()),
@@ -200,21 +200,21 @@ fn commit_both<K: Run, R: Wait>(
     engine: &Engine<K>,
     third: Executed<K>,
     fourth: Executed<K>,
-) -> Result<Commits, Refusal>
+) -> Commits
     requires count { length K.cells ≡ 1085 }
 {
     let (mut left, _, first) = commit_executed(rt, engine, third);
     let before = standing_of(rt, engine, &mut left.reader);
     let (right, _, second) = commit_executed(rt, engine, fourth);
     let after = standing_of(rt, engine, &mut left.reader);
-    let again = pay_again(rt, alloc, engine, right)?;
+    let again = pay_again(rt, alloc, engine, right);
     let end = standing_of(rt, engine, &mut left.reader);
-    Ok(Commits {
+    Commits {
         first,
         second,
         again,
         states: [before, after, end],
-    })
+    }
 }
 
 /// Executes the Payment of customer 4 and commits it.
@@ -223,12 +223,11 @@ fn pay_again<K: Run, R: Wait>(
     alloc: Global,
     engine: &Engine<K>,
     seat: Seat<K>,
-) -> Result<Result<Committed, Refusal>, Refusal>
+) -> Result<Committed, Refusal>
     requires reader { seat.reader.cells ≡ K.cells }
 {
     let executed = pay(rt, alloc, engine, seat, 4)?;
-    let (_, _, committed) = commit_executed(rt, engine, executed);
-    Ok(committed)
+    commit_executed(rt, engine, executed).2
 }
 
 /// What came of the Payments, the terminals that made them, the state before them, and the book after them.
@@ -255,12 +254,13 @@ fn outcome_of<K: Run + Send + Sync, R: Threads + Wait + Clock + Sync>(
     let terminals = [left.share.terminal(), right.share.terminal()];
     let opened = standing_of(rt, engine, &mut left.reader);
     let paid = pay_both_meanwhile(rt, alloc, engine, left, right).ok_or("hold")?;
-    let commits = commit_both(rt, alloc, engine, paid.0, paid.1)?;
+    let commits = commit_both(rt, alloc, engine, paid.0, paid.1);
+    let account = account_of(rt, alloc, engine)?;
     Ok(Outcome {
         terminals,
         opened,
         commits,
-        account: account_of(rt, alloc, engine)?,
+        account,
     })
 }
 
@@ -279,46 +279,64 @@ fn pay_twice<K: Run + Send + Sync, R: Threads + Wait + Clock + Sync>(
     outcome_of(rt, alloc, &engine, left, right)
 }
 
+/// The state after that many commits.
+fn state_after(commits: usize, year_to_date: u64, tids: [u64; 4], words: [u64; 4]) -> Standing {
+    Standing {
+        commits,
+        year_to_date: Some(year_to_date),
+        tids,
+        words,
+    }
+}
+
+/// The states before the Payments, after that of customer 3, and after both. The words are sums that were paid, and
+/// balances of -10.00 and -11.00, in the 64 bits of a word.
+fn standings() -> [Standing; 3] {
+    let (full, less) = (u64::MAX - 999, u64::MAX - 1_099);
+    let (one, two) = (4_294_967_298, 4_294_967_306);
+    [
+        state_after(0, 20_000, [2; 4], [20_000, 10_000, full, full]),
+        state_after(1, 20_100, [one, one, one, 2], [20_100, 10_100, less, full]),
+        state_after(
+            2,
+            20_200,
+            [two, two, one, two],
+            [20_200, 10_200, less, less],
+        ),
+    ]
+}
+
+/// The second commit is refused, changes nothing, and succeeds once its Payment is executed again.
+fn commits_wanted() -> Commits {
+    let [_, after_one, after_two] = standings();
+    Commits {
+        first: Ok((1, 4_294_967_296, payment_told(3, -1_100))),
+        second: Err(Refusal::Conflict),
+        again: Ok((2, 4_294_967_304, payment_told(4, -1_100))),
+        states: [after_one, after_one, after_two],
+    }
+}
+
+fn wanted() -> Outcome {
+    let [opened, _, _] = standings();
+    Outcome {
+        terminals: [0, 1],
+        opened,
+        commits: commits_wanted(),
+        account: Account {
+            payments: 22,
+            is_good: true,
+            terminal: Some(0),
+            writes: Some(3),
+            added: Some(history_row(3, 100)),
+        },
+    }
+}
+
 #[test]
 fn the_second_of_two_conflicts(rt: HostRuntime) -> Result<(), Fail> {
     let parts = parts(&rt, rt.alloc())?;
-    let Outcome {
-        terminals,
-        opened,
-        commits,
-        account,
-    } = pay_twice::<Brand, _>(&rt, rt.alloc(), parts)?;
-    assert_eq!(rt; terminals, [0, 1]);
-    assert_eq!(rt;
-        commits.first,
-        Ok((1, 4_294_967_296, payment_told(3, -1_100)))
-    );
-    assert_eq!(rt; commits.second, Err(Refusal::Conflict));
-    assert_eq!(rt;
-        commits.again,
-        Ok((2, 4_294_967_304, payment_told(4, -1_100)))
-    );
-    let [before, after, end] = commits.states;
-    assert_eq!(rt; opened.commits, 0);
-    assert_eq!(rt; opened.tids, [2; 4]);
-    assert_eq!(rt; before.commits, 1);
-    assert_eq!(rt; after, before);
-    assert_eq!(rt; opened.year_to_date, Some(20_000));
-    assert_eq!(rt; before.year_to_date, Some(20_100));
-    assert_eq!(rt; end.year_to_date, Some(20_200));
-    assert_eq!(rt; end.commits, 2);
-    let (one, two) = (4_294_967_298, 4_294_967_306);
-    assert_eq!(rt; end.tids, [two, two, one, two]);
-    // A C_BALANCE of -11.00, in the 64 bits of a word.
-    let balance = u64::MAX - 1_099;
-    assert_eq!(rt; end.words, [20_200, 10_200, balance, balance]);
-    let expected = Account {
-        payments: 22,
-        is_good: true,
-        terminal: Some(0),
-        writes: Some(3),
-        added: Some(history_row(3, 100)),
-    };
-    assert_eq!(rt; account, expected);
+    let outcome = pay_twice::<Brand, _>(&rt, rt.alloc(), parts)?;
+    assert_eq!(rt; outcome, wanted());
     Ok(())
 }

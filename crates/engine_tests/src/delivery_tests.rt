@@ -4,7 +4,7 @@ ghost use Rattle.tables.specs.Records.{record_count};
 ghost use Rattle.population.specs.Initial.{initial};
 
 use crate::deliveries::{delivery, delivery_told};
-use crate::pairs::{Asked, Committed, outcome_of};
+use crate::pairs::{Asked, good, outcome_of, second};
 use crate::stage::{Stage, execute_on, open};
 use crate::told::{Told, told_of};
 use money::{Payload, Refusal};
@@ -127,21 +127,11 @@ fn a_delivery(rt: HostRuntime) -> Result<(), Fail> {
     Ok(())
 }
 
-/// What came of a Delivery that took the orders of this number.
-fn delivered(refusal: Option<Refusal>, number: u32, order: u32) -> Committed {
-    Committed {
-        refusal,
-        number,
-        told: delivery_told(order),
-    }
-}
-
 #[test]
 fn one_order_at_two_terminals(rt: HostRuntime) -> Result<(), Fail> {
     let asked = (Asked::Delivery, Asked::Delivery);
     let outcome = outcome_of(&rt, rt.alloc(), asked)?;
-    assert_eq!(rt; outcome.first, delivered(None, 1, 8));
-    assert_eq!(rt; outcome.second, delivered(Some(Refusal::Conflict), 2, 9));
-    assert!(rt; outcome.is_good);
+    let again = second(Some(Refusal::Conflict), delivery_told(9));
+    assert_eq!(rt; outcome, good(delivery_told(8), again));
     Ok(())
 }

@@ -110,6 +110,29 @@ pub(crate) fn commit_executed<K: Run, R: Wait>(
     (seat, input, committed)
 }
 
+/// The next terminal executes a Payment of 1.00 by customer 3, and commits it.
+pub(crate) fn pay_next<K: Run, R: Wait>(
+    rt: &R,
+    alloc: Global,
+    engine: &Engine<K>,
+    terminals: &mut TerminalSeats<K>,
+) -> Result<Committed, Refusal> {
+    let Some(seat) = terminals.next() else {
+        return Err(Refusal::OutOfMemory);
+    };
+    let executed = pay(rt, alloc, engine, seat, 3)?;
+    commit_executed(rt, engine, executed).2
+}
+
+/// Whether the conditions hold in the committed tables.
+pub(crate) fn is_good<K: Run, R: Wait>(
+    rt: &R,
+    alloc: Global,
+    engine: &Engine<K>,
+) -> Result<bool, Refusal> {
+    Ok(engine.lock(rt).report(alloc)?.is_good())
+}
+
 fn told_at(done: &Done) -> Committed {
     (done.number(), done.tid().word(), told_of(done.reply()))
 }

@@ -2,9 +2,9 @@
 ghost use Rattle.std.specs.Prelude.{◌≡◌};
 ghost use Rattle.book.specs.Parts.{IsFresh, IsRunOf, ledger_name, ledger_parts};
 
-use crate::engine::{Committed, commit_executed, parts, pay};
+use crate::engine::{Committed, parts, pay_next};
 use crate::payments::payment_told;
-use book::{Engine, Parts, Run};
+use book::{Engine, Parts, Run, Seats};
 use money::Refusal;
 use std::alloc::Global;
 use std::marker::Brand;
@@ -12,6 +12,19 @@ use std::sync::Wait;
 use std::test::Fail;
 
 /// Advances the epoch, and then commits a Payment.
+fn advance_and_pay<K: Run, R: Wait>(
+    rt: &R,
+    alloc: Global,
+    engine: &Engine<K>,
+    seats: &mut Seats<K>,
+) -> Result<(u64, Committed), Refusal>
+    requires clock { seats.old.clock.board ≡ K.board }
+{
+    let epoch = engine.board().advance(&mut seats.clock)?;
+    let committed = pay_next(rt, alloc, engine, &mut seats.terminals)?;
+    Ok((epoch, committed))
+}
+
 fn pay_in_the_next_epoch<K: Run, R: Wait>(
     rt: &R,
     alloc: Global,
@@ -22,13 +35,7 @@ fn pay_in_the_next_epoch<K: Run, R: Wait>(
     requires ledger { (ledger_name parts ≡ K.name) × (ledger_parts parts ≡ K.parts) }
 {
     let (engine, mut seats) = Engine::<K>::open(parts);
-    let epoch = engine.board().advance(&mut seats.clock)?;
-    let Some(seat) = seats.terminals.next() else {
-        return Err(Refusal::OutOfMemory);
-    };
-    let executed = pay(rt, alloc, &engine, seat, 3)?;
-    let (_, _, committed) = commit_executed(rt, &engine, executed);
-    Ok((epoch, committed?))
+    advance_and_pay(rt, alloc, &engine, &mut seats)
 }
 
 #[test]

@@ -6,7 +6,7 @@ ghost use Rattle.book.specs.Parts.{IsFresh, IsRunOf, ledger_name, ledger_parts};
 
 use crate::engine::{attempt, parts};
 use crate::new_orders::{five, line, new_order, order_told};
-use crate::pairs::{Asked, Committed, outcome_of};
+use crate::pairs::{Asked, good, outcome_of, second};
 use crate::stage::{Stage, execute_on, open};
 use crate::told::{Told, told_of};
 use book::{Engine, Parts, Run, Seat};
@@ -185,21 +185,11 @@ fn no_order_number_is_left(rt: HostRuntime) -> Result<(), Fail> {
     Ok(())
 }
 
-/// What came of an order that got this number.
-fn ordered(refusal: Option<Refusal>, number: u32, order: u32) -> Committed {
-    Committed {
-        refusal,
-        number,
-        told: order_told(order, 15_000, 15_525),
-    }
-}
-
 #[test]
 fn one_number_at_two_terminals(rt: HostRuntime) -> Result<(), Fail> {
     let asked = (Asked::Order(3), Asked::Order(4));
     let outcome = outcome_of(&rt, rt.alloc(), asked)?;
-    assert_eq!(rt; outcome.first, ordered(None, 1, 11));
-    assert_eq!(rt; outcome.second, ordered(Some(Refusal::Conflict), 2, 12));
-    assert!(rt; outcome.is_good);
+    let again = second(Some(Refusal::Conflict), order_told(12, 15_000, 15_525));
+    assert_eq!(rt; outcome, good(order_told(11, 15_000, 15_525), again));
     Ok(())
 }

@@ -4,7 +4,7 @@ ghost use Rattle.tables.specs.Inputs.{IsInput};
 ghost use Rattle.book.specs.Parts.{IsFresh, IsRunOf, ledger_name, ledger_parts};
 
 use crate::deliveries::delivery;
-use crate::engine::{self, Executed, both_of, commit_executed, execute_at, parts};
+use crate::engine::{self, Executed, both_of, commit_executed, execute_at, is_good, parts};
 use crate::new_orders::{five, new_order};
 use crate::payments::payment;
 use crate::query_inputs::{order_status, stock_level};
@@ -57,6 +57,28 @@ pub(crate) struct Outcome {
     pub(crate) is_good: bool,
 }
 
+/// That the first commits as number 1, and that the conditions hold in the end.
+pub(crate) fn good(told: Told, second: Committed) -> Outcome {
+    Outcome {
+        first: Committed {
+            refusal: None,
+            number: 1,
+            told,
+        },
+        second,
+        is_good: true,
+    }
+}
+
+/// What came of a transaction that commits second, once it was refused so at first, if it was.
+pub(crate) fn second(refusal: Option<Refusal>, told: Told) -> Committed {
+    Committed {
+        refusal,
+        number: 2,
+        told,
+    }
+}
+
 /// Commits what a terminal has executed. Where that is refused, executes it again, without the lock, and commits that.
 fn commit<K: Run, R: Wait>(
     rt: &R,
@@ -99,7 +121,7 @@ fn commit_both<K: Run, R: Wait>(
 ) -> Result<Outcome, Refusal> {
     let first = commit(rt, alloc, engine, first)?;
     let second = commit(rt, alloc, engine, second)?;
-    let is_good = engine.lock(rt).report(alloc)?.is_good();
+    let is_good = is_good(rt, alloc, engine)?;
     Ok(Outcome {
         first,
         second,

@@ -6,7 +6,7 @@ ghost use Rattle.cells.specs.Versions.{last_tid};
 ghost use Rattle.tables.specs.Records.{record_count};
 ghost use Rattle.population.specs.Initial.{initial};
 
-use crate::pairs::{Asked, Committed, outcome_of};
+use crate::pairs::{Asked, good, outcome_of, second};
 use crate::payments::{history_row, payment, payment_told};
 use crate::stage::{CUSTOMER, DISTRICT, Stage, execute_on, open, store};
 use crate::told::{Told, told_of};
@@ -157,18 +157,28 @@ fn pay_and_store<R: Wait>(
     Ok(seen)
 }
 
+fn pay_twice<R: Wait>(rt: &R, alloc: Global, stage: &mut Stage) -> Result<(Seen, Seen), Refusal>
+    requires count { length stage.old.cells ≡ 1085 }
+    requires scale { length stage.old.cells ≡ record_count (initial stage.old.population).scale }
+    requires pen { stage.old.pen.cells ≡ stage.old.cells }
+    requires reader { stage.old.reader.cells ≡ stage.old.cells }
+    requires first { (n : ℕ) → last_tid (at stage.old.pen.all n) ≡ 0 }
+{
+    let first = pay_and_store(rt, alloc, stage, 100)?;
+    let after = pay(rt, alloc, stage, 500_000)?;
+    Ok((first, after))
+}
+
 fn seen_of_two<R: Wait>(rt: &R, alloc: Global) -> Result<(Seen, Seen), Fail> {
     let mut stage = open(rt, alloc)?;
-    let first = pay_and_store(rt, alloc, &mut stage, 100)?;
-    let second = pay(rt, alloc, &mut stage, 500_000)?;
-    Ok((first, second))
+    Ok(pay_twice(rt, alloc, &mut stage)?)
 }
 
 #[test]
 fn a_payment_after_another(rt: HostRuntime) -> Result<(), Fail> {
-    let (first, second) = seen_of_two(&rt, rt.alloc())?;
+    let (first, after) = seen_of_two(&rt, rt.alloc())?;
     assert_eq!(rt;
-        (first.told, second.told),
+        (first.told, after.told),
         (payment_told(3, -1_100), payment_told(3, -501_100))
     );
     let customer = [(-501_100_i64).cast_unsigned(), 501_100, 3, 0, 0, 0, 0];
@@ -177,7 +187,7 @@ fn a_payment_after_another(rt: HostRuntime) -> Result<(), Fail> {
         district: Some([510_100, 11, 0, 0, 0, 0, 0]),
         customer: Some(customer),
     };
-    assert_eq!(rt; second.written, wanted);
+    assert_eq!(rt; after.written, wanted);
     Ok(())
 }
 
@@ -252,21 +262,11 @@ fn versions_that_no_tables_have(rt: HostRuntime) -> Result<(), Fail> {
     Ok(())
 }
 
-/// What came of a Payment of 1.00 by this customer.
-fn paid(refusal: Option<Refusal>, number: u32, customer: u32) -> Committed {
-    Committed {
-        refusal,
-        number,
-        told: payment_told(customer, -1_100),
-    }
-}
-
 #[test]
 fn a_conflict_is_executed_again(rt: HostRuntime) -> Result<(), Fail> {
     let asked = (Asked::Payment(3), Asked::Payment(4));
     let outcome = outcome_of(&rt, rt.alloc(), asked)?;
-    assert_eq!(rt; outcome.first, paid(None, 1, 3));
-    assert_eq!(rt; outcome.second, paid(Some(Refusal::Conflict), 2, 4));
-    assert!(rt; outcome.is_good);
+    let again = second(Some(Refusal::Conflict), payment_told(4, -1_100));
+    assert_eq!(rt; outcome, good(payment_told(3, -1_100), again));
     Ok(())
 }

@@ -4,7 +4,7 @@ ghost use Rattle.tables.specs.Records.{record_count};
 ghost use Rattle.population.specs.Initial.{initial};
 
 use crate::new_orders::order_told;
-use crate::pairs::{Asked, Committed, input_of, outcome_of};
+use crate::pairs::{Asked, Committed, Outcome, good, input_of, outcome_of, second};
 use crate::payments::payment_told;
 use crate::query_inputs::status_told;
 use crate::stage::{Stage, execute_on, open, store};
@@ -88,36 +88,43 @@ fn is_stale<R: Wait>(
     Ok(matches!(outcome, Err(Refusal::Stale)))
 }
 
+/// Whether a query is refused as stale with each of two records, when that one has this value.
+fn are_stale<R: Wait>(
+    rt: &R,
+    alloc: Global,
+    asked: Asked,
+    first: (u32, Value),
+    second: (u32, Value),
+) -> Result<bool, Fail>
+    requires first { first.0 < 1085 }
+    requires second { second.0 < 1085 }
+{
+    let first = is_stale(rt, alloc, asked, first.0, first.1)?;
+    let second = is_stale(rt, alloc, asked, second.0, second.1)?;
+    Ok(first && second)
+}
+
 #[test]
 fn a_status_of_records_that_no_tables_miss(rt: HostRuntime) -> Result<(), Fail> {
-    let status = Asked::Status(3);
-    assert!(rt; is_stale(&rt, rt.alloc(), status, CUSTOMER, None)?);
-    assert!(rt; is_stale(&rt, rt.alloc(), status, LAST, None)?);
+    let (customer, last) = ((CUSTOMER, None), (LAST, None));
+    assert!(rt; are_stale(&rt, rt.alloc(), Asked::Status(3), customer, last)?);
     Ok(())
 }
 
 #[test]
 fn a_status_of_a_customer_that_no_tables_have(rt: HostRuntime) -> Result<(), Fail> {
-    let status = Asked::Status(3);
     let balance = MAX_MONEY.cast_unsigned() + 1;
-    assert!(rt;
-        is_stale(
-            &rt,
-            rt.alloc(),
-            status,
-            CUSTOMER,
-            Some([balance, 0, 1, 0, 0, 0, 0])
-        )?
-    );
-    assert!(rt; is_stale(&rt, rt.alloc(), status, LAST, Some([31, 0, 0, 0, 0, 0, 0]))?);
+    let customer = (CUSTOMER, Some([balance, 0, 1, 0, 0, 0, 0]));
+    let last = (LAST, Some([31, 0, 0, 0, 0, 0, 0]));
+    assert!(rt; are_stale(&rt, rt.alloc(), Asked::Status(3), customer, last)?);
     Ok(())
 }
 
 #[test]
 fn a_status_of_an_order_that_no_tables_have(rt: HostRuntime) -> Result<(), Fail> {
-    let status = Asked::Status(3);
-    assert!(rt; is_stale(&rt, rt.alloc(), status, ORDER, Some([3, 1, 1, 16, 1, 0, 0]))?);
-    assert!(rt; is_stale(&rt, rt.alloc(), status, LINE, Some([21, 1, 1, 5, 0, 0, 0]))?);
+    let order = (ORDER, Some([3, 1, 1, 16, 1, 0, 0]));
+    let line = (LINE, Some([21, 1, 1, 5, 0, 0, 0]));
+    assert!(rt; are_stale(&rt, rt.alloc(), Asked::Status(3), order, line)?);
     Ok(())
 }
 
@@ -133,25 +140,16 @@ fn a_status_between_the_stores_of_an_order(rt: HostRuntime) -> Result<(), Fail> 
 
 #[test]
 fn a_level_of_records_that_no_tables_miss(rt: HostRuntime) -> Result<(), Fail> {
-    let level = Asked::Level(1);
-    assert!(rt; is_stale(&rt, rt.alloc(), level, DISTRICT, None)?);
-    assert!(rt; is_stale(&rt, rt.alloc(), level, STOCK, None)?);
+    let (district, stock) = ((DISTRICT, None), (STOCK, None));
+    assert!(rt; are_stale(&rt, rt.alloc(), Asked::Level(1), district, stock)?);
     Ok(())
 }
 
 #[test]
 fn a_level_of_rows_that_no_tables_have(rt: HostRuntime) -> Result<(), Fail> {
-    let level = Asked::Level(1);
-    assert!(rt;
-        is_stale(
-            &rt,
-            rt.alloc(),
-            level,
-            DISTRICT,
-            Some([10_000, 32, 0, 0, 0, 0, 0])
-        )?
-    );
-    assert!(rt; is_stale(&rt, rt.alloc(), level, LINE, Some([21, 1, 1, 5, 0, 0, 0]))?);
+    let district = (DISTRICT, Some([10_000, 32, 0, 0, 0, 0, 0]));
+    let line = (LINE, Some([21, 1, 1, 5, 0, 0, 0]));
+    assert!(rt; are_stale(&rt, rt.alloc(), Asked::Level(1), district, line)?);
     Ok(())
 }
 
@@ -163,25 +161,17 @@ fn a_level_of_a_low_stock(rt: HostRuntime) -> Result<(), Fail> {
     Ok(())
 }
 
-/// What came of a query that commits second.
-fn asked_second(refusal: Option<Refusal>, told: Told) -> Committed {
-    Committed {
-        refusal,
-        number: 2,
-        told,
-    }
+/// What came of an order of customer 3, and then of this query.
+fn after_order(second: Committed) -> Outcome {
+    good(order_told(11, 15_000, 15_525), second)
 }
 
 #[test]
 fn a_status_beside_an_order_of_its_customer(rt: HostRuntime) -> Result<(), Fail> {
     let asked = (Asked::Order(3), Asked::Status(3));
     let outcome = outcome_of(&rt, rt.alloc(), asked)?;
-    assert_eq!(rt; outcome.first.told, order_told(11, 15_000, 15_525));
-    assert_eq!(rt;
-        outcome.second,
-        asked_second(Some(Refusal::Conflict), status_told(Some(11)))
-    );
-    assert!(rt; outcome.is_good);
+    let again = second(Some(Refusal::Conflict), status_told(Some(11)));
+    assert_eq!(rt; outcome, after_order(again));
     Ok(())
 }
 
@@ -189,9 +179,7 @@ fn a_status_beside_an_order_of_its_customer(rt: HostRuntime) -> Result<(), Fail>
 fn a_status_beside_an_order_of_another(rt: HostRuntime) -> Result<(), Fail> {
     let asked = (Asked::Order(3), Asked::Status(4));
     let outcome = outcome_of(&rt, rt.alloc(), asked)?;
-    assert_eq!(rt; outcome.first.told, order_told(11, 15_000, 15_525));
-    assert_eq!(rt; outcome.second, asked_second(None, status_told(Some(4))));
-    assert!(rt; outcome.is_good);
+    assert_eq!(rt; outcome, after_order(second(None, status_told(Some(4)))));
     Ok(())
 }
 
@@ -200,12 +188,8 @@ fn a_status_beside_an_order_of_another(rt: HostRuntime) -> Result<(), Fail> {
 fn a_level_beside_an_order(rt: HostRuntime) -> Result<(), Fail> {
     let asked = (Asked::Order(3), Asked::Level(2));
     let outcome = outcome_of(&rt, rt.alloc(), asked)?;
-    assert_eq!(rt; outcome.first.told, order_told(11, 15_000, 15_525));
-    assert_eq!(rt;
-        outcome.second,
-        asked_second(Some(Refusal::Conflict), Told::Level(0))
-    );
-    assert!(rt; outcome.is_good);
+    let again = second(Some(Refusal::Conflict), Told::Level(0));
+    assert_eq!(rt; outcome, after_order(again));
     Ok(())
 }
 
@@ -213,8 +197,7 @@ fn a_level_beside_an_order(rt: HostRuntime) -> Result<(), Fail> {
 fn a_level_beside_a_payment_elsewhere(rt: HostRuntime) -> Result<(), Fail> {
     let asked = (Asked::Payment(3), Asked::Level(2));
     let outcome = outcome_of(&rt, rt.alloc(), asked)?;
-    assert_eq!(rt; outcome.first.told, payment_told(3, -1_100));
-    assert_eq!(rt; outcome.second, asked_second(None, Told::Level(0)));
-    assert!(rt; outcome.is_good);
+    let level = second(None, Told::Level(0));
+    assert_eq!(rt; outcome, good(payment_told(3, -1_100), level));
     Ok(())
 }

@@ -4,7 +4,7 @@ ghost use Rattle.board.specs.Steps.{stored_mark};
 ghost use Rattle.board.specs.Opening.{logger_seats};
 ghost use Rattle.book.specs.Parts.{IsFresh, IsRunOf, base_of, ledger_name, ledger_parts, loggers_of};
 
-use crate::engine::{commit_executed, pay};
+use crate::engine::pay_next;
 use crate::stage::small;
 use board::{Board, ClockSeat, Keeper, LoggerSeat};
 use book::{Engine, Parts, Run, Seats, TerminalSeats};
@@ -107,21 +107,30 @@ impl<K: Run> Stage<K> {
         self.engine.board().advance(&mut self.clock)
     }
 
-    /// The next terminal pays once.
-    fn pay<R: Wait>(&mut self, rt: &R, alloc: Global) -> Result<u32, Refusal> {
-        let Some(seat) = self.terminals.next() else {
-            return Err(Refusal::OutOfMemory);
-        };
-        let executed = pay(rt, alloc, &self.engine, seat, 3)?;
-        let (_, _, committed) = commit_executed(rt, &self.engine, executed);
-        committed.map(|told| told.0)
-    }
-
     fn take_turns<R: Wait>(&mut self, rt: &R) -> Turns {
         (
             take_turn(rt, &self.engine, &mut self.first, 0),
             take_turn(rt, &self.engine, &mut self.second, 1),
         )
+    }
+
+    /// The turns in the next epoch, in which the next terminal has paid.
+    fn pay_in_the_next_epoch<R: Wait>(&mut self, rt: &R, alloc: Global) -> Result<Turns, Refusal> {
+        self.advance()?;
+        pay_next(rt, alloc, &self.engine, &mut self.terminals)?;
+        Ok(self.take_turns(rt))
+    }
+
+    /// The turns in epoch 3, in which the first terminal has paid, and in epoch 4, in which the second has.
+    fn pay_in_two_epochs<R: Wait>(
+        &mut self,
+        rt: &R,
+        alloc: Global,
+    ) -> Result<(Turns, Turns), Refusal> {
+        self.advance()?;
+        let third = self.pay_in_the_next_epoch(rt, alloc)?;
+        let fourth = self.pay_in_the_next_epoch(rt, alloc)?;
+        Ok((third, fourth))
     }
 }
 
@@ -171,12 +180,7 @@ fn open<K: Run>(parts: Parts) -> Option<Stage<K>>
 /// The turns of both loggers.
 type Turns = (Option<Turn>, Option<Turn>);
 
-/// The turns in epoch 3, in which the first terminal has paid, and in epoch 4, in which the second has.
-fn pay_in_two_epochs<K: Run, R: Wait>(
-    rt: &R,
-    alloc: Global,
-    parts: Parts,
-) -> Result<(Turns, Turns), Refusal>
+fn turns_of<K: Run, R: Wait>(rt: &R, alloc: Global, parts: Parts) -> Result<(Turns, Turns), Refusal>
     requires fresh { IsFresh parts }
     requires run { IsRunOf parts K.first K.past K.cells K.board K.seed }
     requires ledger { (ledger_name parts ≡ K.name) × (ledger_parts parts ≡ K.parts) }
@@ -185,13 +189,7 @@ fn pay_in_two_epochs<K: Run, R: Wait>(
     let Some(mut stage) = open::<K>(parts) else {
         return Err(Refusal::OutOfMemory);
     };
-    stage.advance()?;
-    stage.advance()?;
-    stage.pay(rt, alloc)?;
-    let third = stage.take_turns(rt);
-    stage.advance()?;
-    stage.pay(rt, alloc)?;
-    Ok((third, stage.take_turns(rt)))
+    stage.pay_in_two_epochs(rt, alloc)
 }
 
 fn parts<R: Wait>(rt: &R, alloc: Global) -> Result<Parts, Refusal>
@@ -204,7 +202,7 @@ fn parts<R: Wait>(rt: &R, alloc: Global) -> Result<Parts, Refusal>
 #[test]
 fn each_logger_takes_what_its_terminals_committed(rt: HostRuntime) -> Result<(), Fail> {
     let parts = parts(&rt, rt.alloc())?;
-    let (third, fourth) = pay_in_two_epochs::<Brand, _>(&rt, rt.alloc(), parts)?;
+    let (third, fourth) = turns_of::<Brand, _>(&rt, rt.alloc(), parts)?;
     let none = Turn {
         logger: (1, 2),
         first: 0,

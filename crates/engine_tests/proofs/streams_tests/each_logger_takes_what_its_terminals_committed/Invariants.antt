@@ -1,8 +1,8 @@
 use Rattle.book.specs.Parts.{first_of, past_of, cells_of, board_of, population_seed, ledger_name, ledger_parts}
 use Rattle.engine_tests.proofs.streams_tests.each_logger_takes_what_its_terminals_committed.Given as goal
 
-abbrev pub ghosts-pay_in_two_epochs-K-Run : goal.ghosts-pay_in_two_epochs-K-Run
-ghosts-pay_in_two_epochs-K-Run g a = record {
+abbrev pub ghosts-turns_of-K-Run : goal.ghosts-turns_of-K-Run
+ghosts-turns_of-K-Run g a = record {
   first = first_of a.parts;
   past = past_of a.parts;
   cells = cells_of a.parts;
@@ -11,5 +11,5 @@ ghosts-pay_in_two_epochs-K-Run g a = record {
       population_seed a.parts;
 }
 
-abbrev pub ghosts-pay_in_two_epochs-K-Ledger : goal.ghosts-pay_in_two_epochs-K-Ledger
-ghosts-pay_in_two_epochs-K-Ledger g a = record { name = ledger_name a.parts; parts = ledger_parts a.parts }
+abbrev pub ghosts-turns_of-K-Ledger : goal.ghosts-turns_of-K-Ledger
+ghosts-turns_of-K-Ledger g a = record { name = ledger_name a.parts; parts = ledger_parts a.parts }
