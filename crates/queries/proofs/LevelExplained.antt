@@ -11,6 +11,7 @@ use Rattle.tables.specs.declared.reply.Reply.TheVariants as reply
 use Rattle.readset.specs.Reads.{ReadSetView}
 use Rattle.readset.specs.Writes.{no_writes}
 use Rattle.readset.specs.Explains.{IsCandidate, Explains}
+use Rattle.readset.proofs.HoldsChanges.{holds_first}
 
 module _ (t0 : Database) (x : StockLevelInput) (reads : ReadSetView) (items : List ℕ) (low : ℕ)
     (sold : (t : Database) → IsCandidate t0 reads t → (i : ℕ) → is_sold t (record { warehouse = x.warehouse; district = x.district }) i ≡ list_any (λ j. j == i)
@@ -30,4 +31,5 @@ module _ (t0 : Database) (x : StockLevelInput) (reads : ReadSetView) (items : Li
       numbered = tt;
       rows = λ n small. refl;
       history = sym (append-nil t.history);
+      absent = (holds_first t).absent;
     }

@@ -19,6 +19,7 @@ use Rattle.laws.proofs.NamesKept.{same_number}
 use Rattle.readset.specs.Reads.{ReadSetView}
 use Rattle.readset.specs.Writes.{no_writes}
 use Rattle.readset.specs.Explains.{IsCandidate, Explains}
+use Rattle.readset.proofs.HoldsChanges.{holds_first}
 
 module _ (t0 : Database) (x : OrderStatusInput) (k : CustomerKey) (same : k ≡ asked x (asked_number t0 x)) (reads : ReadSetView) (balance : ℤ) (number : ℕ)
     (order : Option LastOrder) where
@@ -50,4 +51,5 @@ module _ (t0 : Database) (x : OrderStatusInput) (k : CustomerKey) (same : k ≡ 
         numbered = tt;
         rows = λ n small. refl;
         history = sym (append-nil t.history);
+        absent = (holds_first t).absent;
       }
