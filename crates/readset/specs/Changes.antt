@@ -35,7 +35,7 @@ abbrev pub AreKeys : Sizes → Changes → Type 0
 AreKeys s [] = Unit {0}
 AreKeys s (c ∷ cs) = IsRecordKey s c.0 × AreKeys s cs
 
--- a row that they take out is of NEW-ORDER
+-- each row that they take out is of NEW-ORDER
 abbrev pub TakeOnlyNewOrders : Changes → Type 0
 TakeOnlyNewOrders [] = Unit {0}
 TakeOnlyNewOrders (c ∷ cs) = (c.1 ≡ None → (k : OrderKey) × (c.0 ≡ key.NewOrder k)) × TakeOnlyNewOrders cs

@@ -1,4 +1,4 @@
-use Rattle.std.proofs.Common.{◌≡◌, ◌+◌, ◌-◌, ℤ, pos, ◌+ℤ◌, Option, Some, None, List, ℕ, refl, sym, ap, ◌∙◌, subst, arith}
+use Rattle.std.proofs.Common.{◌≡◌, ◌+◌, ◌-◌, ℤ, ◌+ℤ◌, Option, Some, List, ℕ, refl, sym, ap, ◌∙◌, subst, arith}
 use Rattle.tables.specs.Keys.{IsLineKey}
 use Rattle.tables.specs.Records.{number_of_key}
 use Rattle.tables.specs.Rows.{row_at}
