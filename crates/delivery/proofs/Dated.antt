@@ -111,7 +111,8 @@ module _ (t : Database) (x : DeliveryInput) (n o : ℕ) where
     none_dated none (key.Order j) = refl
     none_dated none (key.OrderLine j) = go (get t.lines j) refl
       where
-        go : (w : Option OrderLine) → get t.lines j ≡ w → row_at (with_dates t x n k (m + 1)) (key.OrderLine j) ≡ row_at (with_dates t x n k m) (key.OrderLine j)
+        go : (w : Option OrderLine) → get t.lines j ≡ w
+            → row_at (with_dates t x n k (m + 1)) (key.OrderLine j) ≡ row_at (with_dates t x n k m) (key.OrderLine j)
         go None e =
             let still : (a : ℕ) → get (with_dates t x n k a).lines j ≡ None = λ a. line_at a j ∙ ap (option_map (λ l. cond (test a j) (dated x l) l)) e in
             ap (option_map line_words) (still (m + 1) ∙ sym (still m))
