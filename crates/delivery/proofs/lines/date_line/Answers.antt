@@ -53,6 +53,8 @@ returns-clause-dated g c = λ sum so_far.
     let n = k.district - 1 in
     let t0 = g.K.Start.tables in
     let next : c.args.number ≡ c.args.number - 1 + 1 = omega (arith, c.requires.number.0) in
+    let words = c.in-Some-date.dated.words in
+    let written : ℕ → WriteSetView = λ m. puts c.read.new.self.writes (number_of_key t0.scale (key.OrderLine (line_key k m))) (Some words) in
     subst (λ m. AreDated t0 x n k.order m c.put.new.self (sum +ℤ c.in-Some-date.dated.amount)) (sym next)
     (one_more t0 x k (c.args.number - 1) c.read.new.self n c.args.transaction.now sum
     (subst (λ m. IsLineKey t0.scale (line_key k m)) next (c.requires.order.0, c.requires.order.1, c.requires.order.2, c.requires.number))
@@ -62,5 +64,4 @@ returns-clause-dated g c = λ sum so_far.
     c.date.result (λ r low high is. c.date.ensures.dated x r refl low high is)
     c.in-Some-date.dated c.in-Some-date.is c.put.new.self c.put.ensures.reads
     (c.in_ok-put.ensures.puts
-    ∙ ap (λ m. let w : WriteSetView = puts c.read.new.self.writes (number_of_key t0.scale (key.OrderLine (line_key k m))) (Some c.in-Some-date.dated.words) in w)
-    next))
+    ∙ ap written next))
