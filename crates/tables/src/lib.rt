@@ -26,7 +26,7 @@ pub use customer::Who;
 pub use delivery::{DeliveredOrder, DeliveryInput, DeliveryReply};
 pub use input::Input;
 pub use keys::{CustomerKey, DistrictKey, LineKey, OrderKey, StockKey};
-pub use located::key_of;
+pub use located::{key_of, locate};
 pub use names::NameKey;
 pub use new_order::{NewOrderInput, NewOrderReply, RequestedLine, SuppliedLine};
 pub use order_lines::Lines;

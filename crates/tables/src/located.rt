@@ -38,7 +38,7 @@ pub fn key_of(scale: &Scale, number: u32) -> RecordKey
 }
 
 /// The table of a record number, and its place there.
-fn locate(scale: &Scale, number: u32) -> (Table, u32)
+pub fn locate(scale: &Scale, number: u32) -> (Table, u32)
     requires { number < record_count scale.now }
     ensures table { result.0 ≡ table_at scale.now number }
     ensures place { result.1 ≡ place_at scale.now number }

@@ -1,0 +1,133 @@
+//! Writing an entry of the book's history as an entry of a log file, with no list of its writes in between.
+ghost use Rattle.std.specs.Prelude.{◌≡◌, ◌++◌, ◌<◌, ◌≤◌, ◌+◌, length, flat_map, map, ℕ, OnOk, Option, Some, List, All};
+ghost use Rattle.std.specs.List.{filter};
+ghost use Rattle.tables.specs.Records.{first_number, record_count};
+ghost use Rattle.tables.specs.declared.records.Table.TheVariants as table;
+ghost use Rattle.readset.specs.Writes.{added, value_for};
+ghost use Rattle.log_text.specs.Writes.{write_text};
+ghost use Rattle.log_text.specs.Entries.{entry_text};
+ghost use Rattle.log_entries.specs.Logged.{entry_of, history_write, write_at, writes_of};
+ghost use Rattle.log_entries.specs.Logged.{is_before_history, is_behind_history};
+
+use crate::rows::history_write;
+use book::Entry;
+use log_text::{Write, put_front, put_write};
+use money::Payload;
+use readset::WriteList;
+use std::alloc::AllocError;
+use tables::{History, Scale, Table, locate};
+
+/// Appends an entry of the history, as an entry of a log file.
+///
+/// # Errors
+///
+/// Want of memory: the bytes may then have a part of the entry at their end.
+pub fn put_entry(out: &mut Vec<u8>, scale: &Scale, entry: &Entry) -> Result<(), AllocError>
+    requires count { length entry.now.writes.values ≤ 200 }
+    requires numbers { (n : ℕ) (value : Option (List ℕ)) → value_for entry.now.writes n ≡ Some value
+        → n < record_count scale.now }
+    ensures { OnOk result (out.new.items ≡ out.old.items ++ entry_text (entry_of scale.now entry.now)) }
+{
+    put_front(
+        out,
+        u64::from(entry.number),
+        entry.tid.word(),
+        entry.terminal,
+        count(&entry.writes),
+    )?;
+    put_writes(out, scale, &entry.writes)
+}
+
+/// How many writes an entry has.
+fn count(writes: &WriteList) -> u16
+    requires { length writes.now.values ≤ 200 }
+    ensures { result ≡ length writes.now.values + length (added writes.now.history_row) }
+{
+    let values = writes.values().len() as u16;
+    match writes.history_row() {
+        None => values,
+        Some(_) => values + 1,
+    }
+}
+
+/// Appends what was written: the records before HISTORY, its row, and the records behind it.
+fn put_writes(out: &mut Vec<u8>, scale: &Scale, writes: &WriteList) -> Result<(), AllocError>
+    requires { (n : ℕ) (value : Option (List ℕ)) → value_for writes.now n ≡ Some value → n < record_count scale.now }
+    ensures { OnOk result (out.new.items ≡ out.old.items ++ flat_map write_text (writes_of scale.now writes.now)) }
+{
+    let values = writes.values();
+    let behind = behind_history(scale);
+    put_before(out, scale, behind, values)?;
+    put_row(out, writes.history_row())?;
+    put_behind(out, scale, behind, values)
+}
+
+/// The number of the first record behind HISTORY's place.
+fn behind_history(scale: &Scale) -> u32
+    ensures { result ≡ first_number scale.now table.NewOrder }
+{
+    Table::Warehouse.size(scale) + Table::District.size(scale) + Table::Customer.size(scale)
+}
+
+fn put_row(out: &mut Vec<u8>, row: Option<History>) -> Result<(), AllocError>
+    ensures { OnOk result (out.new.items ≡ out.old.items ++ flat_map write_text (map history_write (added row))) }
+{
+    match row {
+        None => Ok(()),
+        Some(row) => put_write(out, &history_write(&row)),
+    }
+}
+
+/// Appends what one record holds.
+fn put_value(out: &mut Vec<u8>, scale: &Scale, number: u32, words: Option<Payload>) -> Result<(), AllocError>
+    requires { number < record_count scale.now }
+    ensures { OnOk result (out.new.items ≡ out.old.items ++ write_text (write_at scale.now (number, words))) }
+{
+    let (table, place) = locate(scale, number);
+    put_write(
+        out,
+        &Write {
+            table,
+            place,
+            words,
+        },
+    )
+}
+
+fn put_before(
+    out: &mut Vec<u8>,
+    scale: &Scale,
+    behind: u32,
+    values: &[(u32, Option<Payload>)],
+) -> Result<(), AllocError>
+    requires behind { behind ≡ first_number scale.now table.NewOrder }
+    requires numbers { All (λ e. e.0 < record_count scale.now) values.now }
+    ensures { OnOk result (out.new.items ≡ out.old.items
+        ++ flat_map write_text (map (write_at scale.now) (filter (is_before_history scale.now) values.now))) }
+{
+    for (number, words) in values {
+        if *number < behind {
+            put_value(out, scale, *number, *words)?;
+        }
+    }
+    Ok(())
+}
+
+fn put_behind(
+    out: &mut Vec<u8>,
+    scale: &Scale,
+    behind: u32,
+    values: &[(u32, Option<Payload>)],
+) -> Result<(), AllocError>
+    requires behind { behind ≡ first_number scale.now table.NewOrder }
+    requires numbers { All (λ e. e.0 < record_count scale.now) values.now }
+    ensures { OnOk result (out.new.items ≡ out.old.items
+        ++ flat_map write_text (map (write_at scale.now) (filter (is_behind_history scale.now) values.now))) }
+{
+    for (number, words) in values {
+        if *number >= behind {
+            put_value(out, scale, *number, *words)?;
+        }
+    }
+    Ok(())
+}
