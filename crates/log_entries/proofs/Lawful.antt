@@ -10,6 +10,7 @@ use Rattle.std.specs.declared.cmp.Ordering.TheVariants.{Less}
 use Rattle.std.proofs.lemmas.Bool.{and_from, le-leb, leb-true, lt-ltb, ltb-true, ltb-false, not-true}
 use Rattle.std.proofs.lemmas.Bool.Decides.{nat_tests}
 use Rattle.std.proofs.lemmas.List.Elements.{recursion_from_All, All-head}
+use Rattle.std.proofs.lemmas.List.{length-append, length-map}
 use Rattle.std.proofs.lemmas.List.Folds.{list_all-append}
 use Rattle.std.proofs.lemmas.List.Sums.{sum_by-append, count_by-le-length}
 use Rattle.tables.specs.Sizes.{Sizes, IsScale}
@@ -56,6 +57,31 @@ rise_append a b (v ∷ vs) ws h e low rest =
 above : (n : ℕ) (es : List Value) → AllByRecursion (λ k. nat_cmp n k ≡ Less) (keys_of es) → AllByRecursion (λ e. n + 1 ≤ e.0) es
 above n [] h = tt
 above n (e ∷ es) h = (let less : nat_cmp n e.0 ≡ Less = h.0 in grind (arith, nat_tests), above n es h.1)
+
+module _ (s : Sizes) where
+  both_parts : (p : Value → Bool) (es : List Value) → length (map (write_at s) (filter p es)) + length (map (write_at s) (filter (λ e. not (p e)) es))
+      ≡ length es
+  both_parts p [] = refl
+  both_parts p (e ∷ es) =
+      elim (p e) as (λ b. length (map (write_at s) (cond b (e ∷ filter p es) (filter p es)))
+      + length (map (write_at s) (cond (not b) (e ∷ filter (λ f. not (p f)) es) (filter (λ f. not (p f)) es))) ≡ length (e ∷ es)) [
+        | true ↦ omega (arith, both_parts p es)
+        | false ↦ omega (arith, both_parts p es)
+      ]
+
+  -- as many as the values, and HISTORY's row
+  pub length_writes : (writes : WriteSetView) → length (writes_of s writes) ≡ length writes.values + length (added writes.history_row)
+  length_writes writes =
+      let first = map (write_at s) (filter (is_before_history s) writes.values) in
+      let second = map history_write (added writes.history_row) in
+      let third = map (write_at s) (filter (is_behind_history s) writes.values) in
+      omega (
+        arith,
+        length-append first (second ++ third),
+        length-append second third,
+        length-map (added writes.history_row) history_write,
+        both_parts (is_before_history s) writes.values,
+      )
 
 module _ (s : Sizes) (scale : IsScale s) where
   -- what holds of each value that passes a test holds of its write
@@ -155,16 +181,6 @@ module _ (s : Sizes) (scale : IsScale s) where
   abbrev records : List Write → ℕ
   records ws = count_by is_record ws
 
-  both_parts : (p : Value → Bool) (es : List Value) → length (map (write_at s) (filter p es)) + length (map (write_at s) (filter (λ e. not (p e)) es))
-      ≡ length es
-  both_parts p [] = refl
-  both_parts p (e ∷ es) =
-      elim (p e) as (λ b. length (map (write_at s) (cond b (e ∷ filter p es) (filter p es)))
-      + length (map (write_at s) (cond (not b) (e ∷ filter (λ f. not (p f)) es) (filter (λ f. not (p f)) es))) ≡ length (e ∷ es)) [
-        | true ↦ omega (arith, both_parts p es)
-        | false ↦ omega (arith, both_parts p es)
-      ]
-
   no_records : (row : Option History) → records (map history_write (added row)) ≡ 0
   no_records None = refl
   no_records (Some row) = refl
@@ -181,7 +197,7 @@ module _ (s : Sizes) (scale : IsScale s) where
         no_records writes.history_row,
         count_by-le-length is_record first,
         count_by-le-length is_record third,
-        both_parts (is_before_history s) writes.values,
+        both_parts s (is_before_history s) writes.values,
       )
 
 -- a key of NEW-ORDER is at a place of NEW-ORDER

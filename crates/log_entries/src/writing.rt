@@ -4,6 +4,7 @@ ghost use Rattle.std.specs.List.{filter};
 ghost use Rattle.tables.specs.Records.{first_number, record_count};
 ghost use Rattle.tables.specs.declared.records.Table.TheVariants as table;
 ghost use Rattle.readset.specs.Writes.{added, value_for};
+ghost use Rattle.readset.specs.declared.limits.TheConstants.{MAX_WRITES};
 ghost use Rattle.log_text.specs.Writes.{write_text};
 ghost use Rattle.log_text.specs.Entries.{entry_text};
 ghost use Rattle.log_entries.specs.Logged.{entry_of, history_write, write_at, writes_of};
@@ -23,7 +24,7 @@ use tables::{History, Scale, Table, locate};
 ///
 /// Want of memory: the bytes may then have a part of the entry at their end.
 pub fn put_entry(out: &mut Vec<u8>, scale: &Scale, entry: &Entry) -> Result<(), AllocError>
-    requires count { length entry.now.writes.values ≤ 200 }
+    requires count { length entry.now.writes.values ≤ MAX_WRITES }
     requires numbers { (n : ℕ) (value : Option (List ℕ)) → value_for entry.now.writes n ≡ Some value
         → n < record_count scale.now }
     ensures { OnOk result (out.new.items ≡ out.old.items ++ entry_text (entry_of scale.now entry.now)) }
@@ -40,7 +41,7 @@ pub fn put_entry(out: &mut Vec<u8>, scale: &Scale, entry: &Entry) -> Result<(), 
 
 /// How many writes an entry has.
 fn count(writes: &WriteList) -> u16
-    requires { length writes.now.values ≤ 200 }
+    requires { length writes.now.values ≤ MAX_WRITES }
     ensures { result ≡ length writes.now.values + length (added writes.now.history_row) }
 {
     let values = writes.values().len() as u16;
@@ -69,6 +70,7 @@ fn behind_history(scale: &Scale) -> u32
     Table::Warehouse.size(scale) + Table::District.size(scale) + Table::Customer.size(scale)
 }
 
+/// Appends the row that HISTORY got, if there is one.
 fn put_row(out: &mut Vec<u8>, row: Option<History>) -> Result<(), AllocError>
     ensures { OnOk result (out.new.items ≡ out.old.items ++ flat_map write_text (map history_write (added row))) }
 {
@@ -79,7 +81,12 @@ fn put_row(out: &mut Vec<u8>, row: Option<History>) -> Result<(), AllocError>
 }
 
 /// Appends what one record holds.
-fn put_value(out: &mut Vec<u8>, scale: &Scale, number: u32, words: Option<Payload>) -> Result<(), AllocError>
+fn put_value(
+    out: &mut Vec<u8>,
+    scale: &Scale,
+    number: u32,
+    words: Option<Payload>,
+) -> Result<(), AllocError>
     requires { number < record_count scale.now }
     ensures { OnOk result (out.new.items ≡ out.old.items ++ write_text (write_at scale.now (number, words))) }
 {
@@ -94,6 +101,7 @@ fn put_value(out: &mut Vec<u8>, scale: &Scale, number: u32, words: Option<Payloa
     )
 }
 
+/// Appends what the records before HISTORY hold.
 fn put_before(
     out: &mut Vec<u8>,
     scale: &Scale,
@@ -113,6 +121,7 @@ fn put_before(
     Ok(())
 }
 
+/// Appends what the records behind HISTORY hold.
 fn put_behind(
     out: &mut Vec<u8>,
     scale: &Scale,
