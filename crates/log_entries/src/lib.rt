@@ -1,7 +1,9 @@
 //! An entry of the book's history, as an entry of a log file.
 #![tactic(auto)]
 
+mod batches;
 mod rows;
 mod writing;
 
+pub use batches::put_batch;
 pub use writing::put_entry;

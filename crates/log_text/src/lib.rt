@@ -24,4 +24,4 @@ pub use files::read_file;
 pub use last::Last;
 pub use laws::one_file;
 pub use write::Write;
-pub use writing::{put_body, put_front, put_write};
+pub use writing::{put_body, put_front, put_write, set_length};

@@ -84,7 +84,7 @@ pub fn put_front(
 }
 
 /// Sets the length of the body that begins there, where eight bytes are kept for it: its text goes on to the end.
-fn set_length(bytes: &mut [u8], start: usize)
+pub fn set_length(bytes: &mut [u8], start: usize)
     requires { start + 8 ≤ length bytes.old }
     ensures length { length bytes.new ≡ length bytes.old }
     ensures set { (front content : List ℕ) → length front ≡ start → bytes.old ≡ front ++ (number 8 0 ++ content)

@@ -1,0 +1,74 @@
+//! Writing a batch as a body of a log file.
+ghost use Rattle.std.specs.Prelude.{◌≡◌, [], ◌∷◌, ◌++◌, flat_map, map, IfOk, OnOk};
+ghost use Rattle.std.specs.Arc.{arc_value};
+ghost use Rattle.std.specs.List.{All};
+ghost use Rattle.log_text.specs.Bodies.{body_text};
+ghost use Rattle.log_text.specs.Entries.{entry_text};
+ghost use Rattle.book.specs.Loggable.{IsLoggable};
+ghost use Rattle.book.specs.Streams.{last_number};
+ghost use Rattle.log_entries.specs.Logged.{entry_of};
+ghost use Rattle.log_entries.specs.Following.{behind_batch, body_of_batch, last_epoch_of};
+
+use crate::writing::put_entry;
+use book::{Batch, Entry};
+use codec::{put_u8, put_u64};
+use log_text::{Last, set_length};
+use std::alloc::{AllocError, Global};
+use std::sync::Arc;
+use tables::Scale;
+
+// The gate behind the last body: what stands behind it doesn't count.
+const CLOSED: u8 = 0;
+
+/// Appends a batch as a body, with a closed gate behind it, for a file that stands there (`last`); gives where the file
+/// then stands. Costs a pass over the batch, whose text is made once.
+///
+/// # Errors
+///
+/// Want of memory: the bytes may then have a part of the body at their end.
+pub fn put_batch(out: &mut Vec<u8>, batch: &Batch, last: Last) -> Result<Last, AllocError>
+    ensures text { OnOk result (out.new.items
+        ≡ out.old.items ++ (body_text (body_of_batch batch.now) ++ CLOSED ∷ [])) }
+    ensures last { IfOk result (λ now. now ≡ behind_batch last batch.now) }
+{
+    let start = out.len();
+    put_u64(out, 0)?;
+    put_u64(out, batch.mark())?;
+    let scale = batch.scale();
+    let last = put_entries(out, &scale, batch.entries(), last)?;
+    set_length(out.as_mut_slice(), start);
+    put_u8(out, CLOSED)?;
+    Ok(Last {
+        mark: batch.mark(),
+        number: last.number,
+        epoch: last.epoch,
+    })
+}
+
+/// Appends the entries of a body; gives where the file stands behind the last.
+fn put_entries(
+    out: &mut Vec<u8>,
+    scale: &Scale,
+    entries: &[Arc<Entry, Global>],
+    last: Last,
+) -> Result<Last, AllocError>
+    requires { All (IsLoggable scale.now) (map arc_value entries.now) }
+    ensures text { OnOk result (out.new.items ≡ out.old.items
+        ++ flat_map entry_text (map (entry_of scale.now) (map arc_value entries.now))) }
+    ensures last { IfOk result (λ now. now ≡ record {
+      mark = last.mark;
+      number = last_number last.number (map arc_value entries.now);
+      epoch = last_epoch_of last.epoch (map arc_value entries.now);
+    }) }
+{
+    let mut now = last;
+    for entry in entries {
+        put_entry(out, scale, entry)?;
+        now = Last {
+            mark: now.mark,
+            number: u64::from(entry.number),
+            epoch: u64::from(entry.tid.epoch()),
+        };
+    }
+    Ok(now)
+}
