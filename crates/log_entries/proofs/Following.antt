@@ -1,10 +1,14 @@
 -- A batch may follow where its file stands.
-use Rattle.std.proofs.Common.{◌≡◌, ℕ, ◌+◌, ◌%◌, ◌<◌, ◌≤◌, ◌==◌, Bool, true, ◌&&◌, Option, Some, None, List, ◌++◌, [], ◌∷◌, map, length, get_or, refl, sym, ap, ◌∙◌, subst, arith}
-use Rattle.std.specs.Prelude.{nat_lt, nat_le, if◌then◌else◌}
+use Rattle.std.proofs.Common.{◌≡◌, ℕ, ◌+◌, ◌%◌, ◌<◌, ◌≤◌, Bool, true, ◌&&◌, Option, Some, None, List, ◌++◌, [], ◌∷◌, map, length, get_or, refl, sym, ap, ◌∙◌, subst, arith}
+use Rattle.std.specs.Prelude.{nat_le, if◌then◌else◌}
 use Rattle.std.specs.List.{All}
 use Rattle.std.specs.Option.{option_and_then}
 use Rattle.std.proofs.lemmas.Bool.{and_from, lt-ltb, le-leb, eq-eqb}
 use Rattle.std.proofs.lemmas.List.Elements.{All-head, All-tail, All-weaker}
+use Rattle.std.specs.Arc.{arc_value}
+use Rattle.std.specs.declared.sync.Arc.{Arc}
+use Rattle.std.proofs.Common.{Global}
+use Rattle.std.proofs.lemmas.List.{get_or-map, length-map}
 use Rattle.std.specs.Option.{unwrap_or}
 use Rattle.std.specs.Coded.{Coded-set, coded_bool}
 use Rattle.std.proofs.Math.Logic.{∥∥₁_elim}
@@ -23,7 +27,7 @@ use Rattle.readset.specs.Writes.{value_for, added}
 use Rattle.tidword.specs.TidWord.{epoch_of}
 use Rattle.log_header.specs.Header.{HeaderView}
 use Rattle.log_text.specs.Writes.{are_writes}
-use Rattle.log_text.specs.Bodies.{is_next, is_timed, is_asked, is_entry, entries_after, behind, marked, body_after}
+use Rattle.log_text.specs.Bodies.{is_entry, entries_after, behind, marked, body_after}
 use Rattle.log_text.specs.declared.last.Last.{Last}
 use Rattle.log_text.specs.declared.limits.TheConstants.{MAX_MARK, MAX_TERMINALS}
 use Rattle.book.specs.Batches.{BatchView, IsBatch}
@@ -131,3 +135,10 @@ batch_near last b is same epoch =
 pub number_rises : (before : ℕ) (es : List Entry) → NumbersRise before es → before + length es ≤ last_number before es
 number_rises before [] rise = omega arith
 number_rises before (e ∷ es) rise = omega (arith, rise.0, number_rises e.number es rise.1)
+
+-- an entry of a batch, found in memory by its place
+pub loggable_at : (s : Sizes) (xs : List (Arc Entry Global)) → All (IsLoggable s) (map arc_value xs) → (i : ℕ) (x : Arc Entry Global) (e : Entry)
+    → i < length xs → x ≡ get_or xs i x → e ≡ arc_value x → IsLoggable s e
+loggable_at s xs all i x e lt is same =
+    subst (IsLoggable s) (get_or-map arc_value xs i x e lt ∙ ap arc_value (sym is) ∙ sym same)
+    (all i e (subst (λ (n : ℕ). i < n) (sym (length-map xs arc_value)) lt))

@@ -31,15 +31,25 @@ pub fn put_batch(out: &mut Vec<u8>, batch: &Batch, last: Last) -> Result<Last, A
         ≡ out.old.items ++ (body_text (body_of_batch batch.now) ++ CLOSED ∷ [])) }
     ensures last { IfOk result (λ now. now ≡ behind_batch last batch.now) }
 {
+    let now = put_body(out, batch, last)?;
+    put_u8(out, CLOSED)?;
+    Ok(now)
+}
+
+/// Appends a batch as a body.
+fn put_body(out: &mut Vec<u8>, batch: &Batch, last: Last) -> Result<Last, AllocError>
+    ensures text { OnOk result (out.new.items ≡ out.old.items ++ body_text (body_of_batch batch.now)) }
+    ensures last { IfOk result (λ now. now ≡ behind_batch last batch.now) }
+{
     let start = out.len();
     put_u64(out, 0)?;
-    put_u64(out, batch.mark())?;
+    let mark = batch.mark();
+    put_u64(out, mark)?;
     let scale = batch.scale();
     let last = put_entries(out, &scale, batch.entries(), last)?;
     set_length(out.as_mut_slice(), start);
-    put_u8(out, CLOSED)?;
     Ok(Last {
-        mark: batch.mark(),
+        mark,
         number: last.number,
         epoch: last.epoch,
     })

@@ -220,3 +220,12 @@ created h is end last text before seen now old new text_is end_is last_is none w
   settled = λ bytes may. subst (λ (s : List Call). MayLeave s bytes) story may ∙ sym same;
   place = omega (arith, ap length (append-nil (header_text h)), end_is, ap length text_is, length-append (header_text h) (0 ∷ []));
 }
+
+-- no call
+pub no_call : (h : HeaderView) (bodies : List BodyView) (body : BodyView) (end : ℕ) (last : Last) (seen : List ℕ) (story : List Call)
+    → Stands h bodies end last seen story → LeavesOnly (IsWithOrWithout h bodies body) story story
+no_call h bodies body end last seen story s = record {
+  later = [];
+  goes_on = refl;
+  each = λ bytes may. inl (subst (λ (b : List ℕ). IsFile b h bodies) (sym (s.settled bytes may)) s.file);
+}

@@ -1,5 +1,5 @@
 //! An open log file.
-ghost use Rattle.std.specs.Prelude.{◌≡◌, ◌≢◌, ◌⊎◌, ℕ, ◌+◌, ◌<◌, ◌^◌, true, false, Some, List, [], ◌∷◌, ◌++◌, length, min};
+ghost use Rattle.std.specs.Prelude.{◌≡◌, ◌≢◌, ◌⊎◌, ℕ, ◌+◌, ◌-◌, ◌<◌, ◌≤◌, ◌^◌, true, false, Some, List, [], ◌∷◌, ◌++◌, length, min};
 ghost use Rattle.std.specs.Prelude.{IfOk, IfErr, OnOk, OnErr, IsErr, IsErrOf};
 ghost use Rattle.money.specs.declared.refusal.Refusal.TheVariants.{OutOfMemory, Device};
 ghost use Rattle.disk.specs.Calls.{Wrote, Synced, Counts};
@@ -7,17 +7,21 @@ ghost use Rattle.disk.specs.Crashes.{LeavesOnly};
 ghost use Rattle.log_header.specs.Header.{header_text};
 ghost use Rattle.log_text.specs.Bodies.{BodyView, body_after, body_text, start};
 ghost use Rattle.log_text.specs.declared.last.Last.{Last};
+ghost use Rattle.log_entries.specs.Following.{Continues, behind_batch, body_of_batch};
 ghost use Rattle.logfile.specs.Standing.{Stands, IsWithOrWithout, IsKept};
 
 use crate::storing::store;
 use board::Keeper;
+use book::Batch;
 use codec::put_u8;
 use disk::Disk;
+use log_entries::put_batch;
 use log_header::{Header, put_header};
 use log_text::Last;
 use money::Refusal;
 use std::alloc::Global;
 use std::marker::Model;
+use std::mem;
 
 // The gate behind the last body: what stands behind it doesn't count.
 const CLOSED: u8 = 0;
@@ -37,7 +41,8 @@ pub struct LogFile<D: Disk> {
 }
 
 impl<D: Disk> Model for LogFile<D> {
-    ghost use Rattle.std.specs.Prelude.{◌≡◌, ◌<◌, ◌^◌, false};
+    ghost use Rattle.std.specs.Prelude.{◌≡◌, ◌+◌, ◌<◌, ◌≤◌, ◌^◌, false};
+    ghost use Rattle.log_header.specs.Header.{IsHeader};
     ghost use Rattle.logfile.specs.Standing.{LogFileView, IsOpen, IsKept};
 
     ghost Value = { LogFileView D };
@@ -51,7 +56,8 @@ impl<D: Disk> Model for LogFile<D> {
       failed = f.failed;
     } };
 
-    ghost invariant = { λ f. (f.end < 2 ^ 63)
+    ghost invariant = { λ f. (f.end < 2 ^ 63) × IsHeader f.header × (f.last.epoch ≤ f.last.mark + 1)
+        × (f.count ≤ f.last.number)
         × (D.is_modelled → f.failed ≡ false → IsOpen f.header f.end f.last (D.seen f.disk) (D.story f.disk))
         × (D.is_modelled → ∥ IsKept f.header (D.story f.disk) f.last.mark ∥₁) };
 }
@@ -123,13 +129,63 @@ impl<D: Disk> LogFile<D> {
 }
 
 impl<D: Disk> LogFile<D> {
+    /// Appends a batch that begins where the file ends (`Continues`), as one body, by four calls of the device: its text
+    /// and a closed gate behind the gate that ends the file's text; a sync; that gate as open; a sync (Silo, section
+    /// 4.10). Costs a pass over the batch; its text is made once, in memory that the file keeps.
+    ///
+    /// At each moment of the call, also where the device fails, a crash leaves the bodies before, or these and the whole
+    /// new one; after Ok these and the new one.
+    ///
+    /// # Errors
+    ///
+    /// `OutOfMemory`, before the first call of the device: the file is then as before. `Device` exactly where the device
+    /// fails in this call or an earlier append failed so: from then on every append answers it, without a call of the
+    /// device.
+    pub fn append(&mut self, batch: &Batch) -> Result<(), Refusal>
+        requires { Continues self.old.header self.old.count self.old.last batch.now }
+        ensures header { self.new.header ≡ self.old.header }
+        ensures ok { OnOk result ((self.old.failed ≡ false) × (self.new.failed ≡ false)
+            × (self.new.last ≡ behind_batch self.old.last batch.now)
+            × (self.new.count ≡ self.old.count + length batch.now.entries)) }
+        ensures added { D.is_modelled → (bodies : List BodyView)
+            → Stands self.old.header bodies self.old.end self.old.last (D.seen self.old.disk) (D.story self.old.disk)
+            → OnOk result (Stands self.new.header (bodies ++ body_of_batch batch.now ∷ []) self.new.end self.new.last
+            (D.seen self.new.disk) (D.story self.new.disk)) }
+        ensures moments { D.is_modelled → (bodies : List BodyView)
+            → Stands self.old.header bodies self.old.end self.old.last (D.seen self.old.disk) (D.story self.old.disk)
+            → LeavesOnly (IsWithOrWithout self.old.header bodies (body_of_batch batch.now)) (D.story self.old.disk)
+            (D.story self.new.disk) }
+        ensures calls { D.is_modelled
+            → OnOk result (length (D.story self.new.disk) ≡ length (D.story self.old.disk) + 4) }
+        ensures memory { IsErrOf result OutOfMemory → self.new ≡ self.old }
+        ensures device { IsErrOf result Device → (self.new.failed ≡ true) × (self.new.last ≡ self.old.last)
+            × (self.new.count ≡ self.old.count) }
+        ensures refuses { self.old.failed ≡ true → IsErrOf result Device × (self.new ≡ self.old) }
+        ensures cause { self.old.failed ≡ false → IsErrOf result Device
+            → D.failed self.new.disk ≡ min (D.failed self.old.disk + 1) (2 ^ 64 - 1) }
+        ensures others { IfErr result (λ refusal. (refusal ≢ OutOfMemory) → refusal ≡ Device) }
+    {
+        if self.failed {
+            return Err(Refusal::Device);
+        }
+        self.buffer.clear();
+        let now = put_batch(&mut self.buffer, batch, self.last)?;
+        let entries = batch.entries().len() as u64;
+        let alloc = *self.buffer.allocator();
+        let text = mem::replace(&mut self.buffer, Vec::new(alloc));
+        let result = self.add(&text, now, entries);
+        self.buffer = text;
+        result
+    }
+
     /// Appends a body, whose text and closed gate these are, behind which the file stands at `now`, with so many entries
     /// more.
-    pub(crate) fn add(&mut self, text: &[u8], now: Last, entries: u64) -> Result<(), Refusal>
+    fn add(&mut self, text: &[u8], now: Last, entries: u64) -> Result<(), Refusal>
         requires usable { self.old.failed ≡ false }
         requires body { (body : BodyView) × (text.now ≡ body_text body ++ CLOSED ∷ [])
             × (body_after self.old.header self.old.last body ≡ Some now) }
-        requires count { self.old.count + entries < 2 ^ 64 }
+        requires count { self.old.count + entries ≤ now.number }
+        requires epoch { now.epoch ≤ now.mark + 1 }
         ensures header { self.new.header ≡ self.old.header }
         ensures ok { OnOk result ((self.new.last ≡ now) × (self.new.count ≡ self.old.count + entries)
             × (self.new.failed ≡ false)) }

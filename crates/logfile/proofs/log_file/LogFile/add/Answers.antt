@@ -1,4 +1,4 @@
-use Rattle.std.proofs.Common.{◌≡◌, ◌++◌, ◌∷◌, [], Some, false, List, ◌+◌, sym, subst, refl, true≢false, length, arith}
+use Rattle.std.proofs.Common.{◌≡◌, ◌++◌, ◌∷◌, [], Some, false, List, ◌+◌, ◌≤◌, sym, subst, refl, true≢false, length, arith}
 use Rattle.std.proofs.Math.Logic.{∥∥₁_map}
 use Rattle.log_text.specs.Bodies.{BodyView, body_text, body_after}
 use Rattle.disk.specs.Crashes.{LeavesOnly}
@@ -9,12 +9,12 @@ use Rattle.logfile.proofs.log_file.LogFile.add.Goals as goal
 pub store-requires-clause-gate : goal.store-requires-clause-gate
 store-requires-clause-gate g c = λ modelled.
     let usable : c.self.inside.failed ≡ false = subst (λ (v : LogFileView _). v.failed ≡ false) (sym c.self.view_is) c.requires.usable in
-    (c.self.invariant.1 modelled usable).within
+    (c.self.invariant.4 modelled usable).within
 
 pub store-requires-clause-settled : goal.store-requires-clause-settled
 store-requires-clause-settled g c = λ modelled.
     let usable : c.self.inside.failed ≡ false = subst (λ (v : LogFileView _). v.failed ≡ false) (sym c.self.view_is) c.requires.usable in
-    (c.self.invariant.1 modelled usable).settled
+    (c.self.invariant.4 modelled usable).settled
 
 pub invariant_of-self : goal.invariant_of-self
 invariant_of-self g c =
@@ -23,13 +23,16 @@ invariant_of-self g c =
     let after : body_after c.self.inside.header c.self.inside.last body ≡ Some c.args.now
     = subst (λ (v : LogFileView _). body_after v.header v.last body ≡ Some c.args.now) (sym c.self.view_is) c.requires.body.2 in (
       omega (arith, c.in-Ok.ensures.fits),
-      (λ modelled _. is_open _ _ _ _ _ (c.in-Ok.ensures.settled modelled) (∥∥₁_map (c.self.invariant.1 modelled usable).stands
+      c.self.invariant.1,
+      c.requires.epoch,
+      subst (λ (v : LogFileView _). v.count + c.args.entries ≤ c.args.now.number) (sym c.self.view_is) c.requires.count,
+      (λ modelled _. is_open _ _ _ _ _ (c.in-Ok.ensures.settled modelled) (∥∥₁_map (c.self.invariant.4 modelled usable).stands
           (λ s. (
             s.0 ++ body ∷ [],
             add_stands _ s.0 body _ _ _ _ _ s.1 _ c.requires.body.1 after _ _ (c.in-Ok.ensures.bytes modelled)
                 (c.in-Ok.ensures.settled modelled),
           )))),
-      λ modelled. ∥∥₁_map (c.self.invariant.1 modelled usable).stands
+      λ modelled. ∥∥₁_map (c.self.invariant.4 modelled usable).stands
           (λ s. all_kept _ _ _ _ _ _ (add_stands _ s.0 body _ _ _ _ _ s.1 _ c.requires.body.1 after _ _ (c.in-Ok.ensures.bytes modelled)
           (c.in-Ok.ensures.settled modelled)) (g.met.D.Disk.read_gives c.store.new.disk modelled)),
     )
@@ -41,8 +44,11 @@ invariant_of-self-in-Err g c =
     let after : body_after c.self.inside.header c.self.inside.last body ≡ Some c.args.now
     = subst (λ (v : LogFileView _). body_after v.header v.last body ≡ Some c.args.now) (sym c.self.view_is) c.requires.body.2 in (
       c.self.invariant.0,
+      c.self.invariant.1,
+      c.self.invariant.2,
+      c.self.invariant.3,
       (λ modelled failed. absurd (true≢false failed)),
-      λ modelled. ∥∥₁_map (c.self.invariant.1 modelled usable).stands
+      λ modelled. ∥∥₁_map (c.self.invariant.4 modelled usable).stands
           (λ s. add_keeps _ s.0 body _ _ _ _ _ s.1 _ c.requires.body.1 after _ (c.store.ensures.moments modelled)
           (λ front gate rest has. c.in-Err.ensures.may_stay modelled front gate rest has refl)),
     )

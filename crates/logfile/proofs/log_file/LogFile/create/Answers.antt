@@ -16,6 +16,9 @@ invariant_of-result g c =
     (g.D.Disk.story c.sync.new.self) = (λ modelled. created c.args.header is _ _ _ _ _ _ _ _ text end c.start.ensures (c.requires.empty modelled)
     (c.in_ok-write_at.ensures.bytes modelled) (c.in_ok-sync.ensures.seen modelled) (c.in_ok-sync.ensures.story modelled)) in (
       omega (arith, size, c.in_ok-write_at.ensures.fits),
+      is,
+      omega (arith, ap (λ (l : Last). l.epoch) c.start.ensures),
+      omega arith,
       (λ modelled _. is_open _ _ _ _ _ (made modelled).settled ∣ ([], made modelled) ∣₁),
       λ modelled. ∣ all_kept _ _ _ _ _ _ (made modelled) (g.met.D.Disk.read_gives c.sync.new.self modelled) ∣₁,
     )
