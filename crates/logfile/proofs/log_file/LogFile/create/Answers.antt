@@ -1,6 +1,7 @@
 use Rattle.std.proofs.Common.{◌≡◌, ◌+◌, ◌-◌, List, [], ◌∷◌, ◌++◌, length, sym, ap, ◌∙◌, subst, arith, length-append}
 use Rattle.disk.specs.Calls.{Call, Wrote, Synced}
 use Rattle.log_header.specs.Header.{IsHeader, header_text}
+use Rattle.log_text.specs.declared.last.Last.{Last}
 use Rattle.logfile.specs.Standing.{Stands}
 use Rattle.logfile.proofs.Appending.{all_kept, is_open, created}
 use Rattle.logfile.proofs.log_file.LogFile.create.Goals as goal
