@@ -124,7 +124,7 @@ impl<D: Disk> LogFile<D> {
     pub fn mark(&self) -> u64
         ensures { result ≡ self.now.last.mark }
     {
-        self.last.mark
+        self.kept()
     }
 }
 
