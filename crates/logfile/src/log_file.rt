@@ -1,5 +1,6 @@
 //! An open log file.
-ghost use Rattle.std.specs.Prelude.{◌≡◌, ◌≢◌, ◌⊎◌, ℕ, ◌+◌, ◌-◌, ◌<◌, ◌≤◌, ◌^◌, true, false, Some, List, [], ◌∷◌, ◌++◌, length, min};
+ghost use Rattle.std.specs.Prelude.{◌≡◌, ◌≢◌, ℕ, ◌+◌, ◌-◌, ◌≤◌, ◌^◌, true, false, Some, List, [], ◌∷◌, ◌++◌, length};
+ghost use Rattle.std.specs.Prelude.{min};
 ghost use Rattle.std.specs.Prelude.{IfOk, IfErr, OnOk, OnErr, IsErr, IsErrOf};
 ghost use Rattle.money.specs.declared.refusal.Refusal.TheVariants.{OutOfMemory, Device};
 ghost use Rattle.disk.specs.Calls.{Wrote, Synced, Counts};
@@ -26,8 +27,8 @@ use std::mem;
 // The gate behind the last body: what stands behind it doesn't count.
 const CLOSED: u8 = 0;
 
-/// A log file that is open for appending. Its type keeps, of a modelled disk, that the file stands there with its bodies
-/// (`Stands`) until the device fails, and what a crash can't take (`IsKept`) whatever fails.
+/// A log file that is open for appending. Its type keeps, of a modelled disk, that the file stands there with its
+/// bodies (`Stands`) until the device fails, and what a crash can't take (`IsKept`) whatever fails.
 #[derive(Drop)]
 pub struct LogFile<D: Disk> {
     disk: D,
@@ -129,18 +130,18 @@ impl<D: Disk> LogFile<D> {
 }
 
 impl<D: Disk> LogFile<D> {
-    /// Appends a batch that begins where the file ends (`Continues`), as one body, by four calls of the device: its text
-    /// and a closed gate behind the gate that ends the file's text; a sync; that gate as open; a sync (Silo, section
-    /// 4.10). Costs a pass over the batch; its text is made once, in memory that the file keeps.
+    /// Appends a batch that begins where the file ends (`Continues`), as one body, by four calls of the device: its
+    /// text and a closed gate behind the gate that ends the file's text; a sync; that gate as open; a sync (Silo,
+    /// section 4.10). Costs a pass over the batch; its text is made once, in memory that the file keeps.
     ///
-    /// At each moment of the call, also where the device fails, a crash leaves the bodies before, or these and the whole
-    /// new one; after Ok these and the new one.
+    /// At each moment of the call, also where the device fails, a crash leaves the bodies before, or these and the
+    /// whole new one; after Ok these and the new one.
     ///
     /// # Errors
     ///
-    /// `OutOfMemory`, before the first call of the device: the file is then as before. `Device` exactly where the device
-    /// fails in this call or an earlier append failed so: from then on every append answers it, without a call of the
-    /// device.
+    /// `OutOfMemory`, before the first call of the device: the file is then as before. `Device` exactly where the
+    /// device fails in this call or an earlier append failed so: from then on every append answers it, without a call
+    /// of the device.
     pub fn append(&mut self, batch: &Batch) -> Result<(), Refusal>
         requires { Continues self.old.header self.old.count self.old.last batch.now }
         ensures header { self.new.header ≡ self.old.header }
@@ -178,8 +179,8 @@ impl<D: Disk> LogFile<D> {
         result
     }
 
-    /// Appends a body, whose text and closed gate these are, behind which the file stands at `now`, with so many entries
-    /// more.
+    /// Appends a body, whose text and closed gate these are, behind which the file stands at `now`, with so many
+    /// entries more.
     fn add(&mut self, text: &[u8], now: Last, entries: u64) -> Result<(), Refusal>
         requires usable { self.old.failed ≡ false }
         requires body { (body : BodyView) × (text.now ≡ body_text body ++ CLOSED ∷ [])
@@ -236,8 +237,8 @@ fn first_text(alloc: Global, header: &Header) -> Result<Vec<u8>, Refusal>
 impl<D: Disk> Keeper for LogFile<D> {
     ghost mark = { λ f. f.last.mark };
 
-    /// The mark of the last body that no crash can take, and 0 where there is none: whatever a crash leaves, also after
-    /// an append that failed, has the bodies up to this mark, and it may leave no more (`IsKept`).
+    /// The mark of the last body that no crash can take, and 0 where there is none: whatever a crash leaves, also
+    /// after an append that failed, has the bodies up to this mark, and it may leave no more (`IsKept`).
     fn kept(&self) -> u64
         ensures mark { result ≡ self.now.last.mark }
         ensures kept { D.is_modelled → ∥ IsKept self.now.header (D.story self.now.disk) result ∥₁ }
