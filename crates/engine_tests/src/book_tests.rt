@@ -289,8 +289,8 @@ fn state_after(commits: usize, year_to_date: u64, tids: [u64; 4], words: [u64; 4
     }
 }
 
-/// The states before the Payments, after that of customer 3, and after both. The words are sums that were paid, and
-/// balances of -10.00 and -11.00, in the 64 bits of a word.
+/// The states before the Payments, after that of customer 3, and after both. A customer's word is a C_BALANCE of -10.00
+/// or -11.00, in 64 bits.
 fn standings() -> [Standing; 3] {
     let (full, less) = (u64::MAX - 999, u64::MAX - 1_099);
     let (one, two) = (4_294_967_298, 4_294_967_306);

@@ -88,26 +88,27 @@ fn is_stale<R: Wait>(
     Ok(matches!(outcome, Err(Refusal::Stale)))
 }
 
-/// Whether a query is refused as stale with each of two records, when that one has this value.
+/// Whether a query is refused as stale where one record has this value, and where another has that.
 fn are_stale<R: Wait>(
     rt: &R,
     alloc: Global,
     asked: Asked,
     first: (u32, Value),
     second: (u32, Value),
-) -> Result<bool, Fail>
+) -> Result<(bool, bool), Fail>
     requires first { first.0 < 1085 }
     requires second { second.0 < 1085 }
 {
     let first = is_stale(rt, alloc, asked, first.0, first.1)?;
     let second = is_stale(rt, alloc, asked, second.0, second.1)?;
-    Ok(first && second)
+    Ok((first, second))
 }
 
 #[test]
 fn a_status_of_records_that_no_tables_miss(rt: HostRuntime) -> Result<(), Fail> {
     let (customer, last) = ((CUSTOMER, None), (LAST, None));
-    assert!(rt; are_stale(&rt, rt.alloc(), Asked::Status(3), customer, last)?);
+    let stale = are_stale(&rt, rt.alloc(), Asked::Status(3), customer, last)?;
+    assert_eq!(rt; stale, (true, true));
     Ok(())
 }
 
@@ -116,7 +117,8 @@ fn a_status_of_a_customer_that_no_tables_have(rt: HostRuntime) -> Result<(), Fai
     let balance = MAX_MONEY.cast_unsigned() + 1;
     let customer = (CUSTOMER, Some([balance, 0, 1, 0, 0, 0, 0]));
     let last = (LAST, Some([31, 0, 0, 0, 0, 0, 0]));
-    assert!(rt; are_stale(&rt, rt.alloc(), Asked::Status(3), customer, last)?);
+    let stale = are_stale(&rt, rt.alloc(), Asked::Status(3), customer, last)?;
+    assert_eq!(rt; stale, (true, true));
     Ok(())
 }
 
@@ -124,7 +126,8 @@ fn a_status_of_a_customer_that_no_tables_have(rt: HostRuntime) -> Result<(), Fai
 fn a_status_of_an_order_that_no_tables_have(rt: HostRuntime) -> Result<(), Fail> {
     let order = (ORDER, Some([3, 1, 1, 16, 1, 0, 0]));
     let line = (LINE, Some([21, 1, 1, 5, 0, 0, 0]));
-    assert!(rt; are_stale(&rt, rt.alloc(), Asked::Status(3), order, line)?);
+    let stale = are_stale(&rt, rt.alloc(), Asked::Status(3), order, line)?;
+    assert_eq!(rt; stale, (true, true));
     Ok(())
 }
 
@@ -141,7 +144,8 @@ fn a_status_between_the_stores_of_an_order(rt: HostRuntime) -> Result<(), Fail> 
 #[test]
 fn a_level_of_records_that_no_tables_miss(rt: HostRuntime) -> Result<(), Fail> {
     let (district, stock) = ((DISTRICT, None), (STOCK, None));
-    assert!(rt; are_stale(&rt, rt.alloc(), Asked::Level(1), district, stock)?);
+    let stale = are_stale(&rt, rt.alloc(), Asked::Level(1), district, stock)?;
+    assert_eq!(rt; stale, (true, true));
     Ok(())
 }
 
@@ -149,7 +153,8 @@ fn a_level_of_records_that_no_tables_miss(rt: HostRuntime) -> Result<(), Fail> {
 fn a_level_of_rows_that_no_tables_have(rt: HostRuntime) -> Result<(), Fail> {
     let district = (DISTRICT, Some([10_000, 32, 0, 0, 0, 0, 0]));
     let line = (LINE, Some([21, 1, 1, 5, 0, 0, 0]));
-    assert!(rt; are_stale(&rt, rt.alloc(), Asked::Level(1), district, line)?);
+    let stale = are_stale(&rt, rt.alloc(), Asked::Level(1), district, line)?;
+    assert_eq!(rt; stale, (true, true));
     Ok(())
 }
 
