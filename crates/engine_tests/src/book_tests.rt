@@ -279,64 +279,46 @@ fn pay_twice<K: Run + Send + Sync, R: Threads + Wait + Clock + Sync>(
     outcome_of(rt, alloc, &engine, left, right)
 }
 
-/// The state after that many commits.
-fn state_after(commits: usize, year_to_date: u64, tids: [u64; 4], words: [u64; 4]) -> Standing {
-    Standing {
-        commits,
-        year_to_date: Some(year_to_date),
-        tids,
-        words,
-    }
-}
-
-/// The states before the Payments, after that of customer 3, and after both. A customer's word is a C_BALANCE of -10.00
-/// or -11.00, in 64 bits.
-fn standings() -> [Standing; 3] {
-    let (full, less) = (u64::MAX - 999, u64::MAX - 1_099);
-    let (one, two) = (4_294_967_298, 4_294_967_306);
-    [
-        state_after(0, 20_000, [2; 4], [20_000, 10_000, full, full]),
-        state_after(1, 20_100, [one, one, one, 2], [20_100, 10_100, less, full]),
-        state_after(
-            2,
-            20_200,
-            [two, two, one, two],
-            [20_200, 10_200, less, less],
-        ),
-    ]
-}
-
-/// The second commit is refused, changes nothing, and succeeds once its Payment is executed again.
-fn commits_wanted() -> Commits {
-    let [_, after_one, after_two] = standings();
-    Commits {
-        first: Ok((1, 4_294_967_296, payment_told(3, -1_100))),
-        second: Err(Refusal::Conflict),
-        again: Ok((2, 4_294_967_304, payment_told(4, -1_100))),
-        states: [after_one, after_one, after_two],
-    }
-}
-
-fn wanted() -> Outcome {
-    let [opened, _, _] = standings();
-    Outcome {
-        terminals: [0, 1],
-        opened,
-        commits: commits_wanted(),
-        account: Account {
-            payments: 22,
-            is_good: true,
-            terminal: Some(0),
-            writes: Some(3),
-            added: Some(history_row(3, 100)),
-        },
-    }
-}
-
 #[test]
 fn the_second_of_two_conflicts(rt: HostRuntime) -> Result<(), Fail> {
     let parts = parts(&rt, rt.alloc())?;
-    let outcome = pay_twice::<Brand, _>(&rt, rt.alloc(), parts)?;
-    assert_eq!(rt; outcome, wanted());
+    let Outcome {
+        terminals,
+        opened,
+        commits,
+        account,
+    } = pay_twice::<Brand, _>(&rt, rt.alloc(), parts)?;
+    assert_eq!(rt; terminals, [0, 1]);
+    assert_eq!(rt;
+        commits.first,
+        Ok((1, 4_294_967_296, payment_told(3, -1_100)))
+    );
+    assert_eq!(rt; commits.second, Err(Refusal::Conflict));
+    assert_eq!(rt;
+        commits.again,
+        Ok((2, 4_294_967_304, payment_told(4, -1_100)))
+    );
+    let [before, after, end] = commits.states;
+    assert_eq!(rt; opened.commits, 0);
+    assert_eq!(rt; opened.tids, [2; 4]);
+    assert_eq!(rt; before.commits, 1);
+    assert_eq!(rt; after, before);
+    assert_eq!(rt; opened.year_to_date, Some(20_000));
+    assert_eq!(rt; before.year_to_date, Some(20_100));
+    assert_eq!(rt; end.year_to_date, Some(20_200));
+    assert_eq!(rt; end.commits, 2);
+    let (one, two) = (4_294_967_298, 4_294_967_306);
+    assert_eq!(rt; end.tids, [two, two, one, two]);
+    // A C_BALANCE of -11.00, in the 64 bits of a word.
+    let balance = u64::MAX - 1_099;
+    assert_eq!(rt; end.words, [20_200, 10_200, balance, balance]);
+    let expected = Account {
+        payments: 22,
+        is_good: true,
+        terminal: Some(0),
+        writes: Some(3),
+        added: Some(history_row(3, 100)),
+    };
+    assert_eq!(rt; account, expected);
     Ok(())
 }
