@@ -4,23 +4,11 @@ ghost use Rattle.std.specs.List.{All};
 
 use log_header::Header;
 use log_text::{Body, Last, LoggedEntry, Write, put_body, read_body};
+use log_vectors::{NOTHING, PAYMENT};
 use money::Refusal;
 use std::alloc::{AllocError, Global};
 use std::test::Fail;
 use tables::{Scale, Table};
-
-/// The text of a body of mark 1 without entries.
-pub(crate) const NOTHING: [u8; 16] = [9, 0, 0, 0, 0, 0, 0, 0, 1, 0, 0, 0, 0, 0, 0, 0];
-
-/// The text of a body of mark 1 with the first Payment of a terminal, commit 1: customer 3 pays 12.34 in district 1.
-pub(crate) const PAYMENT: [u8; 172] = [
-    0xa5, 0, 0, 0, 0, 0, 0, 0, 1, 0, 0, 0, 0, 0, 0, 0, 1, 0, 0, 0, 0, 0, 0, 0, 0, 0, 0, 0, 1, 0, 0,
-    0, 0, 0, 4, 0, 1, 0, 0, 0, 0, 1, 0xf2, 0x52, 0, 0, 0, 0, 0, 0, 2, 0, 0, 0, 0, 1, 0xe2, 0x2b, 0,
-    0, 0, 0, 0, 0, 11, 0, 0, 0, 0, 0, 0, 0, 3, 2, 0, 0, 0, 1, 0x46, 0xf7, 255, 255, 255, 255, 255,
-    255, 0xba, 8, 0, 0, 0, 0, 0, 0, 2, 0, 0, 0, 0, 0, 0, 0, 0, 0, 0, 0, 0, 0, 0, 0, 4, 0, 0, 0, 0,
-    1, 3, 0, 0, 0, 0, 0, 0, 0, 1, 0, 0, 0, 0, 0, 0, 0, 1, 0, 0, 0, 0, 0, 0, 0, 1, 0, 0, 0, 0, 0, 0,
-    0, 1, 0, 0, 0, 0, 0, 0, 0, 1, 0, 0, 0, 0, 0, 0, 0, 0xd2, 4, 0, 0, 0, 0, 0, 0,
-];
 
 const WAREHOUSE: Write = Write {
     table: Table::Warehouse,

@@ -1,7 +1,6 @@
 //! Whole log files: their bytes, their gates, and bytes that are no log file.
-use crate::body_tests::{NOTHING, PAYMENT};
-use crate::header_tests::FIRST;
 use log_text::read_file;
+use log_vectors::{FIRST, NOTHING, PAYMENT};
 use money::Refusal;
 use std::alloc::{AllocError, Global};
 use std::test::Fail;

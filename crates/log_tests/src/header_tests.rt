@@ -1,15 +1,9 @@
 //! Headers whose bytes are known, there and back.
 use codec::put_u8;
 use log_header::{Header, put_header, read_header};
+use log_vectors::FIRST;
 use std::test::Fail;
 use tables::Scale;
-
-/// Logger 0 of 1, over 1 warehouse, 2 districts, 10 customers, 20 items, orders up to 30, 1,000 commits and the plain
-/// population.
-pub(crate) const FIRST: [u8; 48] = [
-    0x53, 0x49, 0x4c, 0x4f, 0x54, 0x50, 0x43, 0x43, 1, 0, 0, 0, 0, 0, 1, 0, 1, 0, 0, 0, 2, 0, 0, 0,
-    10, 0, 0, 0, 20, 0, 0, 0, 30, 0, 0, 0, 0xe8, 3, 0, 0, 0, 0, 0, 0, 0, 0, 0, 0,
-];
 
 #[test]
 fn a_header_has_its_bytes(rt: HostRuntime) -> Result<(), Fail> {

@@ -2,9 +2,8 @@
 ghost use Rattle.std.specs.Prelude.{◌≡◌, ◌+◌, ◌-◌, ◌^◌, [], min, IsErrOf};
 ghost use Rattle.money.specs.declared.refusal.Refusal.TheVariants.{Device};
 
-use crate::body_tests::PAYMENT;
-use crate::header_tests::FIRST;
 use disk::{Disk, FileDisk, Memory};
+use log_vectors::{FIRST, PAYMENT};
 use logfile::scan;
 use money::Refusal;
 use std::alloc::Global;

@@ -1,6 +1,6 @@
 //! An open log file.
 ghost use Rattle.std.specs.Prelude.{◌≡◌, ◌≢◌, ℕ, ◌+◌, ◌-◌, ◌≤◌, ◌^◌, true, false, Some, List, [], ◌∷◌, ◌++◌, length};
-ghost use Rattle.std.specs.Prelude.{min};
+ghost use Rattle.std.specs.Prelude.{◌↔◌, min, IsTrue};
 ghost use Rattle.std.specs.Prelude.{IfOk, IfErr, OnOk, OnErr, IsErr, IsErrOf};
 ghost use Rattle.money.specs.declared.refusal.Refusal.TheVariants.{OutOfMemory, Device};
 ghost use Rattle.disk.specs.Calls.{Wrote, Synced, Counts};
@@ -127,6 +127,28 @@ impl<D: Disk> LogFile<D> {
     {
         self.kept()
     }
+
+    /// Whether a batch begins where the file ends, as `append` asks: outside of one hold of the book's lock nothing
+    /// else tells it.
+    pub fn is_continued_by(&self, batch: &Batch) -> bool
+        ensures { IsTrue result ↔ Continues self.now.header self.now.count self.now.last batch.now }
+    {
+        is_of(&self.header, batch)
+            && batch.first() == self.count
+            && u64::from(batch.number_before()) == self.last.number
+            && batch.mark_before() == self.mark()
+    }
+}
+
+/// Whether a batch is of this logger and population.
+fn is_of(header: &Header, batch: &Batch) -> bool
+    ensures { IsTrue result ↔ (batch.now.logger ≡ header.now.logger) × (batch.now.loggers ≡ header.now.loggers)
+        × (batch.now.scale ≡ header.now.scale) × (batch.now.seed ≡ header.now.seed) }
+{
+    batch.logger() == header.logger
+        && batch.loggers() == header.loggers
+        && batch.scale() == header.scale
+        && batch.seed() == header.seed
 }
 
 impl<D: Disk> LogFile<D> {
