@@ -1,10 +1,9 @@
 -- What recovery finds after a crash.
-use Rattle.std.proofs.Common.{◌≡◌, ℕ, zero, suc, ◌+◌, ◌-◌, ◌%◌, ◌<◌, ◌≤◌, ◌==◌, Bool, true, false, List, [], ◌∷◌, ◌++◌, filter, map, refl, sym, ap, ◌∙◌, subst, arith, append-nil}
+use Rattle.std.proofs.Common.{◌≡◌, ℕ, suc, ◌+◌, ◌-◌, ◌%◌, ◌<◌, ◌≤◌, ◌==◌, false, List, [], ◌++◌, filter, map, refl, sym, ap, ◌∙◌, subst, arith, append-nil}
 use Rattle.std.specs.List.{All, Contains}
 use Rattle.std.proofs.lemmas.Bool.{le-leb, lt-leb}
 use Rattle.std.proofs.lemmas.List.Elements.{All-weaker, filter-append}
 use Rattle.tidword.specs.TidWord.{epoch_of}
-use Rattle.log_text.specs.Bodies.{BodyView}
 use Rattle.log_text.specs.Entries.{EntryView}
 use Rattle.book.specs.Batches.{BatchView}
 use Rattle.book.specs.Streams.{stream}
@@ -13,10 +12,10 @@ use Rattle.book.specs.Stamps.{AreStamped}
 use Rattle.book.specs.declared.entry.Entry.{Entry}
 use Rattle.log_entries.specs.Logged.{entry_of}
 use Rattle.crashes.specs.World.{Life, World, header_of}
-use Rattle.crashes.specs.Recovering.{Crashes, Recovers, IsDurable, counts, cut, counted, entries_of, last_mark}
+use Rattle.crashes.specs.Recovering.{Crashes, Recovers, counts, cut, counted, last_mark}
 use Rattle.crashes.proofs.Lists.{IsLeast, least_of, chosen_below, none_kept, kept_if_there, tests_commute, test_of_map}
 use Rattle.crashes.proofs.Histories.{replays_front, stamped_front, cut_begins}
-use Rattle.crashes.proofs.Lanes.{IsLeft, lane_left, taken, bodies_of, IsAbove}
+use Rattle.crashes.proofs.Lanes.{IsLeft, lane_left, taken, bodies_of}
 use Rattle.crashes.proofs.Sound.{IsSound, MayTell, local_of}
 
 -- a file's entries up to a durable epoch that is no later than its last mark

@@ -1,11 +1,11 @@
 -- A logger's disk while a batch is appended: what stands there at each stage, and what a crash may leave.
-use Rattle.std.proofs.Common.{◌≡◌, ◌≢◌, ℕ, ◌+◌, Some, List, [], ◌∷◌, ◌++◌, length, drop, Result, Ok, Err, true, refl, sym, ap, ◌∙◌, subst, inl, inr}
+use Rattle.std.proofs.Common.{◌≡◌, ◌≢◌, ℕ, ◌+◌, Some, List, [], ◌∷◌, ◌++◌, length, drop, Result, Ok, Err, true, sym, ◌∙◌, subst, inl, inr}
 use Rattle.money.specs.declared.refusal.Refusal.{Refusal}
 use Rattle.disk.specs.Calls.{Call, Synced}
 use Rattle.disk.specs.Crashes.{MayLeave, Leaves}
 use Rattle.log_header.specs.Header.{HeaderView, IsHeader, header_text}
 use Rattle.log_text.specs.Bodies.{BodyView, body_after, bodies_after, start}
-use Rattle.log_text.specs.File.{IsFile, opened}
+use Rattle.log_text.specs.File.{opened}
 use Rattle.log_text.specs.declared.last.Last.{Last}
 use Rattle.book.specs.Batches.{BatchView}
 use Rattle.log_entries.specs.Following.{body_of_batch}
@@ -15,7 +15,7 @@ use Rattle.logfile.proofs.Moments.{wrote_left, synced_left, only_last}
 use Rattle.logfile.proofs.Staging.{text_seen, gate_seen, text_moments, gate_moments}
 use Rattle.logfile.proofs.Appending.{at_gate, staged_is, stands}
 use Rattle.crashes.specs.World.{DiskView, Stage, BatchTaken, TextWritten, TextSynced, GateOpened, DeviceFailed, Flight, Idle, Flying}
-use Rattle.crashes.specs.Events.{IsWrite, IsSync, IsCalled, text_of, on_disk}
+use Rattle.crashes.specs.Events.{IsCalled, text_of, on_disk}
 
 -- what stands in front of the gate that ends a file's text
 abbrev pub front_of : HeaderView → List BodyView → List ℕ
@@ -113,8 +113,10 @@ module _ (h : HeaderView) (bodies : List BodyView) (batch : BatchView) (file : L
     gate = f.gate;
     closed = f.closed;
     leaves = leaves_after TextWritten (Ok x) f call;
-    ready = (settled_by file.disk disk call.seen call.story,
-        (f.ready.0, record { place = f.ready.1.place; text = call.seen ∙ f.ready.1.text }));
+    ready = (
+      settled_by file.disk disk call.seen call.story,
+      (f.ready.0, record { place = f.ready.1.place; text = call.seen ∙ f.ready.1.text }),
+    );
   }
 
   pub gate_is_opened : (x : Unit {0}) → IsFlying h bodies TextSynced batch file → IsCalled TextSynced batch file (Ok x) disk

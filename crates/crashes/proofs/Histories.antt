@@ -1,5 +1,5 @@
 -- The entries up to an epoch are a beginning of a history whose epochs don't fall.
-use Rattle.std.proofs.Common.{◌≡◌, ℕ, ◌+◌, ◌<◌, ◌≤◌, Bool, true, false, List, [], ◌∷◌, ◌++◌, refl, sym, ap, ◌∙◌, arith}
+use Rattle.std.proofs.Common.{◌≡◌, ℕ, ◌+◌, ◌<◌, Bool, true, false, List, [], ◌∷◌, ◌++◌, refl, sym, ap, ◌∙◌, arith}
 use Rattle.std.specs.List.{All}
 use Rattle.std.proofs.lemmas.Bool.{leb-false, lt-leb}
 use Rattle.tidword.specs.TidWord.{epoch_of}
@@ -30,6 +30,8 @@ cut_begins durable (e ∷ es) stamped = by (cut_begins durable es stamped.2) (co
     by later false is =
         let above : durable < epoch_of e.tid = leb-false (epoch_of e.tid) durable is in
         let none : All (λ (d : Entry). counts durable d.tid ≡ false) es
-        = λ k d lt. lt-leb _ durable (omega (arith, above, (stamped.1 k d lt).epochs)) in
-        (e ∷ es, ap (λ (l : List Entry). l ++ (e ∷ es))
-        (sym (left_out (λ (d : Entry). counts durable d.tid) e es is ∙ none_kept (λ (d : Entry). counts durable d.tid) es none)))
+        = λ k d lt. lt-leb _ durable (omega (arith, above, (stamped.1 k d lt).epochs)) in (
+          e ∷ es,
+          ap (λ (l : List Entry). l ++ (e ∷ es))
+              (sym (left_out (λ (d : Entry). counts durable d.tid) e es is ∙ none_kept (λ (d : Entry). counts durable d.tid) es none)),
+        )

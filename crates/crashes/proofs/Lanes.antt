@@ -1,19 +1,18 @@
 -- A logger: its stream is what its file has, what is on its way there, and what waits; and what a crash leaves of it.
-use Rattle.std.proofs.Common.{◌≡◌, ℕ, ◌+◌, ◌<◌, ◌≤◌, Some, Option, List, [], ◌∷◌, ◌++◌, length, drop, map, Bool, true, Result, Ok, Err, refl, sym, ap, ◌∙◌, subst, ⊎_elim, arith}
+use Rattle.std.proofs.Common.{◌≡◌, ℕ, ◌+◌, ◌<◌, ◌≤◌, Some, List, [], ◌∷◌, ◌++◌, length, drop, map, Bool, true, Result, Ok, Err, sym, ap, ◌∙◌, subst, ⊎_elim, arith}
 use Rattle.std.proofs.Common.{append_assoc, append-nil, length-append}
 use Rattle.std.specs.Prelude.{flat_map}
 use Rattle.std.specs.List.{All}
 use Rattle.std.proofs.lemmas.List.{map-append}
-use Rattle.std.proofs.lemmas.List.Elements.{All-append, All-nil, All-weaker}
+use Rattle.std.proofs.lemmas.List.Elements.{All-append, All-nil}
 use Rattle.std.proofs.lemmas.Grind.{flat_map-append}
 use Rattle.std.proofs.Math.Seq.{drop-append_seam}
 use Rattle.money.specs.declared.refusal.Refusal.{Refusal}
-use Rattle.tables.specs.Sizes.{Sizes, IsScale}
+use Rattle.tables.specs.Sizes.{IsScale}
 use Rattle.tidword.specs.TidWord.{epoch_of}
 use Rattle.disk.specs.Crashes.{MayLeave}
 use Rattle.log_header.specs.Header.{HeaderView}
 use Rattle.log_text.specs.Bodies.{BodyView, body_after, bodies_after, start}
-use Rattle.log_text.specs.Entries.{EntryView}
 use Rattle.log_text.specs.File.{IsFile}
 use Rattle.book.specs.Batches.{BatchView, IsBatch}
 use Rattle.book.specs.declared.entry.Entry.{Entry}
@@ -21,11 +20,10 @@ use Rattle.log_entries.specs.Logged.{entry_of}
 use Rattle.log_entries.specs.Following.{body_of_batch, behind_batch, Continues}
 use Rattle.log_entries.proofs.Following.{batch_follows, batch_near}
 use Rattle.log_text.proofs.OneFile.{after_push}
-use Rattle.logfile.specs.Standing.{LogFileView, Stands, IsWithOrWithout}
+use Rattle.logfile.specs.Standing.{LogFileView, Stands}
 use Rattle.crashes.specs.World.{DiskView, Stage, BatchTaken, TextWritten, TextSynced, GateOpened, DeviceFailed, Flight, Idle, Flying, Logger}
 use Rattle.crashes.specs.Events.{IsCalled, text_of, on_disk, with_batch, called}
 use Rattle.crashes.specs.Recovering.{last_mark, entries_of}
-use Rattle.crashes.proofs.Lists.{all_in_front, all_behind}
 use Rattle.crashes.proofs.Marks.{last_is}
 use Rattle.crashes.proofs.Disks.{FitsDisk, IsFlying, takes, text_is_written, text_is_synced, gate_is_opened}
 use Rattle.crashes.proofs.Disks.{batch_is_there, has_failed, with_or_without}
@@ -84,45 +82,45 @@ next_later found later waiting more (Flying stage batch) file no_less new next =
 module _ (h : HeaderView) (found : ℕ) (entries : List Entry) (old : List BodyView) (landed : List BatchView) (file : LogFileView DiskView)
     (flight : Flight) (local : ℕ) (lane : FitsLane h found entries old landed file flight local)
   where
-  -- entries come behind the stream, of an epoch that is found by now
-  pub lane_goes_on : (later : ℕ) (more : List Entry) → found ≤ later → All (λ e. later ≤ epoch_of e.tid) more
-      → FitsLane h later (entries ++ more) old landed file flight local
-  lane_goes_on later more no_less new = record {
-    header = lane.header;
-    disk = lane.disk;
-    waiting = lane.waiting ++ more;
-    all = ap (λ (l : List Entry). l ++ more) lane.all ∙ append_assoc (taken landed) (flying flight ++ lane.waiting) more
-        ∙ ap (λ (l : List Entry). taken landed ++ l) (append_assoc (flying flight) lane.waiting more);
-    count = lane.count;
-    logged = lane.logged;
-    near = lane.near;
-    low = omega (arith, lane.low, no_less);
-    above = subst (All (IsAbove file.last.mark)) (append_assoc (flying flight) lane.waiting more)
-        (All-append (IsAbove file.last.mark) (flying flight ++ lane.waiting) more lane.above (λ k d lt. omega (arith, lane.low, no_less, new k d lt)));
-    next = next_later found later lane.waiting more flight file no_less new lane.next;
-    kept = lane.kept;
-  }
+    -- entries come behind the stream, of an epoch that is found by now
+    pub lane_goes_on : (later : ℕ) (more : List Entry) → found ≤ later → All (λ e. later ≤ epoch_of e.tid) more
+        → FitsLane h later (entries ++ more) old landed file flight local
+    lane_goes_on later more no_less new = record {
+      header = lane.header;
+      disk = lane.disk;
+      waiting = lane.waiting ++ more;
+      all = ap (λ (l : List Entry). l ++ more) lane.all ∙ append_assoc (taken landed) (flying flight ++ lane.waiting) more
+          ∙ ap (λ (l : List Entry). taken landed ++ l) (append_assoc (flying flight) lane.waiting more);
+      count = lane.count;
+      logged = lane.logged;
+      near = lane.near;
+      low = omega (arith, lane.low, no_less);
+      above = subst (All (IsAbove file.last.mark)) (append_assoc (flying flight) lane.waiting more)
+          (All-append (IsAbove file.last.mark) (flying flight ++ lane.waiting) more lane.above (λ k d lt. omega (arith, lane.low, no_less, new k d lt)));
+      next = next_later found later lane.waiting more flight file no_less new lane.next;
+      kept = lane.kept;
+    }
 
-  pub lane_later : (later : ℕ) → found ≤ later → FitsLane h later entries old landed file flight local
-  lane_later later no_less =
-      subst (λ (l : List Entry). FitsLane h later l old landed file flight local) (append-nil entries)
-      (lane_goes_on later [] no_less (All-nil (λ (e : Entry). later ≤ epoch_of e.tid)))
+    pub lane_later : (later : ℕ) → found ≤ later → FitsLane h later entries old landed file flight local
+    lane_later later no_less =
+        subst (λ (l : List Entry). FitsLane h later l old landed file flight local) (append-nil entries)
+        (lane_goes_on later [] no_less (All-nil (λ (e : Entry). later ≤ epoch_of e.tid)))
 
-  -- the file's mark is confirmed
-  pub lane_confirmed : FitsLane h found entries old landed file flight file.last.mark
-  lane_confirmed = record {
-    header = lane.header;
-    disk = lane.disk;
-    waiting = lane.waiting;
-    all = lane.all;
-    count = lane.count;
-    logged = lane.logged;
-    near = lane.near;
-    low = lane.low;
-    above = lane.above;
-    next = lane.next;
-    kept = omega arith;
-  }
+    -- the file's mark is confirmed
+    pub lane_confirmed : FitsLane h found entries old landed file flight file.last.mark
+    lane_confirmed = record {
+      header = lane.header;
+      disk = lane.disk;
+      waiting = lane.waiting;
+      all = lane.all;
+      count = lane.count;
+      logged = lane.logged;
+      near = lane.near;
+      low = lane.low;
+      above = lane.above;
+      next = lane.next;
+      kept = omega arith;
+    }
 
 -- ---- an idle logger is given all that waits
 pub lane_takes : (h : HeaderView) (found : ℕ) (entries : List Entry) (old : List BodyView) (landed : List BatchView) (file : LogFileView DiskView)
@@ -155,76 +153,76 @@ landed_by _ _ landed = landed
 module _ (h : HeaderView) (found : ℕ) (entries : List Entry) (old : List BodyView) (landed : List BatchView) (file : LogFileView DiskView)
     (stage : Stage) (batch : BatchView) (local : ℕ) (lane : FitsLane h found entries old landed file (Flying stage batch) local)
   where
-  scale : batch.scale ≡ h.scale
-  scale = lane.next.continues.scale ∙ ap (λ (x : HeaderView). x.scale) lane.header
+    scale : batch.scale ≡ h.scale
+    scale = lane.next.continues.scale ∙ ap (λ (x : HeaderView). x.scale) lane.header
 
-  continues : Continues h file.count file.last batch
-  continues = subst (λ (x : HeaderView). Continues x file.count file.last batch) lane.header lane.next.continues
+    continues : Continues h file.count file.last batch
+    continues = subst (λ (x : HeaderView). Continues x file.count file.last batch) lane.header lane.next.continues
 
-  -- the batch's body may follow
-  pub after : body_after h file.last (body_of_batch batch) ≡ Some (behind_batch file.last batch)
-  after = batch_follows h file.count file.last batch lane.next.is_batch continues lane.near (subst IsScale (sym scale) lane.disk.placed.header.scale)
+    -- the batch's body may follow
+    pub after : body_after h file.last (body_of_batch batch) ≡ Some (behind_batch file.last batch)
+    after = batch_follows h file.count file.last batch lane.next.is_batch continues lane.near (subst IsScale (sym scale) lane.disk.placed.header.scale)
 
-  pub all_landed : entries ≡ taken (landed ++ batch ∷ []) ++ lane.waiting
-  all_landed = lane.all ∙ sym (append_assoc (taken landed) batch.entries lane.waiting)
-      ∙ ap (λ (l : List Entry). l ++ lane.waiting) (ap (λ (l : List Entry). taken landed ++ l) (sym (append-nil batch.entries))
-      ∙ sym (flat_map-append (λ (b : BatchView). b.entries) landed (batch ∷ [])))
+    pub all_landed : entries ≡ taken (landed ++ batch ∷ []) ++ lane.waiting
+    all_landed = lane.all ∙ sym (append_assoc (taken landed) batch.entries lane.waiting)
+        ∙ ap (λ (l : List Entry). l ++ lane.waiting) (ap (λ (l : List Entry). taken landed ++ l) (sym (append-nil batch.entries))
+        ∙ sym (flat_map-append (λ (b : BatchView). b.entries) landed (batch ∷ [])))
 
-  pub logged_landed : entries_of (bodies_of (landed ++ batch ∷ [])) ≡ map (entry_of h.scale) (taken (landed ++ batch ∷ []))
-  logged_landed =
-      ap entries_of (map-append body_of_batch landed (batch ∷ []))
-      ∙ flat_map-append (λ (b : BodyView). b.entries) (bodies_of landed) (body_of_batch batch ∷ [])
-      ∙ (λ i. lane.logged i ++ append-nil (map (entry_of (scale i)) batch.entries) i)
-      ∙ sym (map-append (entry_of h.scale) (taken landed) batch.entries)
-      ∙ ap (map (entry_of h.scale)) (ap (λ (l : List Entry). taken landed ++ l) (sym (append-nil batch.entries))
-      ∙ sym (flat_map-append (λ (b : BatchView). b.entries) landed (batch ∷ [])))
+    pub logged_landed : entries_of (bodies_of (landed ++ batch ∷ [])) ≡ map (entry_of h.scale) (taken (landed ++ batch ∷ []))
+    logged_landed =
+        ap entries_of (map-append body_of_batch landed (batch ∷ []))
+        ∙ flat_map-append (λ (b : BodyView). b.entries) (bodies_of landed) (body_of_batch batch ∷ [])
+        ∙ (λ i. lane.logged i ++ append-nil (map (entry_of (scale i)) batch.entries) i)
+        ∙ sym (map-append (entry_of h.scale) (taken landed) batch.entries)
+        ∙ ap (map (entry_of h.scale)) (ap (λ (l : List Entry). taken landed ++ l) (sym (append-nil batch.entries))
+        ∙ sym (flat_map-append (λ (b : BatchView). b.entries) landed (batch ∷ [])))
 
-  pub bodies_landed : (old ++ bodies_of landed) ++ body_of_batch batch ∷ [] ≡ old ++ bodies_of (landed ++ batch ∷ [])
-  bodies_landed = append_assoc old (bodies_of landed) (body_of_batch batch ∷ [])
-      ∙ ap (λ (l : List BodyView). old ++ l) (sym (map-append body_of_batch landed (batch ∷ [])))
+    pub bodies_landed : (old ++ bodies_of landed) ++ body_of_batch batch ∷ [] ≡ old ++ bodies_of (landed ++ batch ∷ [])
+    bodies_landed = append_assoc old (bodies_of landed) (body_of_batch batch ∷ [])
+        ∙ ap (λ (l : List BodyView). old ++ l) (sym (map-append body_of_batch landed (batch ∷ [])))
 
-  -- another disk, and the batch at this stage
-  pub lane_moves : (next : Stage) (disk : DiskView) (failed : Bool)
-      → IsFlying h (old ++ bodies_of landed) next batch (record file { disk = disk; failed = failed })
-      → FitsLane h found entries old landed (record file { disk = disk; failed = failed }) (Flying next batch) local
-  lane_moves next disk failed flies = record {
-    header = lane.header;
-    disk = flies;
-    waiting = lane.waiting;
-    all = lane.all;
-    count = lane.count;
-    logged = lane.logged;
-    near = lane.near;
-    low = lane.low;
-    above = lane.above;
-    next = record { is_batch = lane.next.is_batch; continues = lane.next.continues; low = lane.next.low; above = lane.next.above };
-    kept = lane.kept;
-  }
+    -- another disk, and the batch at this stage
+    pub lane_moves : (next : Stage) (disk : DiskView) (failed : Bool)
+        → IsFlying h (old ++ bodies_of landed) next batch (record file { disk = disk; failed = failed })
+        → FitsLane h found entries old landed (record file { disk = disk; failed = failed }) (Flying next batch) local
+    lane_moves next disk failed flies = record {
+      header = lane.header;
+      disk = flies;
+      waiting = lane.waiting;
+      all = lane.all;
+      count = lane.count;
+      logged = lane.logged;
+      near = lane.near;
+      low = lane.low;
+      above = lane.above;
+      next = record { is_batch = lane.next.is_batch; continues = lane.next.continues; low = lane.next.low; above = lane.next.above };
+      kept = lane.kept;
+    }
 
-  -- the batch is in the file
-  pub lane_lands : (disk : DiskView)
-      → Stands h ((old ++ bodies_of landed) ++ body_of_batch batch ∷ []) (file.end + length (text_of batch)) (behind_batch file.last batch) disk.seen
-      disk.story → FitsLane h found entries old (landed ++ batch ∷ []) (with_batch (on_disk file disk) batch) Idle local
-  lane_lands disk there = record {
-    header = lane.header;
-    disk = subst (λ (l : List BodyView). Stands h l (file.end + length (text_of batch)) (behind_batch file.last batch) disk.seen disk.story)
-        bodies_landed there;
-    waiting = lane.waiting;
-    all = all_landed;
-    count = omega (
-      arith,
-      lane.count,
-      length-append (taken landed) batch.entries,
-      ap length (ap (λ (l : List Entry). taken landed ++ l) (sym (append-nil batch.entries))
-      ∙ sym (flat_map-append (λ (b : BatchView). b.entries) landed (batch ∷ []))),
-    );
-    logged = logged_landed;
-    near = batch_near file.last batch lane.next.is_batch lane.next.continues.mark_before lane.near;
-    low = lane.next.low;
-    above = lane.next.above;
-    next = tt;
-    kept = omega (arith, lane.kept, lane.next.continues.mark_before, lane.next.is_batch.marks_rise);
-  }
+    -- the batch is in the file
+    pub lane_lands : (disk : DiskView)
+        → Stands h ((old ++ bodies_of landed) ++ body_of_batch batch ∷ []) (file.end + length (text_of batch)) (behind_batch file.last batch) disk.seen
+        disk.story → FitsLane h found entries old (landed ++ batch ∷ []) (with_batch (on_disk file disk) batch) Idle local
+    lane_lands disk there = record {
+      header = lane.header;
+      disk = subst (λ (l : List BodyView). Stands h l (file.end + length (text_of batch)) (behind_batch file.last batch) disk.seen disk.story)
+          bodies_landed there;
+      waiting = lane.waiting;
+      all = all_landed;
+      count = omega (
+        arith,
+        lane.count,
+        length-append (taken landed) batch.entries,
+        ap length (ap (λ (l : List Entry). taken landed ++ l) (sym (append-nil batch.entries))
+            ∙ sym (flat_map-append (λ (b : BatchView). b.entries) landed (batch ∷ []))),
+      );
+      logged = logged_landed;
+      near = batch_near file.last batch lane.next.is_batch lane.next.continues.mark_before lane.near;
+      low = lane.next.low;
+      above = lane.next.above;
+      next = tt;
+      kept = omega (arith, lane.kept, lane.next.continues.mark_before, lane.next.is_batch.marks_rise);
+    }
 
 -- what a call of the device makes of a logger
 pub lane_called : (h : HeaderView) (found : ℕ) (entries : List Entry) (old : List BodyView) (landed : List BatchView) (x : Logger) (stage : Stage)
@@ -273,44 +271,46 @@ pub record IsLeft (h : HeaderView) (entries : List Entry) (old : List BodyView) 
 module _ (h : HeaderView) (found : ℕ) (entries : List Entry) (old : List BodyView) (landed : List BatchView) (file : LogFileView DiskView) (local : ℕ)
     (bytes : List ℕ)
   where
-  -- the bodies that are sure
-  sure : (behind : List Entry) → IsFile bytes h (old ++ bodies_of landed) → bodies_after h start (old ++ bodies_of landed) ≡ Some file.last
-      → entries ≡ taken landed ++ behind → All (IsAbove file.last.mark) behind
-      → entries_of (bodies_of landed) ≡ map (entry_of h.scale) (taken landed) → local ≤ file.last.mark → IsLeft h entries old local bytes landed
-  sure behind is lawful all above logged kept =
-      let mark : last_mark 0 (old ++ bodies_of landed) ≡ file.last.mark = last_is h start (old ++ bodies_of landed) file.last lawful in
-      record {
-        behind = behind;
-        file = is;
-        all = all;
-        above = subst (λ (m : ℕ). All (IsAbove m) behind) (sym mark) above;
-        logged = logged;
-        kept = omega (arith, kept, mark);
-      }
+    -- the bodies that are sure
+    sure : (behind : List Entry) → IsFile bytes h (old ++ bodies_of landed) → bodies_after h start (old ++ bodies_of landed) ≡ Some file.last
+        → entries ≡ taken landed ++ behind → All (IsAbove file.last.mark) behind
+        → entries_of (bodies_of landed) ≡ map (entry_of h.scale) (taken landed) → local ≤ file.last.mark → IsLeft h entries old local bytes landed
+    sure behind is lawful all above logged kept =
+        let mark : last_mark 0 (old ++ bodies_of landed) ≡ file.last.mark = last_is h start (old ++ bodies_of landed) file.last lawful in
+        record {
+          behind = behind;
+          file = is;
+          all = all;
+          above = subst (λ (m : ℕ). All (IsAbove m) behind) (sym mark) above;
+          logged = logged;
+          kept = omega (arith, kept, mark);
+        }
 
-  pub lane_left : (flight : Flight) → FitsLane h found entries old landed file flight local → MayLeave file.disk.story bytes
-      → (batches : List BatchView) × IsLeft h entries old local bytes batches
-  lane_left Idle lane may = (
+    pub lane_left : (flight : Flight) → FitsLane h found entries old landed file flight local → MayLeave file.disk.story bytes
+        → (batches : List BatchView) × IsLeft h entries old local bytes batches
+    lane_left Idle lane may = (
       landed,
       sure lane.waiting (subst (λ (b : List ℕ). IsFile b h (old ++ bodies_of landed)) (sym (lane.disk.settled bytes may)) lane.disk.file)
-      lane.disk.lawful lane.all lane.above lane.logged lane.kept,
-  )
-  lane_left (Flying stage batch) lane may =
-      let follows = after h found entries old landed file stage batch local lane in
-      ⊎_elim
-      (λ without. (landed, sure (batch.entries ++ lane.waiting) without lane.disk.placed.lawful lane.all lane.above lane.logged lane.kept))
-      (λ with. let bodies = bodies_landed h found entries old landed file stage batch local lane in
-      let lawful : bodies_after h start (old ++ bodies_of (landed ++ batch ∷ [])) ≡ Some (behind_batch file.last batch)
-      = subst (λ (l : List BodyView). bodies_after h start l ≡ Some (behind_batch file.last batch)) bodies
-      (after_push h start (old ++ bodies_of landed) (body_of_batch batch) file.last (behind_batch file.last batch) lane.disk.placed.lawful follows) in
-      let mark : last_mark 0 (old ++ bodies_of (landed ++ batch ∷ [])) ≡ batch.mark
-      = last_is h start (old ++ bodies_of (landed ++ batch ∷ [])) (behind_batch file.last batch) lawful in
-      (landed ++ batch ∷ [], record {
-        behind = lane.waiting;
-        file = subst (λ (l : List BodyView). IsFile bytes h l) bodies with;
-        all = all_landed h found entries old landed file stage batch local lane;
-        above = subst (λ (m : ℕ). All (IsAbove m) lane.waiting) (sym mark) lane.next.above;
-        logged = logged_landed h found entries old landed file stage batch local lane;
-        kept = omega (arith, lane.kept, lane.next.continues.mark_before, lane.next.is_batch.marks_rise, mark);
-      }))
-      (with_or_without h (old ++ bodies_of landed) stage batch file (behind_batch file.last batch) lane.disk follows bytes may)
+          lane.disk.lawful lane.all lane.above lane.logged lane.kept,
+    )
+    lane_left (Flying stage batch) lane may =
+        let follows = after h found entries old landed file stage batch local lane in
+        ⊎_elim
+        (λ without. (landed, sure (batch.entries ++ lane.waiting) without lane.disk.placed.lawful lane.all lane.above lane.logged lane.kept))
+        (λ with. let bodies = bodies_landed h found entries old landed file stage batch local lane in
+        let lawful : bodies_after h start (old ++ bodies_of (landed ++ batch ∷ [])) ≡ Some (behind_batch file.last batch)
+        = subst (λ (l : List BodyView). bodies_after h start l ≡ Some (behind_batch file.last batch)) bodies
+        (after_push h start (old ++ bodies_of landed) (body_of_batch batch) file.last (behind_batch file.last batch) lane.disk.placed.lawful follows) in
+        let mark : last_mark 0 (old ++ bodies_of (landed ++ batch ∷ [])) ≡ batch.mark
+        = last_is h start (old ++ bodies_of (landed ++ batch ∷ [])) (behind_batch file.last batch) lawful in (
+          landed ++ batch ∷ [],
+          record {
+            behind = lane.waiting;
+            file = subst (λ (l : List BodyView). IsFile bytes h l) bodies with;
+            all = all_landed h found entries old landed file stage batch local lane;
+            above = subst (λ (m : ℕ). All (IsAbove m) lane.waiting) (sym mark) lane.next.above;
+            logged = logged_landed h found entries old landed file stage batch local lane;
+            kept = omega (arith, lane.kept, lane.next.continues.mark_before, lane.next.is_batch.marks_rise, mark);
+          },
+        ))
+        (with_or_without h (old ++ bodies_of landed) stage batch file (behind_batch file.last batch) lane.disk follows bytes may)

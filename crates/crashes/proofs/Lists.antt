@@ -1,5 +1,5 @@
 -- What a test keeps of a list, and functions that are changed at one number.
-use Rattle.std.proofs.Common.{◌≡◌, ◌≢◌, ℕ, zero, suc, ◌+◌, ◌<◌, ◌≤◌, ◌==◌, Bool, true, false, cond, List, [], ◌∷◌, ◌++◌, length, map}
+use Rattle.std.proofs.Common.{◌≡◌, ◌≢◌, ℕ, zero, suc, ◌<◌, ◌≤◌, ◌==◌, Bool, true, false, cond, List, [], ◌∷◌, ◌++◌, length, map}
 use Rattle.std.proofs.Common.{refl, sym, ap, ◌∙◌, subst, ◌⊎◌, inl, inr, ⊎_elim, arith}
 use Rattle.std.specs.Prelude.{filter, slice_index_or}
 use Rattle.std.specs.List.{All, Contains}
@@ -7,7 +7,7 @@ use Rattle.std.proofs.lemmas.Bool.Decides.{eqb_tells, leb_tells}
 use Rattle.std.proofs.lemmas.Bool.{cases_eq}
 use Rattle.std.proofs.Math.Logic.{⊎_map}
 use Rattle.std.proofs.lemmas.List.{get_or_append_left, length-append}
-use Rattle.std.proofs.lemmas.List.Elements.{All-head, All-tail, Contains-append_right, Contains-append_left}
+use Rattle.std.proofs.lemmas.List.Elements.{All-head, All-tail, Contains-append_right}
 
 module _ {X : Type 0} (p : X → Bool) where
   pub kept_here : (x : X) (xs : List X) → p x ≡ true → filter p (x ∷ xs) ≡ x ∷ filter p xs
@@ -92,28 +92,37 @@ pub record IsLeast (n : ℕ) (f : ℕ → ℕ) (least : ℕ) : Type 0 where
   pub below : (l : ℕ) → l < n → least ≤ f l
 
 pub least_of : (n : ℕ) (f : ℕ → ℕ) → (least : ℕ) × IsLeast (suc n) f least
-least_of zero f = (f zero, record {
-  among = (zero, omega arith, refl);
-  below = λ l lt. let e : zero ≡ l = omega arith in subst (λ (k : ℕ). f zero ≤ f k) e (omega arith);
-})
+least_of zero f = (
+  f zero,
+  record {
+    among = (zero, omega arith, refl);
+    below = λ l lt. let e : zero ≡ l = omega arith in subst (λ (k : ℕ). f zero ≤ f k) e (omega arith);
+  },
+)
 least_of (suc n) f = by (least_of n f).0 (least_of n f).1
   where
     by : (d : ℕ) → IsLeast (suc n) f d → (least : ℕ) × IsLeast (suc (suc n)) f least
     by d is = ⊎_elim
-        (λ (no_less : d ≤ f (suc n)). (d, record {
-          among = (is.among.0, omega (arith, is.among.1), is.among.2);
-          below = λ l lt. ⊎_elim
-              (λ (e : l ≡ suc n). subst (λ (k : ℕ). d ≤ f k) (sym e) no_less)
-              (λ (e : l ≢ suc n). is.below l (omega (arith, e)))
-              (cases_eq l (suc n));
-        }))
-        (λ (less : f (suc n) < d). (f (suc n), record {
-          among = (suc n, omega arith, refl);
-          below = λ l lt. ⊎_elim
-              (λ (e : l ≡ suc n). subst (λ (k : ℕ). f (suc n) ≤ f k) (sym e) (omega arith))
-              (λ (e : l ≢ suc n). omega (arith, less, is.below l (omega (arith, e))))
-              (cases_eq l (suc n));
-        }))
+        (λ (no_less : d ≤ f (suc n)). (
+          d,
+          record {
+            among = (is.among.0, omega (arith, is.among.1), is.among.2);
+            below = λ l lt. ⊎_elim
+                (λ (e : l ≡ suc n). subst (λ (k : ℕ). d ≤ f k) (sym e) no_less)
+                (λ (e : l ≢ suc n). is.below l (omega (arith, e)))
+                (cases_eq l (suc n));
+          },
+        ))
+        (λ (less : f (suc n) < d). (
+          f (suc n),
+          record {
+            among = (suc n, omega arith, refl);
+            below = λ l lt. ⊎_elim
+                (λ (e : l ≡ suc n). subst (λ (k : ℕ). f (suc n) ≤ f k) (sym e) (omega arith))
+                (λ (e : l ≢ suc n). omega (arith, less, is.below l (omega (arith, e))))
+                (cases_eq l (suc n));
+          },
+        ))
         (⊎_map (λ t. t.1) (λ t. t.1) (leb_tells d (f (suc n))))
 
 -- what there is at each number below n, as a function of all numbers

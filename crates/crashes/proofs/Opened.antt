@@ -1,13 +1,12 @@
 -- A life as it begins.
-use Rattle.std.proofs.Common.{◌≡◌, ℕ, zero, suc, ◌+◌, ◌<◌, ◌≤◌, Some, List, [], ◌∷◌, ◌++◌, length, refl, sym, ap, ◌∙◌, subst, arith, append-nil}
+use Rattle.std.proofs.Common.{◌≡◌, ℕ, ◌+◌, ◌<◌, ◌≤◌, List, [], refl, sym, ap, ◌∙◌, subst, arith, append-nil}
 use Rattle.std.proofs.lemmas.List.Elements.{All-nil}
 use Rattle.log_header.specs.Header.{HeaderView}
 use Rattle.log_text.specs.Bodies.{BodyView, start}
 use Rattle.log_text.specs.declared.last.Last.{Last}
 use Rattle.log_text.proofs.Texts.{some_is}
-use Rattle.book.specs.declared.entry.Entry.{Entry}
 use Rattle.logfile.specs.Standing.{LogFileView, Stands}
-use Rattle.crashes.specs.World.{Life, DiskView, Idle, header_of, opening, IsCreated, IsFirst}
+use Rattle.crashes.specs.World.{Life, DiskView, Idle, header_of, opening, IsFirst}
 use Rattle.crashes.proofs.Lanes.{FitsLane, IsAbove}
 use Rattle.crashes.proofs.Sound.{IsSound, MayTell}
 

@@ -1,5 +1,5 @@
 -- What stays true between events, and that each event keeps it.
-use Rattle.std.proofs.Common.{◌≡◌, ◌≢◌, ℕ, ◌+◌, ◌%◌, ◌<◌, ◌≤◌, ◌==◌, cond, List, [], ◌∷◌, ◌++◌, length, map, filter, max, Result, Ok, Err, ⊎_elim, refl, sym, ap, ◌∙◌, subst, arith}
+use Rattle.std.proofs.Common.{◌≡◌, ◌≢◌, ℕ, ◌+◌, ◌%◌, ◌<◌, ◌≤◌, ◌==◌, cond, List, [], ◌∷◌, ◌++◌, length, max, Result, Ok, Err, ⊎_elim, refl, sym, subst, arith}
 use Rattle.std.specs.List.{All, Contains}
 use Rattle.std.proofs.lemmas.Bool.{cases_eq}
 use Rattle.std.proofs.Math.Nat.{max-le}
@@ -13,7 +13,6 @@ use Rattle.book.specs.History.{Replays}
 use Rattle.book.specs.Stamps.{AreStamped}
 use Rattle.book.specs.Streams.{stream}
 use Rattle.book.specs.declared.entry.Entry.{Entry}
-use Rattle.logfile.specs.Standing.{LogFileView}
 use Rattle.crashes.specs.World.{Life, DiskView, Stage, BatchTaken, TextWritten, TextSynced, GateOpened, DeviceFailed, Flight, Idle, Flying, Logger, World, header_of}
 use Rattle.crashes.specs.Events.{Event, Commit, Take, LoadEpoch, Advance, CallDevice, Confirm, LoadMark, RaiseDurable, Release}
 use Rattle.crashes.specs.Events.{MayTake, MayCall, IsEnabled, with_logger, on_disk, called, confirmed, with_mark, published, after_event, AreEnabled, after_all}

@@ -1,5 +1,5 @@
 -- What a crash leaves, and what recovery finds there.
-use Rattle.std.specs.Prelude.{◌≡◌, ℕ, ◌+◌, ◌<◌, ◌≤◌, nat_le, Bool, List, [], ◌∷◌, ◌++◌, filter, map, flat_map}
+use Rattle.std.specs.Prelude.{◌≡◌, ℕ, ◌<◌, ◌≤◌, nat_le, Bool, List, [], ◌∷◌, ◌++◌, filter, map, flat_map}
 use Rattle.std.specs.List.{All, Contains}
 use Rattle.tidword.specs.TidWord.{epoch_of}
 use Rattle.disk.specs.Crashes.{MayLeave}
