@@ -40,7 +40,7 @@ module _ (life : Life) (w : World) (sound : IsSound life (λ l. []) w) (strings 
   IsLeftAt l batches = IsLeft (header_of life l) (stream life.plan.loggers l w.history) [] (local_of w l) (strings l) batches
 
   left_at : (l : ℕ) → l < life.plan.loggers → (batches : List BatchView) × IsLeftAt l batches
-  left_at l lt = lane_left (header_of life l) w.found (stream life.plan.loggers l w.history) [] (sound.landed l) (w.logger l).file (local_of w l)
+  left_at l lt = lane_left (header_of life l) life.past w.found (stream life.plan.loggers l w.history) [] (sound.landed l) (w.logger l).file (local_of w l)
       (strings l) (w.logger l).flight (sound.lanes l lt) (crash l lt)
 
   -- by what the files are, and the least of their last marks

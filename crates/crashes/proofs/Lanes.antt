@@ -15,6 +15,7 @@ use Rattle.log_header.specs.Header.{HeaderView}
 use Rattle.log_text.specs.Bodies.{BodyView, body_after, bodies_after, start}
 use Rattle.log_text.specs.File.{IsFile}
 use Rattle.book.specs.Batches.{BatchView, IsBatch}
+use Rattle.book.specs.Streams.{last_number}
 use Rattle.book.specs.declared.entry.Entry.{Entry}
 use Rattle.log_entries.specs.Logged.{entry_of}
 use Rattle.log_entries.specs.Following.{body_of_batch, behind_batch, Continues}
@@ -24,6 +25,7 @@ use Rattle.logfile.specs.Standing.{LogFileView, Stands}
 use Rattle.crashes.specs.World.{DiskView, Stage, BatchTaken, TextWritten, TextSynced, GateOpened, DeviceFailed, Flight, Idle, Flying, Logger}
 use Rattle.crashes.specs.Events.{IsCalled, text_of, on_disk, with_batch, called}
 use Rattle.crashes.specs.Recovering.{last_mark, entries_of}
+use Rattle.crashes.proofs.Histories.{last_number_rises, last_number_joined}
 use Rattle.crashes.proofs.Marks.{last_is}
 use Rattle.crashes.proofs.Disks.{FitsDisk, IsFlying, takes, text_is_written, text_is_synced, gate_is_opened}
 use Rattle.crashes.proofs.Disks.{batch_is_there, has_failed, with_or_without}
@@ -54,13 +56,14 @@ FitsNext found waiting Idle file = Unit {0}
 FitsNext found waiting (Flying stage batch) file = IsNext found waiting batch file
 
 -- a logger's file, what it has under way and its local mark fit its stream, of which these batches came into the file behind the old bodies
-pub record FitsLane (h : HeaderView) (found : ℕ) (entries : List Entry) (old : List BodyView) (landed : List BatchView)
+pub record FitsLane (h : HeaderView) (past found : ℕ) (entries : List Entry) (old : List BodyView) (landed : List BatchView)
     (file : LogFileView DiskView) (flight : Flight) (local : ℕ) : Type 0 where
   pub header : file.header ≡ h
   pub disk : FitsDisk h (old ++ bodies_of landed) flight file
   pub waiting : List Entry
   pub all : entries ≡ taken landed ++ (flying flight ++ waiting)
   pub count : file.count ≡ length (taken landed)
+  pub number : file.last.number ≤ last_number past (taken landed)
   pub logged : entries_of (bodies_of landed) ≡ map (entry_of h.scale) (taken landed)
   pub near : file.last.epoch ≤ file.last.mark + 1
   pub low : file.last.mark < found
@@ -79,12 +82,12 @@ next_later found later waiting more (Flying stage batch) file no_less new next =
   above = All-append (IsAbove batch.mark) waiting more next.above (λ k d lt. omega (arith, next.low, no_less, new k d lt));
 }
 
-module _ (h : HeaderView) (found : ℕ) (entries : List Entry) (old : List BodyView) (landed : List BatchView) (file : LogFileView DiskView)
-    (flight : Flight) (local : ℕ) (lane : FitsLane h found entries old landed file flight local)
+module _ (h : HeaderView) (past found : ℕ) (entries : List Entry) (old : List BodyView) (landed : List BatchView) (file : LogFileView DiskView)
+    (flight : Flight) (local : ℕ) (lane : FitsLane h past found entries old landed file flight local)
   where
     -- entries come behind the stream, of an epoch that is found by now
     pub lane_goes_on : (later : ℕ) (more : List Entry) → found ≤ later → All (λ e. later ≤ epoch_of e.tid) more
-        → FitsLane h later (entries ++ more) old landed file flight local
+        → FitsLane h past later (entries ++ more) old landed file flight local
     lane_goes_on later more no_less new = record {
       header = lane.header;
       disk = lane.disk;
@@ -92,6 +95,7 @@ module _ (h : HeaderView) (found : ℕ) (entries : List Entry) (old : List BodyV
       all = ap (λ (l : List Entry). l ++ more) lane.all ∙ append_assoc (taken landed) (flying flight ++ lane.waiting) more
           ∙ ap (λ (l : List Entry). taken landed ++ l) (append_assoc (flying flight) lane.waiting more);
       count = lane.count;
+      number = lane.number;
       logged = lane.logged;
       near = lane.near;
       low = omega (arith, lane.low, no_less);
@@ -101,19 +105,20 @@ module _ (h : HeaderView) (found : ℕ) (entries : List Entry) (old : List BodyV
       kept = lane.kept;
     }
 
-    pub lane_later : (later : ℕ) → found ≤ later → FitsLane h later entries old landed file flight local
+    pub lane_later : (later : ℕ) → found ≤ later → FitsLane h past later entries old landed file flight local
     lane_later later no_less =
-        subst (λ (l : List Entry). FitsLane h later l old landed file flight local) (append-nil entries)
+        subst (λ (l : List Entry). FitsLane h past later l old landed file flight local) (append-nil entries)
         (lane_goes_on later [] no_less (All-nil (λ (e : Entry). later ≤ epoch_of e.tid)))
 
     -- the file's mark is confirmed
-    pub lane_confirmed : FitsLane h found entries old landed file flight file.last.mark
+    pub lane_confirmed : FitsLane h past found entries old landed file flight file.last.mark
     lane_confirmed = record {
       header = lane.header;
       disk = lane.disk;
       waiting = lane.waiting;
       all = lane.all;
       count = lane.count;
+      number = lane.number;
       logged = lane.logged;
       near = lane.near;
       low = lane.low;
@@ -123,19 +128,25 @@ module _ (h : HeaderView) (found : ℕ) (entries : List Entry) (old : List BodyV
     }
 
 -- ---- an idle logger is given all that waits
-pub lane_takes : (h : HeaderView) (found : ℕ) (entries : List Entry) (old : List BodyView) (landed : List BatchView) (file : LogFileView DiskView)
-    (local : ℕ) (batch : BatchView) → FitsLane h found entries old landed file Idle local → IsBatch batch
+pub all_that_waits : (h : HeaderView) (past found : ℕ) (entries : List Entry) (old : List BodyView) (landed : List BatchView) (file : LogFileView DiskView)
+    (local : ℕ) (batch : BatchView) → (lane : FitsLane h past found entries old landed file Idle local)
+    → Continues file.header file.count file.last batch → batch.entries ≡ drop batch.first entries → batch.entries ≡ lane.waiting
+all_that_waits h past found entries old landed file local batch lane continues rest =
+    rest ∙ (λ i. drop ((continues.first ∙ lane.count) i) (lane.all i)) ∙ drop-append_seam (taken landed) lane.waiting
+
+pub lane_takes : (h : HeaderView) (past found : ℕ) (entries : List Entry) (old : List BodyView) (landed : List BatchView) (file : LogFileView DiskView)
+    (local : ℕ) (batch : BatchView) → FitsLane h past found entries old landed file Idle local → IsBatch batch
     → Continues file.header file.count file.last batch → batch.entries ≡ drop batch.first entries
-    → FitsLane h (batch.mark + 1) entries old landed file (Flying BatchTaken batch) local
-lane_takes h found entries old landed file local batch lane is continues rest =
-    let waits : batch.entries ≡ lane.waiting =
-    rest ∙ (λ i. drop ((continues.first ∙ lane.count) i) (lane.all i)) ∙ drop-append_seam (taken landed) lane.waiting in
+    → FitsLane h past (batch.mark + 1) entries old landed file (Flying BatchTaken batch) local
+lane_takes h past found entries old landed file local batch lane is continues rest =
+    let waits = all_that_waits h past found entries old landed file local batch lane continues rest in
     record {
       header = lane.header;
       disk = takes h (old ++ bodies_of landed) batch file lane.disk;
       waiting = [];
       all = lane.all ∙ ap (λ (l : List Entry). taken landed ++ l) (sym waits ∙ sym (append-nil batch.entries));
       count = lane.count;
+      number = lane.number;
       logged = lane.logged;
       near = lane.near;
       low = omega (arith, is.marks_rise, continues.mark_before);
@@ -150,8 +161,8 @@ abbrev pub landed_by : Flight → Result (Unit {0}) Refusal → List BatchView �
 landed_by (Flying GateOpened batch) (Ok _) landed = landed ++ batch ∷ []
 landed_by _ _ landed = landed
 
-module _ (h : HeaderView) (found : ℕ) (entries : List Entry) (old : List BodyView) (landed : List BatchView) (file : LogFileView DiskView)
-    (stage : Stage) (batch : BatchView) (local : ℕ) (lane : FitsLane h found entries old landed file (Flying stage batch) local)
+module _ (h : HeaderView) (past found : ℕ) (entries : List Entry) (old : List BodyView) (landed : List BatchView) (file : LogFileView DiskView)
+    (stage : Stage) (batch : BatchView) (local : ℕ) (lane : FitsLane h past found entries old landed file (Flying stage batch) local)
   where
     scale : batch.scale ≡ h.scale
     scale = lane.next.continues.scale ∙ ap (λ (x : HeaderView). x.scale) lane.header
@@ -163,10 +174,13 @@ module _ (h : HeaderView) (found : ℕ) (entries : List Entry) (old : List BodyV
     pub after : body_after h file.last (body_of_batch batch) ≡ Some (behind_batch file.last batch)
     after = batch_follows h file.count file.last batch lane.next.is_batch continues lane.near (subst IsScale (sym scale) lane.disk.placed.header.scale)
 
+    taken_landed : taken landed ++ batch.entries ≡ taken (landed ++ batch ∷ [])
+    taken_landed = ap (λ (l : List Entry). taken landed ++ l) (sym (append-nil batch.entries))
+        ∙ sym (flat_map-append (λ (b : BatchView). b.entries) landed (batch ∷ []))
+
     pub all_landed : entries ≡ taken (landed ++ batch ∷ []) ++ lane.waiting
     all_landed = lane.all ∙ sym (append_assoc (taken landed) batch.entries lane.waiting)
-        ∙ ap (λ (l : List Entry). l ++ lane.waiting) (ap (λ (l : List Entry). taken landed ++ l) (sym (append-nil batch.entries))
-        ∙ sym (flat_map-append (λ (b : BatchView). b.entries) landed (batch ∷ [])))
+        ∙ ap (λ (l : List Entry). l ++ lane.waiting) taken_landed
 
     pub logged_landed : entries_of (bodies_of (landed ++ batch ∷ [])) ≡ map (entry_of h.scale) (taken (landed ++ batch ∷ []))
     logged_landed =
@@ -174,8 +188,7 @@ module _ (h : HeaderView) (found : ℕ) (entries : List Entry) (old : List BodyV
         ∙ flat_map-append (λ (b : BodyView). b.entries) (bodies_of landed) (body_of_batch batch ∷ [])
         ∙ (λ i. lane.logged i ++ append-nil (map (entry_of (scale i)) batch.entries) i)
         ∙ sym (map-append (entry_of h.scale) (taken landed) batch.entries)
-        ∙ ap (map (entry_of h.scale)) (ap (λ (l : List Entry). taken landed ++ l) (sym (append-nil batch.entries))
-        ∙ sym (flat_map-append (λ (b : BatchView). b.entries) landed (batch ∷ [])))
+        ∙ ap (map (entry_of h.scale)) taken_landed
 
     pub bodies_landed : (old ++ bodies_of landed) ++ body_of_batch batch ∷ [] ≡ old ++ bodies_of (landed ++ batch ∷ [])
     bodies_landed = append_assoc old (bodies_of landed) (body_of_batch batch ∷ [])
@@ -184,13 +197,14 @@ module _ (h : HeaderView) (found : ℕ) (entries : List Entry) (old : List BodyV
     -- another disk, and the batch at this stage
     pub lane_moves : (next : Stage) (disk : DiskView) (failed : Bool)
         → IsFlying h (old ++ bodies_of landed) next batch (record file { disk = disk; failed = failed })
-        → FitsLane h found entries old landed (record file { disk = disk; failed = failed }) (Flying next batch) local
+        → FitsLane h past found entries old landed (record file { disk = disk; failed = failed }) (Flying next batch) local
     lane_moves next disk failed flies = record {
       header = lane.header;
       disk = flies;
       waiting = lane.waiting;
       all = lane.all;
       count = lane.count;
+      number = lane.number;
       logged = lane.logged;
       near = lane.near;
       low = lane.low;
@@ -202,7 +216,7 @@ module _ (h : HeaderView) (found : ℕ) (entries : List Entry) (old : List BodyV
     -- the batch is in the file
     pub lane_lands : (disk : DiskView)
         → Stands h ((old ++ bodies_of landed) ++ body_of_batch batch ∷ []) (file.end + length (text_of batch)) (behind_batch file.last batch) disk.seen
-        disk.story → FitsLane h found entries old (landed ++ batch ∷ []) (with_batch (on_disk file disk) batch) Idle local
+        disk.story → FitsLane h past found entries old (landed ++ batch ∷ []) (with_batch (on_disk file disk) batch) Idle local
     lane_lands disk there = record {
       header = lane.header;
       disk = subst (λ (l : List BodyView). Stands h l (file.end + length (text_of batch)) (behind_batch file.last batch) disk.seen disk.story)
@@ -213,9 +227,11 @@ module _ (h : HeaderView) (found : ℕ) (entries : List Entry) (old : List BodyV
         arith,
         lane.count,
         length-append (taken landed) batch.entries,
-        ap length (ap (λ (l : List Entry). taken landed ++ l) (sym (append-nil batch.entries))
-            ∙ sym (flat_map-append (λ (b : BatchView). b.entries) landed (batch ∷ []))),
+        ap length taken_landed,
       );
+      number = subst (λ (l : List Entry). last_number file.last.number batch.entries ≤ last_number past l) taken_landed
+          (subst (λ (n : ℕ). last_number file.last.number batch.entries ≤ n) (sym (last_number_joined past (taken landed) batch.entries))
+          (last_number_rises file.last.number (last_number past (taken landed)) batch.entries lane.number));
       logged = logged_landed;
       near = batch_near file.last batch lane.next.is_batch lane.next.continues.mark_before lane.near;
       low = lane.next.low;
@@ -225,38 +241,38 @@ module _ (h : HeaderView) (found : ℕ) (entries : List Entry) (old : List BodyV
     }
 
 -- what a call of the device makes of a logger
-pub lane_called : (h : HeaderView) (found : ℕ) (entries : List Entry) (old : List BodyView) (landed : List BatchView) (x : Logger) (stage : Stage)
-    (batch : BatchView) (result : Result (Unit {0}) Refusal) (disk : DiskView) → FitsLane h found entries old landed x.file (Flying stage batch) x.local
+pub lane_called : (h : HeaderView) (past found : ℕ) (entries : List Entry) (old : List BodyView) (landed : List BatchView) (x : Logger) (stage : Stage)
+    (batch : BatchView) (result : Result (Unit {0}) Refusal) (disk : DiskView) → FitsLane h past found entries old landed x.file (Flying stage batch) x.local
     → IsCalled stage batch x.file result disk
     → let y : Logger = called (Flying stage batch) result (on_disk x.file disk) x in
-    FitsLane h found entries old (landed_by (Flying stage batch) result landed) y.file y.flight y.local
-lane_called h found entries old landed x BatchTaken batch (Ok u) disk lane call =
-    lane_moves h found entries old landed x.file BatchTaken batch x.local lane TextWritten disk x.file.failed
+    FitsLane h past found entries old (landed_by (Flying stage batch) result landed) y.file y.flight y.local
+lane_called h past found entries old landed x BatchTaken batch (Ok u) disk lane call =
+    lane_moves h past found entries old landed x.file BatchTaken batch x.local lane TextWritten disk x.file.failed
     (text_is_written h (old ++ bodies_of landed) batch x.file disk u lane.disk call)
-lane_called h found entries old landed x TextWritten batch (Ok u) disk lane call =
-    lane_moves h found entries old landed x.file TextWritten batch x.local lane TextSynced disk x.file.failed
+lane_called h past found entries old landed x TextWritten batch (Ok u) disk lane call =
+    lane_moves h past found entries old landed x.file TextWritten batch x.local lane TextSynced disk x.file.failed
     (text_is_synced h (old ++ bodies_of landed) batch x.file disk u lane.disk call)
-lane_called h found entries old landed x TextSynced batch (Ok u) disk lane call =
-    lane_moves h found entries old landed x.file TextSynced batch x.local lane GateOpened disk x.file.failed
+lane_called h past found entries old landed x TextSynced batch (Ok u) disk lane call =
+    lane_moves h past found entries old landed x.file TextSynced batch x.local lane GateOpened disk x.file.failed
     (gate_is_opened h (old ++ bodies_of landed) batch x.file disk u lane.disk call)
-lane_called h found entries old landed x GateOpened batch (Ok u) disk lane call =
-    lane_lands h found entries old landed x.file GateOpened batch x.local lane disk
+lane_called h past found entries old landed x GateOpened batch (Ok u) disk lane call =
+    lane_lands h past found entries old landed x.file GateOpened batch x.local lane disk
     (batch_is_there h (old ++ bodies_of landed) batch x.file disk u (behind_batch x.file.last batch) lane.disk call
-    (after h found entries old landed x.file GateOpened batch x.local lane))
-lane_called h found entries old landed x DeviceFailed batch (Ok u) disk lane call = absurd call
-lane_called h found entries old landed x BatchTaken batch (Err refusal) disk lane call =
-    lane_moves h found entries old landed x.file BatchTaken batch x.local lane DeviceFailed disk true
+    (after h past found entries old landed x.file GateOpened batch x.local lane))
+lane_called h past found entries old landed x DeviceFailed batch (Ok u) disk lane call = absurd call
+lane_called h past found entries old landed x BatchTaken batch (Err refusal) disk lane call =
+    lane_moves h past found entries old landed x.file BatchTaken batch x.local lane DeviceFailed disk true
     (has_failed h (old ++ bodies_of landed) batch x.file disk BatchTaken refusal lane.disk call)
-lane_called h found entries old landed x TextWritten batch (Err refusal) disk lane call =
-    lane_moves h found entries old landed x.file TextWritten batch x.local lane DeviceFailed disk true
+lane_called h past found entries old landed x TextWritten batch (Err refusal) disk lane call =
+    lane_moves h past found entries old landed x.file TextWritten batch x.local lane DeviceFailed disk true
     (has_failed h (old ++ bodies_of landed) batch x.file disk TextWritten refusal lane.disk call)
-lane_called h found entries old landed x TextSynced batch (Err refusal) disk lane call =
-    lane_moves h found entries old landed x.file TextSynced batch x.local lane DeviceFailed disk true
+lane_called h past found entries old landed x TextSynced batch (Err refusal) disk lane call =
+    lane_moves h past found entries old landed x.file TextSynced batch x.local lane DeviceFailed disk true
     (has_failed h (old ++ bodies_of landed) batch x.file disk TextSynced refusal lane.disk call)
-lane_called h found entries old landed x GateOpened batch (Err refusal) disk lane call =
-    lane_moves h found entries old landed x.file GateOpened batch x.local lane DeviceFailed disk true
+lane_called h past found entries old landed x GateOpened batch (Err refusal) disk lane call =
+    lane_moves h past found entries old landed x.file GateOpened batch x.local lane DeviceFailed disk true
     (has_failed h (old ++ bodies_of landed) batch x.file disk GateOpened refusal lane.disk call)
-lane_called h found entries old landed x DeviceFailed batch (Err refusal) disk lane call = absurd call
+lane_called h past found entries old landed x DeviceFailed batch (Err refusal) disk lane call = absurd call
 
 -- ---- a crash
 -- what a crash leaves of a logger: a file of batches that its stream begins with, and what comes behind them is above its last mark
@@ -268,7 +284,7 @@ pub record IsLeft (h : HeaderView) (entries : List Entry) (old : List BodyView) 
   pub logged : entries_of (bodies_of batches) ≡ map (entry_of h.scale) (taken batches)
   pub kept : local ≤ last_mark 0 (old ++ bodies_of batches)
 
-module _ (h : HeaderView) (found : ℕ) (entries : List Entry) (old : List BodyView) (landed : List BatchView) (file : LogFileView DiskView) (local : ℕ)
+module _ (h : HeaderView) (past found : ℕ) (entries : List Entry) (old : List BodyView) (landed : List BatchView) (file : LogFileView DiskView) (local : ℕ)
     (bytes : List ℕ)
   where
     -- the bodies that are sure
@@ -286,7 +302,7 @@ module _ (h : HeaderView) (found : ℕ) (entries : List Entry) (old : List BodyV
           kept = omega (arith, kept, mark);
         }
 
-    pub lane_left : (flight : Flight) → FitsLane h found entries old landed file flight local → MayLeave file.disk.story bytes
+    pub lane_left : (flight : Flight) → FitsLane h past found entries old landed file flight local → MayLeave file.disk.story bytes
         → (batches : List BatchView) × IsLeft h entries old local bytes batches
     lane_left Idle lane may = (
       landed,
@@ -294,10 +310,10 @@ module _ (h : HeaderView) (found : ℕ) (entries : List Entry) (old : List BodyV
           lane.disk.lawful lane.all lane.above lane.logged lane.kept,
     )
     lane_left (Flying stage batch) lane may =
-        let follows = after h found entries old landed file stage batch local lane in
+        let follows = after h past found entries old landed file stage batch local lane in
         ⊎_elim
         (λ without. (landed, sure (batch.entries ++ lane.waiting) without lane.disk.placed.lawful lane.all lane.above lane.logged lane.kept))
-        (λ with. let bodies = bodies_landed h found entries old landed file stage batch local lane in
+        (λ with. let bodies = bodies_landed h past found entries old landed file stage batch local lane in
         let lawful : bodies_after h start (old ++ bodies_of (landed ++ batch ∷ [])) ≡ Some (behind_batch file.last batch)
         = subst (λ (l : List BodyView). bodies_after h start l ≡ Some (behind_batch file.last batch)) bodies
         (after_push h start (old ++ bodies_of landed) (body_of_batch batch) file.last (behind_batch file.last batch) lane.disk.placed.lawful follows) in
@@ -307,9 +323,9 @@ module _ (h : HeaderView) (found : ℕ) (entries : List Entry) (old : List BodyV
           record {
             behind = lane.waiting;
             file = subst (λ (l : List BodyView). IsFile bytes h l) bodies with;
-            all = all_landed h found entries old landed file stage batch local lane;
+            all = all_landed h past found entries old landed file stage batch local lane;
             above = subst (λ (m : ℕ). All (IsAbove m) lane.waiting) (sym mark) lane.next.above;
-            logged = logged_landed h found entries old landed file stage batch local lane;
+            logged = logged_landed h past found entries old landed file stage batch local lane;
             kept = omega (arith, lane.kept, lane.next.continues.mark_before, lane.next.is_batch.marks_rise, mark);
           },
         ))

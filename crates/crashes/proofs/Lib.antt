@@ -3,6 +3,7 @@ mod Marks
 mod Histories
 mod Disks
 mod Lanes
+mod Batches
 mod Sound
 mod Opened
 mod Crashed

@@ -3,9 +3,10 @@ use Rattle.std.proofs.Common.{◌≡◌, ◌≢◌, ℕ, ◌+◌, ◌%◌, ◌<�
 use Rattle.std.specs.List.{All, Contains}
 use Rattle.std.proofs.lemmas.Bool.{cases_eq}
 use Rattle.std.proofs.Math.Nat.{max-le}
-use Rattle.std.proofs.lemmas.List.Elements.{All-nil, All-cons, All-head, All-tail, All-filter, All-weaker, filter-append, Contains-append_left}
+use Rattle.std.proofs.lemmas.List.Elements.{All-nil, All-cons, All-head, All-tail, All-filter, All-weaker, All-push, filter-append, Contains-append_left}
 use Rattle.money.specs.declared.refusal.Refusal.{Refusal}
 use Rattle.tidword.specs.TidWord.{epoch_of}
+use Rattle.board.specs.Words.{last_epoch}
 use Rattle.board.specs.Publishing.{IsLeastMark}
 use Rattle.log_text.specs.Bodies.{BodyView}
 use Rattle.book.specs.Batches.{BatchView}
@@ -17,6 +18,7 @@ use Rattle.crashes.specs.World.{Life, DiskView, Stage, BatchTaken, TextWritten, 
 use Rattle.crashes.specs.Events.{Event, Commit, Take, LoadEpoch, Advance, CallDevice, Confirm, LoadMark, RaiseDurable, Release}
 use Rattle.crashes.specs.Events.{MayTake, MayCall, IsEnabled, with_logger, on_disk, called, confirmed, with_mark, published, after_event, AreEnabled, after_all}
 use Rattle.crashes.proofs.Lists.{each_set, each_set_two}
+use Rattle.crashes.proofs.Batches.{IsFit, is_batch}
 use Rattle.crashes.proofs.Lanes.{FitsLane, landed_by, lane_goes_on, lane_later, lane_confirmed, lane_takes, lane_called}
 
 -- the marks that a publication has loaded, newest first, are no larger than the loggers' local marks
@@ -48,7 +50,7 @@ MayTell w e = Contains w.history e × (epoch_of e.tid ≤ w.durable)
 -- each logger fits its stream, of which these batches came into its file behind the old bodies
 abbrev pub Fits : Life → (ℕ → List BodyView) → ℕ → List Entry → ℕ → Logger → List BatchView → Type 0
 Fits life old found history l x landed = l < life.plan.loggers
-    → FitsLane (header_of life l) found (stream life.plan.loggers l history) (old l) landed x.file x.flight x.local
+    → FitsLane (header_of life l) life.past found (stream life.plan.loggers l history) (old l) landed x.file x.flight x.local
 
 pub record IsSound (life : Life) (old : ℕ → List BodyView) (w : World) : Type 0 where
   pub landed : ℕ → List BatchView
@@ -57,6 +59,9 @@ pub record IsSound (life : Life) (old : ℕ → List BodyView) (w : World) : Typ
   pub durable : (l : ℕ) → l < life.plan.loggers → w.durable ≤ local_of w l
   pub replays : Replays (life.past + 1) life.first w.history
   pub stamped : AreStamped w.history
+  pub fit : All (IsFit life.first.scale) w.history
+  pub epochs : All (λ e. epoch_of e.tid ≤ w.found) w.history
+  pub ends : w.epoch ≤ last_epoch
   pub released : All (MayTell w) w.released
 
 module _ (life : Life) (old : ℕ → List BodyView) (w : World) (sound : IsSound life old w) where
@@ -74,7 +79,7 @@ module _ (life : Life) (old : ℕ → List BodyView) (w : World) (sound : IsSoun
       record {
         landed = λ l. cond (l == k) landed (sound.landed l);
         lanes = each_set_two (λ l y ls. Fits life old found w.history l y ls) w.logger sound.landed k x landed fits
-            (λ l other lt. lane_later (header_of life l) w.found (stream n l w.history) (old l) (sound.landed l) (w.logger l).file (w.logger l).flight
+            (λ l other lt. lane_later (header_of life l) life.past w.found (stream n l w.history) (old l) (sound.landed l) (w.logger l).file (w.logger l).flight
             (w.logger l).local (sound.lanes l lt) found later);
         loaded = each_set (λ l (y : Logger). AreLoaded (λ j. (cond (j == k) x (w.logger j)).local) y.marks) w.logger k x
             (loaded_later (local_of w) (λ j. (cond (j == k) x (w.logger j)).local) locals x.marks marks)
@@ -82,6 +87,10 @@ module _ (life : Life) (old : ℕ → List BodyView) (w : World) (sound : IsSoun
         durable = λ l lt. omega (arith, below l lt, locals l);
         replays = sound.replays;
         stamped = sound.stamped;
+        fit = sound.fit;
+        epochs = All-weaker (λ (e : Entry). epoch_of e.tid ≤ w.found) (λ (e : Entry). epoch_of e.tid ≤ found) (λ e low. omega (arith, low, later)) w.history
+            sound.epochs;
+        ends = sound.ends;
         released = All-weaker (MayTell w) (λ e. Contains w.history e × (epoch_of e.tid ≤ durable)) (λ e may. (may.0, omega (arith, may.1, higher)))
             w.released sound.released;
       }
@@ -89,10 +98,10 @@ module _ (life : Life) (old : ℕ → List BodyView) (w : World) (sound : IsSoun
   pub commits : (entry : Entry) → IsEnabled life w (Commit entry) → IsSound life old (after_event w (Commit entry))
   commits entry may = record {
     landed = sound.landed;
-    lanes = λ l lt. subst (λ (s : List Entry). FitsLane (header_of life l) (epoch_of entry.tid) s (old l) (sound.landed l) (w.logger l).file
+    lanes = λ l lt. subst (λ (s : List Entry). FitsLane (header_of life l) life.past (epoch_of entry.tid) s (old l) (sound.landed l) (w.logger l).file
         (w.logger l).flight (w.logger l).local)
         (sym (filter-append (λ (e : Entry). e.terminal % n == l) w.history (entry ∷ [])))
-        (lane_goes_on (header_of life l) w.found (stream n l w.history) (old l) (sound.landed l) (w.logger l).file (w.logger l).flight
+        (lane_goes_on (header_of life l) life.past w.found (stream n l w.history) (old l) (sound.landed l) (w.logger l).file (w.logger l).flight
         (w.logger l).local (sound.lanes l lt) (epoch_of entry.tid) (stream n l (entry ∷ [])) may.later
         (All-filter (λ (e : Entry). e.terminal % n == l) (λ (e : Entry). epoch_of entry.tid ≤ epoch_of e.tid) (entry ∷ [])
         (All-cons (λ (e : Entry). epoch_of entry.tid ≤ epoch_of e.tid) entry [] (omega arith) (All-nil (λ (e : Entry). epoch_of entry.tid ≤ epoch_of e.tid)))));
@@ -100,39 +109,53 @@ module _ (life : Life) (old : ℕ → List BodyView) (w : World) (sound : IsSoun
     durable = sound.durable;
     replays = may.replays;
     stamped = may.stamped;
+    fit = All-push (IsFit life.first.scale) w.history entry sound.fit (record { cap = may.cap; asked = may.asked; loggable = may.loggable });
+    epochs = All-push (λ (e : Entry). epoch_of e.tid ≤ epoch_of entry.tid) w.history entry
+        (All-weaker (λ (e : Entry). epoch_of e.tid ≤ w.found) (λ (e : Entry). epoch_of e.tid ≤ epoch_of entry.tid) (λ e low. omega (arith, low, may.later))
+        w.history sound.epochs)
+        (omega arith);
+    ends = sound.ends;
     released = All-weaker (MayTell w) (λ e. Contains (w.history ++ entry ∷ []) e × (epoch_of e.tid ≤ w.durable))
         (λ e tell. (Contains-append_left w.history (entry ∷ []) e tell.0, tell.1)) w.released sound.released;
   }
 
   pub takes : (k : ℕ) (batch : BatchView) → MayTake life w k batch → IsSound life old (after_event w (Take k batch))
   takes k batch may =
-      let lane = subst (λ (f : Flight). FitsLane (header_of life k) w.found (stream n k w.history) (old k) (sound.landed k) (w.logger k).file f
+      let lane = subst (λ (f : Flight). FitsLane (header_of life k) life.past w.found (stream n k w.history) (old k) (sound.landed k) (w.logger k).file f
       (w.logger k).local) may.idle (sound.lanes k may.within) in
       changes k (record (w.logger k) { flight = Flying BatchTaken batch }) (sound.landed k) (batch.mark + 1) w.durable may.later (omega arith)
-      (λ lt. lane_takes (header_of life k) w.found (stream n k w.history) (old k) (sound.landed k) (w.logger k).file (w.logger k).local batch lane
-      may.is_batch may.continues may.entries)
+      (λ lt. lane_takes (header_of life k) life.past w.found (stream n k w.history) (old k) (sound.landed k) (w.logger k).file (w.logger k).local batch lane
+      (is_batch life w k batch (old k) (sound.landed k) (w.logger k).local lane may sound.replays sound.stamped sound.fit sound.epochs sound.ends)
+      may.continues may.entries)
       (omega arith) (sound.loaded k) sound.durable
 
   pub finds : (epoch : ℕ) → w.found ≤ epoch → IsSound life old (record w { found = epoch })
   finds epoch later = record {
     landed = sound.landed;
-    lanes = λ l lt. lane_later (header_of life l) w.found (stream n l w.history) (old l) (sound.landed l) (w.logger l).file (w.logger l).flight
+    lanes = λ l lt. lane_later (header_of life l) life.past w.found (stream n l w.history) (old l) (sound.landed l) (w.logger l).file (w.logger l).flight
         (w.logger l).local (sound.lanes l lt) epoch later;
     loaded = sound.loaded;
     durable = sound.durable;
     replays = sound.replays;
     stamped = sound.stamped;
+    fit = sound.fit;
+    epochs = All-weaker (λ (e : Entry). epoch_of e.tid ≤ w.found) (λ (e : Entry). epoch_of e.tid ≤ epoch) (λ e low. omega (arith, low, later)) w.history
+        sound.epochs;
+    ends = sound.ends;
     released = sound.released;
   }
 
-  pub advances : IsSound life old (record w { epoch = w.epoch + 1 })
-  advances = record {
+  pub advances : w.epoch < last_epoch → IsSound life old (record w { epoch = w.epoch + 1 })
+  advances below = record {
     landed = sound.landed;
     lanes = sound.lanes;
     loaded = sound.loaded;
     durable = sound.durable;
     replays = sound.replays;
     stamped = sound.stamped;
+    fit = sound.fit;
+    epochs = sound.epochs;
+    ends = omega (arith, below);
     released = sound.released;
   }
 
@@ -141,11 +164,11 @@ module _ (life : Life) (old : ℕ → List BodyView) (w : World) (sound : IsSoun
       → IsSound life old (with_logger w k (called flight result (on_disk (w.logger k).file disk) (w.logger k)))
   calls k Idle result disk within is may = absurd may
   calls k (Flying stage batch) result disk within is may =
-      let lane = subst (λ (f : Flight). FitsLane (header_of life k) w.found (stream n k w.history) (old k) (sound.landed k) (w.logger k).file f
+      let lane = subst (λ (f : Flight). FitsLane (header_of life k) life.past w.found (stream n k w.history) (old k) (sound.landed k) (w.logger k).file f
       (w.logger k).local) is (sound.lanes k within) in
       let x : Logger = called (Flying stage batch) result (on_disk (w.logger k).file disk) (w.logger k) in
       changes k x (landed_by (Flying stage batch) result (sound.landed k)) w.found w.durable (omega arith) (omega arith)
-      (λ lt. lane_called (header_of life k) w.found (stream n k w.history) (old k) (sound.landed k) (w.logger k) stage batch result disk lane may)
+      (λ lt. lane_called (header_of life k) life.past w.found (stream n k w.history) (old k) (sound.landed k) (w.logger k) stage batch result disk lane may)
       (same_local stage result) (same_marks stage result) sound.durable
     where
       same_local : (s : Stage) (r : Result (Unit {0}) Refusal) → local_of w k ≤ (called (Flying s batch) r (on_disk (w.logger k).file disk) (w.logger k)).local
@@ -169,7 +192,7 @@ module _ (life : Life) (old : ℕ → List BodyView) (w : World) (sound : IsSoun
   confirms k within =
       let lane = sound.lanes k within in
       changes k (confirmed (w.logger k)) (sound.landed k) w.found w.durable (omega arith) (omega arith)
-      (λ lt. lane_confirmed (header_of life k) w.found (stream n k w.history) (old k) (sound.landed k) (w.logger k).file (w.logger k).flight
+      (λ lt. lane_confirmed (header_of life k) life.past w.found (stream n k w.history) (old k) (sound.landed k) (w.logger k).file (w.logger k).flight
       (w.logger k).local lane)
       lane.kept (sound.loaded k) sound.durable
 
@@ -193,6 +216,9 @@ module _ (life : Life) (old : ℕ → List BodyView) (w : World) (sound : IsSoun
     durable = sound.durable;
     replays = sound.replays;
     stamped = sound.stamped;
+    fit = sound.fit;
+    epochs = sound.epochs;
+    ends = sound.ends;
     released = All-cons (MayTell w) entry w.released may sound.released;
   }
 
@@ -200,7 +226,7 @@ module _ (life : Life) (old : ℕ → List BodyView) (w : World) (sound : IsSoun
   every_event (Commit entry) may = commits entry may
   every_event (Take k batch) may = takes k batch may
   every_event (LoadEpoch epoch) may = finds epoch may.0
-  every_event Advance may = advances
+  every_event Advance may = advances may
   every_event (CallDevice k result disk) may = calls k (w.logger k).flight result disk may.0 refl may.1
   every_event (Confirm k) may = confirms k may
   every_event (LoadMark k) may = loads k

@@ -11,8 +11,10 @@ use Rattle.log_text.specs.Bodies.{body_text}
 use Rattle.book.specs.History.{Replays}
 use Rattle.book.specs.Stamps.{AreStamped}
 use Rattle.book.specs.Streams.{stream}
-use Rattle.book.specs.Batches.{BatchView, IsBatch}
+use Rattle.book.specs.Batches.{BatchView}
+use Rattle.book.specs.Loggable.{IsLoggable}
 use Rattle.book.specs.declared.entry.Entry.{Entry}
+use Rattle.book.specs.declared.engine.TheConstants.{MAX_TERMINALS}
 use Rattle.log_entries.specs.Following.{body_of_batch, behind_batch, Continues}
 use Rattle.logfile.specs.Standing.{LogFileView}
 use Rattle.crashes.specs.World.{Life, DiskView, Stage, BatchTaken, TextWritten, TextSynced, GateOpened, DeviceFailed}
@@ -33,10 +35,14 @@ pub data Event : Type 0 where
   RaiseDurable : (logger least : ℕ) → Event
   Release : (entry : Entry) → Event
 
--- an entry may commit, in an E that is loaded now: with it the history is still legal and stamped, as the book keeps it
+-- an entry may commit, in an E that is loaded now: with it the history is still legal and stamped, and an entry may be
+-- written to a log file, as the book keeps it
 pub record MayCommit (life : Life) (w : World) (entry : Entry) : Type 0 where
   pub replays : Replays (life.past + 1) life.first (w.history ++ entry ∷ [])
   pub stamped : AreStamped (w.history ++ entry ∷ [])
+  pub cap : entry.number ≤ life.first.scale.commits
+  pub asked : entry.terminal < MAX_TERMINALS
+  pub loggable : IsLoggable life.first.scale entry
   pub later : w.found ≤ epoch_of entry.tid
   pub loaded : epoch_of entry.tid ≤ w.epoch
 
@@ -45,7 +51,6 @@ pub record MayCommit (life : Life) (w : World) (entry : Entry) : Type 0 where
 pub record MayTake (life : Life) (w : World) (logger : ℕ) (batch : BatchView) : Type 0 where
   pub within : logger < life.plan.loggers
   pub idle : (w.logger logger).flight ≡ Idle
-  pub is_batch : IsBatch batch
   pub continues : Continues (w.logger logger).file.header (w.logger logger).file.count (w.logger logger).file.last batch
   pub entries : batch.entries ≡ drop batch.first (stream life.plan.loggers logger w.history)
   pub later : w.found ≤ batch.mark + 1
