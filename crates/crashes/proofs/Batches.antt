@@ -32,41 +32,41 @@ module _ (life : Life) (w : World) (k : ℕ) (batch : BatchView) (old : List Bod
     (lane : FitsLane (header_of life k) life.past w.found (stream life.plan.loggers k w.history) old landed (w.logger k).file Idle local)
     (may : MayTake life w k batch)
   where
-  waits : batch.entries ≡ lane.waiting
-  waits = all_that_waits (header_of life k) life.past w.found (stream life.plan.loggers k w.history) old landed (w.logger k).file local batch lane
-      may.continues may.entries
+    waits : batch.entries ≡ lane.waiting
+    waits = all_that_waits (header_of life k) life.past w.found (stream life.plan.loggers k w.history) old landed (w.logger k).file local batch lane
+        may.continues may.entries
 
-  -- what holds of a logger's entries holds of those in the batch
-  of_stream : (P : Entry → Type 0) → All P (stream life.plan.loggers k w.history) → All P batch.entries
-  of_stream P all = subst (All P) (sym waits) (all_behind P (taken landed) lane.waiting (subst (All P) lane.all all))
+    -- what holds of a logger's entries holds of those in the batch
+    of_stream : (P : Entry → Type 0) → All P (stream life.plan.loggers k w.history) → All P batch.entries
+    of_stream P all = subst (All P) (sym waits) (all_behind P (taken landed) lane.waiting (subst (All P) lane.all all))
 
-  of_history : (P : Entry → Type 0) → All P w.history → All P batch.entries
-  of_history P all = of_stream P (All-filter (λ (e : Entry). e.terminal % life.plan.loggers == k) P w.history all)
+    of_history : (P : Entry → Type 0) → All P w.history → All P batch.entries
+    of_history P all = of_stream P (All-filter (λ (e : Entry). e.terminal % life.plan.loggers == k) P w.history all)
 
-  pub is_batch : Replays (life.past + 1) life.first w.history → AreStamped w.history → All (IsFit life.first.scale) w.history
-      → All (λ e. epoch_of e.tid ≤ w.found) w.history → w.epoch ≤ last_epoch → IsBatch batch
-  is_batch replays stamped fit epochs ends =
-      let header = lane.header in
-      let logger : batch.logger ≡ k = may.continues.logger ∙ ap (λ (h : HeaderView). h.logger) header in
-      let loggers : batch.loggers ≡ life.plan.loggers = may.continues.loggers ∙ ap (λ (h : HeaderView). h.loggers) header in
-      let scale : batch.scale ≡ life.first.scale = may.continues.scale ∙ ap (λ (h : HeaderView). h.scale) header in
-      let own = of_stream (λ (e : Entry). (e.terminal % life.plan.loggers == k) ≡ true) (filter_passes (λ (e : Entry). e.terminal % life.plan.loggers == k) w.history) in
-      let fits = of_history (IsFit life.first.scale) fit in
-      let found = of_history (λ (e : Entry). epoch_of e.tid ≤ w.found) epochs in
-      let above : All (λ (e : Entry). (w.logger k).file.last.mark < epoch_of e.tid) batch.entries
-      = subst (All (λ (e : Entry). (w.logger k).file.last.mark < epoch_of e.tid)) (sym waits) lane.above in
-      record {
-        logger = omega (arith, logger, loggers, may.within);
-        few = omega (arith, loggers, lane.disk.file.header.loggers.1);
-        rise = stream_rises life.past life.first w.history (λ (e : Entry). e.terminal % life.plan.loggers == k) (taken landed) batch.entries
-            batch.number_before replays (lane.all ∙ ap (λ (l : List Entry). taken landed ++ l) (sym waits))
-            (omega (arith, may.continues.number_before, lane.number));
-        cap = λ i d lt. subst (λ (s : Sizes). (slice_index_or batch.entries i d).number ≤ s.commits) (sym scale) (fits i d lt).cap;
-        stamped = stream_stamped w.history (λ (e : Entry). e.terminal % life.plan.loggers == k) (taken landed) batch.entries stamped
-            (lane.all ∙ ap (λ (l : List Entry). taken landed ++ l) (sym waits));
-        epochs = λ i d lt. (omega (arith, may.continues.mark_before, above i d lt), omega (arith, may.later, found i d lt));
-        marks_rise = omega (arith, may.continues.mark_before, lane.low, may.later);
-        last_mark = omega (arith, may.loaded, ends);
-        asked = λ i d lt. ((fits i d lt).asked, ap (λ (n : ℕ). (slice_index_or batch.entries i d).terminal % n) loggers ∙ eqb-true _ k (own i d lt) ∙ sym logger);
-        each = λ i d lt. subst (λ (s : Sizes). IsLoggable s (slice_index_or batch.entries i d)) (sym scale) (fits i d lt).loggable;
-      }
+    pub is_batch : Replays (life.past + 1) life.first w.history → AreStamped w.history → All (IsFit life.first.scale) w.history
+        → All (λ e. epoch_of e.tid ≤ w.found) w.history → w.epoch ≤ last_epoch → IsBatch batch
+    is_batch replays stamped fit epochs ends =
+        let header = lane.header in
+        let logger : batch.logger ≡ k = may.continues.logger ∙ ap (λ (h : HeaderView). h.logger) header in
+        let loggers : batch.loggers ≡ life.plan.loggers = may.continues.loggers ∙ ap (λ (h : HeaderView). h.loggers) header in
+        let scale : batch.scale ≡ life.first.scale = may.continues.scale ∙ ap (λ (h : HeaderView). h.scale) header in
+        let own = of_stream (λ (e : Entry). (e.terminal % life.plan.loggers == k) ≡ true) (filter_passes (λ (e : Entry). e.terminal % life.plan.loggers == k) w.history) in
+        let fits = of_history (IsFit life.first.scale) fit in
+        let found = of_history (λ (e : Entry). epoch_of e.tid ≤ w.found) epochs in
+        let above : All (λ (e : Entry). (w.logger k).file.last.mark < epoch_of e.tid) batch.entries
+        = subst (All (λ (e : Entry). (w.logger k).file.last.mark < epoch_of e.tid)) (sym waits) lane.above in
+        record {
+          logger = omega (arith, logger, loggers, may.within);
+          few = omega (arith, loggers, lane.disk.file.header.loggers.1);
+          rise = stream_rises life.past life.first w.history (λ (e : Entry). e.terminal % life.plan.loggers == k) (taken landed) batch.entries
+              batch.number_before replays (lane.all ∙ ap (λ (l : List Entry). taken landed ++ l) (sym waits))
+              (omega (arith, may.continues.number_before, lane.number));
+          cap = λ i d lt. subst (λ (s : Sizes). (slice_index_or batch.entries i d).number ≤ s.commits) (sym scale) (fits i d lt).cap;
+          stamped = stream_stamped w.history (λ (e : Entry). e.terminal % life.plan.loggers == k) (taken landed) batch.entries stamped
+              (lane.all ∙ ap (λ (l : List Entry). taken landed ++ l) (sym waits));
+          epochs = λ i d lt. (omega (arith, may.continues.mark_before, above i d lt), omega (arith, may.later, found i d lt));
+          marks_rise = omega (arith, may.continues.mark_before, lane.low, may.later);
+          last_mark = omega (arith, may.loaded, ends);
+          asked = λ i d lt. ((fits i d lt).asked, ap (λ (n : ℕ). (slice_index_or batch.entries i d).terminal % n) loggers ∙ eqb-true _ k (own i d lt) ∙ sym logger);
+          each = λ i d lt. subst (λ (s : Sizes). IsLoggable s (slice_index_or batch.entries i d)) (sym scale) (fits i d lt).loggable;
+        }

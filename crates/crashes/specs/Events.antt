@@ -46,8 +46,8 @@ pub record MayCommit (life : Life) (w : World) (entry : Entry) : Type 0 where
   pub later : w.found ≤ epoch_of entry.tid
   pub loaded : epoch_of entry.tid ≤ w.epoch
 
--- an idle logger may be given this batch, where E is loaded now and the mark is one below it: the batch begins where the
--- file ends, and is the rest of the logger's stream
+-- an idle logger may be given this batch, where E is loaded now and the mark is one below it: the batch begins where
+-- the file ends, and is the rest of the logger's stream
 pub record MayTake (life : Life) (w : World) (logger : ℕ) (batch : BatchView) : Type 0 where
   pub within : logger < life.plan.loggers
   pub idle : (w.logger logger).flight ≡ Idle
