@@ -1,8 +1,8 @@
 -- What an idle logger may be given is a batch, as a log file asks.
-use Rattle.std.proofs.Common.{◌≡◌, ℕ, ◌+◌, ◌%◌, ◌<◌, ◌≤◌, ◌==◌, true, List, [], ◌∷◌, ◌++◌, slice_index_or, refl, sym, ap, ◌∙◌, subst, arith}
+use Rattle.std.proofs.Common.{◌≡◌, ℕ, ◌+◌, ◌%◌, ◌<◌, ◌≤◌, ◌==◌, true, List, ◌++◌, slice_index_or, sym, ap, ◌∙◌, subst, arith}
 use Rattle.std.specs.List.{All}
 use Rattle.std.proofs.lemmas.Bool.{eqb-true}
-use Rattle.std.proofs.lemmas.List.Elements.{All-filter, All-weaker, filter_passes}
+use Rattle.std.proofs.lemmas.List.Elements.{All-filter, filter_passes}
 use Rattle.tables.specs.Sizes.{Sizes}
 use Rattle.tidword.specs.TidWord.{epoch_of}
 use Rattle.board.specs.Words.{last_epoch}
@@ -15,8 +15,7 @@ use Rattle.book.specs.Stamps.{AreStamped}
 use Rattle.book.specs.Streams.{stream}
 use Rattle.book.specs.declared.entry.Entry.{Entry}
 use Rattle.book.specs.declared.engine.TheConstants.{MAX_TERMINALS}
-use Rattle.logfile.specs.Standing.{LogFileView}
-use Rattle.crashes.specs.World.{Life, DiskView, Flight, Idle, World, header_of}
+use Rattle.crashes.specs.World.{Life, Idle, World, header_of}
 use Rattle.crashes.specs.Events.{MayTake}
 use Rattle.crashes.proofs.Lists.{all_behind}
 use Rattle.crashes.proofs.Histories.{stream_rises, stream_stamped}
