@@ -1,4 +1,4 @@
-mod Tearing
-mod Moments
-mod Staging
-mod Appending
+pub mod Tearing
+pub mod Moments
+pub mod Staging
+pub mod Appending

@@ -1,2 +1,3 @@
 pub mod Staged
 pub mod Standing
+pub mod Called

@@ -9,6 +9,7 @@ ghost use Rattle.log_header.specs.Header.{header_text};
 ghost use Rattle.log_text.specs.Bodies.{BodyView, body_after, body_text, start};
 ghost use Rattle.log_text.specs.declared.last.Last.{Last};
 ghost use Rattle.log_entries.specs.Following.{Continues, behind_batch, body_of_batch};
+ghost use Rattle.logfile.specs.Called.{StoreLeft};
 ghost use Rattle.logfile.specs.Standing.{Stands, IsWithOrWithout, IsKept};
 
 use crate::storing::store;
@@ -179,7 +180,10 @@ impl<D: Disk> LogFile<D> {
             → LeavesOnly (IsWithOrWithout self.old.header bodies (body_of_batch batch.now)) (D.story self.old.disk)
             (D.story self.new.disk) }
         ensures calls { D.is_modelled
-            → OnOk result (length (D.story self.new.disk) ≡ length (D.story self.old.disk) + 4) }
+            → StoreLeft result self.old.end (body_text (body_of_batch batch.now) ++ CLOSED ∷ []) (D.seen self.old.disk)
+            (D.story self.old.disk) (D.seen self.new.disk) (D.story self.new.disk) }
+        ensures end { OnOk result (self.new.end
+            ≡ self.old.end + length (body_text (body_of_batch batch.now) ++ CLOSED ∷ [])) }
         ensures memory { IsErrOf result OutOfMemory → self.new ≡ self.old }
         ensures device { IsErrOf result Device → (self.new.failed ≡ true) × (self.new.last ≡ self.old.last)
             × (self.new.count ≡ self.old.count) }
@@ -226,8 +230,9 @@ impl<D: Disk> LogFile<D> {
             → body_after self.old.header self.old.last body ≡ Some now
             → LeavesOnly (IsWithOrWithout self.old.header bodies body) (D.story self.old.disk)
             (D.story self.new.disk) }
-        ensures calls { D.is_modelled
-            → OnOk result (length (D.story self.new.disk) ≡ length (D.story self.old.disk) + 4) }
+        ensures calls { D.is_modelled → StoreLeft result self.old.end text.now (D.seen self.old.disk)
+            (D.story self.old.disk) (D.seen self.new.disk) (D.story self.new.disk) }
+        ensures end { OnOk result (self.new.end ≡ self.old.end + length text.now) }
         ensures cause { Counts result (D.failed self.old.disk) (D.failed self.new.disk) }
     {
         match store(&mut self.disk, self.end, text) {

@@ -2,6 +2,7 @@
 ghost use Rattle.std.specs.Prelude.{◌≡◌, ℕ, ◌+◌, ◌^◌, ◌<◌, ◌≤◌, List, ◌∷◌, ◌++◌, length, drop, IsErr, OnOk};
 ghost use Rattle.disk.specs.Calls.{written, Counts};
 ghost use Rattle.disk.specs.Crashes.{Torn, MayLeave, LeavesOnly};
+ghost use Rattle.logfile.specs.Called.{PutLeft, StoreLeft};
 ghost use Rattle.logfile.specs.Staged.{IsSettled, HasGate, IsStaged};
 
 use disk::Disk;
@@ -25,7 +26,8 @@ pub(crate) fn put<D: Disk>(disk: &mut D, at: u64, bytes: &[u8]) -> Result<(), Re
     ensures moments { D.is_modelled
         → LeavesOnly (Torn at (length bytes.now) (D.seen disk.old)) (D.story disk.old) (D.story disk.new) }
     ensures may_stay { D.is_modelled → IsErr result → MayLeave (D.story disk.new) (D.seen disk.old) }
-    ensures calls { D.is_modelled → OnOk result (length (D.story disk.new) ≡ length (D.story disk.old) + 2) }
+    ensures calls { D.is_modelled → PutLeft result at bytes.now (D.seen disk.old) (D.story disk.old)
+        (D.seen disk.new) (D.story disk.new) }
     ensures fits { OnOk result (at + length bytes.now < 2 ^ 63) }
     ensures cause { Counts result (D.failed disk.old) (D.failed disk.new) }
 {
@@ -54,7 +56,8 @@ pub(crate) fn store<D: Disk>(disk: &mut D, end: u64, text: &[u8]) -> Result<(), 
     ensures may_stay { D.is_modelled → (front : List ℕ) (gate : ℕ) (rest : List ℕ)
         → HasGate end front gate rest (D.seen disk.old)
         → IsErr result → (behind : List ℕ) × MayLeave (D.story disk.new) (front ++ gate ∷ behind) }
-    ensures calls { D.is_modelled → OnOk result (length (D.story disk.new) ≡ length (D.story disk.old) + 4) }
+    ensures calls { D.is_modelled → StoreLeft result end text.now (D.seen disk.old) (D.story disk.old)
+        (D.seen disk.new) (D.story disk.new) }
     ensures fits { OnOk result (end + 1 + length text.now < 2 ^ 63) }
     ensures cause { Counts result (D.failed disk.old) (D.failed disk.new) }
 {

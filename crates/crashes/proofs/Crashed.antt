@@ -1,0 +1,84 @@
+-- What recovery finds after a crash.
+use Rattle.std.proofs.Common.{◌≡◌, ℕ, suc, ◌+◌, ◌-◌, ◌%◌, ◌<◌, ◌≤◌, ◌==◌, false, List, [], ◌++◌, filter, map, refl, sym, ap, ◌∙◌, subst, arith, append-nil}
+use Rattle.std.specs.List.{All, Contains}
+use Rattle.std.proofs.lemmas.Bool.{le-leb, lt-leb}
+use Rattle.std.proofs.lemmas.List.Elements.{All-weaker, filter-append}
+use Rattle.tidword.specs.TidWord.{epoch_of}
+use Rattle.log_text.specs.Entries.{EntryView}
+use Rattle.book.specs.Batches.{BatchView}
+use Rattle.book.specs.Streams.{stream}
+use Rattle.book.specs.History.{Replays}
+use Rattle.book.specs.Stamps.{AreStamped}
+use Rattle.book.specs.declared.entry.Entry.{Entry}
+use Rattle.log_entries.specs.Logged.{entry_of}
+use Rattle.crashes.specs.World.{Life, World, header_of}
+use Rattle.crashes.specs.Recovering.{Crashes, Recovers, counts, cut, counted, last_mark}
+use Rattle.crashes.proofs.Lists.{IsLeast, least_of, chosen_below, none_kept, kept_if_there, tests_commute, test_of_map}
+use Rattle.crashes.proofs.Histories.{replays_front, stamped_front, cut_begins}
+use Rattle.crashes.proofs.Lanes.{IsLeft, lane_left, taken, bodies_of}
+use Rattle.crashes.proofs.Sound.{IsSound, MayTell, local_of}
+
+-- a file's entries up to a durable epoch that is no later than its last mark
+held_up_to : (life : Life) (w : World) (l durable : ℕ) (bytes : List ℕ) (batches : List BatchView)
+    → IsLeft (header_of life l) (stream life.plan.loggers l w.history) [] (local_of w l) bytes batches
+    → durable ≤ last_mark 0 (bodies_of batches)
+    → counted durable (bodies_of batches) ≡ map (entry_of life.first.scale) (stream life.plan.loggers l (cut durable w.history))
+held_up_to life w l durable bytes batches left low =
+    let none : All (λ (e : Entry). counts durable e.tid ≡ false) left.behind
+    = λ k d lt. lt-leb _ durable (omega (arith, low, left.above k d lt)) in
+    ap (filter (λ (e : EntryView). counts durable e.tid)) left.logged
+    ∙ test_of_map (λ (e : EntryView). counts durable e.tid) (entry_of life.first.scale) (taken batches)
+    ∙ ap (map (entry_of life.first.scale))
+    (sym (append-nil (cut durable (taken batches)))
+    ∙ ap (λ (r : List Entry). cut durable (taken batches) ++ r) (sym (none_kept (λ (e : Entry). counts durable e.tid) left.behind none))
+    ∙ sym (filter-append (λ (e : Entry). counts durable e.tid) (taken batches) left.behind)
+    ∙ ap (cut durable) (sym left.all)
+    ∙ tests_commute (λ (e : Entry). counts durable e.tid) (λ (e : Entry). e.terminal % life.plan.loggers == l) w.history)
+
+module _ (life : Life) (w : World) (sound : IsSound life (λ l. []) w) (strings : ℕ → List ℕ) (crash : Crashes life w strings) where
+  abbrev IsLeftAt : ℕ → List BatchView → Type 0
+  IsLeftAt l batches = IsLeft (header_of life l) (stream life.plan.loggers l w.history) [] (local_of w l) (strings l) batches
+
+  left_at : (l : ℕ) → l < life.plan.loggers → (batches : List BatchView) × IsLeftAt l batches
+  left_at l lt = lane_left (header_of life l) life.past w.found (stream life.plan.loggers l w.history) [] (sound.landed l) (w.logger l).file (local_of w l)
+      (strings l) (w.logger l).flight (sound.lanes l lt) (crash l lt)
+
+  -- by what the files are, and the least of their last marks
+  recovers_by : (batches : ℕ → List BatchView) → ((l : ℕ) → l < life.plan.loggers → IsLeftAt l (batches l)) → (durable : ℕ)
+      → IsLeast life.plan.loggers (λ l. last_mark 0 (bodies_of (batches l))) durable → Recovers life w strings
+  recovers_by batches left durable is =
+      let front = cut_begins durable w.history sound.stamped in
+      let low : w.durable ≤ durable = omega (
+        arith,
+        sound.durable is.among.0 is.among.1,
+        (left is.among.0 is.among.1).kept,
+        is.among.2,
+      ) in
+      record {
+        left = λ l. bodies_of (batches l);
+        durable = durable;
+        rest = front.0;
+        files = λ l lt. (left l lt).file;
+        is_durable = record { among = is.among; least = is.below };
+        no_less = low;
+        beginning = front.1;
+        legal = record {
+          replays = replays_front (life.past + 1) life.first (cut durable w.history) front.0
+              (subst (Replays (life.past + 1) life.first) front.1 sound.replays);
+          end = refl;
+        };
+        stamped = stamped_front (cut durable w.history) front.0 (subst AreStamped front.1 sound.stamped);
+        held = λ l lt. held_up_to life w l durable (strings l) (batches l) (left l lt) (is.below l lt);
+        released = All-weaker (MayTell w) (Contains (cut durable w.history))
+            (λ e tell. kept_if_there (λ (d : Entry). counts durable d.tid) w.history e tell.0
+            (le-leb (epoch_of e.tid) durable (omega (arith, tell.1, low))))
+            w.released sound.released;
+      }
+
+  pub recovers : 0 < life.plan.loggers → Recovers life w strings
+  recovers some =
+      let all = chosen_below life.plan.loggers IsLeftAt [] left_at in
+      let e : suc (life.plan.loggers - 1) ≡ life.plan.loggers = omega (arith, some) in
+      let least = least_of (life.plan.loggers - 1) (λ l. last_mark 0 (bodies_of (all.0 l))) in
+      recovers_by all.0 all.1 least.0
+      (subst (λ (m : ℕ). IsLeast m (λ l. last_mark 0 (bodies_of (all.0 l))) least.0) e least.1)

@@ -1,0 +1,9 @@
+mod Lists
+mod Marks
+mod Histories
+mod Disks
+mod Lanes
+mod Batches
+mod Sound
+mod Opened
+mod Crashed
