@@ -42,7 +42,8 @@ impl Deck {
     ghost use Rattle.tables.specs.OrderStatus.{IsOrderStatus};
     ghost use Rattle.tables.specs.Delivery.{IsDelivery};
     ghost use Rattle.tables.specs.StockLevel.{IsStockLevel};
-    ghost use Rattle.tables.specs.declared.limits.TheConstants.{MIN_ORDER_LINES, MAX_ORDER_LINES, MIN_PAYMENT, MAX_PAYMENT};
+    ghost use Rattle.tables.specs.declared.limits.TheConstants.{MIN_ORDER_LINES, MAX_ORDER_LINES, MIN_PAYMENT};
+    ghost use Rattle.tables.specs.declared.limits.TheConstants.{MAX_PAYMENT};
     ghost use Rattle.deck.specs.Deck.{scale_of, home_of, date_of, home_warehouse, IsAskedAt, IsDrawnOrder, IsSameDeck};
 
     /// The deck of a terminal. Its home warehouse is the remainder of the terminal's number by that of warehouses,
