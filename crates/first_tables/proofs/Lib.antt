@@ -1,0 +1,13 @@
+mod Added
+mod Lists
+mod OrdersAdded
+mod DistrictsAdded
+mod TableRows
+mod Whole
+mod Sums
+mod Parts
+mod OrderNumbers
+mod PlainRows
+mod Sound
+mod OrdersConsistent
+mod Consistent

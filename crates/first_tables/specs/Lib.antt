@@ -1,0 +1,4 @@
+pub mod Plain
+pub mod Seeded
+pub mod First
+pub mod Adds

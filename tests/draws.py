@@ -1,0 +1,179 @@
+#!/usr/bin/env python3
+"""Prints the rows of a small seeded population and the first inputs of a deck, from their definitions alone.
+
+    python3 tests/draws.py > crates/drawn/stdout
+
+The program crates/drawn must print the same. This program shares nothing with it: the generator is PCG XSH RR 64/32
+(O'Neill 2014), and numbers of a range and shuffles are as the Rust crate rand 0.10 makes them. What isn't drawn is left
+out.
+"""
+
+WORD = 1 << 32
+SEED, TERMINAL, INPUTS = 7, 1, 60
+WAREHOUSES, DISTRICTS, CUSTOMERS, ITEMS = 2, 2, 12, 20
+POPULATION_STREAM = 1000
+LAST_NAME, CUSTOMER, ITEM = (255, 100), (1023, 500), (8191, 4000)
+
+
+class Draws:
+    """Draws of a stream of a seed."""
+
+    def __init__(self, seed, stream):
+        self.increment = (stream << 1 | 1) % (1 << 64)
+        self.state = (seed + self.increment) % (1 << 64)
+        self.step()
+
+    def step(self):
+        self.state = (self.state * 6364136223846793005 + self.increment) % (1 << 64)
+
+    def word(self):
+        old = self.state
+        self.step()
+        shifted, turn = ((old >> 18 ^ old) >> 27) % WORD, old >> 59
+        return (shifted >> turn | shifted << (32 - turn)) % WORD
+
+    def below(self, count):
+        """Canon's method, with one more word where the first leaves it open."""
+        high, low = divmod(self.word() * count, WORD)
+        if low > WORD - count and low + (self.word() * count >> 32) >= WORD:
+            high += 1
+        return high
+
+    def number(self, low, high):
+        return low + self.below(high - low + 1)
+
+    def skewed(self, spread_and_constant, low, high):
+        """NURand (TPC-C 2.1.6)."""
+        spread, constant = spread_and_constant
+        a = self.number(0, spread)
+        b = self.number(low, high)
+        return ((a | b) + constant) % (high - low + 1) + low
+
+    def happens(self, chance, of):
+        return self.number(1, of) <= chance
+
+    def shuffle(self, items):
+        """Each item changes places with one of those up to it; one draw serves several places."""
+        chunk, left = 0, 1
+        for place in range(len(items)):
+            choices = place + 1
+            if left == 0:
+                product, left, following = choices, 1, choices + 1
+                while product * following < WORD:
+                    product, left, following = product * following, left + 1, following + 1
+                chunk = self.below(product)
+            left -= 1
+            chunk, other = (chunk, chunk) if left == 0 else divmod(chunk, choices)
+            items[place], items[other] = items[other], items[place]
+
+
+class Population:
+    """The drawn columns of each table's rows, behind their keys."""
+
+    def __init__(self):
+        self.draws = Draws(SEED, POPULATION_STREAM)
+        self.rows = {}
+        for item in range(1, ITEMS + 1):
+            self.add("item", item, self.draws.number(100, 10000))
+        for warehouse in range(1, WAREHOUSES + 1):
+            self.add("warehouse", warehouse, self.draws.number(0, 2000))
+            for item in range(1, ITEMS + 1):
+                self.add("stock", warehouse, item, self.draws.number(10, 100))
+            for district in range(1, DISTRICTS + 1):
+                self.add_district(warehouse, district)
+
+    def add(self, table, *columns):
+        self.rows.setdefault(table, []).append(columns)
+
+    def add_district(self, warehouse, district):
+        draws = self.draws
+        self.add("district", warehouse, district, draws.number(0, 2000))
+        for customer in range(1, CUSTOMERS + 1):
+            first_name = draws.number(0, 9999)
+            last_name = customer - 1 if customer <= 1000 else draws.skewed(LAST_NAME, 0, 999)
+            discount = draws.number(0, 5000)
+            credit = "BC" if draws.happens(1, 10) else "GC"
+            self.add("customer", warehouse, district, customer, first_name, last_name, discount, credit)
+        customers = list(range(1, CUSTOMERS + 1))
+        draws.shuffle(customers)
+        for order, customer in enumerate(customers, 1):
+            self.add_order(warehouse, district, order, customer)
+
+    def add_order(self, warehouse, district, order, customer):
+        draws = self.draws
+        is_delivered = order <= 7 * CUSTOMERS // 10
+        count = draws.number(5, 15)
+        carrier = draws.number(1, 10) if is_delivered else 0
+        self.add("order", warehouse, district, order, customer, carrier, count)
+        for line in range(1, count + 1):
+            item = draws.number(1, ITEMS)
+            amount = 0 if is_delivered else draws.number(1, 999999)
+            self.add("line", warehouse, district, order, line, item, amount)
+
+    def print(self):
+        for table in ("item", "warehouse", "stock", "district", "customer", "order", "line"):
+            for columns in self.rows[table]:
+                print(table, *columns)
+
+
+class Deck:
+    """The inputs of a terminal."""
+
+    def __init__(self):
+        self.draws = Draws(SEED, TERMINAL)
+        self.home = TERMINAL % WAREHOUSES + 1
+
+    def other_warehouse(self, chance):
+        if not self.draws.happens(chance, 100) or WAREHOUSES < 2:
+            return None
+        return (self.home - 1 + self.draws.number(1, WAREHOUSES - 1)) % WAREHOUSES + 1
+
+    def who(self):
+        if self.draws.happens(60, 100):
+            return f"last {self.draws.skewed(LAST_NAME, 0, min(CUSTOMERS, 1000) - 1)}"
+        return f"id {self.draws.skewed(CUSTOMER, 1, CUSTOMERS)}"
+
+    def print_next(self, date):
+        draws, kind = self.draws, self.draws.number(1, 100)
+        if kind <= 45:
+            self.print_new_order(date)
+        elif kind <= 88:
+            self.print_payment(date)
+        elif kind <= 92:
+            print("order-status", date, self.home, draws.number(1, DISTRICTS), self.who())
+        elif kind <= 96:
+            print("delivery", date, self.home, draws.number(1, 10))
+        else:
+            print("stock-level", date, self.home, draws.number(1, DISTRICTS), draws.number(10, 20))
+
+    def print_new_order(self, date):
+        draws = self.draws
+        number = draws.number(1, DISTRICTS)
+        customer = draws.skewed(CUSTOMER, 1, CUSTOMERS)
+        count = draws.number(5, 15)
+        is_rolled_back = draws.happens(1, 100)
+        lines = []
+        for line in range(1, count + 1):
+            item = draws.skewed(ITEM, 1, ITEMS)
+            supply = self.other_warehouse(1) or self.home
+            if is_rolled_back and line == count:
+                item = ITEMS + 1
+            lines.append(f"{item}:{supply}:{draws.number(1, 10)}")
+        print("new-order", date, self.home, number, customer, *lines)
+
+    def print_payment(self, date):
+        number = self.draws.number(1, DISTRICTS)
+        warehouse, district_of = self.other_warehouse(15), number
+        if warehouse is None:
+            warehouse = self.home
+        else:
+            district_of = self.draws.number(1, DISTRICTS)
+        who = self.who()
+        print("payment", date, self.home, number, warehouse, district_of, who, self.draws.number(100, 500000))
+
+
+if __name__ == "__main__":
+    Population().print()
+    deck = Deck()
+    for k in range(1, INPUTS + 1):
+        deck.print_next(k)
