@@ -1,0 +1,7 @@
+mod Elements
+mod Numbered
+mod Parts
+mod Logged
+mod Rows
+mod Walk
+mod Recovered
