@@ -1,3 +1,4 @@
+mod Places
 mod Elements
 mod Numbered
 mod Parts

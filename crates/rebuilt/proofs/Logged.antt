@@ -10,10 +10,9 @@ use Rattle.std.proofs.lemmas.Map.Keys.{IsDistinct-from_sorted}
 use Rattle.std.proofs.lemmas.Map.Lookups.{exact_unsigned}
 use Rattle.std.proofs.lemmas.Map.Views.{Contains-from_lookup, lookup-from_Contains, tells_apart}
 use Rattle.tables.specs.Sizes.{Sizes, IsScale}
-use Rattle.tables.specs.Records.{key_of, key_at, number_of_key, record_count, table_at, place_at, table_number, first_number}
+use Rattle.tables.specs.Records.{record_number, record_count, table_at, place_at, table_number, first_number}
 use Rattle.tables.specs.declared.rows.History.{History}
 use Rattle.tables.specs.declared.records.Table.TheVariants as table
-use Rattle.tables.proofs.Numbers.{numbered}
 use Rattle.readset.specs.Writes.{WriteSetView, value_for, added}
 use Rattle.book.specs.Loggable.{IsLoggable}
 use Rattle.book.specs.declared.entry.Entry.{Entry}
@@ -23,6 +22,7 @@ use Rattle.log_text.specs.declared.write.Write.{Write}
 use Rattle.log_entries.specs.Logged.{write_at, history_write, is_before_history, is_behind_history, writes_of, entry_of}
 use Rattle.log_entries.proofs.Turns.{before_history, behind_history}
 use Rattle.rebuilt.specs.Rebuilt.{number_of, Leaves}
+use Rattle.rebuilt.proofs.Places.{number_back}
 use Rattle.rebuilt.proofs.Elements.{Has, has_from, has_to, has_left, has_right, has_either, passed, passes, mapped, maps}
 
 abbrev pub Value : Type 0
@@ -56,8 +56,8 @@ module _ (s : Sizes) (scale : IsScale s) (e : Entry) (ok : IsLoggable s e) where
       let found = of_value h.write (has_from _ h.write h.among) h.of_record in
       let v = found.0 in
       let here = distinct v found.1 in
-      let number : number_of_key s (key_of s v.0) ≡ n = ap (number_of s) found.2 ∙ h.number in
-      let same : v.0 ≡ n = sym ((numbered s v.0 (ok.records v.0 v.1 here)).1) ∙ number in
+      let number : record_number s (table_at s v.0) (place_at s v.0) ≡ n = ap (number_of s) found.2 ∙ h.number in
+      let same : v.0 ≡ n = sym (number_back s v.0 (ok.records v.0 v.1 here)) ∙ number in
       subst (λ (m : ℕ). value_for e.writes m ≡ Some value) same (here ∙ ap (λ (w : Write). Some w.words) found.2 ∙ ap Some h.words)
 
   -- its record isn't HISTORY's
@@ -74,7 +74,7 @@ module _ (s : Sizes) (scale : IsScale s) (e : Entry) (ok : IsLoggable s e) where
     write = write_at s (n, value);
     among = has_to _ (write_at s (n, value)) among;
     of_record = no_history n (ok.records n value here);
-    number = (numbered s n (ok.records n value here)).1;
+    number = number_back s n (ok.records n value here);
     words = refl;
   }
     where

@@ -5,7 +5,7 @@ use Rattle.std.specs.List.{Contains}
 use Rattle.std.specs.List.Sorted.{IsPermutation}
 use Rattle.tables.specs.Sizes.{Sizes}
 use Rattle.tables.specs.Database.{Database}
-use Rattle.tables.specs.Records.{number_of_key, key_at}
+use Rattle.tables.specs.Records.{record_number}
 use Rattle.tables.specs.Rows.{rows, money_of}
 use Rattle.tables.specs.declared.rows.History.{History}
 use Rattle.tables.specs.declared.records.Table.{Table}
@@ -17,7 +17,7 @@ use Rattle.log_text.specs.declared.write.Write.{Write}
 
 -- the number of the record that a write is of
 abbrev pub number_of : Sizes → Write → ℕ
-number_of s w = number_of_key s (key_at s w.table w.place)
+number_of s w = record_number s w.table w.place
 
 -- an entry leaves this in the record of this number
 pub record Leaves (s : Sizes) (e : EntryView) (n : ℕ) (value : Option (List ℕ)) : Type 0 where
