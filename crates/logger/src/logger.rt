@@ -1,6 +1,6 @@
 //! A logger, and its turn.
-ghost use Rattle.std.specs.Prelude.{◌≡◌, ◌≢◌, ◌+◌, ◌^◌, ◌≤◌, ◌↔◌, false, true, List, [], ◌∷◌, ◌++◌, length, min};
-ghost use Rattle.std.specs.Prelude.{IsTrue, IfOk, IfErr, OnOk, OnErr, IsErrOf};
+ghost use Rattle.std.specs.Prelude.{◌≡◌, ◌≢◌, ◌+◌, ◌-◌, ◌^◌, ◌≤◌, ◌↔◌, false, true, List, [], ◌∷◌, ◌++◌};
+ghost use Rattle.std.specs.Prelude.{length, min, IsTrue, IfOk, IfErr, OnOk, OnErr, IsErrOf};
 ghost use Rattle.money.specs.declared.refusal.Refusal.TheVariants.{OutOfMemory, Device};
 ghost use Rattle.disk.specs.Crashes.{LeavesOnly};
 ghost use Rattle.log_text.specs.Bodies.{BodyView};
@@ -129,9 +129,19 @@ impl<D: Disk> Logger<D> {
         // Who reads a batch's entries knows its rules: its mark is no lower than the one before.
         let _ = batch.entries();
         self.file.append(batch)?;
-        board.set_local(&mut self.seat, &self.file);
-        Ok(board.publish(&mut self.seat))
+        Ok(publish_kept(board, &mut self.seat, &self.file))
     }
+}
+
+/// Makes what a file keeps its logger's local mark; then raises D to the least local mark, and answers that.
+fn publish_kept<D: Disk>(board: &Board, seat: &mut LoggerSeat, file: &LogFile<D>) -> u64
+    requires board { seat.old.board ≡ board.now }
+    requires own { IsLoggerOf file.now.header file.now.last.mark seat.old }
+    ensures marks { MarksAndPublishes file.now.header file.now.last.mark seat.old result seat.new }
+    ensures own { IsLoggerOf file.now.header file.now.last.mark seat.new }
+{
+    board.set_local(seat, file);
+    board.publish(seat)
 }
 
 /// Whether a batch is of the logger and the population that a header names.
