@@ -100,14 +100,9 @@ impl<K: Run> Desk<K> {
     ) -> Result<Done, Refusal> {
         let work = payment(rt, alloc, engine, &mut self.reader, cents)?;
         let (board, cells) = (engine.board(), engine.cells());
-        engine.lock(rt).commit(
-            rt,
-            board,
-            cells,
-            &mut self.reader,
-            &mut self.share,
-            work,
-        )
+        engine
+            .lock(rt)
+            .commit(rt, board, cells, &mut self.reader, &mut self.share, work)
     }
 
     /// How many replies are released.

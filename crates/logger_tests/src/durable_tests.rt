@@ -88,7 +88,12 @@ fn rounds_of<K: Run, R: Wait>(
     requires loggers { (loggers_of parts ≡ 2) × (base_of parts ≡ 0) }
 {
     let (mut stage, seats) = open::<K>(alloc, parts)?;
-    let mut both = both(alloc, stage.engine.population(), seats, stage.engine.board())?;
+    let mut both = both(
+        alloc,
+        stage.engine.population(),
+        seats,
+        stage.engine.board(),
+    )?;
     rounds(rt, alloc, &mut stage, &mut both)
 }
 

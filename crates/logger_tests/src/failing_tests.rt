@@ -93,7 +93,12 @@ fn rounds<K: Run, R: Wait, D: Disk + Drop>(
 /// How many entries the file on a disk has.
 fn entries_of<D: Disk>(alloc: Global, disk: &mut D) -> Result<usize, Refusal> {
     let (_, bodies) = scan(alloc, disk)?;
-    Ok(bodies.iter().filter(|body| !body.entries.is_empty()).count())
+    Ok(
+        bodies
+            .iter()
+            .filter(|body| !body.entries.is_empty())
+            .count(),
+    )
 }
 
 /// A disk of which the call fails that comes after so many.
@@ -123,7 +128,10 @@ fn a_disk_that_fails_in_the_first_turn(rt: HostRuntime) -> Result<(), Fail> {
         let mut disk = failing_after(rt.alloc(), calls);
         let result = rounds::<Brand, _, _>(&rt, rt.alloc(), parts, &mut disk)?;
         assert_eq!(rt; result, (FAILED, None));
-        assert_eq!(rt; entries_of(rt.alloc(), &mut disk)?, if calls == 5 { 1 } else { 0 });
+        assert_eq!(rt;
+            entries_of(rt.alloc(), &mut disk)?,
+            if calls == 5 { 1 } else { 0 }
+        );
     }
     Ok(())
 }
@@ -139,7 +147,10 @@ fn a_disk_that_fails_in_the_second_turn(rt: HostRuntime) -> Result<(), Fail> {
             ..FAILED
         };
         assert_eq!(rt; result, (kept_at(1), Some(fails)));
-        assert_eq!(rt; entries_of(rt.alloc(), &mut disk)?, if calls == 9 { 2 } else { 1 });
+        assert_eq!(rt;
+            entries_of(rt.alloc(), &mut disk)?,
+            if calls == 9 { 2 } else { 1 }
+        );
     }
     Ok(())
 }

@@ -87,7 +87,10 @@ fn is_file(bytes: &[u8], body: &[u8]) -> bool {
 fn a_turn_without_entries_is_written(rt: HostRuntime) -> Result<(), Fail> {
     let parts = parts(&rt, rt.alloc(), 1)?;
     let mut disk = Memory::new(rt.alloc());
-    assert_eq!(rt; turn::<Brand, _, _>(&rt, rt.alloc(), parts, &mut disk, None)?, 1);
+    assert_eq!(rt;
+        turn::<Brand, _, _>(&rt, rt.alloc(), parts, &mut disk, None)?,
+        1
+    );
     assert_eq!(rt; disk.bytes().len(), 66);
     assert!(rt; is_file(disk.bytes(), &NOTHING));
     Ok(())
@@ -97,7 +100,10 @@ fn a_turn_without_entries_is_written(rt: HostRuntime) -> Result<(), Fail> {
 fn a_payment_is_written(rt: HostRuntime) -> Result<(), Fail> {
     let parts = parts(&rt, rt.alloc(), 1)?;
     let mut disk = Memory::new(rt.alloc());
-    assert_eq!(rt; turn::<Brand, _, _>(&rt, rt.alloc(), parts, &mut disk, Some(1_234))?, 1);
+    assert_eq!(rt;
+        turn::<Brand, _, _>(&rt, rt.alloc(), parts, &mut disk, Some(1_234))?,
+        1
+    );
     assert_eq!(rt; disk.bytes().len(), 222);
     assert!(rt; is_file(disk.bytes(), &PAYMENT));
     Ok(())
