@@ -1,0 +1,110 @@
+//! What a turn leaves on the disk.
+ghost use Rattle.std.specs.Prelude.{◌≡◌, [], IfOk};
+ghost use Rattle.book.specs.Parts.{IsFresh, IsRunOf, base_of, ledger_name, ledger_parts, loggers_of};
+
+use crate::stage::{Stage, logger_on, open, parts};
+use book::{Parts, Run};
+use disk::{Disk, Memory};
+use logger::Logger;
+use money::Refusal;
+use std::alloc::Global;
+use std::marker::Brand;
+use std::sync::Wait;
+use std::test::Fail;
+
+/// The header of logger 0 of 1.
+const HEADER: [u8; 48] = [
+    0x53, 0x49, 0x4c, 0x4f, 0x54, 0x50, 0x43, 0x43, 1, 0, 0, 0, 0, 0, 1, 0, 1, 0, 0, 0, 2, 0, 0, 0,
+    10, 0, 0, 0, 20, 0, 0, 0, 30, 0, 0, 0, 0xe8, 3, 0, 0, 0, 0, 0, 0, 0, 0, 0, 0,
+];
+
+/// A body of mark 1 without entries, and the closed gate behind it.
+const NOTHING: [u8; 17] = [9, 0, 0, 0, 0, 0, 0, 0, 1, 0, 0, 0, 0, 0, 0, 0, 0];
+
+/// A body of mark 1 with the first Payment of a terminal, commit 1: customer 3 pays 12.34 in district 1; and the closed
+/// gate behind it.
+const PAYMENT: [u8; 173] = [
+    0xa5, 0, 0, 0, 0, 0, 0, 0, 1, 0, 0, 0, 0, 0, 0, 0, 1, 0, 0, 0, 0, 0, 0, 0, 0, 0, 0, 0, 1, 0, 0,
+    0, 0, 0, 4, 0, 1, 0, 0, 0, 0, 1, 0xf2, 0x52, 0, 0, 0, 0, 0, 0, 2, 0, 0, 0, 0, 1, 0xe2, 0x2b, 0,
+    0, 0, 0, 0, 0, 11, 0, 0, 0, 0, 0, 0, 0, 3, 2, 0, 0, 0, 1, 0x46, 0xf7, 255, 255, 255, 255, 255,
+    255, 0xba, 8, 0, 0, 0, 0, 0, 0, 2, 0, 0, 0, 0, 0, 0, 0, 0, 0, 0, 0, 0, 0, 0, 0, 4, 0, 0, 0, 0,
+    1, 3, 0, 0, 0, 0, 0, 0, 0, 1, 0, 0, 0, 0, 0, 0, 0, 1, 0, 0, 0, 0, 0, 0, 0, 1, 0, 0, 0, 0, 0, 0,
+    0, 1, 0, 0, 0, 0, 0, 0, 0, 1, 0, 0, 0, 0, 0, 0, 0, 0xd2, 4, 0, 0, 0, 0, 0, 0, 0,
+];
+
+/// An engine in epoch 1, with its one logger over an empty disk.
+pub(crate) fn open_one<K: Run, D: Disk + Drop>(
+    alloc: Global,
+    parts: Parts,
+    disk: D,
+) -> Result<(Stage<K>, Logger<D>), Refusal>
+    requires fresh { IsFresh parts }
+    requires run { IsRunOf parts K.first K.past K.cells K.board K.seed }
+    requires ledger { (ledger_name parts ≡ K.name) × (ledger_parts parts ≡ K.parts) }
+    requires loggers { (loggers_of parts ≡ 1) × (base_of parts ≡ 0) }
+    requires empty { D.is_modelled → D.seen disk ≡ [] }
+    ensures { IfOk result (λ x. x.1.seat.board ≡ K.board) }
+{
+    let (stage, mut seats) = open::<K>(alloc, parts)?;
+    let Some(seat) = seats.pop() else {
+        return Err(Refusal::BadInput);
+    };
+    let logger = logger_on(alloc, stage.engine.population(), disk, seat, (0, 1))?;
+    Ok((stage, logger))
+}
+
+/// The answer of a turn in epoch 2, for which the terminal has paid so many cents in epoch 1, where any.
+fn turn<K: Run, R: Wait, D: Disk + Drop>(
+    rt: &R,
+    alloc: Global,
+    parts: Parts,
+    disk: D,
+    cents: Option<i64>,
+) -> Result<u64, Refusal>
+    requires fresh { IsFresh parts }
+    requires run { IsRunOf parts K.first K.past K.cells K.board K.seed }
+    requires ledger { (ledger_name parts ≡ K.name) × (ledger_parts parts ≡ K.parts) }
+    requires loggers { (loggers_of parts ≡ 1) × (base_of parts ≡ 0) }
+    requires empty { D.is_modelled → D.seen disk ≡ [] }
+{
+    let (mut stage, mut logger) = open_one::<K, D>(alloc, parts, disk)?;
+    if let Some(cents) = cents {
+        stage.pay(rt, alloc, cents)?;
+    }
+    stage.advance()?;
+    stage.take_turn(rt, &mut logger)
+}
+
+/// Whether these are a file with this body and gate alone.
+fn is_file(bytes: &[u8], body: &[u8]) -> bool {
+    bytes.len() == 49 + body.len()
+        && &bytes[..48] == HEADER.as_slice()
+        && bytes[48] == 1
+        && &bytes[49..] == body
+}
+
+#[test]
+fn a_turn_without_entries_is_written(rt: HostRuntime) -> Result<(), Fail> {
+    let parts = parts(&rt, rt.alloc(), 1)?;
+    let mut disk = Memory::new(rt.alloc());
+    assert_eq!(rt;
+        turn::<Brand, _, _>(&rt, rt.alloc(), parts, &mut disk, None)?,
+        1
+    );
+    assert_eq!(rt; disk.bytes().len(), 66);
+    assert!(rt; is_file(disk.bytes(), &NOTHING));
+    Ok(())
+}
+
+#[test]
+fn a_payment_is_written(rt: HostRuntime) -> Result<(), Fail> {
+    let parts = parts(&rt, rt.alloc(), 1)?;
+    let mut disk = Memory::new(rt.alloc());
+    assert_eq!(rt;
+        turn::<Brand, _, _>(&rt, rt.alloc(), parts, &mut disk, Some(1_234))?,
+        1
+    );
+    assert_eq!(rt; disk.bytes().len(), 222);
+    assert!(rt; is_file(disk.bytes(), &PAYMENT));
+    Ok(())
+}
