@@ -3,15 +3,15 @@ ghost use Rattle.std.specs.Prelude.{◌≡◌, ◌≢◌, ◌+◌, ◌-◌, ◌^
 ghost use Rattle.std.specs.Prelude.{length, min, IsTrue, IfOk, IfErr, OnOk, OnErr, IsErrOf};
 ghost use Rattle.money.specs.declared.refusal.Refusal.TheVariants.{OutOfMemory, Device};
 ghost use Rattle.disk.specs.Crashes.{LeavesOnly};
-ghost use Rattle.log_text.specs.Bodies.{BodyView};
+ghost use Rattle.log_text.specs.Bodies.{BodyView, body_text};
 ghost use Rattle.log_entries.specs.Following.{Continues, behind_batch, body_of_batch};
+ghost use Rattle.logfile.specs.Called.{StoreLeft};
 ghost use Rattle.logfile.specs.Standing.{Stands, IsWithOrWithout, IsKept};
 ghost use Rattle.logger.specs.Logger.{IsLoggerOf, MarksAndPublishes, local_mark};
 
 use board::{Board, Keeper, LoggerSeat};
 use book::Batch;
 use disk::Disk;
-use log_header::Header;
 use logfile::LogFile;
 use money::Refusal;
 use std::marker::Model;
@@ -51,10 +51,7 @@ impl<D: Disk> Logger<D> {
         ensures { IsTrue result
             ↔ Continues self.now.file.header self.now.file.count self.now.file.last batch.now }
     {
-        is_of(batch, &self.file.header())
-            && batch.first() == self.file.count()
-            && u64::from(batch.number_before()) == self.file.last()
-            && batch.mark_before() == self.file.mark()
+        self.file.is_continued_by(batch)
     }
 
     /// The file.
@@ -116,8 +113,11 @@ impl<D: Disk> Logger<D> {
             (D.story self.old.file.disk)
             → LeavesOnly (IsWithOrWithout self.old.file.header bodies (body_of_batch batch.now))
             (D.story self.old.file.disk) (D.story self.new.file.disk) }
-        ensures calls { D.is_modelled
-            → OnOk result (length (D.story self.new.file.disk) ≡ length (D.story self.old.file.disk) + 4) }
+        ensures calls { D.is_modelled → StoreLeft result self.old.file.end
+            (body_text (body_of_batch batch.now) ++ 0 ∷ []) (D.seen self.old.file.disk) (D.story self.old.file.disk)
+            (D.seen self.new.file.disk) (D.story self.new.file.disk) }
+        ensures end { OnOk result (self.new.file.end
+            ≡ self.old.file.end + length (body_text (body_of_batch batch.now) ++ 0 ∷ [])) }
         ensures memory { IsErrOf result OutOfMemory → self.new ≡ self.old }
         ensures device { IsErrOf result Device → (self.new.file.failed ≡ true)
             × (self.new.file.last ≡ self.old.file.last) × (self.new.file.count ≡ self.old.file.count) }
@@ -142,15 +142,4 @@ fn publish_kept<D: Disk>(board: &Board, seat: &mut LoggerSeat, file: &LogFile<D>
 {
     board.set_local(seat, file);
     board.publish(seat)
-}
-
-/// Whether a batch is of the logger and the population that a header names.
-fn is_of(batch: &Batch, header: &Header) -> bool
-    ensures { IsTrue result ↔ ((batch.now.logger ≡ header.now.logger) × (batch.now.loggers ≡ header.now.loggers)
-        × (batch.now.scale ≡ header.now.scale) × (batch.now.seed ≡ header.now.seed)) }
-{
-    batch.logger() == header.logger
-        && batch.loggers() == header.loggers
-        && batch.scale() == header.scale
-        && batch.seed() == header.seed
 }
