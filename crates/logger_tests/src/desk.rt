@@ -1,5 +1,6 @@
 //! A terminal that pays, and holds what it is told.
 ghost use Rattle.std.specs.Prelude.{◌≡◌, ◌<◌, length, IfOk};
+ghost use Rattle.tables.specs.Inputs.{IsInput};
 ghost use Rattle.book.specs.Book.{IsWorkOf};
 
 use book::{Done, Engine, Run, Seat, Share};
@@ -25,7 +26,6 @@ fn payment<K: Run, R: Wait>(
     ensures reader { reader.new.cells ≡ K.cells }
     ensures work { IfOk result (λ work. IsWorkOf K.first (length K.cells) reader.new work) }
 {
-    let (cells, population) = (engine.cells(), engine.population());
     let paid = PaymentInput {
         date: 1,
         warehouse: 1,
@@ -35,8 +35,24 @@ fn payment<K: Run, R: Wait>(
         who: Who::Id(3),
         amount: Cents::new(cents),
     };
-    let input = Input::payment(&population.scale(), paid)?;
-    execute(rt, alloc, cells, reader, population, &input)
+    let input = Input::payment(&engine.population().scale(), paid)?;
+    executed(rt, alloc, engine, reader, &input)
+}
+
+fn executed<K: Run, R: Wait>(
+    rt: &R,
+    alloc: Global,
+    engine: &Engine<K>,
+    reader: &mut Reader,
+    input: &Input,
+) -> Result<Work, Refusal>
+    requires own { reader.old.cells ≡ K.cells }
+    requires input { IsInput K.first.scale input.now }
+    ensures reader { reader.new.cells ≡ K.cells }
+    ensures work { IfOk result (λ work. IsWorkOf K.first (length K.cells) reader.new work) }
+{
+    let (cells, population) = (engine.cells(), engine.population());
+    execute(rt, alloc, cells, reader, population, input)
 }
 
 /// A terminal, with its outbox.

@@ -7,7 +7,7 @@ use book::{Parts, Run};
 use disk::{Disk, Memory};
 use logger::Logger;
 use money::Refusal;
-use std::alloc::Global;
+use std::alloc::{AllocError, Global};
 use std::marker::Brand;
 use std::sync::Wait;
 use std::test::Fail;
@@ -75,12 +75,13 @@ fn turn<K: Run, R: Wait, D: Disk + Drop>(
     stage.take_turn(rt, &mut logger)
 }
 
-/// Whether these are a file with this body and gate alone.
-fn is_file(bytes: &[u8], body: &[u8]) -> bool {
-    bytes.len() == 49 + body.len()
-        && &bytes[..48] == HEADER.as_slice()
-        && bytes[48] == 1
-        && &bytes[49..] == body
+/// A file with this body and gate alone.
+fn file(alloc: Global, body: &[u8]) -> Result<Vec<u8>, AllocError> {
+    let mut file = Vec::new(alloc);
+    file.extend_from_slice(&HEADER)?;
+    file.push(1)?;
+    file.extend_from_slice(body)?;
+    Ok(file)
 }
 
 #[test]
@@ -92,7 +93,8 @@ fn a_turn_without_entries_is_written(rt: HostRuntime) -> Result<(), Fail> {
         1
     );
     assert_eq!(rt; disk.bytes().len(), 66);
-    assert!(rt; is_file(disk.bytes(), &NOTHING));
+    let file = file(rt.alloc(), &NOTHING)?;
+    assert!(rt; disk.bytes() == file.as_slice());
     Ok(())
 }
 
@@ -105,6 +107,7 @@ fn a_payment_is_written(rt: HostRuntime) -> Result<(), Fail> {
         1
     );
     assert_eq!(rt; disk.bytes().len(), 222);
-    assert!(rt; is_file(disk.bytes(), &PAYMENT));
+    let file = file(rt.alloc(), &PAYMENT)?;
+    assert!(rt; disk.bytes() == file.as_slice());
     Ok(())
 }
