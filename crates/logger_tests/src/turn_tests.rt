@@ -5,32 +5,13 @@ ghost use Rattle.book.specs.Parts.{IsFresh, IsRunOf, base_of, ledger_name, ledge
 use crate::stage::{Stage, logger_on, open, parts};
 use book::{Parts, Run};
 use disk::{Disk, Memory};
+use log_vectors::{FIRST, NOTHING, PAYMENT};
 use logger::Logger;
 use money::Refusal;
 use std::alloc::{AllocError, Global};
 use std::marker::Brand;
 use std::sync::Wait;
 use std::test::Fail;
-
-/// The header of logger 0 of 1.
-const HEADER: [u8; 48] = [
-    0x53, 0x49, 0x4c, 0x4f, 0x54, 0x50, 0x43, 0x43, 1, 0, 0, 0, 0, 0, 1, 0, 1, 0, 0, 0, 2, 0, 0, 0,
-    10, 0, 0, 0, 20, 0, 0, 0, 30, 0, 0, 0, 0xe8, 3, 0, 0, 0, 0, 0, 0, 0, 0, 0, 0,
-];
-
-/// A body of mark 1 without entries, and the closed gate behind it.
-const NOTHING: [u8; 17] = [9, 0, 0, 0, 0, 0, 0, 0, 1, 0, 0, 0, 0, 0, 0, 0, 0];
-
-/// A body of mark 1 with the first Payment of a terminal, commit 1: customer 3 pays 12.34 in district 1; and the closed
-/// gate behind it.
-const PAYMENT: [u8; 173] = [
-    0xa5, 0, 0, 0, 0, 0, 0, 0, 1, 0, 0, 0, 0, 0, 0, 0, 1, 0, 0, 0, 0, 0, 0, 0, 0, 0, 0, 0, 1, 0, 0,
-    0, 0, 0, 4, 0, 1, 0, 0, 0, 0, 1, 0xf2, 0x52, 0, 0, 0, 0, 0, 0, 2, 0, 0, 0, 0, 1, 0xe2, 0x2b, 0,
-    0, 0, 0, 0, 0, 11, 0, 0, 0, 0, 0, 0, 0, 3, 2, 0, 0, 0, 1, 0x46, 0xf7, 255, 255, 255, 255, 255,
-    255, 0xba, 8, 0, 0, 0, 0, 0, 0, 2, 0, 0, 0, 0, 0, 0, 0, 0, 0, 0, 0, 0, 0, 0, 0, 4, 0, 0, 0, 0,
-    1, 3, 0, 0, 0, 0, 0, 0, 0, 1, 0, 0, 0, 0, 0, 0, 0, 1, 0, 0, 0, 0, 0, 0, 0, 1, 0, 0, 0, 0, 0, 0,
-    0, 1, 0, 0, 0, 0, 0, 0, 0, 1, 0, 0, 0, 0, 0, 0, 0, 0xd2, 4, 0, 0, 0, 0, 0, 0, 0,
-];
 
 /// An engine in epoch 1, with its one logger over an empty disk.
 pub(crate) fn open_one<K: Run, D: Disk + Drop>(
@@ -75,12 +56,13 @@ fn turn<K: Run, R: Wait, D: Disk + Drop>(
     stage.take_turn(rt, &mut logger)
 }
 
-/// A file with this body and gate alone.
+/// A file with this body alone, and a closed gate behind it.
 fn file(alloc: Global, body: &[u8]) -> Result<Vec<u8>, AllocError> {
     let mut file = Vec::new(alloc);
-    file.extend_from_slice(&HEADER)?;
+    file.extend_from_slice(&FIRST)?;
     file.push(1)?;
     file.extend_from_slice(body)?;
+    file.push(0)?;
     Ok(file)
 }
 
