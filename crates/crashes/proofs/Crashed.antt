@@ -8,12 +8,14 @@ use Rattle.log_text.specs.Entries.{EntryView}
 use Rattle.book.specs.Batches.{BatchView}
 use Rattle.book.specs.Streams.{stream}
 use Rattle.book.specs.History.{Replays}
+use Rattle.book.specs.Loggable.{IsLoggable}
 use Rattle.book.specs.Stamps.{AreStamped}
 use Rattle.book.specs.declared.entry.Entry.{Entry}
 use Rattle.log_entries.specs.Logged.{entry_of}
 use Rattle.crashes.specs.World.{Life, World, header_of}
 use Rattle.crashes.specs.Recovering.{Crashes, Recovers, counts, cut, counted, last_mark}
-use Rattle.crashes.proofs.Lists.{IsLeast, least_of, chosen_below, none_kept, kept_if_there, tests_commute, test_of_map}
+use Rattle.crashes.proofs.Batches.{IsFit}
+use Rattle.crashes.proofs.Lists.{all_in_front, IsLeast, least_of, chosen_below, none_kept, kept_if_there, tests_commute, test_of_map}
 use Rattle.crashes.proofs.Histories.{replays_front, stamped_front, cut_begins}
 use Rattle.crashes.proofs.Lanes.{IsLeft, lane_left, taken, bodies_of}
 use Rattle.crashes.proofs.Sound.{IsSound, MayTell, local_of}
@@ -48,6 +50,8 @@ module _ (life : Life) (w : World) (sound : IsSound life (λ l. []) w) (strings 
       → IsLeast life.plan.loggers (λ l. last_mark 0 (bodies_of (batches l))) durable → Recovers life w strings
   recovers_by batches left durable is =
       let front = cut_begins durable w.history sound.stamped in
+      let fits : All (IsFit life.first.scale) (cut durable w.history)
+      = all_in_front (IsFit life.first.scale) (cut durable w.history) front.0 (subst (All (IsFit life.first.scale)) front.1 sound.fit) in
       let low : w.durable ≤ durable = omega (
         arith,
         sound.durable is.among.0 is.among.1,
@@ -68,6 +72,8 @@ module _ (life : Life) (w : World) (sound : IsSound life (λ l. []) w) (strings 
           end = refl;
         };
         stamped = stamped_front (cut durable w.history) front.0 (subst AreStamped front.1 sound.stamped);
+        loggable = All-weaker (IsFit life.first.scale) (IsLoggable life.first.scale) (λ e fit. fit.loggable) (cut durable w.history) fits;
+        capped = All-weaker (IsFit life.first.scale) (λ e. e.number ≤ life.first.scale.commits) (λ e fit. fit.cap) (cut durable w.history) fits;
         held = λ l lt. held_up_to life w l durable (strings l) (batches l) (left l lt) (is.below l lt);
         released = All-weaker (MayTell w) (Contains (cut durable w.history))
             (λ e tell. kept_if_there (λ (d : Entry). counts durable d.tid) w.history e tell.0

@@ -7,6 +7,7 @@ use Rattle.log_text.specs.Bodies.{BodyView, mark_of, entries_in}
 use Rattle.log_text.specs.Entries.{EntryView}
 use Rattle.log_text.specs.File.{IsFile}
 use Rattle.book.specs.History.{IsLegal, replay}
+use Rattle.book.specs.Loggable.{IsLoggable}
 use Rattle.book.specs.Stamps.{AreStamped}
 use Rattle.book.specs.Streams.{stream}
 use Rattle.book.specs.declared.entry.Entry.{Entry}
@@ -43,8 +44,8 @@ counted durable bodies = filter (λ e. counts durable e.tid) (entries_of bodies)
 
 -- what stands on the disks after a crash. Each string is a log file. The durable epoch that they tell is no less than
 -- the board's D. The entries up to it are a beginning of the history, legal and stamped, so that replay is at tables
--- that the run had. Each file has its logger's share of them, entry for entry, and no other entry that counts. And each
--- entry whose reply was released is among them
+-- that the run had, and fit for log files. Each file has its logger's share of them, entry for entry, and no other entry
+-- that counts. And each entry whose reply was released is among them
 pub record Recovers (life : Life) (w : World) (strings : ℕ → List ℕ) : Type 0 where
   pub left : ℕ → List BodyView
   pub durable : ℕ
@@ -55,6 +56,8 @@ pub record Recovers (life : Life) (w : World) (strings : ℕ → List ℕ) : Typ
   pub beginning : w.history ≡ cut durable w.history ++ rest
   pub legal : IsLegal life.past life.first (cut durable w.history) (replay life.first (cut durable w.history))
   pub stamped : AreStamped (cut durable w.history)
+  pub loggable : All (IsLoggable life.first.scale) (cut durable w.history)
+  pub capped : All (λ e. e.number ≤ life.first.scale.commits) (cut durable w.history)
   pub held : (l : ℕ) → l < life.plan.loggers → counted durable (left l)
       ≡ map (entry_of life.first.scale) (stream life.plan.loggers l (cut durable w.history))
   pub released : All (Contains (cut durable w.history)) w.released

@@ -6,3 +6,4 @@ mod Logged
 mod Rows
 mod Walk
 mod Recovered
+mod Joined

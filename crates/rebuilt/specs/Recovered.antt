@@ -1,17 +1,20 @@
 -- That recovery gives a part of the history.
 use Rattle.std.specs.Prelude.{◌≡◌, ℕ, ◌<◌, List, [], ◌++◌, length, map, slice_index_or}
-use Rattle.std.specs.List.{All}
+use Rattle.std.specs.List.{All, Contains}
 use Rattle.tables.specs.Database.{Database}
 use Rattle.tables.specs.Sizes.{Sizes, IsScale}
 use Rattle.tables.specs.Conditions.{IsConsistent}
 use Rattle.tables.specs.WellFormed.{IsWellFormed, HasRoom}
+use Rattle.tables.specs.declared.limits.TheConstants.{MAX_COMMITS}
 use Rattle.log_text.specs.Bodies.{BodyView}
+use Rattle.log_text.specs.File.{IsFile}
 use Rattle.log_entries.specs.Logged.{entry_of}
 use Rattle.book.specs.History.{Replays, replay}
 use Rattle.book.specs.Loggable.{IsLoggable}
 use Rattle.book.specs.Stamps.{AreStamped}
 use Rattle.book.specs.Streams.{stream}
 use Rattle.book.specs.declared.entry.Entry.{Entry}
+use Rattle.crashes.specs.World.{Life, World, header_of}
 use Rattle.rebuilt.specs.Found.{kept, found, cut}
 use Rattle.rebuilt.specs.Rebuilt.{HaveNoGap, IsRebuilt}
 
@@ -36,3 +39,23 @@ pub record IsHistoryOf (t0 : Database) (history : List Entry) : Type 0 where
 pub record GiveTheReplay (t0 : Database) (files : List (List BodyView)) (history : List Entry) : Type 0 where
   pub no_gap : HaveNoGap (found files)
   pub is_replay : (t : Database) → IsRebuilt t0 (found files) t → t ≡ replay t0 (cut files history)
+
+-- after a crash that leaves these strings: they are log files, and what is rebuilt of them is the replay of a beginning of
+-- the history, with each entry whose reply was released
+pub record LeavesTheReplay (life : Life) (w : World) (strings : ℕ → List ℕ) : Type 0 where
+  pub left : List (List BodyView)
+  pub count : length left ≡ life.plan.loggers
+  pub files : (l : ℕ) → l < life.plan.loggers → IsFile (strings l) (header_of life l) (slice_index_or left l [])
+  pub rest : List Entry
+  pub beginning : w.history ≡ cut left w.history ++ rest
+  pub no_gap : HaveNoGap (found left)
+  pub is_replay : (t : Database) → IsRebuilt life.first (found left) t → t ≡ replay life.first (cut left w.history)
+  pub released : All (Contains (cut left w.history)) w.released
+
+-- the tables that a first life begins with: well-formed and consistent, with room for all commits
+pub record IsFirstLife (life : Life) : Type 0 where
+  pub past : life.past ≡ 0
+  pub scale : IsScale life.first.scale
+  pub well_formed : IsWellFormed life.first
+  pub consistent : IsConsistent life.first
+  pub room : HasRoom MAX_COMMITS life.first
