@@ -10,3 +10,8 @@ is_older known write = nat_lt known.tid write.tid || ((known.tid == write.tid) &
 abbrev pub newer : Option Latest → Latest → Latest
 newer None write = write
 newer (Some known) write = if is_older known write then write else known
+
+-- what is known of a record from two sides
+abbrev pub joined : Option Latest → Option Latest → Option Latest
+joined known None = known
+joined known (Some write) = Some (newer known write)

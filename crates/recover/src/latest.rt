@@ -2,7 +2,7 @@
 ghost use Rattle.std.specs.Prelude.{◌≡◌, ◌==◌, ℕ, Some, OnOk, OnErr, if◌then◌else◌};
 ghost use Rattle.std.specs.Ordering.{nat_cmp};
 ghost use Rattle.std.specs.BTreeMap.{get, IsUnchanged};
-ghost use Rattle.recover.specs.Latest.{is_older, newer};
+ghost use Rattle.recover.specs.Latest.{is_older, newer, joined};
 
 use money::Payload;
 use std::alloc::AllocError;
@@ -45,5 +45,19 @@ pub fn raise(
         }
     }
     latest.insert(number, write)?;
+    Ok(())
+}
+
+/// Keeps of each record the newer of what either map has of it. A look-up and an insert a record of the other map.
+pub fn merge(
+    latest: &mut BTreeMap<u32, Latest>,
+    other: &BTreeMap<u32, Latest>,
+) -> Result<(), AllocError>
+    ensures { OnOk result ((n : ℕ) → get nat_cmp latest.new n
+        ≡ joined (get nat_cmp latest.old n) (get nat_cmp other.now n)) }
+{
+    for (number, write) in other.iter() {
+        raise(latest, *number, *write)?;
+    }
     Ok(())
 }

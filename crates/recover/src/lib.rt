@@ -4,4 +4,4 @@
 
 mod latest;
 
-pub use latest::{Latest, raise};
+pub use latest::{Latest, merge, raise};
