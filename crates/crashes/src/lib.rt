@@ -11,7 +11,8 @@ ghost use Rattle.crashes.specs.Recovering.{Crashes, Recovers};
 /// string a crash then leaves on each disk, of those that it may leave: the strings are log files; the least of their
 /// last marks, the durable epoch, is no less than the board's D; the entries up to it are a beginning of the history,
 /// legal and stamped; each file has just its logger's share of them; and each entry whose reply was released is among
-/// them (Silo, section 4.10). Nothing is assumed of how the steps of threads interleave, nor of which device calls fail.
+/// them (Silo, section 4.10). Nothing is assumed of how the steps of threads interleave, nor of which device calls
+/// fail.
 pub fn every_crash_recovers()
     ensures { (life : Life) (files : ℕ → LogFileView DiskView) (events : List Event) (strings : ℕ → List ℕ)
         → IsFirst life files → AreEnabled life (opening life.plan files) events

@@ -1,5 +1,5 @@
-//! Prints the rows of a small seeded population and the first inputs of a deck. What it must print, in `stdout`, is what
-//! `tests/draws.py` prints, which has the definitions of both and nothing else in common with this.
+//! Prints the rows of a small seeded population and the first inputs of a deck. What it must print, in `stdout`, is
+//! what `tests/draws.py` prints, which has the definitions of both and nothing else in common with this.
 #![tactic(auto)]
 
 mod inputs;

@@ -25,9 +25,9 @@ pub fn rebuilt_tables_are_the_replay()
     values_determine_tables();
 }
 
-/// Whatever happens in the first life of a database, and whatever a crash then leaves of its log files: tables that are
-/// rebuilt of these are the replay of a beginning of the history, with each entry whose reply was released (Silo, section
-/// 4.10). The function does nothing: its contract is the law.
+/// Whatever happens in the first life of a database, and whatever a crash then leaves of its log files: tables that
+/// are rebuilt of these are the replay of a beginning of the history, with each entry whose reply was released (Silo,
+/// section 4.10). The function does nothing: its contract is the law.
 pub fn every_crash_leaves_the_replay()
     ensures { (life : Life) (files : ℕ → LogFileView DiskView) (events : List Event) (strings : ℕ → List ℕ)
         → IsFirstLife life → IsFirst life files → AreEnabled life (opening life.plan files) events
