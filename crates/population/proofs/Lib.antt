@@ -1,13 +1,2 @@
 mod NameIndexMade
 mod NameRange
-mod Added
-mod Lists
-mod TableRows
-mod Sums
-mod Parts
-mod OrderNumbers
-mod Districts
-mod Whole
-mod Sound
-mod OrdersConsistent
-mod Consistent

@@ -1,4 +1,2 @@
-pub mod Plain
-pub mod Adds
 pub mod Unique
 pub mod Initial

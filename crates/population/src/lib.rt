@@ -2,8 +2,7 @@
 #![tactic(auto)]
 
 mod name_index;
-mod plain;
 mod population;
-mod rows;
 
+pub use draws::nurand;
 pub use population::Population;

@@ -10,9 +10,9 @@ ghost use Rattle.tables.specs.WellFormed.{IsWellFormed, HasRoom};
 ghost use Rattle.tables.specs.declared.limits.TheConstants.{MAX_COMMITS};
 
 use crate::name_index::NameIndex;
-use crate::plain::plain_tables;
+use first_tables::{plain_tables, seeded_tables};
 use money::Refusal;
-use std::alloc::Global;
+use std::alloc::{AllocError, Global};
 use tables::{DistrictKey, Scale, Tables, Who};
 
 /// The rows that a database begins with, and its customers by name. Its type keeps that the rows are well-formed and
@@ -29,9 +29,10 @@ pub struct Population {
 }
 
 impl Population {
-    ghost use Rattle.std.specs.Prelude.{IfOk, IfErr};
+    ghost use Rattle.std.specs.Prelude.{◌≤◌, IfOk, IfErr};
     ghost use Rattle.money.specs.declared.refusal.Refusal.TheVariants.{OutOfMemory};
-    ghost use Rattle.population.specs.Plain.{IsPlain};
+    ghost use Rattle.first_tables.specs.Plain.{IsPlain};
+    ghost use Rattle.first_tables.specs.First.{IsSeeded};
     ghost use Rattle.population.specs.Initial.{initial, seed_of};
     ghost use Rattle.tables.specs.Customer.{IsWho, customer_number};
 
@@ -46,16 +47,41 @@ impl Population {
         ensures only_memory { IfErr result (λ refusal. refusal ≡ OutOfMemory) }
     {
         let tables = plain_tables(alloc, scale)?;
-        // The tables are well-formed and consistent and have room by these limits of a scale.
-        prove!(scale.districts() <= 10);
-        prove!(scale.customers() >= 1);
-        prove!(scale.customers() <= scale.orders());
-        prove!(scale.items() >= 5);
+        let population = Population::of(alloc, tables, 0)?;
+        Ok(population)
+    }
+
+    /// The population of a scale that is drawn from a seed (TPC-C 4.3.3.1): the same for the same seed and scale. The
+    /// seed is at least 1. Costs what the plain one does, and a draw or a few for each row but those of HISTORY and
+    /// NEW-ORDER.
+    ///
+    /// # Errors
+    ///
+    /// `OutOfMemory`, and no other.
+    pub fn seeded(alloc: Global, scale: Scale, seed: u64) -> Result<Population, Refusal>
+        requires { 1 ≤ seed }
+        ensures rows { IfOk result (λ population. IsSeeded scale (initial population)) }
+        ensures seed { IfOk result (λ population. seed_of population ≡ seed) }
+        ensures only_memory { IfErr result (λ refusal. refusal ≡ OutOfMemory) }
+    {
+        let tables = seeded_tables(alloc, scale, seed)?;
+        let population = Population::of(alloc, tables, seed)?;
+        Ok(population)
+    }
+
+    /// The population of these tables.
+    fn of(alloc: Global, tables: Tables, seed: u64) -> Result<Population, AllocError>
+        requires well_formed { IsWellFormed (database tables) }
+        requires consistent { IsConsistent (database tables) }
+        requires room { HasRoom MAX_COMMITS (database tables) }
+        ensures rows { IfOk result (λ population. initial population ≡ database tables) }
+        ensures seed { IfOk result (λ population. seed_of population ≡ seed) }
+    {
         let names = NameIndex::new(alloc, &tables.customers)?;
         Ok(Population {
             tables,
             names,
-            seed: 0,
+            seed,
         })
     }
 

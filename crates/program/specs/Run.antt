@@ -7,7 +7,7 @@ use Rattle.money.specs.declared.refusal.Refusal.{Refusal}
 use Rattle.money.specs.declared.refusal.Refusal.TheVariants.{OutOfMemory, BadInput, Device, BadScale}
 use Rattle.tables.specs.Sizes.{Sizes, IsScale, sizes}
 use Rattle.tables.specs.Database.{Database}
-use Rattle.population.specs.Plain.{IsPlain}
+use Rattle.first_tables.specs.Plain.{IsPlain}
 use Rattle.conditions.specs.Report.{IsGood}
 use Rattle.conditions.specs.declared.report.Report.{Report}
 use Rattle.book.specs.Done.{Done}

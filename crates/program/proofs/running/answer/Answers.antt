@@ -1,7 +1,7 @@
 use Rattle.std.proofs.Common.{subst}
 use Rattle.tables.specs.Sizes.{Sizes}
 use Rattle.population.specs.Initial.{initial}
-use Rattle.population.specs.Plain.{IsPlain}
+use Rattle.first_tables.specs.Plain.{IsPlain}
 use Rattle.program.specs.Run.{begun}
 use Rattle.program.proofs.running.answer.Goals as goal
 
