@@ -1,11 +1,13 @@
 -- A row that is put into a table puts its words into the record of its key.
-use Rattle.std.proofs.Common.{◌≡◌, ◌≢◌, ℕ, true, false, cond, true≢false, List, Option, Some, refl, sym, ap, ◌∙◌, subst, ◌⊎◌, inl, inr, ⊎_elim, IsSome}
+use Rattle.std.proofs.Common.{◌≡◌, ◌≢◌, ℕ, true, false, cond, true≢false, List, Option, Some, None, refl, sym, ap, ◌∙◌, subst, ◌⊎◌, inl, inr, ⊎_elim, IsSome}
 use Rattle.std.specs.Ordering.{eq_by_cmp, is_eq, nat_cmp}
-use Rattle.std.specs.Cmp.{tied_itself}
+use Rattle.std.specs.Cmp.{tied_itself, eq_by_cmp_equiv}
 use Rattle.std.specs.Option.{option_map}
-use Rattle.std.specs.FinMap.{FinMap, get, get-insert, insert}
+use Rattle.std.specs.BTreeMap as tree
+use Rattle.std.specs.BTreeMap.{BTreeMap, is_at}
+use Rattle.std.specs.FinMap.{FinMap, get, get-insert, insert, get-remove, remove, from_entries, same_map}
 use Rattle.std.specs.declared.cmp.Ordering.{Ordering}
-use Rattle.std.proofs.lemmas.Option.{same_Some}
+use Rattle.std.proofs.lemmas.Option.{none-some, same_Some}
 use Rattle.tables.specs.Database.{Database}
 use Rattle.tables.specs.Records.{IsRecordKey}
 use Rattle.tables.specs.Keys.{IsWarehouseKey, IsDistrictKey, IsCustomerKey, IsOrderKey, IsLineKey, IsStockKey, district_cmp, customer_cmp, order_cmp, line_cmp}
@@ -28,32 +30,47 @@ use Rattle.tables.specs.declared.records.RecordKey.{RecordKey}
 use Rattle.tables.specs.declared.records.RecordKey.TheVariants as key
 use Rattle.tables.proofs.Entries.{tied}
 use Rattle.tables.proofs.Orders.{IsExact, exact_number, exact_district, exact_customer, exact_order, exact_line, exact_stock}
+use Rattle.tables.proofs.Views.{get-view}
 use Rattle.encoding.specs.Held.{IsTableOf, IsWarehouseOf, IsDistrictOf, IsCustomerOf, IsOrderIn, AreTables}
 use Rattle.encoding.specs.Puts.{Puts}
 
-module _ {K X : Type 0} {R : K → K → Ordering} (o : IsExact R) (m : FinMap R X) (k : K) (r : X) where
-  -- what stands at a key after an insert: the new row, or what stood there
-  inserted : (q : K) → ((q ≡ k) × (get (insert m k r) q ≡ Some r)) ⊎ ((q ≢ k) × (get (insert m k r) q ≡ get m q))
-  inserted q =
-      elim (eq_by_cmp R q k) as (λ b. eq_by_cmp R q k ≡ b → ((q ≡ k) × (get (insert m k r) q ≡ Some r)) ⊎ ((q ≢ k) × (get (insert m k r) q ≡ get m q))) [
-        | true ↦ λ t. inl (o.same q k (tied _ t), get-insert o.total m k r q ∙ ap (λ b. cond b (Some r) (get m q)) t)
-        | false ↦ λ t. inr (
-          (λ e. true≢false (sym (ap (λ j. eq_by_cmp R j k) e ∙ ap is_eq (tied_itself o.total k)) ∙ t)),
-          get-insert o.total m k r q
-              ∙ ap (λ b. cond b (Some r) (get m q)) t,
-        )
-      ] refl
+module _ {K X : Type 0} {R : K → K → Ordering} (o : IsExact R) (m : FinMap R X) (k : K) where
+  -- what stands at a key where one key has something new: that, or what stood there
+  changed : (n : FinMap R X) (some : Option X) → ((q : K) → get n q ≡ cond (eq_by_cmp R q k) some (get m q)) → (q : K)
+      → ((q ≡ k) × (get n q ≡ some)) ⊎ ((q ≢ k) × (get n q ≡ get m q))
+  changed n some is q = elim (eq_by_cmp R q k) as (λ b. eq_by_cmp R q k ≡ b → ((q ≡ k) × (get n q ≡ some)) ⊎ ((q ≢ k) × (get n q ≡ get m q))) [
+    | true ↦ λ t. inl (o.same q k (tied _ t), is q ∙ ap (λ b. cond b some (get m q)) t)
+    | false ↦ λ t. inr ((λ e. true≢false (sym (ap (λ j. eq_by_cmp R j k) e ∙ ap is_eq (tied_itself o.total k)) ∙ t)), is q ∙ ap (λ b. cond b some (get m q)) t)
+  ] refl
+
+  -- after an insert: the new row
+  inserted : (r : X) (q : K) → ((q ≡ k) × (get (insert m k r) q ≡ Some r)) ⊎ ((q ≢ k) × (get (insert m k r) q ≡ get m q))
+  inserted r = changed (insert m k r) (Some r) (get-insert o.total m k r)
+
+  -- after a delete: no row
+  removed : (q : K) → ((q ≡ k) × (get (remove m k) q ≡ None)) ⊎ ((q ≢ k) × (get (remove m k) q ≡ get m q))
+  removed = changed (remove m k) None (get-remove o.total m k)
 
   -- a table of some values, with a row of the value at its key
-  same_insert : (IsKey : K → Type 0) (IsIn : K → X → Type 0) (words : X → List ℕ) (value more : K → Option (List ℕ)) → IsKey k → IsIn k r
+  same_insert : (r : X) (IsKey : K → Type 0) (IsIn : K → X → Type 0) (words : X → List ℕ) (value more : K → Option (List ℕ)) → IsKey k → IsIn k r
       → more k ≡ Some (words r) → ((q : K) → IsKey q → q ≢ k → more q ≡ value q) → IsTableOf IsKey IsIn words value m
       → IsTableOf IsKey IsIn words more (insert m k r)
-  same_insert IsKey IsIn words value more is is_in here others a = record {
-    within = λ q some. ⊎_elim (λ c. subst IsKey (sym c.0) is) (λ c. a.within q (subst IsSome c.1 some)) (inserted q);
+  same_insert r IsKey IsIn words value more is is_in here others a = record {
+    within = λ q some. ⊎_elim (λ c. subst IsKey (sym c.0) is) (λ c. a.within q (subst IsSome c.1 some)) (inserted r q);
     each = λ q row e. ⊎_elim (λ c. subst (λ j. IsIn j row) (sym c.0) (subst (IsIn k) (same_Some _ _ (sym c.1 ∙ e)) is_in)) (λ c. a.each q row (sym c.1 ∙ e))
-        (inserted q);
+        (inserted r q);
     rows = λ q at. ⊎_elim (λ c. ap (option_map words) c.1 ∙ (sym here ∙ ap more (sym c.0)))
-        (λ c. ap (option_map words) c.1 ∙ (a.rows q at ∙ sym (others q at c.0))) (inserted q);
+        (λ c. ap (option_map words) c.1 ∙ (a.rows q at ∙ sym (others q at c.0))) (inserted r q);
+  }
+
+  -- a table of some values, with no row at its key
+  same_remove : (IsKey : K → Type 0) (IsIn : K → X → Type 0) (words : X → List ℕ) (value more : K → Option (List ℕ)) → more k ≡ None
+      → ((q : K) → IsKey q → q ≢ k → more q ≡ value q) → IsTableOf IsKey IsIn words value m → IsTableOf IsKey IsIn words more (remove m k)
+  same_remove IsKey IsIn words value more here others a = record {
+    within = λ q some. ⊎_elim (λ c. absurd (true≢false (sym (subst IsSome c.1 some)))) (λ c. a.within q (subst IsSome c.1 some)) (removed q);
+    each = λ q row e. ⊎_elim (λ c. absurd (none-some row (sym c.1 ∙ e))) (λ c. a.each q row (sym c.1 ∙ e)) (removed q);
+    rows = λ q at. ⊎_elim (λ c. ap (option_map words) c.1 ∙ (sym here ∙ ap more (sym c.0)))
+        (λ c. ap (option_map words) c.1 ∙ (a.rows q at ∙ sym (others q at c.0))) (removed q);
   }
 
 -- a table of values that are the same at its keys
@@ -230,3 +247,30 @@ module _ (t0 : Database) (ws : List ℕ) (t : Database) where
           (λ q at other. others (key.Stock q) at (λ (p : key.Stock q ≡ key.Stock k). other cc)) a.stock);
     };
   }
+
+-- what `remove` of a map leaves
+pub remove-view : {K X : Type 0} {R : K → K → Ordering} → IsExact R → (m n : BTreeMap K X) (k : K) → tree.Updates R m n k None
+    → from_entries {R = R} n.entries ≡ remove (from_entries m.entries) k
+remove-view {R} o m n k h = same_map o.total o.same _ _ (λ q.
+    get-view o n q ∙ h.0 q ∙ ap (λ b. cond b None (tree.get R m q)) ((eq_by_cmp_equiv o.total).symm k q)
+    ∙ sym (get-remove o.total (from_entries m.entries) k q ∙ ap (cond (is_at (R q) k) None) (get-view o m q)))
+
+-- a NEW-ORDER row that is taken out leaves its record absent
+pub takes_new_order : (t0 t : Database) (k : OrderKey) (rows : FinMap order_cmp NewOrder) → rows ≡ remove t.new_orders k
+    → Puts t0 (key.NewOrder k) None t (record t { new_orders = rows })
+takes_new_order t0 t k rows e = record {
+  history = refl;
+  tables = λ values more here others a. record {
+    scale = a.scale;
+    items = a.items;
+    warehouses = kept_warehouses t0 t values more (key.NewOrder k) others a (λ q p. cc);
+    districts = kept_districts t0 t values more (key.NewOrder k) others a (λ q p. cc);
+    customers = kept_customers t0 t values more (key.NewOrder k) others a (λ q p. cc);
+    new_orders = subst (IsTableOf (IsOrderKey t0.scale) (λ k r. Unit {0}) new_order_words (λ q. more (key.NewOrder q))) (sym e)
+        (same_remove exact_order t.new_orders k (IsOrderKey t0.scale) (λ k r. Unit {0}) new_order_words _ _ here
+        (λ q at other. others (key.NewOrder q) at (λ (p : key.NewOrder q ≡ key.NewOrder k). other cc)) a.new_orders);
+    orders = kept_orders t0 t values more (key.NewOrder k) others a (λ q p. cc);
+    lines = kept_lines t0 t values more (key.NewOrder k) others a (λ q p. cc);
+    stock = kept_stock t0 t values more (key.NewOrder k) others a (λ q p. cc);
+  };
+}

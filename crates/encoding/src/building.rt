@@ -88,8 +88,8 @@ fn put_rows(tables: &mut Tables, population: &Tables, newest: &[Newest]) -> Resu
     Ok(())
 }
 
-/// How many records have rows: those before the first index record.
-fn row_count(scale: &Scale) -> u32
+/// How many records have rows: those before the first index record. They are the numbers below this.
+pub fn row_count(scale: &Scale) -> u32
     ensures value { result ≡ row_count scale.now }
     ensures limit { result ≤ record_count scale.now }
 {

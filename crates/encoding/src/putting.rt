@@ -1,7 +1,7 @@
-//! A record's words put into tables: the row of its key is inserted, or replaced.
+//! A record's words put into tables: the row of its key is inserted, or replaced. A NEW-ORDER row taken out.
 
-ghost use Rattle.std.specs.Prelude.{◌≡◌, Some, OnOk};
-ghost use Rattle.tables.specs.Database.{database};
+ghost use Rattle.std.specs.Prelude.{◌≡◌, Some, None, OnOk};
+ghost use Rattle.tables.specs.Database.{Database, database};
 ghost use Rattle.tables.specs.Records.{IsRecordKey};
 ghost use Rattle.tables.specs.Sizes.{IsScale};
 ghost use Rattle.tables.specs.WellFormed.{IsWellFormed};
@@ -43,6 +43,14 @@ pub fn put(
         RecordKey::Stock(key) => put_stock(tables, population, key, words),
         RecordKey::Oldest(_) | RecordKey::Last(_) => Ok(()),
     }
+}
+
+/// Takes the NEW-ORDER row of an order out, if it is there: its record is then absent, as a Delivery leaves it. No other
+/// row is ever deleted. One look-up.
+pub fn take_out(tables: &mut Tables, key: OrderKey)
+    ensures { (t0 : Database) → Puts t0 (record_key.NewOrder key) None (database tables.old) (database tables.new) }
+{
+    tables.new_orders.remove(&key);
 }
 
 fn put_warehouse(
