@@ -13,7 +13,7 @@ use Rattle.tables.specs.Keys.{stock_cmp}
 use Rattle.tables.specs.WellFormed.{IsLineRow, IsStockRow}
 use Rattle.tables.specs.Database.{Database, empty_database}
 use Rattle.tables.specs.Records.{record_count, number_of_key, key_of, IsRecordKey, IsRowKey}
-use Rattle.tables.specs.Rows.{warehouse_words, district_words, customer_words, new_order_words, order_words, line_words, stock_words}
+use Rattle.tables.specs.Rows.{rows, warehouse_words, district_words, customer_words, new_order_words, order_words, line_words, stock_words}
 use Rattle.tables.specs.declared.rows.History.{History}
 use Rattle.tables.specs.declared.records.RecordKey.{RecordKey}
 use Rattle.tables.specs.declared.records.RecordKey.TheVariants as key
@@ -26,6 +26,7 @@ use Rattle.encoding.specs.Newest.{value_at, AreLawful}
 use Rattle.encoding.specs.Puts.{MayHold, Puts}
 use Rattle.encoding.proofs.Numbered.{row_below}
 use Rattle.encoding.proofs.Puts.{same_values}
+use Rattle.encoding.proofs.Values.{rows_held}
 
 -- the values of the records below a number
 abbrev pub below : ℕ → (ℕ → Option (List ℕ)) → ℕ → Option (List ℕ)
@@ -58,6 +59,12 @@ agreeing t0 t values more same a = let s = t0.scale in record {
   stock = same_values (IsStockKey s) (λ k r. IsStockRow r) stock_words _ _ t.stock (λ k is. same (key.Stock k) is tt) a.stock;
 }
 
+-- tables of some values are tables of what their own records hold
+pub own_rows : (t0 t : Database) (values : ℕ → Option (List ℕ)) → AreTables t0 (by_key t0.scale values) t → AreTables t0 (by_key t0.scale (rows t)) t
+own_rows t0 t values a =
+    agreeing t0 t (by_key t0.scale values) (by_key t0.scale (rows t))
+    (λ k is row. rows_held t0 values t a (number_of_key t0.scale k) (row_below t0.scale k is row)) a
+
 -- a table without rows
 no_rows : {K X : Type 0} (R : K → K → Ordering) (IsKey : K → Type 0) (IsIn : K → X → Type 0) (words : X → List ℕ)
     → IsTableOf IsKey IsIn words (λ k. None) (empty {X = X} {R = R})
@@ -67,8 +74,8 @@ no_rows R IsKey IsIn words = record {
   rows = λ k is. ap (option_map words) (get-empty R k);
 }
 
-pub no_records : (t0 : Database) (rows : List History) → AreTables t0 (λ k. None) (record (empty_database t0.scale) { items = t0.items; history = rows })
-no_records t0 rows = let s = t0.scale in record {
+pub no_records : (t0 : Database) (added : List History) → AreTables t0 (λ k. None) (record (empty_database t0.scale) { items = t0.items; history = added })
+no_records t0 added = let s = t0.scale in record {
   scale = refl;
   items = refl;
   warehouses = no_rows nat_cmp (IsWarehouseKey s) (IsWarehouseOf t0) warehouse_words;

@@ -53,14 +53,16 @@ pub fn values_determine_tables()
         → AreTables t0 values u → t.history ≡ u.history → t ≡ u }
 {}
 
-/// What the records of well-formed tables hold is what records may hold. Tables of some values hold these values,
-/// and where these may be held the tables are what the population's may become.
+/// What the records of well-formed tables hold is what records may hold. Tables of some values hold these values, so
+/// that they are tables of what they hold; and where these may be held the tables are what the population's may become.
 pub fn values_are_held()
     ensures may_hold { (t : Database) → IsWellFormed t → (k : RecordKey) → IsRecordKey t.scale k
         → MayHold t.scale k (row_at t k) }
     ensures lawful { (t : Database) → IsWellFormed t → AreLawful t.scale (rows t) }
     ensures rows { (t0 t : Database) (values : ℕ → Option (List ℕ)) → AreTables t0 (by_key t0.scale values) t
         → (n : ℕ) → n < row_count t0.scale → rows t n ≡ values n }
+    ensures own { (t0 t : Database) (values : ℕ → Option (List ℕ)) → AreTables t0 (by_key t0.scale values) t
+        → AreTables t0 (by_key t0.scale (rows t)) t }
     ensures population { (t0 t : Database) (values : RecordKey → Option (List ℕ)) → IsWellFormed t0
         → ((k : RecordKey) → IsRecordKey t0.scale k → MayHold t0.scale k (values k))
         → AreTables t0 values t → IsOf t0 t }

@@ -1,6 +1,6 @@
 mod Places
-mod Elements
-mod Numbered
+pub mod Elements
+pub mod Numbered
 mod Parts
 mod Logged
 mod Rows
