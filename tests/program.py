@@ -121,6 +121,23 @@ def a_script_is_answered_and_reported():
     ends("of the default scale", run(["script"]), 0, whole(b"", 0))
 
 
+# What tests/draws.py draws at this scale from these seeds.
+@shows
+def a_population_is_drawn_from_its_seed():
+    populations = [
+        ("0", 50, "customer 10 carrier - lines 5"),
+        ("1", 32, "customer 2 carrier - lines 14"),
+        ("2", 24, "customer 1 carrier - lines 10"),
+        ("18446744073709551615", 79, "customer 10 carrier - lines 9"),
+    ]
+    for seed, quantity, order in populations:
+        args = [*SMALL, "--population", seed]
+        ends(f"of no lines with seed {seed}", run(args), 0, whole(b"", 0))
+        answers = f"stock 1 1 quantity {quantity} ytd 0 orders 0 remote 0\norder 1 1 10 {order} local 1\n"
+        ran = run(args, b"show stock 1 1\nshow order 1 1 10\n")
+        ends(f"with seed {seed}", ran, 0, whole(answers.encode(), 0))
+
+
 @shows
 def lines_of_any_bytes_are_answered():
     nines = b"9" * (1024 - 21)
@@ -214,7 +231,7 @@ Options:
       --items <N>          The number of items, 20 to 100000 [default: 1000]
       --orders <N>         The order cap of a district, from the customers to 100000 [default: 3000]
       --commits <N>        The commit cap, 1 to 600000 [default: 100000]
-      --population <SEED>  The population: 0 is the plain one [default: 0]
+      --population <SEED>  The seed that the population is drawn from, or 0 for the plain one [default: 0]
   -h, --help               Print help
 """
 
@@ -240,6 +257,9 @@ def faults_of_the_words_go_to_the_errors():
         ("script more", b"error: unexpected argument 'more' found\n\nUsage: tpcc script [OPTIONS]"),
         ("script --items x", b"error: invalid value 'x' for '--items <N>': invalid digit found in string"),
         ("script --items", b"error: a value is required for '--items <N>' but none was supplied"),
+        ("script --population x", b"error: invalid value 'x' for '--population <SEED>': invalid digit found in string"),
+        ("script --population 18446744073709551616", b"error: invalid value '18446744073709551616' for"
+         b" '--population <SEED>': number too large to fit in target type"),
     ]
     for words, text in faults:
         ends(f"of {words!r}", run(words.split(), b"show warehouse 1\n"), 2, err=text + MORE)

@@ -87,7 +87,6 @@ asked_after after rows o is written =
       orders = writes_given (codes "orders") (codes "3000") (given after).rows script_rules _ refl refl refl 32 o.orders had.orders;
       commits = writes_given (codes "commits") (codes "100000") (given after).rows script_rules _ refl refl refl 32 o.commits had.commits;
       population = writes_given (codes "population") (codes "0") (given after).rows script_rules _ refl refl refl 64 o.population had.population;
-      is_plain = had.is_plain;
     }
 
 module _ {Z : Type 0} where

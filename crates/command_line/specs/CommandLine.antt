@@ -25,28 +25,40 @@ option name default parser = record (new_rule name) {
   parser = Some parser;
 }
 
+-- none of the command's arguments is global
+abbrev pub IsLocal : Command → Type 0
+IsLocal command = (out-Command command).has_globals ≡ false
+
 -- clap reads the command as this one, and none of its arguments is global
 abbrev pub HasApp : App → Command → Type 0
-HasApp app command = (app_of command ≡ app) × ((out-Command command).has_globals ≡ false)
+HasApp app command = (app_of command ≡ app) × IsLocal command
 
 -- an option whose value is a `u32`
 abbrev pub number_option : Text → Text → Rule
 number_option name default = option name default (Signed (pos 0) (pos 4294967295))
 
--- the options of `script`
-abbrev pub script_options : List Rule
-script_options = number_option (codes "warehouses") (codes "1")
+-- an option whose value is a `u64`
+abbrev pub seed_option : Text → Text → Rule
+seed_option name default = option name default (Unsigned 0 18446744073709551615)
+
+-- the options of the tables that a run begins with: their scale and their population
+abbrev pub table_options : List Rule
+table_options = number_option (codes "warehouses") (codes "1")
     ∷ number_option (codes "districts") (codes "10")
     ∷ number_option (codes "customers") (codes "100")
     ∷ number_option (codes "items") (codes "1000")
     ∷ number_option (codes "orders") (codes "3000")
     ∷ number_option (codes "commits") (codes "100000")
-    ∷ option (codes "population") (codes "0") (Unsigned 0 0)
+    ∷ seed_option (codes "population") (codes "0")
     ∷ []
+
+-- a command with them
+abbrev pub with_tables : App → App
+with_tables app = fold with_rule app table_options
 
 -- the subcommand `script`
 abbrev pub script_app : App
-script_app = fold with_rule (new_app (codes "script")) script_options
+script_app = with_tables (new_app (codes "script"))
 
 -- `tpcc` before its subcommand is added
 abbrev pub bare_app : App
@@ -102,7 +114,6 @@ pub record AreWritten (text : Text → Text → Option Text) (o : Options) : Typ
   pub orders : WritesNumber 32 (text (codes "orders") (codes "3000")) o.orders
   pub commits : WritesNumber 32 (text (codes "commits") (codes "100000")) o.commits
   pub population : WritesNumber 64 (text (codes "population") (codes "0")) o.population
-  pub is_plain : o.population ≡ 0
 
 -- clap finds no fault with the words, they name `script`, and those after it write these options
 pub record IsAskedBy (words : List Text) (o : Options) : Type 0 where

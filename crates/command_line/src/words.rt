@@ -1,11 +1,11 @@
 //! How the words of a command line are read.
 ghost use Rattle.std.specs.Prelude.{◌≡◌, ◌∷◌, IfErr, IfOk, List, Ok, Some, [], codes, false, map, string_bytes, ℕ};
-ghost use Rattle.clap.specs.Words.{found_of, kind_of, one_text, rows_of, rule_of};
+ghost use Rattle.clap.specs.Words.{app_of, found_of, kind_of, one_text, rows_of, rule_of};
 ghost use Rattle.clap.specs.Kinds.{HasKind};
-ghost use Rattle.clap.specs.declared.builder.value_parser.ValueParser.TheVariants.{Unsigned};
 ghost use Rattle.clap.specs.declared.error.kind.ErrorKind.TheVariants.{InvalidValue};
-ghost use Rattle.command_line.specs.CommandLine.{AreWritten, HasApp, IsAskedBy, IsOptionsRefusal, number_option};
-ghost use Rattle.command_line.specs.CommandLine.{option, program_app, script_app, text_in};
+ghost use Rattle.command_line.specs.CommandLine.{AreWritten, HasApp, IsAskedBy, IsLocal, IsOptionsRefusal};
+ghost use Rattle.command_line.specs.CommandLine.{number_option, program_app, script_app, seed_option, text_in};
+ghost use Rattle.command_line.specs.CommandLine.{with_tables as with_table_options};
 
 use crate::asked::{Options, Subcommand};
 use clap::error::ErrorKind;
@@ -40,12 +40,22 @@ fn program<'a>(alloc: Global) -> Result<Command<'a>, AllocError>
         .subcommand(script)
 }
 
-/// The subcommand `script`, with the options of the scale and the population.
+/// The subcommand `script`.
 fn script<'a>(alloc: Global) -> Result<Command<'a>, AllocError>
     ensures app { IfOk result (HasApp script_app) }
 {
-    Command::new(alloc, "script")
-        .about("Answers the lines of standard input, then reports the consistency conditions")
+    let command = Command::new(alloc, "script").about(
+        "Answers the lines of standard input, then reports the consistency conditions",
+    );
+    with_tables(alloc, command)
+}
+
+/// A subcommand with the options of the tables that it begins with: their scale and their population.
+fn with_tables<'a>(alloc: Global, command: Command<'a>) -> Result<Command<'a>, AllocError>
+    requires local { IsLocal command }
+    ensures app { IfOk result (HasApp (with_table_options (app_of command.entry))) }
+{
+    command
         .arg(number(alloc, "warehouses", "1", "The number of warehouses, 1 to 8"))?
         .arg(number(
             alloc,
@@ -67,7 +77,12 @@ fn script<'a>(alloc: Global) -> Result<Command<'a>, AllocError>
             "The order cap of a district, from the customers to 100000",
         ))?
         .arg(number(alloc, "commits", "100000", "The commit cap, 1 to 600000"))?
-        .arg(population(alloc))
+        .arg(seed(
+            alloc,
+            "population",
+            "0",
+            "The seed that the population is drawn from, or 0 for the plain one",
+        ))
 }
 
 /// An option that takes a number.
@@ -83,17 +98,17 @@ fn number<'a>(alloc: Global, name: &'a str, default: &'a str, help: &'a str) -> 
         .help(help)
 }
 
-/// The option of the population.
-fn population<'a>(alloc: Global) -> Arg<'a>
-    ensures rule { rule_of result ≡ option (codes "population") (codes "0") (Unsigned 0 0) }
+/// An option that takes a seed.
+fn seed<'a>(alloc: Global, name: &'a str, default: &'a str, help: &'a str) -> Arg<'a>
+    ensures rule { rule_of result ≡ seed_option name.entry.now default.entry.now }
     ensures local { result.global ≡ false }
 {
-    Arg::new(alloc, "population")
-        .long("population")
+    Arg::new(alloc, name)
+        .long(name)
         .value_name("SEED")
-        .value_parser(value_parser!(u64).range(0..=0))
-        .default_value("0")
-        .help("The population: 0 is the plain one")
+        .value_parser(value_parser!(u64))
+        .default_value(default)
+        .help(help)
 }
 
 /// The options that the matches of `script` give.
@@ -101,11 +116,6 @@ fn script_options(alloc: Global, script: &ArgMatches<'_>) -> Result<Options, Err
     ensures written { IfOk result (AreWritten (text_in (rows_of (found_of script.now)))) }
     ensures unread { IfErr result (HasKind (InvalidValue ∷ [])) }
 {
-    let population = value_of::<u64>(alloc, script, "population")?;
-    // The option's own parser lets no other value through.
-    if population != 0 {
-        return Err(refusal(alloc, "the value of '--population' is not 0")?);
-    }
     Ok(Options {
         subcommand: Subcommand::Script,
         warehouses: value_of::<u32>(alloc, script, "warehouses")?,
@@ -114,7 +124,7 @@ fn script_options(alloc: Global, script: &ArgMatches<'_>) -> Result<Options, Err
         items: value_of::<u32>(alloc, script, "items")?,
         orders: value_of::<u32>(alloc, script, "orders")?,
         commits: value_of::<u32>(alloc, script, "commits")?,
-        population,
+        population: value_of::<u64>(alloc, script, "population")?,
     })
 }
 

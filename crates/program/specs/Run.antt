@@ -1,5 +1,5 @@
 -- What a run of the program comes to: from its words and its input to its output, its errors and its exit status.
-use Rattle.std.specs.Prelude.{◌≡◌, ◌⊎◌, ◌++◌, ℕ, List, [], Option}
+use Rattle.std.specs.Prelude.{◌≡◌, ◌⊎◌, ◌++◌, ◌≤◌, ℕ, List, [], Option}
 use Rattle.std.specs.Io.KnownBytes.{Appends}
 use Rattle.std.specs.declared.io.Error.{Error as IoError}
 use Rattle.clap.specs.declared.error.Error.{Error}
@@ -8,6 +8,7 @@ use Rattle.money.specs.declared.refusal.Refusal.TheVariants.{OutOfMemory, BadInp
 use Rattle.tables.specs.Sizes.{Sizes, IsScale, sizes}
 use Rattle.tables.specs.Database.{Database}
 use Rattle.first_tables.specs.Plain.{IsPlain}
+use Rattle.first_tables.specs.First.{IsSeeded}
 use Rattle.conditions.specs.Report.{IsGood}
 use Rattle.conditions.specs.declared.report.Report.{Report}
 use Rattle.book.specs.Done.{Done}
@@ -21,12 +22,17 @@ use Rattle.program.specs.Detail.{IsDetail}
 abbrev pub scale_of : Options → Sizes
 scale_of o = sizes o.warehouses o.districts o.customers o.items o.orders o.commits
 
--- the script of these bytes was answered to its end, over the plain population of the scale that was asked for, and
--- this is its report
+-- the tables that a run begins with, by the number of its population: plain where it is 0, else drawn from it
+pub record IsPopulation (number : ℕ) (s : Sizes) (t : Database) : Type 0 where
+  pub plain : number ≡ 0 → IsPlain s t
+  pub seeded : 1 ≤ number → IsSeeded s t
+
+-- the script of these bytes was answered to its end, over the population and at the scale that were asked for, and this
+-- is its report
 pub record IsWholeRun (o : Options) (bytes : List ℕ) (old new : Option (List ℕ)) (report : Report) : Type 0 where
   pub lawful : IsScale (scale_of o)
   pub tables : Database
-  pub plain : IsPlain (scale_of o) tables
+  pub population : IsPopulation o.population (scale_of o) tables
   pub text : List ℕ
   pub dones : List Done
   pub wrote : Appends old new text
@@ -37,7 +43,8 @@ pub record IsWholeRun (o : Options) (bytes : List ℕ) (old new : Option (List �
 pub data IsRefusedRun (o : Options) (bytes : List ℕ) (old new : Option (List ℕ)) (refusal : Refusal) : Type 0 where
   scale : ¬ IsScale (scale_of o) → refusal ≡ BadScale → Appends old new [] → IsRefusedRun o bytes old new refusal
   memory : refusal ≡ OutOfMemory → Appends old new [] → IsRefusedRun o bytes old new refusal
-  begun : IsScale (scale_of o) → (tables : Database) (front : List ℕ) → IsPlain (scale_of o) tables
+  begun : IsScale (scale_of o) → (tables : Database) (front : List ℕ)
+      → IsPopulation o.population (scale_of o) tables
       → (refusal ≡ OutOfMemory) ⊎ (refusal ≡ BadInput) ⊎ (refusal ≡ Device) → Appends old new front
       → IsBeginning tables bytes front → IsRefusedRun o bytes old new refusal
 

@@ -1,7 +1,9 @@
 //! What the program does, from its words and its input to its output, its errors and its exit status.
 ghost use Rattle.std.specs.Prelude.{◌≡◌, ℕ, List, Some, [], IfOk, IfErr, map, string_bytes};
 ghost use Rattle.std.specs.Io.KnownBytes.{Appends};
-ghost use Rattle.program.specs.Run.{IsRun, IsWholeRun, IsRefusedRun};
+ghost use Rattle.money.specs.declared.refusal.Refusal.TheVariants.{OutOfMemory};
+ghost use Rattle.population.specs.Initial.{initial, seed_of};
+ghost use Rattle.program.specs.Run.{IsRun, IsWholeRun, IsRefusedRun, IsPopulation};
 
 use crate::detail::detail_of;
 use crate::ending::{USAGE_FAULT, finish, finish_refused};
@@ -15,6 +17,7 @@ use script::{script, write_text};
 use std::alloc::Global;
 use std::io::{Read, Write};
 use std::sync::Wait;
+use tables::Scale;
 
 /// Does what the words of a command line ask for, the first of which is the program's own name, from `input` to
 /// `output`, and answers the exit status. A fault of the words, or the help that they ask for, goes to `errors`, and
@@ -64,7 +67,7 @@ fn answer<T: Wait, R: Read, W: Write>(
         Ok(scale) => scale,
         Err(refusal) => return Err(refusal),
     };
-    let population = match Population::plain(alloc, scale) {
+    let population = match population_of(alloc, scale, options.population) {
         Ok(population) => population,
         Err(refusal) => return Err(refusal),
     };
@@ -74,6 +77,19 @@ fn answer<T: Wait, R: Read, W: Write>(
         Err(refusal) => return Err(refusal),
     };
     Ok(closed.0)
+}
+
+/// The population of this number: the plain one for 0, else the one that is drawn from it.
+fn population_of(alloc: Global, scale: Scale, number: u64) -> Result<Population, Refusal>
+    ensures rows { IfOk result (λ population. IsPopulation number scale (initial population)) }
+    ensures seed { IfOk result (λ population. seed_of population ≡ number) }
+    ensures only_memory { IfErr result (λ refusal. refusal ≡ OutOfMemory) }
+{
+    if number == 0 {
+        Population::plain(alloc, scale)
+    } else {
+        Population::seeded(alloc, scale, number)
+    }
 }
 
 /// Writes the text of a command line's fault, or of help. What can't be written is left aside.

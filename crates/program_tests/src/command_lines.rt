@@ -41,11 +41,13 @@ fn each_option_is_read(rt: HostRuntime) -> Result<(), Fail> {
         items: 50,
         orders: 60,
         commits: 70,
-        population: 0,
+        population: 18_446_744_073_709_551_615,
     };
     let lines = [
-        "tpcc script --warehouses 2 --districts 3 --customers 40 --items 50 --orders 60 --commits 70 --population 0",
-        "tpcc script --population=0 --commits=70 --orders=60 --items=50 --customers=40 --districts=3 --warehouses=2",
+        "tpcc script --warehouses 2 --districts 3 --customers 40 --items 50 --orders 60 --commits 70 \
+            --population 18446744073709551615",
+        "tpcc script --population=18446744073709551615 --commits=70 --orders=60 --items=50 \
+            --customers=40 --districts=3 --warehouses=2",
     ];
     for line in lines {
         let words = words(rt.alloc(), line)?;
@@ -66,8 +68,8 @@ fn an_error_names_what_is_wrong(rt: HostRuntime) -> Result<(), Fail> {
         ("tpcc script --orders", "'--orders <N>'"),
         ("tpcc script --items 20 --items 30", "'--items <N>'"),
         (
-            "tpcc script --population 5",
-            "'5' for '--population <SEED>'",
+            "tpcc script --population 18446744073709551616",
+            "'18446744073709551616' for '--population <SEED>'",
         ),
         ("tpcc report", "'report'"),
         ("tpcc", "Usage: tpcc <COMMAND>"),

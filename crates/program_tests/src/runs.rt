@@ -1,5 +1,7 @@
 //! Whole runs of the program over words, an input and two writers.
 
+#[cfg(test)]
+use crate::GOOD;
 use program::{Watched, run};
 use std::alloc::{AllocError, Global};
 use std::io::{self, Read, Write};
@@ -62,6 +64,27 @@ fn a_script_at_its_options(rt: HostRuntime) -> Result<(), Fail> {
 }
 
 #[test]
+fn a_population_by_its_seed(rt: HostRuntime) -> Result<(), Fail> {
+    let input = b"show stock 1 1\nshow order 1 1 1\n".as_slice();
+    let populations = [
+        (0, 50, "customer 1 carrier 1 lines 5"),
+        (1, 32, "customer 1 carrier 10 lines 14"),
+        (2, 24, "customer 6 carrier 9 lines 14"),
+    ];
+    for (seed, quantity, order) in populations {
+        let words = format!(in rt.alloc(); "{TWO} --population {seed}")?;
+        let ran = run_on(&rt, rt.alloc(), words.as_str(), input)?;
+        let expected = format!(in rt.alloc();
+            "stock 1 1 quantity {quantity} ytd 0 orders 0 remote 0\n\
+            order 1 1 1 {order} local 1\ncommits 0\n{GOOD}"
+        )?;
+        assert_eq!(rt; ran.output.as_slice(), expected.as_bytes(), "on {words}");
+        assert_eq!(rt; ran.status, 0, "on {words}");
+    }
+    Ok(())
+}
+
+#[test]
 fn faults_of_the_words(rt: HostRuntime) -> Result<(), Fail> {
     let faulty = [
         "tpcc",
@@ -69,7 +92,9 @@ fn faults_of_the_words(rt: HostRuntime) -> Result<(), Fail> {
         "tpcc script --warehouse 1",
         "tpcc script --warehouses x",
         "tpcc script --warehouses -1",
-        "tpcc script --population 1",
+        "tpcc script --population x",
+        "tpcc script --population -1",
+        "tpcc script --population 18446744073709551616",
         "tpcc script --help",
     ];
     for words in faulty {

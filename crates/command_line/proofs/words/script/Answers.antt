@@ -1,21 +1,16 @@
-use Rattle.std.proofs.Common.{rules, codes}
-use Rattle.std.proofs.lemmas.Result.{IfOk-weaker}
-use Rattle.clap.specs.Words.{new_app}
-use Rattle.clap.specs.declared.builder.value_parser.ValueParser.TheVariants.{Unsigned}
-use Rattle.command_line.specs.CommandLine.{number_option, option}
-use Rattle.command_line.proofs.Building.{described, more}
+use Rattle.std.proofs.Common.{codes, subst}
+use Rattle.std.specs.Prelude.{IfOk}
+use Rattle.clap.specs.Words.{App, new_app}
+use Rattle.command_line.specs.CommandLine.{HasApp, with_tables}
+use Rattle.command_line.proofs.Building.{described}
 use Rattle.command_line.proofs.words.script.Goals as goal
+
+pub with_tables-requires : goal.with_tables-requires
+with_tables-requires c =
+    let bare = described (new_app (codes "script")) c.new.result c.about-command.result _ (c.new.ensures.app, c.new.ensures.local) c.about-command.ensures in
+    record { local = bare.1 }
 
 pub returns : goal.returns
 returns c =
-    let zero = described (new_app (codes "script")) c.new.result c.about.result _ (c.new.ensures.app, c.new.ensures.local) c.about.ensures in
-    let one = more _ (number_option (codes "warehouses") (codes "1")) _ _ _ zero c.in_ok-arg.ensures (search rules) c.number.ensures.local in
-    let two = more _ (number_option (codes "districts") (codes "10")) _ _ _ one c.in_ok-arg-2.ensures (search rules) c.number-2.ensures.local in
-    let three = more _ (number_option (codes "customers") (codes "100")) _ _ _ two c.in_ok-arg-3.ensures (search rules) c.number-3.ensures.local in
-    let four = more _ (number_option (codes "items") (codes "1000")) _ _ _ three c.in_ok-arg-4.ensures (search rules) c.number-4.ensures.local in
-    let five = more _ (number_option (codes "orders") (codes "3000")) _ _ _ four c.in_ok-arg-5.ensures (search rules) c.number-5.ensures.local in
-    let six = more _ (number_option (codes "commits") (codes "100000")) _ _ _ five c.in_ok-arg-6.ensures (search rules) c.number-6.ensures.local in
-    let last = option (codes "population") (codes "0") (Unsigned 0 0) in
-    record {
-      app = IfOk-weaker c.arg-7.result _ _ (λ command added. more _ last _ _ _ six added (search rules) c.population.ensures.local) c.arg-7.ensures;
-    }
+    let bare = described (new_app (codes "script")) c.new.result c.about-command.result _ (c.new.ensures.app, c.new.ensures.local) c.about-command.ensures in
+    record { app = subst (λ (app : App). IfOk c.with_tables.result (HasApp (with_tables app))) bare.0 c.with_tables.ensures.app }
