@@ -12,7 +12,7 @@ returns-clause-whole g c = λ bytes left.
       lawful = limits.1;
       tables = initial c.in-Ok-population_of.population;
       population = subst (λ (s : Sizes). IsPopulation c.args.options.now.population s (initial c.in-Ok-population_of.population)) limits.0
-      c.in-Ok-population_of.ensures.rows;
+          c.in-Ok-population_of.ensures.rows;
       text = whole.0;
       dones = c.in-Ok-script.closed.1.items;
       wrote = whole.1;
