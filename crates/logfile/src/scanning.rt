@@ -1,5 +1,5 @@
 //! Reading a log file back.
-ghost use Rattle.std.specs.Prelude.{◌≡◌, ◌≢◌, ◌+◌, ◌-◌, ◌^◌, min, List, map, IfOk, IfErr, IsErrOf};
+ghost use Rattle.std.specs.Prelude.{◌≡◌, ◌≢◌, ◌+◌, ◌-◌, ◌<◌, ◌^◌, ℕ, min, List, length, map, IfOk, IfErr, IsErrOf};
 ghost use Rattle.money.specs.declared.refusal.Refusal.TheVariants.{OutOfMemory, Damaged, Device};
 ghost use Rattle.log_header.specs.Header.{HeaderView};
 ghost use Rattle.log_text.specs.Bodies.{BodyView, body_of};
@@ -19,6 +19,8 @@ use std::alloc::Global;
 /// log file, unless it refuses for memory.
 pub fn scan<D: Disk>(alloc: Global, disk: &mut D) -> Result<(Header, Vec<Body>), Refusal>
     ensures found { D.is_modelled → IfOk result (λ x. IsFile (D.seen disk.old) x.0 (map body_of x.1.items)) }
+    ensures read { IfOk result (λ x. (file : List ℕ) × (length file < 2 ^ 64)
+        × (D.is_modelled → file ≡ D.seen disk.old) × IsFile file x.0 (map body_of x.1.items)) }
     ensures damaged { D.is_modelled → IsErrOf result Damaged → (h : HeaderView) (bodies : List BodyView)
         → IsFile (D.seen disk.old) h bodies → ⊥ }
     ensures failed { IsErrOf result Device → D.failed disk.new ≡ min (D.failed disk.old + 1) (2 ^ 64 - 1) }

@@ -2,9 +2,9 @@ use Rattle.std.proofs.Common.{◌≡◌, ℕ, List, ◌∙◌, subst}
 use Rattle.std.specs.List.{fold}
 use Rattle.std.specs.Ordering.{nat_cmp}
 use Rattle.std.specs.BTreeMap.{get}
-use Rattle.recover.specs.declared.latest.Latest.{Latest}
-use Rattle.recover.proofs.Joining.{raised, all_raised}
-use Rattle.recover.proofs.latest.merge.Goals as goal
+use Rattle.restoring.specs.declared.latest.Latest.{Latest}
+use Rattle.restoring.proofs.Joining.{raised, all_raised}
+use Rattle.restoring.proofs.latest.merge.Goals as goal
 
 pub returns : goal.returns
 returns c = λ n.

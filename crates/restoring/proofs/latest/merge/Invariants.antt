@@ -2,8 +2,8 @@ use Rattle.std.proofs.Common.{◌≡◌, ℕ}
 use Rattle.std.specs.List.{fold}
 use Rattle.std.specs.Ordering.{nat_cmp}
 use Rattle.std.specs.BTreeMap.{get}
-use Rattle.recover.proofs.Joining.{raised}
-use Rattle.recover.proofs.latest.merge.Given as goal
+use Rattle.restoring.proofs.Joining.{raised}
+use Rattle.restoring.proofs.latest.merge.Given as goal
 
 -- what the entries that are left make of each record is what all make of the first
 abbrev pub invariant-loop-number : goal.invariant-loop-number

@@ -8,15 +8,15 @@ use Rattle.std.specs.BTreeMap.{is_at}
 use Rattle.std.specs.Ordering.{nat_cmp}
 use Rattle.std.specs.declared.cmp.Ordering.TheVariants.{Less}
 use Rattle.std.proofs.lemmas.Bool.Decides.{nat_tests}
-use Rattle.recover.specs.Latest.{newer, joined}
-use Rattle.recover.specs.declared.latest.Latest.{Latest}
+use Rattle.restoring.specs.Latest.{newer, joined}
+use Rattle.restoring.specs.declared.latest.Latest.{Latest}
 
 -- what is known of record n once a write of a record is kept
 abbrev pub raised : ℕ → Option Latest → ℕ × Latest → Option Latest
 raised n known e = cond (n == e.0) (Some (newer known e.1)) known
 
 -- no later key is this one
-none_later : (n : ℕ) (es : List (ℕ × Latest)) → AllByRecursion (λ k. nat_cmp n k ≡ Less) (keys_of es) → lookup (is_at (nat_cmp n)) es ≡ None
+pub none_later : (n : ℕ) (es : List (ℕ × Latest)) → AllByRecursion (λ k. nat_cmp n k ≡ Less) (keys_of es) → lookup (is_at (nat_cmp n)) es ≡ None
 none_later n [] h = refl
 none_later n (e ∷ es) h =
     let less : nat_cmp n e.0 ≡ Less = h.0 in

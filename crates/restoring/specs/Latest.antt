@@ -1,6 +1,6 @@
 -- The newest writes of records, as far as entries of log files were looked at.
 use Rattle.std.specs.Prelude.{nat_lt, ◌==◌, ◌&&◌, ◌||◌, Bool, Option, Some, None, if◌then◌else◌}
-use Rattle.recover.specs.declared.latest.Latest.{Latest}
+use Rattle.restoring.specs.declared.latest.Latest.{Latest}
 
 -- whether a write is older than another of the same record: of a smaller TID, or of the same and a smaller commit number
 abbrev pub is_older : Latest → Latest → Bool

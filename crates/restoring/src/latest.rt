@@ -2,7 +2,7 @@
 ghost use Rattle.std.specs.Prelude.{◌≡◌, ◌==◌, ℕ, Some, OnOk, OnErr, if◌then◌else◌};
 ghost use Rattle.std.specs.Ordering.{nat_cmp};
 ghost use Rattle.std.specs.BTreeMap.{get, IsUnchanged};
-ghost use Rattle.recover.specs.Latest.{is_older, newer, joined};
+ghost use Rattle.restoring.specs.Latest.{is_older, newer, joined};
 
 use money::Payload;
 use std::alloc::AllocError;
