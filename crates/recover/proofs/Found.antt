@@ -1,0 +1,43 @@
+-- What recovery finds in log files.
+use Rattle.std.proofs.Common.{◌≡◌, true, ℕ, ◌<◌, get_or, List, [], ◌∷◌, length, sym, ap, subst}
+use Rattle.std.specs.List.{All, flat_map}
+use Rattle.std.proofs.lemmas.List.Concat.{flat_map-cons}
+use Rattle.std.proofs.lemmas.List.Elements.{All-append, All-from_get_or, All-head, All-tail}
+use Rattle.tables.specs.Sizes.{Sizes}
+use Rattle.log_header.specs.Header.{header_view}
+use Rattle.log_text.specs.Bodies.{BodyView}
+use Rattle.log_text.specs.Entries.{EntryView}
+use Rattle.log_text.specs.Writes.{are_writes}
+use Rattle.crashes.specs.Recovering.{counts, counted, entries_of}
+use Rattle.rebuilt.specs.Found.{durable_of, found}
+use Rattle.rebuilt.proofs.Elements.{has_to}
+use Rattle.recover.specs.Files.{AreFiles}
+use Rattle.recover.specs.Parts.{HaveLawfulWrites}
+use Rattle.recover.proofs.LawfulEntries.{lawful_entries}
+use Rattle.recover.proofs.Looking.{all_from, all_passed}
+
+-- the entries of log files have lawful writes
+pub files_lawful : (s : Sizes) (seed : ℕ) (strings : List (List ℕ)) (files : List (List BodyView)) → AreFiles s seed strings files
+    → All (λ bodies. HaveLawfulWrites s (entries_of bodies)) files
+files_lawful s seed strings files are = All-from_get_or (λ (bodies : List BodyView). HaveLawfulWrites s (entries_of bodies)) files [] each
+  where
+    each : (l : ℕ) → l < length files → HaveLawfulWrites s (entries_of (get_or files l []))
+    each l lt =
+        let is = are.each l (subst (λ (n : ℕ). l < n) are.count lt) in
+        all_from (λ (e : EntryView). are_writes s e.writes ≡ true) (entries_of (get_or files l []))
+        (λ e h. lawful_entries (get_or strings l []) (header_view l (length strings) s seed) (get_or files l []) is e (has_to (entries_of (get_or files l [])) e h))
+
+-- so have those that count
+pub counted_lawful : (s : Sizes) (durable : ℕ) (files : List (List BodyView)) → All (λ bodies. HaveLawfulWrites s (entries_of bodies)) files
+    → HaveLawfulWrites s (flat_map (counted durable) files)
+counted_lawful s durable [] all = all_from (λ (e : EntryView). are_writes s e.writes ≡ true) [] (λ e never. absurd never)
+counted_lawful s durable (file ∷ files) all =
+    let P = λ (e : EntryView). are_writes s e.writes ≡ true in
+    let each = λ (bodies : List BodyView). HaveLawfulWrites s (entries_of bodies) in
+    subst (HaveLawfulWrites s) (sym (flat_map-cons (counted durable) file files))
+    (All-append P (counted durable file) (flat_map (counted durable) files)
+    (all_passed P (λ e. counts durable e.tid) (entries_of file) (All-head each file files all)) (counted_lawful s durable files (All-tail each file files all)))
+
+-- what counts up to the durable epoch is what is found
+pub counted_found : (durable : ℕ) (files : List (List BodyView)) → durable ≡ durable_of files → flat_map (counted durable) files ≡ found files
+counted_found durable files is = ap (λ (d : ℕ). flat_map (counted d) files) is

@@ -1,0 +1,13 @@
+mod Looking
+mod Knowing
+mod Ordering
+mod Rebuilding
+mod Found
+mod Crashed
+mod LawfulEntries
+mod Ranges
+mod RowsOfWords
+mod LawfulWrites
+mod HistoryWords
+mod LastMarks
+mod Reading

@@ -1,0 +1,167 @@
+-- Reading log files, disk after disk.
+use Rattle.std.proofs.Common.{◌≡◌, ℕ, ◌+◌, ◌-◌, ◌<◌, ◌≤◌, ◌^◌, min, List, [], ◌∷◌, ◌++◌, map, length, get_or, set, take, Vec, Global, refl, sym, ap, ◌∙◌, subst, arith, below_more}
+use Rattle.std.proofs.lemmas.List.{get_or-map, get_or-set_same, length-set, length-map, length_push, get_or_append_left, get_or_push, take_more, take_all, map_push}
+use Rattle.std.proofs.Math.Seq.{map-set_same}
+use Rattle.tables.specs.Sizes.{Sizes}
+use Rattle.disk.specs.Calls.{Call}
+use Rattle.log_header.specs.Header.{HeaderView, header_view}
+use Rattle.log_text.specs.Bodies.{BodyView}
+use Rattle.log_text.specs.File.{IsFile}
+use Rattle.log_text.specs.declared.body.Body.{Body}
+use Rattle.recover.specs.Files.{AreFiles, AreShort, bodies_in, HasFailed}
+
+abbrev pub bodies_of_file : Vec Body Global → List BodyView
+bodies_of_file bodies = bodies_in bodies.items
+
+-- file l of these strings, with these bodies
+abbrev IsShortFile : List ℕ → HeaderView → List BodyView → Type 0
+IsShortFile t h bodies = (length t < 2 ^ 64) × IsFile t h bodies
+
+abbrev IsFileAt : (ℕ → HeaderView) → List (List ℕ) → List (List BodyView) → ℕ → Type 0
+IsFileAt headers strings files l = IsShortFile (get_or strings l []) (headers l) (get_or files l [])
+
+module _ (headers : ℕ → HeaderView) (strings : List (List ℕ)) (files : List (List BodyView)) (i : ℕ)
+    (strings_count : length strings ≡ i) (files_count : length files ≡ i) (string : List ℕ) (file : List BodyView) where
+  stays : (l : ℕ) → l < i → IsFileAt headers strings files l
+      → IsFileAt headers (strings ++ string ∷ []) (files ++ file ∷ []) l
+  stays l less is =
+      subst (λ (t : List ℕ). IsShortFile t (headers l) (get_or (files ++ file ∷ []) l []))
+      (sym (get_or_append_left strings (string ∷ []) [] l (omega (arith, less, strings_count))))
+      (subst (λ (bodies : List BodyView). IsShortFile (get_or strings l []) (headers l) bodies)
+      (sym (get_or_append_left files (file ∷ []) [] l (omega (arith, less, files_count)))) is)
+
+  comes : IsShortFile string (headers i) file → IsFileAt headers (strings ++ string ∷ []) (files ++ file ∷ []) i
+  comes is =
+      subst (λ (t : List ℕ). IsShortFile t (headers i) (get_or (files ++ file ∷ []) i []))
+      (sym (get_or_push strings string [] i strings_count))
+      (subst (λ (bodies : List BodyView). IsShortFile string (headers i) bodies)
+      (sym (get_or_push files file [] i files_count)) is)
+
+  -- one file more, in its place
+  one_more : ((l : ℕ) → l < i → IsFileAt headers strings files l) → IsShortFile string (headers i) file
+      → (l : ℕ) → l < i + 1 → IsFileAt headers (strings ++ string ∷ []) (files ++ file ∷ []) l
+  one_more each is =
+      below_more (IsFileAt headers (strings ++ string ∷ []) (files ++ file ∷ [])) i
+      (λ l less. stays l less (each l less)) (comes is)
+
+-- the first i disks are read, and no disk has changed
+pub record IsReadSoFar {X : Type 0} (modelled : Type 0) (seen : X → List ℕ) (story : X → List Call) (failed : X → ℕ)
+    (s : Sizes) (seed : ℕ) (first : List X) (i : ℕ) (disks : List X) (files : List (Vec Body Global)) : Type 0 where
+  pub count : length disks ≡ length first
+  pub strings : List (List ℕ)
+  pub strings_count : length strings ≡ i
+  pub files_count : length files ≡ i
+  pub are_seen : modelled → strings ≡ take i (map seen first)
+  pub each : (l : ℕ) → l < i → IsFileAt (λ n. header_view n (length first) s seed) strings (map bodies_of_file files) l
+  pub same_seen : modelled → map seen disks ≡ map seen first
+  pub same_story : modelled → map story disks ≡ map story first
+  pub same_failed : map failed disks ≡ map failed first
+
+module _ {X : Type 0} {modelled : Type 0} {seen : X → List ℕ} {story : X → List Call} {failed : X → ℕ}
+    {s : Sizes} {seed : ℕ} {first : List X} where
+  pub begins : {files : List (Vec Body Global)} → files ≡ []
+      → IsReadSoFar modelled seen story failed s seed first 0 first files
+  begins none = record {
+    count = refl;
+    strings = [];
+    strings_count = refl;
+    files_count = ap (λ (l : List (Vec Body Global)). length l) none;
+    are_seen = λ _. refl;
+    each = λ l less. absurd (omega (arith, less));
+    same_seen = λ _. refl;
+    same_story = λ _. refl;
+    same_failed = refl;
+  }
+
+  pub ends : {i : ℕ} {disks : List X} {files : List (Vec Body Global)} → length first ≤ i → i ≤ length first
+      → IsReadSoFar modelled seen story failed s seed first i disks files
+      → (strings : List (List ℕ)) × (modelled → strings ≡ map seen first) × AreShort strings
+      × AreFiles s seed strings (map bodies_of_file files)
+  ends {i} {disks} {files} low high so_far =
+      let all : length first ≡ length so_far.strings = omega (arith, low, high, so_far.strings_count) in (
+        so_far.strings,
+        (λ given. so_far.are_seen given ∙ take_all i (map seen first) (omega (arith, low, length-map first seen))),
+        (λ l less. (so_far.each l (omega (arith, less, so_far.strings_count))).0),
+        record {
+          count = length-map files bodies_of_file ∙ so_far.files_count ∙ sym so_far.strings_count;
+          each = λ l less. (subst
+              (λ (n : ℕ). IsFileAt (λ k. header_view k n s seed) so_far.strings (map bodies_of_file files) l)
+              all (so_far.each l (omega (arith, less, so_far.strings_count)))).1;
+        },
+      )
+
+  -- disk i, whatever stands for those past the end, becomes now
+  module _ {i : ℕ} {disks : List X} {files : List (Vec Body Global)} (past now : X)
+      (so_far : IsReadSoFar modelled seen story failed s seed first i disks files) where
+    pub seen_stays : (modelled → seen now ≡ seen (get_or disks i past))
+        → modelled → map seen (set disks i now) ≡ map seen first
+    seen_stays same given = map-set_same seen disks i now past (same given) ∙ so_far.same_seen given
+
+    pub story_stays : (modelled → story now ≡ story (get_or disks i past))
+        → modelled → map story (set disks i now) ≡ map story first
+    story_stays same given = map-set_same story disks i now past (same given) ∙ so_far.same_story given
+
+    pub failed_stays : failed now ≡ failed (get_or disks i past) → map failed (set disks i now) ≡ map failed first
+    failed_stays same = map-set_same failed disks i now past same ∙ so_far.same_failed
+
+    module _ (within : i < length disks) where
+      abbrev headers : ℕ → HeaderView
+      headers l = header_view l (length first) s seed
+
+      here : {Y : Type 0} (f : X → Y) (e : Y) → map f disks ≡ map f first
+          → get_or (map f first) i e ≡ f (get_or disks i past)
+      here f e same = (λ j. get_or (sym same j) i e) ∙ get_or-map f disks i past e within
+
+      among : {Y : Type 0} (f : X → Y) → i < length (map f first)
+      among f = omega (arith, within, so_far.count, length-map first f)
+
+      pub goes_on : (bodies : Vec Body Global) {longer : List (Vec Body Global)}
+          → ((string : List ℕ) × (length string < 2 ^ 64) × (modelled → string ≡ seen (get_or disks i past))
+          × IsFile string (header_view i (length disks) s seed) (bodies_of_file bodies))
+          → (modelled → seen now ≡ seen (get_or disks i past)) → (modelled → story now ≡ story (get_or disks i past))
+          → failed now ≡ failed (get_or disks i past) → longer ≡ files ++ bodies ∷ []
+          → IsReadSoFar modelled seen story failed s seed first (i + 1) (set disks i now) longer
+      goes_on bodies {longer} read seen_same story_same failed_same pushed = record {
+        count = length-set disks i now ∙ so_far.count;
+        strings = so_far.strings ++ read.0 ∷ [];
+        strings_count = length_push so_far.strings read.0 ∙ ap (λ (n : ℕ). n + 1) so_far.strings_count;
+        files_count = ap (λ (l : List (Vec Body Global)). length l) pushed ∙ length_push files bodies
+            ∙ ap (λ (n : ℕ). n + 1) so_far.files_count;
+        are_seen = λ given.
+            (λ j. so_far.are_seen given j ++ (read.2 given ∙ sym (here seen [] (so_far.same_seen given))) j ∷ [])
+            ∙ sym (take_more (map seen first) i [] (among seen));
+        each = subst
+            (λ (l : List (List BodyView)). (n : ℕ) → n < i + 1 → IsFileAt headers (so_far.strings ++ read.0 ∷ []) l n)
+            (sym (map_push bodies_of_file files bodies) ∙ ap (map bodies_of_file) (sym pushed))
+            (one_more headers so_far.strings (map bodies_of_file files) i so_far.strings_count
+            (length-map files bodies_of_file ∙ so_far.files_count) read.0 (bodies_of_file bodies) so_far.each
+            (read.1, subst (λ (n : ℕ). IsFile read.0 (header_view i n s seed) (bodies_of_file bodies)) so_far.count read.3));
+        same_seen = seen_stays seen_same;
+        same_story = story_stays story_same;
+        same_failed = failed_stays failed_same;
+      }
+
+      -- a disk that holds no such file
+      pub none : modelled
+          → ((bodies : List BodyView)
+          → IsFile (seen (get_or disks i past)) (header_view i (length disks) s seed) bodies → ⊥)
+          → (all : List (List BodyView)) → AreFiles s seed (map seen first) all → ⊥
+      none given missing all are =
+          let bodies = get_or all i [] in
+          missing bodies
+          (subst (λ (t : List ℕ). IsFile t (header_view i (length disks) s seed) bodies)
+          (here seen [] (so_far.same_seen given))
+          (subst (λ (n : ℕ). IsFile (get_or (map seen first) i []) (header_view i n s seed) bodies)
+          (length-map first seen ∙ sym so_far.count) (are.each i (among seen))))
+
+      -- a disk whose call fails
+      pub fails : failed now ≡ min (failed (get_or disks i past) + 1) (2 ^ 64 - 1)
+          → HasFailed (map failed first) (map failed (set disks i now))
+      fails e = record {
+        device = i;
+        among = among failed;
+        failed =
+            get_or-map failed (set disks i now) i now 0 (omega (arith, within, length-set disks i now))
+            ∙ ap failed (get_or-set_same disks i now now within) ∙ e
+            ∙ ap (λ (n : ℕ). min (n + 1) (2 ^ 64 - 1)) (sym (here failed 0 so_far.same_failed));
+      }

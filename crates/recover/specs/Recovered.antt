@@ -1,0 +1,44 @@
+-- What recovery gives.
+use Rattle.std.specs.Prelude.{◌≡◌, ℕ, ◌<◌, List, [], ◌++◌, length, slice_index_or}
+use Rattle.std.specs.List.{All, Contains}
+use Rattle.tables.specs.Sizes.{Sizes}
+use Rattle.tables.specs.Database.{Database, database}
+use Rattle.log_text.specs.Bodies.{BodyView}
+use Rattle.book.specs.History.{replay}
+use Rattle.book.specs.declared.entry.Entry.{Entry}
+use Rattle.crashes.specs.Recovering.{cut}
+use Rattle.crashes.specs.World.{Life, World}
+use Rattle.rebuilt.specs.Found.{found, durable_of}
+use Rattle.rebuilt.specs.Rebuilt.{HaveNoGap, IsRebuilt}
+use Rattle.recover.specs.Files.{AreFiles, AreShort}
+use Rattle.recover.specs.declared.recovering.Recovered.{Recovered}
+
+-- what was recovered from these strings of bytes: they are the database's log files, the tables are rebuilt from what
+-- counts in them, and so many entries count, up to this epoch
+pub record IsRecovery (t0 : Database) (seed : ℕ) (strings : List (List ℕ)) (r : Recovered) : Type 0 where
+  pub files : List (List BodyView)
+  pub short : AreShort strings
+  pub read : AreFiles t0.scale seed strings files
+  pub rebuilt : IsRebuilt t0 (found files) (database r.tables)
+  pub commits : r.commits ≡ length (found files)
+  pub durable : r.durable ≡ durable_of files
+
+-- they are its log files, but a commit that counts is missing
+pub record HasGap (s : Sizes) (seed : ℕ) (strings : List (List ℕ)) : Type 0 where
+  pub files : List (List BodyView)
+  pub short : AreShort strings
+  pub read : AreFiles s seed strings files
+  pub gap : HaveNoGap (found files) → ⊥
+
+-- strings in the order of the loggers' numbers
+pub record AreInTurn (loggers : ℕ) (by_logger : ℕ → List ℕ) (strings : List (List ℕ)) : Type 0 where
+  pub count : length strings ≡ loggers
+  pub each : (l : ℕ) → l < length strings → slice_index_or strings l [] ≡ by_logger l
+
+-- what was recovered is a beginning of what had happened: its commits up to the durable epoch, in replay, and among them
+-- each whose reply was released
+pub record IsBeginningOf (life : Life) (w : World) (r : Recovered) : Type 0 where
+  pub rest : List Entry
+  pub beginning : w.history ≡ cut r.durable w.history ++ rest
+  pub tables : database r.tables ≡ replay life.first (cut r.durable w.history)
+  pub released : All (Contains (cut r.durable w.history)) w.released
