@@ -9,6 +9,7 @@ Prints a line for each check that failed, and at last `N passed, M failed`; exit
 
 import os
 import resource
+import struct
 import subprocess
 import sys
 import tempfile
@@ -213,19 +214,16 @@ HELP = b"""TPC-C on Silo's commit, with proofs
 Usage: tpcc <COMMAND>
 
 Commands:
-  script  Answers the lines of standard input, then reports the consistency conditions
-  help    Print this message or the help of the given subcommand(s)
+  script   Answers the lines of standard input, then reports the consistency conditions
+  recover  Shows what log files recover to: durable epoch, commits, and the rows of warehouses and districts
+  check    Reports the consistency conditions of what log files recover to
+  help     Print this message or the help of the given subcommand(s)
 
 Options:
   -h, --help  Print help
 """
 
-SCRIPT_HELP = b"""Answers the lines of standard input, then reports the consistency conditions
-
-Usage: tpcc script [OPTIONS]
-
-Options:
-      --warehouses <N>     The number of warehouses, 1 to 8 [default: 1]
+TABLE_OPTIONS = b"""      --warehouses <N>     The number of warehouses, 1 to 8 [default: 1]
       --districts <N>      Districts of a warehouse, 1 to 10 [default: 10]
       --customers <N>      Customers of a district, 10 to 3000 [default: 100]
       --items <N>          The number of items, 20 to 100000 [default: 1000]
@@ -234,6 +232,26 @@ Options:
       --population <SEED>  The seed that the population is drawn from, or 0 for the plain one [default: 0]
   -h, --help               Print help
 """
+
+SCRIPT_HELP = b"""Answers the lines of standard input, then reports the consistency conditions
+
+Usage: tpcc script [OPTIONS]
+
+Options:
+""" + TABLE_OPTIONS
+
+LOGS_HELP = b"""
+
+Usage: tpcc %s [OPTIONS] --logs <DIR> --loggers <N>
+
+Options:
+      --logs <DIR>         The folder of the log files, log-0, log-1 and so on
+      --loggers <N>        How many loggers wrote them, 1 to 8
+""" + TABLE_OPTIONS
+
+RECOVER_HELP = b"Shows what log files recover to: durable epoch, commits, and the rows of warehouses and districts"
+
+CHECK_HELP = b"Reports the consistency conditions of what log files recover to"
 
 MORE = b"\n\nFor more information, try '--help'.\n"
 
@@ -244,6 +262,8 @@ def help_goes_to_the_errors():
         ends(f"of {args}", run(args), 2, err=HELP)
     for args in (["script", "--help"], ["help", "script"]):
         ends(f"of {args}", run(args), 2, err=SCRIPT_HELP)
+    ends("of recover", run(["recover", "--help"]), 2, err=RECOVER_HELP + LOGS_HELP % b"recover")
+    ends("of check", run(["check", "--help"]), 2, err=CHECK_HELP + LOGS_HELP % b"check")
 
 
 @shows
@@ -260,6 +280,12 @@ def faults_of_the_words_go_to_the_errors():
         ("script --population x", b"error: invalid value 'x' for '--population <SEED>': invalid digit found in string"),
         ("script --population 18446744073709551616", b"error: invalid value '18446744073709551616' for"
          b" '--population <SEED>': number too large to fit in target type"),
+        ("recover --logs . --loggers 9", b"error: invalid value '9' for '--loggers <N>': 9 is not in 1..=8"),
+        ("check --logs . --loggers 0", b"error: invalid value '0' for '--loggers <N>': 0 is not in 1..=8"),
+        ("recover --loggers 1", b"error: the following required arguments were not provided:\n  --logs <DIR>\n\n"
+                                b"Usage: tpcc recover --logs <DIR> --loggers <N>"),
+        ("check --logs .", b"error: the following required arguments were not provided:\n  --loggers <N>\n\n"
+                           b"Usage: tpcc check --logs <DIR> --loggers <N>"),
     ]
     for words, text in faults:
         ends(f"of {words!r}", run(words.split(), b"show warehouse 1\n"), 2, err=text + MORE)
@@ -300,6 +326,106 @@ def a_scale_outside_its_limits_is_refused():
     for words, detail in scales:
         ran = run(["script", *words.split()], b"show warehouse 1\n")
         ends(f"of {words}", ran, 2, err=b"13 BadScale\n%s\n" % detail.encode())
+
+
+# ---- Log files
+
+
+def entry(number, epoch, terminal):
+    """The entry of a commit: customer `number` of district 1 pays 1.00 there, after the customers before."""
+    paid = 100 * number
+    writes = [
+        struct.pack("<BIBq", 1, 0, 1, 20_000 + paid),
+        struct.pack("<BIBqQ", 2, 0, 1, 10_000 + paid, 11),
+        struct.pack("<BIBqqQQ", 3, number - 1, 1, -1_100, 1_100, 2, 0),
+        struct.pack("<BIB7Q", 4, 0, 1, number, 1, 1, 1, 1, number, 100),
+    ]
+    return struct.pack("<QQHH", number, epoch << 32, terminal, len(writes)) + b"".join(writes)
+
+
+def body(mark, *entries):
+    """A body, but for the gate that follows it, which its length counts."""
+    text = struct.pack("<Q", mark) + b"".join(entries)
+    return struct.pack("<Q", len(text) + 1) + text
+
+
+def log(logger, loggers, *bodies):
+    """A log file at the scale of SMALL, over the plain population: its header, then each body behind an open gate."""
+    header = struct.pack("<8sIHH6IQ", b"SILOTPCC", 1, logger, loggers, 1, 2, 10, 20, 30, 1000, 0)
+    return header + b"".join(b"\1" + text for text in bodies) + b"\0"
+
+
+LATER = log(1, 2, body(7, entry(2, 5, 1), entry(3, 6, 1), entry(4, 7, 1), entry(5, 8, 1)))
+
+LOGS = [log(0, 2, body(5, entry(1, 4, 0))), LATER]
+
+
+def on_logs(subcommand, files, loggers=None, scale=SMALL[1:], **how):
+    """Runs a subcommand on a folder of these log files. The folder is called DIR in what the errors got."""
+    with tempfile.TemporaryDirectory() as folder:
+        for logger, text in enumerate(files):
+            (Path(folder) / f"log-{logger}").write_bytes(text)
+        args = [subcommand, *scale, "--logs", folder, "--loggers", str(loggers or len(files))]
+        ran = run(args, **how)
+        return ran._replace(err=ran.err.replace(folder.encode(), b"DIR"))
+
+
+@shows
+def log_files_are_recovered():
+    shown = b"durable 5\ncommits 2\nwarehouse 1 ytd 202.00\ndistrict 1 1 ytd 102.00 next 11\n"
+    other = b"district 1 2 ytd 100.00 next 11\n"
+    ends("of recover", on_logs("recover", LOGS), 0, shown + other)
+    ends("of check", on_logs("check", LOGS), 0, whole(b"", 2))
+    first = b"durable 0\ncommits 0\nwarehouse 1 ytd 200.00\ndistrict 1 1 ytd 100.00 next 11\n"
+    ends("of recover without bodies", on_logs("recover", [log(0, 1)]), 0, first + other)
+    ends("of check without bodies", on_logs("check", [log(0, 1)]), 0, whole(b"", 0))
+    left_aside = [LOGS[0] + b"\1rest", LATER]
+    ends("of what follows a closed gate", on_logs("recover", left_aside), 0, shown + other)
+
+
+@shows
+def log_files_of_eight_loggers_are_recovered():
+    files = [log(n, 8, body(9, entry(n + 1, n + 1, n))) for n in range(8)]
+    shown = b"durable 9\ncommits 8\nwarehouse 1 ytd 208.00\ndistrict 1 1 ytd 108.00 next 11\n"
+    ends("of recover", on_logs("recover", files), 0, shown + b"district 1 2 ytd 100.00 next 11\n")
+    ends("of check", on_logs("check", files), 0, whole(b"", 8))
+
+
+@shows
+def log_files_that_are_none_are_refused():
+    damaged = [
+        ("47 bytes", [log(0, 1)[:47]]),
+        ("no gate", [log(0, 1)[:48]]),
+        ("an open gate and nothing behind", [log(0, 1)[:48] + b"\1"]),
+        ("the other order", LOGS[::-1]),
+        ("a mark that falls", [log(0, 1, body(5), body(4))]),
+        ("another logger's terminal", [log(0, 2, body(5, entry(1, 4, 1))), LATER]),
+    ]
+    for subcommand in ("recover", "check"):
+        for what, files in damaged:
+            ends(f"of {subcommand} on {what}", on_logs(subcommand, files), 1, err=b"10 Damaged\n")
+        ran = on_logs(subcommand, LOGS, loggers=1)
+        ends(f"of {subcommand} on one of two", ran, 1, err=b"10 Damaged\n")
+        ran = on_logs(subcommand, LOGS, scale=[*SMALL[1:], "--population", "1"])
+        ends(f"of {subcommand} on another population", ran, 1, err=b"10 Damaged\n")
+        ran = on_logs(subcommand, [log(0, 2, body(5)), LATER])
+        ends(f"of {subcommand} on a gap", ran, 1, err=b"11 Gap\n")
+        ran = on_logs(subcommand, LOGS, loggers=3)
+        ends(f"of {subcommand} without a file", ran, 1, err=b"9 Device\nDIR/log-2: can't be opened\n")
+        ran = on_logs(subcommand, [b""], loggers=2)
+        ends(f"of {subcommand} without the second", ran, 1, err=b"9 Device\nDIR/log-1: can't be opened\n")
+        ran = on_logs(subcommand, LOGS, scale=["--items", "1"])
+        text = b"13 BadScale\n--items is 1: it is to be from 20 to 100000\n"
+        ends(f"of {subcommand} at a bad scale", ran, 2, err=text)
+
+
+@shows
+def log_files_are_told_on_an_output_that_fails():
+    for subcommand in ("recover", "check"):
+        with open("/dev/full", "wb") as full:
+            ran = on_logs(subcommand, LOGS, stdout=full)
+        text = b"9 Device\nstandard output: No space left on device (os error 28)\n"
+        ends(f"of {subcommand} at a full device", ran, 1, err=text)
 
 
 # ---- Devices and memory

@@ -1,5 +1,8 @@
 -- From the rows of `script` with their defaults to what its words give.
-use Rattle.std.proofs.Common.{◌≡◌, ◌∙◌, ◌||◌, List, [], ◌∷◌, ◌++◌, ℕ, ap, ap₂, sym, subst, refl, Bool, cond, false, true, Option, Some, None}
+use Rattle.std.proofs.Common.{◌≡◌, ◌∙◌, ◌&&◌, ◌||◌, List, [], ◌∷◌, ◌++◌, ℕ, ap, ap₂, sym, subst, refl, Bool, cond, false, true, Option, Some, None}
+use Rattle.std.proofs.Common.{true≢false}
+use Rattle.std.proofs.lemmas.Bool.{or_parts}
+use Rattle.std.specs.List.{list_any}
 use Rattle.std.specs.Prelude.{find, fold, is_some, option_and_then}
 use Rattle.std.specs.Option.{option_or}
 use Rattle.std.specs.Str.{bytes_eq}
@@ -109,3 +112,48 @@ writes_given name d rows rules a found defaults plain bits n writes = go (at nam
         let same : one_of name (fold with_default rows rules) ≡ one_of name rows =
         ap (option_and_then row_text) (all_kept name r rows rules has) ∙ sym (ap (option_and_then row_text) has) in
         with_row (one_of name rows) (subst (λ (o : Option Text). WritesNumber bits o n) same writes)
+
+-- the first rule of this name has this one default, which is read as it stands
+abbrev pub HasDefault : List Rule → Text → Text → Type 0
+HasDefault rules name d = (a : Rule) × (find (λ x. bytes_eq x.id name) rules ≡ Some a) × (a.defaults ≡ d ∷ []) × (read_as (reading_by a) d ≡ d)
+
+pub default_given : (name d : Text) (rows : List Row) (rules : List Rule) → HasDefault rules name d → (bits n : ℕ)
+    → WritesNumber bits (one_of name (fold with_default rows rules)) n → WritesNumber bits (option_or (one_of name rows) (Some d)) n
+default_given name d rows rules has = writes_given name d rows rules has.0 has.1 has.2 has.3
+
+abbrev pub has_any : List Text → Bool
+has_any [] = false
+has_any (d ∷ ds) = true
+
+-- a rule of this name has a default
+abbrev pub has_default : Text → List Rule → Bool
+has_default name rules = list_any (λ a. bytes_eq a.id name && has_any a.defaults) rules
+
+-- where none has, the rows with defaults are the given ones, at this name
+pub no_default : (name : Text) (rows : List Row) (rules : List Rule) → has_default name rules ≡ false
+    → find (λ r. bytes_eq r.id name) (fold with_default rows rules) ≡ find (λ r. bytes_eq r.id name) rows
+no_default name rows rules none = go (at name rows) refl
+  where
+    unset : (a : Rule) (rs : List Row) → (bytes_eq a.id name && has_any a.defaults) ≡ false → at name rs ≡ None → at name (with_default rs a) ≡ None
+    unset a rs unset_here miss = by_name (bytes_eq a.id name) refl a.defaults refl unset_here
+      where
+        kept_whole : (b : Bool) → at name (cond b rs rs) ≡ None
+        kept_whole true = miss
+        kept_whole false = miss
+
+        by_name : (b : Bool) → bytes_eq a.id name ≡ b → (ds : List Text) → a.defaults ≡ ds → (b && has_any ds) ≡ false
+            → at name (with_default rs a) ≡ None
+        by_name false other ds is e = passed name rs a other miss
+        by_name true same [] is e =
+            ap (λ (ds : List Text). at name (cond (has_row a.id rs) rs (default_rows a.id (reading_by a) ds rs))) is ∙ kept_whole (has_row a.id rs)
+        by_name true same (d ∷ ds) is e = absurd (true≢false e)
+
+    all_unset : (rules : List Rule) (rs : List Row) → has_default name rules ≡ false → at name rs ≡ None → at name (fold with_default rs rules) ≡ None
+    all_unset [] rs unset_here miss = miss
+    all_unset (a ∷ rules) rs unset_here miss =
+        let parts = or_parts _ _ unset_here in
+        all_unset rules (with_default rs a) parts.1 (unset a rs parts.0 miss)
+
+    go : (o : Option Row) → at name rows ≡ o → at name (fold with_default rows rules) ≡ at name rows
+    go None miss = all_unset rules rows none miss ∙ sym miss
+    go (Some r) has = all_kept name r rows rules has ∙ sym has

@@ -1,20 +1,23 @@
 -- What the words of a command line ask for, as clap reads them for the program's command.
-use Rattle.std.specs.Prelude.{◌≡◌, ◌<◌, ◌^◌, ℕ, pos, true, List, [], ◌∷◌, Option, false, Some, None, codes}
-use Rattle.std.specs.Prelude.{drop, fold}
+use Rattle.std.specs.Prelude.{◌≡◌, ◌<◌, ◌^◌, ℕ, pos, true, List, [], ◌∷◌, Option, false, Some, None, ⊤, codes}
+use Rattle.std.specs.Prelude.{drop, fold, string_bytes}
 use Rattle.std.specs.Option.{option_or}
 use Rattle.std.specs.Str.Parse.{IsNumeral, digits_value, without_leading_plus}
-use Rattle.clap.specs.Walk.{Held, Row, Rule, Text, nothing_held, one_of, settled, stop_after, walk}
-use Rattle.clap.specs.Simple.{App, Shape, app_of, built, built_leaf, inherited, names_of, new_app, new_rule}
+use Rattle.clap.specs.Walk.{Row, Rule, Text, first_of, nothing_held, one_of, settled, stop_after, walk}
+use Rattle.clap.specs.Simple.{App, app_of, built, built_leaf, inherited, names_of, new_app, new_rule}
 use Rattle.clap.specs.Simple.{with_rule, with_subcommand}
 use Rattle.clap.specs.Kinds.{HasKind}
 use Rattle.clap.specs.Faults.{fault_of}
 use Rattle.clap.specs.declared.builder.command.Command.{Command}
 use Rattle.clap.specs.declared.builder.command.Command.TheViews.{out-Command}
 use Rattle.clap.specs.declared.builder.value_parser.ValueParser.{ValueParser}
-use Rattle.clap.specs.declared.builder.value_parser.ValueParser.TheVariants.{Signed, Unsigned}
+use Rattle.clap.specs.declared.builder.value_parser.ValueParser.TheVariants.{NonEmptyString, Signed, Unsigned}
 use Rattle.clap.specs.declared.error.Error.{Error}
 use Rattle.clap.specs.declared.error.kind.ErrorKind.TheVariants.{InvalidValue}
+use Rattle.command_line.specs.declared.asked.LogFiles.{LogFiles}
 use Rattle.command_line.specs.declared.asked.Options.{Options}
+use Rattle.command_line.specs.declared.asked.Subcommand.{Subcommand}
+use Rattle.command_line.specs.declared.asked.Subcommand.TheVariants.{Script, Recover, Check}
 
 -- `--NAME VALUE`, with the default that stands for it and the parser that its value passes
 abbrev pub option : Text → Text → ValueParser → Rule
@@ -56,9 +59,35 @@ table_options = number_option (codes "warehouses") (codes "1")
 abbrev pub with_tables : App → App
 with_tables app = fold with_rule app table_options
 
+-- the folder of log files, which must be given, and not empty
+abbrev pub folder_option : Rule
+folder_option = record (new_rule (codes "logs")) {
+  long = Some (codes "logs");
+  value_names = 1;
+  required = true;
+  parser = Some NonEmptyString;
+}
+
+-- the number of their loggers, which must be given, from 1 to 8
+abbrev pub loggers_option : Rule
+loggers_option = record (new_rule (codes "loggers")) {
+  long = Some (codes "loggers");
+  value_names = 1;
+  required = true;
+  parser = Some (Signed (pos 1) (pos 8));
+}
+
+-- a command with the options of log files
+abbrev pub with_logs : App → App
+with_logs app = with_rule (with_rule app folder_option) loggers_option
+
 -- the subcommand `script`
 abbrev pub script_app : App
 script_app = with_tables (new_app (codes "script"))
+
+-- a subcommand of this name that reads log files, as `recover` and `check`
+abbrev pub on_logs_app : Text → App
+on_logs_app name = with_tables (with_logs (new_app name))
 
 -- `tpcc` before its subcommand is added
 abbrev pub bare_app : App
@@ -69,33 +98,42 @@ bare_app = record (new_app (codes "tpcc")) {
   };
 }
 
+-- what a subcommand is called
+abbrev pub name_of : Subcommand → Text
+name_of Script = codes "script"
+name_of (Recover files) = codes "recover"
+name_of (Check files) = codes "check"
+
+-- its command
+abbrev pub app_for : Subcommand → App
+app_for Script = script_app
+app_for (Recover files) = on_logs_app (codes "recover")
+app_for (Check files) = on_logs_app (codes "check")
+
 -- the program's command, as clap reads it
 abbrev pub program_app : App
-program_app = with_subcommand bare_app script_app.top
+program_app = with_subcommand (with_subcommand (with_subcommand bare_app script_app.top)
+    (on_logs_app (codes "recover")).top) (on_logs_app (codes "check")).top
 
 -- the subcommand that the words of the program name, and the words after it
 abbrev pub subcommand_words : List Text → Option (Text × List Text)
 subcommand_words words =
     stop_after (built program_app).top.rules (names_of (built program_app)) (drop 1 words)
 
--- `script` as clap builds it
-abbrev pub built_script : Shape
-built_script = built_leaf (inherited program_app.top script_app.top)
+-- a subcommand's arguments as clap builds them, the last of which is `--help`
+abbrev pub rules_for : Subcommand → List Rule
+rules_for s = (built_leaf (inherited program_app.top (app_for s).top)).rules
 
--- its arguments, the last of which is `--help`
-abbrev pub script_rules : List Rule
-script_rules = built_script.rules
+-- what the words after a subcommand give for its arguments, before any default
+abbrev pub given : List Rule → List Text → List Row
+given rules words = (settled rules (walk rules [] nothing_held words).held).rows
 
--- what the words after `script` give for its arguments, before any default
-abbrev pub given : List Text → Held
-given words = settled script_rules (walk script_rules [] nothing_held words).held
+-- the text that stands for an option of this name and default: the one that the words give, or the
+-- default
+abbrev pub text_for : List Row → Text → Text → Option Text
+text_for rows name default = option_or (one_of name rows) (Some default)
 
--- the text that stands for an option of this name and default: the one that the words after
--- `script` give, or the default
-abbrev pub text_for : List Text → Text → Text → Option Text
-text_for words name default = option_or (one_of name (given words).rows) (Some default)
-
--- the text that stands for it in the matches of `script`, which hold the defaults
+-- the text that stands for it in the matches of a subcommand, which hold the defaults
 abbrev pub text_in : List Row → Text → Text → Option Text
 text_in rows name default = one_of name rows
 
@@ -115,12 +153,24 @@ pub record AreWritten (text : Text → Text → Option Text) (o : Options) : Typ
   pub commits : WritesNumber 32 (text (codes "commits") (codes "100000")) o.commits
   pub population : WritesNumber 64 (text (codes "population") (codes "0")) o.population
 
--- clap finds no fault with the words, they name `script`, and those after it write these options
+-- the folder is the text that is given for it, and the loggers are the number that theirs writes
+pub record AreLogFiles (rows : List Row) (files : LogFiles) : Type 0 where
+  pub folder : first_of (codes "logs") rows ≡ Some (string_bytes files.folder)
+  pub loggers : WritesNumber 32 (one_of (codes "loggers") rows) files.loggers
+
+-- so it is of the subcommands that read log files
+abbrev pub HasLogFiles : List Row → Subcommand → Type 0
+HasLogFiles rows Script = ⊤
+HasLogFiles rows (Recover files) = AreLogFiles rows files
+HasLogFiles rows (Check files) = AreLogFiles rows files
+
+-- clap finds no fault with the words, they name the subcommand, and those after it write these options
 pub record IsAskedBy (words : List Text) (o : Options) : Type 0 where
   pub faultless : fault_of program_app words ≡ []
   pub after : List Text
-  pub script : subcommand_words words ≡ Some (codes "script", after)
-  pub options : AreWritten (text_for after) o
+  pub subcommand : subcommand_words words ≡ Some (name_of o.subcommand, after)
+  pub tables : AreWritten (text_for (given (rules_for o.subcommand) after)) o
+  pub logs : HasLogFiles (given (rules_for o.subcommand) after) o.subcommand
 
 -- memory ran out, or the error's kind is one of clap's faults with the words, or that of a value
 -- that can't be read

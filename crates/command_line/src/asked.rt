@@ -4,14 +4,27 @@ use money::Refusal;
 use tables::Scale;
 
 /// What the program is to do.
-#[derive(Clone, Copy, Debug, PartialEq, Eq)]
+#[derive(Debug, Drop, PartialEq, Eq)]
 pub enum Subcommand {
     /// `script`: answers the lines of standard input.
     Script,
+    /// `recover`: shows what log files recover to.
+    Recover(LogFiles),
+    /// `check`: reports the conditions of what log files recover to.
+    Check(LogFiles),
+}
+
+/// Where the log files of a database lie: in one folder, a file for each logger, `log-0`, `log-1` and so on.
+#[derive(Debug, Drop, PartialEq, Eq)]
+pub struct LogFiles {
+    /// `--logs`: the folder's path.
+    pub folder: String,
+    /// `--loggers`, 1 to 8.
+    pub loggers: u32,
 }
 
 /// A command line: the subcommand and its options.
-#[derive(Clone, Copy, Debug, PartialEq, Eq)]
+#[derive(Debug, Drop, PartialEq, Eq)]
 pub struct Options {
     pub subcommand: Subcommand,
     /// `--warehouses`.

@@ -4,5 +4,5 @@
 mod asked;
 mod words;
 
-pub use asked::{Options, Subcommand};
+pub use asked::{LogFiles, Options, Subcommand};
 pub use words::options;

@@ -3,27 +3,30 @@ ghost use Rattle.std.specs.Prelude.{◌≡◌, ◌∷◌, IfErr, IfOk, List, Ok,
 ghost use Rattle.clap.specs.Words.{app_of, found_of, kind_of, one_text, rows_of, rule_of};
 ghost use Rattle.clap.specs.Kinds.{HasKind};
 ghost use Rattle.clap.specs.declared.error.kind.ErrorKind.TheVariants.{InvalidValue};
-ghost use Rattle.command_line.specs.CommandLine.{AreWritten, HasApp, IsAskedBy, IsLocal, IsOptionsRefusal};
-ghost use Rattle.command_line.specs.CommandLine.{number_option, program_app, script_app, seed_option, text_in};
-ghost use Rattle.command_line.specs.CommandLine.{with_tables as with_table_options};
+ghost use Rattle.command_line.specs.CommandLine.{AreLogFiles, AreWritten, HasApp, HasLogFiles, IsAskedBy, IsLocal};
+ghost use Rattle.command_line.specs.CommandLine.{IsOptionsRefusal, folder_option, loggers_option, name_of};
+ghost use Rattle.command_line.specs.CommandLine.{number_option, on_logs_app, program_app, script_app, seed_option};
+ghost use Rattle.command_line.specs.CommandLine.{text_in};
+ghost use Rattle.command_line.specs.CommandLine.{with_logs as with_log_options, with_tables as with_table_options};
 
-use crate::asked::{Options, Subcommand};
+use crate::asked::{LogFiles, Options, Subcommand};
+use clap::builder::ValueParser;
 use clap::error::ErrorKind;
 use clap::{Arg, ArgMatches, Command, Error, value_parser};
 use std::alloc::{AllocError, Global};
 use std::str::FromStr;
 
-/// The options that these words ask for, the first of which is the program's own name: each is the number
-/// that the words give for it after `script`, or its default. An error's text says what is wrong with the
-/// words, or is the help that they ask for.
+/// The options that these words ask for, the first of which is the program's own name: the subcommand is the one that
+/// they name, and each option is what the words behind it give, or its default. An error's text says what is wrong with
+/// the words, or is the help that they ask for.
 pub fn options(alloc: Global, words: &[String]) -> Result<Options, Error>
     ensures asked { IfOk result (IsAskedBy (map string_bytes words.now)) }
     ensures refused { IfErr result (IsOptionsRefusal (map string_bytes words.now)) }
 {
     let command = program(alloc)?;
     let matches = command.try_get_matches_from(words)?;
-    match matches.subcommand_matches("script") {
-        Some(script) => script_options(alloc, script),
+    match matches.subcommand() {
+        Some((name, given)) => options_given(alloc, name, given),
         None => Err(refusal(alloc, "a subcommand is required")?),
     }
 }
@@ -33,12 +36,23 @@ fn program<'a>(alloc: Global) -> Result<Command<'a>, AllocError>
     ensures app { IfOk result (HasApp program_app) }
 {
     let script = script(alloc)?;
+    let recover = on_log_files(alloc, "recover", RECOVER)?;
+    let check = on_log_files(alloc, "check", CHECK)?;
     Command::new(alloc, "tpcc")
         .about("TPC-C on Silo's commit, with proofs")
         .subcommand_required(true)
         .arg_required_else_help(true)
-        .subcommand(script)
+        .subcommand(script)?
+        .subcommand(recover)?
+        .subcommand(check)
 }
+
+/// What `recover` is for.
+const RECOVER: &str =
+    "Shows what log files recover to: durable epoch, commits, and the rows of warehouses and districts";
+
+/// What `check` is for.
+const CHECK: &str = "Reports the consistency conditions of what log files recover to";
 
 /// The subcommand `script`.
 fn script<'a>(alloc: Global) -> Result<Command<'a>, AllocError>
@@ -48,6 +62,49 @@ fn script<'a>(alloc: Global) -> Result<Command<'a>, AllocError>
         "Answers the lines of standard input, then reports the consistency conditions",
     );
     with_tables(alloc, command)
+}
+
+/// A subcommand of this name that reads log files.
+fn on_log_files<'a>(alloc: Global, name: &'a str, about: &'a str) -> Result<Command<'a>, AllocError>
+    ensures app { IfOk result (HasApp (on_logs_app name.entry.now)) }
+{
+    let command = Command::new(alloc, name).about(about);
+    let command = with_logs(alloc, command)?;
+    with_tables(alloc, command)
+}
+
+/// A subcommand with the options of log files: where they lie, and how many there are.
+fn with_logs<'a>(alloc: Global, command: Command<'a>) -> Result<Command<'a>, AllocError>
+    requires local { IsLocal command }
+    ensures app { IfOk result (HasApp (with_log_options (app_of command.entry))) }
+{
+    command.arg(folder(alloc))?.arg(loggers(alloc))
+}
+
+/// The option `--logs`, which must stand.
+fn folder<'a>(alloc: Global) -> Arg<'a>
+    ensures rule { rule_of result ≡ folder_option }
+    ensures local { result.global ≡ false }
+{
+    Arg::new(alloc, "logs")
+        .long("logs")
+        .value_name("DIR")
+        .value_parser(ValueParser::NonEmptyString)
+        .required(true)
+        .help("The folder of the log files, log-0, log-1 and so on")
+}
+
+/// The option `--loggers`, which must stand.
+fn loggers<'a>(alloc: Global) -> Arg<'a>
+    ensures rule { rule_of result ≡ loggers_option }
+    ensures local { result.global ≡ false }
+{
+    Arg::new(alloc, "loggers")
+        .long("loggers")
+        .value_name("N")
+        .value_parser(value_parser!(u32).range(1..=8))
+        .required(true)
+        .help("How many loggers wrote them, 1 to 8")
 }
 
 /// A subcommand with the options of the tables that it begins with: their scale and their population.
@@ -111,24 +168,55 @@ fn seed<'a>(alloc: Global, name: &'a str, default: &'a str, help: &'a str) -> Ar
         .help(help)
 }
 
-/// The options that the matches of `script` give.
-fn script_options(alloc: Global, script: &ArgMatches<'_>) -> Result<Options, Error>
-    ensures written { IfOk result (AreWritten (text_in (rows_of (found_of script.now)))) }
+/// The options that the matches of the subcommand of this name give.
+fn options_given(alloc: Global, name: &str, given: &ArgMatches<'_>) -> Result<Options, Error>
+    ensures named { IfOk result (λ o. name.now ≡ name_of o.subcommand) }
+    ensures written { IfOk result (AreWritten (text_in (rows_of (found_of given.now)))) }
+    ensures logs { IfOk result (λ o. HasLogFiles (rows_of (found_of given.now)) o.subcommand) }
     ensures unread { IfErr result (HasKind (InvalidValue ∷ [])) }
 {
     Ok(Options {
-        subcommand: Subcommand::Script,
-        warehouses: value_of::<u32>(alloc, script, "warehouses")?,
-        districts: value_of::<u32>(alloc, script, "districts")?,
-        customers: value_of::<u32>(alloc, script, "customers")?,
-        items: value_of::<u32>(alloc, script, "items")?,
-        orders: value_of::<u32>(alloc, script, "orders")?,
-        commits: value_of::<u32>(alloc, script, "commits")?,
-        population: value_of::<u64>(alloc, script, "population")?,
+        subcommand: subcommand(alloc, name, given)?,
+        warehouses: value_of::<u32>(alloc, given, "warehouses")?,
+        districts: value_of::<u32>(alloc, given, "districts")?,
+        customers: value_of::<u32>(alloc, given, "customers")?,
+        items: value_of::<u32>(alloc, given, "items")?,
+        orders: value_of::<u32>(alloc, given, "orders")?,
+        commits: value_of::<u32>(alloc, given, "commits")?,
+        population: value_of::<u64>(alloc, given, "population")?,
     })
 }
 
-/// The value of the option, which has a default and whose parser lets only a `T` through.
+/// The subcommand of this name, with the log files that its matches give.
+fn subcommand(alloc: Global, name: &str, given: &ArgMatches<'_>) -> Result<Subcommand, Error>
+    ensures named { IfOk result (λ s. name.now ≡ name_of s) }
+    ensures logs { IfOk result (HasLogFiles (rows_of (found_of given.now))) }
+    ensures unread { IfErr result (HasKind (InvalidValue ∷ [])) }
+{
+    match name {
+        "script" => Ok(Subcommand::Script),
+        "recover" => Ok(Subcommand::Recover(log_files(alloc, given)?)),
+        "check" => Ok(Subcommand::Check(log_files(alloc, given)?)),
+        _ => Err(refusal(alloc, "a subcommand is required")?),
+    }
+}
+
+/// The log files that the matches give.
+fn log_files(alloc: Global, given: &ArgMatches<'_>) -> Result<LogFiles, Error>
+    ensures written { IfOk result (AreLogFiles (rows_of (found_of given.now))) }
+    ensures unread { IfErr result (HasKind (InvalidValue ∷ [])) }
+{
+    let loggers = value_of::<u32>(alloc, given, "loggers")?;
+    match given.get_str("logs") {
+        Some(folder) => Ok(LogFiles {
+            folder: String::from_str(alloc, folder)?,
+            loggers,
+        }),
+        None => Err(refusal(alloc, "'--logs' is required")?),
+    }
+}
+
+/// The value of the option, which stands or has a default, and whose parser lets only a `T` through.
 fn value_of<T: FromStr>(alloc: Global, matches: &ArgMatches<'_>, name: &str) -> Result<T, Error>
 where
     T::Err: Drop,

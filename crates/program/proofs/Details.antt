@@ -10,10 +10,11 @@ some_line : (name : List ℕ) → (line : List ℕ) × IsStreamLine name line
 some_line name = (name ++ (codes ": " ++ ([] ++ codes "\n")), ([], refl))
 
 -- for each refusal there is something to be told
-pub some_detail : (s : Sizes) (input output : Option Error) (refusal : Refusal)
-    → (detail : List ℕ) × IsDetail s input output refusal detail
-some_detail s input output BadScale = (scale_line s, refl)
-some_detail s (Some error) output Device = some_line (codes "standard input")
-some_detail s None (Some error) Device = some_line (codes "standard output")
-some_detail s None None Device = ([], refl)
-some_detail s input output _ = ([], refl)
+pub some_detail : (s : Sizes) (unopened : Option (List ℕ)) (input output : Option Error) (refusal : Refusal)
+    → (detail : List ℕ) × IsDetail s unopened input output refusal detail
+some_detail s unopened input output BadScale = (scale_line s, refl)
+some_detail s (Some path) input output Device = (path ++ codes ": can't be opened\n", refl)
+some_detail s None (Some error) output Device = some_line (codes "standard input")
+some_detail s None None (Some error) Device = some_line (codes "standard output")
+some_detail s None None None Device = ([], refl)
+some_detail s unopened input output _ = ([], refl)

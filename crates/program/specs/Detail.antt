@@ -38,14 +38,16 @@ scale_line s =
 abbrev pub IsStreamLine : List ℕ → List ℕ → Type 0
 IsStreamLine name line = (reason : List ℕ) × (line ≡ name ++ (codes ": " ++ (reason ++ codes "\n")))
 
--- the line on the stream on which the last call failed, by the errors of the last calls on the input and on the output
-abbrev pub IsDeviceLine : Option Error → Option Error → List ℕ → Type 0
-IsDeviceLine (Some error) _ line = IsStreamLine (codes "standard input") line
-IsDeviceLine None (Some error) line = IsStreamLine (codes "standard output") line
-IsDeviceLine None None line = line ≡ []
+-- the line on the file that couldn't be opened, or else on the stream on which the last call failed, by the errors of
+-- the last calls on the input and on the output
+abbrev pub IsDeviceLine : Option (List ℕ) → Option Error → Option Error → List ℕ → Type 0
+IsDeviceLine (Some path) _ _ line = line ≡ path ++ codes ": can't be opened\n"
+IsDeviceLine None (Some error) _ line = IsStreamLine (codes "standard input") line
+IsDeviceLine None None (Some error) line = IsStreamLine (codes "standard output") line
+IsDeviceLine None None None line = line ≡ []
 
 -- what is told behind a refusal's line, over this scale
-abbrev pub IsDetail : Sizes → Option Error → Option Error → Refusal → List ℕ → Type 0
-IsDetail s input output BadScale line = line ≡ scale_line s
-IsDetail s input output Device line = IsDeviceLine input output line
-IsDetail s input output _ line = line ≡ []
+abbrev pub IsDetail : Sizes → Option (List ℕ) → Option Error → Option Error → Refusal → List ℕ → Type 0
+IsDetail s unopened input output BadScale line = line ≡ scale_line s
+IsDetail s unopened input output Device line = IsDeviceLine unopened input output line
+IsDetail s unopened input output _ line = line ≡ []

@@ -1,3 +1,4 @@
 pub mod Status
 pub mod Detail
+pub mod Logs
 pub mod Run

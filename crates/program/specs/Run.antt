@@ -1,5 +1,5 @@
 -- What a run of the program comes to: from its words and its input to its output, its errors and its exit status.
-use Rattle.std.specs.Prelude.{◌≡◌, ◌⊎◌, ◌++◌, ◌≤◌, ℕ, List, [], Option}
+use Rattle.std.specs.Prelude.{◌≡◌, ◌⊎◌, ◌++◌, ◌≤◌, ℕ, List, [], Option, None}
 use Rattle.std.specs.Io.KnownBytes.{Appends}
 use Rattle.std.specs.declared.io.Error.{Error as IoError}
 use Rattle.clap.specs.declared.error.Error.{Error}
@@ -15,8 +15,12 @@ use Rattle.book.specs.Done.{Done}
 use Rattle.script.specs.Written.{IsWhole, IsBeginning}
 use Rattle.command_line.specs.CommandLine.{IsAskedBy, IsOptionsRefusal}
 use Rattle.command_line.specs.declared.asked.Options.{Options}
+use Rattle.command_line.specs.declared.asked.Subcommand.{Subcommand}
+use Rattle.command_line.specs.declared.asked.Subcommand.TheVariants.{Script, Recover, Check}
+use Rattle.recovery.specs.Told.{Shows, Reports}
 use Rattle.program.specs.Status.{IsRefusedStatus, refusal_line, WritesBeginning}
 use Rattle.program.specs.Detail.{IsDetail}
+use Rattle.program.specs.Logs.{IsShownWith, IsCheckedWith, IsRefusedWith}
 
 -- the scale that options ask for
 abbrev pub scale_of : Options → Sizes
@@ -27,30 +31,56 @@ pub record IsPopulation (number : ℕ) (s : Sizes) (t : Database) : Type 0 where
   pub plain : number ≡ 0 → IsPlain s t
   pub seeded : 1 ≤ number → IsSeeded s t
 
--- the script of these bytes was answered to its end, over the population and at the scale that were asked for, and this
--- is its report
+-- the script of these bytes was answered to its end from these tables on, and this is its report
+pub record IsAnswered (t0 : Database) (bytes : List ℕ) (old new : Option (List ℕ)) (report : Report) : Type 0 where
+  pub text : List ℕ
+  pub dones : List Done
+  pub wrote : Appends old new text
+  pub whole : IsWhole t0 bytes text report dones
+
+-- or it was refused, when a beginning of its text was written
+pub record IsBrokenOff (t0 : Database) (bytes : List ℕ) (old new : Option (List ℕ)) (refusal : Refusal) : Type 0 where
+  pub front : List ℕ
+  pub cause : (refusal ≡ OutOfMemory) ⊎ (refusal ≡ BadInput) ⊎ (refusal ≡ Device)
+  pub wrote : Appends old new front
+  pub beginning : IsBeginning t0 bytes front
+
+-- a subcommand was done, over a population of these tables and this seed, and it ends with this report
+abbrev pub IsDone : Database → ℕ → Subcommand → List ℕ → Option (List ℕ) → Option (List ℕ) → Report → Type 0
+IsDone t0 seed Script bytes old new report = IsAnswered t0 bytes old new report
+IsDone t0 seed (Recover files) bytes old new report = IsShownWith t0 seed old new report
+IsDone t0 seed (Check files) bytes old new report = IsCheckedWith t0 seed old new report
+
+-- or it was refused, where this file couldn't be opened, if that is why
+abbrev pub IsFailed : Database → ℕ → Subcommand → List ℕ → Option (List ℕ) → Option (List ℕ) → Refusal
+    → Option (List ℕ) → Type 0
+IsFailed t0 seed Script bytes old new refusal unopened = IsBrokenOff t0 bytes old new refusal × (unopened ≡ None)
+IsFailed t0 seed (Recover files) bytes old new refusal unopened =
+    IsRefusedWith files Shows t0 seed old new refusal unopened
+IsFailed t0 seed (Check files) bytes old new refusal unopened =
+    IsRefusedWith files Reports t0 seed old new refusal unopened
+
+-- what was asked for was done, over the population and at the scale that were asked for
 pub record IsWholeRun (o : Options) (bytes : List ℕ) (old new : Option (List ℕ)) (report : Report) : Type 0 where
   pub lawful : IsScale (scale_of o)
   pub tables : Database
   pub population : IsPopulation o.population (scale_of o) tables
-  pub text : List ℕ
-  pub dones : List Done
-  pub wrote : Appends old new text
-  pub whole : IsWhole tables bytes text report dones
+  pub done : IsDone tables o.population o.subcommand bytes old new report
 
--- it was refused: for its scale; for want of memory before the first line; or later, when a beginning of its text was
--- written
-pub data IsRefusedRun (o : Options) (bytes : List ℕ) (old new : Option (List ℕ)) (refusal : Refusal) : Type 0 where
-  scale : ¬ IsScale (scale_of o) → refusal ≡ BadScale → Appends old new [] → IsRefusedRun o bytes old new refusal
-  memory : refusal ≡ OutOfMemory → Appends old new [] → IsRefusedRun o bytes old new refusal
-  begun : IsScale (scale_of o) → (tables : Database) (front : List ℕ)
-      → IsPopulation o.population (scale_of o) tables
-      → (refusal ≡ OutOfMemory) ⊎ (refusal ≡ BadInput) ⊎ (refusal ≡ Device) → Appends old new front
-      → IsBeginning tables bytes front → IsRefusedRun o bytes old new refusal
+-- it was refused: for its scale; for want of memory for the population; or later
+pub data IsRefusedRun (o : Options) (bytes : List ℕ) (old new : Option (List ℕ)) (refusal : Refusal)
+    (unopened : Option (List ℕ)) : Type 0 where
+  scale : ¬ IsScale (scale_of o) → refusal ≡ BadScale → unopened ≡ None → Appends old new []
+      → IsRefusedRun o bytes old new refusal unopened
+  memory : refusal ≡ OutOfMemory → unopened ≡ None → Appends old new []
+      → IsRefusedRun o bytes old new refusal unopened
+  begun : IsScale (scale_of o) → (tables : Database) → IsPopulation o.population (scale_of o) tables
+      → IsFailed tables o.population o.subcommand bytes old new refusal unopened
+      → IsRefusedRun o bytes old new refusal unopened
 
 -- a run of the program, after which the last calls on its input and its output have these errors, where they failed:
--- its words' fault, or the help that they ask for, goes to the errors alone; a script's text goes to the output, and a
--- refusal's line to the errors, with a line behind it on what was wrong
+-- its words' fault, or the help that they ask for, goes to the errors alone; what a subcommand writes goes to the
+-- output, and a refusal's line to the errors, with a line behind it on what was wrong
 pub data IsRun (words : List (List ℕ)) (bytes : List ℕ) (output written errors told : Option (List ℕ))
     (in_error out_error : Option IoError) (status : ℕ) : Type 0 where
   fault : (error : Error) (text : List ℕ) → IsOptionsRefusal words error → Appends output written []
@@ -59,7 +89,8 @@ pub data IsRun (words : List (List ℕ)) (bytes : List ℕ) (output written erro
   answered : (o : Options) (report : Report) → IsAskedBy words o → IsWholeRun o bytes output written report
       → Appends errors told [] → (IsGood report → status ≡ 0) → ((IsGood report → ⊥) → status ≡ 1)
       → IsRun words bytes output written errors told in_error out_error status
-  refused : (o : Options) (refusal : Refusal) (detail : List ℕ) → IsAskedBy words o
-      → IsRefusedRun o bytes output written refusal → IsDetail (scale_of o) in_error out_error refusal detail
+  refused : (o : Options) (refusal : Refusal) (unopened : Option (List ℕ)) (detail : List ℕ) → IsAskedBy words o
+      → IsRefusedRun o bytes output written refusal unopened
+      → IsDetail (scale_of o) unopened in_error out_error refusal detail
       → WritesBeginning (refusal_line refusal ++ detail) errors told → IsRefusedStatus refusal status
       → IsRun words bytes output written errors told in_error out_error status

@@ -1,9 +1,11 @@
 //! What was wrong, in a line behind a refusal's.
 
-ghost use Rattle.std.specs.Prelude.{◌≡◌, IfOk, string_bytes};
-ghost use Rattle.program.specs.Detail.{IsDetail, IsStreamLine, limit_line, scale_line};
+ghost use Rattle.std.specs.Prelude.{◌≡◌, None, IfOk, string_bytes};
+ghost use Rattle.program.specs.Detail.{IsDetail, IsDeviceLine, IsStreamLine, limit_line, scale_line};
+ghost use Rattle.program.specs.Logs.{unopened_of};
 ghost use Rattle.program.specs.Run.{scale_of};
 
+use crate::fault::Fault;
 use crate::watched::Watched;
 use command_line::Options;
 use money::Refusal;
@@ -16,26 +18,40 @@ use tables::limits::{
 };
 
 /// The line on what was wrong where a run was refused, with its line feed: of a scale, on the first option that is
-/// outside its limits; of a device, on the stream on which the last call failed, and why; else, or where that
-/// isn't known, nothing.
+/// outside its limits; of a device, on the file that couldn't be opened, or on the stream on which the last call
+/// failed, and why; else, or where that isn't known, nothing.
 pub(crate) fn detail_of<R, W>(
     alloc: Global,
     options: &Options,
-    refusal: Refusal,
+    fault: &Fault,
     input: &Watched<R>,
     output: &Watched<W>,
 ) -> Result<String, AllocError>
-    ensures { IfOk result (λ line. IsDetail (scale_of options.now) input.now.failure output.now.failure refusal
-        (string_bytes line)) }
+    ensures { IfOk result (λ line. IsDetail (scale_of options.now) (unopened_of fault.now) input.now.failure
+        output.now.failure fault.now.refusal (string_bytes line)) }
 {
-    match refusal {
+    match fault.refusal {
         Refusal::BadScale => scale_detail(alloc, options),
-        Refusal::Device => match (input.failure(), output.failure()) {
-            (Some(error), _) => stream_detail(alloc, "standard input", error),
-            (None, Some(error)) => stream_detail(alloc, "standard output", error),
-            (None, None) => Ok(String::new(alloc)),
+        Refusal::Device => match &fault.unopened {
+            Some(path) => format!(in alloc; "{path}: can't be opened\n"),
+            None => streams_detail(alloc, input.failure(), output.failure()),
         },
         _ => Ok(String::new(alloc)),
+    }
+}
+
+/// The line on the stream on which the last call failed, by the errors of those calls.
+fn streams_detail(
+    alloc: Global,
+    input: Option<Error>,
+    output: Option<Error>,
+) -> Result<String, AllocError>
+    ensures { IfOk result (λ line. IsDeviceLine None input output (string_bytes line)) }
+{
+    match (input, output) {
+        (Some(error), _) => stream_detail(alloc, "standard input", error),
+        (None, Some(error)) => stream_detail(alloc, "standard output", error),
+        (None, None) => Ok(String::new(alloc)),
     }
 }
 

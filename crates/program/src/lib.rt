@@ -3,6 +3,8 @@
 
 mod detail;
 mod ending;
+mod fault;
+mod logs;
 mod running;
 mod watched;
 

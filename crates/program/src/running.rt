@@ -1,12 +1,18 @@
 //! What the program does, from its words and its input to its output, its errors and its exit status.
-ghost use Rattle.std.specs.Prelude.{◌≡◌, ℕ, List, Some, [], IfOk, IfErr, map, string_bytes};
+ghost use Rattle.std.specs.Prelude.{◌≡◌, ◌++◌, ℕ, List, Some, None, [], IfOk, IfErr, map, string_bytes};
 ghost use Rattle.std.specs.Io.KnownBytes.{Appends};
 ghost use Rattle.money.specs.declared.refusal.Refusal.TheVariants.{OutOfMemory};
 ghost use Rattle.population.specs.Initial.{initial, seed_of};
-ghost use Rattle.program.specs.Run.{IsRun, IsWholeRun, IsRefusedRun, IsPopulation};
+ghost use Rattle.program.specs.Logs.{unopened_of};
+ghost use Rattle.program.specs.Run.{IsRun, IsWholeRun, IsRefusedRun, IsPopulation, scale_of};
+ghost use Rattle.program.specs.Run.{IsDone, IsFailed, IsAnswered, IsBrokenOff};
+ghost use Rattle.program.specs.Detail.{IsDetail};
+ghost use Rattle.program.specs.Status.{IsRefusedStatus, refusal_line, WritesBeginning};
 
 use crate::detail::detail_of;
 use crate::ending::{USAGE_FAULT, finish, finish_refused};
+use crate::fault::Fault;
+use crate::logs::{report, show};
 use crate::watched::Watched;
 use clap::Error;
 use command_line::{Options, Subcommand, options};
@@ -15,14 +21,16 @@ use money::Refusal;
 use population::Population;
 use script::{script, write_text};
 use std::alloc::Global;
+use std::fs::File;
 use std::io::{Read, Write};
+use std::rt::Files;
 use std::sync::Wait;
 use tables::Scale;
 
 /// Does what the words of a command line ask for, the first of which is the program's own name, from `input` to
 /// `output`, and answers the exit status. A fault of the words, or the help that they ask for, goes to `errors`, and
 /// so does a refusal's line, with one more on what was wrong, where that is known. May wait, as `script` does.
-pub fn run<T: Wait, R: Read, O: Write, E: Write>(
+pub fn run<T: Wait + Files<File = File>, R: Read, O: Write, E: Write>(
     rt: &T,
     alloc: Global,
     words: &[String],
@@ -43,40 +51,97 @@ pub fn run<T: Wait, R: Read, O: Write, E: Write>(
     };
     match answer(rt, alloc, &asked, input, output) {
         Ok(report) => finish(Ok(&report), errors),
-        Err(refusal) => match detail_of(alloc, &asked, refusal, input, output) {
-            Ok(detail) => finish_refused(refusal, detail.as_str(), errors),
-            Err(_) => finish_refused(refusal, "", errors),
-        },
+        Err(fault) => tell_refused(alloc, &asked, &fault, input, output, errors),
+    }
+}
+
+/// Writes a refusal's line, and then the one on what was wrong where that is known and memory is there for it, and
+/// answers the exit status.
+fn tell_refused<R, W, E: Write>(
+    alloc: Global,
+    asked: &Options,
+    fault: &Fault,
+    input: &Watched<R>,
+    output: &Watched<W>,
+    errors: &mut E,
+) -> u8
+    ensures lines { (detail : List ℕ) × IsDetail (scale_of asked.now) (unopened_of fault.now) input.now.failure
+        output.now.failure fault.now.refusal detail
+        × WritesBeginning (refusal_line fault.now.refusal ++ detail) (E.contents errors.old) (E.contents errors.new) }
+    ensures status { IsRefusedStatus fault.now.refusal result }
+{
+    match detail_of(alloc, asked, fault, input, output) {
+        Ok(detail) => finish_refused(fault.refusal, detail.as_str(), errors),
+        Err(_) => finish_refused(fault.refusal, "", errors),
     }
 }
 
 /// Does what options ask for, from input to output.
-fn answer<T: Wait, R: Read, W: Write>(
+fn answer<T: Wait + Files<File = File>, R: Read, W: Write>(
     rt: &T,
     alloc: Global,
     options: &Options,
     input: &mut R,
     output: &mut W,
-) -> Result<Report, Refusal>
+) -> Result<Report, Fault>
     ensures whole { IfOk result (λ report. (bytes : List ℕ) → R.remaining input.old ≡ Some bytes
         → IsWholeRun options.now bytes (W.contents output.old) (W.contents output.new) report) }
-    ensures refused { IfErr result (λ refusal. (bytes : List ℕ) → R.remaining input.old ≡ Some bytes
-        → IsRefusedRun options.now bytes (W.contents output.old) (W.contents output.new) refusal) }
+    ensures refused { IfErr result (λ fault. (bytes : List ℕ) → R.remaining input.old ≡ Some bytes
+        → IsRefusedRun options.now bytes (W.contents output.old) (W.contents output.new) fault.refusal
+        (unopened_of fault)) }
 {
     let scale = match options.scale() {
         Ok(scale) => scale,
-        Err(refusal) => return Err(refusal),
+        Err(refusal) => return Err(Fault::of(refusal)),
     };
     let population = match population_of(alloc, scale, options.population) {
         Ok(population) => population,
-        Err(refusal) => return Err(refusal),
+        Err(refusal) => return Err(Fault::of(refusal)),
     };
-    let Subcommand::Script = options.subcommand;
-    let closed = match script(rt, alloc, population, input, output) {
-        Ok(closed) => closed,
-        Err(refusal) => return Err(refusal),
-    };
-    Ok(closed.0)
+    answer_over(rt, alloc, population, &options.subcommand, input, output)
+}
+
+/// Does a subcommand over a population, from input to output.
+fn answer_over<T: Wait + Files<File = File>, R: Read, W: Write>(
+    rt: &T,
+    alloc: Global,
+    population: Population,
+    subcommand: &Subcommand,
+    input: &mut R,
+    output: &mut W,
+) -> Result<Report, Fault>
+    ensures done { IfOk result (λ report. (bytes : List ℕ) → R.remaining input.old ≡ Some bytes
+        → IsDone (initial population) (seed_of population) subcommand.now bytes
+        (W.contents output.old) (W.contents output.new) report) }
+    ensures failed { IfErr result (λ fault. (bytes : List ℕ) → R.remaining input.old ≡ Some bytes
+        → IsFailed (initial population) (seed_of population) subcommand.now bytes
+        (W.contents output.old) (W.contents output.new) fault.refusal (unopened_of fault)) }
+{
+    match subcommand {
+        Subcommand::Script => answer_script(rt, alloc, population, input, output),
+        Subcommand::Recover(files) => show(rt, alloc, &population, files, output),
+        Subcommand::Check(files) => report(rt, alloc, &population, files, output),
+    }
+}
+
+/// Answers a script over a population.
+fn answer_script<T: Wait, R: Read, W: Write>(
+    rt: &T,
+    alloc: Global,
+    population: Population,
+    input: &mut R,
+    output: &mut W,
+) -> Result<Report, Fault>
+    ensures answered { IfOk result (λ report. (bytes : List ℕ) → R.remaining input.old ≡ Some bytes
+        → IsAnswered (initial population) bytes (W.contents output.old) (W.contents output.new) report) }
+    ensures broken_off { IfErr result (λ fault. (bytes : List ℕ) → R.remaining input.old ≡ Some bytes
+        → IsBrokenOff (initial population) bytes (W.contents output.old) (W.contents output.new) fault.refusal
+        × (unopened_of fault ≡ None)) }
+{
+    match script(rt, alloc, population, input, output) {
+        Ok(closed) => Ok(closed.0),
+        Err(refusal) => Err(Fault::of(refusal)),
+    }
 }
 
 /// The population of this number: the plain one for 0, else the one that is drawn from it.

@@ -35,8 +35,8 @@ pub record AreInTurn (loggers : ℕ) (by_logger : ℕ → List ℕ) (strings : L
   pub count : length strings ≡ loggers
   pub each : (l : ℕ) → l < length strings → slice_index_or strings l [] ≡ by_logger l
 
--- what was recovered is a beginning of what had happened: its commits up to the durable epoch, in replay, and among them
--- each whose reply was released
+-- what was recovered is a beginning of what had happened: its commits up to the durable epoch, in replay, and among
+-- them each whose reply was released
 pub record IsBeginningOf (life : Life) (w : World) (r : Recovered) : Type 0 where
   pub rest : List Entry
   pub beginning : w.history ≡ cut r.durable w.history ++ rest

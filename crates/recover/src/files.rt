@@ -52,7 +52,8 @@ fn read_one<D: Disk>(
     disk: &mut D,
 ) -> Result<Vec<Body>, Refusal>
     ensures found { IfOk result (λ bodies. (file : List ℕ) × (length file < 2 ^ 64)
-        × (D.is_modelled → file ≡ D.seen disk.old) × IsFile file (header_view logger loggers (initial population.now).scale (seed_of population.now))
+        × (D.is_modelled → file ≡ D.seen disk.old)
+        × IsFile file (header_view logger loggers (initial population.now).scale (seed_of population.now))
         (bodies_in bodies.items)) }
     ensures damaged { D.is_modelled → IsErrOf result Damaged → (bodies : List BodyView)
         → IsFile (D.seen disk.old)

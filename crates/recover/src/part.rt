@@ -115,8 +115,9 @@ fn raise_all(
     entry: &LoggedEntry,
 ) -> Result<(), AllocError>
     requires lawful { are_writes scale.now entry.now.writes.items ≡ true }
-    ensures { OnOk result ((n : ℕ) → get nat_cmp latest.new n ≡ fold (raised_by scale.now entry.now.tid entry.now.number n)
-        (get nat_cmp latest.old n) entry.now.writes.items) }
+    ensures { OnOk result ((n : ℕ) → get nat_cmp latest.new n
+        ≡ fold (raised_by scale.now entry.now.tid entry.now.number n) (get nat_cmp latest.old n)
+        entry.now.writes.items) }
 {
     for write in &entry.writes {
         if write.table != Table::History {

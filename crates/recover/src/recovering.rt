@@ -37,8 +37,8 @@ pub struct Recovered {
 }
 
 /// The tables that a database had at the durable epoch, from its log files and the population that it began with: file
-/// `l` of this slice is that of logger `l` (Silo, section 4.10). Of each record it takes the newest write, by TID and then
-/// commit number; rows of HISTORY follow the population's in the order of commit numbers. It reads the disks, and
+/// `l` of this slice is that of logger `l` (Silo, section 4.10). Of each record it takes the newest write, by TID and
+/// then commit number; rows of HISTORY follow the population's in the order of commit numbers. It reads the disks, and
 /// writes nothing.
 ///
 /// Costs a pass over the files, a look-up and an insert a write, a sort of the commits, and a copy of the population.
@@ -87,9 +87,11 @@ fn merged(
     files: Vec<Vec<Body>>,
     durable: u64,
 ) -> Result<Part, AllocError>
-    requires lawful { All (λ bodies. HaveLawfulWrites scale.now (entries_of bodies)) (map (λ bodies. bodies_in bodies.items) files.items) }
+    requires lawful { All (λ bodies. HaveLawfulWrites scale.now (entries_of bodies))
+        (map (λ bodies. bodies_in bodies.items) files.items) }
     ensures part { IfOk result (λ part. IsPart scale.now part) }
-    ensures entries { IfOk result (λ part. looked_at part ≡ flat_map (counted durable) (map (λ bodies. bodies_in bodies.items) files.items)) }
+    ensures entries { IfOk result (λ part. looked_at part
+        ≡ flat_map (counted durable) (map (λ bodies. bodies_in bodies.items) files.items)) }
 {
     let mut all = Part::new(alloc);
     for bodies in files {

@@ -2,7 +2,8 @@
 use Rattle.std.specs.Prelude.{nat_lt, ◌==◌, ◌&&◌, ◌||◌, Bool, Option, Some, None, if◌then◌else◌}
 use Rattle.restoring.specs.declared.latest.Latest.{Latest}
 
--- whether a write is older than another of the same record: of a smaller TID, or of the same and a smaller commit number
+-- whether a write is older than another of the same record: of a smaller TID, or of the same and a smaller commit
+-- number
 abbrev pub is_older : Latest → Latest → Bool
 is_older known write = nat_lt known.tid write.tid || ((known.tid == write.tid) && nat_lt known.number write.number)
 

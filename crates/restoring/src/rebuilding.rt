@@ -71,8 +71,8 @@ fn put_one(
     requires population { IsWellFormed (database population.now) }
     requires lawful { IsScale (database population.now).scale }
     requires value { MayPut (database population.now).scale number words.now }
-    ensures { OnOk result (Puts (database population.now) (key_of_number (database population.now).scale number) words.now
-        (database tables.old) (database tables.new)) }
+    ensures { OnOk result (Puts (database population.now)
+        (key_of_number (database population.now).scale number) words.now (database tables.old) (database tables.new)) }
 {
     let key = key_of(&population.scale, number);
     match words {

@@ -1,29 +1,30 @@
-use Rattle.std.proofs.Common.{subst}
+use Rattle.std.proofs.Common.{ℕ, subst}
+use Rattle.std.proofs.lemmas.Result.{IfOk-weaker, IfErr-weaker}
 use Rattle.tables.specs.Sizes.{Sizes}
 use Rattle.population.specs.Initial.{initial}
-use Rattle.program.specs.Run.{IsPopulation, begun}
+use Rattle.program.specs.Logs.{unopened_of}
+use Rattle.program.specs.Run.{IsPopulation, IsDone, IsFailed, begun}
 use Rattle.program.proofs.running.answer.Goals as goal
 
 pub returns-clause-whole : goal.returns-clause-whole
-returns-clause-whole g c = λ bytes left.
-    let whole = c.in-Ok-script.ensures.whole bytes left in
+returns-clause-whole g c =
+    let options = c.args.options.now in
+    let tables = initial c.in-Ok-population_of.population in
     let limits = c.in-Ok.ensures.limits in
-    record {
+    IfOk-weaker c.answer_over.result _ _ (λ report done bytes left. record {
       lawful = limits.1;
-      tables = initial c.in-Ok-population_of.population;
-      population = subst (λ (s : Sizes). IsPopulation c.args.options.now.population s (initial c.in-Ok-population_of.population)) limits.0
-          c.in-Ok-population_of.ensures.rows;
-      text = whole.0;
-      dones = c.in-Ok-script.closed.1.items;
-      wrote = whole.1;
-      whole = whole.2;
-    }
+      tables = tables;
+      population = subst (λ (s : Sizes). IsPopulation options.population s tables) limits.0 c.in-Ok-population_of.ensures.rows;
+      done = subst (λ (seed : ℕ). IsDone tables seed options.subcommand bytes (g.W.Write.contents c.args.output.now) (g.W.Write.contents c.answer_over.new.output)
+          report) c.in-Ok-population_of.ensures.seed (done bytes left);
+    }) c.answer_over.ensures.done
 
-pub returns-in-Err-script-clause-refused : goal.returns-in-Err-script-clause-refused
-returns-in-Err-script-clause-refused g c = λ bytes left.
-    let beginning = c.in-Err-script.ensures.beginning bytes left in
+pub returns-clause-refused : goal.returns-clause-refused
+returns-clause-refused g c =
+    let options = c.args.options.now in
+    let tables = initial c.in-Ok-population_of.population in
     let limits = c.in-Ok.ensures.limits in
-    begun limits.1 (initial c.in-Ok-population_of.population) beginning.0
-    (subst (λ (s : Sizes). IsPopulation c.args.options.now.population s (initial c.in-Ok-population_of.population)) limits.0
-    c.in-Ok-population_of.ensures.rows)
-    c.in-Err-script.ensures.refusals beginning.1 beginning.2
+    IfErr-weaker c.answer_over.result _ _ (λ fault failed bytes left.
+    begun limits.1 tables (subst (λ (s : Sizes). IsPopulation options.population s tables) limits.0 c.in-Ok-population_of.ensures.rows)
+    (subst (λ (seed : ℕ). IsFailed tables seed options.subcommand bytes (g.W.Write.contents c.args.output.now) (g.W.Write.contents c.answer_over.new.output)
+    fault.refusal (unopened_of fault)) c.in-Ok-population_of.ensures.seed (failed bytes left))) c.answer_over.ensures.failed

@@ -1,9 +1,8 @@
-use Rattle.std.proofs.Common.{List, ℕ, ◌++◌, refl, subst, string_bytes}
+use Rattle.std.proofs.Common.{refl}
 use Rattle.std.proofs.KnownBytes.{Appends-nil}
-use Rattle.program.specs.Status.{refusal_line, WritesBeginning}
-use Rattle.program.specs.Run.{fault, answered, refused, scale_of}
-use Rattle.program.proofs.Beginnings.{begins_any, nothing_begun}
-use Rattle.program.proofs.Details.{some_detail}
+use Rattle.program.specs.Logs.{unopened_of}
+use Rattle.program.specs.Run.{fault, answered, refused}
+use Rattle.program.proofs.Beginnings.{nothing_begun}
 use Rattle.program.proofs.running.run.Goals as goal
 
 pub returns-in-Err : goal.returns-in-Err
@@ -16,18 +15,9 @@ returns-in-Ok-answer g c = λ bytes left.
     (nothing_begun (g.E.Write.contents c.args.errors.now) (g.E.Write.contents c.finish.new.errors) c.finish.ensures.line) c.finish.ensures.status.0
     c.finish.ensures.status.1
 
-pub returns-in-Ok-detail_of : goal.returns-in-Ok-detail_of
-returns-in-Ok-detail_of g c = λ bytes left.
-    let begins : List ℕ → Type 0 = λ detail. WritesBeginning (refusal_line c.in-Err-answer.refusal ++ detail) (g.E.Write.contents c.args.errors.now)
-    (g.E.Write.contents c.finish_refused.new.errors) in
-    refused c.in-Ok.asked c.in-Err-answer.refusal (string_bytes c.in-Ok-detail_of.detail) c.in-Ok.ensures.asked (c.in-Err-answer.ensures.refused bytes left)
-    c.in-Ok-detail_of.ensures
-    (subst begins c.as_str.ensures.value c.finish_refused.ensures.lines) c.finish_refused.ensures.status
-
-pub returns-in-Err-detail_of : goal.returns-in-Err-detail_of
-returns-in-Err-detail_of g c = λ bytes left.
-    let told = some_detail (scale_of c.in-Ok.asked) c.answer.new.input.failure c.answer.new.output.failure c.in-Err-answer.refusal in
-    refused c.in-Ok.asked c.in-Err-answer.refusal told.0 c.in-Ok.ensures.asked (c.in-Err-answer.ensures.refused bytes left) told.1
-    (begins_any (refusal_line c.in-Err-answer.refusal) told.0 (g.E.Write.contents c.args.errors.now)
-    (g.E.Write.contents c.finish_refused-in-Err-detail_of.new.errors) c.finish_refused-in-Err-detail_of.ensures.lines)
-    c.finish_refused-in-Err-detail_of.ensures.status
+pub returns : goal.returns
+returns g c = λ bytes left.
+    let told = c.tell_refused.ensures.lines in
+    let fault = c.in-Err-answer.fault in
+    refused c.in-Ok.asked fault.refusal (unopened_of fault) told.0 c.in-Ok.ensures.asked (c.in-Err-answer.ensures.refused bytes left) told.1 told.2
+    c.tell_refused.ensures.status

@@ -1,11 +1,11 @@
 use Rattle.std.proofs.Common.{codes}
 use Rattle.clap.specs.Words.{found_of}
 use Rattle.command_line.proofs.Reading.{written}
-use Rattle.command_line.proofs.words.script_options.Goals as goal
+use Rattle.command_line.proofs.words.options_given.Goals as goal
 
 pub returns-clause-written : goal.returns-clause-written
 returns-clause-written c =
-    let found = found_of c.args.script.now in
+    let found = found_of c.args.given.now in
     let warehouses = c.in_ok-value_of.ensures.read in
     let districts = c.in_ok-value_of-2.ensures.read in
     let customers = c.in_ok-value_of-3.ensures.read in

@@ -1,0 +1,41 @@
+use Rattle.std.proofs.Common.{map, refl, rules}
+use Rattle.population.specs.Initial.{initial, seed_of}
+use Rattle.script_text.specs.Report.{report_text}
+use Rattle.recovery.specs.Told.{IsRefused, Reports}
+use Rattle.recovery.proofs.Refusing.{SomeStrings, unrecovered, untold}
+use Rattle.recovery.proofs.telling.checked.Goals as goal
+
+pub returns-in_err-recovered-clause-refused : goal.returns-in_err-recovered-clause-refused
+returns-in_err-recovered-clause-refused g c =
+    let e = c.in_err-recovered.field-0.0 in
+    let w = g.W.Write.contents c.args.writer.now in
+    let seed = seed_of c.args.population.now in
+    let refused : SomeStrings g.D.Disk.is_modelled (map g.D.Disk.seen c.args.disks.now) (λ strings. IsRefused (initial c.args.population.now) seed strings Reports w w e) =
+    unrecovered (map g.D.Disk.seen c.args.disks.now) (initial c.args.population.now) seed Reports w e c.in_err-recovered.ensures.gap
+    c.in_err-recovered.ensures.others in
+    search rules
+
+pub returns-in_err-report_on-clause-refused : goal.returns-in_err-report_on-clause-refused
+returns-in_err-report_on-clause-refused g c =
+    let e = c.in_err-report_on.field-0.0 in
+    let r = c.in_ok-recovered.recovered in
+    let report = c.in_ok-report.report in
+    let seed = seed_of c.args.population.now in
+    let refused : SomeStrings g.D.Disk.is_modelled (map g.D.Disk.seen c.args.disks.now) (λ strings. IsRefused (initial c.args.population.now) seed strings Reports
+    (g.W.Write.contents c.args.writer.now) (g.W.Write.contents c.report_on.new.writer) e) =
+    untold (map g.D.Disk.seen c.args.disks.now) (initial c.args.population.now) seed Reports (report_text r.commits report) r _ _ e
+    c.in_ok-recovered.ensures.recovered (report, c.in_ok-report.ensures.ok, refl) c.in_err-report_on.ensures.beginning in
+    search rules
+
+pub returns-clause-checked : goal.returns-clause-checked
+returns-clause-checked g c =
+    let known = c.in_ok-recovered.ensures.recovered in (
+      known.0,
+      known.1,
+      record {
+        recovered = c.in_ok-recovered.recovered;
+        recovery = known.2;
+        exact = c.in_ok-report.ensures.ok;
+        wrote = c.in_ok-report_on.ensures.whole;
+      },
+    )
