@@ -1,5 +1,5 @@
 //! Log files: opening those that a command line names, and telling what they recover to.
-ghost use Rattle.std.specs.Prelude.{◌≡◌, ◌<◌, ℕ, List, IfOk, IfErr, string_bytes};
+ghost use Rattle.std.specs.Prelude.{◌≡◌, ◌<◌, ℕ, List, length, IfOk, IfErr, string_bytes};
 ghost use Rattle.population.specs.Initial.{initial, seed_of};
 ghost use Rattle.recovery.specs.Told.{IsRefused, Shows, Reports};
 ghost use Rattle.program.specs.Logs.{IsUnread, IsShownWith, IsCheckedWith, IsRefusedWith, path_of, unopened_of};
@@ -84,6 +84,7 @@ fn open_all<T: Files<File = File>>(
     alloc: Global,
     files: &LogFiles,
 ) -> Result<Vec<FileDisk>, Fault>
+    ensures count { IfOk result (λ disks. length disks.items ≡ files.now.loggers) }
     ensures unread { IfErr result (λ fault. IsUnread files.now fault.refusal (unopened_of fault)) }
 {
     let mut disks = Vec::new(alloc);

@@ -4,7 +4,9 @@
 use crate::GOOD;
 use program::{Watched, run};
 use std::alloc::{AllocError, Global};
+use std::fs::File;
 use std::io::{self, Read, Write};
+use std::rt::Files;
 use std::sync::Wait;
 use std::test::Fail;
 
@@ -29,7 +31,7 @@ struct Outcome {
     status: u8,
 }
 
-fn run_on<R: Read + Drop, T: Wait>(
+fn run_on<R: Read + Drop, T: Wait + Files<File = File>>(
     rt: &T,
     alloc: Global,
     words: &str,

@@ -1,7 +1,11 @@
-//! Tests of what is told of a recovery, on disks in memory.
+//! Tests of recovery, and of what is told of one, on disks in memory.
 #![tactic(auto)]
 
 #[cfg(test)]
 mod log_bytes;
+#[cfg(test)]
+mod log_files;
+#[cfg(test)]
+mod recovering_tests;
 #[cfg(test)]
 mod telling_tests;

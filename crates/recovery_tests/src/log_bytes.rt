@@ -30,14 +30,25 @@ pub fn push_body(bytes: &mut Vec<u8>, mark: u64, size: u64) -> Result<(), AllocE
 /// How many bytes an entry has.
 pub const ENTRY: u64 = 156;
 
-/// Appends the entry of a commit: customer `number` of district 1 pays 1.00 there, after the customers before.
+/// Appends the entry of a commit: customer `number` of district 1 pays 1.00 there, after `number - 1` such Payments.
 pub fn push_entry(
     bytes: &mut Vec<u8>,
     number: u32,
     epoch: u32,
     terminal: u64,
 ) -> Result<(), AllocError> {
-    let (number, epoch) = (u64::from(number), u64::from(epoch));
+    push_entry_of(bytes, number, number, epoch, terminal)
+}
+
+/// The same of any customer.
+pub fn push_entry_of(
+    bytes: &mut Vec<u8>,
+    customer: u32,
+    number: u32,
+    epoch: u32,
+    terminal: u64,
+) -> Result<(), AllocError> {
+    let (customer, number, epoch) = (u64::from(customer), u64::from(number), u64::from(epoch));
     push(bytes, 8, &[number, epoch << 32])?;
     push(bytes, 2, &[terminal, 4])?;
     push_write(bytes, 1, 0, &[20_000 + 100 * number])?;
@@ -45,10 +56,10 @@ pub fn push_entry(
     push_write(
         bytes,
         3,
-        number.saturating_sub(1),
+        customer.saturating_sub(1),
         &[0u64.wrapping_sub(1_100), 1_100, 2, 0],
     )?;
-    push_write(bytes, 4, 0, &[number, 1, 1, 1, 1, number, 100])
+    push_write(bytes, 4, 0, &[customer, 1, 1, 1, 1, number, 100])
 }
 
 /// Appends what a record holds from a commit on.

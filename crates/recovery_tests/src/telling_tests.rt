@@ -1,57 +1,12 @@
 //! What is told of two log files: five Payments of 1.00 in epochs 4 to 8, the first in the first file.
 
-use crate::log_bytes::{ENTRY, push_body, push_entry, push_header};
-use disk::{Disk, Memory};
+use crate::log_files::{disks, first_disk, small};
+use disk::Memory;
 use money::Refusal;
-use population::Population;
 use recovery::{checked, recovered};
-use std::alloc::{AllocError, Global};
+use std::alloc::Global;
 use std::io::{self, ErrorKind, Write};
 use std::test::Fail;
-use tables::Scale;
-
-fn small(alloc: Global) -> Result<Population, Refusal> {
-    Population::plain(alloc, Scale::new(1, 2, 10, 20, 30, 1_000)?)
-}
-
-/// The first file: one body of mark 5, with so many entries, 0 or 1.
-fn first(alloc: Global, entries: u64) -> Result<Vec<u8>, AllocError> {
-    let mut bytes = Vec::new(alloc);
-    push_header(&mut bytes, 0, 2)?;
-    push_body(&mut bytes, 5, ENTRY.saturating_mul(entries))?;
-    for _ in 0..entries {
-        push_entry(&mut bytes, 1, 4, 0)?;
-    }
-    bytes.push(0)?;
-    Ok(bytes)
-}
-
-/// The second file: one body of mark 7, with the other four.
-fn second(alloc: Global) -> Result<Vec<u8>, AllocError> {
-    let mut bytes = Vec::new(alloc);
-    push_header(&mut bytes, 1, 2)?;
-    push_body(&mut bytes, 7, 4 * ENTRY)?;
-    for number in 2..6u32 {
-        push_entry(&mut bytes, number, number + 3, 1)?;
-    }
-    bytes.push(0)?;
-    Ok(bytes)
-}
-
-/// A disk with these bytes.
-fn disk_of(alloc: Global, bytes: &[u8]) -> Result<Memory, Refusal> {
-    let mut disk = Memory::new(alloc);
-    disk.write_at(0, bytes)?;
-    Ok(disk)
-}
-
-/// The disks of both files, of which the first has so many entries.
-fn disks(alloc: Global, entries: u64) -> Result<Vec<Memory>, Refusal> {
-    let mut disks = Vec::new(alloc);
-    disks.push(disk_of(alloc, &first(alloc, entries)?)?)?;
-    disks.push(disk_of(alloc, &second(alloc)?)?)?;
-    Ok(disks)
-}
 
 /// What is shown of these disks.
 fn shown(alloc: Global, disks: &mut [Memory]) -> Result<Vec<u8>, Refusal> {
@@ -99,10 +54,12 @@ fn a_missing_commit_is_a_gap(rt: HostRuntime) -> Result<(), Fail> {
 
 #[test]
 fn one_file_of_two_is_damaged(rt: HostRuntime) -> Result<(), Fail> {
-    let mut disks = disks(rt.alloc(), 1)?;
-    let one = &mut disks[..1];
-    assert_eq!(rt; shown(rt.alloc(), one).err(), Some(Refusal::Damaged));
-    assert_eq!(rt; reported(rt.alloc(), one).err(), Some(Refusal::Damaged));
+    let mut disks = first_disk(rt.alloc())?;
+    assert_eq!(rt; shown(rt.alloc(), &mut disks).err(), Some(Refusal::Damaged));
+    assert_eq!(rt;
+        reported(rt.alloc(), &mut disks).err(),
+        Some(Refusal::Damaged)
+    );
     Ok(())
 }
 
