@@ -10,7 +10,7 @@ use tables::{CustomerKey, Tables};
 
 /// What recovery comes to.
 #[derive(Clone, Copy, Debug, PartialEq, Eq)]
-struct Outcome {
+struct Recovery {
     durable: u64,
     commits: u64,
 }
@@ -37,11 +37,11 @@ fn customers_of_later_epochs_have_not_paid(rt: HostRuntime) -> Result<(), Fail> 
 }
 
 /// What the one file of these bytes recovers to.
-fn outcome(alloc: Global, bytes: &[u8]) -> Result<Outcome, Refusal> {
+fn outcome(alloc: Global, bytes: &[u8]) -> Result<Recovery, Refusal> {
     let population = small(alloc)?;
     let mut disks = one_disk(alloc, bytes)?;
     let found = recover(alloc, &population, &mut disks)?;
-    Ok(Outcome {
+    Ok(Recovery {
         durable: found.durable,
         commits: found.commits,
     })
@@ -67,7 +67,7 @@ fn a_body_counts_by_the_byte_1_alone(rt: HostRuntime) -> Result<(), Fail> {
     for gate in 0..=255u8 {
         let bytes = gated(rt.alloc(), gate)?;
         let bodies = if gate == 1 { 2 } else { 1 };
-        let expected = Outcome {
+        let expected = Recovery {
             durable: bodies,
             commits: bodies,
         };
@@ -96,7 +96,7 @@ fn a_header_is_to_be_whole(rt: HostRuntime) -> Result<(), Fail> {
 #[test]
 fn a_file_without_bodies_has_epoch_0(rt: HostRuntime) -> Result<(), Fail> {
     let bytes = begun(rt.alloc(), 2)?;
-    let expected = Outcome {
+    let expected = Recovery {
         durable: 0,
         commits: 0,
     };
