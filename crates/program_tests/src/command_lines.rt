@@ -57,21 +57,6 @@ fn each_option_is_read(rt: HostRuntime) -> Result<(), Fail> {
 }
 
 #[test]
-fn log_files_are_read(rt: HostRuntime) -> Result<(), Fail> {
-    let words = words(rt.alloc(), "tpcc check --loggers 8 --logs a/b --items 20")?;
-    let asked = options(rt.alloc(), words.as_slice())?;
-    assert_eq!(rt; asked.items, 20);
-    match asked.subcommand {
-        Subcommand::Check(files) => {
-            assert_eq!(rt; files.folder.as_str(), "a/b");
-            assert_eq!(rt; files.loggers, 8);
-        }
-        _ => assert!(rt; false, "another subcommand"),
-    }
-    Ok(())
-}
-
-#[test]
 fn an_error_names_what_is_wrong(rt: HostRuntime) -> Result<(), Fail> {
     let lines = [
         ("tpcc script --stock 5", "'--stock'"),
