@@ -72,6 +72,7 @@ pub record IsFresh (p : Parts) : Type 0 where
   pub pen : p.pen ≡ record { cells = p.cells; all = firsts p.newest.items }
   pub readers : All (λ reader. reader ≡ seen_all p.pen) p.readers.items
   pub parts : p.blank.parts ≡ length p.readers.items
+  pub some : 0 < length p.readers.items
   pub few : length p.readers.items ≤ MAX_TERMINALS
   pub board : Opens p.board.plan (length p.readers.items) p.board p.seats
   pub loggers : (0 < p.board.plan.loggers) × (p.board.plan.loggers ≤ MAX_LOGGERS)

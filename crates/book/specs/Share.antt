@@ -6,3 +6,10 @@ pub record ShareView : Type 0 where
   pub terminal : ℕ
   pub parts : ℕ
   pub commits : ℕ
+
+-- the parts and the commits of a share
+abbrev pub parts_of : ShareView → ℕ
+parts_of share = share.parts
+
+abbrev pub commits_of : ShareView → ℕ
+commits_of share = share.commits

@@ -70,10 +70,11 @@ impl<K: Run> Model for Book<K> {
 }
 
 impl<K: Run> Book<K> {
-    ghost use Rattle.std.specs.Prelude.{◌≡◌, ◌+◌, ◌<◌, length, map, IfOk, IfErr};
+    ghost use Rattle.std.specs.Prelude.{◌≡◌, ◌+◌, ◌<◌, ◌≤◌, length, map, IfOk, IfErr};
     ghost use Rattle.std.specs.Arc.{arc_value};
     ghost use Rattle.money.specs.declared.refusal.Refusal.TheVariants.{OutOfMemory};
     ghost use Rattle.tables.specs.Database.{database};
+    ghost use Rattle.tables.specs.declared.limits.TheConstants.{MAX_COMMITS};
     ghost use Rattle.tables.specs.Records.{record_count};
     ghost use Rattle.tables.specs.Rows.{rows};
     ghost use Rattle.conditions.specs.Report.{IsReportOf, IsGood};
@@ -92,6 +93,14 @@ impl<K: Run> Book<K> {
         ensures sound { IsSound K.past K.first self.now.written self.now.history (replay K.first self.now.history) }
     {
         self.history.as_slice()
+    }
+
+    /// How many transactions have committed. Constant time, no memory.
+    pub fn commits(&self) -> u64
+        ensures commits { result ≡ length self.now.history }
+        ensures few { result ≤ MAX_COMMITS }
+    {
+        self.history.len() as u64
     }
 
     /// What a record holds in the committed tables: the columns of its row that change, or an index record's number,
@@ -128,7 +137,7 @@ impl<K: Run> Book<K> {
     }
 
     /// For proofs: a share with all parts of the ledger has as many commits as the history has entries. Changes
-    /// neither book nor share. Until shares can be joined, only a run of one terminal has such a share.
+    /// neither book nor share.
     pub fn audit(&mut self, share: &mut Share<K>)
         ensures book { self.new ≡ self.old }
         ensures share { share.new ≡ share.old }

@@ -116,14 +116,14 @@ fn streams(alloc: Global, loggers: u16) -> Result<Vec<Untaken>, Refusal>
 /// book under one lock (Silo, section 4.1). Contracts see nothing of it but that it is of the run that `K` names.
 #[derive(Drop)]
 pub struct Engine<K: Run> {
-    population: Arc<Population, Global>,
-    cells: Cells,
-    board: Board,
-    book: Mutex<Book<K>>,
+    pub(crate) population: Arc<Population, Global>,
+    pub(crate) cells: Cells,
+    pub(crate) board: Board,
+    pub(crate) book: Mutex<Book<K>>,
 }
 
 impl<K: Run> Model for Engine<K> {
-    ghost use Rattle.std.specs.Prelude.{◌≡◌, length};
+    ghost use Rattle.std.specs.Prelude.{◌≡◌, ◌<◌, length};
     ghost use Rattle.population.specs.Initial.{initial, seed_of};
     ghost use Rattle.std.specs.Arc.{arc_value};
     ghost use Rattle.tables.specs.Records.{record_count};
@@ -133,7 +133,7 @@ impl<K: Run> Model for Engine<K> {
     ghost view = { λ e. tt };
 
     ghost invariant = { λ e. (initial (arc_value e.population) ≡ K.first) × (e.cells ≡ K.cells)
-        × (length K.cells ≡ record_count K.first.scale) × (e.board ≡ K.board) };
+        × (length K.cells ≡ record_count K.first.scale) × (e.board ≡ K.board) × (0 < K.parts) };
 }
 
 impl<K: Run> Engine<K> {

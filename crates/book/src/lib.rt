@@ -6,6 +6,7 @@
 
 mod batch;
 mod book;
+mod closed;
 mod committing;
 mod confirming;
 mod done;
@@ -23,6 +24,7 @@ mod untaken;
 
 pub use batch::Batch;
 pub use book::Book;
+pub use closed::Closed;
 pub use done::Done;
 pub use engine::{Engine, MAX_LOGGERS, MAX_TERMINALS, Parts, Seat, Seats, TerminalSeats};
 pub use entry::Entry;

@@ -1,5 +1,5 @@
 //! A terminal's share of the commits.
-ghost use Rattle.std.specs.Prelude.{◌≡◌};
+ghost use Rattle.std.specs.Prelude.{◌≡◌, ◌+◌};
 
 use crate::run::Run;
 use std::marker::Model;
@@ -30,5 +30,17 @@ impl<K: Run> Share<K> {
         ensures { result ≡ self.now.terminal }
     {
         self.terminal
+    }
+
+    /// Takes in what another terminal's share has.
+    pub(crate) fn join(&mut self, other: Share<K>)
+        ensures { self.new ≡ record {
+          terminal = self.old.terminal;
+          parts = self.old.parts + other.parts;
+          commits =
+              self.old.commits + other.commits;
+        } }
+    {
+        self.part.merge(other.part);
     }
 }

@@ -1,0 +1,110 @@
+//! The end of a run.
+ghost use Rattle.std.specs.Prelude.{◌≡◌, ◌+◌, ◌<◌, ◌≤◌, length, map, IfOk, IfErr, IfSome, IfNone};
+ghost use Rattle.std.specs.List.{sum_by};
+ghost use Rattle.std.specs.Arc.{arc_value};
+ghost use Rattle.money.specs.declared.refusal.Refusal.TheVariants.{OutOfMemory};
+ghost use Rattle.tables.specs.Database.{database};
+ghost use Rattle.tables.specs.declared.limits.TheConstants.{MAX_COMMITS};
+ghost use Rattle.conditions.specs.Report.{IsReportOf, IsGood};
+ghost use Rattle.book.specs.History.{replay};
+ghost use Rattle.book.specs.Book.{IsSound};
+ghost use Rattle.book.specs.Share.{parts_of, commits_of};
+
+use crate::book::Book;
+use crate::engine::Engine;
+use crate::entry::Entry;
+use crate::run::Run;
+use crate::share::Share;
+use conditions::Report;
+use money::Refusal;
+use std::alloc::Global;
+use std::marker::Model;
+use std::sync::Arc;
+use tables::Tables;
+
+/// What a run has committed, once all of its terminals have given back their shares. Contracts see the history.
+#[derive(Drop)]
+pub struct Closed<K: Run> {
+    book: Book<K>,
+}
+
+impl<K: Run> Model for Closed<K> {
+    ghost use Rattle.std.specs.Prelude.{List};
+    ghost use Rattle.book.specs.declared.entry.Entry.{Entry};
+
+    ghost Value = { List Entry };
+
+    ghost view = { λ c. c.book.history };
+}
+
+impl<K: Run> Closed<K> {
+    /// How many transactions have committed. Constant time, no memory.
+    pub fn commits(&self) -> u64
+        ensures commits { result ≡ length self.now }
+        ensures few { result ≤ MAX_COMMITS }
+    {
+        self.book.commits()
+    }
+
+    /// What has committed, in order. Takes no memory.
+    pub fn history(&self) -> &[Arc<Entry, Global>]
+        ensures { map arc_value result.now ≡ self.now }
+    {
+        self.book.history()
+    }
+
+    /// The committed tables: the history's serial replay, which is well-formed and consistent. Costs what
+    /// `Book::tables` does. `OutOfMemory` is the only refusal.
+    pub fn tables(&self) -> Result<Tables, Refusal>
+        ensures tables { IfOk result (λ tables. database tables ≡ replay K.first self.now) }
+        ensures only_memory { IfErr result (λ refusal. refusal ≡ OutOfMemory) }
+    {
+        self.book.tables()
+    }
+
+    /// Which conditions the committed tables meet: all. Costs what `Book::report` does. `OutOfMemory` is the only
+    /// refusal.
+    pub fn report(&self, alloc: Global) -> Result<Report, Refusal>
+        ensures report { IfOk result (IsReportOf (replay K.first self.now)) }
+        ensures good { IfOk result IsGood }
+        ensures only_memory { IfErr result (λ refusal. refusal ≡ OutOfMemory) }
+    {
+        self.book.report(alloc)
+    }
+}
+
+impl<K: Run> Engine<K> {
+    /// Ends the run, for the shares of all its terminals, which together count each of its commits once. Constant time
+    /// a share; takes no memory.
+    pub fn close(self, shares: Vec<Share<K>>) -> Closed<K>
+        requires all { sum_by parts_of shares.items ≡ K.parts }
+        ensures { length result ≡ sum_by commits_of shares.items }
+    {
+        let Engine {
+            population: _,
+            cells: _,
+            board: _,
+            book,
+        } = self;
+        let mut book = book.into_inner();
+        let Some(mut whole) = joined(shares) else {
+            unreachable!()
+        };
+        book.audit(&mut whole);
+        Closed { book }
+    }
+}
+
+/// One share with the parts and commits of all of these. None exactly where there is none.
+fn joined<K: Run>(shares: Vec<Share<K>>) -> Option<Share<K>>
+    ensures some { IfSome result (λ whole. (whole.parts ≡ sum_by parts_of shares.items)
+        × (whole.commits ≡ sum_by commits_of shares.items)) }
+    ensures none { IfNone result (length shares.items ≡ 0) }
+{
+    let mut shares = shares;
+    let mut whole = shares.pop()?;
+    while let Some(share) = shares.pop() {
+        whole.join(share);
+    }
+    Some(whole)
+}
