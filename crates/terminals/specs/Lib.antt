@@ -1,1 +1,3 @@
 pub mod Outbox
+pub mod Calls
+pub mod Terminal

@@ -15,6 +15,13 @@ pub record OutboxView : Type 0 where
   pub waiting : List Done
   pub room : ℕ
 
+-- an outbox is as it was, but that its room may have risen
+pub record IsSameBut (old new : OutboxView) : Type 0 where
+  pub seat : new.seat ≡ old.seat
+  pub released : new.released ≡ old.released
+  pub waiting : new.waiting ≡ old.waiting
+  pub room : old.room ≤ new.room
+
 -- whether a commit is of this epoch or an earlier one
 abbrev pub is_up_to : ℕ → Done → Bool
 is_up_to epoch done = nat_le (epoch_of done.tid) epoch

@@ -1,8 +1,8 @@
 //! Replies, and when they are given out.
-ghost use Rattle.std.specs.Prelude.{◌≡◌, ◌+◌, ◌<◌, ◌≤◌, [], ◌∷◌, ◌++◌, length, IfOk, IfErr};
+ghost use Rattle.std.specs.Prelude.{◌≡◌, ◌+◌, ◌<◌, ◌≤◌, [], ◌∷◌, ◌++◌, length, IfOk, IfErr, OnOk};
 ghost use Rattle.money.specs.declared.refusal.Refusal.TheVariants.{OutOfMemory};
 ghost use Rattle.std.specs.List.{prefix_len};
-ghost use Rattle.terminals.specs.Outbox.{Acknowledges, is_up_to};
+ghost use Rattle.terminals.specs.Outbox.{Acknowledges, IsSameBut, is_up_to};
 
 use board::{Board, TerminalSeat};
 use book::Done;
@@ -11,8 +11,8 @@ use std::alloc::Global;
 use std::marker::Model;
 
 /// The replies of one terminal's commits, in the order in which they committed. A reply waits until its commit's epoch
-/// is durable, with every commit before it (Silo, section 4.10). All room is taken as the outbox is made, and a reply
-/// that was released keeps its place.
+/// is durable, with every commit before it (Silo, section 4.10). All room is taken as the outbox is made or
+/// reserved, and a reply that was released keeps its place.
 #[derive(Drop)]
 pub struct Outbox {
     seat: TerminalSeat,
@@ -38,7 +38,7 @@ impl Model for Outbox {
 }
 
 impl Outbox {
-    /// An empty outbox of a terminal, with room for this many replies. It takes all its memory here.
+    /// An empty outbox of a terminal, with room for this many replies.
     ///
     /// # Errors
     ///
@@ -60,6 +60,20 @@ impl Outbox {
         ensures { result ≡ self.now.room }
     {
         self.held.capacity() - self.held.len()
+    }
+
+    /// Makes room for one reply more, if there is none. Constant time, amortized.
+    ///
+    /// # Errors
+    ///
+    /// `OutOfMemory`, and no other. Nothing has changed then.
+    pub fn reserve(&mut self) -> Result<(), Refusal>
+        ensures same { IsSameBut self.old self.new }
+        ensures room { OnOk result (0 < self.new.room) }
+        ensures memory { IfErr result (λ refusal. (refusal ≡ OutOfMemory) × (self.new ≡ self.old)) }
+    {
+        self.held.reserve(1)?;
+        Ok(())
     }
 
     /// How many replies wait.

@@ -1,0 +1,187 @@
+//! A terminal, and one input of it.
+ghost use Rattle.std.specs.Prelude.{◌≡◌, ◌≢◌, ℕ, ◌≤◌, ◌⊎◌, ◌↔◌, Err, IsTrue, IfOk, IfErr, OnErr, IsErrOf, MatchResult};
+ghost use Rattle.money.specs.declared.refusal.Refusal.TheVariants.{OutOfMemory, Stale, Conflict, GaveUp};
+ghost use Rattle.tables.specs.Inputs.{IsInput};
+ghost use Rattle.deck.specs.Deck.{scale_of};
+ghost use Rattle.terminals.specs.Calls.{counted};
+ghost use Rattle.terminals.specs.Outbox.{Acknowledges};
+ghost use Rattle.terminals.specs.Terminal.{HasCommitted, HasRefused, IsCause, IsTurned};
+ghost use Rattle.terminals.specs.declared.terminal.TheConstants.{TRIES as the_tries};
+
+use crate::gate::Gate;
+use crate::outbox::Outbox;
+use board::Board;
+use book::{Done, Engine, Run, Share};
+use cells::Reader;
+use deck::Deck;
+use money::Refusal;
+use std::alloc::Global;
+use std::marker::Model;
+use std::sync::Wait;
+use tables::Input;
+use transactions::execute;
+
+/// How often an input is tried before its terminal gives up.
+pub const TRIES: u32 = 64;
+
+/// A terminal of an engine: the reader by which it reads cells, its share of the commits, its outbox, and the deck
+/// that its inputs come from.
+#[derive(Drop)]
+pub struct Terminal<K: Run> {
+    reader: Reader,
+    share: Share<K>,
+    outbox: Outbox,
+    deck: Deck,
+}
+
+impl<K: Run> Model for Terminal<K> {
+    ghost use Rattle.std.specs.Prelude.{◌≡◌};
+    ghost use Rattle.deck.specs.Deck.{scale_of};
+    ghost use Rattle.terminals.specs.Terminal.{TerminalView};
+
+    ghost Value = { TerminalView };
+
+    ghost view = { λ t. record { share = t.share; outbox = t.outbox; deck = t.deck } };
+
+    ghost invariant = { λ t. (t.reader.cells ≡ K.cells) × (t.outbox.seat.board ≡ K.board)
+        × (scale_of t.deck ≡ K.first.scale) };
+}
+
+impl<K: Run> Terminal<K> {
+    /// A terminal of an engine's seat, with an outbox of that seat and a deck of inputs of its scale. Takes no memory.
+    pub fn new(reader: Reader, share: Share<K>, outbox: Outbox, deck: Deck) -> Terminal<K>
+        requires reader { reader.cells ≡ K.cells }
+        requires outbox { outbox.seat.board ≡ K.board }
+        requires deck { scale_of deck ≡ K.first.scale }
+        ensures { result ≡ record { share = share; outbox = outbox; deck = deck } }
+    {
+        Terminal {
+            reader,
+            share,
+            outbox,
+            deck,
+        }
+    }
+
+    /// Its share and its outbox.
+    pub fn end(self) -> (Share<K>, Outbox)
+        ensures share { result.0 ≡ self.share }
+        ensures outbox { result.1 ≡ self.outbox }
+    {
+        let Terminal {
+            reader: _,
+            share,
+            outbox,
+            deck: _,
+        } = self;
+        (share, outbox)
+    }
+
+    /// The replies that were released, in the order of their commits.
+    pub fn released(&self) -> &[Done]
+        ensures { result.now ≡ self.now.outbox.released }
+    {
+        self.outbox.released()
+    }
+
+    /// Runs the deck's next input: executes it without a lock and commits it under the book's (Silo, section 4.4), and
+    /// tries again, 64 times in all, where what it read wasn't the latest. Answers the commit's number; the reply waits
+    /// in the outbox. May wait, for the book's lock and at records' cells alone.
+    ///
+    /// # Errors
+    ///
+    /// `ItemNotValid`, `OrdersFull`, `CommitsFull` and `OutOfMemory` as `execute` and `Book::commit` have them, and
+    /// `GaveUp` exactly where 64 tries have ended as stale or in conflict. After each of them the deck stands behind
+    /// this input all the same, and share and outbox are as before, but that its room may have risen.
+    pub fn one<R: Wait, G: Gate>(
+        &mut self,
+        rt: &R,
+        alloc: Global,
+        engine: &Engine<K>,
+        gate: &mut G,
+    ) -> Result<u64, Refusal>
+        ensures deck { IsTurned self.old.deck self.new.deck }
+        ensures ok { IfOk result (HasCommitted self.old self.new) }
+        ensures err { OnErr result (HasRefused self.old self.new) }
+        ensures causes { IfErr result IsCause }
+        ensures tries { (tries : ℕ) × (tries ≤ the_tries)
+            × ((G.calls gate.new).executes ≡ counted tries (G.calls gate.old).executes) }
+        ensures gave_up { IsErrOf result GaveUp
+            → (G.calls gate.new).executes ≡ counted the_tries (G.calls gate.old).executes }
+        ensures committed { MatchResult result
+            (λ number. (G.calls gate.new).committed ≡ counted 1 (G.calls gate.old).committed)
+            (λ refusal. (G.calls gate.new).committed ≡ (G.calls gate.old).committed) }
+    {
+        let input = self.deck.next(alloc)?;
+        for _ in 0..TRIES {
+            let outcome = self.attempt(rt, alloc, engine, gate, &input);
+            if !is_retried(&outcome) {
+                return outcome;
+            }
+        }
+        Err(Refusal::GaveUp)
+    }
+
+    /// Executes an input, and commits it if what it read is still the latest.
+    ///
+    /// # Errors
+    ///
+    /// As `one`, and `Stale` or `Conflict` where what it read wasn't or isn't the latest.
+    fn attempt<R: Wait, G: Gate>(
+        &mut self,
+        rt: &R,
+        alloc: Global,
+        engine: &Engine<K>,
+        gate: &mut G,
+        input: &Input,
+    ) -> Result<u64, Refusal>
+        requires input { IsInput K.first.scale input.now }
+        ensures deck { self.new.deck ≡ self.old.deck }
+        ensures ok { IfOk result (HasCommitted self.old self.new) }
+        ensures err { OnErr result (HasRefused self.old self.new) }
+        ensures causes { IfErr result (λ refusal. (refusal ≡ Stale) ⊎ (refusal ≡ Conflict)
+            ⊎ (IsCause refusal × (refusal ≢ GaveUp))) }
+        ensures calls { ((G.calls gate.new).executes ≡ counted 1 (G.calls gate.old).executes)
+            ⊎ (((G.calls gate.new).executes ≡ (G.calls gate.old).executes) × IsErrOf result OutOfMemory) }
+        ensures committed { MatchResult result
+            (λ number. (G.calls gate.new).committed ≡ counted 1 (G.calls gate.old).committed)
+            (λ refusal. (G.calls gate.new).committed ≡ (G.calls gate.old).committed) }
+    {
+        self.outbox.reserve()?;
+        gate.before_execute();
+        let (board, cells) = (engine.board(), engine.cells());
+        let work = execute(
+            rt,
+            alloc,
+            cells,
+            &mut self.reader,
+            engine.population(),
+            input,
+        )?;
+        gate.before_commit();
+        let done = engine
+            .lock(rt)
+            .commit(rt, board, cells, &mut self.reader, &mut self.share, work)?;
+        gate.after_commit();
+        let number = u64::from(done.number());
+        self.outbox.hold(done);
+        Ok(number)
+    }
+
+    /// Releases the replies that are durable, as `Outbox::acknowledge` does, and answers how many.
+    pub fn acknowledge(&mut self, board: &Board) -> u64
+        requires { board.now ≡ K.board }
+        ensures share { self.new.share ≡ self.old.share }
+        ensures deck { self.new.deck ≡ self.old.deck }
+        ensures outbox { Acknowledges self.old.outbox result self.new.outbox }
+    {
+        self.outbox.acknowledge(board)
+    }
+}
+
+/// Whether an input is tried again after this outcome: exactly where what it read wasn't or isn't the latest.
+fn is_retried(outcome: &Result<u64, Refusal>) -> bool
+    ensures { IsTrue result ↔ (outcome.now ≡ Err Stale) ⊎ (outcome.now ≡ Err Conflict) }
+{
+    matches!(outcome, Err(Refusal::Stale | Refusal::Conflict))
+}
