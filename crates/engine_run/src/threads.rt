@@ -1,0 +1,270 @@
+//! The threads of a run.
+ghost use Rattle.std.specs.Prelude.{◌≡◌, ◌+◌, ◌*◌, ◌^◌, ◌<◌, ◌≤◌, length, All, IfOk, IfErr, IfSome, vec_len, vec_capacity, []};
+ghost use Rattle.money.specs.declared.refusal.Refusal.TheVariants.{OutOfMemory};
+ghost use Rattle.deck.specs.Deck.{scale_of};
+ghost use Rattle.engine_run.specs.Tally.{total};
+
+use crate::outcome::{Outcome, Written};
+use crate::pace::Pace;
+use crate::progress::Progress;
+use crate::sums::gathered;
+use crate::worker::{Station, Worker};
+use crate::writer::Writer;
+use board::ClockSeat;
+use book::{Engine, Run, Share, TerminalSeats};
+use disk::Disk;
+use logger::Logger;
+use money::Refusal;
+use std::alloc::Global;
+use std::marker::PhantomData;
+use std::sync::Wait;
+use std::thread::{self, Threads};
+use terminals::Gate;
+
+/// A logger, and how it waits between its turns.
+#[derive(Drop)]
+pub struct Log<D: Disk, P: Pace> {
+    pub logger: Logger<D>,
+    pub pace: P,
+}
+
+/// The seats of an engine's clock and terminals.
+#[derive(Drop)]
+pub struct Desks<K: Run> {
+    pub clock: ClockSeat,
+    pub terminals: TerminalSeats<K>,
+}
+
+/// Runs so many inputs at each terminal, each in a thread of its own, beside a thread for each logger (Silo, sections
+/// 4.1 and 4.10). Where a thread can't be started, the calling thread does its work, terminals first. The first logger
+/// has the clock, and advances E before each of its takes. A terminal goes on after any refusal; a logger tries a batch
+/// again after want of memory, and stops for good when its device fails. After all inputs E is advanced once more, each
+/// logger that hasn't stopped takes its last turn, and each terminal acknowledges what is durable. Stations are those of
+/// terminals in order of their numbers. May wait, for the book's lock and at records' cells.
+///
+/// # Errors
+///
+/// `OutOfMemory`, before any input runs, and no other.
+pub fn run<
+    K: Run + Send + Sync,
+    G: Gate + Send + Drop,
+    D: Disk + Send + Drop,
+    P: Pace + Send + Drop,
+    R: Threads + Wait + Sync,
+>(
+    rt: &R,
+    alloc: Global,
+    engine: Engine<K>,
+    desks: Desks<K>,
+    logs: Vec<Log<D, P>>,
+    stations: Vec<Station<G>>,
+    inputs: u32,
+) -> Result<Outcome<K, D>, Refusal>
+    requires clock { desks.clock.board ≡ K.board }
+    requires logs { All (λ log. log.logger.seat.board ≡ K.board) logs.items }
+    requires terminals { (desks.terminals.left ≡ K.parts) × (length stations.items ≡ K.parts) }
+    requires few { K.parts < 2 ^ 16 }
+    requires decks { All (λ station. scale_of station.deck ≡ K.first.scale) stations.items }
+    ensures commits { IfOk result (λ outcome. outcome.commits ≡ length outcome.closed) }
+    ensures inputs { IfOk result (λ outcome.
+        outcome.commits + outcome.rollbacks + outcome.gave_up + outcome.refused ≡ K.parts * inputs) }
+    ensures memory { IfErr result (λ refusal. refusal ≡ OutOfMemory) }
+{
+    let Desks { clock, terminals } = desks;
+    let workers = staffed(alloc, terminals, stations)?;
+    let writers = manned::<K, D, P>(alloc, clock, logs)?;
+    let room = Room {
+        shares: Vec::with_capacity(alloc, workers.len())?,
+        files: Vec::with_capacity(alloc, writers.len())?,
+    };
+    let progress = Progress::new();
+    let (workers, writers) = in_threads(rt, alloc, &engine, workers, writers, inputs, &progress);
+    Ok(settled(rt, engine, workers, writers, room, inputs, &progress))
+}
+
+/// The memory that the end of a run takes.
+#[derive(Drop)]
+struct Room<K: Run, D: Disk> {
+    shares: Vec<Share<K>>,
+    files: Vec<Written<D>>,
+}
+
+/// The terminals at their stations. `OutOfMemory` is the only refusal.
+fn staffed<K: Run, G: Gate + Drop>(
+    alloc: Global,
+    seats: TerminalSeats<K>,
+    stations: Vec<Station<G>>,
+) -> Result<Vec<Worker<K, G>>, Refusal>
+    requires seats { (seats.left ≡ K.parts) × (length stations.items ≡ K.parts) }
+    requires decks { All (λ station. scale_of station.deck ≡ K.first.scale) stations.items }
+    ensures count { IfOk result (λ workers. length workers.items ≡ K.parts) }
+    ensures idle { IfOk result (λ workers. All (λ worker. total worker.tally ≡ 0) workers.items) }
+    ensures only_memory { IfErr result (λ refusal. refusal ≡ OutOfMemory) }
+{
+    let (mut seats, mut stations) = (seats, stations);
+    stations.as_mut_slice().reverse();
+    let mut workers = Vec::new(alloc);
+    while let Some(station) = stations.pop() {
+        let Some(seat) = seats.next() else {
+            unreachable!()
+        };
+        workers.push(Worker::new(alloc, seat, station)?)?;
+    }
+    Ok(workers)
+}
+
+/// The loggers at work, the first of them with the clock. `OutOfMemory` is the only refusal.
+fn manned<K: Run, D: Disk + Drop, P: Pace + Drop>(
+    alloc: Global,
+    clock: ClockSeat,
+    logs: Vec<Log<D, P>>,
+) -> Result<Vec<Writer<K, D, P>>, Refusal>
+    requires clock { clock.board ≡ K.board }
+    requires logs { All (λ log. log.logger.seat.board ≡ K.board) logs.items }
+    ensures only_memory { IfErr result (λ refusal. refusal ≡ OutOfMemory) }
+{
+    let (mut clock, mut logs) = (Some(clock), logs);
+    logs.reverse();
+    let mut writers = Vec::new(alloc);
+    while let Some(log) = logs.pop() {
+        writers.push(Writer::new(log.logger, log.pace, clock.take()))?;
+    }
+    Ok(writers)
+}
+
+/// The terminals do their inputs, in threads of their own, while the loggers take turns in theirs.
+fn in_threads<
+    K: Run + Send + Sync,
+    G: Gate + Send + Drop,
+    D: Disk + Send + Drop,
+    P: Pace + Send + Drop,
+    R: Threads + Wait + Sync,
+>(
+    rt: &R,
+    alloc: Global,
+    engine: &Engine<K>,
+    workers: Vec<Worker<K, G>>,
+    writers: Vec<Writer<K, D, P>>,
+    inputs: u32,
+    progress: &Progress,
+) -> (Vec<Worker<K, G>>, Vec<Writer<K, D, P>>)
+    requires idle { All (λ worker. total worker.tally ≡ 0) workers.items }
+    ensures workers { length result.0.items ≡ length workers.items }
+    ensures all { All (λ worker. total worker.tally ≡ inputs) result.0.items }
+    ensures writers { length result.1.items ≡ length writers.items }
+{
+    let serve = move || -> Vec<Writer<K, D, P>>
+        ensures { vec_len result ≡ vec_len writers }
+    { serve_all(rt, engine, writers, progress) };
+    let work = move || -> Vec<Worker<K, G>>
+        requires { All (λ worker. total worker.tally ≡ 0) workers.items }
+        ensures { (vec_len result ≡ vec_len workers) × All (λ worker. total worker.tally ≡ inputs) result.items }
+    { work_all(rt, alloc, engine, workers, inputs, progress) };
+    // The first of the two gets a thread of its own, or runs last: terminals wait for no logger.
+    let (writers, workers) = thread::join(rt, serve, work);
+    (workers, writers)
+}
+
+/// The terminals do so many inputs each, in threads of their own; then all loggers are told that the run has ended.
+fn work_all<K: Run + Send + Sync, G: Gate + Send + Drop, R: Threads + Wait + Sync>(
+    rt: &R,
+    alloc: Global,
+    engine: &Engine<K>,
+    workers: Vec<Worker<K, G>>,
+    inputs: u32,
+    progress: &Progress,
+) -> Vec<Worker<K, G>>
+    requires idle { All (λ worker. total worker.tally ≡ 0) workers.items }
+    ensures count { vec_len result ≡ vec_len workers }
+    ensures all { All (λ worker. total worker.tally ≡ inputs) result.items }
+{
+    let mut workers = workers;
+    let threads = workers.len();
+    if threads > 0 {
+        let work = |_: usize, worker: &mut Worker<K, G>|
+            requires { total worker.now.tally ≡ 0 }
+            ensures { total worker.exit.now.tally ≡ inputs }
+        { worker.work(rt, alloc, engine, inputs, progress) };
+        thread::for_each_mut(rt, workers.as_mut_slice(), threads, &work);
+    }
+    progress.end();
+    workers
+}
+
+/// The loggers take turns, in threads of their own, until the terminals have ended.
+fn serve_all<
+    K: Run + Send + Sync,
+    D: Disk + Send + Drop,
+    P: Pace + Send + Drop,
+    R: Threads + Wait + Sync,
+>(
+    rt: &R,
+    engine: &Engine<K>,
+    writers: Vec<Writer<K, D, P>>,
+    progress: &Progress,
+) -> Vec<Writer<K, D, P>>
+    ensures { vec_len result ≡ vec_len writers }
+{
+    let mut writers = writers;
+    let threads = writers.len();
+    if threads > 0 {
+        let serve = |_: usize, writer: &mut Writer<K, D, P>| { writer.serve(rt, engine, progress) };
+        thread::for_each_mut(rt, writers.as_mut_slice(), threads, &serve);
+    }
+    writers
+}
+
+/// The end of a run: loggers take their last turns, terminals acknowledge, and the engine is closed.
+fn settled<K: Run, G: Gate + Drop, D: Disk + Drop, P: Pace + Drop, R: Wait>(
+    rt: &R,
+    engine: Engine<K>,
+    workers: Vec<Worker<K, G>>,
+    writers: Vec<Writer<K, D, P>>,
+    room: Room<K, D>,
+    inputs: u32,
+    progress: &Progress,
+) -> Outcome<K, D>
+    requires all { All (λ worker. total worker.tally ≡ inputs) workers.items }
+    requires count { length workers.items ≡ K.parts }
+    requires few { length workers.items < 2 ^ 16 }
+    requires empty { (room.shares.items ≡ []) × (room.files.items ≡ []) }
+    requires shares { length workers.items ≤ vec_capacity room.shares }
+    requires files { length writers.items ≤ vec_capacity room.files }
+    ensures commits { result.commits ≡ length result.closed }
+    ensures inputs { result.commits + result.rollbacks + result.gave_up + result.refused ≡ K.parts * inputs }
+{
+    let Room { shares, files } = room;
+    let files = last_turns(rt, &engine, writers, files, progress);
+    let (sums, shares) = gathered(&engine, workers, shares, inputs);
+    Outcome {
+        commits: sums.commits,
+        rollbacks: sums.rollbacks,
+        gave_up: sums.gave_up,
+        refused: sums.refused,
+        durable: progress.durable(),
+        acknowledged: sums.acknowledged,
+        files,
+        closed: engine.close(shares),
+    }
+}
+
+/// Each logger takes its last turn, the first first, and gives its file, for which there is room.
+fn last_turns<K: Run, D: Disk + Drop, P: Pace + Drop, R: Wait>(
+    rt: &R,
+    engine: &Engine<K>,
+    writers: Vec<Writer<K, D, P>>,
+    files: Vec<Written<D>>,
+    progress: &Progress,
+) -> Vec<Written<D>>
+    requires room { length files.items + length writers.items ≤ vec_capacity files }
+{
+    let (mut writers, mut files) = (writers, files);
+    for writer in &mut writers {
+        writer.turn(rt, engine, progress);
+    }
+    while let Some(writer) = writers.pop() {
+        files.push_reserved(writer.end());
+    }
+    files.as_mut_slice().reverse();
+    files
+}
