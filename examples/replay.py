@@ -1,0 +1,258 @@
+#!/usr/bin/env python3
+"""Replays log files by their format alone (docs/LOG.md), and prints what `tpcc recover` prints of them.
+
+    replay.py DIR LOGGERS
+
+Reads DIR/log-0, DIR/log-1 and so on, as many as there were loggers. The durable epoch D is the least of their last
+marks. Of each record the newest write counts, the one of the greatest TID, among the entries of epochs up to D. Where
+there is none, the record is as in the plain population, in which each customer has paid 10.00 in their district.
+
+Ends with 0, and with 1 where bytes are no log file of that logger, where the files are of several databases, or where a
+commit is missing; standard error then has the file, the place of the first byte that is wrong there, and why.
+"""
+
+import struct
+import sys
+from collections import namedtuple
+from pathlib import Path
+
+Scale = namedtuple("Scale", "warehouses districts customers items orders commits")
+Header = namedtuple("Header", "logger loggers scale seed")
+# An entry, with its writes to the tables that are shown.
+Entry = namedtuple("Entry", "number tid writes")
+Replay = namedtuple("Replay", "scale durable commits newest")
+
+WAREHOUSE, DISTRICT, HISTORY, NEW_ORDER = 1, 2, 4, 5
+SHOWN = WAREHOUSE, DISTRICT
+OPEN, PRESENT, ABSENT = 1, 1, 0
+MAX_MARK, MAX_TERMINALS, MAX_WRITES = 2**32 - 2, 16, 200
+
+BYTE, LENGTH = struct.Struct("<B"), struct.Struct("<Q")
+HEADER, ENTRY, WRITE = struct.Struct("<8sIHH6IQ"), struct.Struct("<QQHH"), struct.Struct("<BIB")
+
+
+class Damaged(Exception):
+    """Why files are no log files of one database."""
+
+
+def epoch_of(tid):
+    return tid >> 32
+
+
+class Source:
+    """The bytes of a file, which are read from the front up to an end."""
+
+    def __init__(self, name, data):
+        self.name, self.data, self.at, self.end = name, data, 0, len(data)
+
+    def take(self, form):
+        """The numbers that come next, in this form."""
+        at, self.at = self.at, self.at + form.size
+        if self.at > self.end:
+            raise self.damaged(at, f"{form.size} bytes are to stand here, and {self.end - at} do")
+        return form.unpack_from(self.data, at)
+
+    def damaged(self, at, why):
+        return Damaged(f"{self.name}, byte {at}: {why}")
+
+
+# ---- The tables of a scale
+
+MONEY, COUNT, DATE = ("q", -(10**13), 10**13), ("Q", 0, 10**9), ("Q", 1, 4 * 10**9)
+
+
+def up_to(high, low=1):
+    return "Q", low, high
+
+
+class Table:
+    """How many places a table has, and its columns: how each is written, and its least and greatest number."""
+
+    def __init__(self, places, *columns):
+        self.places = places
+        self.form = struct.Struct("<" + "".join(sign for sign, _, _ in columns))
+        self.ranges = [(low, high) for _, low, high in columns]
+
+
+def tables_of(scale):
+    """The tables by number. ITEM, table 8, has no writes."""
+    warehouses, districts, customers, items, orders, _ = scale
+    all_districts = warehouses * districts
+    all_customers, all_orders = all_districts * customers, all_districts * orders
+    a_customer, a_district, a_warehouse = up_to(customers), up_to(districts), up_to(warehouses)
+    return {
+        WAREHOUSE: Table(warehouses, MONEY),
+        DISTRICT: Table(all_districts, MONEY, up_to(orders + 1)),
+        3: Table(all_customers, MONEY, MONEY, COUNT, COUNT),
+        HISTORY: Table(1, a_customer, a_district, a_warehouse, a_district, a_warehouse, DATE, ("q", 100, 500_000)),
+        NEW_ORDER: Table(all_orders),
+        6: Table(all_orders, a_customer, DATE, up_to(10, low=0), up_to(15, low=5), up_to(1, low=0)),
+        7: Table(all_orders * 15, up_to(items), a_warehouse, up_to(4 * 10**9, low=0), up_to(10), ("q", 0, 999_999)),
+        9: Table(warehouses * items, up_to(100, low=10), COUNT, COUNT, COUNT),
+        10: Table(all_districts, up_to(orders + 1)),
+        11: Table(all_customers, up_to(orders, low=0)),
+    }
+
+
+# ---- The parts of a file
+
+
+def read_header(source):
+    magic, version, logger, loggers, *scale, seed = source.take(HEADER)
+    scale = Scale(*scale)
+    if (magic, version) != (b"SILOTPCC", 1):
+        raise source.damaged(0, "a log file begins with SILOTPCC and version 1")
+    if not (1 <= loggers <= 8 and logger < loggers):
+        raise source.damaged(12, f"logger {logger} of {loggers}")
+    limits = [(1, 8), (1, 10), (10, 3_000), (20, 100_000), (scale.customers, 100_000), (1, 600_000)]
+    for place, (number, (low, high)) in enumerate(zip(scale, limits)):
+        if not low <= number <= high:
+            raise source.damaged(16 + 4 * place, f"{Scale._fields[place]} is {number}, and not from {low} to {high}")
+    return Header(logger, loggers, scale, seed)
+
+
+def read_columns(source, number, table, kind):
+    """The columns of a write of this kind to a table, or None where it leaves the record absent."""
+    at = source.at
+    if kind == ABSENT and number == NEW_ORDER:
+        return None
+    if kind != PRESENT:
+        raise source.damaged(at - 1, f"a write of kind {kind} to table {number}")
+    columns = source.take(table.form)
+    for place, (column, (low, high)) in enumerate(zip(columns, table.ranges)):
+        if not low <= column <= high:
+            raise source.damaged(at + 8 * place, f"column {place} of table {number} is {column}")
+    return columns
+
+
+def read_writes(source, tables, count):
+    """So many writes, which rise by table and place. Gives those to tables that are shown."""
+    shown, last, records = [], (0, 0), 0
+    for _ in range(count):
+        at = source.at
+        number, place, kind = source.take(WRITE)
+        table = tables.get(number)
+        if table is None or place >= table.places:
+            raise source.damaged(at, f"table {number} has no place {place}")
+        if (number, place) <= last:
+            raise source.damaged(at, "writes are to rise by table and place")
+        last, records = (number, place), records + (number != HISTORY)
+        if records > MAX_WRITES:
+            raise source.damaged(at, f"more than {MAX_WRITES} writes")
+        columns = read_columns(source, number, table, kind)
+        if number in SHOWN:
+            shown.append((number, place, columns))
+    return shown
+
+
+class LogFile:
+    """A log file: its header, the mark of its last body (0 where it has none), and its entries in their order."""
+
+    def __init__(self, name, data):
+        source = Source(name, data)
+        self.header = read_header(source)
+        self.tables = tables_of(self.header.scale)
+        self.mark, self.entries = 0, []
+        # The commit number and the epoch of the last entry.
+        self.number, self.epoch = 0, 1
+        while source.take(BYTE)[0] == OPEN:
+            self.read_body(source)
+
+    def read_body(self, source):
+        """A body, which ends in front of the next gate."""
+        at = source.at
+        (length,) = source.take(LENGTH)
+        end = source.at + length - 1
+        if length < 9 or end >= len(source.data):
+            raise source.damaged(at, f"a body of {length} bytes, the gate behind it included")
+        source.end = end
+        (mark,) = source.take(LENGTH)
+        if not self.mark <= mark <= MAX_MARK:
+            raise source.damaged(at + 8, f"the mark {mark} behind the mark {self.mark}")
+        while source.at < end:
+            self.read_entry(source, mark)
+        self.mark, source.end = mark, len(source.data)
+
+    def read_entry(self, source, mark):
+        """An entry of a body of this mark."""
+        at = source.at
+        number, tid, terminal, count = source.take(ENTRY)
+        epoch, header = epoch_of(tid), self.header
+        if not self.number < number <= header.scale.commits:
+            raise source.damaged(at, f"commit {number} behind commit {self.number}")
+        if tid % 8 or epoch < self.epoch or not self.mark < epoch <= mark + 1:
+            raise source.damaged(at + 8, f"the TID {tid}, of epoch {epoch}, behind epoch {self.epoch} in mark {mark}")
+        if terminal >= MAX_TERMINALS or terminal % header.loggers != header.logger:
+            raise source.damaged(at + 16, f"terminal {terminal} isn't logger {header.logger}'s")
+        self.number, self.epoch = number, epoch
+        self.entries.append(Entry(number, tid, read_writes(source, self.tables, count)))
+
+
+# ---- What several files say
+
+
+def read_files(folder, loggers):
+    """The log files of so many loggers, which are to be of one database of the plain population."""
+    files = []
+    for logger in range(loggers):
+        path = Path(folder) / f"log-{logger}"
+        file = LogFile(path, path.read_bytes())
+        wanted = Header(logger, loggers, files[0].header.scale if files else file.header.scale, 0)
+        if file.header != wanted:
+            raise Damaged(f"{path}: {file.header}, and not {wanted}")
+        files.append(file)
+    return files
+
+
+def replay(folder, loggers):
+    """The durable epoch, how many commits count, and the newest columns that they leave, by table and place."""
+    files = read_files(folder, loggers)
+    durable = min(file.mark for file in files)
+    entries = [entry for file in files for entry in file.entries if epoch_of(entry.tid) <= durable]
+    for wanted, number in enumerate(sorted(entry.number for entry in entries), 1):
+        if number != wanted:
+            raise Damaged(f"{folder}: commit {number} stands where commit {wanted} is to be")
+    newest = {}
+    for entry in sorted(entries, key=lambda entry: (entry.tid, entry.number)):
+        for table, place, columns in entry.writes:
+            newest[table, place] = columns
+    return Replay(files[0].header.scale, durable, len(entries), newest)
+
+
+# ---- Texts
+
+
+def money(cents):
+    sign = "-" if cents < 0 else ""
+    return f"{sign}{abs(cents) // 100}.{abs(cents) % 100:02}"
+
+
+def text_of(replayed):
+    """The lines that `tpcc recover` writes."""
+    scale, durable, commits, newest = replayed
+    paid = scale.customers * 1_000
+    lines = [f"durable {durable}", f"commits {commits}"]
+    for warehouse in range(scale.warehouses):
+        (year_to_date,) = newest.get((WAREHOUSE, warehouse), (scale.districts * paid,))
+        lines.append(f"warehouse {warehouse + 1} ytd {money(year_to_date)}")
+        for district in range(scale.districts):
+            place = warehouse * scale.districts + district
+            year_to_date, next_order = newest.get((DISTRICT, place), (paid, scale.customers + 1))
+            lines.append(f"district {warehouse + 1} {district + 1} ytd {money(year_to_date)} next {next_order}")
+    return "".join(f"{line}\n" for line in lines)
+
+
+def main(words):
+    if len(words) != 2 or words[1] not in list("12345678"):
+        print(__doc__, file=sys.stderr)
+        return 2
+    try:
+        sys.stdout.write(text_of(replay(words[0], int(words[1]))))
+    except (Damaged, OSError) as why:
+        print(f"replay.py: {why}", file=sys.stderr)
+        return 1
+    return 0
+
+
+if __name__ == "__main__":
+    sys.exit(main(sys.argv[1:]))
