@@ -1,0 +1,9 @@
+//! Tests of `engine_run`, on engines over the plain population of one warehouse: a crate's own tests would prove it again.
+#![tactic(auto)]
+
+#[cfg(test)]
+mod meeting;
+#[cfg(test)]
+mod run_tests;
+#[cfg(test)]
+mod stage;
