@@ -8,16 +8,26 @@ Prints a line for each check that failed, and at last `N passed, M failed`; exit
 """
 
 import os
+import re
 import resource
+import signal
 import struct
 import subprocess
 import sys
 import tempfile
 import threading
+import time
 from collections import namedtuple
 from pathlib import Path
 
-BUILT = Path(__file__).resolve().parent.parent / "crates" / "tpcc" / "out" / "tpcc"
+TOP = Path(__file__).resolve().parent.parent
+
+# Runs that are killed, and what they leave.
+sys.dont_write_bytecode = True
+sys.path.insert(0, str(TOP / "examples"))
+import kills
+
+BUILT = TOP / "crates" / "tpcc" / "out" / "tpcc"
 
 # How long a run may take, with room for a slow machine.
 SECONDS = 60
@@ -28,6 +38,16 @@ SHOWN = []
 def shows(function):
     """Marks a function that shows what its name says."""
     SHOWN.append(function)
+    return function
+
+
+# Those of the subcommand `run`, which are left out of a program that doesn't have it.
+RUNS = []
+
+
+def shows_runs(function):
+    """Marks one of these."""
+    RUNS.append(function)
     return function
 
 
@@ -428,6 +448,250 @@ def log_files_are_told_on_an_output_that_fails():
         ends(f"of {subcommand} at a full device", ran, 1, err=text)
 
 
+# ---- Runs of terminals in threads, with log files
+
+Counts = namedtuple("Counts", "commits rollbacks gaveup refused durable acknowledged")
+
+COUNTED = re.compile(b"".join(b"%s (0|[1-9][0-9]*)\n" % name.encode() for name in Counts._fields) + REPORT)
+
+SCALE = "--warehouses 1 --districts 2 --customers 10 --items 20 --orders 2000 --commits 2000".split()
+
+TWO = "--terminals 2 --loggers 2".split()
+
+# Such a run of a million inputs a terminal takes half a minute.
+LONG = "--warehouses 2 --districts 10 --customers 100 --items 1000 --orders 3000 --commits 600000".split()
+
+
+def run_in(folder, *words, **how):
+    """Runs terminals whose log files stand in this folder. It is called DIR in what the errors got."""
+    ran = run(["run", "--logs", folder, *words], **how)
+    return ran._replace(err=ran.err.replace(folder.encode(), b"DIR"))
+
+
+def counts_of(output):
+    """The counts that a run wrote, in front of a report in which every condition holds."""
+    match = COUNTED.fullmatch(output)
+    if not match:
+        raise kills.Failed(f"a run wrote {brief(output)}")
+    return Counts(*map(int, match.groups()))
+
+
+def inputs_of(counts):
+    return counts.commits + counts.rollbacks + counts.gaveup + counts.refused
+
+
+def contents_of(folder):
+    return {path.name: path.read_bytes() for path in Path(folder).iterdir()}
+
+
+def counts_and_recovers(what, words, inputs, loggers):
+    """Checks of a run to its end: its counts, its log files, and what they recover to. Gives the counts, the rows that
+    were recovered, and the files."""
+    with tempfile.TemporaryDirectory() as folder:
+        ran = run_in(folder, *SCALE, *words)
+        counts = counts_of(ran.out)
+        ends(f"of {what}", ran, 0, ran.out)
+        same(f"the number of inputs of {what}", inputs_of(counts), inputs)
+        same(f"what is acknowledged of {what}", counts.acknowledged, counts.commits)
+        files = contents_of(folder)
+        same(f"the files of {what}", sorted(files), [f"log-{logger}" for logger in range(loggers)])
+        left = kills.examine(Checks.program, folder, loggers, SCALE)
+        same(f"what is left of {what}", left, kills.Left(counts.durable, counts.commits))
+        rows = kills.answer(Checks.program, "recover", folder, loggers, SCALE).split("\n", 2)[2]
+        same(f"the files of {what} once they are read", contents_of(folder), files)
+    return counts, rows, files
+
+
+def is_refused_by_device(what, ran):
+    same(f"the status {what}", ran.status, 1)
+    same(f"the output {what}", ran.out, b"")
+    same(f"the first line of the errors {what}", ran.err.split(b"\n")[0], b"9 Device")
+
+
+@shows_runs
+def a_run_is_counted_and_its_log_files_are_recovered():
+    counts_and_recovers("two terminals", [*TWO, "--count", "50"], 100, 2)
+    counts_and_recovers("the default terminals", [], 400, 2)
+    counts_and_recovers("sixteen terminals", "--terminals 16 --loggers 8 --count 20".split(), 320, 8)
+    counts_and_recovers("more loggers than terminals", "--terminals 1 --loggers 8 --count 100".split(), 100, 8)
+
+
+@shows_runs
+def a_run_of_no_inputs_is_counted():
+    counts, _, _ = counts_and_recovers("no inputs", [*TWO, "--count", "0"], 0, 2)
+    same("the commits of no inputs", counts.commits, 0)
+
+
+@shows_runs
+def a_run_is_refused_at_its_caps():
+    words = "--terminals 4 --loggers 2 --count 800".split()
+    counts, _, _ = counts_and_recovers("more inputs than the commit cap", words, 3200, 2)
+    same("the commits at the commit cap", counts.commits, 2000)
+
+
+@shows_runs
+def a_run_is_drawn_from_its_seed():
+    words = "--terminals 1 --loggers 1 --count 200".split()
+    first, *others = [
+        (counts._replace(durable=0), rows)
+        for counts, rows, _ in [
+            counts_and_recovers(f"one terminal, {seed}", [*words, *seed.split()], 200, 1)
+            for seed in ("--seed 1", "", "--seed 1", "--seed 18446744073709551615")
+        ]
+    ]
+    same("the default seed", others[0], first)
+    same("a seed again", others[1], first)
+    same("whether another seed is another run", others[2] != first, True)
+
+
+@shows_runs
+def a_run_begins_with_its_population():
+    with tempfile.TemporaryDirectory() as folder:
+        scale = [*SCALE, "--population", "1"]
+        ran = run_in(folder, *scale, *TWO, "--count", "50")
+        counts = counts_of(ran.out)
+        ends("with a seeded population", ran, 0, ran.out)
+        logs = ["--logs", folder, "--loggers", "2"]
+        ends("of check on it", run(["check", *scale, *logs]), 0, whole(b"", counts.commits))
+        ends("of check with the plain one", run(["check", *SCALE, *logs]), 1, err=b"10 Damaged\n")
+
+
+@shows_runs
+def log_files_that_are_there_are_left_as_they_are():
+    words = [*SCALE, *TWO, "--count", "50"]
+    with tempfile.TemporaryDirectory() as folder:
+        same("the status of a first run", run_in(folder, *words).status, 0)
+        files = contents_of(folder)
+        is_refused_by_device("of a second run", run_in(folder, *words))
+        same("the files after a second run", contents_of(folder), files)
+    for name in ("log-0", "log-1"):
+        with tempfile.TemporaryDirectory() as folder:
+            (Path(folder) / name).write_bytes(b"here")
+            is_refused_by_device(f"where {name} is there", run_in(folder, *words))
+            same(f"{name} after it", contents_of(folder)[name], b"here")
+
+
+@shows_runs
+def faults_of_a_run_come_in_their_order():
+    words_at_fault = [
+        ("", b"error: the following required arguments were not provided:\n  --logs <DIR>\n"),
+        ("--logs DIR --terminals 0", b"error: invalid value '0' for '--terminals "),
+        ("--logs DIR --terminals 17", b"error: invalid value '17' for '--terminals "),
+        ("--logs DIR --loggers 0", b"error: invalid value '0' for '--loggers "),
+        ("--logs DIR --loggers 9", b"error: invalid value '9' for '--loggers "),
+        ("--logs DIR --count 1000001", b"error: invalid value '1000001' for '--count "),
+        ("--logs DIR --seed 18446744073709551616", b"error: invalid value '18446744073709551616' for '--seed "),
+        ("--logs DIR --threads 2", b"error: unexpected argument '--threads' found\n"),
+        ("--logs DIR --items 1 --count x", b"error: invalid value 'x' for '--count "),
+    ]
+    with tempfile.TemporaryDirectory() as folder:
+        for words, beginning in words_at_fault:
+            ran = run(["run", *words.replace("DIR", folder).split()])
+            same(f"the status of {words!r}", ran.status, 2)
+            same(f"the output of {words!r}", ran.out, b"")
+            same(f"the beginning of the errors of {words!r}", ran.err[: len(beginning)], beginning)
+        missing = str(Path(folder) / "missing")
+        text = b"13 BadScale\n--items is 1: it is to be from 20 to 100000\n"
+        for logs in (folder, missing):
+            ends(f"of a bad scale in {logs}", run_in(logs, "--items", "1"), 2, err=text)
+        # The population alone takes some 300 MB.
+        limit = 64 * 1024 * 1024
+        large = "--warehouses 8 --customers 3000 --items 100000".split()
+        ran = run_in(missing, *large, before=lambda: resource.setrlimit(resource.RLIMIT_AS, (limit, limit)))
+        ends("of a large population in no folder", ran, 1, err=b"1 OutOfMemory\n")
+        is_refused_by_device("in no folder", run_in(missing, *SCALE))
+        same("what faults leave in a folder", contents_of(folder), {})
+
+
+@shows_runs
+def a_logger_whose_device_fails_stops():
+    def limit_files():
+        signal.signal(signal.SIGXFSZ, signal.SIG_IGN)
+        resource.setrlimit(resource.RLIMIT_FSIZE, (20_000, 20_000))
+
+    with tempfile.TemporaryDirectory() as folder:
+        ran = run_in(folder, *SCALE, *TWO, "--count", "500", before=limit_files)
+        counts = counts_of(ran.out)
+        same("the status of it", ran.status, 1)
+        same("the first line of the errors of it", ran.err.split(b"\n")[0], b"9 Device")
+        same("the number of inputs of it", inputs_of(counts), 1000)
+        left = kills.examine(Checks.program, folder, 2, SCALE)
+        same("whether it is durable as it says", left.durable >= counts.durable, True)
+        same("whether it keeps what is acknowledged", counts.acknowledged <= left.commits < counts.commits, True)
+
+
+@shows_runs
+def a_run_is_told_on_an_output_that_fails():
+    with tempfile.TemporaryDirectory() as folder:
+        with open("/dev/full", "wb") as full:
+            ran = run_in(folder, *SCALE, *TWO, "--count", "50", stdout=full)
+        ends("at a full device", ran, 1, err=b"9 Device\nstandard output: No space left on device (os error 28)\n")
+        kills.examine(Checks.program, folder, 2, SCALE)
+
+
+def falls(lines):
+    """Whether a number of progress lines falls from one to the next, but for the commits a second."""
+    numbers = [line._replace(rate=0) for line in lines]
+    return any(left > right for line, later in zip(numbers, numbers[1:]) for left, right in zip(line, later))
+
+
+@shows_runs
+def a_long_run_shows_its_progress_on_a_terminal():
+    with tempfile.TemporaryDirectory() as folder:
+        begun = time.monotonic()
+        long = kills.Run(Checks.program, folder, [*LONG, "--count", "40000"])
+        timer = threading.Timer(SECONDS, long.process.kill)
+        timer.start()
+        try:
+            long.watch(0.9)
+            same("what a terminal is shown in the first second", long.shown, b"")
+            status, output = long.close()
+        finally:
+            timer.cancel()
+            long.process.kill()
+        seconds = time.monotonic() - begun
+        same("the status of a long run", status, 0)
+        counts, lines = counts_of(output), kills.progress_of(long.shown)
+        same("the number of inputs of a long run", inputs_of(counts), 160_000)
+        same("what is acknowledged of a long run", counts.acknowledged, counts.commits)
+        same("whether there are lines, at most ten a second", 1 <= len(lines) <= 10 * seconds, True)
+        same("the end of the last line", long.shown[-1:], b"\n")
+        same("whether a number falls", falls(lines), False)
+        for last in lines[-1:]:
+            same("whether too many commits are shown", last.commits > counts.commits, False)
+            same("whether too many are shown as acknowledged", last.acknowledged > counts.acknowledged, False)
+            same("whether too late an epoch is shown as durable", last.durable > counts.durable, False)
+
+
+@shows_runs
+def a_run_without_a_terminal_shows_nothing():
+    with tempfile.TemporaryDirectory() as folder:
+        process = start(
+            ["run", "--logs", folder, *LONG, "--count", "1000000"],
+            stdin=subprocess.DEVNULL,
+            stdout=subprocess.PIPE,
+            stderr=subprocess.PIPE,
+        )
+        try:
+            log, until = Path(folder) / "log-0", time.monotonic() + SECONDS
+            while not (log.exists() and log.stat().st_size > 10_000) and time.monotonic() < until:
+                time.sleep(0.05)
+            time.sleep(1.5)
+        finally:
+            process.kill()
+            out, err = process.communicate()
+        ends("of a long run that is killed", Ran(process.returncode, out, err), -signal.SIGKILL)
+        kills.examine(Checks.program, folder, 2, LONG)
+
+
+@shows_runs
+def runs_that_are_killed_are_recovered():
+    for seed in (1, 2, 3):
+        with tempfile.TemporaryDirectory() as folder:
+            last, left = kills.kill_and_examine(Checks.program, folder, LONG, seed, latest=1.0)
+            same("whether what was acknowledged is recovered", last.acknowledged <= left.commits, True)
+
+
 # ---- Devices and memory
 
 
@@ -477,11 +741,14 @@ def want_of_memory_is_a_refusal():
 def main():
     if len(sys.argv) > 1:
         Checks.program = Path(sys.argv[1]).resolve()
-    for function in SHOWN:
+    has_runs = b"unrecognized subcommand" not in run(["run", "--help"]).err
+    if not has_runs:
+        print(f"this program has no subcommand run: {len(RUNS)} functions are left out")
+    for function in SHOWN + (RUNS if has_runs else []):
         Checks.showing = function.__name__
         try:
             function()
-        except (OSError, subprocess.SubprocessError) as error:
+        except (OSError, subprocess.SubprocessError, kills.Failed) as error:
             fail(f"{error}")
     print(f"{Checks.passed} passed, {Checks.failed} failed")
     return 1 if Checks.failed else 0
