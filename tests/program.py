@@ -235,6 +235,7 @@ Usage: tpcc <COMMAND>
 
 Commands:
   script   Answers the lines of standard input, then reports the consistency conditions
+  run      Runs terminals in threads, and writes what they commit to log files
   recover  Shows what log files recover to: durable epoch, commits, and the rows of warehouses and districts
   check    Reports the consistency conditions of what log files recover to
   help     Print this message or the help of the given subcommand(s)
@@ -260,6 +261,22 @@ Usage: tpcc script [OPTIONS]
 Options:
 """ + TABLE_OPTIONS
 
+RUN_HELP = b"""Runs terminals in threads, and writes what they commit to log files
+
+Usage: tpcc run [OPTIONS] --logs <DIR>
+
+Options:
+      --logs <DIR>         The folder of the log files, log-0, log-1 and so on
+      --loggers <N>        The number of loggers, 1 to 8 [default: 2]
+      --terminals <N>      The number of terminals, 1 to 16 [default: 4]
+      --count <N>          Inputs of each terminal, 0 to 1000000 [default: 100]
+      --seed <SEED>        The seed that the inputs are drawn from [default: 1]
+""" + TABLE_OPTIONS + b"""
+Each logger makes a file of its own in DIR: log-0, log-1 and so on. Where one is there already, nothing is run.
+What the files hold outlives a crash: `tpcc recover` shows what that is, and `tpcc check` its consistency conditions,
+for the same DIR, as many loggers, and the same options of the tables.
+"""
+
 LOGS_HELP = b"""
 
 Usage: tpcc %s [OPTIONS] --logs <DIR> --loggers <N>
@@ -282,6 +299,7 @@ def help_goes_to_the_errors():
         ends(f"of {args}", run(args), 2, err=HELP)
     for args in (["script", "--help"], ["help", "script"]):
         ends(f"of {args}", run(args), 2, err=SCRIPT_HELP)
+    ends("of run", run(["run", "--help"]), 2, err=RUN_HELP)
     ends("of recover", run(["recover", "--help"]), 2, err=RECOVER_HELP + LOGS_HELP % b"recover")
     ends("of check", run(["check", "--help"]), 2, err=CHECK_HELP + LOGS_HELP % b"check")
 

@@ -1,8 +1,9 @@
 -- The comparison of the versions read with their records' latest.
-use Rattle.std.proofs.Common.{◌≡◌, ◌≢◌, ℕ, ◌<◌, inl, inr, Some, List, [], ◌∷◌, refl, sym, ap, ◌∙◌, subst, arith}
+use Rattle.std.proofs.Common.{◌≡◌, ◌≢◌, ℕ, ◌+◌, ◌<◌, inl, inr, Some, List, [], ◌∷◌, length, drop, get_or, refl, sym, ap, ◌∙◌, subst, arith}
 use Rattle.std.specs.Prelude.{max}
 use Rattle.std.specs.List.{All}
 use Rattle.std.specs.Ordering.{nat_cmp, is_eq}
+use Rattle.std.proofs.lemmas.List.{drop_more}
 use Rattle.std.proofs.lemmas.List.Elements.{All-head, All-tail, All-cons, All-nil, All-contains}
 use Rattle.std.proofs.lemmas.Map.Views.{Contains-from_lookup}
 use Rattle.tidword.specs.TidWord.{tid_of}
@@ -16,6 +17,10 @@ use Rattle.readset.specs.Reads.{ReadSetView, held}
 use Rattle.readset.proofs.Numbers.{same_number}
 use Rattle.book.specs.Stamps.{greatest_tid}
 use Rattle.book.specs.Book.{AreLatest, HasConflict, IsReadBy, IsRead}
+
+-- the next of some versions
+pub next : (items : ReadSetView) (i : ℕ) (e : ℕ × Version) → i < length items → e ≡ get_or items i e → drop i items ≡ e ∷ drop (i + 1) items
+next items i e inside is = drop_more items i e inside ∙ ap (λ (f : ℕ × Version). f ∷ drop (i + 1) items) (sym is)
 
 abbrev IsFound : ReadSetView → ℕ × Version → Type 0
 IsFound reads e = held reads e.0 ≡ Some e.1

@@ -16,7 +16,7 @@ use crate::done::Done;
 use crate::prepare::{Place, Prepared, prepare};
 use crate::run::Run;
 use crate::share::Share;
-use crate::steps::{Footprint, in_order, store, validate};
+use crate::steps::{in_order, store, validate};
 use board::Board;
 use cells::{Cells, Reader};
 use money::Refusal;
@@ -101,10 +101,9 @@ impl<K: Run> Book<K> {
             writes,
             reply,
         } = work;
-        let footprint = Footprint { reads, writes };
-        in_order(&footprint);
+        in_order(&reads, &writes);
         let epoch = board.epoch(&mut self.seat);
-        let Some(seen) = validate(rt, cells, &mut self.pen, reader, &footprint) else {
+        let Some(seen) = validate(rt, cells, &mut self.pen, reader, &reads) else {
             return Err(Refusal::Conflict);
         };
         let place = Place {
@@ -122,14 +121,7 @@ impl<K: Run> Book<K> {
             entry,
             waiting,
             done,
-        } = match prepare(
-            &mut self.history,
-            stream,
-            place,
-            input,
-            reply,
-            &footprint.writes,
-        ) {
+        } = match prepare(&mut self.history, stream, place, input, reply, writes) {
             Ok(prepared) => prepared,
             Err(refusal) => return Err(refusal),
         };
@@ -139,8 +131,8 @@ impl<K: Run> Book<K> {
             &mut self.pen,
             reader,
             &mut self.newest,
-            &footprint,
-            tid,
+            &reads,
+            &entry,
         );
         stream.add(waiting);
         self.history.push_reserved(entry);

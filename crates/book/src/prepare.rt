@@ -50,7 +50,7 @@ pub(crate) fn prepare(
     place: Place,
     input: Input,
     reply: Reply,
-    writes: &WriteSet,
+    writes: WriteSet,
 ) -> Result<Prepared, Refusal>
     ensures tid { IfOk result (λ made.
         next (tid_of place.seen) (tid_of place.last) place.epoch ≡ Some made.tid) }
@@ -61,7 +61,7 @@ pub(crate) fn prepare(
       terminal = place.terminal;
       input = input;
       reply = reply;
-      writes = writes.now;
+      writes = writes;
     }) }
     ensures waiting { IfOk result (λ made. arc_value made.waiting ≡ arc_value made.entry) }
     ensures done { IfOk result (λ made.
@@ -88,9 +88,6 @@ pub(crate) fn prepare(
         return Err(Refusal::OutOfMemory);
     };
     stream.reserve()?;
-    let Ok(writes) = writes.list(alloc) else {
-        return Err(Refusal::OutOfMemory);
-    };
     let (entry, waiting) = shared(
         alloc,
         Entry {
@@ -99,7 +96,7 @@ pub(crate) fn prepare(
             terminal: place.terminal,
             input,
             reply,
-            writes,
+            writes: writes.into_list(),
         },
     )?;
     let told = Arc::try_clone(&entry)?;

@@ -10,25 +10,19 @@ ghost use Rattle.book.specs.Stamps.{greatest_tid};
 ghost use Rattle.book.specs.Book.{AreInOrder, AreLatest, HasConflict, HasSeen, IsRead, IsReadBy};
 ghost use Rattle.book.specs.Ready.{AreNewest};
 
+use crate::entry::Entry;
 use cells::{Cells, Newest, Pen, Reader};
 use money::{NO_PAYLOAD, Payload};
 use readset::{ReadSet, WriteSet};
 use std::sync::Wait;
 use tidword::TidWord;
 
-/// What a transaction has read, and is to write.
-#[derive(Drop)]
-pub(crate) struct Footprint {
-    pub reads: ReadSet,
-    pub writes: WriteSet,
-}
-
 /// For proofs: what was read and what is to be written stand in the order of their records. Changes nothing.
-pub(crate) fn in_order(footprint: &Footprint)
-    ensures { AreInOrder footprint.now.reads footprint.now.writes }
+pub(crate) fn in_order(reads: &ReadSet, writes: &WriteSet)
+    ensures { AreInOrder reads.now writes.now }
 {
-    footprint.reads.versions();
-    footprint.writes.values();
+    reads.versions();
+    writes.values();
 }
 
 /// The greatest TID of what was read, if each version read is still its record's latest (phase 2). The reader may have
@@ -38,18 +32,18 @@ pub(crate) fn validate<R: Wait>(
     cells: &Cells,
     pen: &mut Pen,
     reader: &mut Reader,
-    footprint: &Footprint,
+    reads: &ReadSet,
 ) -> Option<TidWord>
     requires own { (pen.old.cells ≡ cells.now) × (reader.old.cells ≡ cells.now) }
-    requires read { IsReadBy (length cells.now) reader.old footprint.now.reads }
+    requires read { IsReadBy (length cells.now) reader.old reads.now }
     ensures pen { pen.new ≡ pen.old }
     ensures reader { HasGrown reader.old reader.new }
-    ensures latest { MatchOption result (HasConflict pen.old.all footprint.now.reads)
-        (λ seen. AreLatest pen.old.all footprint.now.reads × (seen ≡ greatest_tid footprint.now.reads)
-        × IsRead footprint.now.reads seen) }
+    ensures latest { MatchOption result (HasConflict pen.old.all reads.now)
+        (λ seen. AreLatest pen.old.all reads.now × (seen ≡ greatest_tid reads.now)
+        × IsRead reads.now seen) }
 {
     let mut seen = 0;
-    for (_, version) in footprint.reads.versions() {
+    for (_, version) in reads.versions() {
         if !cells.meet(rt, pen, reader, version) {
             return None;
         }
@@ -58,7 +52,7 @@ pub(crate) fn validate<R: Wait>(
     Some(TidWord::new(seen))
 }
 
-/// Stores the versions that a commit writes (phase 3), each in one store with its TID word, and keeps them as the
+/// Stores the versions that this commit writes (phase 3), each in one store with its TID word, and keeps them as the
 /// newest of their records. The reader has then seen them.
 pub(crate) fn store<R: Wait>(
     rt: &R,
@@ -66,28 +60,28 @@ pub(crate) fn store<R: Wait>(
     pen: &mut Pen,
     reader: &mut Reader,
     newest: &mut [Newest],
-    footprint: &Footprint,
-    tid: TidWord,
+    reads: &ReadSet,
+    entry: &Entry,
 )
     requires own { (pen.old.cells ≡ cells.now) × (reader.old.cells ≡ cells.now) }
-    requires read { IsReadBy (length cells.now) reader.old footprint.now.reads }
-    requires written_read { WritesAreRead footprint.now.writes footprint.now.reads }
-    requires no_bits { tid % 8 ≡ 0 }
-    requires larger { (n : ℕ) (value : Option (List ℕ)) → value_for footprint.now.writes n ≡ Some value
-        → last_tid (at pen.old.all n) < tid }
+    requires read { IsReadBy (length cells.now) reader.old reads.now }
+    requires written_read { WritesAreRead entry.now.writes reads.now }
+    requires no_bits { entry.now.tid % 8 ≡ 0 }
+    requires larger { (n : ℕ) (value : Option (List ℕ)) → value_for entry.now.writes n ≡ Some value
+        → last_tid (at pen.old.all n) < entry.now.tid }
     requires newest { AreNewest pen.old newest.old }
     ensures cells { pen.new.cells ≡ pen.old.cells }
     ensures versions { (n : ℕ)
-        → at pen.new.all n ≡ at pen.old.all n ++ new_versions tid footprint.now.writes.values n }
+        → at pen.new.all n ≡ at pen.old.all n ++ new_versions entry.now.tid entry.now.writes.values n }
     ensures reader { HasGrown reader.old reader.new }
-    ensures seen { HasSeen reader.new pen.new footprint.now.writes }
+    ensures seen { HasSeen reader.new pen.new entry.now.writes }
     ensures newest { AreNewest pen.new newest.new }
 {
-    for (record, value) in footprint.writes.values() {
-        let version = version(tid, value);
+    for (record, value) in entry.writes.values() {
+        let version = version(entry.tid, value);
         cells.store(rt, pen, *record, version.word, version.payload);
         newest[*record as usize] = version;
-        match footprint.reads.held(*record) {
+        match reads.held(*record) {
             Some(held) => {
                 cells.meet(rt, pen, reader, held);
             }

@@ -1,6 +1,7 @@
 pub mod Rising
-mod Moves
-mod Known
-mod Passes
+mod Paged
+mod Joined
+mod Stepping
+mod Told
 pub mod Records
 pub mod Grown

@@ -1,29 +1,10 @@
--- Versions whose TIDs rise.
-use Rattle.std.proofs.Common.{◌≡◌, ◌≢◌, ℕ, ◌+◌, ◌≤◌, ◌<◌, Bool, true, false, List, [], ◌∷◌, ◌++◌, refl, sym, ap, ◌∙◌, subst, arith, append_assoc, append-nil}
+-- Versions whose TIDs rise, by a version of them.
+use Rattle.std.proofs.Common.{◌≡◌, ◌≢◌, ℕ, ◌+◌, ◌≤◌, Bool, true, false, List, [], ◌∷◌, ◌++◌, refl, sym, ap, ◌∙◌, subst, arith, append_assoc}
 use Rattle.std.specs.Prelude.{MatchBool}
 use lib.Dec.{eqb}
 use Rattle.std.proofs.lemmas.Bool.{eqb-true, eqb-false}
 use Rattle.cells.specs.Versions.{tid, last_tid, RisesFrom, IsRising, StartsWith, EndsWith, Has}
-
--- the last version's TID is the last TID
-pub last_tid-push : (vs : List (List ℕ)) (v : List ℕ) → last_tid (vs ++ v ∷ []) ≡ tid v
-last_tid-push [] v = refl
-last_tid-push (w ∷ []) v = refl
-last_tid-push (w ∷ x ∷ vs) v = last_tid-push (x ∷ vs) v
-
--- a version with a larger TID
-rises_from_push : (n : ℕ) (w : List ℕ) (vs : List (List ℕ)) (v : List ℕ) → RisesFrom n (w ∷ vs) → last_tid (w ∷ vs) < tid v → RisesFrom n (w ∷ vs ++ v ∷ [])
-rises_from_push n w [] v r h = (r.0, (omega arith, tt))
-rises_from_push n w (x ∷ vs) v r h = (r.0, rises_from_push (tid w + 1) x vs v r.1 h)
-
-pub rises_push : (vs : List (List ℕ)) (v : List ℕ) → IsRising vs → vs ≢ [] → last_tid vs < tid v → IsRising (vs ++ v ∷ [])
-rises_push [] v r some h = absurd (some refl)
-rises_push (w ∷ vs) v r some h = rises_from_push 0 w vs v r h
-
--- what follows a version has larger TIDs
-larger : (n : ℕ) (v : List ℕ) (vs : List (List ℕ)) → RisesFrom n (v ∷ vs) → n ≤ last_tid (v ∷ vs)
-larger n v [] r = r.0
-larger n v (w ∷ vs) r = let h : tid v + 1 ≤ last_tid (w ∷ vs) = larger (tid v + 1) w vs r.1 in let k : n ≤ tid v = r.0 in omega arith
+pub use Rattle.pages.proofs.Rising.{last_tid-push, larger, starts_self}
 
 -- of versions that rise, one with the last TID is the last
 pub last_by_tid : (n : ℕ) (all front rest : List (List ℕ)) (v : List ℕ) → RisesFrom n all → all ≡ front ++ v ∷ rest → tid v ≡ last_tid all → EndsWith all v
@@ -52,18 +33,6 @@ has_more all seen v s h = (h.0, h.1 ++ s.0, s.1 ∙ ap (λ (l : List (List ℕ))
 
 pub ends_has : (all : List (List ℕ)) (v : List ℕ) → EndsWith all v → Has all v
 ends_has all v e = (e.0, [], e.1)
-
-pub starts_self : (all : List (List ℕ)) → StartsWith all all
-starts_self all = ([], sym (append-nil all))
-
--- what starts with some versions isn't empty
-pub starts_some : (all seen : List (List ℕ)) → StartsWith all seen → seen ≢ [] → all ≢ []
-starts_some all [] s some e = some refl
-starts_some all (v ∷ vs) s some e = cc
-
-pub push_some : (vs : List (List ℕ)) (v : List ℕ) → vs ++ v ∷ [] ≢ []
-push_some [] v e = cc
-push_some (w ∷ vs) v e = cc
 
 -- whether a version that a reader has seen has the TID of the last version
 is_last : (b : Bool) (all seen : List (List ℕ)) (v w : List ℕ) → IsRising all → StartsWith all seen → Has seen v → EndsWith all w → (b ≡ true → tid w ≡ tid v)

@@ -1,6 +1,5 @@
 pub mod Versions
-pub mod Views
 pub mod Records
-pub mod Passes
+pub mod Pages
 pub mod Opening
 pub mod First

@@ -1,7 +1,9 @@
--- While cells are made.
-use Rattle.std.specs.Prelude.{ℕ, List, [], ◌∷◌, ◌++◌, map}
+-- While cells are made, page by page.
+use Rattle.std.specs.Prelude.{◌≡◌, ℕ, ◌%◌, ◌<◌, ◌≤◌, List, [], ◌++◌, map, length}
 use Rattle.atomic_table.specs.Seated.{TableId}
+use Rattle.pages.specs.Versions.{AllVersions}
 use Rattle.cells.specs.Records.{PenView, ReaderView}
+use Rattle.cells.specs.Pages.{size_of}
 
 -- what the pen knows, and how many readers there are
 pub record Opened : Type 0 where
@@ -16,10 +18,21 @@ seen_all w = record { cells = w.cells; seen = w.all; loads = map (λ _. 0) w.all
 abbrev pub opened : ℕ → Opened
 opened readers = record { written = record { cells = []; all = [] }; readers = readers }
 
--- one more record, with its cell and its first version
-abbrev pub opened_with : Opened → TableId → List ℕ → Opened
-opened_with o cell first =
-    record {
-      written = record { cells = o.written.cells ++ cell ∷ []; all = o.written.all ++ (first ∷ []) ∷ [] };
-      readers = o.readers;
-    }
+-- the records of one more page, with their cells and versions
+abbrev pub written_with : PenView → List TableId → AllVersions → PenView
+written_with w cells versions = record { cells = w.cells ++ cells; all = w.all ++ versions }
+
+-- and a reader that has seen these versions and loaded none
+abbrev pub sights_with : ReaderView → List TableId → AllVersions → ReaderView
+sights_with s cells versions =
+    record { cells = s.cells ++ cells; seen = s.seen ++ versions; loads = s.loads ++ map (λ _. 0) versions }
+
+abbrev pub opened_with : Opened → List TableId → AllVersions → Opened
+opened_with o cells versions = record { written = written_with o.written cells versions; readers = o.readers }
+
+-- all pages so far are full, so that another may follow; and a page that may
+abbrev pub AreFull : List TableId → Type 0
+AreFull cells = length cells % 4096 ≡ 0
+
+abbrev pub IsNext : ℕ → TableId → Type 0
+IsNext n page = (0 < size_of n page) × (size_of n page ≤ 4096)

@@ -1,9 +1,10 @@
 -- What the holder of the pen and a reader know of all records, by record number, and what each call does to it.
-use Rattle.std.specs.Prelude.{◌≡◌, ℕ, ◌+◌, List, [], ◌∷◌, ◌++◌, slice_index, slice_index_or, slice_set}
+use Rattle.std.specs.Prelude.{◌≡◌, ℕ, ◌+◌, List, [], ◌∷◌, ◌++◌, slice_index, slice_set}
 use Rattle.atomic_table.specs.Seated.{TableId}
 use Rattle.cells.specs.declared.cells.Version.{Version}
 use Rattle.cells.specs.declared.cells.Newest.{Newest}
-use Rattle.cells.specs.Versions.{Versions, AllVersions, StartsWith, EndsWith, IsRising}
+pub use Rattle.pages.specs.Versions.{at}
+use Rattle.cells.specs.Versions.{AllVersions, StartsWith, EndsWith, IsRising}
 
 -- the pen's: which cell a record has, and all its versions
 pub record PenView : Type 0 where
@@ -24,10 +25,6 @@ words_of version = version.word ∷ version.payload
 -- the words of a record's newest version
 abbrev pub newest_words : Newest → List ℕ
 newest_words newest = newest.word ∷ newest.payload
-
--- the versions of record n
-abbrev pub at : AllVersions → ℕ → Versions
-at versions n = slice_index_or versions n []
 
 -- a version is stored in record n
 pub record StoresVersion (old new : PenView) (n : ℕ) (version : List ℕ) : Type 0 where

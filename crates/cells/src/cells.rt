@@ -1,15 +1,17 @@
 //! The cells of all records.
-ghost use Rattle.std.specs.Prelude.{◌≡◌, ◌≢◌, ◌<◌, Some, List, [], ◌∷◌, ◌++◌, length, slice_get, MatchBool, OnOk};
-ghost use Rattle.std.specs.Prelude.{OnErr, IfErr};
+ghost use Rattle.std.specs.Prelude.{◌≡◌, ◌≢◌, ◌<◌, Some, List, [], ◌∷◌, ◌++◌, length, slice_get, MatchBool};
+ghost use Rattle.std.specs.Prelude.{OnOk, OnErr, IfErr};
 ghost use Rattle.money.specs.declared.refusal.Refusal.TheVariants.{OutOfMemory};
 ghost use Rattle.atomic_table.specs.Seated.{TableId};
 ghost use Rattle.tidword.specs.TidWord.{tid_of};
 ghost use Rattle.cells.specs.Versions.{EndsWith, Has, last_tid, value_in};
 ghost use Rattle.cells.specs.Records.{at, newest_words, StoresVersion, LoadsRecord, LearnsRecord};
+ghost use Rattle.cells.specs.Pages.{ids_of};
+ghost use Rattle.cells.specs.Opening.{AreFull, IsNext};
 
 use crate::holders::{PenOf, ReaderOf};
-use crate::rule::Cell;
 use money::{PAYLOAD_WORDS, Payload, Refusal};
+use pages::{PAGE_RECORDS, Page, PageWords};
 use std::alloc::Global;
 use std::marker::Model;
 use std::sync::Wait;
@@ -55,63 +57,59 @@ impl Newest {
     }
 }
 
-/// Cells, one after another. Contracts see which cells they are.
+/// Pages of records of `N` words, one after another. Contracts see which page each record has.
 #[derive(Drop)]
-pub(crate) struct CellList<const N: usize> {
-    pub(crate) cells: Vec<Cell<N>>,
+pub(crate) struct PageList<const N: usize> {
+    pub(crate) pages: Vec<Page<N>>,
 }
 
-impl<const N: usize> Model for CellList<N> {
+impl<const N: usize> Model for PageList<N> {
     ghost use Rattle.std.specs.Prelude.{List, map};
+    ghost use Rattle.std.specs.List.{flat_map};
     ghost use Rattle.atomic_table.specs.Seated.{TableId};
+    ghost use Rattle.cells.specs.Pages.{ids_of, size_of, IsPaged};
 
     ghost Value = { List TableId };
 
-    ghost view = { λ l. map (λ c. c.table.shared.table_id) l.cells.items };
+    ghost view = { λ l. flat_map (λ page. ids_of N page.shared.table_id) l.pages.items };
+
+    ghost invariant = { λ l. IsPaged (map (λ page. size_of N page.shared.table_id) l.pages.items) };
 }
 
-impl<const N: usize> CellList<N> {
-    /// No cell.
-    pub(crate) fn new(alloc: Global) -> CellList<N>
+impl<const N: usize> PageList<N> {
+    /// No page.
+    pub(crate) fn new(alloc: Global) -> PageList<N>
         ensures { result ≡ [] }
     {
-        CellList {
-            cells: Vec::new(alloc),
+        PageList {
+            pages: Vec::new(alloc),
         }
     }
 
-    /// Takes memory for this many cells.
-    pub(crate) fn reserve(&mut self, count: usize) -> Result<(), Refusal>
-        ensures same { self.new ≡ self.old }
-        ensures memory { IfErr result (λ e. e ≡ OutOfMemory) }
-    {
-        self.cells.reserve(count)?;
-        Ok(())
-    }
-
-    /// Adds a cell at the end.
-    pub(crate) fn push(&mut self, cell: Cell<N>) -> Result<(), Refusal>
-        ensures ok { OnOk result (self.new ≡ self.old ++ cell.entry.table.shared.table_id ∷ []) }
+    /// Adds a page at the end.
+    pub(crate) fn push(&mut self, page: Page<N>) -> Result<(), Refusal>
+        requires { AreFull self.old × IsNext N page.shared.table_id }
+        ensures ok { OnOk result (self.new ≡ self.old ++ ids_of N page.entry.shared.table_id) }
         ensures err { OnErr result (self.new ≡ self.old) }
         ensures memory { IfErr result (λ e. e ≡ OutOfMemory) }
     {
-        self.cells.push(cell)?;
+        self.pages.push(page)?;
         Ok(())
     }
 
-    // The n-th cell.
-    fn cell(&self, n: usize) -> &Cell<N>
-        requires { n < length self.now }
-        ensures { slice_get self.now n ≡ Some result.now.table.shared.table_id }
+    // The page of a record.
+    fn page(&self, number: usize) -> &PageWords<N>
+        requires { number < length self.now }
+        ensures { slice_get self.now number ≡ Some result.now.table_id }
     {
-        &self.cells[n]
+        &self.pages[number / PAGE_RECORDS].shared
     }
 }
 
 /// The cells of all records. Contracts see which cells they are, by record number.
 #[derive(Drop)]
 pub struct Cells {
-    list: CellList<CELL_WORDS>,
+    list: PageList<CELL_WORDS>,
 }
 
 impl Model for Cells {
@@ -124,32 +122,32 @@ impl Cells {
     ghost use Rattle.cells.specs.Records.{words_of};
 
     // The cells of a list, by record number.
-    pub(crate) fn of_list(list: CellList<CELL_WORDS>) -> Cells
+    pub(crate) fn of_list(list: PageList<CELL_WORDS>) -> Cells
         ensures { result ≡ list }
     {
         Cells { list }
     }
 
-    // The cell of a record.
-    fn cell(&self, number: u32) -> &Cell<CELL_WORDS>
+    // The page of a record.
+    fn page(&self, number: u32) -> &PageWords<CELL_WORDS>
         requires { number < length self.now }
-        ensures { slice_get self.now number ≡ Some result.now.table.shared.table_id }
+        ensures { slice_get self.now number ≡ Some result.now.table_id }
     {
-        self.list.cell(number as usize)
+        self.list.page(number as usize)
     }
 
     /// The latest version of a record, whose words are all of one version: never a mix of two (Silo, section 4.5).
     ///
-    /// One load step, which takes effect between the call and the return. It waits only where a version is being
-    /// stored in this record. Takes no memory.
+    /// One load step, which takes effect between the call and the return. It tries again only where a version is
+    /// being stored in this record, or has been since it began. Takes no lock and no memory.
     pub fn read<R: Wait>(&self, rt: &R, reader: &mut Reader, number: u32) -> Version
         requires own { reader.old.cells ≡ self.now }
         requires is_record { number < length self.now }
         ensures reads { LoadsRecord reader.old reader.new number (words_of result) }
         ensures record { result.record ≡ number }
     {
-        let cell = self.cell(number);
-        let [word, a, b, c, d, e, f, g] = reader.read(rt, cell, number as usize);
+        let page = self.page(number);
+        let [word, a, b, c, d, e, f, g] = reader.read(rt, page, number as usize);
         Version {
             record: number,
             word: TidWord::new(word),
@@ -158,10 +156,10 @@ impl Cells {
     }
 
     /// Makes a version the latest of its record: its TID is larger than that of the latest so far. Readers see all
-    /// of it or nothing of it. Takes no memory. May wait at this record's cell; else constant time.
+    /// of it or nothing of it. Takes no memory. Constant time: it never waits, and stores only words that change.
     pub fn store<R: Wait>(
         &self,
-        rt: &R,
+        _rt: &R,
         pen: &mut Pen,
         number: u32,
         word: TidWord,
@@ -173,17 +171,17 @@ impl Cells {
         ensures { StoresVersion pen.old pen.new number (word ∷ payload) }
     {
         let version = words(word, payload);
-        pen.store(rt, self.cell(number), number as usize, version);
+        pen.store(self.page(number), number as usize, version);
     }
 
     /// Whether a version that the reader has read is still the latest of its record (the second phase of Silo's
     /// commit, section 4.4): true exactly where its TID is the latest's, and then it is the latest.
     ///
-    /// The reader has then seen all versions of the record. Takes no memory. May wait at this record's cell; else
-    /// constant time.
+    /// The reader has then seen all versions of the record. Takes no memory. Constant time: four loads, and it
+    /// never waits.
     pub fn meet<R: Wait>(
         &self,
-        rt: &R,
+        _rt: &R,
         pen: &mut Pen,
         reader: &mut Reader,
         version: &Version,
@@ -196,9 +194,9 @@ impl Cells {
         ensures latest { MatchBool result (EndsWith (at pen.old.all version.now.record) (words_of version.now))
             (tid_of version.now.word ≢ last_tid (at pen.old.all version.now.record)) }
     {
-        let cell = self.cell(version.record);
-        let latest = pen.meet(rt, cell, version.record as usize, reader);
-        TidWord::new(latest[0]).tid() == version.word.tid()
+        let page = self.page(version.record);
+        let latest = pen.meet(page, version.record as usize, reader);
+        TidWord::new(latest).tid() == version.word.tid()
     }
 }
 

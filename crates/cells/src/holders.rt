@@ -1,55 +1,49 @@
-//! The pen and the readers of all cells: what their holders know, one pass a record, in the order of record numbers. A
-//! pass has no bytes.
-ghost use Rattle.std.specs.Prelude.{◌≡◌, ◌<◌, Some, [], slice_get, OnOk, OnErr, IfErr};
-ghost use Rattle.money.specs.declared.refusal.Refusal.TheVariants.{OutOfMemory};
-ghost use Rattle.cells.specs.Versions.{EndsWith, last_tid, tid};
+//! The pen and the readers of all records: one seat a page, in the order of pages. A seat has no bytes.
+ghost use Rattle.std.specs.Prelude.{◌≡◌, ◌≢◌, ◌<◌, ◌≤◌, Some, [], slice_get, OnOk, OnErr, IfErr};
+ghost use Rattle.pages.specs.Versions.{IsSound, last_tid, newest, tid, word_in};
 ghost use Rattle.cells.specs.Records.{at, StoresVersion, LoadsRecord, LearnsRecord};
-ghost use Rattle.cells.specs.Passes.{written_of, written_and, sights_of, sights_and};
-ghost use Rattle.cells.specs.Views.{IsPen, IsReader, known};
+ghost use Rattle.cells.specs.Pages.{IsRecordSize, IsPenSeat, IsReaderSeat, written_and, sights_and};
+ghost use Rattle.cells.specs.Opening.{AreFull, IsNext};
+ghost use Rattle.money.specs.declared.refusal.Refusal.TheVariants.{OutOfMemory};
 
-use crate::pass::{load, meet, store};
-use crate::rule::{Cell, CellPass};
 use money::Refusal;
+use pages::{PAGE_RECORDS, PageSeat, PageWords, meet, read, store};
 use std::alloc::Global;
 use std::marker::Model;
 use std::sync::Wait;
 
-/// The right to store versions in cells of `N` words, of which there is one. Contracts see it as `PenView`.
+/// The right to store versions in records of `N` words, of which there is one. Contracts see it as `PenView`.
 #[derive(Drop)]
 pub struct PenOf<const N: usize> {
-    pub(crate) passes: Vec<CellPass<N>>,
+    pub(crate) seats: Vec<PageSeat>,
 }
 
 impl<const N: usize> Model for PenOf<N> {
-    ghost use Rattle.std.specs.Prelude.{All};
     ghost use Rattle.cells.specs.Records.{PenView};
-    ghost use Rattle.cells.specs.Passes.{written_of};
-    ghost use Rattle.cells.specs.Views.{IsPen, known};
+    ghost use Rattle.cells.specs.Pages.{written_of, ArePenSeats};
 
     ghost Value = { PenView };
 
-    ghost view = { λ p. written_of p.passes.items };
+    ghost view = { λ p. written_of N p.seats.items };
 
-    ghost invariant = { λ p. All (λ pass. IsPen (known pass)) p.passes.items };
+    ghost invariant = { λ p. ArePenSeats N p.seats.items };
 }
 
-/// The right to read cells of `N` words. Contracts see it as `ReaderView`.
+/// The right to read records of `N` words. Contracts see it as `ReaderView`.
 #[derive(Drop)]
 pub struct ReaderOf<const N: usize> {
-    pub(crate) passes: Vec<CellPass<N>>,
+    pub(crate) seats: Vec<PageSeat>,
 }
 
 impl<const N: usize> Model for ReaderOf<N> {
-    ghost use Rattle.std.specs.Prelude.{All};
     ghost use Rattle.cells.specs.Records.{ReaderView};
-    ghost use Rattle.cells.specs.Passes.{sights_of};
-    ghost use Rattle.cells.specs.Views.{IsReader, known};
+    ghost use Rattle.cells.specs.Pages.{sights_of, AreReaderSeats};
 
     ghost Value = { ReaderView };
 
-    ghost view = { λ r. sights_of r.passes.items };
+    ghost view = { λ r. sights_of N r.seats.items };
 
-    ghost invariant = { λ r. All (λ pass. IsReader (known pass)) r.passes.items };
+    ghost invariant = { λ r. AreReaderSeats N r.seats.items };
 }
 
 impl<const N: usize> ReaderOf<N> {
@@ -58,74 +52,83 @@ impl<const N: usize> ReaderOf<N> {
         ensures { result ≡ record { cells = []; seen = []; loads = [] } }
     {
         ReaderOf {
-            passes: Vec::new(alloc),
+            seats: Vec::new(alloc),
         }
     }
 
-    // Adds a record.
-    pub(crate) fn push(&mut self, pass: CellPass<N>) -> Result<(), Refusal>
-        requires { IsReader (known pass) }
-        ensures ok { OnOk result (self.new ≡ sights_and self.old pass.entry) }
+    // Adds the records of another page.
+    pub(crate) fn push(&mut self, seat: PageSeat) -> Result<(), Refusal>
+        requires seat { IsReaderSeat N seat }
+        requires next { AreFull self.old.cells × IsNext N seat.table_id }
+        ensures ok { OnOk result (self.new ≡ sights_and N self.old seat) }
         ensures err { OnErr result (self.new ≡ self.old) }
         ensures memory { IfErr result (λ e. e ≡ OutOfMemory) }
     {
-        self.passes.push(pass)?;
+        self.seats.push(seat)?;
         Ok(())
     }
 
-    // Loads the last version of record n, whose cell this is.
-    pub(crate) fn read<R: Wait>(&mut self, rt: &R, cell: &Cell<N>, n: usize) -> [u64; N]
-        requires { slice_get self.old.cells n ≡ Some cell.now.table.shared.table_id }
-        ensures { LoadsRecord self.old self.new n result }
+    // Loads the last version of a record, whose page this is.
+    pub(crate) fn read<R: Wait>(&mut self, rt: &R, page: &PageWords<N>, number: usize) -> [u64; N]
+        requires size { IsRecordSize N }
+        requires own { slice_get self.old.cells number ≡ Some page.now.table_id }
+        ensures { LoadsRecord self.old self.new number result }
     {
-        load(rt, cell, &mut self.passes[n])
+        let seat = &mut self.seats[number / PAGE_RECORDS];
+        read(rt, page, seat, number % PAGE_RECORDS)
     }
 }
 
 impl<const N: usize> PenOf<N> {
     // The pen of no record.
     pub(crate) fn new(alloc: Global) -> PenOf<N>
-        ensures { result ≡ written_of [] }
+        ensures { result ≡ record { cells = []; all = [] } }
     {
         PenOf {
-            passes: Vec::new(alloc),
+            seats: Vec::new(alloc),
         }
     }
 
-    // Adds a record.
-    pub(crate) fn push(&mut self, pass: CellPass<N>) -> Result<(), Refusal>
-        requires { IsPen (known pass) }
-        ensures ok { OnOk result (self.new ≡ written_and self.old pass.entry) }
+    // Adds the records of another page.
+    pub(crate) fn push(&mut self, seat: PageSeat) -> Result<(), Refusal>
+        requires seat { IsPenSeat N seat }
+        requires next { AreFull self.old.cells × IsNext N seat.table_id }
+        ensures ok { OnOk result (self.new ≡ written_and N self.old seat) }
         ensures err { OnErr result (self.new ≡ self.old) }
         ensures memory { IfErr result (λ e. e ≡ OutOfMemory) }
     {
-        self.passes.push(pass)?;
+        self.seats.push(seat)?;
         Ok(())
     }
 
-    // Stores a version of record n, whose cell this is.
-    pub(crate) fn store<R: Wait>(&mut self, rt: &R, cell: &Cell<N>, n: usize, version: [u64; N])
-        requires own { slice_get self.old.cells n ≡ Some cell.now.table.shared.table_id }
-        requires larger { last_tid (at self.old.all n) < tid version }
-        ensures { StoresVersion self.old self.new n version.entry }
+    // Stores a version of a record, whose page this is.
+    pub(crate) fn store(&mut self, page: &PageWords<N>, number: usize, version: [u64; N])
+        requires size { IsRecordSize N }
+        requires own { slice_get self.old.cells number ≡ Some page.now.table_id }
+        requires larger { last_tid (at self.old.all number) < tid version }
+        ensures { StoresVersion self.old self.new number version.entry }
     {
-        store(rt, cell, &mut self.passes[n], version);
+        let seat = &mut self.seats[number / PAGE_RECORDS];
+        store(page, seat, number % PAGE_RECORDS, version);
     }
 
-    // Lets a reader see all versions of record n, whose cell this is, and gives the last.
-    pub(crate) fn meet<R: Wait>(
+    // Lets a reader see all versions of a record, whose page this is, and gives the TID word of the last.
+    pub(crate) fn meet(
         &mut self,
-        rt: &R,
-        cell: &Cell<N>,
-        n: usize,
+        page: &PageWords<N>,
+        number: usize,
         reader: &mut ReaderOf<N>,
-    ) -> [u64; N]
-        requires own { slice_get self.old.cells n ≡ Some cell.now.table.shared.table_id }
-        requires reader { slice_get reader.old.cells n ≡ Some cell.now.table.shared.table_id }
+    ) -> u64
+        requires size { IsRecordSize N }
+        requires own { slice_get self.old.cells number ≡ Some page.now.table_id }
+        requires reader { slice_get reader.old.cells number ≡ Some page.now.table_id }
         ensures same { self.new ≡ self.old }
-        ensures reader { LearnsRecord self.old reader.old reader.new n }
-        ensures last { EndsWith (at self.old.all n) result }
+        ensures reader { LearnsRecord self.old reader.old reader.new number }
+        ensures some { at self.old.all number ≢ [] }
+        ensures newest { result ≡ word_in (newest (at self.old.all number)) }
     {
-        meet(rt, cell, &mut self.passes[n], &mut reader.passes[n])
+        let k = number / PAGE_RECORDS;
+        let pen = &mut self.seats[k];
+        meet(page, pen, &mut reader.seats[k], number % PAGE_RECORDS)
     }
 }

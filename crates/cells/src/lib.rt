@@ -5,8 +5,6 @@
 mod cells;
 mod holders;
 mod opening;
-mod pass;
 mod populate;
-mod rule;
 
 pub use cells::{Cells, Newest, Pen, Reader, Version};

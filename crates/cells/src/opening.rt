@@ -1,23 +1,23 @@
-//! Making the cells, with their pen and their readers.
-ghost use Rattle.std.specs.Prelude.{◌≡◌, All, List, [], ◌∷◌, ◌++◌, length, map, OnOk, IfOk, IfErr};
+//! Making the pages, with their pen and their readers.
+ghost use Rattle.std.specs.Prelude.{◌≡◌, ℕ, ◌*◌, ◌<◌, ◌≤◌, All, List, length, map, OnOk, IfOk, IfErr};
 ghost use Rattle.money.specs.declared.refusal.Refusal.TheVariants.{OutOfMemory};
 ghost use Rattle.atomic_table.specs.Seated.{TableId};
-ghost use Rattle.cells.specs.Views.{IsPen, known};
-ghost use Rattle.cells.specs.Passes.{sights_with};
-ghost use Rattle.cells.specs.Opening.{seen_all, opened, opened_with};
+ghost use Rattle.cells.specs.Records.{ReaderView};
+ghost use Rattle.pages.specs.Rule.{first_versions};
+ghost use Rattle.cells.specs.Pages.{IsRecordSize, IsPenSeat, ids_of};
+ghost use Rattle.cells.specs.Opening.{seen_all, opened, opened_with, sights_with, AreFull, IsNext};
 
-use crate::cells::CellList;
+use crate::cells::PageList;
 use crate::holders::{PenOf, ReaderOf};
-use crate::pass::{open, told};
-use crate::rule::{Cell, CellPass};
 use money::Refusal;
+use pages::{PageSeat, PageWords, open, start};
 use std::alloc::Global;
 use std::marker::Model;
-use std::sync::Wait;
 
-// The pen and the readers of cells that are being made, in the order of record numbers.
+// Pages that are being made, in the order of record numbers, with their pen and their readers.
 #[derive(Drop)]
 pub(crate) struct OpeningOf<const N: usize> {
+    list: PageList<N>,
     pen: PenOf<N>,
     readers: Vec<ReaderOf<N>>,
 }
@@ -30,7 +30,7 @@ impl<const N: usize> Model for OpeningOf<N> {
 
     ghost view = { λ o. record { written = o.pen; readers = length o.readers.items } };
 
-    ghost invariant = { λ o. All (λ reader. reader ≡ seen_all o.pen) o.readers.items };
+    ghost invariant = { λ o. (o.list ≡ o.pen.cells) × All (λ reader. reader ≡ seen_all o.pen) o.readers.items };
 }
 
 impl<const N: usize> OpeningOf<N> {
@@ -44,60 +44,63 @@ impl<const N: usize> OpeningOf<N> {
             list.push(ReaderOf::new(alloc))?;
         }
         Ok(OpeningOf {
+            list: PageList::new(alloc),
             pen: PenOf::new(alloc),
             readers: list,
         })
     }
 
-    // Adds a record with its first version to the list. A refusal spends it all.
-    pub(crate) fn add<R: Wait>(
-        self,
-        rt: &R,
-        alloc: Global,
-        list: &mut CellList<N>,
-        first: [u64; N],
-    ) -> Result<OpeningOf<N>, Refusal>
-        ensures ok { IfOk result (λ o. (cell : TableId)
-            × (o ≡ opened_with self.entry cell first.entry) × (list.new ≡ list.old ++ cell ∷ [])) }
+    // Adds a page, which begins with these words. A refusal spends it all.
+    pub(crate) fn add(self, alloc: Global, words: &Vec<u64>) -> Result<OpeningOf<N>, Refusal>
+        requires size { IsRecordSize N }
+        requires full { AreFull self.written.cells }
+        requires words { (count : ℕ) × (length words.now.items ≡ count * N) × (0 < count) × (count ≤ 4096) }
+        ensures ok { IfOk result (λ o. (cells : List TableId)
+            × (length cells ≡ length (first_versions N words.now.items))
+            × (o ≡ opened_with self.entry cells (first_versions N words.now.items))) }
         ensures memory { IfErr result (λ e. e ≡ OutOfMemory) }
     {
-        let (cell, mut pass) = open(rt, alloc, first)?;
+        let (page, mut seat) = open(alloc, words)?;
         let OpeningOf {
+            mut list,
             mut pen,
             mut readers,
         } = self;
-        tell(&cell, &mut pass, &mut readers)?;
-        pen.push(pass)?;
-        list.push(cell)?;
-        Ok(OpeningOf { pen, readers })
+        tell(&page.shared, &mut seat, &mut readers)?;
+        pen.push(seat)?;
+        list.push(page)?;
+        Ok(OpeningOf { list, pen, readers })
     }
 
-    // The pen and the readers.
-    pub(crate) fn finish(self) -> (PenOf<N>, Vec<ReaderOf<N>>)
-        ensures pen { result.0 ≡ self.entry.written }
-        ensures readers { (length result.1.items ≡ self.entry.readers)
-            × All (λ reader. reader ≡ seen_all self.entry.written) result.1.items }
+    // The pages, the pen and the readers.
+    pub(crate) fn finish(self) -> (PageList<N>, PenOf<N>, Vec<ReaderOf<N>>)
+        ensures list { result.0 ≡ result.1.cells }
+        ensures pen { result.1 ≡ self.entry.written }
+        ensures readers { (length result.2.items ≡ self.entry.readers)
+            × All (λ reader. reader ≡ seen_all self.entry.written) result.2.items }
     {
-        let OpeningOf { pen, readers } = self;
-        (pen, readers)
+        let OpeningOf { list, pen, readers } = self;
+        (list, pen, readers)
     }
 }
 
-// Adds a record to each reader, which has then seen what the pen has.
+// Adds a page to each reader, which has then seen what the pen has.
 fn tell<const N: usize>(
-    cell: &Cell<N>,
-    pass: &mut CellPass<N>,
+    page: &PageWords<N>,
+    pen: &mut PageSeat,
     readers: &mut [ReaderOf<N>],
 ) -> Result<(), Refusal>
-    requires own { pass.old.table_id ≡ cell.now.table.shared.table_id }
-    requires pen { IsPen (known pass.old) }
-    ensures kept { (pass.new.table_id ≡ pass.old.table_id) × (known pass.new ≡ known pass.old) }
+    requires own { (pen.old.table_id ≡ page.now.table_id) × (0 < page.now.table_id.words) }
+    requires pen { IsPenSeat N pen.old }
+    requires full { All (λ reader. AreFull reader.cells) readers.old }
+    requires next { IsNext N pen.old.table_id }
+    ensures kept { (pen.new.table_id ≡ pen.old.table_id) × (pen.new.me.0 ≡ pen.old.me.0) }
     ensures ok { OnOk result (readers.new
-        ≡ map (λ s. sights_with s pass.old.table_id (known pass.old).seen) readers.old) }
+        ≡ map (λ s. sights_with s (ids_of N pen.old.table_id) pen.old.me.0.seen) readers.old) }
     ensures memory { IfErr result (λ e. e ≡ OutOfMemory) }
 {
     for reader in readers {
-        reader.push(told(cell, pass))?;
+        reader.push(start(page, pen))?;
     }
     Ok(())
 }

@@ -15,6 +15,11 @@ pub described : (app : App) (old new : Command) (text : Option (Bor (List ℕ)))
     → ◌≡◌ {A = Command-F Command} (out-Command new) (record (out-Command old) { about = text }) → HasApp app new
 described app old new text had is = (ap app_of_fields is ∙ had.0, ap (λ (c : Command-F Command). c.has_globals) is ∙ had.1)
 
+-- a text at the bottom of help
+pub helped : (app : App) (old new : Command) (text : Option (Bor (List ℕ))) → HasApp app old
+    → ◌≡◌ {A = Command-F Command} (out-Command new) (record (out-Command old) { after_help = text }) → HasApp app new
+helped app old new text had is = (ap app_of_fields is ∙ had.0, ap (λ (c : Command-F Command). c.has_globals) is ∙ had.1)
+
 -- one more argument
 pub more : (app : App) (rule : Rule) (old new : Command) (a : Arg) → HasApp app old → AddsArg old a new → rule_of a ≡ rule → a.global ≡ false
     → HasApp (with_rule app rule) new

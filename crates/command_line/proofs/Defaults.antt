@@ -11,7 +11,7 @@ use Rattle.std.proofs.lemmas.List.Folds.{find-append}
 use Rattle.clap.specs.Words.{Row, Rule, Text, one_of, read_as}
 use Rattle.clap.specs.Walk.{at_row, default_rows, has_row, more_values, row_text, reading_by, with_default}
 use Rattle.clap.specs.declared.parser.matches.ValueSource.TheVariants.{DefaultValue}
-use Rattle.command_line.specs.CommandLine.{WritesNumber}
+use Rattle.command_line.specs.CommandLine.{WritesNumber, WritesWithin}
 
 -- the row of an id
 abbrev at : Text → List Row → Option Row
@@ -120,6 +120,12 @@ HasDefault rules name d = (a : Rule) × (find (λ x. bytes_eq x.id name) rules �
 pub default_given : (name d : Text) (rows : List Row) (rules : List Rule) → HasDefault rules name d → (bits n : ℕ)
     → WritesNumber bits (one_of name (fold with_default rows rules)) n → WritesNumber bits (option_or (one_of name rows) (Some d)) n
 default_given name d rows rules has = writes_given name d rows rules has.0 has.1 has.2 has.3
+
+-- so it is of a number within limits
+pub within_given : (name d : Text) (rows : List Row) (rules : List Rule) → HasDefault rules name d → (low high n : ℕ)
+    → WritesWithin low high (one_of name (fold with_default rows rules)) n → WritesWithin low high (option_or (one_of name rows) (Some d)) n
+within_given name d rows rules has low high n writes =
+    (default_given name d rows rules has 32 n writes.0, writes.1, writes.2)
 
 abbrev pub has_any : List Text → Bool
 has_any [] = false

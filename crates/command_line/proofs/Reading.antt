@@ -24,11 +24,12 @@ use Rattle.clap.proofs.WalkLemmas.{both, one_text-rows}
 use Rattle.clap.proofs.OnLiterals.{clap_on_literals}
 use Rattle.command_line.specs.declared.asked.Options.{Options}
 use Rattle.command_line.specs.declared.asked.LogFiles.{LogFiles}
+use Rattle.command_line.specs.declared.asked.RunOptions.{RunOptions}
 use Rattle.command_line.specs.declared.asked.Subcommand.{Subcommand}
-use Rattle.command_line.specs.declared.asked.Subcommand.TheVariants.{Script, Recover, Check}
-use Rattle.command_line.specs.CommandLine.{AreLogFiles, AreWritten, HasLogFiles, IsAskedBy, WritesNumber, app_for, given, name_of, program_app, rules_for}
+use Rattle.command_line.specs.declared.asked.Subcommand.TheVariants.{Script, Run, Recover, Check}
+use Rattle.command_line.specs.CommandLine.{AreLogFiles, AreWritten, AreRunOptions, HasOwnOptions, IsAskedBy, WritesNumber, WritesWithin, app_for, given, name_of, program_app, rules_for}
 use Rattle.command_line.specs.CommandLine.{subcommand_words, text_for, text_in}
-use Rattle.command_line.proofs.Defaults.{HasDefault, default_given, has_any, has_default, no_default}
+use Rattle.command_line.proofs.Defaults.{HasDefault, default_given, within_given, has_any, has_default, no_default}
 
 pub program_is_simple : is_simple program_app ≡ true
 unfolding clap_on_literals
@@ -143,6 +144,15 @@ have_tables Script = record {
   commits = (_, refl, refl, refl);
   population = (_, refl, refl, refl);
 }
+have_tables (Run options) = record {
+  warehouses = (_, refl, refl, refl);
+  districts = (_, refl, refl, refl);
+  customers = (_, refl, refl, refl);
+  items = (_, refl, refl, refl);
+  orders = (_, refl, refl, refl);
+  commits = (_, refl, refl, refl);
+  population = (_, refl, refl, refl);
+}
 have_tables (Recover files) = record {
   warehouses = (_, refl, refl, refl);
   districts = (_, refl, refl, refl);
@@ -170,10 +180,37 @@ logs_given rules rows files no_folder no_loggers had = record {
       (ap (option_and_then row_text) (no_default (codes "loggers") rows rules no_loggers)) had.loggers;
 }
 
-have_logs : (s : Subcommand) (rows : List Row) → HasLogFiles (fold with_default rows (rules_for s)) s → HasLogFiles rows s
-have_logs Script rows had = tt
-have_logs (Recover files) rows had = logs_given (rules_for (Recover files)) rows files refl refl had
-have_logs (Check files) rows had = logs_given (rules_for (Check files)) rows files refl refl had
+-- where each of a run's own rules is found by its name, with its default, so it is of a run's options
+pub record HasRun (rules : List Rule) : Type 0 where
+  pub loggers : HasDefault rules (codes "loggers") (codes "2")
+  pub terminals : HasDefault rules (codes "terminals") (codes "4")
+  pub count : HasDefault rules (codes "count") (codes "100")
+  pub seed : HasDefault rules (codes "seed") (codes "1")
+
+has_run : (r : RunOptions) → HasRun (rules_for (Run r))
+has_run r = record {
+  loggers = (_, refl, refl, refl);
+  terminals = (_, refl, refl, refl);
+  count = (_, refl, refl, refl);
+  seed = (_, refl, refl, refl);
+}
+
+run_given : (rules : List Rule) (rows : List Row) (r : RunOptions) → has_default (codes "logs") rules ≡ false → HasRun rules
+    → AreRunOptions (text_in (fold with_default rows rules)) (fold with_default rows rules) r → AreRunOptions (text_for rows) rows r
+run_given rules rows r no_folder has had = record {
+  folder = ap (option_and_then (λ (r : Row). slice_get r.values 0)) (sym (no_default (codes "logs") rows rules no_folder)) ∙ had.folder;
+  loggers = within_given (codes "loggers") (codes "2") rows rules has.loggers 1 8 r.files.loggers had.loggers;
+  terminals = within_given (codes "terminals") (codes "4") rows rules has.terminals 1 16 r.terminals had.terminals;
+  count = within_given (codes "count") (codes "100") rows rules has.count 0 1000000 r.count had.count;
+  seed = default_given (codes "seed") (codes "1") rows rules has.seed 64 r.seed had.seed;
+}
+
+has_own : (s : Subcommand) (rows : List Row) → HasOwnOptions (text_in (fold with_default rows (rules_for s))) (fold with_default rows (rules_for s)) s
+    → HasOwnOptions (text_for rows) rows s
+has_own Script rows had = tt
+has_own (Run r) rows had = run_given (rules_for (Run r)) rows r refl (has_run r) had
+has_own (Recover files) rows had = logs_given (rules_for (Recover files)) rows files refl refl had
+has_own (Check files) rows had = logs_given (rules_for (Check files)) rows files refl refl had
 
 -- the subcommand's shape, as clap builds it
 abbrev shape_for : Subcommand → Shape
@@ -182,6 +219,7 @@ shape_for s = built_leaf (inherited program_app.top (app_for s).top)
 -- the program's subcommands are these, and `help`
 by_its_name : (s : Subcommand) → find (λ x. bytes_eq x.name (name_of s)) (built program_app).subs ≡ Some (shape_for s)
 by_its_name Script = refl
+by_its_name (Run options) = refl
 by_its_name (Recover files) = refl
 by_its_name (Check files) = refl
 
@@ -202,9 +240,9 @@ both_parts (Some p) name rows first second =
 pub asked : (command : Command) (m : ArgMatches) (words : List Text) (name : Text) (rows : List Row) (o : Options) → app_of command ≡ program_app
     → fault_of program_app words ≡ []
     → HasMatchesOf (app_of command) words m → subcommand_name_of m ≡ Some name → option_map (λ p. p.1) (subcommand_rows_of m) ≡ Some rows
-    → name ≡ name_of o.subcommand → AreWritten (text_in rows) o → HasLogFiles rows o.subcommand
+    → name ≡ name_of o.subcommand → AreWritten (text_in rows) o → HasOwnOptions (text_in rows) rows o.subcommand
     → IsAskedBy words o
-asked command m words name rows o app faultless matches named inner is is_written logs =
+asked command m words name rows o app faultless matches named inner is is_written own =
     let same = (matches (ap is_simple app ∙ program_is_simple)).1 ∙ ap (λ (a : App). subcommand_of a words) app in
     let parts = both_parts (subcommand_rows_of m) (name_of o.subcommand) rows
     (sym (names_of_rows (out-ArgMatches m).subcommand) ∙ (named ∙ ap (λ (t : Text). Some t) is)) inner in
@@ -216,5 +254,5 @@ asked command m words name rows o app faultless matches named inner is is_writte
       after = entered.0;
       subcommand = entered.1;
       tables = tables_given rules (given rules entered.0) o (have_tables o.subcommand) (subst (λ (rs : List Row). AreWritten (text_in rs) o) (sym entered.2) is_written);
-      logs = have_logs o.subcommand (given rules entered.0) (subst (λ (rs : List Row). HasLogFiles rs o.subcommand) (sym entered.2) logs);
+      own = has_own o.subcommand (given rules entered.0) (subst (λ (rs : List Row). HasOwnOptions (text_in rs) rs o.subcommand) (sym entered.2) own);
     }

@@ -1,5 +1,5 @@
 -- What the words of a command line ask for, as clap reads them for the program's command.
-use Rattle.std.specs.Prelude.{◌≡◌, ◌<◌, ◌^◌, ℕ, pos, true, List, [], ◌∷◌, Option, false, Some, None, ⊤, codes}
+use Rattle.std.specs.Prelude.{◌≡◌, ◌<◌, ◌≤◌, ◌^◌, ℕ, pos, true, List, [], ◌∷◌, Option, false, Some, None, ⊤, codes}
 use Rattle.std.specs.Prelude.{drop, fold, string_bytes}
 use Rattle.std.specs.Option.{option_or}
 use Rattle.std.specs.Str.Parse.{IsNumeral, digits_value, without_leading_plus}
@@ -16,8 +16,9 @@ use Rattle.clap.specs.declared.error.Error.{Error}
 use Rattle.clap.specs.declared.error.kind.ErrorKind.TheVariants.{InvalidValue}
 use Rattle.command_line.specs.declared.asked.LogFiles.{LogFiles}
 use Rattle.command_line.specs.declared.asked.Options.{Options}
+use Rattle.command_line.specs.declared.asked.RunOptions.{RunOptions}
 use Rattle.command_line.specs.declared.asked.Subcommand.{Subcommand}
-use Rattle.command_line.specs.declared.asked.Subcommand.TheVariants.{Script, Recover, Check}
+use Rattle.command_line.specs.declared.asked.Subcommand.TheVariants.{Script, Run, Recover, Check}
 
 -- `--NAME VALUE`, with the default that stands for it and the parser that its value passes
 abbrev pub option : Text → Text → ValueParser → Rule
@@ -68,22 +69,42 @@ folder_option = record (new_rule (codes "logs")) {
   parser = Some NonEmptyString;
 }
 
--- the number of their loggers, which must be given, from 1 to 8
-abbrev pub loggers_option : Rule
-loggers_option = record (new_rule (codes "loggers")) {
-  long = Some (codes "loggers");
+-- `--NAME VALUE`, whose value is a `u32` within these limits
+abbrev pub limited_option : Text → ℕ → ℕ → Rule
+limited_option name low high = record (new_rule name) {
+  long = Some name;
   value_names = 1;
-  required = true;
-  parser = Some (Signed (pos 1) (pos 8));
+  parser = Some (Signed (pos low) (pos high));
 }
 
--- a command with the options of log files
+-- the number of their loggers
+abbrev pub loggers_option : Rule
+loggers_option = limited_option (codes "loggers") 1 8
+
+-- a command with the options of log files that are there, which must be given
 abbrev pub with_logs : App → App
-with_logs app = with_rule (with_rule app folder_option) loggers_option
+with_logs app = with_rule (with_rule app folder_option) (record loggers_option { required = true })
+
+-- the options of a run: the log files that it makes, its terminals, and their inputs
+abbrev pub run_options : List Rule
+run_options = folder_option
+    ∷ record loggers_option { defaults = codes "2" ∷ [] }
+    ∷ record (limited_option (codes "terminals") 1 16) { defaults = codes "4" ∷ [] }
+    ∷ record (limited_option (codes "count") 0 1000000) { defaults = codes "100" ∷ [] }
+    ∷ seed_option (codes "seed") (codes "1")
+    ∷ []
+
+-- a command with them
+abbrev pub with_run : App → App
+with_run app = fold with_rule app run_options
 
 -- the subcommand `script`
 abbrev pub script_app : App
 script_app = with_tables (new_app (codes "script"))
+
+-- the subcommand `run`
+abbrev pub run_app : App
+run_app = with_tables (with_run (new_app (codes "run")))
 
 -- a subcommand of this name that reads log files, as `recover` and `check`
 abbrev pub on_logs_app : Text → App
@@ -101,18 +122,20 @@ bare_app = record (new_app (codes "tpcc")) {
 -- what a subcommand is called
 abbrev pub name_of : Subcommand → Text
 name_of Script = codes "script"
+name_of (Run options) = codes "run"
 name_of (Recover files) = codes "recover"
 name_of (Check files) = codes "check"
 
 -- its command
 abbrev pub app_for : Subcommand → App
 app_for Script = script_app
+app_for (Run options) = run_app
 app_for (Recover files) = on_logs_app (codes "recover")
 app_for (Check files) = on_logs_app (codes "check")
 
 -- the program's command, as clap reads it
 abbrev pub program_app : App
-program_app = with_subcommand (with_subcommand (with_subcommand bare_app script_app.top)
+program_app = with_subcommand (with_subcommand (with_subcommand (with_subcommand bare_app script_app.top) run_app.top)
     (on_logs_app (codes "recover")).top) (on_logs_app (codes "check")).top
 
 -- the subcommand that the words of the program name, and the words after it
@@ -143,6 +166,10 @@ WritesNumber bits None n = ⊥
 WritesNumber bits (Some text) n = IsNumeral 10 (without_leading_plus text)
     × (n ≡ digits_value 10 (without_leading_plus text)) × (n < 2 ^ bits)
 
+-- and the number is within these limits
+abbrev pub WritesWithin : ℕ → ℕ → Option Text → ℕ → Type 0
+WritesWithin low high text n = WritesNumber 32 text n × (low ≤ n) × (n ≤ high)
+
 -- each option is the number that its text writes
 pub record AreWritten (text : Text → Text → Option Text) (o : Options) : Type 0 where
   pub warehouses : WritesNumber 32 (text (codes "warehouses") (codes "1")) o.warehouses
@@ -158,11 +185,20 @@ pub record AreLogFiles (rows : List Row) (files : LogFiles) : Type 0 where
   pub folder : first_of (codes "logs") rows ≡ Some (string_bytes files.folder)
   pub loggers : WritesNumber 32 (one_of (codes "loggers") rows) files.loggers
 
--- so it is of the subcommands that read log files
-abbrev pub HasLogFiles : List Row → Subcommand → Type 0
-HasLogFiles rows Script = ⊤
-HasLogFiles rows (Recover files) = AreLogFiles rows files
-HasLogFiles rows (Check files) = AreLogFiles rows files
+-- the same of the log files that a run makes; each other option of its own is the number that its text writes
+pub record AreRunOptions (text : Text → Text → Option Text) (rows : List Row) (r : RunOptions) : Type 0 where
+  pub folder : first_of (codes "logs") rows ≡ Some (string_bytes r.files.folder)
+  pub loggers : WritesWithin 1 8 (text (codes "loggers") (codes "2")) r.files.loggers
+  pub terminals : WritesWithin 1 16 (text (codes "terminals") (codes "4")) r.terminals
+  pub count : WritesWithin 0 1000000 (text (codes "count") (codes "100")) r.count
+  pub seed : WritesNumber 64 (text (codes "seed") (codes "1")) r.seed
+
+-- so it is of a subcommand's own options, beside those of the tables
+abbrev pub HasOwnOptions : (Text → Text → Option Text) → List Row → Subcommand → Type 0
+HasOwnOptions text rows Script = ⊤
+HasOwnOptions text rows (Run r) = AreRunOptions text rows r
+HasOwnOptions text rows (Recover files) = AreLogFiles rows files
+HasOwnOptions text rows (Check files) = AreLogFiles rows files
 
 -- clap finds no fault with the words, they name the subcommand, and those after it write these options
 pub record IsAskedBy (words : List Text) (o : Options) : Type 0 where
@@ -170,7 +206,8 @@ pub record IsAskedBy (words : List Text) (o : Options) : Type 0 where
   pub after : List Text
   pub subcommand : subcommand_words words ≡ Some (name_of o.subcommand, after)
   pub tables : AreWritten (text_for (given (rules_for o.subcommand) after)) o
-  pub logs : HasLogFiles (given (rules_for o.subcommand) after) o.subcommand
+  pub own : HasOwnOptions (text_for (given (rules_for o.subcommand) after)) (given (rules_for o.subcommand) after)
+      o.subcommand
 
 -- memory ran out, or the error's kind is one of clap's faults with the words, or that of a value
 -- that can't be read

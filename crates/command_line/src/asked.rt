@@ -1,4 +1,5 @@
 //! What a command line asks for.
+ghost use Rattle.std.specs.Prelude.{◌≤◌};
 
 use money::Refusal;
 use tables::Scale;
@@ -8,6 +9,8 @@ use tables::Scale;
 pub enum Subcommand {
     /// `script`: answers the lines of standard input.
     Script,
+    /// `run`: runs terminals beside loggers.
+    Run(RunOptions),
     /// `recover`: shows what log files recover to.
     Recover(LogFiles),
     /// `check`: reports the conditions of what log files recover to.
@@ -21,6 +24,21 @@ pub struct LogFiles {
     pub folder: String,
     /// `--loggers`, 1 to 8.
     pub loggers: u32,
+}
+
+/// What `run` is to run.
+#[derive(Debug, Drop, PartialEq, Eq)]
+pub struct RunOptions {
+    /// Where the log files are made.
+    pub files: LogFiles,
+    /// `--terminals`, 1 to 16.
+    pub terminals: u32,
+    /// `--count`: how many inputs each terminal has, 0 to 1,000,000.
+    pub count: u32,
+    /// `--seed`, which the inputs are drawn from.
+    pub seed: u64,
+    ghost loggers: { (1 ≤ files.loggers) × (files.loggers ≤ 8) },
+    ghost stations: { (1 ≤ terminals) × (terminals ≤ 16) },
 }
 
 /// A command line: the subcommand and its options.

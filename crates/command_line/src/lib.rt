@@ -2,7 +2,8 @@
 #![tactic(auto)]
 
 mod asked;
+mod run_words;
 mod words;
 
-pub use asked::{LogFiles, Options, Subcommand};
+pub use asked::{LogFiles, Options, RunOptions, Subcommand};
 pub use words::options;

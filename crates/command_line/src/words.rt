@@ -1,15 +1,18 @@
 //! How the words of a command line are read.
 ghost use Rattle.std.specs.Prelude.{◌≡◌, ◌∷◌, IfErr, IfOk, List, Ok, Some, [], codes, false, map, string_bytes, ℕ};
+ghost use Rattle.clap.specs.Walk.{first_of};
 ghost use Rattle.clap.specs.Words.{app_of, found_of, kind_of, one_text, rows_of, rule_of};
 ghost use Rattle.clap.specs.Kinds.{HasKind};
 ghost use Rattle.clap.specs.declared.error.kind.ErrorKind.TheVariants.{InvalidValue};
-ghost use Rattle.command_line.specs.CommandLine.{AreLogFiles, AreWritten, HasApp, HasLogFiles, IsAskedBy, IsLocal};
+ghost use Rattle.command_line.specs.CommandLine.{AreLogFiles, AreWritten, HasApp, HasOwnOptions, IsAskedBy, IsLocal};
 ghost use Rattle.command_line.specs.CommandLine.{IsOptionsRefusal, folder_option, loggers_option, name_of};
-ghost use Rattle.command_line.specs.CommandLine.{number_option, on_logs_app, program_app, script_app, seed_option};
+ghost use Rattle.command_line.specs.CommandLine.{number_option, on_logs_app, program_app, run_app, script_app};
+ghost use Rattle.command_line.specs.CommandLine.{seed_option};
 ghost use Rattle.command_line.specs.CommandLine.{text_in};
 ghost use Rattle.command_line.specs.CommandLine.{with_logs as with_log_options, with_tables as with_table_options};
 
 use crate::asked::{LogFiles, Options, Subcommand};
+use crate::run_words::{run_options, with_run};
 use clap::builder::ValueParser;
 use clap::error::ErrorKind;
 use clap::{Arg, ArgMatches, Command, Error, value_parser};
@@ -36,6 +39,7 @@ fn program<'a>(alloc: Global) -> Result<Command<'a>, AllocError>
     ensures app { IfOk result (HasApp program_app) }
 {
     let script = script(alloc)?;
+    let run = run(alloc)?;
     let recover = on_log_files(alloc, "recover", RECOVER)?;
     let check = on_log_files(alloc, "check", CHECK)?;
     Command::new(alloc, "tpcc")
@@ -43,6 +47,7 @@ fn program<'a>(alloc: Global) -> Result<Command<'a>, AllocError>
         .subcommand_required(true)
         .arg_required_else_help(true)
         .subcommand(script)?
+        .subcommand(run)?
         .subcommand(recover)?
         .subcommand(check)
 }
@@ -64,6 +69,24 @@ fn script<'a>(alloc: Global) -> Result<Command<'a>, AllocError>
     with_tables(alloc, command)
 }
 
+/// What `run` is for.
+const RUN: &str = "Runs terminals in threads, and writes what they commit to log files";
+
+/// What a user of `run` needs to know besides.
+const AFTER_RUN: &str = "\
+Each logger makes a file of its own in DIR: log-0, log-1 and so on. Where one is there already, nothing is run.
+What the files hold outlives a crash: `tpcc recover` shows what that is, and `tpcc check` its consistency conditions,
+for the same DIR, as many loggers, and the same options of the tables.";
+
+/// The subcommand `run`.
+fn run<'a>(alloc: Global) -> Result<Command<'a>, AllocError>
+    ensures app { IfOk result (HasApp run_app) }
+{
+    let command = Command::new(alloc, "run").about(RUN).after_help(AFTER_RUN);
+    let command = with_run(alloc, command)?;
+    with_tables(alloc, command)
+}
+
 /// A subcommand of this name that reads log files.
 fn on_log_files<'a>(alloc: Global, name: &'a str, about: &'a str) -> Result<Command<'a>, AllocError>
     ensures app { IfOk result (HasApp (on_logs_app name.entry.now)) }
@@ -78,11 +101,12 @@ fn with_logs<'a>(alloc: Global, command: Command<'a>) -> Result<Command<'a>, All
     requires local { IsLocal command }
     ensures app { IfOk result (HasApp (with_log_options (app_of command.entry))) }
 {
-    command.arg(folder(alloc))?.arg(loggers(alloc))
+    let loggers = loggers(alloc, "How many loggers wrote them, 1 to 8").required(true);
+    command.arg(folder(alloc))?.arg(loggers)
 }
 
 /// The option `--logs`, which must stand.
-fn folder<'a>(alloc: Global) -> Arg<'a>
+pub(crate) fn folder<'a>(alloc: Global) -> Arg<'a>
     ensures rule { rule_of result ≡ folder_option }
     ensures local { result.global ≡ false }
 {
@@ -94,8 +118,8 @@ fn folder<'a>(alloc: Global) -> Arg<'a>
         .help("The folder of the log files, log-0, log-1 and so on")
 }
 
-/// The option `--loggers`, which must stand.
-fn loggers<'a>(alloc: Global) -> Arg<'a>
+/// The option `--loggers`.
+pub(crate) fn loggers<'a>(alloc: Global, help: &'a str) -> Arg<'a>
     ensures rule { rule_of result ≡ loggers_option }
     ensures local { result.global ≡ false }
 {
@@ -103,8 +127,7 @@ fn loggers<'a>(alloc: Global) -> Arg<'a>
         .long("loggers")
         .value_name("N")
         .value_parser(value_parser!(u32).range(1..=8))
-        .required(true)
-        .help("How many loggers wrote them, 1 to 8")
+        .help(help)
 }
 
 /// A subcommand with the options of the tables that it begins with: their scale and their population.
@@ -156,7 +179,7 @@ fn number<'a>(alloc: Global, name: &'a str, default: &'a str, help: &'a str) -> 
 }
 
 /// An option that takes a seed.
-fn seed<'a>(alloc: Global, name: &'a str, default: &'a str, help: &'a str) -> Arg<'a>
+pub(crate) fn seed<'a>(alloc: Global, name: &'a str, default: &'a str, help: &'a str) -> Arg<'a>
     ensures rule { rule_of result ≡ seed_option name.entry.now default.entry.now }
     ensures local { result.global ≡ false }
 {
@@ -172,7 +195,8 @@ fn seed<'a>(alloc: Global, name: &'a str, default: &'a str, help: &'a str) -> Ar
 fn options_given(alloc: Global, name: &str, given: &ArgMatches<'_>) -> Result<Options, Error>
     ensures named { IfOk result (λ o. name.now ≡ name_of o.subcommand) }
     ensures written { IfOk result (AreWritten (text_in (rows_of (found_of given.now)))) }
-    ensures logs { IfOk result (λ o. HasLogFiles (rows_of (found_of given.now)) o.subcommand) }
+    ensures own { IfOk result (λ o. HasOwnOptions (text_in (rows_of (found_of given.now)))
+        (rows_of (found_of given.now)) o.subcommand) }
     ensures unread { IfErr result (HasKind (InvalidValue ∷ [])) }
 {
     Ok(Options {
@@ -190,11 +214,12 @@ fn options_given(alloc: Global, name: &str, given: &ArgMatches<'_>) -> Result<Op
 /// The subcommand of this name, with the log files that its matches give.
 fn subcommand(alloc: Global, name: &str, given: &ArgMatches<'_>) -> Result<Subcommand, Error>
     ensures named { IfOk result (λ s. name.now ≡ name_of s) }
-    ensures logs { IfOk result (HasLogFiles (rows_of (found_of given.now))) }
+    ensures own { IfOk result (HasOwnOptions (text_in (rows_of (found_of given.now))) (rows_of (found_of given.now))) }
     ensures unread { IfErr result (HasKind (InvalidValue ∷ [])) }
 {
     match name {
         "script" => Ok(Subcommand::Script),
+        "run" => Ok(Subcommand::Run(run_options(alloc, given)?)),
         "recover" => Ok(Subcommand::Recover(log_files(alloc, given)?)),
         "check" => Ok(Subcommand::Check(log_files(alloc, given)?)),
         _ => Err(refusal(alloc, "a subcommand is required")?),
@@ -206,18 +231,30 @@ fn log_files(alloc: Global, given: &ArgMatches<'_>) -> Result<LogFiles, Error>
     ensures written { IfOk result (AreLogFiles (rows_of (found_of given.now))) }
     ensures unread { IfErr result (HasKind (InvalidValue ∷ [])) }
 {
-    let loggers = value_of::<u32>(alloc, given, "loggers")?;
+    Ok(LogFiles {
+        folder: folder_given(alloc, given)?,
+        loggers: value_of::<u32>(alloc, given, "loggers")?,
+    })
+}
+
+/// The folder of log files that the matches give.
+pub(crate) fn folder_given(alloc: Global, given: &ArgMatches<'_>) -> Result<String, Error>
+    ensures given { IfOk result (λ folder.
+        first_of (codes "logs") (rows_of (found_of given.now)) ≡ Some (string_bytes folder)) }
+    ensures unread { IfErr result (HasKind (InvalidValue ∷ [])) }
+{
     match given.get_str("logs") {
-        Some(folder) => Ok(LogFiles {
-            folder: String::from_str(alloc, folder)?,
-            loggers,
-        }),
+        Some(folder) => Ok(String::from_str(alloc, folder)?),
         None => Err(refusal(alloc, "'--logs' is required")?),
     }
 }
 
 /// The value of the option, which stands or has a default, and whose parser lets only a `T` through.
-fn value_of<T: FromStr>(alloc: Global, matches: &ArgMatches<'_>, name: &str) -> Result<T, Error>
+pub(crate) fn value_of<T: FromStr>(
+    alloc: Global,
+    matches: &ArgMatches<'_>,
+    name: &str,
+) -> Result<T, Error>
 where
     T::Err: Drop,
     ensures read { IfOk result (λ value. (text : List ℕ)
@@ -235,7 +272,7 @@ where
 }
 
 /// An error of the program's own with this text.
-fn refusal(alloc: Global, text: &str) -> Result<Error, AllocError>
+pub(crate) fn refusal(alloc: Global, text: &str) -> Result<Error, AllocError>
     ensures { IfOk result (λ error. kind_of error ≡ InvalidValue) }
 {
     Command::new(alloc, "tpcc").error(ErrorKind::InvalidValue, text)

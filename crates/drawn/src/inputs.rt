@@ -3,7 +3,7 @@
 use tables::{Input, NewOrderInput, OrderStatusInput, PaymentInput, Who};
 
 /// Prints the line of an input.
-pub fn print_input<R: Print + Alloc>(rt: &R, input: &Input) -> anyhow::Result<()> {
+pub(crate) fn print_input<R: Print + Alloc>(rt: &R, input: &Input) -> anyhow::Result<()> {
     match input {
         Input::NewOrder(order) => print_new_order(rt, order)?,
         Input::Payment(payment) => print_payment(rt, payment)?,

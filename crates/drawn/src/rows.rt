@@ -7,7 +7,7 @@ use tables::{
 };
 
 /// Prints a line for each row, a table after another.
-pub fn print_rows<R: Print + Alloc>(rt: &R, tables: &Tables) -> anyhow::Result<()> {
+pub(crate) fn print_rows<R: Print + Alloc>(rt: &R, tables: &Tables) -> anyhow::Result<()> {
     print_items(rt, &tables.items)?;
     print_warehouses(rt, &tables.warehouses)?;
     print_stock(rt, &tables.stock)?;

@@ -7,6 +7,9 @@ use std::thread;
 pub trait Pace {
     /// Called after each turn of the logger while the run lasts, outside the book's lock.
     fn pause(&mut self, progress: &Progress);
+
+    /// Called once, after the logger's last turn.
+    fn end(&mut self, _progress: &Progress) {}
 }
 
 /// A turn follows on the one before at once.

@@ -261,6 +261,7 @@ fn last_turns<K: Run, D: Disk + Drop, P: Pace + Drop, R: Wait>(
     let (mut writers, mut files) = (writers, files);
     for writer in &mut writers {
         writer.turn(rt, engine, progress);
+        writer.pace.end(progress);
     }
     while let Some(writer) = writers.pop() {
         files.push_reserved(writer.end());

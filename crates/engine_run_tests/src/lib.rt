@@ -1,6 +1,13 @@
-//! Tests of `engine_run`, on engines over the plain population of one warehouse: a crate's own tests would prove it again.
+//! Tests of `engine_run`, on engines over the plain population of one warehouse: a crate's own tests would prove it
+//! again.
 #![tactic(auto)]
 
+#[cfg(test)]
+mod books;
+#[cfg(test)]
+mod held;
+#[cfg(test)]
+mod held_tests;
 #[cfg(test)]
 mod meeting;
 #[cfg(test)]

@@ -1,4 +1,4 @@
-//! An engine of two loggers and four terminals, and what a run of it needs.
+//! Engines of one warehouse, and what a run of them needs.
 ghost use Rattle.std.specs.Prelude.{◌≡◌, ◌<◌, ◌≤◌, [], length, All, IfOk};
 ghost use Rattle.board.specs.declared.rule.Role.TheVariants.{Logger as logger_role};
 ghost use Rattle.board.specs.Opening.{logger_seats};
@@ -6,11 +6,12 @@ ghost use Rattle.board.specs.Seats.{new_seat};
 ghost use Rattle.book.specs.Parts.{IsFresh, base_of, loggers_of, terminals_of};
 ghost use Rattle.deck.specs.Deck.{scale_of};
 
-use crate::meeting::Meeting;
+use crate::held::{Follower, Passing};
+use crate::meeting::{Attendance, Meeting};
 use board::{Board, LoggerSeat};
 use book::Parts;
 use deck::{Deck, Settings};
-use disk::Memory;
+use disk::Disk;
 use engine_run::{AtOnce, Log, Station};
 use log_header::Header;
 use logfile::LogFile;
@@ -19,29 +20,39 @@ use money::Refusal;
 use population::Population;
 use std::alloc::Global;
 use std::sync::Wait;
-use std::sync::atomic::AtomicU32;
 use tables::Scale;
 use terminals::Calls;
 
-/// How many terminals there are.
+/// How many terminals meet.
 pub(crate) const TERMINALS: u32 = 4;
 
-/// The parts of an engine over one warehouse, two districts, ten customers a district and 20 items.
-pub(crate) fn parts<R: Wait>(rt: &R, alloc: Global) -> Result<Parts, Refusal>
-    ensures fresh { IfOk result IsFresh }
-    ensures plan { IfOk result (λ parts. (loggers_of parts ≡ 2) × (base_of parts ≡ 0)) }
-    ensures terminals { IfOk result (λ parts. terminals_of parts ≡ 4) }
-{
-    let scale = Scale::new(1, 2, 10, 20, 2_000, 2_000)?;
-    Parts::new(rt, alloc, Population::plain(alloc, scale)?, 2, 4)
+/// The plain population of one warehouse, two districts, ten customers a district and 20 items.
+pub(crate) fn plain(alloc: Global) -> Result<Population, Refusal> {
+    Population::plain(alloc, Scale::new(1, 2, 10, 20, 2_000, 2_000)?)
 }
 
-/// The four stations, whose terminals meet before their first commits.
+/// The parts of an engine over it, for so many loggers and terminals.
+pub(crate) fn parts<R: Wait>(
+    rt: &R,
+    alloc: Global,
+    loggers: u16,
+    terminals: u16,
+) -> Result<Parts, Refusal>
+    requires loggers { (0 < loggers) × (loggers ≤ 8) }
+    requires terminals { (0 < terminals) × (terminals ≤ 16) }
+    ensures fresh { IfOk result IsFresh }
+    ensures plan { IfOk result (λ parts. (loggers_of parts ≡ loggers) × (base_of parts ≡ 0)) }
+    ensures terminals { IfOk result (λ parts. terminals_of parts ≡ terminals) }
+{
+    Parts::new(rt, alloc, plain(alloc)?, loggers, terminals)
+}
+
+/// The stations of terminals that meet before their first commits.
 pub(crate) fn stations<'a>(
     alloc: Global,
     scale: Scale,
-    come: &'a AtomicU32,
-) -> Result<Vec<Station<Meeting<'a>>>, Refusal>
+    meeting: &'a Meeting,
+) -> Result<Vec<Station<Attendance<'a>>>, Refusal>
     ensures count { IfOk result (λ stations. length stations.items ≡ 4) }
     ensures decks { IfOk result (λ stations. All (λ station. scale_of station.deck ≡ scale) stations.items) }
 {
@@ -49,9 +60,9 @@ pub(crate) fn stations<'a>(
     for terminal in 0..TERMINALS {
         stations.push(Station {
             deck: Deck::new(scale, Settings::usual(), 1, terminal),
-            gate: Meeting {
+            gate: Attendance {
                 calls: Calls::default(),
-                come,
+                meeting,
                 all: TERMINALS,
             },
         })?;
@@ -59,15 +70,37 @@ pub(crate) fn stations<'a>(
     Ok(stations)
 }
 
-/// The two loggers, with new files in memory.
-pub(crate) fn logs(
+/// The station of a terminal that goes on beside a sync.
+pub(crate) fn follower<'a>(
+    alloc: Global,
+    scale: Scale,
+    passing: &'a Passing,
+) -> Result<Vec<Station<Follower<'a>>>, Refusal>
+    ensures count { IfOk result (λ stations. length stations.items ≡ 1) }
+    ensures decks { IfOk result (λ stations. All (λ station. scale_of station.deck ≡ scale) stations.items) }
+{
+    let mut stations = Vec::new(alloc);
+    stations.push(Station {
+        deck: Deck::new(scale, Settings::usual(), 1, 0),
+        gate: Follower {
+            calls: Calls::default(),
+            passing,
+        },
+    })?;
+    Ok(stations)
+}
+
+/// The two loggers, with new files on these disks.
+pub(crate) fn logs<D: Disk + Drop>(
     alloc: Global,
     population: &Population,
     board: &Board,
     seats: Vec<LoggerSeat>,
-) -> Result<Vec<Log<Memory, AtOnce>>, Refusal>
+    disks: (D, D),
+) -> Result<Vec<Log<D, AtOnce>>, Refusal>
     requires seats { seats.items ≡ logger_seats board.now 2 }
     requires plan { (board.now.plan.loggers ≡ 2) × (board.now.plan.base ≡ 0) }
+    requires empty { D.is_modelled → (D.seen disks.0 ≡ []) × (D.seen disks.1 ≡ []) }
     ensures { IfOk result (λ logs. All (λ log. log.logger.seat.board ≡ board.now) logs.items) }
 {
     let mut seats = seats;
@@ -75,25 +108,50 @@ pub(crate) fn logs(
         return Err(Refusal::BadInput);
     };
     let mut logs = Vec::new(alloc);
-    logs.push(log_of(alloc, population, first, 0)?)?;
-    logs.push(log_of(alloc, population, second, 1)?)?;
+    logs.push(log_on(alloc, population, disks.0, first, (0, 2))?)?;
+    logs.push(log_on(alloc, population, disks.1, second, (1, 2))?)?;
     Ok(logs)
 }
 
-/// A logger with a new file in memory.
-fn log_of(
+/// The only logger, with a new file on this disk.
+pub(crate) fn one_log<D: Disk + Drop>(
     alloc: Global,
     population: &Population,
+    board: &Board,
+    seats: Vec<LoggerSeat>,
+    disk: D,
+) -> Result<Vec<Log<D, AtOnce>>, Refusal>
+    requires seats { seats.items ≡ logger_seats board.now 1 }
+    requires plan { (board.now.plan.loggers ≡ 1) × (board.now.plan.base ≡ 0) }
+    requires empty { D.is_modelled → D.seen disk ≡ [] }
+    ensures { IfOk result (λ logs. All (λ log. log.logger.seat.board ≡ board.now) logs.items) }
+{
+    let mut seats = seats;
+    let Some(seat) = seats.pop() else {
+        return Err(Refusal::BadInput);
+    };
+    let mut logs = Vec::new(alloc);
+    logs.push(log_on(alloc, population, disk, seat, (0, 1))?)?;
+    Ok(logs)
+}
+
+/// A logger with a new file on a disk.
+fn log_on<D: Disk + Drop>(
+    alloc: Global,
+    population: &Population,
+    disk: D,
     seat: LoggerSeat,
-    number: u16,
-) -> Result<Log<Memory, AtOnce>, Refusal>
-    requires seat { seat ≡ new_seat seat.board (logger_role number) }
-    requires plan { (seat.board.plan.loggers ≡ 2) × (seat.board.plan.base ≡ 0) }
-    requires logger { number < 2 }
+    logger: (u16, u16),
+) -> Result<Log<D, AtOnce>, Refusal>
+    requires seat { seat ≡ new_seat seat.board (logger_role logger.0) }
+    requires plan { (seat.board.plan.loggers ≡ logger.1) × (seat.board.plan.base ≡ 0) }
+    requires logger { (logger.0 < logger.1) × (logger.1 ≤ 8) }
+    requires empty { D.is_modelled → D.seen disk ≡ [] }
     ensures { IfOk result (λ log. log.logger.seat.board ≡ seat.board) }
 {
-    let header = Header::new(population.scale(), population.seed(), number, 2);
-    let file = LogFile::create(alloc, Memory::new(alloc), header)?;
+    let (number, loggers) = logger;
+    let header = Header::new(population.scale(), population.seed(), number, loggers);
+    let file = LogFile::create(alloc, disk, header)?;
     Ok(Log {
         logger: Logger::new(file, seat),
         pace: AtOnce,

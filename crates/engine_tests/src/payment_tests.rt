@@ -1,6 +1,6 @@
 //! Payments on the small population: of the third customer, which is record 5, on its cells, and at an engine's
 //! terminals.
-ghost use Rattle.std.specs.Prelude.{◌≡◌, ℕ, ◌<◌, length};
+ghost use Rattle.std.specs.Prelude.{◌≡◌, ◌<◌, length};
 ghost use Rattle.cells.specs.Records.{at};
 ghost use Rattle.cells.specs.Versions.{last_tid};
 ghost use Rattle.tables.specs.Records.{record_count};
@@ -73,8 +73,8 @@ fn seen_of(work: &Work) -> Seen {
     Seen {
         input: payment_input(&work.input),
         told: told_of(&work.reply),
-        reads: work.reads.versions().count(),
-        writes: work.writes.values().count(),
+        reads: work.reads.versions().len(),
+        writes: work.writes.values().len(),
         read: Read {
             warehouse: version_of(&work.reads, 0),
             district: version_of(&work.reads, 1),
@@ -146,7 +146,9 @@ fn pay_and_store<R: Wait>(
     requires scale { length stage.old.cells ≡ record_count (initial stage.old.population).scale }
     requires pen { stage.old.pen.cells ≡ stage.old.cells }
     requires reader { stage.old.reader.cells ≡ stage.old.cells }
-    requires first { (n : ℕ) → last_tid (at stage.old.pen.all n) ≡ 0 }
+    requires warehouse { last_tid (at stage.old.pen.all 0) ≡ 0 }
+    requires district { last_tid (at stage.old.pen.all 1) ≡ 0 }
+    requires customer { last_tid (at stage.old.pen.all 5) ≡ 0 }
     ensures scale { length stage.new.cells ≡ record_count (initial stage.new.population).scale }
     ensures reader { stage.new.reader.cells ≡ stage.new.cells }
 {
@@ -162,7 +164,9 @@ fn pay_twice<R: Wait>(rt: &R, alloc: Global, stage: &mut Stage) -> Result<(Seen,
     requires scale { length stage.old.cells ≡ record_count (initial stage.old.population).scale }
     requires pen { stage.old.pen.cells ≡ stage.old.cells }
     requires reader { stage.old.reader.cells ≡ stage.old.cells }
-    requires first { (n : ℕ) → last_tid (at stage.old.pen.all n) ≡ 0 }
+    requires warehouse { last_tid (at stage.old.pen.all 0) ≡ 0 }
+    requires district { last_tid (at stage.old.pen.all 1) ≡ 0 }
+    requires customer { last_tid (at stage.old.pen.all 5) ≡ 0 }
 {
     let first = pay_and_store(rt, alloc, stage, 100)?;
     let after = pay(rt, alloc, stage, 500_000)?;

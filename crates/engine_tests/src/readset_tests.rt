@@ -33,7 +33,7 @@ fn read<R: Wait>(rt: &R, alloc: Global, stage: &mut Stage) -> Result<ReadSet, Re
 
 fn seen_of(writes: &WriteSet, reads: &ReadSet, number: u32) -> Seen {
     Seen {
-        count: writes.values().count(),
+        count: writes.values().len(),
         value: writes.value(number),
         left: writes.left(reads, number),
     }
@@ -109,9 +109,10 @@ struct Listed {
 fn seen_of_list(alloc: Global) -> Result<Listed, Refusal> {
     let mut writes = WriteSet::new(alloc);
     put_three(&mut writes)?;
-    let list = writes.list(alloc)?;
+    let row = writes.history_row();
+    let list = writes.into_list();
     Ok(Listed {
-        rows: (writes.history_row(), list.history_row()),
+        rows: (row, list.history_row()),
         count: list.values().len(),
         first: list.values().first().copied(),
         last: list.values().last().copied(),

@@ -7,6 +7,8 @@ use Rattle.money.specs.declared.refusal.Refusal.TheVariants.{Device, BadScale}
 use Rattle.tables.specs.declared.limits.TheConstants.{MAX_WAREHOUSES, MAX_DISTRICTS, MIN_CUSTOMERS, MAX_CUSTOMERS}
 use Rattle.tables.specs.declared.limits.TheConstants.{MIN_ITEMS, MAX_ITEMS, MAX_ORDERS, MAX_COMMITS}
 use Rattle.tables.specs.Sizes.{Sizes}
+use Rattle.program.specs.declared.fault.Purpose.{Purpose}
+use Rattle.program.specs.declared.fault.Purpose.TheVariants.{Read, Create, Append}
 
 -- `--orders is 9: it is to be from 10 (the customers) to 100000`, with a line feed. The note says whose number the
 -- lower limit is
@@ -38,16 +40,22 @@ scale_line s =
 abbrev pub IsStreamLine : List ℕ → List ℕ → Type 0
 IsStreamLine name line = (reason : List ℕ) × (line ≡ name ++ (codes ": " ++ (reason ++ codes "\n")))
 
--- the line on the file that couldn't be opened, or else on the stream on which the last call failed, by the errors of
--- the last calls on the input and on the output
-abbrev pub IsDeviceLine : Option (List ℕ) → Option Error → Option Error → List ℕ → Type 0
-IsDeviceLine (Some path) _ _ line = line ≡ path ++ codes ": can't be opened\n"
+-- what it is called that a file can't be used so
+abbrev pub trouble_of : Purpose → List ℕ
+trouble_of Read = codes "can't be opened"
+trouble_of Create = codes "can't be created; a file that is there is left as it is"
+trouble_of Append = codes "can't be written"
+
+-- the line on the file that couldn't be used, by its path and what for, or else on the stream on which the last call
+-- failed, by the errors of the last calls on the input and on the output
+abbrev pub IsDeviceLine : Option (List ℕ × Purpose) → Option Error → Option Error → List ℕ → Type 0
+IsDeviceLine (Some file) _ _ line = line ≡ file.0 ++ (codes ": " ++ (trouble_of file.1 ++ codes "\n"))
 IsDeviceLine None (Some error) _ line = IsStreamLine (codes "standard input") line
 IsDeviceLine None None (Some error) line = IsStreamLine (codes "standard output") line
 IsDeviceLine None None None line = line ≡ []
 
 -- what is told behind a refusal's line, over this scale
-abbrev pub IsDetail : Sizes → Option (List ℕ) → Option Error → Option Error → Refusal → List ℕ → Type 0
-IsDetail s unopened input output BadScale line = line ≡ scale_line s
-IsDetail s unopened input output Device line = IsDeviceLine unopened input output line
-IsDetail s unopened input output _ line = line ≡ []
+abbrev pub IsDetail : Sizes → Option (List ℕ × Purpose) → Option Error → Option Error → Refusal → List ℕ → Type 0
+IsDetail s file input output BadScale line = line ≡ scale_line s
+IsDetail s file input output Device line = IsDeviceLine file input output line
+IsDetail s file input output _ line = line ≡ []

@@ -16,11 +16,13 @@ use Rattle.script.specs.Written.{IsWhole, IsBeginning}
 use Rattle.command_line.specs.CommandLine.{IsAskedBy, IsOptionsRefusal}
 use Rattle.command_line.specs.declared.asked.Options.{Options}
 use Rattle.command_line.specs.declared.asked.Subcommand.{Subcommand}
-use Rattle.command_line.specs.declared.asked.Subcommand.TheVariants.{Script, Recover, Check}
+use Rattle.command_line.specs.declared.asked.Subcommand.TheVariants.{Script, Run, Recover, Check}
+use Rattle.driver.specs.Told.{IsRan}
 use Rattle.recovery.specs.Told.{Shows, Reports}
 use Rattle.program.specs.Status.{IsRefusedStatus, refusal_line, WritesBeginning}
 use Rattle.program.specs.Detail.{IsDetail}
-use Rattle.program.specs.Logs.{IsShownWith, IsCheckedWith, IsRefusedWith}
+use Rattle.program.specs.declared.fault.Purpose.{Purpose}
+use Rattle.program.specs.Logs.{IsShownWith, IsCheckedWith, IsRefusedWith, IsFailedRun, inputs_of}
 
 -- the scale that options ask for
 abbrev pub scale_of : Options → Sizes
@@ -48,17 +50,19 @@ pub record IsBrokenOff (t0 : Database) (bytes : List ℕ) (old new : Option (Lis
 -- a subcommand was done, over a population of these tables and this seed, and it ends with this report
 abbrev pub IsDone : Database → ℕ → Subcommand → List ℕ → Option (List ℕ) → Option (List ℕ) → Report → Type 0
 IsDone t0 seed Script bytes old new report = IsAnswered t0 bytes old new report
+IsDone t0 seed (Run r) bytes old new report = IsRan t0 (inputs_of r) old new report
 IsDone t0 seed (Recover files) bytes old new report = IsShownWith t0 seed old new report
 IsDone t0 seed (Check files) bytes old new report = IsCheckedWith t0 seed old new report
 
--- or it was refused, where this file couldn't be opened, if that is why
+-- or it was refused, where this file couldn't be used so, if that is why
 abbrev pub IsFailed : Database → ℕ → Subcommand → List ℕ → Option (List ℕ) → Option (List ℕ) → Refusal
-    → Option (List ℕ) → Type 0
-IsFailed t0 seed Script bytes old new refusal unopened = IsBrokenOff t0 bytes old new refusal × (unopened ≡ None)
-IsFailed t0 seed (Recover files) bytes old new refusal unopened =
-    IsRefusedWith files Shows t0 seed old new refusal unopened
-IsFailed t0 seed (Check files) bytes old new refusal unopened =
-    IsRefusedWith files Reports t0 seed old new refusal unopened
+    → Option (List ℕ × Purpose) → Type 0
+IsFailed t0 seed Script bytes old new refusal file = IsBrokenOff t0 bytes old new refusal × (file ≡ None)
+IsFailed t0 seed (Run r) bytes old new refusal file = IsFailedRun r t0 old new refusal file
+IsFailed t0 seed (Recover files) bytes old new refusal file =
+    IsRefusedWith files Shows t0 seed old new refusal file
+IsFailed t0 seed (Check files) bytes old new refusal file =
+    IsRefusedWith files Reports t0 seed old new refusal file
 
 -- what was asked for was done, over the population and at the scale that were asked for
 pub record IsWholeRun (o : Options) (bytes : List ℕ) (old new : Option (List ℕ)) (report : Report) : Type 0 where
@@ -69,14 +73,14 @@ pub record IsWholeRun (o : Options) (bytes : List ℕ) (old new : Option (List �
 
 -- it was refused: for its scale; for want of memory for the population; or later
 pub data IsRefusedRun (o : Options) (bytes : List ℕ) (old new : Option (List ℕ)) (refusal : Refusal)
-    (unopened : Option (List ℕ)) : Type 0 where
-  scale : ¬ IsScale (scale_of o) → refusal ≡ BadScale → unopened ≡ None → Appends old new []
-      → IsRefusedRun o bytes old new refusal unopened
-  memory : refusal ≡ OutOfMemory → unopened ≡ None → Appends old new []
-      → IsRefusedRun o bytes old new refusal unopened
+    (file : Option (List ℕ × Purpose)) : Type 0 where
+  scale : ¬ IsScale (scale_of o) → refusal ≡ BadScale → file ≡ None → Appends old new []
+      → IsRefusedRun o bytes old new refusal file
+  memory : refusal ≡ OutOfMemory → file ≡ None → Appends old new []
+      → IsRefusedRun o bytes old new refusal file
   begun : IsScale (scale_of o) → (tables : Database) → IsPopulation o.population (scale_of o) tables
-      → IsFailed tables o.population o.subcommand bytes old new refusal unopened
-      → IsRefusedRun o bytes old new refusal unopened
+      → IsFailed tables o.population o.subcommand bytes old new refusal file
+      → IsRefusedRun o bytes old new refusal file
 
 -- a run of the program, after which the last calls on its input and its output have these errors, where they failed:
 -- its words' fault, or the help that they ask for, goes to the errors alone; what a subcommand writes goes to the
@@ -89,8 +93,8 @@ pub data IsRun (words : List (List ℕ)) (bytes : List ℕ) (output written erro
   answered : (o : Options) (report : Report) → IsAskedBy words o → IsWholeRun o bytes output written report
       → Appends errors told [] → (IsGood report → status ≡ 0) → ((IsGood report → ⊥) → status ≡ 1)
       → IsRun words bytes output written errors told in_error out_error status
-  refused : (o : Options) (refusal : Refusal) (unopened : Option (List ℕ)) (detail : List ℕ) → IsAskedBy words o
-      → IsRefusedRun o bytes output written refusal unopened
-      → IsDetail (scale_of o) unopened in_error out_error refusal detail
+  refused : (o : Options) (refusal : Refusal) (file : Option (List ℕ × Purpose)) (detail : List ℕ) → IsAskedBy words o
+      → IsRefusedRun o bytes output written refusal file
+      → IsDetail (scale_of o) file in_error out_error refusal detail
       → WritesBeginning (refusal_line refusal ++ detail) errors told → IsRefusedStatus refusal status
       → IsRun words bytes output written errors told in_error out_error status

@@ -1,11 +1,11 @@
 //! What was wrong, in a line behind a refusal's.
 
-ghost use Rattle.std.specs.Prelude.{◌≡◌, None, IfOk, string_bytes};
-ghost use Rattle.program.specs.Detail.{IsDetail, IsDeviceLine, IsStreamLine, limit_line, scale_line};
-ghost use Rattle.program.specs.Logs.{unopened_of};
+ghost use Rattle.std.specs.Prelude.{◌≡◌, ◌++◌, None, IfOk, codes, string_bytes};
+ghost use Rattle.program.specs.Detail.{IsDetail, IsDeviceLine, IsStreamLine, limit_line, scale_line, trouble_of};
+ghost use Rattle.program.specs.Logs.{file_of};
 ghost use Rattle.program.specs.Run.{scale_of};
 
-use crate::fault::Fault;
+use crate::fault::{BadFile, Fault};
 use crate::watched::Watched;
 use command_line::Options;
 use money::Refusal;
@@ -18,7 +18,7 @@ use tables::limits::{
 };
 
 /// The line on what was wrong where a run was refused, with its line feed: of a scale, on the first option that is
-/// outside its limits; of a device, on the file that couldn't be opened, or on the stream on which the last call
+/// outside its limits; of a device, on the file that couldn't be used, or on the stream on which the last call
 /// failed, and why; else, or where that isn't known, nothing.
 pub(crate) fn detail_of<R, W>(
     alloc: Global,
@@ -27,17 +27,26 @@ pub(crate) fn detail_of<R, W>(
     input: &Watched<R>,
     output: &Watched<W>,
 ) -> Result<String, AllocError>
-    ensures { IfOk result (λ line. IsDetail (scale_of options.now) (unopened_of fault.now) input.now.failure
+    ensures { IfOk result (λ line. IsDetail (scale_of options.now) (file_of fault.now) input.now.failure
         output.now.failure fault.now.refusal (string_bytes line)) }
 {
     match fault.refusal {
         Refusal::BadScale => scale_detail(alloc, options),
-        Refusal::Device => match &fault.unopened {
-            Some(path) => format!(in alloc; "{path}: can't be opened\n"),
+        Refusal::Device => match &fault.file {
+            Some(file) => file_detail(alloc, file),
             None => streams_detail(alloc, input.failure(), output.failure()),
         },
         _ => Ok(String::new(alloc)),
     }
+}
+
+/// The line on a file that couldn't be used.
+fn file_detail(alloc: Global, file: &BadFile) -> Result<String, AllocError>
+    ensures { IfOk result (λ line. string_bytes line
+        ≡ string_bytes file.now.path ++ (codes ": " ++ (trouble_of file.now.purpose ++ codes "\n"))) }
+{
+    let (path, trouble) = (file.path.as_str(), file.purpose.trouble());
+    format!(in alloc; "{path}: {trouble}\n")
 }
 
 /// The line on the stream on which the last call failed, by the errors of those calls.

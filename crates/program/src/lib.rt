@@ -4,6 +4,7 @@
 mod detail;
 mod ending;
 mod fault;
+mod live;
 mod logs;
 mod running;
 mod watched;

@@ -1,10 +1,11 @@
 //! Log files: opening those that a command line names, and telling what they recover to.
 ghost use Rattle.std.specs.Prelude.{◌≡◌, ◌<◌, ℕ, List, length, IfOk, IfErr, string_bytes};
+ghost use Rattle.money.specs.declared.refusal.Refusal.TheVariants.{Device};
 ghost use Rattle.population.specs.Initial.{initial, seed_of};
 ghost use Rattle.recovery.specs.Told.{IsRefused, Shows, Reports};
-ghost use Rattle.program.specs.Logs.{IsUnread, IsShownWith, IsCheckedWith, IsRefusedWith, path_of, unopened_of};
+ghost use Rattle.program.specs.Logs.{AreUnready, IsShownWith, IsCheckedWith, IsRefusedWith, file_of, path_of};
 
-use crate::fault::Fault;
+use crate::fault::{BadFile, Fault, Purpose};
 use command_line::LogFiles;
 use conditions::{Report, check};
 use disk::{Disk, FileDisk};
@@ -27,9 +28,9 @@ pub(crate) fn show<T: Files<File = File>, W: Write>(
     ensures shown { IfOk result (IsShownWith (initial population.now) (seed_of population.now)
         (W.contents output.old) (W.contents output.new)) }
     ensures refused { IfErr result (λ fault. IsRefusedWith files.now Shows (initial population.now)
-        (seed_of population.now) (W.contents output.old) (W.contents output.new) fault.refusal (unopened_of fault)) }
+        (seed_of population.now) (W.contents output.old) (W.contents output.new) fault.refusal (file_of fault)) }
 {
-    let mut disks = match open_all(rt, alloc, files) {
+    let mut disks = match disks(rt, alloc, files, Purpose::Read) {
         Ok(disks) => disks,
         Err(fault) => return Err(fault),
     };
@@ -50,9 +51,9 @@ pub(crate) fn report<T: Files<File = File>, W: Write>(
     ensures checked { IfOk result (IsCheckedWith (initial population.now) (seed_of population.now)
         (W.contents output.old) (W.contents output.new)) }
     ensures refused { IfErr result (λ fault. IsRefusedWith files.now Reports (initial population.now)
-        (seed_of population.now) (W.contents output.old) (W.contents output.new) fault.refusal (unopened_of fault)) }
+        (seed_of population.now) (W.contents output.old) (W.contents output.new) fault.refusal (file_of fault)) }
 {
-    let mut disks = match open_all(rt, alloc, files) {
+    let mut disks = match disks(rt, alloc, files, Purpose::Read) {
         Ok(disks) => disks,
         Err(fault) => return Err(fault),
     };
@@ -78,18 +79,20 @@ fn show_recovered<D: Disk, W: Write>(
     check(alloc, &recovered.tables)
 }
 
-/// The disks in log files, in the order of their loggers. The first file that can't be opened refuses.
-fn open_all<T: Files<File = File>>(
+/// The disks in log files that are opened, or created, in the order of their loggers. The first file that can't be
+/// refuses.
+pub(crate) fn disks<T: Files<File = File>>(
     rt: &T,
     alloc: Global,
     files: &LogFiles,
+    purpose: Purpose,
 ) -> Result<Vec<FileDisk>, Fault>
     ensures count { IfOk result (λ disks. length disks.items ≡ files.now.loggers) }
-    ensures unread { IfErr result (λ fault. IsUnread files.now fault.refusal (unopened_of fault)) }
+    ensures unready { IfErr result (λ fault. AreUnready purpose files.now fault.refusal (file_of fault)) }
 {
     let mut disks = Vec::new(alloc);
     for logger in 0..files.loggers {
-        let disk = match open(rt, alloc, files, logger) {
+        let disk = match disk(rt, alloc, files, logger, purpose) {
             Ok(disk) => disk,
             Err(fault) => return Err(fault),
         };
@@ -98,28 +101,39 @@ fn open_all<T: Files<File = File>>(
     Ok(disks)
 }
 
-/// The disk in the file of this logger.
-fn open<T: Files<File = File>>(
+/// The disk in the file of this logger, which is opened or created.
+fn disk<T: Files<File = File>>(
     rt: &T,
     alloc: Global,
     files: &LogFiles,
     logger: u32,
+    purpose: Purpose,
 ) -> Result<FileDisk, Fault>
-    ensures unread { IfErr result (λ fault. logger < files.now.loggers
-        → IsUnread files.now fault.refusal (unopened_of fault)) }
+    ensures unready { IfErr result (λ fault. logger < files.now.loggers
+        → AreUnready purpose files.now fault.refusal (file_of fault)) }
 {
     let path = path(alloc, files, logger)?;
-    match FileDisk::open(rt, path.as_str()) {
+    match disk_at(rt, path.as_str(), purpose) {
         Ok(disk) => Ok(disk),
         Err(refusal) => Err(Fault {
             refusal,
-            unopened: Some(path),
+            file: Some(BadFile { path, purpose }),
         }),
     }
 }
 
+/// The disk in the file of this path, which is opened or created.
+fn disk_at<T: Files<File = File>>(rt: &T, path: &str, purpose: Purpose) -> Result<FileDisk, Refusal>
+    ensures device { IfErr result (λ refusal. refusal ≡ Device) }
+{
+    match purpose {
+        Purpose::Create => FileDisk::create(rt, path),
+        Purpose::Read | Purpose::Append => FileDisk::open(rt, path),
+    }
+}
+
 /// The path of the file of this logger.
-fn path(alloc: Global, files: &LogFiles, logger: u32) -> Result<String, AllocError>
+pub(crate) fn path(alloc: Global, files: &LogFiles, logger: u32) -> Result<String, AllocError>
     ensures { IfOk result (λ path. string_bytes path ≡ path_of files.now logger) }
 {
     let folder = files.folder.as_str();

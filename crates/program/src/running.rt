@@ -3,7 +3,7 @@ ghost use Rattle.std.specs.Prelude.{◌≡◌, ◌++◌, ℕ, List, Some, None, 
 ghost use Rattle.std.specs.Io.KnownBytes.{Appends};
 ghost use Rattle.money.specs.declared.refusal.Refusal.TheVariants.{OutOfMemory};
 ghost use Rattle.population.specs.Initial.{initial, seed_of};
-ghost use Rattle.program.specs.Logs.{unopened_of};
+ghost use Rattle.program.specs.Logs.{file_of};
 ghost use Rattle.program.specs.Run.{IsRun, IsWholeRun, IsRefusedRun, IsPopulation, scale_of};
 ghost use Rattle.program.specs.Run.{IsDone, IsFailed, IsAnswered, IsBrokenOff};
 ghost use Rattle.program.specs.Detail.{IsDetail};
@@ -12,6 +12,7 @@ ghost use Rattle.program.specs.Status.{IsRefusedStatus, refusal_line, WritesBegi
 use crate::detail::detail_of;
 use crate::ending::{USAGE_FAULT, finish, finish_refused};
 use crate::fault::Fault;
+use crate::live::live;
 use crate::logs::{report, show};
 use crate::watched::Watched;
 use clap::Error;
@@ -25,18 +26,28 @@ use std::fs::File;
 use std::io::{Read, Write};
 use std::rt::Files;
 use std::sync::Wait;
+use std::thread::Threads;
+use std::time::Clock;
 use tables::Scale;
 
 /// Does what the words of a command line ask for, the first of which is the program's own name, from `input` to
 /// `output`, and answers the exit status. A fault of the words, or the help that they ask for, goes to `errors`, and
-/// so does a refusal's line, with one more on what was wrong, where that is known. May wait, as `script` does.
-pub fn run<T: Wait + Files<File = File>, R: Read, O: Write, E: Write>(
+/// so does a refusal's line, with one more on what was wrong, where that is known. How far a run of terminals is goes
+/// to `screen`, if there is one, and nothing else does. May wait, as `script` and `engine_run::run` do.
+pub fn run<
+    T: Wait + Threads + Clock + Files<File = File> + Sync,
+    R: Read,
+    O: Write,
+    E: Write,
+    S: Write + Send + Drop,
+>(
     rt: &T,
     alloc: Global,
     words: &[String],
     input: &mut Watched<R>,
     output: &mut Watched<O>,
     errors: &mut E,
+    screen: Option<S>,
 ) -> u8
     ensures { (bytes : List ℕ) → R.remaining input.old.stream ≡ Some bytes
         → IsRun (map string_bytes words.now) bytes (O.contents output.old.stream) (O.contents output.new.stream)
@@ -49,7 +60,7 @@ pub fn run<T: Wait + Files<File = File>, R: Read, O: Write, E: Write>(
             return USAGE_FAULT;
         }
     };
-    match answer(rt, alloc, &asked, input, output) {
+    match answer(rt, alloc, &asked, input, output, screen) {
         Ok(report) => finish(Ok(&report), errors),
         Err(fault) => tell_refused(alloc, &asked, &fault, input, output, errors),
     }
@@ -65,7 +76,7 @@ fn tell_refused<R, W, E: Write>(
     output: &Watched<W>,
     errors: &mut E,
 ) -> u8
-    ensures lines { (detail : List ℕ) × IsDetail (scale_of asked.now) (unopened_of fault.now) input.now.failure
+    ensures lines { (detail : List ℕ) × IsDetail (scale_of asked.now) (file_of fault.now) input.now.failure
         output.now.failure fault.now.refusal detail
         × WritesBeginning (refusal_line fault.now.refusal ++ detail) (E.contents errors.old) (E.contents errors.new) }
     ensures status { IsRefusedStatus fault.now.refusal result }
@@ -77,18 +88,24 @@ fn tell_refused<R, W, E: Write>(
 }
 
 /// Does what options ask for, from input to output.
-fn answer<T: Wait + Files<File = File>, R: Read, W: Write>(
+fn answer<
+    T: Wait + Threads + Clock + Files<File = File> + Sync,
+    R: Read,
+    W: Write,
+    S: Write + Send + Drop,
+>(
     rt: &T,
     alloc: Global,
     options: &Options,
     input: &mut R,
     output: &mut W,
+    screen: Option<S>,
 ) -> Result<Report, Fault>
     ensures whole { IfOk result (λ report. (bytes : List ℕ) → R.remaining input.old ≡ Some bytes
         → IsWholeRun options.now bytes (W.contents output.old) (W.contents output.new) report) }
     ensures refused { IfErr result (λ fault. (bytes : List ℕ) → R.remaining input.old ≡ Some bytes
         → IsRefusedRun options.now bytes (W.contents output.old) (W.contents output.new) fault.refusal
-        (unopened_of fault)) }
+        (file_of fault)) }
 {
     let scale = match options.scale() {
         Ok(scale) => scale,
@@ -98,27 +115,42 @@ fn answer<T: Wait + Files<File = File>, R: Read, W: Write>(
         Ok(population) => population,
         Err(refusal) => return Err(Fault::of(refusal)),
     };
-    answer_over(rt, alloc, population, &options.subcommand, input, output)
+    answer_over(
+        rt,
+        alloc,
+        population,
+        &options.subcommand,
+        input,
+        output,
+        screen,
+    )
 }
 
 /// Does a subcommand over a population, from input to output.
-fn answer_over<T: Wait + Files<File = File>, R: Read, W: Write>(
+fn answer_over<
+    T: Wait + Threads + Clock + Files<File = File> + Sync,
+    R: Read,
+    W: Write,
+    S: Write + Send + Drop,
+>(
     rt: &T,
     alloc: Global,
     population: Population,
     subcommand: &Subcommand,
     input: &mut R,
     output: &mut W,
+    screen: Option<S>,
 ) -> Result<Report, Fault>
     ensures done { IfOk result (λ report. (bytes : List ℕ) → R.remaining input.old ≡ Some bytes
         → IsDone (initial population) (seed_of population) subcommand.now bytes
         (W.contents output.old) (W.contents output.new) report) }
     ensures failed { IfErr result (λ fault. (bytes : List ℕ) → R.remaining input.old ≡ Some bytes
         → IsFailed (initial population) (seed_of population) subcommand.now bytes
-        (W.contents output.old) (W.contents output.new) fault.refusal (unopened_of fault)) }
+        (W.contents output.old) (W.contents output.new) fault.refusal (file_of fault)) }
 {
     match subcommand {
         Subcommand::Script => answer_script(rt, alloc, population, input, output),
+        Subcommand::Run(options) => live(rt, alloc, population, options, output, screen),
         Subcommand::Recover(files) => show(rt, alloc, &population, files, output),
         Subcommand::Check(files) => report(rt, alloc, &population, files, output),
     }
@@ -136,7 +168,7 @@ fn answer_script<T: Wait, R: Read, W: Write>(
         → IsAnswered (initial population) bytes (W.contents output.old) (W.contents output.new) report) }
     ensures broken_off { IfErr result (λ fault. (bytes : List ℕ) → R.remaining input.old ≡ Some bytes
         → IsBrokenOff (initial population) bytes (W.contents output.old) (W.contents output.new) fault.refusal
-        × (unopened_of fault ≡ None)) }
+        × (file_of fault ≡ None)) }
 {
     match script(rt, alloc, population, input, output) {
         Ok(closed) => Ok(closed.0),

@@ -9,6 +9,8 @@ use std::io::{self, Read, Write};
 use std::rt::Files;
 use std::sync::Wait;
 use std::test::Fail;
+use std::thread::Threads;
+use std::time::Clock;
 
 /// A scale of two warehouses.
 const TWO: &str =
@@ -31,7 +33,7 @@ struct Outcome {
     status: u8,
 }
 
-fn run_on<R: Read + Drop, T: Wait + Files<File = File>>(
+fn run_on<R: Read + Drop, T: Wait + Threads + Clock + Files<File = File> + Sync>(
     rt: &T,
     alloc: Global,
     words: &str,
@@ -41,7 +43,15 @@ fn run_on<R: Read + Drop, T: Wait + Files<File = File>>(
     let (mut input, mut output) = (Watched::new(input), Watched::new(Vec::new(alloc)));
     let mut errors = Vec::new(alloc);
     let words = words.as_slice();
-    let status = run(rt, alloc, words, &mut input, &mut output, &mut errors);
+    let status = run(
+        rt,
+        alloc,
+        words,
+        &mut input,
+        &mut output,
+        &mut errors,
+        None::<Vec<u8>>,
+    );
     let output = Vec::from_slice(alloc, output.stream().as_slice())?;
     Ok(Outcome {
         output,
@@ -197,7 +207,15 @@ fn an_output_that_fails(rt: HostRuntime) -> Result<(), Fail> {
     let (mut input, mut output) = (Watched::new(b"".as_slice()), Watched::new(failing(32)));
     let mut errors = Vec::new(rt.alloc());
     let words = words.as_slice();
-    let status = run(&rt, rt.alloc(), words, &mut input, &mut output, &mut errors);
+    let status = run(
+        &rt,
+        rt.alloc(),
+        words,
+        &mut input,
+        &mut output,
+        &mut errors,
+        None::<Vec<u8>>,
+    );
     assert_eq!(rt; status, 1);
     let expected = b"9 Device\nstandard output: Broken pipe (os error 32)\n".as_slice();
     assert_eq!(rt; errors.as_slice(), expected);

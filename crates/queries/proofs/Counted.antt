@@ -1,11 +1,16 @@
 -- How many numbers pass a test: one number more, or the same ones.
-use Rattle.std.proofs.Common.{◌≡◌, ℕ, zero, suc, ◌+◌, ◌≤◌, ◌<◌, ◌≢◌, Bool, true, false, cond, ◌==◌, ◌&&◌, ◌||◌, List, ◌∷◌, length, filter, take, get_or}
-use Rattle.std.proofs.Common.{true≢false, refl, sym, ap, ◌∙◌, subst, arith}
-use Rattle.std.proofs.Math.Bool.{or-false, or-true}
+use Rattle.std.proofs.Common.{◌≡◌, ℕ, zero, suc, ◌+◌, ◌≤◌, ◌<◌, Bool, true, false, cond, ◌==◌, ◌&&◌, ◌||◌, List, ◌∷◌, length, filter, take, get_or}
+use Rattle.std.proofs.Common.{refl, sym, ap, ◌∙◌, subst, arith}
+use Rattle.std.proofs.Math.Bool.{or-false}
 use Rattle.std.proofs.lemmas.Bool.{eqb-true}
 use Rattle.std.proofs.lemmas.Bool.Decides.{nat_tests}
 use Rattle.std.proofs.lemmas.List.Folds.{list_any_more}
+use Rattle.std.proofs.lemmas.List.{length-take, get_or-take}
+use Rattle.std.proofs.lemmas.List.Folds.{list_any_none}
+use Rattle.std.proofs.lemmas.Grind.{get_or_default_zero}
+use Rattle.std.proofs.lemmas.Map.Keys.{below_from_sorted, sorted_from_strictly_increasing}
 use Rattle.std.specs.List.{list_any, range_with_len}
+use Rattle.std.specs.List.Sorted.{IsStrictlyIncreasing}
 use Rattle.laws.proofs.Touched.{self}
 
 length_next : (b : Bool) (a : ℕ) (ns : List ℕ) → length (cond b (a ∷ ns) ns) ≡ cond b 1 0 + length ns
@@ -66,18 +71,19 @@ module _ (xs : List ℕ) (at : ℕ) (within : at < length xs) where
   after_is : (i : ℕ) → after i ≡ (before i || (x == i))
   after_is i = list_any_more (λ j. j == i) xs at 0 within
 
-  -- what was so of those before it, and is so of it, and of others no more than before
-  pub held_after : (i : ℕ) (was is : Bool) → was ≡ before i → (i ≡ x → is ≡ true) → (i ≢ x → is ≡ was) → is ≡ after i
-  held_after i was is old here other =
-      elim (x == i) as (λ b. (x == i) ≡ b → is ≡ after i) [
-        | true ↦ λ e. here (sym (eqb-true x i e)) ∙ sym (or-true (before i)) ∙ ap (λ b. before i || b) (sym e) ∙ sym (after_is i)
-        | false ↦ λ e.
-            let apart : i ≢ x = λ same. true≢false (sym (ap (λ j. x == j) same ∙ self x) ∙ e) in
-            other apart ∙ old ∙ sym (or-false (before i)) ∙ ap (λ b. before i || b) (sym e) ∙ sym (after_is i)
-      ] refl
+  -- it is none of them, where the numbers rise
+  pub unseen : IsStrictlyIncreasing xs → before x ≡ false
+  unseen rising = list_any_none (λ j. j == x) (take at xs) (λ k d inside.
+      let first : k < at = omega (arith, within, inside, length-take at xs) in
+      let less : get_or xs k d < x =
+      subst (λ n. n < x) (sym (get_or_default_zero xs k d (omega (arith, first, within)))) (below_from_sorted xs k at 0 (sorted_from_strictly_increasing xs rising) first within) in
+      ap (λ n. n == x) (get_or-take at xs k d first) ∙ apart (get_or xs k d) x less)
+    where
+      apart : (a b : ℕ) → a < b → (a == b) ≡ false
+      apart a b less = grind (arith, nat_tests, less)
 
   -- how many of the numbers from 1 to n are among them and low
-  pub counted_after : (low : ℕ → Bool) (n : ℕ) → 1 ≤ x → x ≤ n
+  counted_after : (low : ℕ → Bool) (n : ℕ) → 1 ≤ x → x ≤ n
       → length (filter (λ i. after i && low i) (range_with_len 1 n)) ≡ length (filter (λ i. before i && low i) (range_with_len 1 n)) + cond (before x) 0
       (cond (low x) 1 0)
   counted_after low n first last =
@@ -85,3 +91,8 @@ module _ (xs : List ℕ) (at : ℕ) (within : at < length xs) where
       (λ i e. ap (λ b. b && low i) (after_is i ∙ ap (λ b. before i || b) e ∙ or-false (before i)))
       (ap (λ b. cond (b && low x) 1 0) (after_is x ∙ ap (λ b. before x || b) (self x)) ∙ counted_once (before x) (low x))
       1 n first (omega (arith, last))
+
+  pub counted_next : (low : ℕ → Bool) (n : ℕ) → IsStrictlyIncreasing xs → 1 ≤ x → x ≤ n
+      → length (filter (λ i. after i && low i) (range_with_len 1 n)) ≡ length (filter (λ i. before i && low i) (range_with_len 1 n)) + cond (low x) 1 0
+  counted_next low n rising first last =
+      counted_after low n first last ∙ ap (λ b. length (filter (λ i. before i && low i) (range_with_len 1 n)) + cond b 0 (cond (low x) 1 0)) (unseen rising)

@@ -2,9 +2,9 @@ mod WordsRead
 mod LinesByNumber
 mod ToldOrder
 mod StatusExplained
-mod Apart
 mod RowsRead
 mod AnyRow
+mod EachOnce
 mod LookedAt
 mod Pushed
 mod Counted

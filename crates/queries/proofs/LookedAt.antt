@@ -1,6 +1,6 @@
 -- The items of a district's last orders, line by line.
 use Rattle.std.proofs.Common.{◌≡◌, ℕ, ◌+◌, ◌-◌, ◌≤◌, max, nat_le, Bool, true, false, ◌==◌, ◌&&◌, ◌||◌, List, [], ◌∷◌, ◌++◌, Option, Some, None, is_some, refl}
-use Rattle.std.proofs.Common.{sym, ap, ◌∙◌, arith}
+use Rattle.std.proofs.Common.{sym, ap, ◌∙◌, subst, arith}
 use Rattle.std.proofs.Math.Bool.{and_assoc, and-false, or-false}
 use Rattle.std.proofs.lemmas.Bool.Decides.{nat_tests}
 use Rattle.std.proofs.lemmas.List.Folds.{list_any-append}
@@ -9,22 +9,23 @@ use Rattle.std.specs.List.{list_any}
 use Rattle.std.specs.Option.{option_map, option_map_or}
 use Rattle.std.specs.Ordering.{eq_by_cmp, is_eq, nat_cmp, ordering_then}
 use Rattle.std.specs.FinMap.{entries, get}
-use Rattle.tables.specs.Sizes.{IsNumber}
-use Rattle.tables.specs.Keys.{line_cmp, is_district}
+use Rattle.tables.specs.Keys.{line_cmp, is_district, order_of}
 use Rattle.tables.specs.NewOrder.{line_key}
 use Rattle.tables.specs.Database.{Database}
 use Rattle.tables.specs.OrderNumbers.{next_order}
 use Rattle.tables.specs.StockLevel.{is_recent, is_sold}
-use Rattle.tables.specs.declared.limits.TheConstants.{MAX_ORDER_LINES, RECENT_ORDERS}
+use Rattle.tables.specs.declared.limits.TheConstants.{RECENT_ORDERS}
 use Rattle.tables.specs.declared.keys.DistrictKey.{DistrictKey}
 use Rattle.tables.specs.declared.keys.LineKey.{LineKey}
+use Rattle.tables.specs.declared.rows.Order.{Order}
 use Rattle.tables.specs.declared.rows.OrderLine.{OrderLine}
 use Rattle.tables.proofs.Orders.{exact_line}
 use Rattle.tables.proofs.KeyTests.{eqb-nat_cmp}
+use Rattle.laws.proofs.Touched.{district_named}
 use Rattle.readset.specs.Reads.{ReadSetView, Keeps}
 use Rattle.readset.specs.Explains.{IsCandidate}
 use Rattle.readset.proofs.MoreReads.{candidate_before}
-use Rattle.queries.specs.SoldItems.{is_looked_at, AreItems}
+use Rattle.queries.specs.SoldItems.{is_looked_at, line_count, AreItems}
 use Rattle.queries.proofs.AnyRow.{any_alike, any_more}
 
 -- ---- the lines looked at
@@ -70,13 +71,20 @@ module _ (d : DistrictKey) (first : ℕ) where
       )
 
   -- all lines of an order are those before the next
-  order_more : (o : ℕ) (k : LineKey) → first ≤ o → IsNumber MAX_ORDER_LINES k.line → is_looked_at d first o MAX_ORDER_LINES k ≡ is_looked_at d first (o + 1) 0 k
-  order_more o k low line = ap (λ b. is_district k.warehouse k.district d && b) (at_order k.order k.line line.0 line.1)
+  order_more : (o m : ℕ) (k : LineKey) → first ≤ o → 1 ≤ k.line → (order_of k ≡ record { warehouse = d.warehouse; district = d.district; order = o } → k.line ≤ m)
+      → is_looked_at d first o m k ≡ is_looked_at d first (o + 1) 0 k
+  order_more o m k low one all =
+      elim (is_district k.warehouse k.district d) as (λ b. is_district k.warehouse k.district d ≡ b
+      → (b && ((nat_le first k.order && nat_le (k.order + 1) o) || ((k.order == o) && nat_le k.line m))) ≡ (b
+      && ((nat_le first k.order && nat_le (k.order + 1) (o + 1)) || ((k.order == o + 1) && nat_le k.line 0)))) [
+        | true ↦ λ e. at_order k.order k.line one (λ same. all (λ i. let home = district_named k.warehouse k.district d e in
+            record { warehouse = (home i).warehouse; district = (home i).district; order = same i }))
+        | false ↦ λ e. refl
+      ] refl
     where
-      at_order : (n l : ℕ) → 1 ≤ l → l ≤ MAX_ORDER_LINES
-          → ((nat_le first n && nat_le (n + 1) o) || ((n == o) && nat_le l MAX_ORDER_LINES)) ≡ ((nat_le first n && nat_le (n + 1) (o + 1))
-          || ((n == o + 1) && nat_le l 0))
-      at_order n l one many = grind (arith, nat_tests, low, one, many)
+      at_order : (n l : ℕ) → 1 ≤ l → (n ≡ o → l ≤ m)
+          → ((nat_le first n && nat_le (n + 1) o) || ((n == o) && nat_le l m)) ≡ ((nat_le first n && nat_le (n + 1) (o + 1)) || ((n == o + 1) && nat_le l 0))
+      at_order n l some many = grind (arith, nat_tests, low, some, many)
 
   -- none is before the first
   none_yet : (k : LineKey) → 1 ≤ k.line → is_looked_at d first first 0 k ≡ false
@@ -119,6 +127,10 @@ module _ (t0 : Database) (d : DistrictKey) (first : ℕ) where
       nothing [] = refl
       nothing (e ∷ es) = nothing es
 
+  -- after reads more
+  pub still_items : (o m : ℕ) (old more : ReadSetView) (items : List ℕ) → AreItems t0 d first o m old items → Keeps old more → AreItems t0 d first o m more items
+  still_items o m old more items so_far keeps t h = so_far t (candidate_before t0 old more t keeps h)
+
   -- one line more
   pub next_line : (o m : ℕ) (old more : ReadSetView) (items : List ℕ) (item : Option ℕ) → AreItems t0 d first o m old items → Keeps old more
       → ((t : Database) → IsCandidate t0 more t
@@ -131,13 +143,19 @@ module _ (t0 : Database) (d : DistrictKey) (first : ℕ) where
       ∙ one_pushed i items (get t.lines k)
       ∙ ap (λ w. one_of i (items ++ option_map_or (λ n. n ∷ []) w [])) (is t h)
 
-  -- an order's last line
-  pub next_first : (o : ℕ) (reads : ReadSetView) (items : List ℕ) → first ≤ o → AreItems t0 d first o MAX_ORDER_LINES reads items
-      → AreItems t0 d first (o + 1) 0 reads items
-  next_first o reads items low so_far t h i =
+  -- an order's last line, whose number is at most its O_OL_CNT
+  pub next_first : (o m : ℕ) (reads : ReadSetView) (items : List ℕ) → first ≤ o
+      → ((t : Database) → IsCandidate t0 reads t → line_count t (record { warehouse = d.warehouse; district = d.district; order = o }) ≡ m)
+      → AreItems t0 d first o m reads items → AreItems t0 d first (o + 1) 0 reads items
+  next_first o m reads items low count so_far t h i =
       any_alike exact_line (λ (e : LineKey × OrderLine). is_looked_at d first (o + 1) 0 e.0 && (e.1.item == i))
-      (λ (e : LineKey × OrderLine). is_looked_at d first o MAX_ORDER_LINES e.0 && (e.1.item == i)) t.lines
-      (λ k r found. ap (λ b. b && (r.item == i)) (sym (order_more d first o k low (h.well_formed.lines k (ap is_some found)).3)))
+      (λ (e : LineKey × OrderLine). is_looked_at d first o m e.0 && (e.1.item == i)) t.lines
+      (λ k r found.
+      let order = h.well_formed.line_orders k r found in
+      let counted : line_count t (order_of k) ≡ order.0.line_count = ap (λ (w : Option Order). option_map_or (λ r. r.line_count) w 0) order.1 in
+      let all : order_of k ≡ record { warehouse = d.warehouse; district = d.district; order = o } → k.line ≤ m =
+      λ same. subst (λ n. k.line ≤ n) (sym counted ∙ ap (line_count t) same ∙ count t h) order.2 in
+      ap (λ b. b && (r.item == i)) (sym (order_more d first o m k low (h.well_formed.lines k (ap is_some found)).3.0 all)))
       ∙ so_far t h i
 
 -- after the last order

@@ -1,7 +1,7 @@
 -- What the words read of an order say of its row: the columns that are told.
 use Rattle.std.proofs.Common.{◌≡◌, List, ℕ, Option, Some, None, refl, sym, ap, ◌∙◌}
 use Rattle.std.proofs.lemmas.Option.{same_Some}
-use Rattle.std.specs.Option.{option_map}
+use Rattle.std.specs.Option.{option_map, option_map_or}
 use Rattle.std.specs.FinMap.{get}
 use Rattle.tables.specs.Database.{Database}
 use Rattle.tables.specs.Rows.{row_at, order_words}
@@ -13,6 +13,12 @@ use Rattle.readset.specs.Explains.{IsCandidate, NoCandidate}
 use Rattle.readset.specs.Transaction.{TransactionView, AtAll}
 use Rattle.queries.specs.Lines.{columns_of}
 use Rattle.queries.specs.declared.rows.OrderColumns.{OrderColumns}
+
+-- O_OL_CNT is one of them
+pub count_told : (w : Option Order) (o : Option OrderColumns) → option_map columns_of w ≡ o
+    → option_map_or (λ (r : Order). r.line_count) w 0 ≡ option_map_or (λ (c : OrderColumns). c.line_count) o 0
+count_told None o is = ap (λ (o : Option OrderColumns). option_map_or (λ (c : OrderColumns). c.line_count) o 0) is
+count_told (Some r) o is = ap (λ (o : Option OrderColumns). option_map_or (λ (c : OrderColumns). c.line_count) o 0) is
 
 module _ (t0 : Database) (under_way : TransactionView) (k : OrderKey) (value : Option (List ℕ)) (words : List ℕ)
     (read : AtAll t0 under_way (λ t. row_at t (key.Order k) ≡ value)) (is : value ≡ Some words)

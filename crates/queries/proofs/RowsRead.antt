@@ -69,11 +69,10 @@ module _ (t0 : Database) (reads : ReadSetView) (k : StockKey) (is_key : IsStockK
       ap (λ (o : Option Stock). option_map_or (λ r. nat_le (r.quantity + 1) threshold) o false) stock_at.1
       ∙ ap (λ (ws : List ℕ). nat_le (slice_index ws 0 + 1) threshold) (sym same)
 
-  -- what it counts for, where it wasn't read before
-  pub first_counted : (words : List ℕ) → row_at t (key.Stock k) ≡ Some words → (threshold : ℕ) (was low : Bool) → was ≡ false
-      → nat_le (slice_index words 0 + 1) threshold ≡ low
-      → ◌≡◌ {A = ℕ} (cond was 0 (cond (is_low t k.warehouse threshold k.item) 1 0)) (cond low 1 0)
-  first_counted words is threshold was low fresh counts = λ i. cond (fresh i) 0 (cond ((low_read words is threshold ∙ counts) i) 1 0)
+  -- what it counts for
+  pub low_counted : (words : List ℕ) → row_at t (key.Stock k) ≡ Some words → (threshold : ℕ) (low : Bool) → nat_le (slice_index words 0 + 1) threshold ≡ low
+      → ◌≡◌ {A = ℕ} (cond (is_low t k.warehouse threshold k.item) 1 0) (cond low 1 0)
+  low_counted words is threshold low counts = λ i. cond ((low_read words is threshold ∙ counts) i) 1 0
 
   pub no_stock : row_at t (key.Stock k) ≡ None → ⊥
   no_stock none = let e = stock_at.2 in cc

@@ -1,24 +1,24 @@
 -- How far a Stock-Level has come through a district's last orders (TPC-C 2.8.2.2).
 use Rattle.std.specs.Prelude.{◌≡◌, ℕ, ◌+◌, nat_le, Bool, ◌==◌, ◌&&◌, ◌||◌, List}
 use Rattle.std.specs.List.{list_any}
-use Rattle.std.specs.FinMap.{entries}
-use Rattle.tables.specs.Sizes.{Sizes}
-use Rattle.tables.specs.Keys.{is_district, IsStockKey}
-use Rattle.tables.specs.Records.{number_of_key}
-use Rattle.tables.specs.declared.keys.StockKey.{StockKey}
-use Rattle.tables.specs.declared.records.RecordKey.TheVariants as key
+use Rattle.std.specs.Option.{option_map_or}
+use Rattle.std.specs.FinMap.{entries, get}
+use Rattle.tables.specs.Keys.{is_district}
 use Rattle.tables.specs.Database.{Database}
 use Rattle.tables.specs.declared.keys.DistrictKey.{DistrictKey}
 use Rattle.tables.specs.declared.keys.OrderKey.{OrderKey}
 use Rattle.tables.specs.declared.keys.LineKey.{LineKey}
 use Rattle.tables.specs.declared.rows.OrderLine.{OrderLine}
-use Rattle.readset.specs.Reads.{ReadSetView, held}
+use Rattle.readset.specs.Reads.{ReadSetView}
 use Rattle.readset.specs.Explains.{IsCandidate}
-use Rattle.readset.specs.Transaction.{TransactionView}
 
 -- the district of an order
 abbrev pub home_of : OrderKey → DistrictKey
 home_of k = record { warehouse = k.warehouse; district = k.district }
+
+-- O_OL_CNT of an order, or 0 where there is no such order
+abbrev pub line_count : Database → OrderKey → ℕ
+line_count t k = option_map_or (λ r. r.line_count) (get t.orders k) 0
 
 -- whether a line is of a district's orders from the first on and before order o, or one of the first m of order o
 abbrev pub is_looked_at : DistrictKey → ℕ → ℕ → ℕ → LineKey → Bool
@@ -30,8 +30,3 @@ abbrev pub AreItems : Database → DistrictKey → ℕ → ℕ → ℕ → ReadS
 AreItems t0 d first o m reads items = (t : Database) → IsCandidate t0 reads t → (i : ℕ)
     → list_any (λ (e : LineKey × OrderLine). is_looked_at d first o m e.0 && (e.1.item == i))
     (entries t.lines) ≡ list_any (λ j. j == i) items
-
--- as much of STOCK is read as before
-abbrev pub SameStock : Sizes → TransactionView → TransactionView → Type 0
-SameStock s old new = (k : StockKey) → IsStockKey s k → held new.reads (number_of_key s (key.Stock k)) ≡ held old.reads
-    (number_of_key s (key.Stock k))

@@ -103,8 +103,8 @@ pub(crate) fn read_order<R: Wait, K: Start>(
     }))
 }
 
-/// Reads O_ENTRY_D, O_CARRIER_ID and O_OL_CNT of an order, where there is one.
-fn read_columns<R: Wait, K: Start>(
+/// Reads O_ENTRY_D, O_CARRIER_ID and O_OL_CNT of an order, where there is one. Costs a load.
+pub(crate) fn read_columns<R: Wait, K: Start>(
     rt: &R,
     transaction: &mut Transaction<'_, K>,
     key: OrderKey,

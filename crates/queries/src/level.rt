@@ -15,10 +15,10 @@ use std::alloc::Global;
 use std::sync::Wait;
 use tables::{DistrictKey, Input, Reply, StockLevelInput, StockLevelReply};
 
-/// Executes a Stock-Level (TPC-C 2.8.2.2) in a transaction that has read nothing: reads its district, all lines that
-/// the last 20 orders may have, absent ones too, and the stock of each item in them once. No cell changes, and it
-/// writes nothing. Gives back the reader. Costs at most 601 loads, and memory for what it reads, whatever the tables'
-/// size.
+/// Executes a Stock-Level (TPC-C 2.8.2.2) in a transaction that has read nothing: reads its district, the last 20
+/// orders with the lines that their O_OL_CNT says that they have, and the stock of each item in them once. No cell
+/// changes, and it writes nothing. Gives back the reader. Costs at most 621 loads, and memory for what it reads,
+/// whatever the tables' size.
 ///
 /// # Errors
 ///
@@ -50,7 +50,7 @@ fn read_reply<R: Wait, K: Start>(
     requires none { transaction.old.reads ≡ [] }
     ensures reply { Finds K.tables transaction.new result
         (λ reply t. IsCommitOf t (input_variants.StockLevel query.now) no_writes reply) }
-    ensures reads { ReadsMore 601 transaction.old transaction.new }
+    ensures reads { ReadsMore 621 transaction.old transaction.new }
 {
     let home = DistrictKey {
         warehouse: query.warehouse,

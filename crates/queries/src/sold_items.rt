@@ -2,9 +2,10 @@
 ghost use Rattle.std.specs.Prelude.{◌≡◌, ◌+◌, ◌-◌, ◌*◌, ◌≤◌, ℕ, max, [], ◌∷◌, ◌++◌, length, Option, Some, IfSome, IfOk};
 ghost use Rattle.std.specs.Prelude.{IfErr, OnOk, ◌==◌, All};
 ghost use Rattle.std.specs.List.{list_any};
+ghost use Rattle.std.specs.List.Sorted.{IsStrictlyIncreasing};
 ghost use Rattle.std.specs.Option.{ForSome, option_map, option_map_or};
 ghost use Rattle.std.specs.FinMap.{get};
-ghost use Rattle.tables.specs.Sizes.{IsNumber};
+ghost use Rattle.tables.specs.Sizes.{Sizes, IsNumber};
 ghost use Rattle.tables.specs.Keys.{IsDistrictKey, IsOrderKey, IsLineKey, IsItemKey};
 ghost use Rattle.tables.specs.OrderNumbers.{next_order};
 ghost use Rattle.tables.specs.StockLevel.{is_sold};
@@ -14,8 +15,9 @@ ghost use Rattle.tables.specs.Rows.{district_words, line_words};
 ghost use Rattle.tables.specs.declared.limits.TheConstants.{MAX_ORDER_LINES, RECENT_ORDERS};
 ghost use Rattle.money.specs.declared.refusal.Refusal.TheVariants.{OutOfMemory};
 ghost use Rattle.readset.specs.Transaction.{Finds, IsStepRefusal, ReadsMore};
-ghost use Rattle.queries.specs.SoldItems.{home_of, AreItems, SameStock};
+ghost use Rattle.queries.specs.SoldItems.{home_of, line_count, AreItems};
 
+use crate::last_order::read_columns;
 use money::{Payload, Refusal};
 use readset::{Start, Transaction};
 use std::alloc::Global;
@@ -36,7 +38,6 @@ pub(crate) fn read_next_order<R: Wait, K: Start>(
     requires { IsDistrictKey K.tables.scale home }
     ensures next { Finds K.tables transaction.new result (λ next t. next_order t home ≡ next) }
     ensures range { IfOk result (λ next. IsNumber (K.tables.scale.orders + 1) next) }
-    ensures no_stock { SameStock K.tables.scale transaction.old transaction.new }
     ensures reads { ReadsMore 1 transaction.old transaction.new }
 {
     let value = transaction.read(rt, RecordKey::District(home))?;
@@ -60,8 +61,8 @@ fn next_number(value: Option<Payload>, scale: &Scale) -> Option<u32>
     Some(next as u32)
 }
 
-/// The items of the lines of a district's last 20 orders, each as often as it has lines there. Reads the record of each
-/// line that these orders may have, absent ones too. Costs at most 300 loads, and memory for the items.
+/// The items of the lines of a district's last 20 orders, each once and in the order of their numbers. Reads each order
+/// and the lines that its O_OL_CNT says that it has. Costs at most 320 loads, and memory and a sort of the items.
 ///
 /// # Errors
 ///
@@ -78,9 +79,9 @@ pub(crate) fn sold_items<R: Wait, K: Start>(
     ensures sold { Finds K.tables transaction.new result (λ items t. next_order t home ≡ next
         → (i : ℕ) → is_sold t home i ≡ list_any (λ j. j == i) items.items) }
     ensures items { IfOk result (λ items. All (IsItemKey K.tables.scale) items.items) }
+    ensures rising { IfOk result (λ items. IsStrictlyIncreasing items.items) }
     ensures count { IfOk result (λ items. length items.items ≤ RECENT_ORDERS * MAX_ORDER_LINES) }
-    ensures no_stock { SameStock K.tables.scale transaction.old transaction.new }
-    ensures reads { ReadsMore (RECENT_ORDERS * MAX_ORDER_LINES) transaction.old transaction.new }
+    ensures reads { ReadsMore (RECENT_ORDERS * (MAX_ORDER_LINES + 1)) transaction.old transaction.new }
 {
     let first = first_recent(next);
     let mut items = Vec::new(alloc);
@@ -92,7 +93,19 @@ pub(crate) fn sold_items<R: Wait, K: Start>(
         };
         order_items(rt, transaction, &mut items, key)?;
     }
+    keep_each_once(&mut items);
     Ok(items)
+}
+
+/// Sorts numbers, and keeps each once.
+fn keep_each_once(numbers: &mut Vec<u32>)
+    ensures same { (i : ℕ) → list_any (λ j. j == i) numbers.new.items ≡ list_any (λ j. j == i) numbers.old.items }
+    ensures rising { IsStrictlyIncreasing numbers.new.items }
+    ensures items { (s : Sizes) → All (IsItemKey s) numbers.old.items → All (IsItemKey s) numbers.new.items }
+    ensures count { length numbers.new.items ≤ length numbers.old.items }
+{
+    numbers.sort_unstable();
+    numbers.dedup();
 }
 
 /// The number of the first of a district's last 20 orders, where the next one has this number: at least 1.
@@ -102,7 +115,7 @@ fn first_recent(next: u32) -> u32
     next.saturating_sub(RECENT_ORDERS).max(1)
 }
 
-/// Appends the items of an order's lines. Reads the record of each line that it may have, absent ones too.
+/// Appends the items of an order's lines. Reads the order and the lines that its O_OL_CNT says that it has.
 fn order_items<R: Wait, K: Start>(
     rt: &R,
     transaction: &mut Transaction<'_, K>,
@@ -117,11 +130,11 @@ fn order_items<R: Wait, K: Start>(
     ensures items { All (IsItemKey K.tables.scale) items.old.items
         → All (IsItemKey K.tables.scale) items.new.items }
     ensures count { length items.new.items ≤ length items.old.items + MAX_ORDER_LINES }
-    ensures no_stock { SameStock K.tables.scale transaction.old transaction.new }
     ensures refused { IfErr result (IsStepRefusal K.tables transaction.new) }
-    ensures reads { ReadsMore MAX_ORDER_LINES transaction.old transaction.new }
+    ensures reads { ReadsMore (MAX_ORDER_LINES + 1) transaction.old transaction.new }
 {
-    for done in 0..MAX_ORDER_LINES {
+    let count = read_line_count(rt, transaction, order)?;
+    for done in 0..count {
         let key = LineKey {
             warehouse: order.warehouse,
             district: order.district,
@@ -132,6 +145,23 @@ fn order_items<R: Wait, K: Start>(
         push_some(items, item)?;
     }
     Ok(())
+}
+
+/// Reads O_OL_CNT of an order, or gives 0 where there is no such order. Costs a load.
+fn read_line_count<R: Wait, K: Start>(
+    rt: &R,
+    transaction: &mut Transaction<'_, K>,
+    order: OrderKey,
+) -> Result<u32, Refusal>
+    requires { IsOrderKey K.tables.scale order }
+    ensures lines { Finds K.tables transaction.new result (λ count t. line_count t order ≡ count) }
+    ensures range { IfOk result (λ count. count ≤ MAX_ORDER_LINES) }
+    ensures reads { ReadsMore 1 transaction.old transaction.new }
+{
+    match read_columns(rt, transaction, order)? {
+        Some(columns) => Ok(columns.line_count),
+        None => Ok(0),
+    }
 }
 
 /// Appends an item, if there is one.
@@ -155,7 +185,6 @@ fn read_item<R: Wait, K: Start>(
     ensures item { Finds K.tables transaction.new result
         (λ item t. option_map (λ r. r.item) (get t.lines key) ≡ item) }
     ensures range { IfOk result (λ item. ForSome item (λ i. IsItemKey K.tables.scale i)) }
-    ensures no_stock { SameStock K.tables.scale transaction.old transaction.new }
     ensures reads { ReadsMore 1 transaction.old transaction.new }
 {
     let value = transaction.read(rt, RecordKey::OrderLine(key))?;

@@ -4,6 +4,8 @@ pub mod LeftIs
 pub mod MoreReads
 pub mod WrittenRecords
 mod Lookups
+mod Search
+mod Placed
 pub mod Entries
 mod Loaded
 pub mod UnderWay

@@ -1,17 +1,21 @@
 -- What has been read, after the load of one record more.
-use Rattle.std.proofs.Common.{◌≡◌, ◌≢◌, ℕ, ◌+◌, [], Option, Some, None, Result, Ok, Err, IfOk, OnErr, cond, Bor, refl, sym, ap, ◌∙◌, subst, ⊎_elim, slice_index}
+use Rattle.std.proofs.Common.{◌≡◌, ◌≢◌, ℕ, ◌+◌, ◌<◌, ◌≤◌, [], Some, None, Result, Ok, Err, IfOk, OnErr, cond, length, get_or, arith, refl, sym, ap, ◌∙◌, subst, ⊎_elim, slice_index}
 use Rattle.std.proofs.lemmas.Bool.{cases_eq}
 use Rattle.std.proofs.lemmas.List.{get_or-set_other}
-use Rattle.std.specs.Option.{option_copied}
-use Rattle.std.specs.Ordering.{nat_cmp}
+use Rattle.std.specs.Ordering.{nat_cmp, is_eq}
 use Rattle.std.specs.BTreeMap.{insert_entry}
+use Rattle.std.specs.List.Sorted.{IsStrictlySortedBy}
+use Rattle.std.specs.Map.{keys_of}
 use Rattle.money.specs.declared.refusal.Refusal.{Refusal}
+use Rattle.readset.specs.Places.{place}
+use Rattle.readset.proofs.Placed.{stands, goes}
 use Rattle.readset.proofs.Numbers.{same_test, other_test}
 use Rattle.readset.proofs.Lookups.{lookup-insert_entry}
 use Rattle.cells.specs.Versions.{StartsWith, EndsWith}
 use Rattle.cells.specs.Records.{ReaderView, LoadsRecord, words_of, at}
 use Rattle.cells.specs.declared.cells.Version.{Version}
-use Rattle.readset.specs.Reads.{ReadSetView, held, AreRead}
+use Rattle.readset.specs.Reads.{ReadSetView, held, Keeps, AreWithin, AreRead}
+use Rattle.readset.proofs.WrittenRecords.{length-insert_entry}
 
 same_version : (v w : Version) → Some v ≡ Some w → v ≡ w
 same_version v w e = cc
@@ -35,8 +39,8 @@ module _ (first old new : ReaderView) (reads more : ReadSetView) (n : ℕ) (v : 
         (cases_eq m n)
 
     -- a record that isn't read is another
-    unread : (m : ℕ) → held more m ≡ None → (m ≢ n) × (held reads m ≡ None)
-    unread m none = let apart : m ≢ n = λ e. some_none v (sym here ∙ ap (held more) (sym e) ∙ none) in (apart, sym (others m apart) ∙ none)
+    apart_from : (m : ℕ) → held more m ≡ None → (m ≢ n) × (held reads m ≡ None)
+    apart_from m none = let apart : m ≢ n = λ e. some_none v (sym here ∙ ap (held more) (sym e) ∙ none) in (apart, sym (others m apart) ∙ none)
       where
         some_none : (w : Version) → Some w ≡ None → ⊥
         some_none w e = cc
@@ -53,8 +57,8 @@ module _ (first old new : ReaderView) (reads more : ReadSetView) (n : ℕ) (v : 
           (λ m w apart found. subst (λ seen. StartsWith seen (at first.seen m)) (sym (other_seen m apart)) (so_far.grows m w found));
       last = each (λ m w. EndsWith (at new.seen m) (words_of w)) load.last
           (λ m w apart found. subst (λ seen. EndsWith seen (words_of w)) (sym (other_seen m apart)) (so_far.last m w found));
-      other_loads = λ m none. let u = unread m none in other_loads m u.0 ∙ so_far.other_loads m u.1;
-      other_seen = λ m none. let u = unread m none in other_seen m u.0 ∙ so_far.other_seen m u.1;
+      other_loads = λ m none. let u = apart_from m none in other_loads m u.0 ∙ so_far.other_loads m u.1;
+      other_seen = λ m none. let u = apart_from m none in other_seen m u.0 ∙ so_far.other_seen m u.1;
     }
 
 -- the same, of a set into which the version loaded is put
@@ -75,7 +79,50 @@ load_chain first old new reads more n (Ok v) absent load put unread kept so_far 
 load_chain first old new reads more n (Err e) absent load put unread kept so_far =
     subst (λ (p : ReaderView × ReadSetView). AreRead first p.0 p.1) (λ i. (sym unread i, sym kept i)) so_far
 
--- a look-up that found nothing
-pub copied_none : {X : Type 0} (o : Option (Bor X)) → ((x : Bor X) → o ≡ Some x → ⊥) → option_copied o ≡ None
-copied_none None never = refl
-copied_none (Some x) never = absurd (never x refl)
+-- a version that a look-up finds at its place, and a record that has none
+pub read_there : (entries reads items : ReadSetView) (n at : ℕ) (r : Result ℕ ℕ) (e : ℕ × Version) → entries ≡ reads → items ≡ entries
+    → r ≡ place items n → r ≡ Ok at → e ≡ get_or entries at e → held reads n ≡ Some e.1
+read_there entries reads items n at r e view same search found is =
+    ap (λ (reads : ReadSetView). held reads n) (sym view) ∙ (stands n entries at (ap (λ (es : ReadSetView). place es n) (sym same) ∙ sym search ∙ found)).value e
+    ∙ ap (λ (e : ℕ × Version). Some e.1) (sym is)
+
+pub unread : (entries reads items : ReadSetView) (n at : ℕ) (r : Result ℕ ℕ) → entries ≡ reads → items ≡ entries → IsStrictlySortedBy nat_cmp (keys_of entries)
+    → r ≡ place items n → r ≡ Err at → held reads n ≡ None
+unread entries reads items n at r view same ordered search gap =
+    ap (λ (reads : ReadSetView). held reads n) (sym view)
+    ∙ (goes n entries at ordered (ap (λ (es : ReadSetView). place es n) (sym same) ∙ sym search ∙ gap)).absent
+
+-- what is held after a load of a record that wasn't, or after one for which there was no memory
+pub record IsLoaded (reads more : ReadSetView) (n : ℕ) (result : Result Version Refusal) : Type 0 where
+  pub holds : IfOk result (λ v. held more n ≡ Some v)
+  pub others : (m : ℕ) → m ≢ n → held more m ≡ held reads m
+  pub limit : length more ≤ length reads + 1
+  pub keeps : Keeps reads more
+  pub within : (cells : ℕ) → n < cells → AreWithin cells reads → AreWithin cells more
+
+pub loaded : (reads more : ReadSetView) (n : ℕ) (result : Result Version Refusal) → held reads n ≡ None
+    → IfOk result (λ v. more ≡ insert_entry nat_cmp reads n v) → OnErr result (more ≡ reads) → IsLoaded reads more n result
+loaded reads more n (Ok v) absent put kept =
+    let at : (m : ℕ) → held more m ≡ cond (is_eq (nat_cmp m n)) (Some v) (held reads m) =
+    λ m. ap (λ (r : ReadSetView). held r m) put ∙ lookup-insert_entry m n v reads in
+    let others : (m : ℕ) → m ≢ n → held more m ≡ held reads m = λ m apart. at m ∙ ap (λ b. cond b (Some v) (held reads m)) (other_test m n apart) in
+    record {
+      holds = at n ∙ ap (λ b. cond b (Some v) (held reads n)) (same_test n n refl);
+      others = others;
+      limit = let one = length-insert_entry n v reads in let same : length more ≡ length (insert_entry nat_cmp reads n v) = ap length put in
+          omega (arith, one, same);
+      keeps = λ m w found. ⊎_elim
+          (λ (e : m ≡ n). absurd (none_some w (sym absent ∙ ap (held reads) (sym e) ∙ found)))
+          (λ (apart : m ≢ n). others m apart ∙ found)
+          (cases_eq m n);
+      within = λ cells inside all m w found. ⊎_elim
+          (λ (e : m ≡ n). subst (λ k. k < cells) (sym e) inside)
+          (λ (apart : m ≢ n). all m w (sym (others m apart) ∙ found))
+          (cases_eq m n);
+    }
+  where
+    none_some : (w : Version) → None ≡ Some w → ⊥
+    none_some w e = cc
+loaded reads more n (Err refusal) absent put kept =
+    subst (λ (r : ReadSetView). IsLoaded reads r n (Err refusal)) (sym kept)
+    (record { holds = tt; others = λ m apart. refl; limit = omega arith; keeps = λ m w found. found; within = λ cells inside all. all })

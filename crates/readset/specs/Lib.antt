@@ -1,3 +1,4 @@
+pub mod Places
 pub mod Reads
 pub mod Writes
 pub mod Commit

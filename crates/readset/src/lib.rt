@@ -4,6 +4,7 @@
 
 pub mod limits;
 mod list;
+mod places;
 mod reads;
 mod transaction;
 mod work;

@@ -1,37 +1,43 @@
 //! What a transaction has read.
-ghost use Rattle.std.specs.Prelude.{◌≡◌, ◌≢◌, ℕ, ◌+◌, ◌<◌, ◌≤◌, Some, None, Ok, IfOk, IfErr, OnOk, OnErr, [], length};
-ghost use Rattle.std.specs.Prelude.{All};
+ghost use Rattle.std.specs.Prelude.{◌≡◌, ◌≢◌, ℕ, ◌+◌, ◌<◌, ◌≤◌, Some, None, Ok, Err, IfOk, IfErr, OnErr, [], length};
+ghost use Rattle.std.specs.Prelude.{All, vec_len};
 ghost use Rattle.std.specs.Option.{option_copied};
 ghost use Rattle.std.specs.Ordering.{nat_cmp};
 ghost use Rattle.std.specs.Map.{keys_of};
-ghost use Rattle.std.specs.BTreeMap.{get, insert_entry, btree_map_len, Updates};
+ghost use Rattle.std.specs.BTreeMap.{insert_entry};
 ghost use Rattle.money.specs.declared.refusal.Refusal.TheVariants.{OutOfMemory};
 ghost use Rattle.std.specs.List.Sorted.{IsStrictlySortedBy};
+ghost use Rattle.readset.specs.Places.{place};
 ghost use Rattle.readset.specs.Reads.{held, value_of, Keeps, AreWithin, AreRead};
 ghost use Rattle.cells.specs.Records.{ReaderView, LoadsRecord, HasGrown, words_of};
 ghost use Rattle.cells.specs.declared.cells.Version.{Version};
 
+use crate::places::{place_of, value_at};
 use cells::{Cells, Reader, Version};
 use money::{Payload, Refusal};
 use std::alloc::Global;
-use std::collections::BTreeMap;
-use std::collections::btree_map::Iter;
 use std::marker::Model;
 use std::sync::Wait;
 
 /// The versions that a transaction has read, one a record (Silo, section 4.4: the read set). Contracts see
-/// them by record number. A map, so that a transaction that reads some 400 records spends a few steps on each look-up.
+/// them by record number. In the order of the numbers, so that a transaction that reads some 400 records spends a few
+/// steps on each look-up.
 #[derive(Drop)]
 pub struct ReadSet {
-    versions: BTreeMap<u32, Version>,
+    versions: Vec<(u32, Version)>,
 }
 
 impl Model for ReadSet {
+    ghost use Rattle.std.specs.Ordering.{nat_cmp};
+    ghost use Rattle.std.specs.Map.{keys_of};
+    ghost use Rattle.std.specs.List.Sorted.{IsStrictlySortedBy};
     ghost use Rattle.readset.specs.Reads.{ReadSetView};
 
     ghost Value = { ReadSetView };
 
-    ghost view = { λ r. r.versions.entries };
+    ghost view = { λ r. r.versions.items };
+
+    ghost invariant = { λ r. IsStrictlySortedBy nat_cmp (keys_of r.versions.items) };
 }
 
 impl ReadSet {
@@ -40,12 +46,13 @@ impl ReadSet {
         ensures { result ≡ [] }
     {
         ReadSet {
-            versions: BTreeMap::new(alloc),
+            versions: Vec::new(alloc),
         }
     }
 
     /// The version of a record: the one held, or else what a load of its cell gives, which is held from then
-    /// on. Costs the logarithm of the number of records held.
+    /// on. Costs constant time, amortized, for a record above all others held; else the logarithm of how many are held,
+    /// and for a load a move of those above.
     ///
     /// # Errors
     ///
@@ -78,54 +85,58 @@ impl ReadSet {
             → HasGrown first reader.new }
         ensures only_memory { IfErr result (λ refusal. refusal ≡ OutOfMemory) }
     {
-        if let Some(version) = self.versions.get(&number) {
-            return Ok(*version);
+        match place_of(self.versions.as_slice(), number) {
+            Ok(at) => Ok(self.versions[at].1),
+            Err(at) => load(rt, cells, reader, &mut self.versions, at, number),
         }
-        load(rt, cells, reader, &mut self.versions, number)
     }
 
     /// The version held of a record. Costs the logarithm of the number of records held.
     pub fn held(&self, number: u32) -> Option<&Version>
         ensures { option_copied result ≡ held self.now number }
     {
-        self.versions.get(&number)
+        value_at(self.versions.as_slice(), number)
     }
 
     /// The versions held, by record number and in the order of the numbers.
-    pub fn versions(&self) -> Iter<'_, u32, Version>
-        ensures versions { result ≡ self.now }
+    pub fn versions(&self) -> &[(u32, Version)]
+        ensures versions { result.now ≡ self.now }
         ensures found { All (λ e. held self.now e.0 ≡ Some e.1) self.now }
         ensures ordered { IsStrictlySortedBy nat_cmp (keys_of self.now) }
     {
-        self.versions.iter()
+        self.versions.as_slice()
     }
 }
 
-/// Loads a record's version into a place that is made for it first: what was loaded is held.
+/// Loads a record's version into its place, for which there is room first: what was loaded is held.
 fn load<R: Wait>(
     rt: &R,
     cells: &Cells,
     reader: &mut Reader,
-    versions: &mut BTreeMap<u32, Version>,
+    versions: &mut Vec<(u32, Version)>,
+    at: usize,
     number: u32,
 ) -> Result<Version, Refusal>
     requires own { reader.old.cells ≡ cells.now }
     requires is_record { number < length cells.now }
-    requires absent { get nat_cmp versions.old number ≡ None }
+    requires ordered { IsStrictlySortedBy nat_cmp (keys_of versions.old.items) }
+    requires at { place versions.old.items number ≡ Err at }
+    requires bound { at ≤ vec_len versions.old }
     ensures read { IfOk result (λ v. LoadsRecord reader.old reader.new number (words_of v)
         × (v.record ≡ number)) }
-    ensures entries { IfOk result (λ v. versions.new.entries
-        ≡ insert_entry nat_cmp versions.old.entries number v) }
-    ensures updates { IfOk result (λ v. Updates nat_cmp versions.old versions.new number (Some v)) }
-    ensures count { OnOk result (btree_map_len versions.new ≡ btree_map_len versions.old + 1) }
+    ensures entries { IfOk result (λ v. versions.new.items
+        ≡ insert_entry nat_cmp versions.old.items number v) }
+    ensures ordered { IsStrictlySortedBy nat_cmp (keys_of versions.new.items) }
     ensures grown { HasGrown reader.old reader.new }
     ensures unread { OnErr result (reader.new ≡ reader.old) }
-    ensures kept { OnErr result (versions.new.entries ≡ versions.old.entries) }
+    ensures kept { OnErr result (versions.new.items ≡ versions.old.items) }
     ensures only_memory { IfErr result (λ refusal. refusal ≡ OutOfMemory) }
 {
-    let entry = versions.entry(number)?;
+    versions.reserve(1)?;
     let version = &cells.read(rt, reader, number);
-    entry.or_insert(*version);
+    let Ok(()) = versions.insert(at, (number, *version)) else {
+        unreachable!()
+    };
     Ok(*version)
 }
 

@@ -122,8 +122,8 @@ impl<'a, K: Start> Transaction<'a, K> {
             .is_some()
     }
 
-    /// The words of a record, or nothing where it is absent: as it was read before, or else by a load. Costs the
-    /// logarithm of the number of records read.
+    /// The words of a record, or nothing where it is absent: as it was read before, or else by a load. Costs what
+    /// `ReadSet::get` does.
     ///
     /// # Errors
     ///
@@ -155,8 +155,8 @@ impl<'a, K: Start> Transaction<'a, K> {
         )
     }
 
-    /// Says what a record that was read is to hold, in the place of what was said of it before. Costs the logarithm of
-    /// the number of records written.
+    /// Says what a record that was read is to hold, in the place of what was said of it before. Costs what
+    /// `WriteSet::put` does.
     ///
     /// # Errors
     ///

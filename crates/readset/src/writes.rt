@@ -6,29 +6,34 @@ ghost use Rattle.std.specs.List.Sorted.{IsStrictlySortedBy};
 ghost use Rattle.readset.specs.Writes.{no_writes, value_for, puts, left_at};
 
 use crate::list::WriteList;
+use crate::places::{put, value_at};
 use crate::reads::{ReadSet, value_of};
 use money::{Payload, Refusal};
 use std::alloc::Global;
-use std::collections::BTreeMap;
-use std::collections::btree_map::Iter;
 use std::marker::Model;
 use tables::History;
 
 /// What a transaction is to write: for each record written the words that it is to hold, or nothing
 /// where it is to be absent, and at most one HISTORY row (Silo, section 4.4: the write set). Contracts see it
-/// as `WriteSetView`. A map, so that a transaction that writes some 200 records spends a few steps on each look-up.
+/// as `WriteSetView`. In the order of the record numbers, so that a transaction that writes some 200 records spends a
+/// few steps on each look-up.
 #[derive(Drop)]
 pub struct WriteSet {
-    values: BTreeMap<u32, Option<Payload>>,
+    values: Vec<(u32, Option<Payload>)>,
     history_row: Option<History>,
 }
 
 impl Model for WriteSet {
+    ghost use Rattle.std.specs.Ordering.{nat_cmp};
+    ghost use Rattle.std.specs.Map.{keys_of};
+    ghost use Rattle.std.specs.List.Sorted.{IsStrictlySortedBy};
     ghost use Rattle.readset.specs.Writes.{WriteSetView};
 
     ghost Value = { WriteSetView };
 
-    ghost view = { λ w. record { values = w.values.entries; history_row = w.history_row } };
+    ghost view = { λ w. record { values = w.values.items; history_row = w.history_row } };
+
+    ghost invariant = { λ w. IsStrictlySortedBy nat_cmp (keys_of w.values.items) };
 }
 
 impl WriteSet {
@@ -39,13 +44,13 @@ impl WriteSet {
         ensures { result ≡ no_writes }
     {
         WriteSet {
-            values: BTreeMap::new(alloc),
+            values: Vec::new(alloc),
             history_row: None,
         }
     }
 
-    /// Says what a record is to hold, in the place of what was said of it before. Costs the logarithm of the
-    /// number of records written.
+    /// Says what a record is to hold, in the place of what was said of it before. Costs constant time, amortized, for a
+    /// record above all others written; else the logarithm of how many are written, and a move of those above.
     ///
     /// # Errors
     ///
@@ -55,10 +60,7 @@ impl WriteSet {
         ensures kept { OnErr result (self.new ≡ self.old) }
         ensures only_memory { IfErr result (λ refusal. refusal ≡ OutOfMemory) }
     {
-        match self.values.insert(number, value) {
-            Ok(_) => Ok(()),
-            Err(_) => Err(Refusal::OutOfMemory),
-        }
+        put(&mut self.values, number, value)
     }
 
     /// Says which row HISTORY is to get, in the place of the row said before.
@@ -72,7 +74,7 @@ impl WriteSet {
     pub fn value(&self, number: u32) -> Option<Option<Payload>>
         ensures { result ≡ value_for self.now number }
     {
-        self.values.get(&number).copied()
+        value_at(self.values.as_slice(), number).copied()
     }
 
     /// What the transaction leaves of a record: what it is to write there, or else what it has read there. Nothing
@@ -80,19 +82,19 @@ impl WriteSet {
     pub fn left(&self, reads: &ReadSet, number: u32) -> Option<Payload>
         ensures { result ≡ left_at self.now reads.now number }
     {
-        match self.values.get(&number) {
+        match value_at(self.values.as_slice(), number) {
             Some(value) => *value,
             None => value_of(reads.held(number)?),
         }
     }
 
     /// What each record written is to hold, by record number and in the order of the numbers.
-    pub fn values(&self) -> Iter<'_, u32, Option<Payload>>
-        ensures values { result ≡ self.now.values }
+    pub fn values(&self) -> &[(u32, Option<Payload>)]
+        ensures values { result.now ≡ self.now.values }
         ensures found { All (λ e. value_for self.now e.0 ≡ Some e.1) self.now.values }
         ensures ordered { IsStrictlySortedBy nat_cmp (keys_of self.now.values) }
     {
-        self.values.iter()
+        self.values.as_slice()
     }
 
     /// The row that HISTORY is to get, if there is one.
@@ -102,16 +104,15 @@ impl WriteSet {
         self.history_row
     }
 
-    /// The same writes as a list, which takes less memory. Costs a pass over them.
-    ///
-    /// # Errors
-    ///
-    /// `OutOfMemory`, and no other.
-    pub fn list(&self, alloc: Global) -> Result<WriteList, Refusal>
-        ensures same { IfOk result (λ list. list ≡ self.now) }
-        ensures only_memory { IfErr result (λ refusal. refusal ≡ OutOfMemory) }
+    /// The same writes as a list. Takes no memory, and gives back what they don't need.
+    pub fn into_list(self) -> WriteList
+        ensures { result ≡ self }
     {
-        let values = self.values.iter().map(|(number, value)| (*number, *value));
-        Ok(WriteList::new(values.collect(alloc)?, self.history_row))
+        let WriteSet {
+            mut values,
+            history_row,
+        } = self;
+        values.shrink_to_fit();
+        WriteList::new(values, history_row)
     }
 }

@@ -13,7 +13,11 @@ fn push(bytes: &mut Vec<u8>, size: usize, numbers: &[u64]) -> Result<(), AllocEr
 }
 
 /// Appends the header of a logger's file.
-pub fn push_header(bytes: &mut Vec<u8>, logger: u64, loggers: u64) -> Result<(), AllocError> {
+pub(crate) fn push_header(
+    bytes: &mut Vec<u8>,
+    logger: u64,
+    loggers: u64,
+) -> Result<(), AllocError> {
     bytes.extend_from_slice(b"SILOTPCC")?;
     push(bytes, 4, &[1])?;
     push(bytes, 2, &[logger, loggers])?;
@@ -22,7 +26,7 @@ pub fn push_header(bytes: &mut Vec<u8>, logger: u64, loggers: u64) -> Result<(),
 }
 
 /// Appends an open gate, and a body of this mark whose entries have so many bytes, up to those.
-pub fn push_body(bytes: &mut Vec<u8>, mark: u64, size: u64) -> Result<(), AllocError> {
+pub(crate) fn push_body(bytes: &mut Vec<u8>, mark: u64, size: u64) -> Result<(), AllocError> {
     push(bytes, 1, &[1])?;
     push(bytes, 8, &[size.saturating_add(9), mark])
 }
@@ -31,7 +35,7 @@ pub fn push_body(bytes: &mut Vec<u8>, mark: u64, size: u64) -> Result<(), AllocE
 pub const ENTRY: u64 = 156;
 
 /// Appends the entry of a commit: customer `number` of district 1 pays 1.00 there, after `number - 1` such Payments.
-pub fn push_entry(
+pub(crate) fn push_entry(
     bytes: &mut Vec<u8>,
     number: u32,
     epoch: u32,
@@ -41,7 +45,7 @@ pub fn push_entry(
 }
 
 /// The same of any customer.
-pub fn push_entry_of(
+pub(crate) fn push_entry_of(
     bytes: &mut Vec<u8>,
     customer: u32,
     number: u32,

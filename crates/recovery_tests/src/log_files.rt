@@ -8,7 +8,7 @@ use std::alloc::{AllocError, Global};
 use tables::Scale;
 
 /// The plain population of the files' database.
-pub fn small(alloc: Global) -> Result<Population, Refusal> {
+pub(crate) fn small(alloc: Global) -> Result<Population, Refusal> {
     Population::plain(alloc, Scale::new(1, 2, 10, 20, 30, 1_000)?)
 }
 
@@ -44,7 +44,7 @@ fn disk_of(alloc: Global, bytes: &[u8]) -> Result<Memory, Refusal> {
 }
 
 /// The disks of both files, of which the first has so many entries.
-pub fn disks(alloc: Global, entries: u64) -> Result<Vec<Memory>, Refusal> {
+pub(crate) fn disks(alloc: Global, entries: u64) -> Result<Vec<Memory>, Refusal> {
     let mut disks = Vec::new(alloc);
     disks.push(disk_of(alloc, &first(alloc, entries)?)?)?;
     disks.push(disk_of(alloc, &second(alloc)?)?)?;
@@ -52,14 +52,14 @@ pub fn disks(alloc: Global, entries: u64) -> Result<Vec<Memory>, Refusal> {
 }
 
 /// A disk with these bytes, alone.
-pub fn one_disk(alloc: Global, bytes: &[u8]) -> Result<Vec<Memory>, Refusal> {
+pub(crate) fn one_disk(alloc: Global, bytes: &[u8]) -> Result<Vec<Memory>, Refusal> {
     let mut disks = Vec::new(alloc);
     disks.push(disk_of(alloc, bytes)?)?;
     Ok(disks)
 }
 
 /// The disk of the first file, alone.
-pub fn first_disk(alloc: Global) -> Result<Vec<Memory>, Refusal> {
+pub(crate) fn first_disk(alloc: Global) -> Result<Vec<Memory>, Refusal> {
     let bytes = first(alloc, 1)?;
     one_disk(alloc, &bytes)
 }

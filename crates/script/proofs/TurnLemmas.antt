@@ -1,6 +1,6 @@
 -- What the calls of a turn make.
-use Rattle.std.proofs.Common.{◌≡◌, ◌≢◌, ℕ, ◌<◌, ◌≤◌, Bool, true, false, leb, cond, Option, Some, None, Result, Ok, Err}
-use Rattle.std.proofs.Common.{IfOk, List, [], ◌∷◌, ◌++◌, ◌+◌, length, ◌⊎◌, inl, inr, refl, sym, ap}
+use Rattle.std.proofs.Common.{◌≡◌, ◌≢◌, ℕ, ◌<◌, ◌≤◌, Bool, true, false, leb, cond, Option, Some, None}
+use Rattle.std.proofs.Common.{List, [], ◌∷◌, ◌++◌, ◌+◌, length, ◌⊎◌, inl, inr, refl, sym, ap}
 use Rattle.std.proofs.Common.{◌∙◌, subst, arith}
 use Rattle.std.proofs.lemmas.Bool.Decides.{nat_tests}
 use Rattle.money.specs.declared.refusal.Refusal.{Refusal}
@@ -13,7 +13,6 @@ use Rattle.script_text.specs.declared.line_buffer.TheConstants.{MAX_LINE}
 use Rattle.script_text.specs.Lines.{buffered}
 use Rattle.script_text.specs.Requests.{IsRequestAt, IsInRange, IsRefusedLine, request_text}
 use Rattle.script_text.specs.declared.request.Request.{Request}
-use Rattle.script_text.specs.declared.answer.Answer.{Answer}
 use Rattle.script_text.specs.declared.answer.Answer.TheVariants as answer
 use Rattle.script_text.proofs.OneText.{in_reach}
 use Rattle.book.specs.Done.{Done}
@@ -23,18 +22,13 @@ use Rattle.book.specs.Next.{IsNextCommit, IsRefusedAt}
 use Rattle.session.specs.Session.{SessionView}
 use Rattle.script.specs.Answered.{state_of}
 use Rattle.script.specs.Turns.{State, Turn, Commit, commits_of, refused, IsInputTurn, declined, done, IsAnswered, IsRequestTurn}
-use Rattle.script.specs.Turns.{beyond, within, IsLineTurn, unread, read}
-
--- what holds of each answer by its equation holds of the answer
-pub answered_turn : (P Q : Answer → Type 0) (result : Result Answer Refusal) → IfOk result P → ((told : Answer) → P told → Q told) → IfOk result Q
-answered_turn P Q (Ok told) is leads = leads told is
-answered_turn P Q (Err refusal) is leads = tt
+use Rattle.script.specs.Turns.{beyond, within, IsLineTurn, long, unread, read}
 
 -- what a commit leaves
-pub committed_turn : (t0 : Database) (old new : SessionView) (n : ℕ) (x : Input) (d : Done) (told : Answer) → told ≡ answer.Reply d.reply
+pub committed_turn : (t0 : Database) (old new : SessionView) (n : ℕ) (x : Input) (d : Done)
     → length old.dones ≡ length old.history → new.dones ≡ old.dones ++ d ∷ []
-    → IsNextCommit 0 t0 old.history new.history x d → IsInputTurn (state_of t0 old) n x (record { answer = told; state = state_of t0 new })
-committed_turn t0 old new n x d told says count dones next =
+    → IsNextCommit 0 t0 old.history new.history x d → IsInputTurn (state_of t0 old) n x (record { answer = answer.Reply d.reply; state = state_of t0 new })
+committed_turn t0 old new n x d count dones next =
     let scale : (replay t0 old.history).scale ≡ t0.scale = replay-scale t0 old.history in
     let number : d.number ≡ length old.dones + 1 =
     omega (arith, next.number, ap length next.entry.1 ∙ length_push old.history next.entry.0, count) in
@@ -46,24 +40,24 @@ committed_turn t0 old new n x d told says count dones next =
     (subst (λ (s : Sizes). length (commits_of old.dones) < s.commits) (sym scale)
     (subst (λ m. m < t0.scale.commits) (sym (length_is ∙ count)) (omega (arith, next.below))))
     next.commits
-    (λ i. record { answer = says i; state = record { tables = replay t0 new.history; commits = one i } })
+    (λ i. record { answer = answer.Reply d.reply; state = record { tables = replay t0 new.history; commits = one i } })
 
 -- an input that the committed tables refuse
-pub declined_turn : (t0 : Database) (old new : SessionView) (n : ℕ) (x : Input) (refusal : Refusal) (told : Answer)
-    → told ≡ answer.Refused refusal n → new ≡ old → length old.dones ≡ length old.history
-    → IsRefusedAt (replay t0 old.history) (length old.history) x refusal → IsInputTurn (state_of t0 old) n x (record { answer = told; state = state_of t0 new })
-declined_turn t0 old new n x refusal told says same count refuses =
+pub declined_turn : (t0 : Database) (old new : SessionView) (n : ℕ) (x : Input) (refusal : Refusal)
+    → new ≡ old → length old.dones ≡ length old.history → IsRefusedAt (replay t0 old.history) (length old.history) x refusal
+    → IsInputTurn (state_of t0 old) n x (record { answer = answer.Refused refusal n; state = state_of t0 new })
+declined_turn t0 old new n x refusal same count refuses =
     declined refusal
     (subst (λ m. IsRefusedAt (replay t0 old.history) m x refusal) (sym (length-map old.dones _ ∙ count)) refuses)
-    (λ i. record { answer = says i; state = state_of t0 (same i) })
+    (λ i. record { answer = answer.Refused refusal n; state = state_of t0 (same i) })
 
 -- a request outside its ranges
-pub beyond_turn : (t0 : Database) (session : SessionView) (n : ℕ) (asked : Request) (refusal : Refusal) (told : Answer)
-    → told ≡ answer.Refused refusal n → (refusal ≡ BadInput) × ¬ IsInRange t0.scale asked
-    → IsRequestTurn (state_of t0 session) n asked (record { answer = told; state = state_of t0 session })
-beyond_turn t0 session n asked refusal told says is =
+pub beyond_turn : (t0 : Database) (session : SessionView) (n : ℕ) (asked : Request) (refusal : Refusal)
+    → (refusal ≡ BadInput) × ¬ IsInRange t0.scale asked
+    → IsRequestTurn (state_of t0 session) n asked (record { answer = answer.Refused refusal n; state = state_of t0 session })
+beyond_turn t0 session n asked refusal is =
     beyond (subst (λ (s : Sizes). ¬ IsInRange s asked) (sym (replay-scale t0 session.history)) is.1)
-    (λ i. record { answer = (says ∙ ap (λ r. answer.Refused r n) is.0) i; state = state_of t0 session })
+    (λ i. record { answer = answer.Refused (is.0 i) n; state = state_of t0 session })
 
 -- a request within them is answered
 pub within_turn : (t0 : Database) (session : SessionView) (n : ℕ) (asked same : Request) (turn : Turn) → (same ≡ asked) × IsInRange t0.scale asked
@@ -93,15 +87,16 @@ held_none bytes = go (leb (length bytes) MAX_LINE) refl
     go true e h = absurd cc
     go false e h = grind (arith, nat_tests)
 
+-- a line that is too long
+pub long_turn : (s : State) (n : ℕ) (bytes : List ℕ) → None ≡ buffered bytes → IsLineTurn s n bytes (refused s BadLine n)
+long_turn s n bytes is = long (held_none bytes is) refl
+
 -- a line whose request is answered
-pub read_turn : (s : State) (n : ℕ) (text : List ℕ) (request : Request) (result : Result Answer Refusal) (last : State)
-    → IsRequestAt n request → text ≡ request_text request
-    → IfOk result (λ told. IsRequestTurn s n request (record { answer = told; state = last }))
-    → IfOk result (λ told. (bytes : List ℕ) → Some text ≡ buffered bytes → IsLineTurn s n bytes (record { answer = told; state = last }))
-read_turn s n text request (Ok told) last at is turn = λ bytes h.
+pub read_turn : (s : State) (n : ℕ) (text : List ℕ) (request : Request) (turn : Turn) → IsRequestAt n request → text ≡ request_text request
+    → IsRequestTurn s n request turn → (bytes : List ℕ) → Some text ≡ buffered bytes → IsLineTurn s n bytes turn
+read_turn s n text request turn at is answered bytes h =
     let fits = held_some bytes text h in
-    read request fits.0 at (fits.1 ∙ is) turn
-read_turn s n text request (Err refusal) last at is turn = turn
+    read request fits.0 at (fits.1 ∙ is) answered
 
 -- a line that is refused: one of an amount beyond the limit asks for what isn't in range
 pub unread_turn : (s : State) (n : ℕ) (text : List ℕ) (refusal : Refusal) → IsRefusedLine n text refusal

@@ -1,8 +1,9 @@
 -- How far a desk has come in a script: for a script's private steps. What it promises is in Written.antt.
-use Rattle.std.specs.Prelude.{◌≡◌, ℕ, Option, List, ◌++◌, length, string_bytes}
+use Rattle.std.specs.Prelude.{◌≡◌, ℕ, Option, List, ◌++◌, length, codes, string_bytes}
 use Rattle.book.specs.History.{replay}
 use Rattle.tables.specs.Database.{Database}
 use Rattle.script_text.specs.Lines.{IsCut, buffered, text_lines}
+use Rattle.script_text.specs.Output.{answer_text}
 use Rattle.script_text.specs.declared.answer.Answer.{Answer}
 use Rattle.script.specs.declared.running.Desk.{Desk}
 use Rattle.session.specs.Session.{SessionView}
@@ -12,6 +13,10 @@ use Rattle.script.specs.Written.{start, answers_text, HasTooManyLines}
 -- the state that a session makes of the tables that the run began with
 abbrev pub state_of : Database → SessionView → State
 state_of t0 session = record { tables = replay t0 session.history; commits = commits_of session.dones }
+
+-- the bytes from before, and then the answer with a line feed
+abbrev pub IsPrinted : List ℕ → Answer → List ℕ → Type 0
+IsPrinted before answer after = after ≡ before ++ (answer_text answer ++ codes "\n")
 
 -- what a desk has: what has committed, the line that is coming in, how many lines were answered, and the answers that
 -- aren't written yet

@@ -258,9 +258,9 @@ impl<'e, K: Run> Desk<'e, K> {
         }
         self.answered += 1;
         let (alloc, line) = (self.alloc, self.line.line());
-        let answer = answer_line(rt, alloc, &mut self.session, line, self.answered)?;
+        let (session, output) = (&mut self.session, &mut self.output);
+        answer_line(rt, alloc, session, line, self.answered, output)?;
         self.line.clear();
-        answer.print(&mut self.output)?;
         Ok(())
     }
 

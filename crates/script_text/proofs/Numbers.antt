@@ -1,14 +1,17 @@
--- What a word that is a number reads as.
-use Rattle.std.proofs.Common.{◌≡◌, ◌≢◌, ℕ, ◌<◌, ◌^◌, List, length, get_or, Some, None, inl, inr, Result, Ok, Err, MatchOption, IsUtf8, sym, ap, ◌∙◌, subst}
-use Rattle.std.proofs.Common.{arith, lit<}
-use Rattle.std.specs.Result.{result_ok, MatchResult}
-use denote.Ref.{Bor}
+-- The digits of a word that is a number.
+use Rattle.std.proofs.Common.{◌≡◌, ℕ, ◌+◌, ◌-◌, ◌*◌, ◌<◌, ◌≤◌, ◌^◌, List, length, get_or, take, sym, ap, ◌∙◌}
+use Rattle.std.proofs.Common.{arith, ⊎_elim}
+use Rattle.std.specs.Char.{digit_value}
 use Rattle.std.specs.Fmt.{decimal}
-use Rattle.std.specs.Str.Parse.{AllDigits, digits_value, ParsesUnsigned}
+use Rattle.std.specs.Int.{IsInRange}
+use Rattle.std.specs.Str.Parse.{AllDigits, digits_value}
+use Rattle.std.proofs.Math.Nat.{pow-le-pow_right}
 use Rattle.std.proofs.lemmas.Bool.{cases_lt}
-use Rattle.std.proofs.lemmas.Str.Parse.{IsNumeralModel, numerals_by_value, tells_digits, parse_plain, digit_at}
-use Rattle.std.proofs.lemmas.Fmt.{decimal-digits_value, parse-decimal, first_decimal, decimal_digit, decimal_nonempty, IsAscii-decimal, digits_decimal}
-use Rattle.std.proofs.lemmas.Str.{IsUtf8-from_ascii}
+use Rattle.std.proofs.lemmas.List.{length-take}
+use Rattle.std.proofs.lemmas.Int.Digits.{digits_value-lt, digits_value_more, digits_more}
+use Rattle.std.proofs.lemmas.Str.{digit_value_digit}
+use Rattle.std.proofs.lemmas.Str.Parse.{IsNumeralModel, numerals_by_value, tells_digits, digit_at, digits_value_short}
+use Rattle.std.proofs.lemmas.Fmt.{decimal-digits_value, first_decimal, decimal_digit, decimal_nonempty, digits_decimal, length-decimal-le}
 
 -- std's own words for digits and their number
 pub own : IsNumeralModel (AllDigits 10) (digits_value 10)
@@ -20,48 +23,44 @@ first_of_decimal n small =
     let wide : n < 2 ^ 64 = omega arith in
     omega (arith, digit_at (decimal n) 0 (digits_decimal own n wide) (decimal_nonempty n wide))
 
--- how a number's text begins
-pub start_of_decimal : (n : ℕ) → n < 2 ^ 32 → (0 < length (decimal n)) × (get_or (decimal n) 0 0 ≢ 43) × (get_or (decimal n) 0 0 ≡ 48 → length (decimal n) ≡ 1)
-start_of_decimal n small =
-    let wide : n < 2 ^ 64 = omega arith in
-    let some : 0 < length (decimal n) = decimal_nonempty n wide in
-    let first = digit_at (decimal n) 0 (digits_decimal own n wide) some in (
-      some,
-      omega (arith, first),
-      λ zero. elim (cases_lt 0 n) [
-        | inl above ↦ absurd (omega (arith, first_decimal n above wide))
-        | inr none ↦ let nought : n ≡ 0 =
-            omega arith in ap (λ k. length (decimal k)) nought ∙ ap length (decimal_digit 0 (lit< tt))
-      ],
+-- the digits of a number below 10^10: one at least, ten at most, and no zero in front of others
+pub decimal_shape : (ds : List ℕ) (n : ℕ) → n < 10000000000 → ds ≡ decimal n
+    → (0 < length ds) × (length ds ≤ 10) × (get_or ds 0 0 ≡ 48 → length ds ≡ 1)
+decimal_shape ds n small e =
+    let fits : n < 2 ^ 64 = omega arith in
+    let below : n < 10 ^ 10 = omega arith in (
+      rw e (decimal_nonempty n fits),
+      rw e (length-decimal-le 10 n (omega arith) below fits),
+      λ zero_first. ⊎_elim
+          (λ none. let none_is : n ≡ 0 = omega arith in rw (e, none_is, decimal_digit 0 (omega arith)))
+          (λ some. absurd (omega (arith, first_decimal n some fits, ap (λ bs. get_or bs 0 0) e)))
+          (cases_lt n 1),
     )
 
--- a word that does not begin as a number does is none
-pub no_number : (word : List ℕ) → ((0 < length word) × (get_or word 0 0 ≢ 43) × (get_or word 0 0 ≡ 48 → length word ≡ 1) → Prim.⊥) → (n : ℕ) → n < 2 ^ 32
-    → word ≢ decimal n
-no_number word starts n small e =
-    starts (subst (λ l. (0 < length l) × (get_or l 0 0 ≢ 43) × (get_or l 0 0 ≡ 48 → length l ≡ 1)) (sym e) (start_of_decimal n small))
+-- and each is a digit
+pub decimal_digit_at : (ds : List ℕ) (n i : ℕ) → n < 10000000000 → ds ≡ decimal n → i < length ds → IsInRange 48 57 (get_or ds i 0)
+decimal_digit_at ds n i small e within =
+    let fits : n < 2 ^ 64 = omega arith in
+    digit_at ds i (rw e (digits_decimal own n fits)) within
 
--- a number's text is text
-pub utf8_number : (word : List ℕ) (n : ℕ) → n < 2 ^ 32 → word ≡ decimal n → IsUtf8 word
-utf8_number word n small e = subst IsUtf8 (sym e) (IsUtf8-from_ascii _ (IsAscii-decimal n (omega arith)))
+-- the first i digits stand for less than 10^k, where i is at most k
+pub prefix_below : (ds : List ℕ) (i k : ℕ) → i ≤ k → AllDigits 10 (take i ds) → digits_value 10 (take i ds) < 10 ^ k
+prefix_below ds i k short digits =
+    let lt = digits_value-lt 10 (take i ds) digits in
+    let count : length (take i ds) ≤ k = omega (arith, length-take i ds) in
+    let bound : 10 ^ length (take i ds) ≤ 10 ^ k = pow-le-pow_right (omega arith) count in
+    omega arith
 
--- what `parse` says of a word that begins as a number does
-pub parsed : {E : Type 0} (word : List ℕ) (r : Result ℕ E) → ParsesUnsigned 32 10 word r → 0 < length word → get_or word 0 0 ≢ 43
-    → (get_or word 0 0 ≡ 48 → length word ≡ 1) → MatchOption (result_ok r) ((n : ℕ) → n < 2 ^ 32 → word ≢ decimal n) (λ n. word ≡ decimal n)
-parsed {E} word (Ok n) h some sign zero =
-    let plain = parse_plain own {E = E} 32 word (Ok n) h sign in
-    sym (ap decimal plain.1 ∙ decimal-digits_value own word plain.0.0 some zero (omega (arith, plain.0.2)))
-parsed {E} word (Err e) h some sign zero = λ n small is.
-    let no : Err e ≡ Ok n = parse-decimal 32 n word (Err e) small (omega arith) is h in cc
+-- digits with no zero in front of others are the text of what they stand for
+pub digits_are_decimal : (ds : List ℕ) → AllDigits 10 ds → 0 < length ds → length ds ≤ 10
+    → (get_or ds 0 0 ≡ 48 → length ds ≡ 1) → (ds ≡ decimal (digits_value 10 ds)) × (digits_value 10 ds < 10000000000)
+digits_are_decimal ds digits some short plain =
+    let below : digits_value 10 ds < 10 ^ 10 = digits_value_short own ds 10 digits short in
+    (sym (decimal-digits_value own ds digits some plain (omega arith)), omega arith)
 
--- what `from_utf8` gave, where it is none
-pub no_text : {E : Type 0} (Q : E → Type 0) (word : List ℕ) (r : Result (Bor (List ℕ)) E) → None ≡ result_ok r
-    → MatchResult r (λ s. (s.now ≡ word) × IsUtf8 word) (λ e. (¬ IsUtf8 word) × Q e) → ¬ IsUtf8 word
-no_text Q word (Ok s) e h = cc
-no_text Q word (Err x) e h = h.0
-
--- the same, where it is some text
-pub same_text : {E : Type 0} (Q : E → Type 0) (word : List ℕ) (s : Bor (List ℕ)) (r : Result (Bor (List ℕ)) E) → Some s ≡ result_ok r
-    → MatchResult r (λ s. (s.now ≡ word) × IsUtf8 word) (λ e. (¬ IsUtf8 word) × Q e) → s.now ≡ word
-same_text Q word s (Ok t) e h = let same : s ≡ t = cc in ap (λ x. x.now) same ∙ h.0
-same_text Q word s (Err x) e h = cc
+-- one more digit
+pub one_more_digit : (ds : List ℕ) (i : ℕ) → i < length ds → AllDigits 10 (take i ds) → IsInRange 48 57 (get_or ds i 0)
+    → AllDigits 10 (take (i + 1) ds) × (digits_value 10 (take (i + 1) ds) ≡ digits_value 10 (take i ds) * 10 + (get_or ds i 0 - 48))
+one_more_digit ds i within digits range =
+    let value : digit_value (get_or ds i 0) ≡ get_or ds i 0 - 48 = omega (arith, digit_value_digit (get_or ds i 0) range) in
+    (digits_more 10 ds i within digits (omega arith), digits_value_more 10 ds i within ∙ ap (λ d. digits_value 10 (take i ds) * 10 + d) value)

@@ -4,5 +4,6 @@ pub mod LastNames
 pub mod Requests
 pub mod OrderWords
 pub mod Output
+pub mod Room
 pub mod Report
 pub mod Lines

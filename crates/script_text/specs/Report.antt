@@ -28,7 +28,11 @@ last_verdicts report =
     ++ (verdict_text customer_text 10 report.condition_10
     ++ verdict_text customer_text 12 report.condition_12)))
 
+-- the lines of all conditions
+abbrev pub verdicts : Report → List ℕ
+verdicts report = first_verdicts report ++ last_verdicts report
+
 -- the text of a report
 abbrev pub report_text : ℕ → Report → List ℕ
 report_text commits report = codes "commits "
-    ++ (decimal commits ++ (codes "\n" ++ (first_verdicts report ++ last_verdicts report)))
+    ++ (decimal commits ++ (codes "\n" ++ verdicts report))

@@ -1,7 +1,7 @@
 //! The report that ends a script: what was committed, and which consistency conditions hold.
 ghost use Rattle.std.specs.Prelude.{◌≡◌, ◌++◌, ℕ, Some, List, IfOk, OnOk, OnErr, IfErr, string_bytes};
 ghost use Rattle.std.specs.Option.{ForSome};
-ghost use Rattle.script_text.specs.Report.{report_text, first_verdicts, last_verdicts, verdict_text};
+ghost use Rattle.script_text.specs.Report.{report_text, first_verdicts, last_verdicts, verdict_text, verdicts};
 
 use conditions::Report;
 use money::Refusal;
@@ -26,9 +26,18 @@ fn format_report(alloc: Global, commits: u64, report: &Report) -> Result<String,
     ensures { IfOk result (λ text. string_bytes text ≡ report_text commits report.now) }
 {
     let mut text = format!(in alloc; "commits {commits}\n")?;
-    print_first_verdicts(report, &mut text)?;
-    print_last_verdicts(report, &mut text)?;
+    print_verdicts(report, &mut text)?;
     Ok(text)
+}
+
+/// Appends for each condition (TPC-C 3.3.2) a line on whether it holds, as `print_report` does. Where memory runs out a
+/// beginning of them may stand there.
+pub fn print_verdicts(report: &Report, out: &mut String) -> Result<(), AllocError>
+    ensures { OnOk result (string_bytes out.new ≡ string_bytes out.old ++ verdicts report.now) }
+{
+    print_first_verdicts(report, out)?;
+    print_last_verdicts(report, out)?;
+    Ok(())
 }
 
 fn print_first_verdicts(report: &Report, out: &mut String) -> Result<(), AllocError>

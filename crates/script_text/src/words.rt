@@ -1,22 +1,43 @@
 //! The words of a line, which are parted by one space each. Each function here refuses with `BadLine`.
-ghost use Rattle.std.specs.Prelude.{◌≡◌, ◌≢◌, ℕ, ◌<◌, ◌^◌, List, [], ◌∷◌, MatchOption, MatchResult};
+ghost use Rattle.std.specs.Prelude.{◌≡◌, ◌≢◌, ℕ, ◌<◌, ◌^◌, List, [], ◌∷◌, IfNone, IfSome, MatchOption, MatchResult};
 ghost use Rattle.std.specs.Fmt.{decimal};
 ghost use Rattle.script_text.specs.Words.{words};
 
 use crate::cut::split_once;
 use money::Refusal;
 
+/// The most digits that a number below 2^32 has.
+const MAX_DIGITS: usize = 10;
+
 /// The number that a word is: digits with no leading zero, or 0 alone, up to `u32::MAX`.
 pub(crate) fn read_number(word: &[u8]) -> Option<u32>
     ensures { MatchOption result ((n : ℕ) → n < 2 ^ 32
         → word.now ≢ decimal n) (λ n. word.now ≡ decimal n) }
 {
-    let first = *word.first()?;
-    if first == b'+' || first == b'0' && word.len() > 1 {
+    let number = read_digits(word)?;
+    if number <= u64::from(u32::MAX) {
+        Some(number as u32)
+    } else {
+        None
+    }
+}
+
+/// The same of a number of ten digits at most.
+fn read_digits(word: &[u8]) -> Option<u64>
+    ensures some { IfSome result (λ n. (word.now ≡ decimal n) × (n < 10000000000)) }
+    ensures none { IfNone result ((n : ℕ) → n < 10000000000 → word.now ≢ decimal n) }
+{
+    if word.is_empty() || word.len() > MAX_DIGITS || (word[0] == b'0' && word.len() > 1) {
         return None;
     }
-    let text = str::from_utf8(word).ok()?;
-    text.parse().ok()
+    let mut number = 0;
+    for digit in word {
+        if !digit.is_ascii_digit() {
+            return None;
+        }
+        number = number * 10 + u64::from(digit - b'0');
+    }
+    Some(number)
 }
 
 /// The first of several words, and the text after it.

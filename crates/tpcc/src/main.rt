@@ -4,6 +4,7 @@
 use money::Refusal;
 use program::{USAGE_FAULT, Watched, finish, run};
 use std::env;
+use std::io::IsTerminal;
 use std::process::ExitCode;
 
 /// Hands the words of the command line and the real streams to `run`.
@@ -19,6 +20,7 @@ fn main(rt: HostRuntime) -> ExitCode {
         }
     };
     let (mut input, mut output) = (Watched::new(rt.stdin()), Watched::new(rt.stdout()));
+    let screen = rt.stderr();
     let status = run(
         &rt,
         rt.alloc(),
@@ -26,6 +28,7 @@ fn main(rt: HostRuntime) -> ExitCode {
         &mut input,
         &mut output,
         &mut rt.stderr(),
+        screen.is_terminal().then_some(screen),
     );
     ExitCode::from(status)
 }

@@ -27,4 +27,4 @@ returns-in-Some-clause-asked c =
     IfOk-weaker c.options_given.result _ _ (λ o is. asked c.in_ok-command.command matches words c.in-Some.name.now (rows_of (found_of c.in-Some.given.now)) o
     app (fails_by c.in_ok-command.command words (Ok matches) app c.in_ok-matches.ensures.kinds) c.in_ok-matches.ensures.matches (sym entered.name)
     (sym entered.rows) is.0 is.1.0 is.1.1)
-    (IfOk-both c.options_given.result _ _ given.named (IfOk-both c.options_given.result _ _ given.written given.logs))
+    (IfOk-both c.options_given.result _ _ given.named (IfOk-both c.options_given.result _ _ given.written given.own))

@@ -3,15 +3,15 @@ use Rattle.std.proofs.KnownBytes.{Appends-nil}
 use Rattle.population.specs.Initial.{initial, seed_of}
 use Rattle.recovery.specs.Told.{Shows}
 use Rattle.program.specs.declared.fault.Fault.{Fault}
-use Rattle.program.specs.Logs.{IsRefusedWith, unopened_of, unread, untold}
+use Rattle.program.specs.Logs.{IsRefusedWith, file_of, unread, untold}
 use Rattle.program.proofs.logs.show.Goals as goal
 
 pub returns-in-Err-clause-refused : goal.returns-in-Err-clause-refused
-returns-in-Err-clause-refused g c = unread c.in-Err.ensures.unread (Appends-nil (g.W.Write.contents c.args.output.now))
+returns-in-Err-clause-refused g c = unread c.in-Err.ensures.unready (Appends-nil (g.W.Write.contents c.args.output.now))
 
 pub returns-clause-refused : goal.returns-clause-refused
 returns-clause-refused g c =
     let refused = c.in-Err-show_recovered.ensures.refused in
     subst (λ (fault : Fault). IsRefusedWith c.args.files.now Shows (initial c.args.population.now) (seed_of c.args.population.now)
-    (g.W.Write.contents c.args.output.now) (g.W.Write.contents c.show_recovered.new.output) fault.refusal (unopened_of fault)) (sym c.of.ensures)
+    (g.W.Write.contents c.args.output.now) (g.W.Write.contents c.show_recovered.new.output) fault.refusal (file_of fault)) (sym c.of.ensures)
     (untold refused.0 refused.1 refl)

@@ -1,23 +1,12 @@
-use Rattle.std.proofs.Common.{◌≡◌, ℕ, ◌==◌, ◌&&◌, List, length, filter, ap, ◌∙◌, subst}
+use Rattle.std.proofs.Common.{◌≡◌, ℕ, ◌==◌, ◌&&◌, List, length, filter, subst}
 use Rattle.std.specs.List.{list_any, range_with_len}
-use Rattle.tables.specs.Records.{number_of_key}
 use Rattle.tables.specs.Database.{Database}
 use Rattle.tables.specs.StockLevel.{is_sold, is_low}
 use Rattle.tables.specs.declared.keys.DistrictKey.{DistrictKey}
-use Rattle.tables.specs.declared.keys.StockKey.{StockKey}
-use Rattle.tables.specs.declared.records.RecordKey.TheVariants as key
-use Rattle.readset.specs.Reads.{ReadSetView, held}
 use Rattle.readset.specs.Explains.{IsCandidate}
 use Rattle.readset.proofs.UnderWay.{candidate_still}
 use Rattle.queries.proofs.LevelExplained.{explains}
 use Rattle.queries.proofs.level.read_reply.Goals as goal
-
-pub count_low-requires-clause-no_stock : goal.count_low-requires-clause-no_stock
-count_low-requires-clause-no_stock g c = λ i is.
-    let k : StockKey = record { warehouse = c.args.query.now.warehouse; item = i } in
-    let home = c.requires.input.warehouse in
-    c.sold_items.ensures.no_stock k (home, is) ∙ c.read_next_order.ensures.no_stock k (home, is)
-    ∙ ap (λ (r : ReadSetView). held r (number_of_key g.K.Start.tables.scale (key.Stock k))) c.requires.none
 
 pub returns-clause-reply : goal.returns-clause-reply
 returns-clause-reply g c =

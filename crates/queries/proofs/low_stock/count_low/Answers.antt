@@ -1,17 +1,14 @@
-use Rattle.std.proofs.Common.{◌≡◌, ℕ, ◌+◌, Bool, true, cond, ◌==◌, ◌&&◌, List, is_some, length, filter, get_or, sym, ap, ◌∙◌, subst, arith}
+use Rattle.std.proofs.Common.{◌≡◌, ℕ, ◌+◌, Bool, ◌==◌, ◌&&◌, List, length, filter, get_or, ◌∙◌, subst, arith}
 use Rattle.std.proofs.lemmas.List.{take_all}
 use Rattle.std.specs.List.{list_any, range_with_len}
 use Rattle.tables.specs.Keys.{IsItemKey}
 use Rattle.tables.specs.StockLevel.{is_low}
-use Rattle.readset.specs.Reads.{held}
 use Rattle.readset.proofs.UnderWay.{reads_none, reads_twice, candidate_still}
-use Rattle.queries.specs.LowStock.{stock_number}
-use Rattle.queries.proofs.Counted.{none_counted, held_after, counted_after}
+use Rattle.queries.proofs.Counted.{none_counted, counted_next}
 use Rattle.queries.proofs.low_stock.count_low.Goals as goal
 
 pub loop-item-init : goal.loop-item-init
 loop-item-init g c = record {
-  read_once = λ i is. ap is_some (c.requires.no_stock i is);
   counted = λ t h. none_counted 1 g.K.Start.tables.scale.items;
   few = omega arith;
   reads = reads_none _ c.args.transaction.now;
@@ -26,19 +23,15 @@ loop-item-preserved g c =
     let items = c.args.items.now in
     let item = get_or items at 0 in
     let old = c.loop-item.transaction in
-    let new = c.count_once.new.transaction in
-    let more = c.count_once.ensures.reads in
+    let new = c.count_item.new.transaction in
+    let more = c.count_item.ensures.reads in
     let is_item : IsItemKey t0.scale item = c.requires.items at 0 c.loop-item-test.true in
     record {
-      read_once = λ j is. held_after items at c.loop-item-test.true j (is_some (held old.reads (stock_number t0.scale query j)))
-          (is_some (held new.reads (stock_number t0.scale query j)))
-          (i.read_once j is) (λ same. subst (λ (k : ℕ). is_some (held new.reads (stock_number t0.scale query k)) ≡ true) (sym same) c.in_ok-low.ensures.holds)
-          (λ apart. ap is_some (c.count_once.ensures.others j is apart));
       counted = λ t h.
           let low : ℕ → Bool = λ j. is_low t query.warehouse query.threshold j in
           let so_far = i.counted t (candidate_still t0 old new 1 more t h) in
-          let one = ap {B = ℕ} (λ b. cond b 0 (cond (low item) 1 0)) (sym (i.read_once item is_item)) ∙ c.in_ok-low.ensures.low t h in
-          counted_after items at c.loop-item-test.true low t0.scale.items is_item.0 is_item.1 ∙ (λ j. so_far j + one j);
+          let one = c.in_ok-low.ensures.low t h in
+          counted_next items at c.loop-item-test.true low t0.scale.items c.requires.rising is_item.0 is_item.1 ∙ (λ j. so_far j + one j);
       few = omega (arith, c.in_ok-low.ensures.range, i.few);
       reads = reads_twice c.args.transaction.now old new at 1 (at + 1) i.reads more (omega arith);
     }

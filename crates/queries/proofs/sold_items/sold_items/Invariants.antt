@@ -1,8 +1,8 @@
-use Rattle.std.proofs.Common.{◌-◌, ◌*◌, ◌≤◌, length, All}
+use Rattle.std.proofs.Common.{◌+◌, ◌-◌, ◌*◌, ◌≤◌, length, All}
 use Rattle.tables.specs.Keys.{IsItemKey}
 use Rattle.tables.specs.declared.limits.TheConstants.{MAX_ORDER_LINES}
 use Rattle.readset.specs.Transaction.{ReadsMore}
-use Rattle.queries.specs.SoldItems.{AreItems, SameStock}
+use Rattle.queries.specs.SoldItems.{AreItems}
 use Rattle.queries.proofs.sold_items.sold_items.Given as goal
 
 -- the orders before this one are looked at
@@ -13,6 +13,5 @@ invariant-loop-order g l = record {
   sold : AreItems g.K.Start.tables l.home l.first l.order 0 l.transaction.reads l.items.items;
   keys : All (IsItemKey g.K.Start.tables.scale) l.items.items;
   count : length l.items.items ≤ (l.order - l.first) * MAX_ORDER_LINES;
-  no_stock : SameStock g.K.Start.tables.scale l.fn.transaction l.transaction;
-  reads : ReadsMore ((l.order - l.first) * MAX_ORDER_LINES) l.fn.transaction l.transaction;
+  reads : ReadsMore ((l.order - l.first) * (MAX_ORDER_LINES + 1)) l.fn.transaction l.transaction;
 }

@@ -226,12 +226,15 @@ store-requires-clause-larger g c =
     let ready = ready_loaded c.self.inside.seat c.self.invariant.6 c.requires.board c.epoch-epoch.ensures.later c.self.invariant.1 in
     let found = c.in-Some.ensures.latest in
     let last : c.index.result.now ≡ last_of c.share.inside.terminal items = last_is c.self.invariant.5 c.share.invariant.1 c.index.ensures in
-    subst (λ (w : PenView). (n : ℕ) (value : Option (List ℕ)) → value_for c.args.work.writes n ≡ Some value → last_tid (at w.all n) < c.in-Ok.prepared.tid)
+    let stored : c.deref-2.result.now ≡ entry_of (c.self.inside.past + length c.self.inside.history.items + 1) c.in-Ok.prepared.tid c.share.inside.terminal
+    c.args.work = c.deref-2.ensures ∙ c.in-Ok.ensures.entry in
+    subst (λ (e : Entry). (n : ℕ) (value : Option (List ℕ)) → value_for e.writes n ≡ Some value → last_tid (at c.validate.new.pen.all n) < e.tid) (sym stored)
+    (subst (λ (w : PenView). (n : ℕ) (value : Option (List ℕ)) → value_for c.args.work.writes n ≡ Some value → last_tid (at w.all n) < c.in-Ok.prepared.tid)
     (sym c.validate.ensures.pen)
     (taken_above g.K.Run.past g.K.Run.first g.K.Run.cells c.epoch-epoch.result c.self.inside.pen items (replay g.K.Run.first items) c.self.invariant.0 ready
     c.args.reader.now
     c.args.work c.requires.work found.0
-    c.share.inside.terminal c.in-Some.seen c.index.result.now found.2 found.1 last c.in-Ok.prepared.tid c.in-Ok.ensures.lawful c.in-Ok.ensures.tid)
+    c.share.inside.terminal c.in-Some.seen c.index.result.now found.2 found.1 last c.in-Ok.prepared.tid c.in-Ok.ensures.lawful c.in-Ok.ensures.tid))
 
 pub returns-clause-reader : goal.returns-clause-reader
 returns-clause-reader g c = grown_twice c.args.reader.now c.validate.new.reader c.store.new.reader c.validate.ensures.reader c.store.ensures.reader
@@ -251,8 +254,10 @@ invariant_of-self-2 g c =
     let cells : c.store.new.pen.cells ≡ c.self.inside.pen.cells = c.store.ensures.cells ∙ ap (λ (w : PenView). w.cells) c.validate.ensures.pen in
     let last : c.index.result.now ≡ last_of c.share.inside.terminal items = last_is c.self.invariant.5 c.share.invariant.1 c.index.ensures in
     let tid : ℕ = c.in-Ok.prepared.tid in
+    let stored : c.deref-2.result.now ≡ entry_of (c.self.inside.past + length c.self.inside.history.items + 1) c.in-Ok.prepared.tid c.share.inside.terminal
+    c.args.work = c.deref-2.ensures ∙ c.in-Ok.ensures.entry in
     let stores : (n : ℕ) → at c.store.new.pen.all n ≡ at c.self.inside.pen.all n ++ new_versions c.in-Ok.prepared.tid c.args.work.writes.values n =
-    λ n. c.store.ensures.versions n ∙ (λ i. at (c.validate.ensures.pen i).all n ++ new_versions c.in-Ok.prepared.tid c.args.work.writes.values n) in
+    λ n. c.store.ensures.versions n ∙ (λ i. at (c.validate.ensures.pen i).all n ++ new_versions (stored i).tid (stored i).writes.values n) in
     let made = next_kept g.K.Run.past g.K.Run.first g.K.Run.cells c.epoch-epoch.result c.self.inside.pen items (replay g.K.Run.first items)
     c.self.invariant.0 ready
     c.args.reader.now c.args.work c.requires.work found.0
@@ -326,8 +331,10 @@ returns-clause-answer g c =
     c.self.invariant.0 ready
     c.args.reader.now c.args.work c.requires.work found.0
     c.share.inside.terminal c.in-Some.seen c.index.result.now found.2 found.1 last in
+    let stored : c.deref-2.result.now ≡ entry_of (c.self.inside.past + length c.self.inside.history.items + 1) c.in-Ok.prepared.tid c.share.inside.terminal
+    c.args.work = c.deref-2.ensures ∙ c.in-Ok.ensures.entry in
     let stores : (n : ℕ) → at c.store.new.pen.all n ≡ at c.self.inside.pen.all n ++ new_versions c.in-Ok.prepared.tid c.args.work.writes.values n =
-    λ n. c.store.ensures.versions n ∙ (λ i. at (c.validate.ensures.pen i).all n ++ new_versions c.in-Ok.prepared.tid c.args.work.writes.values n) in
+    λ n. c.store.ensures.versions n ∙ (λ i. at (c.validate.ensures.pen i).all n ++ new_versions (stored i).tid (stored i).writes.values n) in
     let entry : arc_value c.in-Ok.prepared.entry ≡ entry_of (g.K.Run.past + length items + 1) c.in-Ok.prepared.tid c.share.inside.terminal c.args.work =
     c.in-Ok.ensures.entry ∙ (λ i. entry_of (here i + size i + 1) c.in-Ok.prepared.tid c.share.inside.terminal c.args.work) in
     let history : map arc_value c.push_reserved.new.self.items ≡ items
@@ -364,7 +371,7 @@ returns-clause-answer g c =
       refl,
       refl,
       (λ i. record { terminal = c.share.inside.terminal; parts = c.add-2.ensures.parts i; commits = c.add-2.ensures.amount i }),
-      c.store.ensures.seen,
+      subst (λ (e : Entry). HasSeen c.store.new.reader c.store.new.pen e.writes) stored c.store.ensures.seen,
       done_there g.K.Run.past g.K.Run.first g.K.Run.cells c.epoch-epoch.result c.self.inside.pen items (replay g.K.Run.first items) c.self.invariant.0 ready
           c.args.reader.now
           c.args.work c.requires.work found.0,
@@ -432,8 +439,10 @@ returns-clause-section g c m w shows =
     c.args.reader.now c.args.work c.requires.work found.0
     c.share.inside.terminal c.in-Some.seen c.index.result.now found.2 found.1 last in
     let cells : c.store.new.pen.cells ≡ c.self.inside.pen.cells = c.store.ensures.cells ∙ ap (λ (w : PenView). w.cells) c.validate.ensures.pen in
+    let stored : c.deref-2.result.now ≡ entry_of (c.self.inside.past + length c.self.inside.history.items + 1) c.in-Ok.prepared.tid c.share.inside.terminal
+    c.args.work = c.deref-2.ensures ∙ c.in-Ok.ensures.entry in
     let stores : (n : ℕ) → at c.store.new.pen.all n ≡ at c.self.inside.pen.all n ++ new_versions c.in-Ok.prepared.tid c.args.work.writes.values n =
-    λ n. c.store.ensures.versions n ∙ (λ i. at (c.validate.ensures.pen i).all n ++ new_versions c.in-Ok.prepared.tid c.args.work.writes.values n) in
+    λ n. c.store.ensures.versions n ∙ (λ i. at (c.validate.ensures.pen i).all n ++ new_versions (stored i).tid (stored i).writes.values n) in
     let tid : c.in-Ok.prepared.tid ≡ c.in-Ok.prepared.done.tid = sym (ap (λ (done : Done). done.tid) c.in-Ok.ensures.done) in
     subst (λ (n : ℕ). IsCommitRun m w (reads_of c.args.work.reads) c.args.work.writes.values n c.store.new.pen) tid
     (run g.K.Run.past g.K.Run.first g.K.Run.cells c.epoch-epoch.result (kept c.self.inside.pen items c.self.inside.seat c.self.inside.streams.items)

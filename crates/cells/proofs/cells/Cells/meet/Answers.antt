@@ -1,13 +1,16 @@
 use Rattle.std.proofs.Common.{◌≡◌, ap, ◌∙◌}
-use Rattle.std.specs.Prelude.{slice_index}
 use lib.Dec.{eqb}
 use Rattle.tidword.specs.TidWord.{tid_of}
+use Rattle.pages.specs.Versions.{newest, word_in}
+use Rattle.cells.specs.Records.{at}
+use Rattle.pages.proofs.Lists.{ends_newest}
 use Rattle.cells.proofs.Rising.{is_last_by_tid}
 use Rattle.cells.proofs.cells.Cells.meet.Goals as goal
 
 pub returns-clause-latest : goal.returns-clause-latest
 returns-clause-latest g c =
-    let learns = c.meet-latest.ensures.reader in
-    let left : c.tid.result ≡ tid_of (slice_index c.meet-latest.result 0) = c.tid.ensures ∙ ap tid_of c.new.ensures in
-    is_last_by_tid _ _ _ _ c.meet-latest.result learns.rising learns.grows c.requires.seen c.meet-latest.ensures.last
+    let meet = c.meet-latest.ensures in
+    let all = at c.args.pen.now.all c.args.version.now.record in
+    let left : c.tid.result ≡ tid_of (word_in (newest all)) = c.tid.ensures ∙ ap tid_of (c.new.ensures ∙ meet.newest) in
+    is_last_by_tid _ all _ _ (newest all) meet.reader.rising meet.reader.grows c.requires.seen (ends_newest all meet.some)
     (c.eq.ensures ∙ (λ i. eqb (left i) (c.tid-2.ensures i)))

@@ -1,43 +1,80 @@
-use Rattle.std.proofs.Common.{◌≡◌, ℕ, List, sym, ap, ◌∙◌, subst, set}
+use Rattle.std.proofs.Common.{ℕ, List, ◌<◌, ◌/◌, rules, sym, ap, ◌∙◌, subst, set}
 use Rattle.std.specs.Prelude.{slice_get}
-use Rattle.std.proofs.lemmas.List.Elements.{All-get_or}
-use Rattle.cells.specs.Versions.{StartsWith, EndsWith, IsRising}
-use Rattle.cells.specs.Views.{CellPass, known, sight, IsPen}
+use Rattle.pages.specs.Versions.{newest, word_in}
 use Rattle.cells.specs.Records.{PenView, ReaderView, LearnsRecord, at}
-use Rattle.cells.specs.Passes.{sights_of}
-use Rattle.cells.proofs.Passes.{has_pass, seen_here, written_same, sights_learn}
+use Rattle.cells.specs.Pages.{sights_of}
+use Rattle.pages.proofs.Lists.{sound_some}
+use Rattle.cells.proofs.Stepping.{pen_seat, pen_is_of, pen_knows_seat, pen_versions, kept_seats, kept_view, reader_seat, reader_is_of, met_seats, learns_record}
 use Rattle.cells.proofs.holders.PenOf.meet.Goals as goal
+
+pub index_mut-pen-requires : goal.index_mut-pen-requires
+index_mut-pen-requires g c =
+    let has = ap (λ (w : PenView). slice_get w.cells c.args.number) c.self.view_is ∙ c.requires.own in
+    let seats = c.self.inside.seats in
+    subst (λ k. c.args.number / 4096 < k) (sym seats.ok.0) (pen_seat g.row.N c.requires.size seats.items c.self.invariant c.args.number _ has)
+
+pub index_mut-requires : goal.index_mut-requires
+index_mut-requires g c =
+    let has = ap (λ (s : ReaderView). slice_get s.cells c.args.number) c.reader.view_is ∙ c.requires.reader in
+    let seats = c.reader.inside.seats in
+    subst (λ k. c.args.number / 4096 < k) (sym seats.ok.0) (reader_seat g.row.N c.requires.size seats.items c.reader.invariant c.args.number _ has)
+
+pub meet-requires : goal.meet-requires
+meet-requires g c =
+    let has = ap (λ (w : PenView). slice_get w.cells c.args.number) c.self.view_is ∙ c.requires.own in
+    let reads = ap (λ (s : ReaderView). slice_get s.cells c.args.number) c.reader.view_is ∙ c.requires.reader in
+    let is = c.index_mut-pen.ensures.value in (
+      search rules,
+      (
+        (
+          pen_is_of g.row.N c.requires.size c.self.inside.seats.items c.self.invariant c.args.number _ has _ is,
+          reader_is_of g.row.N c.requires.size c.reader.inside.seats.items c.reader.invariant c.args.number _ reads _ c.index_mut.ensures.value,
+        ),
+        pen_knows_seat g.row.N c.requires.size c.self.inside.seats.items c.self.invariant c.args.number _ has _ is,
+      ),
+    )
+
+pub invariant_of-self : goal.invariant_of-self
+invariant_of-self g c =
+    let has = ap (λ (w : PenView). slice_get w.cells c.args.number) c.self.view_is ∙ c.requires.own in
+    kept_seats g.row.N c.requires.size c.self.inside.seats.items c.self.invariant c.args.number _ has _ c.index_mut-pen.ensures.value _ c.meet.ensures.own.0
+    c.meet.ensures.pen
+
+pub invariant_of-reader : goal.invariant_of-reader
+invariant_of-reader g c =
+    let reads = ap (λ (s : ReaderView). slice_get s.cells c.args.number) c.reader.view_is ∙ c.requires.reader in
+    met_seats g.row.N c.requires.size c.reader.inside.seats.items c.reader.invariant c.args.number _ reads _ c.index_mut.ensures.value _ c.meet.ensures.own.1
+    _ c.meet.ensures.reader
 
 pub returns-clause-same : goal.returns-clause-same
 returns-clause-same g c =
-    let ps = c.self.inside.passes.items in
-    let within = has_pass ps c.args.n _ (ap (λ (w : PenView). slice_get w.cells c.args.n) c.self.view_is ∙ c.requires.own) in
-    written_same ps c.args.n _ _ within c.index_mut.ensures.value c.meet.ensures.own.0 c.meet.ensures.pen ∙ c.self.view_is
+    let has = ap (λ (w : PenView). slice_get w.cells c.args.number) c.self.view_is ∙ c.requires.own in
+    kept_view g.row.N c.requires.size c.self.inside.seats.items c.self.invariant c.args.number _ has _ c.index_mut-pen.ensures.value _ c.meet.ensures.own.0
+    c.meet.ensures.pen
+    ∙ c.self.view_is
 
 pub returns-clause-reader : goal.returns-clause-reader
 returns-clause-reader g c =
-    let ps = c.self.inside.passes.items in
-    let n = c.args.n in
-    let meet = c.meet.ensures in
-    let pen = c.index_mut.result.now in
-    let within = has_pass ps n _ (ap (λ (w : PenView). slice_get w.cells n) c.self.view_is ∙ c.requires.own) in
-    let all : at c.args.self.now.all n ≡ (known pen).seen = ap (λ (w : PenView). at w.all n) (sym c.self.view_is)
-    ∙ seen_here ps n pen c.meet.new.pen within c.index_mut.ensures.value in
-    let is_pen : IsPen (known pen) = subst (λ (p : CellPass). IsPen (known p)) (sym c.index_mut.ensures.value)
-    (All-get_or (λ (p : CellPass). IsPen (known p)) ps n pen within c.self.invariant) in
-    let rs = c.reader.inside.passes.items in
-    let reader = c.index_mut-2.result.now in
-    let there = has_pass rs n _ (ap (λ (s : ReaderView). slice_get s.cells n) c.reader.view_is ∙ c.requires.reader) in
-    let view : known c.meet.new.reader ≡ sight (at c.args.self.now.all n) (known reader).loads =
-    subst (λ (l : List (List ℕ)). known c.meet.new.reader ≡ sight l (known reader).loads) (sym all) meet.reader in
-    let grows : StartsWith (at c.args.self.now.all n) (known reader).seen = subst (λ (l : List (List ℕ)). StartsWith l (known reader).seen) (sym all) meet.grows
-    in
-    subst (λ (s : ReaderView). LearnsRecord c.args.self.now s (sights_of (set rs n c.meet.new.reader)) n) c.reader.view_is
-    (sights_learn rs n reader c.meet.new.reader there c.index_mut-2.ensures.value c.args.self.now meet.own.1 view grows (subst IsRising (sym all) is_pen.2))
+    let has = ap (λ (w : PenView). slice_get w.cells c.args.number) c.self.view_is ∙ c.requires.own in
+    let reads = ap (λ (s : ReaderView). slice_get s.cells c.args.number) c.reader.view_is ∙ c.requires.reader in
+    let all = sym (pen_versions g.row.N c.requires.size c.self.inside.seats.items c.self.invariant c.args.number _ has _ c.index_mut-pen.ensures.value)
+    ∙ ap (λ (w : PenView). at w.all c.args.number) c.self.view_is in
+    let seats = c.reader.inside.seats.items in
+    subst (λ (s : ReaderView). LearnsRecord c.args.self.now s (sights_of g.row.N (set seats (c.args.number / 4096) c.meet.new.reader)) c.args.number)
+    c.reader.view_is
+    (learns_record g.row.N c.requires.size seats c.reader.invariant c.args.number _ reads _ c.index_mut.ensures.value _ c.meet.ensures.own.1
+    _ c.meet.ensures.reader c.args.self.now all c.meet.ensures.grows c.meet.ensures.sound)
 
-pub returns-clause-last : goal.returns-clause-last
-returns-clause-last g c =
-    let ps = c.self.inside.passes.items in
-    let within = has_pass ps c.args.n _ (ap (λ (w : PenView). slice_get w.cells c.args.n) c.self.view_is ∙ c.requires.own) in
-    subst (λ (w : PenView). EndsWith (at w.all c.args.n) c.meet.result) c.self.view_is
-    (subst (λ l. EndsWith l c.meet.result) (sym (seen_here ps c.args.n _ c.meet.new.pen within c.index_mut.ensures.value)) c.meet.ensures.last)
+pub returns-clause-some : goal.returns-clause-some
+returns-clause-some g c =
+    let has = ap (λ (w : PenView). slice_get w.cells c.args.number) c.self.view_is ∙ c.requires.own in
+    let all = sym (pen_versions g.row.N c.requires.size c.self.inside.seats.items c.self.invariant c.args.number _ has _ c.index_mut-pen.ensures.value)
+    ∙ ap (λ (w : PenView). at w.all c.args.number) c.self.view_is in
+    λ none. sound_some g.row.N _ c.requires.size.0 c.meet.ensures.sound (all ∙ none)
+
+pub returns-clause-newest : goal.returns-clause-newest
+returns-clause-newest g c =
+    let has = ap (λ (w : PenView). slice_get w.cells c.args.number) c.self.view_is ∙ c.requires.own in
+    let all = sym (pen_versions g.row.N c.requires.size c.self.inside.seats.items c.self.invariant c.args.number _ has _ c.index_mut-pen.ensures.value)
+    ∙ ap (λ (w : PenView). at w.all c.args.number) c.self.view_is in
+    c.meet.ensures.newest ∙ ap (λ (vs : List (List ℕ)). word_in (newest vs)) all

@@ -1,13 +1,47 @@
-use Rattle.std.proofs.Common.{ap, ◌∙◌, subst, set}
+use Rattle.std.proofs.Common.{ℕ, List, ◌<◌, ◌/◌, rules, sym, ap, ◌∙◌, subst, set}
 use Rattle.std.specs.Prelude.{slice_get}
-use Rattle.cells.specs.Records.{PenView, StoresVersion}
-use Rattle.cells.specs.Passes.{written_of}
-use Rattle.cells.proofs.Passes.{has_pass, written_writes}
+use Rattle.pages.specs.Versions.{last_tid, tid}
+use Rattle.cells.specs.Records.{PenView, StoresVersion, at}
+use Rattle.cells.specs.Pages.{written_of}
+use Rattle.cells.proofs.Stepping.{pen_seat, pen_is_of, pen_knows_seat, pen_versions, stored_seats, stores_version}
 use Rattle.cells.proofs.holders.PenOf.store.Goals as goal
+
+pub index_mut-seat-requires : goal.index_mut-seat-requires
+index_mut-seat-requires g c =
+    let has = ap (λ (w : PenView). slice_get w.cells c.args.number) c.self.view_is ∙ c.requires.own in
+    let seats = c.self.inside.seats in
+    subst (λ k. c.args.number / 4096 < k) (sym seats.ok.0) (pen_seat g.row.N c.requires.size seats.items c.self.invariant c.args.number _ has)
+
+pub store-requires : goal.store-requires
+store-requires g c =
+    let has = ap (λ (w : PenView). slice_get w.cells c.args.number) c.self.view_is ∙ c.requires.own in
+    let seats = c.self.inside.seats.items in
+    let is = c.index_mut-seat.ensures.value in
+    let all = ap (λ (w : PenView). at w.all c.args.number) (sym c.self.view_is)
+    ∙ pen_versions g.row.N c.requires.size seats c.self.invariant c.args.number _ has _ is in (
+      search rules,
+      (
+        search rules,
+        (
+          pen_is_of g.row.N c.requires.size seats c.self.invariant c.args.number _ has _ is,
+          (
+            pen_knows_seat g.row.N c.requires.size seats c.self.invariant c.args.number _ has _ is,
+            subst (λ (vs : List (List ℕ)). last_tid vs < tid c.args.version) all c.requires.larger,
+          ),
+        ),
+      ),
+    )
+
+pub invariant_of-self : goal.invariant_of-self
+invariant_of-self g c =
+    let has = ap (λ (w : PenView). slice_get w.cells c.args.number) c.self.view_is ∙ c.requires.own in
+    stored_seats g.row.N c.requires.size c.self.inside.seats.items c.self.invariant c.args.number _ has _ c.index_mut-seat.ensures.value _ c.store.ensures.own
+    c.args.version c.store.ensures.stored
 
 pub returns : goal.returns
 returns g c =
-    let ps = c.self.inside.passes.items in
-    let within = has_pass ps c.args.n _ (ap (λ (w : PenView). slice_get w.cells c.args.n) c.self.view_is ∙ c.requires.own) in
-    subst (λ (w : PenView). StoresVersion w (written_of (set ps c.args.n c.store.new.pass)) c.args.n c.args.version) c.self.view_is
-    (written_writes ps c.args.n _ _ within c.index_mut.ensures.value c.args.version c.store.ensures.own c.store.ensures.stored)
+    let has = ap (λ (w : PenView). slice_get w.cells c.args.number) c.self.view_is ∙ c.requires.own in
+    let seats = c.self.inside.seats.items in
+    subst (λ (w : PenView). StoresVersion w (written_of g.row.N (set seats (c.args.number / 4096) c.store.new.pen)) c.args.number c.args.version) c.self.view_is
+    (stores_version g.row.N c.requires.size seats c.self.invariant c.args.number _ has _ c.index_mut-seat.ensures.value _ c.store.ensures.own
+    c.args.version c.store.ensures.stored)

@@ -1,15 +1,78 @@
-use Rattle.std.proofs.Common.{None, ◌≡◌, sym, ◌∙◌, subst}
+use Rattle.std.proofs.Common.{◌≡◌, ◌<◌, ◌≤◌, Some, None, Ok, IfOk, OnErr, sym, ap, ◌∙◌, subst, refl}
+use Rattle.std.specs.Ordering.{nat_cmp}
+use Rattle.std.specs.Map.{keys_of}
+use Rattle.std.specs.BTreeMap.{insert_entry}
+use Rattle.std.specs.List.Sorted.{IsStrictlySortedBy}
+use Rattle.std.proofs.lemmas.Option.{same_Some}
 use Rattle.cells.proofs.Grown.{grown_twice}
-use Rattle.readset.specs.Reads.{ReadSetView, AreRead, held}
-use Rattle.readset.proofs.Loaded.{load_chain, copied_none}
+use Rattle.cells.specs.declared.cells.Version.{Version}
+use Rattle.readset.specs.Reads.{ReadSetView}
+use Rattle.readset.proofs.Placed.{stands, goes}
+use Rattle.readset.proofs.Loaded.{IsLoaded, loaded, load_chain, read_there, unread}
+use Rattle.readset.proofs.reads.ReadSet.get.Given as given
+use Rattle.readset.proofs.reads.ReadSet.get.Goals.{After-load}
 use Rattle.readset.proofs.reads.ReadSet.get.Goals as goal
 
-pub returns-clause-grown_since : goal.returns-clause-grown_since
-returns-clause-grown_since g c = λ first before. grown_twice first c.args.reader.now c.load.new.reader before c.load.ensures.grown
+facts : (g : given.Over) (c : After-load g) → IsLoaded c.args.self.now c.load.new.versions.items c.args.number c.load.result
+facts g c = loaded c.args.self.now c.load.new.versions.items c.args.number c.load.result
+    (unread c.self.inside.versions.items c.args.self.now c.as_slice.result.now c.args.number c.in-Err.at c.place_of.result
+    c.self.view_is c.as_slice.ensures.value c.self.invariant c.place_of.ensures c.in-Err.is)
+    (subst (λ (r : ReadSetView). IfOk c.load.result (λ v. c.load.new.versions.items ≡ insert_entry nat_cmp r c.args.number v)) c.self.view_is c.load.ensures.entries)
+    (subst (λ (r : ReadSetView). OnErr c.load.result (c.load.new.versions.items ≡ r)) c.self.view_is c.load.ensures.kept)
 
-pub returns-clause-chain : goal.returns-clause-chain
-returns-clause-chain g c = λ first so_far.
-    let reads : ReadSetView = c.self.inside.versions.entries in
-    let absent : held reads c.args.number ≡ None = sym c.get.ensures.value ∙ copied_none c.get.result c.in_default.not-Some in
-    load_chain first c.args.reader.now c.load.new.reader reads c.load.new.versions.entries c.args.number c.load.result absent
-    c.load.ensures.read c.load.ensures.entries c.load.ensures.unread c.load.ensures.kept (subst (AreRead first c.args.reader.now) (sym c.self.view_is) so_far)
+none_some : (v : Version) → None ≡ Some v → ⊥
+none_some v e = cc
+
+pub load-requires-clause-bound : goal.load-requires-clause-bound
+load-requires-clause-bound g c =
+    let sorted = subst (λ (r : ReadSetView). IsStrictlySortedBy nat_cmp (keys_of r)) (sym c.as_slice.ensures.value) c.self.invariant in
+    let gap = goes c.args.number c.as_slice.result.now c.in-Err.at sorted (sym c.place_of.ensures ∙ c.in-Err.is) in
+    subst (λ n. c.in-Err.at ≤ n) c.as_slice.ensures.len gap.inside
+
+pub index-requires : goal.index-requires
+index-requires g c =
+    let there = stands c.args.number c.as_slice.result.now c.in-Ok.at (sym c.place_of.ensures ∙ c.in-Ok.is) in
+    subst (λ n. c.in-Ok.at < n) c.as_slice.ensures.len there.inside
+
+pub returns-in-Ok-clause-held : goal.returns-in-Ok-clause-held
+returns-in-Ok-clause-held g c v found = let same : c.index.result.now.1 ≡ v = same_Some _ _ (sym (read_there c.self.inside.versions.items c.args.self.now c.as_slice.result.now c.args.number c.in-Ok.at c.place_of.result c.index.result.now
+    c.self.view_is c.as_slice.ensures.value c.place_of.ensures c.in-Ok.is c.index.ensures) ∙ found) in (ap Ok same, refl, refl)
+
+pub returns-in-Ok-clause-read : goal.returns-in-Ok-clause-read
+returns-in-Ok-clause-read g c none = absurd (none_some _ (sym none ∙ (read_there c.self.inside.versions.items c.args.self.now c.as_slice.result.now c.args.number c.in-Ok.at c.place_of.result c.index.result.now
+    c.self.view_is c.as_slice.ensures.value c.place_of.ensures c.in-Ok.is c.index.ensures)))
+
+pub returns-in-Ok-clause-holds : goal.returns-in-Ok-clause-holds
+returns-in-Ok-clause-holds g c = read_there c.self.inside.versions.items c.args.self.now c.as_slice.result.now c.args.number c.in-Ok.at c.place_of.result c.index.result.now
+    c.self.view_is c.as_slice.ensures.value c.place_of.ensures c.in-Ok.is c.index.ensures
+
+pub returns-in-Err-clause-held : goal.returns-in-Err-clause-held
+returns-in-Err-clause-held g c v found = absurd (none_some v (sym (unread c.self.inside.versions.items c.args.self.now c.as_slice.result.now c.args.number c.in-Err.at c.place_of.result
+    c.self.view_is c.as_slice.ensures.value c.self.invariant c.place_of.ensures c.in-Err.is) ∙ found))
+
+pub returns-in-Err-clause-holds : goal.returns-in-Err-clause-holds
+returns-in-Err-clause-holds g c = (facts g c).holds
+
+pub returns-in-Err-clause-others : goal.returns-in-Err-clause-others
+returns-in-Err-clause-others g c = (facts g c).others
+
+pub returns-in-Err-clause-limit : goal.returns-in-Err-clause-limit
+returns-in-Err-clause-limit g c = (facts g c).limit
+
+pub returns-in-Err-clause-keeps : goal.returns-in-Err-clause-keeps
+returns-in-Err-clause-keeps g c = (facts g c).keeps
+
+pub returns-in-Err-clause-within : goal.returns-in-Err-clause-within
+returns-in-Err-clause-within g c = (facts g c).within _ c.requires.is_record
+
+pub returns-in-Err-clause-chain : goal.returns-in-Err-clause-chain
+returns-in-Err-clause-chain g c = λ first so_far.
+    load_chain first c.args.reader.now c.load.new.reader c.args.self.now c.load.new.versions.items c.args.number c.load.result (unread c.self.inside.versions.items c.args.self.now c.as_slice.result.now c.args.number c.in-Err.at c.place_of.result
+    c.self.view_is c.as_slice.ensures.value c.self.invariant c.place_of.ensures c.in-Err.is)
+    c.load.ensures.read
+    (subst (λ (r : ReadSetView). IfOk c.load.result (λ v. c.load.new.versions.items ≡ insert_entry nat_cmp r c.args.number v)) c.self.view_is c.load.ensures.entries)
+    c.load.ensures.unread
+    (subst (λ (r : ReadSetView). OnErr c.load.result (c.load.new.versions.items ≡ r)) c.self.view_is c.load.ensures.kept) so_far
+
+pub returns-in-Err-clause-grown_since : goal.returns-in-Err-clause-grown_since
+returns-in-Err-clause-grown_since g c = λ first before. grown_twice first c.args.reader.now c.load.new.reader before c.load.ensures.grown

@@ -4,10 +4,11 @@ use Rattle.script.proofs.running.Desk.answer_held.Goals as goal
 
 pub returns-clause-turn : goal.returns-clause-turn
 returns-clause-turn g c =
+    let told = c.in_ok-answer_line.ensures.turn in
     λ bytes is. (
-      record { answer = c.in_ok-answer.answer; state = (state_of g.K.Run.first c.answer_line.new.session) },
-      c.in_ok-answer.ensures.turn bytes
+      record { answer = told.0; state = (state_of g.K.Run.first c.answer_line.new.session) },
+      told.2 bytes
           (c.line-line.ensures ∙ is),
       refl,
-      c.in_ok-print.ensures.ok,
+      told.1,
     )

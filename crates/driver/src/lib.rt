@@ -1,0 +1,16 @@
+//! Driving an engine by terminals and loggers in threads, with a log file a logger, and telling what came of it.
+#![tactic(auto)]
+
+mod beat;
+mod counts;
+mod driving;
+mod outfit;
+mod screen;
+mod telling;
+
+pub use beat::Beat;
+pub use counts::Counts;
+pub use driving::{Driven, Plan, drive};
+pub use outfit::Slot;
+pub use screen::Screen;
+pub use telling::ran;

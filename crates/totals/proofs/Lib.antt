@@ -1,0 +1,12 @@
+mod Differs
+mod Worded
+mod Written
+mod Keyed
+mod Sums
+mod Counted
+mod Bought
+mod OrdersKept
+mod Fits
+mod Follow
+mod Wraps
+mod Moving

@@ -1,0 +1,6 @@
+pub mod Totals
+pub mod Worth
+pub mod Moves
+pub mod Written
+pub mod Small
+pub mod Steps

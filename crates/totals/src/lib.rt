@@ -1,0 +1,12 @@
+//! Running totals of a database's tables: each the sum, count, least or greatest that a consistency condition speaks
+//! of, brought up to date by the records that a commit writes.
+#![tactic(auto)]
+
+mod amounts;
+mod follows;
+mod places;
+mod running;
+mod worth;
+
+pub use follows::sums_follow_commits;
+pub use running::RunningSums;

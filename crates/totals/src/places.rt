@@ -1,0 +1,74 @@
+//! The places of keys among the totals: those of their records in their tables.
+
+ghost use Rattle.std.specs.Prelude.{◌≡◌, ◌+◌, ◌-◌, ◌*◌, ◌<◌, ◌≤◌};
+ghost use Rattle.tables.specs.Keys.{IsDistrictKey, IsCustomerKey, IsOrderKey};
+ghost use Rattle.tables.specs.Records.{size, district_place, customer_place, order_place};
+ghost use Rattle.tables.specs.declared.records.Table.TheVariants as table;
+
+use tables::{CustomerKey, DistrictKey, OrderKey, Scale, Table};
+
+#[tactic(auto, using(tables::proofs::Numbers::district_there))]
+pub fn place_of_district(scale: &Scale, key: DistrictKey) -> u32
+    requires { IsDistrictKey scale.now key }
+    ensures value { result ≡ district_place scale.now key.warehouse key.district }
+    ensures limit { result < size scale.now table.District }
+{
+    let size = Table::District.size(scale);
+    place(size, key.warehouse - 1, scale.districts(), key.district)
+}
+
+#[tactic(auto, using(tables::proofs::Numbers::customer_there))]
+pub fn place_of_customer(scale: &Scale, key: CustomerKey) -> u32
+    requires { IsCustomerKey scale.now key }
+    ensures value { result ≡ customer_place scale.now key }
+    ensures limit { result < size scale.now table.Customer }
+{
+    let district = DistrictKey {
+        warehouse: key.warehouse,
+        district: key.district,
+    };
+    let row = place_of_district(scale, district);
+    let size = Table::Customer.size(scale);
+    place(size, row, scale.customers(), key.customer)
+}
+
+#[tactic(auto, using(tables::proofs::Numbers::order_there))]
+pub fn place_of_order(scale: &Scale, key: OrderKey) -> u32
+    requires { IsOrderKey scale.now key }
+    ensures value { result ≡ order_place scale.now key }
+    ensures limit { result < size scale.now table.Order }
+{
+    let district = DistrictKey {
+        warehouse: key.warehouse,
+        district: key.district,
+    };
+    let row = place_of_district(scale, district);
+    let size = Table::Order.size(scale);
+    place(size, row, scale.orders(), key.order)
+}
+
+/// The place of a column, counted from 1, of a row, counted from 0, where a row has that width.
+fn place(size: u32, row: u32, width: u32, column: u32) -> u32
+    requires column { 1 ≤ column }
+    requires limit { row * width + (column - 1) < size }
+    ensures value { result ≡ row * width + (column - 1) }
+    ensures limit { result < size }
+{
+    let place = row * width + (column - 1);
+    // The table's size bounds the sum.
+    prove!(place < size);
+    place
+}
+
+/// The place of an order's district.
+pub fn place_in_districts(scale: &Scale, key: OrderKey) -> u32
+    requires { IsOrderKey scale.now key }
+    ensures value { result ≡ district_place scale.now key.warehouse key.district }
+    ensures limit { result < size scale.now table.District }
+{
+    let district = DistrictKey {
+        warehouse: key.warehouse,
+        district: key.district,
+    };
+    place_of_district(scale, district)
+}
