@@ -18,3 +18,4 @@ mod NumberLeft
 mod RefusedThere
 mod Opened
 pub mod Executed
+mod TotalsKept

@@ -20,7 +20,7 @@ use Rattle.book.specs.Ready.{IsWithin, IsPassed, IsFree, IsReady, AreLast, AreNe
 use Rattle.encoding.proofs.Positions.{at_first}
 use Rattle.book.proofs.Sound.{last_one}
 
-first_value : (w : Option (List ℕ)) → value_in (first_version w) ≡ w
+pub first_value : (w : Option (List ℕ)) → value_in (first_version w) ≡ w
 first_value (Some words) = refl
 first_value None = refl
 

@@ -7,6 +7,7 @@ use Rattle.population.specs.Initial.{initial, seed_of}
 use Rattle.cells.specs.First.{firsts}
 use Rattle.cells.specs.Opening.{seen_all}
 use Rattle.encoding.specs.Newest.{AreFirst}
+use Rattle.totals.specs.Totals.{AreTotals}
 use Rattle.board.specs.Seats.{BoardView}
 use Rattle.board.specs.Opening.{Opens}
 use Rattle.book.specs.declared.untaken.Untaken.{Untaken}
@@ -77,3 +78,4 @@ pub record IsFresh (p : Parts) : Type 0 where
   pub board : Opens p.board.plan (length p.readers.items) p.board p.seats
   pub loggers : (0 < p.board.plan.loggers) × (p.board.plan.loggers ≤ MAX_LOGGERS)
   pub streams : AreEmpty p.board.plan.loggers p.board.plan.base p.streams.items
+  pub totals : AreTotals (initial (arc_value p.population)) p.totals

@@ -7,28 +7,32 @@ use crate::share::Share;
 use crate::untaken::Untaken;
 use board::BookSeat;
 use cells::{Newest, Pen};
-use conditions::{Report, check};
+use conditions::Report;
 use encoding::tables_of;
 use money::{Payload, Refusal};
 use population::Population;
+use reports::report_of;
 use std::alloc::Global;
 use std::marker::Model;
 use std::sync::{Arc, ledger};
 use tables::Tables;
 use tidword::TidWord;
+use totals::Totals;
 
 /// The committed state, which stands under the engine's lock: the newest version of each record, by record number,
 /// and what has committed. The committed tables are what these tell, and are kept nowhere. Its type keeps `IsSound` of
 /// what contracts see of it, that it is ready for the next commit, that it has each terminal's last TID, that the
 /// terminals' shares sum to the length of the history, that its seat of the board has counted each commit of the
 /// history, with its epoch, that what waits for a logger is what of its stream was not taken, each entry above the
-/// mark of the last take, and that each entry may be written to a log file.
+/// mark of the last take, that each entry may be written to a log file, and that its totals are those of the committed
+/// tables.
 #[derive(Drop)]
 pub struct Book<K: Run> {
     pub(crate) pen: Pen,
     pub(crate) population: Arc<Population, Global>,
     pub(crate) past: u32,
     pub(crate) newest: Vec<Newest>,
+    pub(crate) totals: Totals,
     pub(crate) history: Vec<Arc<Entry, Global>>,
     pub(crate) streams: Vec<Untaken>,
     pub(crate) lasts: Vec<TidWord>,
@@ -46,6 +50,7 @@ impl<K: Run> Model for Book<K> {
     ghost use Rattle.book.specs.Epochs.{HasCounted, found_epoch};
     ghost use Rattle.book.specs.Streams.{AreStreams};
     ghost use Rattle.book.specs.Loggable.{AreLoggable};
+    ghost use Rattle.totals.specs.Totals.{AreTotals};
 
     ghost Value = { BookView };
 
@@ -66,7 +71,8 @@ impl<K: Run> Model for Book<K> {
         × (b.seat.board ≡ K.board) × HasCounted b.seat history
         × (seed_of (arc_value b.population) ≡ K.seed) × (b.past ≡ K.past)
         × AreStreams K.board.plan (found_epoch b.seat) history b.streams.items
-        × AreLoggable K.first.scale K.parts history };
+        × AreLoggable K.first.scale K.parts history
+        × AreTotals (replay K.first history) b.totals };
 }
 
 impl<K: Run> Book<K> {
@@ -125,15 +131,20 @@ impl<K: Run> Book<K> {
         tables_of(alloc, &self.population, &self.newest, &added)
     }
 
-    /// Which conditions the committed tables meet: all. Costs what `tables` and `check` do. `OutOfMemory` is the only
-    /// refusal.
-    pub fn report(&self, alloc: Global) -> Result<Report, Refusal>
+    /// Which conditions the committed tables meet: all. Costs one pass over the records, each of which is compared with
+    /// the running totals, and takes no memory, so that there is no refusal.
+    pub fn report(&self, _alloc: Global) -> Result<Report, Refusal>
         ensures report { IfOk result (IsReportOf (replay K.first self.now.history)) }
         ensures good { IfOk result IsGood }
         ensures only_memory { IfErr result (λ refusal. refusal ≡ OutOfMemory) }
     {
-        let tables = self.tables()?;
-        check(alloc, &tables)
+        let scale = self.population.scale();
+        Ok(report_of(
+            &scale,
+            &self.newest,
+            self.totals.sums(),
+            self.totals.bounds(),
+        ))
     }
 
     /// For proofs: a share with all parts of the ledger has as many commits as the history has entries. Changes

@@ -12,11 +12,12 @@ ghost use Rattle.book.specs.Next.{IsNextCommit, IsRefusedAt};
 ghost use Rattle.book.specs.Shows.{Mirrors, IsCommitRun, IsFailedRun, reads_of};
 
 use crate::book::Book;
+use crate::counting::store_counted;
 use crate::done::Done;
 use crate::prepare::{Place, Prepared, prepare};
 use crate::run::Run;
 use crate::share::Share;
-use crate::steps::{in_order, store, validate};
+use crate::steps::{in_order, validate};
 use board::Board;
 use cells::{Cells, Reader};
 use money::Refusal;
@@ -25,8 +26,8 @@ use std::sync::Wait;
 
 impl<K: Run> Book<K> {
     /// Commits a transaction that this reader has executed, as the next in the history (Silo, section 4.4). Costs a
-    /// comparison a record read; a store, a comparison and two copies a record written; and constant time, amortized,
-    /// for the history and the logger's stream. May wait, at a record's cell alone.
+    /// comparison a record read; a store, a comparison, two copies and a step of the totals a record written; and constant
+    /// time, amortized, for the history and the logger's stream. May wait, at a record's cell alone.
     ///
     /// Where the versions read are the latest, the transaction is done at the committed tables: its reply and its
     /// writes are those of its definition there, though it may be refused. Its TID is the least of the epoch E that is
@@ -125,12 +126,13 @@ impl<K: Run> Book<K> {
             Ok(prepared) => prepared,
             Err(refusal) => return Err(refusal),
         };
-        store(
+        store_counted(
             rt,
             cells,
             &mut self.pen,
             reader,
             &mut self.newest,
+            &mut self.totals,
             &reads,
             &entry,
         );

@@ -4,6 +4,8 @@ ghost use Rattle.std.specs.Arc.{arc_value};
 ghost use Rattle.money.specs.declared.refusal.Refusal.TheVariants.{OutOfMemory};
 ghost use Rattle.population.specs.Initial.{initial, seed_of};
 ghost use Rattle.tables.specs.Records.{record_count};
+ghost use Rattle.encoding.specs.Newest.{AreFirst};
+ghost use Rattle.totals.specs.Totals.{AreTotals};
 ghost use Rattle.board.specs.declared.rule.Role.TheVariants.{Clock, Terminal};
 ghost use Rattle.board.specs.Seats.{new_seat};
 ghost use Rattle.board.specs.Opening.{logger_seats};
@@ -28,6 +30,7 @@ use std::marker::Model;
 use std::sync::ledger::{self, Blank};
 use std::sync::{Arc, Mutex, MutexGuard, Wait};
 use tidword::TidWord;
+use totals::Totals;
 
 /// What an engine is opened with: all memory that opening one takes.
 #[derive(Drop)]
@@ -36,6 +39,7 @@ pub struct Parts {
     lent: Arc<Population, Global>,
     past: u32,
     newest: Vec<Newest>,
+    totals: Totals,
     history: Vec<Arc<Entry, Global>>,
     streams: Vec<Untaken>,
     lasts: Vec<TidWord>,
@@ -79,6 +83,7 @@ impl Parts {
         ensures only_memory { IfErr result (λ refusal. refusal ≡ OutOfMemory) }
     {
         let newest = newest_of(alloc, &population)?;
+        let totals = totals_of(alloc, &population, &newest)?;
         let (cells, pen, readers) = Cells::new(rt, alloc, &newest, terminals as usize)?;
         let (population, lent) = shared(alloc, population)?;
         let (board, seats) = Board::new(alloc, u64::from(loggers), u64::from(terminals))?;
@@ -87,6 +92,7 @@ impl Parts {
             lent,
             past: 0,
             newest,
+            totals,
             history: Vec::new(alloc),
             streams: streams(alloc, loggers)?,
             lasts: vec![in alloc; TidWord::new(0); terminals as usize]?,
@@ -97,6 +103,19 @@ impl Parts {
             board,
             seats,
         })
+    }
+}
+
+/// The totals of a population's tables, whose records these are. `OutOfMemory` is the only refusal.
+fn totals_of(alloc: Global, population: &Population, newest: &[Newest]) -> Result<Totals, Refusal>
+    requires { AreFirst (initial population.now) newest.now }
+    ensures totals { IfOk result (AreTotals (initial population.now)) }
+    ensures only_memory { IfErr result (λ refusal. refusal ≡ OutOfMemory) }
+{
+    let tables = population.tables();
+    match Totals::of(alloc, &tables.scale, newest, &tables.history) {
+        Ok(totals) => Ok(totals),
+        Err(_) => Err(Refusal::OutOfMemory),
     }
 }
 
@@ -153,6 +172,7 @@ impl<K: Run> Engine<K> {
             lent,
             past,
             newest,
+            totals,
             history,
             streams,
             lasts,
@@ -177,6 +197,7 @@ impl<K: Run> Engine<K> {
             population: lent,
             past,
             newest,
+            totals,
             history,
             streams,
             lasts,

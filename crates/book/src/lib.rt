@@ -9,6 +9,7 @@ mod book;
 mod closed;
 mod committing;
 mod confirming;
+mod counting;
 mod done;
 mod engine;
 mod entry;

@@ -4,3 +4,5 @@ mod Lines
 mod Numbered
 mod Told
 mod Searched
+mod Walked
+mod Counted

@@ -81,3 +81,8 @@ are_numbers {X} k m left s ordered none all few =
     ap (λ es. fold with_number no_numbers (numbers_among k es)) (entries-view exact_order m ordered) ∙ sym all
     ∙ ap (λ es. fold with_number s (numbers_among k es)) none in
     subst (AreNumbersOf _) is (numbered _ (subst (λ (n : Numbers). n.count < 2 ^ 63) (sym is) few))
+
+-- of a district that is held, what is held counts
+pub held_more : (b : Bool) (held rest old : Numbers) (n : ℕ) → cond b held rest ≡ old → cond b (with_number held n) rest ≡ cond b (with_number old n) old
+held_more true held rest old n is = ap (λ s. with_number s n) is
+held_more false held rest old n is = is

@@ -1,6 +1,10 @@
 pub mod Finds
 pub mod Report
 pub mod Amounts
+pub mod Running
+pub mod Walk
+pub mod LineWalk
 pub mod Numbers
 pub mod Sums
+pub mod Walks
 pub mod Steps

@@ -1,12 +1,15 @@
 -- How many order numbers there are, the least and the greatest.
 use Rattle.std.specs.Prelude.{◌≡◌, ℕ, ◌+◌, ◌<◌, ◌^◌, ◌==◌, cond, min, max, Some, List, length, map, unwrap_or}
 use Rattle.std.specs.List.{filter}
+use Rattle.std.specs.Option.{option_map_or}
+use Rattle.std.specs.Ordering.{eq_by_cmp}
 use Rattle.std.specs.BTreeMap.{BTreeMap, get}
 use Rattle.tables.specs.Keys.{district_cmp, is_district}
 use Rattle.tables.specs.OrderNumbers.{least, greatest}
 use Rattle.tables.specs.declared.keys.DistrictKey.{DistrictKey}
 use Rattle.tables.specs.declared.keys.OrderKey.{OrderKey}
 use Rattle.conditions.specs.declared.numbers.Numbers.{Numbers}
+use Rattle.conditions.specs.declared.numbers.Gathered.{Gathered}
 
 -- of no order
 abbrev pub no_numbers : Numbers
@@ -24,6 +27,11 @@ with_number s n = record {
 -- those of a district
 abbrev pub numbers_at : BTreeMap DistrictKey Numbers → DistrictKey → Numbers
 numbers_at numbers k = unwrap_or (get district_cmp numbers k) no_numbers
+
+-- those of a district while rows come in: of the one that is held, what is held
+abbrev pub gathered_at : Gathered → DistrictKey → Numbers
+gathered_at s k = option_map_or (λ h. cond (eq_by_cmp district_cmp h k) s.held (numbers_at s.numbers k)) s.district
+    (numbers_at s.numbers k)
 
 -- the order numbers of a district among these entries of ORDER or of NEW-ORDER
 abbrev pub numbers_among : {X : Type 0} → DistrictKey → List (OrderKey × X) → List ℕ

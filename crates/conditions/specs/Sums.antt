@@ -1,7 +1,7 @@
 -- What the sums over tables are. No public clause cites them.
 use Rattle.std.specs.Prelude.{◌≡◌, ◌==◌, ℕ}
 use Rattle.std.specs.Ordering.{nat_cmp}
-use Rattle.tables.specs.Keys.{district_cmp, customer_cmp, order_cmp, is_district, is_order}
+use Rattle.tables.specs.Keys.{district_cmp, customer_cmp, is_district}
 use Rattle.tables.specs.Maps.{total, count}
 use Rattle.tables.specs.OrderNumbers.{numbers_in}
 use Rattle.tables.specs.Database.{Database}
@@ -9,7 +9,6 @@ use Rattle.tables.specs.Conditions.{line_counts, delivered_amount, paid_at_wareh
 use Rattle.tables.specs.Conditions.{paid_by_customer}
 use Rattle.tables.specs.declared.keys.DistrictKey.{DistrictKey}
 use Rattle.tables.specs.declared.keys.CustomerKey.{CustomerKey}
-use Rattle.tables.specs.declared.keys.OrderKey.{OrderKey}
 use Rattle.conditions.specs.Amounts.{amount_at, AreBounded, share}
 use Rattle.conditions.specs.Numbers.{numbers_at, AreNumbersOf}
 use Rattle.conditions.specs.declared.sums.Sums.{Sums}
@@ -23,8 +22,6 @@ pub record AreSumsOf (t : Database) (s : Sums) : Type 0 where
   pub line_counts : (k : DistrictKey) → amount_at district_cmp s.line_counts k ≡ line_counts t k
   pub lines : (k : DistrictKey)
       → amount_at district_cmp s.lines k ≡ count (λ j line. is_district j.warehouse j.district k) t.lines
-  pub order_lines : (k : OrderKey)
-      → amount_at order_cmp s.order_lines k ≡ count (λ j line. is_order j.warehouse j.district j.order k) t.lines
   pub warehouse_history : (w : ℕ) → amount_at nat_cmp s.warehouse_history w ≡ paid_at_warehouse t w
   pub district_history : (k : DistrictKey) → amount_at district_cmp s.district_history k ≡ paid_at_district t k
   pub customer_history : (k : CustomerKey) → amount_at customer_cmp s.customer_history k ≡ paid_by_customer t k

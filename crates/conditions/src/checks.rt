@@ -19,8 +19,9 @@ use std::alloc::Global;
 use tables::Tables;
 
 /// Checks the consistency conditions (TPC-C 3.3.2), of any tables. Costs a pass over a table for each sum that
-/// a condition names, then one over the keys or the rows that a condition is asked of, with a few look-ups for
-/// each row: the time is linear in the rows, up to the logarithm of a look-up. Refuses only for memory.
+/// a condition names, with a search for each run of rows of one group, then one over the keys or the rows that a
+/// condition is asked of, side by side with the tables and sums that it looks into: the time is linear in the rows,
+/// up to the logarithm of a search for each HISTORY row, order and district. Refuses only for memory.
 pub fn check(alloc: Global, tables: &Tables) -> Result<Report, Refusal>
     ensures ok { IfOk result (IsReportOf (database tables.now)) }
     ensures good { IfOk result (λ report. IsConsistent (database tables.now) → IsGood report) }

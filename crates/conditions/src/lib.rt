@@ -6,12 +6,16 @@ mod amounts;
 mod checks;
 mod columns;
 mod key_conditions;
+mod line_walk;
 mod numbers;
 mod report;
 mod row_conditions;
+mod running;
 mod search;
 mod shares;
 mod sums;
+mod walk;
+mod walks;
 
 pub use checks::check;
 pub use report::Report;

@@ -1,13 +1,16 @@
 //! The order numbers of each district, in one pass over a table.
 
 ghost use Rattle.std.specs.Prelude.{◌≡◌, ◌+◌, ◌<◌, ◌≤◌, ◌^◌, IfOk, OnOk, cond};
+ghost use Rattle.std.specs.Option.{option_map_or};
 ghost use Rattle.std.specs.Ordering.{eq_by_cmp};
 ghost use Rattle.std.specs.FinMap.{from_entries};
 ghost use Rattle.tables.specs.Keys.{district_cmp, order_cmp};
 ghost use Rattle.tables.specs.OrderNumbers.{numbers_in};
 ghost use Rattle.tables.specs.declared.keys.DistrictKey.{DistrictKey as KeyOfDistrict};
-ghost use Rattle.conditions.specs.Numbers.{no_numbers, with_number, numbers_at, AreNumbersOf};
+ghost use Rattle.conditions.specs.Numbers.{no_numbers, with_number, numbers_at, gathered_at, AreNumbersOf};
+ghost use Rattle.conditions.specs.declared.numbers.Numbers.{Numbers as KeptNumbers};
 
+use crate::running::is_group;
 use std::alloc::{AllocError, Global};
 use std::collections::BTreeMap;
 use tables::{DistrictKey, OrderKey};
@@ -19,6 +22,13 @@ pub struct Numbers {
     pub least: u32,
     pub greatest: u32,
 }
+
+/// No order numbers.
+const NONE: Numbers = Numbers {
+    count: 0,
+    least: 0,
+    greatest: 0,
+};
 
 impl Numbers {
     /// With one more.
@@ -38,6 +48,15 @@ impl Numbers {
     }
 }
 
+/// The order numbers of each district, where those of the last row's district are held beside the others, so that rows
+/// of one district that come one after another cost no search.
+#[derive(Drop)]
+pub struct Gathered {
+    numbers: BTreeMap<DistrictKey, Numbers>,
+    district: Option<DistrictKey>,
+    held: Numbers,
+}
+
 /// The order numbers of each district that occurs in the keys of ORDER or of NEW-ORDER.
 pub fn numbers_by<X>(
     alloc: Global,
@@ -46,30 +65,60 @@ pub fn numbers_by<X>(
     ensures { IfOk result (λ numbers. (k : KeyOfDistrict)
         → AreNumbersOf (numbers_in k (from_entries {R = order_cmp} rows.now.entries)) (numbers_at numbers k)) }
 {
-    let mut numbers = BTreeMap::new(alloc);
+    let mut gathered = Gathered {
+        numbers: BTreeMap::new(alloc),
+        district: None,
+        held: NONE,
+    };
     for (key, _row) in rows.iter() {
         let district = DistrictKey {
             warehouse: key.warehouse,
             district: key.district,
         };
-        add_number(&mut numbers, district, key.order)?;
+        add_number(&mut gathered, district, key.order)?;
     }
+    put(&mut gathered)?;
+    let Gathered { numbers, .. } = gathered;
     Ok(numbers)
 }
 
 /// Adds an order number to those of a district.
-fn add_number(
-    numbers: &mut BTreeMap<DistrictKey, Numbers>,
-    district: DistrictKey,
-    order: u32,
-) -> Result<(), AllocError>
-    requires { (k : KeyOfDistrict) → (numbers_at numbers.old k).count < 2 ^ 63 }
-    ensures { OnOk result ((k : KeyOfDistrict) → numbers_at numbers.new k
+fn add_number(gathered: &mut Gathered, district: DistrictKey, order: u32) -> Result<(), AllocError>
+    requires { (k : KeyOfDistrict) → (gathered_at gathered.old k).count < 2 ^ 63 }
+    ensures { OnOk result ((k : KeyOfDistrict) → gathered_at gathered.new k
         ≡ cond (eq_by_cmp district_cmp district k)
-        (with_number (numbers_at numbers.old k) order) (numbers_at numbers.old k)) }
+        (with_number (gathered_at gathered.old k) order) (gathered_at gathered.old k)) }
 {
-    let with = numbers_of(numbers, &district).with(order);
-    numbers.insert(district, with)?;
+    hold(gathered, district)?;
+    gathered.held = gathered.held.with(order);
+    Ok(())
+}
+
+/// Makes a district the one whose order numbers are held.
+fn hold(gathered: &mut Gathered, district: DistrictKey) -> Result<(), AllocError>
+    ensures district { OnOk result ((k : KeyOfDistrict) (s : KeptNumbers)
+        → option_map_or (λ h. cond (eq_by_cmp district_cmp h k) s (numbers_at gathered.new.numbers k))
+        gathered.new.district (numbers_at gathered.new.numbers k)
+        ≡ cond (eq_by_cmp district_cmp district k) s (numbers_at gathered.new.numbers k)) }
+    ensures held { OnOk result (gathered.new.held ≡ gathered_at gathered.old district) }
+    ensures stays { OnOk result ((k : KeyOfDistrict) → gathered_at gathered.new k ≡ gathered_at gathered.old k) }
+{
+    if is_group(&gathered.district, &district) {
+        return Ok(());
+    }
+    put(gathered)?;
+    gathered.held = numbers_of(&gathered.numbers, &district);
+    gathered.district = Some(district);
+    Ok(())
+}
+
+/// Puts those that are held beside the others.
+fn put(gathered: &mut Gathered) -> Result<(), AllocError>
+    ensures { OnOk result ((k : KeyOfDistrict) → numbers_at gathered.new.numbers k ≡ gathered_at gathered.old k) }
+{
+    if let Some(district) = gathered.district {
+        gathered.numbers.insert(district, gathered.held)?;
+    }
     Ok(())
 }
 
@@ -79,10 +128,6 @@ pub fn numbers_of(numbers: &BTreeMap<DistrictKey, Numbers>, district: &DistrictK
 {
     match numbers.get(district) {
         Some(found) => *found,
-        None => Numbers {
-            count: 0,
-            least: 0,
-            greatest: 0,
-        },
+        None => NONE,
     }
 }

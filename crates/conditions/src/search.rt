@@ -1,6 +1,6 @@
 //! The least key that breaks a condition.
 
-ghost use Rattle.std.specs.Prelude.{IsSome};
+ghost use Rattle.std.specs.Prelude.{◌≡◌, IsSome};
 ghost use Rattle.std.specs.Option.{ForSome};
 ghost use Rattle.std.specs.Ordering.{nat_cmp};
 ghost use Rattle.std.specs.BTreeMap as tree;
@@ -10,11 +10,13 @@ ghost use Rattle.tables.specs.Keys.{IsCustomerKey};
 ghost use Rattle.tables.specs.Database.{database};
 ghost use Rattle.conditions.specs.Finds.{FindsLeast};
 ghost use Rattle.conditions.specs.Sums.{AreSumsOf};
+ghost use Rattle.conditions.specs.Walks.{AreWalksOf};
 ghost use Rattle.conditions.specs.Steps.{FindsDistrictOf, FindsCustomerOf};
 
 use crate::key_conditions::Condition;
 use crate::row_conditions::RowCondition;
 use crate::sums::Sums;
+use crate::walks::Walks;
 use std::collections::BTreeMap;
 use tables::{CustomerKey, DistrictKey, LineKey, Order, OrderKey, OrderLine, Tables};
 
@@ -24,8 +26,9 @@ pub fn least_warehouse<C: Condition<u32>>(tables: &Tables, sums: &Sums) -> Optio
     ensures { FindsLeast nat_cmp (IsWarehouseKey (database tables.now).scale) (C.holds_at (database tables.now))
         result }
 {
+    let mut walks = Walks::new(tables, sums);
     for warehouse in 1..=tables.scale.warehouses() {
-        if !C::holds(tables, sums, &warehouse) {
+        if !C::holds(tables, sums, &mut walks, &warehouse) {
             return Some(warehouse);
         }
     }
@@ -41,8 +44,9 @@ pub fn least_district<C: Condition<DistrictKey>>(
     ensures { FindsLeast district_cmp (IsDistrictKey (database tables.now).scale) (C.holds_at (database tables.now))
         result }
 {
+    let mut walks = Walks::new(tables, sums);
     for warehouse in 1..=tables.scale.warehouses() {
-        if let Some(key) = least_district_of::<C>(tables, sums, warehouse) {
+        if let Some(key) = least_district_of::<C>(tables, sums, &mut walks, warehouse) {
             return Some(key);
         }
     }
@@ -53,17 +57,20 @@ pub fn least_district<C: Condition<DistrictKey>>(
 fn least_district_of<C: Condition<DistrictKey>>(
     tables: &Tables,
     sums: &Sums,
+    walks: &mut Walks<'_>,
     warehouse: u32,
 ) -> Option<DistrictKey>
-    requires { AreSumsOf (database tables.now) sums.now }
-    ensures { FindsDistrictOf warehouse tables.now.scale.districts (C.holds_at (database tables.now)) result }
+    requires sums { AreSumsOf (database tables.now) sums.now }
+    requires walks { AreWalksOf tables.now sums.now walks.old }
+    ensures walks { AreWalksOf tables.now sums.now walks.new }
+    ensures finds { FindsDistrictOf warehouse tables.now.scale.districts (C.holds_at (database tables.now)) result }
 {
     for district in 1..=tables.scale.districts() {
         let key = DistrictKey {
             warehouse,
             district,
         };
-        if !C::holds(tables, sums, &key) {
+        if !C::holds(tables, sums, walks, &key) {
             return Some(key);
         }
     }
@@ -79,9 +86,12 @@ pub fn least_customer<C: Condition<CustomerKey>>(
     ensures { FindsLeast customer_cmp (IsCustomerKey (database tables.now).scale) (C.holds_at (database tables.now))
         result }
 {
+    let mut walks = Walks::new(tables, sums);
     for warehouse in 1..=tables.scale.warehouses() {
         for district in 1..=tables.scale.districts() {
-            if let Some(key) = least_customer_of::<C>(tables, sums, warehouse, district) {
+            if let Some(key) = least_customer_of::<C>(
+                tables, sums, &mut walks, warehouse, district,
+            ) {
                 return Some(key);
             }
         }
@@ -93,11 +103,15 @@ pub fn least_customer<C: Condition<CustomerKey>>(
 fn least_customer_of<C: Condition<CustomerKey>>(
     tables: &Tables,
     sums: &Sums,
+    walks: &mut Walks<'_>,
     warehouse: u32,
     district: u32,
 ) -> Option<CustomerKey>
-    requires { AreSumsOf (database tables.now) sums.now }
-    ensures { FindsCustomerOf warehouse district tables.now.scale.customers (C.holds_at (database tables.now)) result }
+    requires sums { AreSumsOf (database tables.now) sums.now }
+    requires walks { AreWalksOf tables.now sums.now walks.old }
+    ensures walks { AreWalksOf tables.now sums.now walks.new }
+    ensures finds { FindsCustomerOf warehouse district tables.now.scale.customers
+        (C.holds_at (database tables.now)) result }
 {
     for customer in 1..=tables.scale.customers() {
         let key = CustomerKey {
@@ -105,7 +119,7 @@ fn least_customer_of<C: Condition<CustomerKey>>(
             district,
             customer,
         };
-        if !C::holds(tables, sums, &key) {
+        if !C::holds(tables, sums, walks, &key) {
             return Some(key);
         }
     }
@@ -147,8 +161,9 @@ fn least_row<K: Ord + Copy, X, C: RowCondition<K, X>>(
     ensures { FindsLeast K.cmp (λ k. IsSome (tree.get K.cmp rows.now k))
         (λ k. ForSome (tree.get K.cmp rows.now k) (C.holds_of (database tables.now) k)) result }
 {
+    let mut walks = Walks::new(tables, sums);
     for (key, row) in rows.iter() {
-        if !C::holds(tables, sums, key, row) {
+        if !C::holds(tables, sums, &mut walks, key, row) {
             return Some(*key);
         }
     }

@@ -1,18 +1,23 @@
 //! The sums that the conditions ask for.
 
 ghost use Rattle.std.specs.Prelude.{◌≡◌, IfOk};
+ghost use Rattle.tables.specs.Keys.{customer_cmp};
 ghost use Rattle.tables.specs.Database.{database};
+ghost use Rattle.tables.specs.Conditions.{delivered_amount};
+ghost use Rattle.tables.specs.declared.keys.CustomerKey.{CustomerKey as KeyOfCustomer};
+ghost use Rattle.conditions.specs.Amounts.{amount_at, AreBounded};
 ghost use Rattle.conditions.specs.Sums.{AreSumsOf};
 
 use crate::amounts::{history_by, sums_by};
 use crate::numbers::{Numbers, numbers_by};
 use crate::shares::{
     CustomerHistory, Delivered, DistrictHistory, DistrictLines, DistrictPayments, LineCounts,
-    OrderLines, WarehouseHistory,
+    WarehouseHistory,
 };
+use crate::walk::Walk;
 use std::alloc::{AllocError, Global};
 use std::collections::BTreeMap;
-use tables::{CustomerKey, DistrictKey, OrderKey, Tables};
+use tables::{CustomerKey, DistrictKey, Tables};
 
 /// Sums over the rows of the tables, by all groups that occur.
 #[derive(Drop)]
@@ -27,8 +32,6 @@ pub struct Sums {
     pub line_counts: BTreeMap<DistrictKey, i128>,
     /// The number of ORDER-LINE rows, by district.
     pub lines: BTreeMap<DistrictKey, i128>,
-    /// The number of ORDER-LINE rows, by order.
-    pub order_lines: BTreeMap<OrderKey, i128>,
     /// H_AMOUNT, by H_W_ID.
     pub warehouse_history: BTreeMap<u32, i128>,
     /// H_AMOUNT, by H_W_ID and H_D_ID.
@@ -44,27 +47,40 @@ impl Sums {
     pub fn of(alloc: Global, tables: &Tables) -> Result<Sums, AllocError>
         ensures { IfOk result (AreSumsOf (database tables.now)) }
     {
-        let districts = sums_by::<_, _, DistrictPayments>(alloc, tables, &tables.districts)?;
+        let districts = sums_by(alloc, &mut DistrictPayments, &tables.districts)?;
         let orders = numbers_by(alloc, &tables.orders)?;
         let new_orders = numbers_by(alloc, &tables.new_orders)?;
-        let line_counts = sums_by::<_, _, LineCounts>(alloc, tables, &tables.orders)?;
-        let lines = sums_by::<_, _, DistrictLines>(alloc, tables, &tables.lines)?;
-        let order_lines = sums_by::<_, _, OrderLines>(alloc, tables, &tables.lines)?;
-        let warehouse_history = history_by::<WarehouseHistory>(alloc, tables)?;
-        let district_history = history_by::<DistrictHistory>(alloc, tables)?;
-        let customer_history = history_by::<CustomerHistory>(alloc, tables)?;
-        let delivered = sums_by::<_, _, Delivered>(alloc, tables, &tables.lines)?;
+        let line_counts = sums_by(alloc, &mut LineCounts, &tables.orders)?;
+        let lines = sums_by(alloc, &mut DistrictLines, &tables.lines)?;
+        let warehouse_history = history_by(alloc, &mut WarehouseHistory, tables)?;
+        let district_history = history_by(alloc, &mut DistrictHistory, tables)?;
+        let customer_history = history_by(alloc, &mut CustomerHistory, tables)?;
+        let delivered = delivered_amounts(alloc, tables)?;
         Ok(Sums {
             districts,
             orders,
             new_orders,
             line_counts,
             lines,
-            order_lines,
             warehouse_history,
             district_history,
             customer_history,
             delivered,
         })
     }
+}
+
+/// OL_AMOUNT of delivered lines, by the customer of their order.
+fn delivered_amounts(
+    alloc: Global,
+    tables: &Tables,
+) -> Result<BTreeMap<CustomerKey, i128>, AllocError>
+    ensures sums { IfOk result (λ sums. (k : KeyOfCustomer) → amount_at customer_cmp sums k
+        ≡ delivered_amount (database tables.now) k) }
+    ensures bound { IfOk result (AreBounded customer_cmp) }
+{
+    let mut delivered = Delivered {
+        orders: Walk::new(&tables.orders),
+    };
+    sums_by(alloc, &mut delivered, &tables.lines)
 }

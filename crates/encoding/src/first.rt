@@ -74,8 +74,8 @@ fn none_of(alloc: Global, scale: &Scale) -> Result<Vec<Newest>, AllocError>
     Ok(newest)
 }
 
-/// How many records there are.
-fn record_count(scale: &Scale) -> u32
+/// How many records a scale has. Constant time.
+pub fn record_count(scale: &Scale) -> u32
     ensures { result ≡ record_count scale.now }
 {
     let customers = Table::Warehouse.size(scale)

@@ -8,6 +8,7 @@ use Rattle.std.specs.FinMap.{FinMap, get}
 use Rattle.tables.specs.Keys.{order_cmp, IsOrderKey, IsLineKey, order_of, is_customer}
 use Rattle.tables.specs.Conditions.{is_line_of, is_buyer, delivered_amount, Condition7At}
 use Rattle.tables.specs.Database.{Database}
+use Rattle.tables.specs.Maps.{total}
 use Rattle.tables.specs.Rows.{rows, row_at, money_of, money_word, order_words, line_words}
 use Rattle.tables.specs.WellFormed.{IsWellFormed, IsDate}
 use Rattle.tables.specs.declared.limits.TheConstants.{MAX_LINE_AMOUNT}
@@ -27,7 +28,7 @@ use Rattle.totals.proofs.Keyed as kind
 use Rattle.totals.proofs.Sums.{money_back}
 use Rattle.totals.proofs.Written.{total-written}
 
-off_line : (order : OrderKey → Option (List ℕ)) (k : CustomerKey) (r : RecordKey) → kind.line_of r ≡ None → (words : List ℕ) → delivered_to order k r words ≡ pos 0
+pub off_line : (order : OrderKey → Option (List ℕ)) (k : CustomerKey) (r : RecordKey) → kind.line_of r ≡ None → (words : List ℕ) → delivered_to order k r words ≡ pos 0
 off_line order k (key.OrderLine j) e words = absurd cc
 off_line order k _ e words = refl
 
@@ -70,6 +71,23 @@ not_delivered orders order k j r none = go r.delivery_date none
     go None e = refl
     go (Some n) e = absurd (true≢false (sym e))
 
+within : (t : Database) (j : LineKey) → IsLineKey t.scale j → IsOrderKey t.scale (order_of j)
+within t j is = (is.0, is.1, is.2)
+
+-- what was delivered to a customer, by the words of lines and of orders
+pub delivered_in_words : (t : Database) → IsWellFormed t → (order : OrderKey → Option (List ℕ))
+    → ((j : OrderKey) → IsOrderKey t.scale j → order j ≡ row_at t (key.Order j)) → (k : CustomerKey)
+    → delivered_amount t k ≡ total (λ j r. delivered_to order k (key.OrderLine j) (line_words r)) t.lines
+delivered_in_words t wf order ordered k = total-alike exact_line _ (λ j r. delivered_to order k (key.OrderLine j) (line_words r)) t.lines at
+  where
+    at : (j : LineKey) (r : OrderLine) → get t.lines j ≡ Some r
+        → cond (is_line_of t.orders k j r) r.amount (pos 0) ≡ delivered_to order k (key.OrderLine j) (line_words r)
+    at j r found =
+        let o = wf.line_orders j r found in
+        let row = wf.line_rows j r found in
+        in_words t.orders order k j r o.0 (order_words o.0) row.delivery_date row.at_least row.at_most o.1
+        (ordered (order_of j) (within t j (wf.lines j (ap is_some found))) ∙ ap (option_map order_words) o.1) refl
+
 module _ (t u : Database) (writes : List (ℕ × Option (List ℕ))) (h : AreWritten t u writes) (wf_t : IsWellFormed t) (wf_u : IsWellFormed u)
     (kept : OrdersKeepCustomers t u) (wait : NewOrdersWait t u) (condition_7 : (j : LineKey) → Condition7At u j) (order : OrderKey → Option (List ℕ))
     (ordered : (j : OrderKey) → IsOrderKey t.scale j → order j ≡ row_at t (key.Order j)) where
@@ -79,11 +97,8 @@ module _ (t u : Database) (writes : List (ℕ × Option (List ℕ))) (h : AreWri
       ∙ total-written exact_line kind.lines t u writes h (delivered_to order k) (off_line order k) line_words t.lines u.lines (λ j. refl) (λ j. refl)
       wf_t.lines (λ j some. subst (λ s. IsLineKey s j) h.scale (wf_u.lines j some))
       ∙ ap (λ a. a +ℤ moved t.scale (rows t) writes (delivered_to order k))
-      (sym (total-alike exact_line _ (λ j r. delivered_to order k (key.OrderLine j) (line_words r)) t.lines at_t))
+      (sym (delivered_in_words t wf_t order ordered k))
     where
-      within : (j : LineKey) → IsLineKey t.scale j → IsOrderKey t.scale (order_of j)
-      within j is = (is.0, is.1, is.2)
-
       at_u : (j : LineKey) (r : OrderLine) → get u.lines j ≡ Some r
           → cond (is_line_of u.orders k j r) r.amount (pos 0) ≡ delivered_to order k (key.OrderLine j) (line_words r)
       at_u j r found = by_order (get t.orders (order_of j)) refl
@@ -94,18 +109,10 @@ module _ (t u : Database) (writes : List (ℕ × Option (List ℕ))) (h : AreWri
               let row = wf_u.line_rows j r found in
               let later = kept (order_of j) o there in
               in_words u.orders order k j r later.0 (order_words o) row.delivery_date row.at_least row.at_most later.1
-              (ordered (order_of j) (within j (subst (λ s. IsLineKey s j) h.scale (wf_u.lines j (ap is_some found)))) ∙ ap (option_map order_words) there)
+              (ordered (order_of j) (within t j (subst (λ s. IsLineKey s j) h.scale (wf_u.lines j (ap is_some found)))) ∙ ap (option_map order_words) there)
               (sym later.2)
           by_order None none =
               let o = wf_u.line_orders j r found in
               let date : is_none r.delivery_date ≡ true =
               condition_7 j r found ∙ ap (λ w. option_map_or (λ (b : Order). is_none b.carrier) w true) o.1 ∙ ap is_none (wait (order_of j) o.0 none o.1) in
               not_delivered u.orders order k j r date
-
-      at_t : (j : LineKey) (r : OrderLine) → get t.lines j ≡ Some r
-          → cond (is_line_of t.orders k j r) r.amount (pos 0) ≡ delivered_to order k (key.OrderLine j) (line_words r)
-      at_t j r found =
-          let o = wf_t.line_orders j r found in
-          let row = wf_t.line_rows j r found in
-          in_words t.orders order k j r o.0 (order_words o.0) row.delivery_date row.at_least row.at_most o.1
-          (ordered (order_of j) (within j (wf_t.lines j (ap is_some found))) ∙ ap (option_map order_words) o.1) refl

@@ -38,7 +38,7 @@ use Rattle.totals.proofs.OrdersKept.{orders_keep_customers, new_orders_wait}
 use Rattle.totals.proofs.Fits.{sums_fit}
 
 -- an amount that is exact before is exact after
-exact : (w : Width) (a b z x y : ℤ) → a ≡ x → IsMoved w a b z → y ≡ x +ℤ z → FitsSigned w x → FitsSigned w y → b ≡ y
+pub exact : (w : Width) (a b z x y : ℤ) → a ≡ x → IsMoved w a b z → y ≡ x +ℤ z → FitsSigned w x → FitsSigned w y → b ≡ y
 exact w a b z x y is moves after fits_before fits_after =
     moves (subst (FitsSigned w) (sym is) fits_before) ∙ ap (int_wrap w) (ap (λ c. c +ℤ z) is ∙ sym after) ∙ int_wrap_fits w y fits_after
 

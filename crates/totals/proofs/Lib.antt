@@ -2,7 +2,7 @@ mod Differs
 mod Worded
 mod Written
 mod Keyed
-mod Sums
+pub mod Sums
 mod Counted
 mod Bought
 mod OrdersKept
@@ -10,3 +10,6 @@ mod Fits
 mod Follow
 mod Wraps
 mod Moving
+mod Opened
+mod Begin
+mod Recorded

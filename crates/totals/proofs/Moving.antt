@@ -343,12 +343,12 @@ are_other k (inr (inr (inr (inl is)))) =
 are_other k (inr (inr (inr (inr is)))) =
     nothing_worth key.Last k (λ x order words. ((λ w. refl), (λ w. refl), (λ w. refl), (λ w. refl), (λ w. refl), (λ w. refl))) is
 
--- records, and then a HISTORY row
-pub with_row : (s : Sizes) (order : OrderKey → Option (List ℕ)) (m : Worth → ℤ) (row : Option History) (a b c : SumsView)
-    → MovesSums s order m no_history a b → MovesSums s order no_record (row_moves row) b c → MovesSums s order m (row_moves row) a c
-with_row s order m row a b c first next =
+-- records, and then HISTORY rows
+pub with_rows : (s : Sizes) (order : OrderKey → Option (List ℕ)) (m : Worth → ℤ) (p : (History → ℤ) → ℤ) (a b c : SumsView)
+    → MovesSums s order m no_history a b → MovesSums s order no_record p b c → MovesSums s order m p a c
+with_rows s order m p a b c first next =
     subst (λ q. MovesSums s order m q a c) same_row
-    (subst (λ f. MovesSums s order f (λ h. pos 0 +ℤ row_moves row h) a c) same_records (then_moves s order m no_record no_history (row_moves row) a b c first next))
+    (subst (λ f. MovesSums s order f (λ h. pos 0 +ℤ p h) a c) same_records (then_moves s order m no_record no_history p a b c first next))
   where
     none_before : (z : ℤ) → pos 0 +ℤ z ≡ z
     none_before z = omega (arith, ints)
@@ -356,5 +356,5 @@ with_row s order m row a b c first next =
     same_records : ◌≡◌ {A = Worth → ℤ} (λ f. m f +ℤ pos 0) m
     same_records = λ i f. zero_more (m f) i
 
-    same_row : ◌≡◌ {A = (History → ℤ) → ℤ} (λ h. pos 0 +ℤ row_moves row h) (row_moves row)
-    same_row = λ i h. none_before (row_moves row h) i
+    same_row : ◌≡◌ {A = (History → ℤ) → ℤ} (λ h. pos 0 +ℤ p h) p
+    same_row = λ i h. none_before (p h) i

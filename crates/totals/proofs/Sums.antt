@@ -22,28 +22,39 @@ use Rattle.totals.proofs.Written.{total-written}
 pub money_back : (z : ℤ) → IsMoney z → money_of (money_word z) ≡ z
 money_back z h = omega (arith, ints)
 
-count_back : (n : ℕ) → n ≤ 15 → pos n ≡ money_of n
+pub count_back : (n : ℕ) → n ≤ 15 → pos n ≡ money_of n
 count_back n h = omega (arith, ints)
 
-off_district : (w : ℕ) (r : RecordKey) → kind.district_of r ≡ None → (words : List ℕ) → year_to_date_of w r words ≡ pos 0
+pub off_district : (w : ℕ) (r : RecordKey) → kind.district_of r ≡ None → (words : List ℕ) → year_to_date_of w r words ≡ pos 0
 off_district w (key.District j) e words = absurd cc
 off_district w _ e words = refl
 
-off_order : (k : DistrictKey) (r : RecordKey) → kind.order_of r ≡ None → (words : List ℕ) → line_count_in k r words ≡ pos 0
+pub off_order : (k : DistrictKey) (r : RecordKey) → kind.order_of r ≡ None → (words : List ℕ) → line_count_in k r words ≡ pos 0
 off_order k (key.Order j) e words = absurd cc
 off_order k _ e words = refl
 
-off_line : (k : DistrictKey) (r : RecordKey) → kind.line_of r ≡ None → (words : List ℕ) → line_in k r words ≡ pos 0
+pub off_line : (k : DistrictKey) (r : RecordKey) → kind.line_of r ≡ None → (words : List ℕ) → line_in k r words ≡ pos 0
 off_line k (key.OrderLine j) e words = absurd cc
 off_line k _ e words = refl
 
-off_order_line : (k : OrderKey) (r : RecordKey) → kind.line_of r ≡ None → (words : List ℕ) → line_of k r words ≡ pos 0
+pub off_order_line : (k : OrderKey) (r : RecordKey) → kind.line_of r ≡ None → (words : List ℕ) → line_of k r words ≡ pos 0
 off_order_line k (key.OrderLine j) e words = absurd cc
 off_order_line k _ e words = refl
 
-off_new_order : (k : DistrictKey) (r : RecordKey) → kind.new_order_of r ≡ None → (words : List ℕ) → one_in k r words ≡ pos 0
+pub off_new_order : (k : DistrictKey) (r : RecordKey) → kind.new_order_of r ≡ None → (words : List ℕ) → one_in k r words ≡ pos 0
 off_new_order k (key.NewOrder j) e words = absurd cc
 off_new_order k _ e words = refl
+
+-- D_YTD and O_OL_CNT by the words of their rows
+pub year_to_date_in_words : (d : Database) → IsWellFormed d → (w : ℕ) → sum_where (λ k r. k.warehouse == w) (λ r. r.year_to_date) d.districts
+    ≡ total (λ k r. year_to_date_of w (key.District k) (district_words r)) d.districts
+year_to_date_in_words d wf w = total-alike exact_district _ (λ k r. year_to_date_of w (key.District k) (district_words r)) d.districts
+    (λ k r found. ap (λ a. cond (k.warehouse == w) a (pos 0)) (sym (money_back r.year_to_date (wf.district_rows k r found).year_to_date)))
+
+pub line_counts_in_words : (d : Database) → IsWellFormed d → (k : DistrictKey)
+    → line_counts d k ≡ total (λ j r. line_count_in k (key.Order j) (order_words r)) d.orders
+line_counts_in_words d wf k = total-alike exact_order _ (λ j r. line_count_in k (key.Order j) (order_words r)) d.orders
+    (λ j r found. ap (λ a. cond (is_district j.warehouse j.district k) a (pos 0)) (count_back r.line_count (wf.order_rows j r found).line_count.1))
 
 module _ (t u : Database) (writes : List (ℕ × Option (List ℕ))) (h : AreWritten t u writes) (wf_t : IsWellFormed t) (wf_u : IsWellFormed u) where
   abbrev moves : Worth → ℤ
@@ -53,26 +64,17 @@ module _ (t u : Database) (writes : List (ℕ × Option (List ℕ))) (h : AreWri
       → sum_where (λ k r. k.warehouse == w) (λ r. r.year_to_date) u.districts
       ≡ sum_where (λ k r. k.warehouse == w) (λ r. r.year_to_date) t.districts +ℤ moves (year_to_date_of w)
   year_to_date_after w =
-      in_words u wf_u
+      year_to_date_in_words u wf_u w
       ∙ total-written exact_district kind.districts t u writes h (year_to_date_of w) (off_district w) district_words t.districts u.districts (λ j. refl) (λ j. refl)
       (λ k some. (wf_t.districts k).0 some) (λ k some. subst (λ s. IsDistrictKey s k) h.scale ((wf_u.districts k).0 some))
-      ∙ ap (λ a. a +ℤ moves (year_to_date_of w)) (sym (in_words t wf_t))
-    where
-      in_words : (d : Database) → IsWellFormed d → sum_where (λ k r. k.warehouse == w) (λ r. r.year_to_date) d.districts
-          ≡ total (λ k r. year_to_date_of w (key.District k) (district_words r)) d.districts
-      in_words d wf = total-alike exact_district _ (λ k r. year_to_date_of w (key.District k) (district_words r)) d.districts
-          (λ k r found. ap (λ a. cond (k.warehouse == w) a (pos 0)) (sym (money_back r.year_to_date (wf.district_rows k r found).year_to_date)))
+      ∙ ap (λ a. a +ℤ moves (year_to_date_of w)) (sym (year_to_date_in_words t wf_t w))
 
   pub line_counts_after : (k : DistrictKey) → line_counts u k ≡ line_counts t k +ℤ moves (line_count_in k)
   line_counts_after k =
-      in_words u wf_u
+      line_counts_in_words u wf_u k
       ∙ total-written exact_order kind.orders t u writes h (line_count_in k) (off_order k) order_words t.orders u.orders (λ j. refl) (λ j. refl) wf_t.orders
       (λ j some. subst (λ s. IsOrderKey s j) h.scale (wf_u.orders j some))
-      ∙ ap (λ a. a +ℤ moves (line_count_in k)) (sym (in_words t wf_t))
-    where
-      in_words : (d : Database) → IsWellFormed d → line_counts d k ≡ total (λ j r. line_count_in k (key.Order j) (order_words r)) d.orders
-      in_words d wf = total-alike exact_order _ (λ j r. line_count_in k (key.Order j) (order_words r)) d.orders
-          (λ j r found. ap (λ a. cond (is_district j.warehouse j.district k) a (pos 0)) (count_back r.line_count (wf.order_rows j r found).line_count.1))
+      ∙ ap (λ a. a +ℤ moves (line_count_in k)) (sym (line_counts_in_words t wf_t k))
 
   pub district_lines_after : (k : DistrictKey)
       → count (λ j line. is_district j.warehouse j.district k) u.lines ≡ count (λ j line. is_district j.warehouse j.district k) t.lines +ℤ moves (line_in k)

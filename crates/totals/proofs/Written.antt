@@ -44,7 +44,7 @@ module _ {K : Type 0} where
   with_key (Some k) ks = k ∷ ks
 
   -- the keys of a table among the records written
-  abbrev keys_among : (RecordKey → Option K) → Sizes → List (ℕ × Option (List ℕ)) → List K
+  abbrev pub keys_among : (RecordKey → Option K) → Sizes → List (ℕ × Option (List ℕ)) → List K
   keys_among pick s [] = []
   keys_among pick s (w ∷ ws) = with_key (pick (key_of s w.0)) (keys_among pick s ws)
 
@@ -74,7 +74,7 @@ module _ {K : Type 0} {R : K → K → Ordering} {c : K → RecordKey} {pick : R
         ] refl
       ] refl
 
-  keys_apart : (ws : List (ℕ × Option (List ℕ))) → All (λ e. e.0 < record_count s) ws → IsStrictlySortedBy nat_cmp (keys_of ws)
+  pub keys_apart : (ws : List (ℕ × Option (List ℕ))) → All (λ e. e.0 < record_count s) ws → IsStrictlySortedBy nat_cmp (keys_of ws)
       → AreApart R (keys_among pick s ws)
   unfolding IsStrictlySortedBy
   keys_apart [] all ascend = tt
@@ -89,7 +89,7 @@ module _ {K : Type 0} {R : K → K → Ordering} {c : K → RecordKey} {pick : R
   itself k = ap is_eq (tied_itself o.total k)
 
   -- a key of the scale that isn't among those written has a number that isn't
-  not_written : (k : K) → IsRecordKey s (c k) → (ws : List (ℕ × Option (List ℕ))) → is_among R k (keys_among pick s ws) ≡ false
+  pub not_written : (k : K) → IsRecordKey s (c k) → (ws : List (ℕ × Option (List ℕ))) → is_among R k (keys_among pick s ws) ≡ false
       → lookup (is_at (nat_cmp (number_of_key s (c k)))) ws ≡ None
   not_written k is [] none = refl
   not_written k is (w ∷ ws) none =
@@ -112,7 +112,7 @@ module _ {K : Type 0} {R : K → K → Ordering} {c : K → RecordKey} {pick : R
 
 module _ {K : Type 0} {R : K → K → Ordering} {c : K → RecordKey} {pick : RecordKey → Option K} (kind : IsKind c pick) where
   -- the sums over the keys written are what the writes move
-  changes-moved : (f : Worth) → ((key : RecordKey) → pick key ≡ None → (words : List ℕ) → f key words ≡ pos 0)
+  pub changes-moved : (f : Worth) → ((key : RecordKey) → pick key ≡ None → (words : List ℕ) → f key words ≡ pos 0)
       → (s : Sizes) (m n : FinMap R (List ℕ)) (held : ℕ → Option (List ℕ)) (ws : List (ℕ × Option (List ℕ)))
       → All (λ e. (k : K) → key_of s e.0 ≡ c k → get m k ≡ held e.0) ws
       → All (λ e. (k : K) → key_of s e.0 ≡ c k → get n k ≡ e.1) ws

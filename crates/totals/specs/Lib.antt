@@ -4,3 +4,5 @@ pub mod Moves
 pub mod Written
 pub mod Small
 pub mod Steps
+pub mod Opening
+pub mod Counts

@@ -2,7 +2,6 @@
 use Rattle.std.specs.Prelude.{◌≡◌, ℕ, ◌-◌, ◌==◌, ℤ, pos, ◌+ℤ◌, ◌-ℤ◌, cond, Option, Some, List, [], ◌∷◌, slice_index}
 use Rattle.std.specs.Int.{Width, w8, w64, int_wrap}
 use Rattle.std.specs.Int.RustNames.{FitsSigned}
-use Rattle.std.specs.List.{slice_get}
 use Rattle.std.specs.Option.{option_map_or}
 use Rattle.tables.specs.Sizes.{Sizes, IsNumber}
 use Rattle.tables.specs.Keys.{IsWarehouseKey, IsDistrictKey, IsCustomerKey, IsOrderKey, is_district}
@@ -14,10 +13,8 @@ use Rattle.tables.specs.declared.keys.OrderKey.{OrderKey}
 use Rattle.tables.specs.declared.rows.History.{History}
 use Rattle.tables.specs.declared.records.RecordKey.{RecordKey}
 use Rattle.tables.specs.declared.records.RecordKey.TheVariants as key
-use Rattle.cells.specs.Versions.{value_in}
-use Rattle.cells.specs.Records.{newest_words}
-use Rattle.cells.specs.declared.cells.Newest.{Newest}
 use Rattle.readset.specs.Writes.{WriteSetView}
+pub use Rattle.bounds.specs.Written.{held_in}
 use Rattle.totals.specs.Totals.{SumsView, amount_at}
 use Rattle.totals.specs.Worth.{Worth, year_to_date_of, line_count_in, line_in, line_of, one_in, delivered_to}
 
@@ -88,10 +85,6 @@ pub record MovesSums (s : Sizes) (order : OrderKey → Option (List ℕ)) (recor
   pub waiting : (k : DistrictKey) → IsDistrictKey s k
       → IsMoved w64 (amount_at v.waiting (district_place s k.warehouse k.district))
       (amount_at v'.waiting (district_place s k.warehouse k.district)) (records (one_in k))
-
--- what a record holds by its newest version, by record number
-abbrev pub held_in : List Newest → ℕ → Option (List ℕ)
-held_in newest n = value_in (option_map_or newest_words (slice_get newest n) [])
 
 -- the words of an order before a commit, where the records hold these: it is as yet nobody's where it isn't there
 abbrev pub order_before : Sizes → (ℕ → Option (List ℕ)) → OrderKey → Option (List ℕ)

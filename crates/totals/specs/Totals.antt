@@ -1,9 +1,9 @@
 -- Running totals of tables: what the consistency conditions (TPC-C 3.3.2) sum, count and compare, by place.
-use Rattle.std.specs.Prelude.{◌≡◌, ℕ, ◌-◌, ◌==◌, ℤ, pos, List, length, slice_index, slice_index_or, unwrap_or}
+use Rattle.std.specs.Prelude.{◌≡◌, ℕ, ◌-◌, ◌==◌, ℤ, pos, List, length, slice_index_or}
 use Rattle.tables.specs.Sizes.{Sizes}
 use Rattle.tables.specs.Keys.{IsWarehouseKey, IsDistrictKey, IsCustomerKey, IsOrderKey, is_district, is_order}
 use Rattle.tables.specs.Maps.{sum_where, count}
-use Rattle.tables.specs.OrderNumbers.{least, greatest, numbers_in}
+use Rattle.tables.specs.OrderNumbers.{numbers_in}
 use Rattle.tables.specs.Records.{district_place, customer_place, order_place}
 use Rattle.tables.specs.Database.{Database}
 use Rattle.tables.specs.Conditions.{line_counts, delivered_amount, paid_at_warehouse, paid_at_district}
@@ -11,6 +11,7 @@ use Rattle.tables.specs.Conditions.{paid_by_customer}
 use Rattle.tables.specs.declared.keys.DistrictKey.{DistrictKey}
 use Rattle.tables.specs.declared.keys.CustomerKey.{CustomerKey}
 use Rattle.tables.specs.declared.keys.OrderKey.{OrderKey}
+use Rattle.bounds.specs.Bounds.{BoundsView, AreBounds}
 
 -- the totals that are sums and counts, each a list by place of its key, and the scale that says which places there
 -- are: by warehouse, by district, by customer, by order
@@ -26,16 +27,10 @@ pub record SumsView : Type 0 where
   pub order_lines : List ℤ
   pub waiting : List ℤ
 
--- the totals that are order numbers, by district
-pub record ExtremesView : Type 0 where
-  pub greatest_order : List ℕ
-  pub least_waiting : List ℕ
-  pub greatest_waiting : List ℕ
-
--- the totals of a database
+-- the totals of a database: sums and counts, and the least and the greatest order numbers of its districts
 pub record TotalsView : Type 0 where
   pub sums : SumsView
-  pub extremes : ExtremesView
+  pub bounds : BoundsView
 
 -- the amount at a place
 abbrev pub amount_at : List ℤ → ℕ → ℤ
@@ -70,22 +65,9 @@ pub record AreSums (s : Sizes) (t : Database) (v : SumsView) : Type 0 where
       → amount_at v.waiting (district_place s k.warehouse k.district)
       ≡ pos (length (numbers_in k t.new_orders))
 
--- and each of those order numbers
-pub record AreExtremes (s : Sizes) (t : Database) (v : ExtremesView) : Type 0 where
-  -- 3.3.2.2: the greatest O_ID, 0 where there is none
-  pub greatest_order : (k : DistrictKey) → IsDistrictKey s k
-      → slice_index v.greatest_order (district_place s k.warehouse k.district)
-      ≡ greatest (numbers_in k t.orders)
-  -- 3.3.2.2, 3.3.2.3: the least NO_O_ID, 0 where there is none, and the greatest
-  pub least_waiting : (k : DistrictKey) → IsDistrictKey s k
-      → slice_index v.least_waiting (district_place s k.warehouse k.district)
-      ≡ unwrap_or (least (numbers_in k t.new_orders)) 0
-  pub greatest_waiting : (k : DistrictKey) → IsDistrictKey s k
-      → slice_index v.greatest_waiting (district_place s k.warehouse k.district)
-      ≡ greatest (numbers_in k t.new_orders)
-
--- the totals of a database
+-- each total is its number over the tables
 pub record AreTotals (t : Database) (v : TotalsView) : Type 0 where
-  pub scale : v.sums.scale ≡ t.scale
+  pub sums_scale : v.sums.scale ≡ t.scale
+  pub bounds_scale : v.bounds.scale ≡ t.scale
   pub sums : AreSums t.scale t v.sums
-  pub extremes : AreExtremes t.scale t v.extremes
+  pub bounds : AreBounds t.scale t v.bounds

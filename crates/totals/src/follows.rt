@@ -15,6 +15,7 @@ ghost use Rattle.readset.specs.Writes.{WriteSetView};
 ghost use Rattle.readset.specs.Commit.{IsCommitOf};
 ghost use Rattle.totals.specs.Totals.{SumsView, AreSums};
 ghost use Rattle.totals.specs.Moves.{SumsFollow};
+ghost use Rattle.totals.specs.Opening.{SumsOpen};
 ghost use Rattle.totals.specs.Written.{AreWrites};
 
 /// Sums that were those of well-formed, consistent tables, and have followed a transaction's writes and its HISTORY
@@ -25,4 +26,11 @@ pub fn sums_follow_commits()
         → IsWellFormed (after t x) → IsCommitOf t x writes reply → AreWrites t.scale writes
         → ((n : ℕ) → n < record_count t.scale → held n ≡ rows t n) → AreSums t.scale t v
         → SumsFollow t.scale held writes v next → AreSums (after t x).scale (after t x) next }
+{}
+
+/// The sums that have counted all records and HISTORY rows of well-formed, consistent tables are those of the tables.
+pub fn sums_begin_with_tables()
+    ensures { (t : Database) (held : ℕ → Option (List ℕ)) (v : SumsView) → IsScale t.scale → IsWellFormed t
+        → IsConsistent t → ((n : ℕ) → n < record_count t.scale → held n ≡ rows t n)
+        → SumsOpen t.scale held t.history v → AreSums t.scale t v }
 {}

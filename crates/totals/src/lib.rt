@@ -3,10 +3,14 @@
 #![tactic(auto)]
 
 mod amounts;
+mod answering;
 mod follows;
+mod opening;
 mod places;
 mod running;
+mod totals;
 mod worth;
 
-pub use follows::sums_follow_commits;
-pub use running::RunningSums;
+pub use follows::{sums_begin_with_tables, sums_follow_commits};
+pub use running::{RunningSums, held};
+pub use totals::Totals;

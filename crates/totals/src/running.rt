@@ -27,16 +27,16 @@ use tables::{
 /// a warehouse, district or customer and sum, and 1 byte an order number of the scale.
 #[derive(Drop)]
 pub struct RunningSums {
-    scale: Scale,
-    year_to_date: Vec<i64>,
-    paid_at_warehouse: Vec<i64>,
-    paid_at_district: Vec<i64>,
-    paid_by_customer: Vec<i64>,
-    delivered: Vec<i64>,
-    line_counts: Vec<i64>,
-    district_lines: Vec<i64>,
-    order_lines: Vec<i8>,
-    waiting: Vec<i64>,
+    pub(crate) scale: Scale,
+    pub(crate) year_to_date: Vec<i64>,
+    pub(crate) paid_at_warehouse: Vec<i64>,
+    pub(crate) paid_at_district: Vec<i64>,
+    pub(crate) paid_by_customer: Vec<i64>,
+    pub(crate) delivered: Vec<i64>,
+    pub(crate) line_counts: Vec<i64>,
+    pub(crate) district_lines: Vec<i64>,
+    pub(crate) order_lines: Vec<i8>,
+    pub(crate) waiting: Vec<i64>,
 }
 
 impl Model for RunningSums {
@@ -203,7 +203,7 @@ impl RunningSums {
     }
 
     /// Adds a HISTORY row's H_AMOUNT three times.
-    fn follow_row(&mut self, row: &History)
+    pub(crate) fn follow_row(&mut self, row: &History)
         requires { IsHistoryRow self.old.scale row.now }
         ensures paid { self.new ≡ history_step self.old row.now }
         ensures places { HasPlaces self.old }
@@ -253,16 +253,35 @@ impl RunningSums {
             (step (key_of self.old.scale number) (held_in newest.now number) new.now) no_history self.old self.new }
     {
         let old = held(newest, number);
+        self.move_record(newest, number, &old, new);
+    }
+
+    /// Moves the sums by a record that held one value and comes to hold another, where orders hold what their newest
+    /// versions have.
+    pub(crate) fn move_record(
+        &mut self,
+        newest: &[Newest],
+        number: u32,
+        old: &Option<Payload>,
+        new: &Option<Payload>,
+    )
+        requires number { number < record_count self.old.scale }
+        requires newest { length newest.now ≡ record_count self.old.scale }
+        requires buyers { HasBuyers self.old.scale (held_in newest.now) }
+        ensures scale { self.new.scale ≡ self.old.scale }
+        ensures moves { MovesSums self.old.scale (order_before self.old.scale (held_in newest.now))
+            (step (key_of self.old.scale number) old.now new.now) no_history self.old self.new }
+    {
         match key_of(&self.scale, number) {
-            RecordKey::District(key) => self.follow_district(key, &old, new),
-            RecordKey::NewOrder(key) => self.follow_new_order(key, &old, new),
-            RecordKey::Order(key) => self.follow_order(key, &old, new),
+            RecordKey::District(key) => self.follow_district(key, old, new),
+            RecordKey::NewOrder(key) => self.follow_new_order(key, old, new),
+            RecordKey::Order(key) => self.follow_order(key, old, new),
             RecordKey::OrderLine(key) => {
                 let order = held(
                     newest,
                     number_of_key(&self.scale, RecordKey::Order(key.order_key())),
                 );
-                self.follow_line(key, &order, &old, new);
+                self.follow_line(key, &order, old, new);
             }
             RecordKey::Warehouse(_)
             | RecordKey::Customer(_)
@@ -273,8 +292,8 @@ impl RunningSums {
     }
 }
 
-/// What a record holds by its newest version.
-fn held(newest: &[Newest], number: u32) -> Option<Payload>
+/// What a record holds by its newest version. Constant time, no memory.
+pub fn held(newest: &[Newest], number: u32) -> Option<Payload>
     requires { number < length newest.now }
     ensures { result ≡ held_in newest.now number }
 {

@@ -1,11 +1,30 @@
-use Rattle.std.proofs.Common.{arith}
+use Rattle.std.proofs.Common.{◌≡◌, ◌∙◌, arith}
 use Rattle.std.proofs.lemmas.Int.{ints}
+use Rattle.tables.specs.Keys.{customer_cmp}
+use Rattle.tables.specs.Database.{database}
+use Rattle.tables.specs.Conditions.{delivered_amount, paid_by_customer}
+use Rattle.conditions.specs.Amounts.{amount_at}
+use Rattle.conditions.proofs.Told.{walked_amount}
 use Rattle.conditions.proofs.key_conditions.owed.Goals as goal
 
+pub returns-clause-amount : goal.returns-clause-amount
+returns-clause-amount c =
+    let t = database c.args.tables.now in
+    let delivered : c.amount_along-delivered.result ≡ delivered_amount t c.args.key.now = walked_amount customer_cmp c.args.sums.now.delivered c.args.key.now _ _ c.requires.walks.delivered
+    c.amount_along-delivered.ensures.amount ∙ c.requires.sums.delivered c.args.key.now in
+    let paid : c.amount_along-paid.result ≡ paid_by_customer t c.args.key.now = walked_amount customer_cmp c.args.sums.now.customer_history c.args.key.now _ _ c.requires.walks.customer_history
+    c.amount_along-paid.ensures.amount ∙ c.requires.sums.customer_history c.args.key.now in
+    omega (arith, ints, c.difference.ensures, delivered, paid)
+
 pub difference-requires : goal.difference-requires
-difference-requires c = record {
-  one_low = omega (arith, ints, c.amount_of-delivered.ensures, c.requires.delivered_bound.0 c.args.key.now);
-  one_high = omega (arith, ints, c.amount_of-delivered.ensures, c.requires.delivered_bound.1 c.args.key.now);
-  other_low = omega (arith, ints, c.amount_of-paid.ensures, c.requires.customer_history_bound.0 c.args.key.now);
-  other_high = omega (arith, ints, c.amount_of-paid.ensures, c.requires.customer_history_bound.1 c.args.key.now);
-}
+difference-requires c =
+    let delivered : c.amount_along-delivered.result ≡ amount_at customer_cmp c.args.sums.now.delivered c.args.key.now =
+    walked_amount customer_cmp c.args.sums.now.delivered c.args.key.now _ _ c.requires.walks.delivered c.amount_along-delivered.ensures.amount in
+    let paid : c.amount_along-paid.result ≡ amount_at customer_cmp c.args.sums.now.customer_history c.args.key.now =
+    walked_amount customer_cmp c.args.sums.now.customer_history c.args.key.now _ _ c.requires.walks.customer_history c.amount_along-paid.ensures.amount in
+    record {
+      one_low = omega (arith, ints, delivered, c.requires.sums.delivered_bound.0 c.args.key.now);
+      one_high = omega (arith, ints, delivered, c.requires.sums.delivered_bound.1 c.args.key.now);
+      other_low = omega (arith, ints, paid, c.requires.sums.customer_history_bound.0 c.args.key.now);
+      other_high = omega (arith, ints, paid, c.requires.sums.customer_history_bound.1 c.args.key.now);
+    }

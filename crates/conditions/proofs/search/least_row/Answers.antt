@@ -8,22 +8,28 @@ pub loop-key-init : goal.loop-key-init
 loop-key-init g c =
     let o : IsExact g.K.Ord.cmp = record { total = g.met.K.Ord.total; same = c.requires.exact } in
     let start = searched_none o c.args.rows.now (g.C.RowCondition.holds_of (database c.args.tables.now)) c.iter-key-items.ensures.ordered in
-    rw (c.into_iter-key-iterator.ensures.into_iter_gives, c.iter-key-items.ensures.rest) start
+    record {
+      walks = c.new-walks.ensures;
+      searched = rw (c.into_iter-key-iterator.ensures.into_iter_gives, c.iter-key-items.ensures.rest) start;
+    }
 
 pub loop-key-preserved : goal.loop-key-preserved
 loop-key-preserved g c =
     let o : IsExact g.K.Ord.cmp = record { total = g.met.K.Ord.total; same = c.requires.exact } in
-    searched_more o c.args.rows.now (g.C.RowCondition.holds_of (database c.args.tables.now)) c.loop-key.key-iterator c.next.new.self c.in-Some.key.now
-    c.in-Some.row.now c.in-Some.ensures.steps c.loop-key.invariant (c.if-not-holds.ensures.0 refl)
+    record {
+      walks = c.if-not-holds.ensures.walks;
+      searched = searched_more o c.args.rows.now (g.C.RowCondition.holds_of (database c.args.tables.now)) c.loop-key.key-iterator c.next.new.self
+          c.in-Some.key.now c.in-Some.row.now c.in-Some.ensures.steps c.loop-key.invariant.searched (c.if-not-holds.ensures.answer.0 refl);
+    }
 
 pub returns : goal.returns
 returns g c =
     let o : IsExact g.K.Ord.cmp = record { total = g.met.K.Ord.total; same = c.requires.exact } in
     searched_all o c.args.rows.now (g.C.RowCondition.holds_of (database c.args.tables.now)) c.loop-key.key-iterator c.in-None.ensures.steps.0
-    c.loop-key.invariant
+    c.loop-key.invariant.searched
 
 pub returns-then-not-holds : goal.returns-then-not-holds
 returns-then-not-holds g c =
     let o : IsExact g.K.Ord.cmp = record { total = g.met.K.Ord.total; same = c.requires.exact } in
     searched_first o c.args.rows.now (g.C.RowCondition.holds_of (database c.args.tables.now)) c.loop-key.key-iterator c.next.new.self c.in-Some.key.now
-    c.in-Some.row.now c.in-Some.ensures.steps c.loop-key.invariant (λ t. true≢false (sym (c.if-not-holds.ensures.1 t)))
+    c.in-Some.row.now c.in-Some.ensures.steps c.loop-key.invariant.searched (λ t. true≢false (sym (c.if-not-holds.ensures.answer.1 t)))

@@ -14,7 +14,7 @@ use Rattle.cells.specs.Records.{PenView, at}
 use Rattle.cells.specs.declared.cells.Newest.{Newest}
 use Rattle.atomic_table.specs.Seated.{TableId}
 use Rattle.std.specs.Arc.{arc_value}
-use Rattle.readset.specs.Writes.{value_for}
+use Rattle.readset.specs.Writes.{WriteSetView, value_for}
 use Rattle.cells.proofs.Grown.{grown_twice}
 use Rattle.book.specs.Book.{BookView, AreLatest, IsSound, IsReadBy, Commits, HasSeen, entry_of}
 use Rattle.board.specs.Steps.{counted}
@@ -24,6 +24,9 @@ use Rattle.board.specs.declared.rule.WordStep.TheVariants.{LoadEpoch, CountCommi
 use Rattle.book.specs.Epochs.{found_epoch, HasCounted}
 use Rattle.book.specs.Streams.{AreStreams}
 use Rattle.book.specs.Loggable.{AreLoggable}
+use Rattle.totals.specs.Totals.{TotalsView, AreTotals}
+use Rattle.totals.specs.Counts.{MayFollow}
+use Rattle.book.proofs.TotalsKept.{may_follow, held_there}
 use Rattle.book.specs.declared.untaken.Untaken.{Untaken}
 use Rattle.book.specs.Ready.{IsReady, AreLast, AreNewest}
 use Rattle.book.specs.History.{replay, CommitsAt, new_versions}
@@ -118,12 +121,13 @@ conflict_not_full h = cc
 
 -- what the type of the book keeps, of its pen, its history, its seat and its streams
 abbrev Keeps : (t0 lent : Database) (run_cells : List TableId) (run : BoardView) (seed seed_lent past past_here parts total : ℕ) (newest : List Newest)
-    (lasts : List ℕ)
+    (lasts : List ℕ) (totals : TotalsView)
     → PenView × List Entry × SeatView × List Untaken → Type 0
-Keeps t0 lent run_cells run seed seed_lent past past_here parts total newest lasts q = IsSound past t0 q.0 q.1 (replay t0 q.1)
+Keeps t0 lent run_cells run seed seed_lent past past_here parts total newest lasts totals q = IsSound past t0 q.0 q.1 (replay t0 q.1)
     × IsReady past t0 run_cells (found_epoch q.2) q.0 q.1 (replay t0 q.1)
     × AreNewest q.0 newest × (lent ≡ t0) × (total ≡ length q.1) × AreLast parts q.1 lasts × (q.2.board ≡ run) × HasCounted q.2 q.1
     × (seed_lent ≡ seed) × (past_here ≡ past) × AreStreams run.plan (found_epoch q.2) q.1 q.3 × AreLoggable t0.scale parts q.1
+    × AreTotals (replay t0 q.1) totals
 
 pub invariant_of-self : goal.invariant_of-self
 invariant_of-self g c =
@@ -134,9 +138,9 @@ invariant_of-self g c =
     c.self.inside.streams.items (found_later seat kept.6 c.requires.board c.epoch-epoch.ensures.later) kept.10 in
     subst (Keeps g.K.Run.first (initial (arc_value c.self.inside.population)) g.K.Run.cells g.K.Run.board g.K.Run.seed
     (seed_of (arc_value c.self.inside.population)) g.K.Run.past c.self.inside.past g.K.Ledger.parts c.self.inside.shares.total c.self.inside.newest.items
-    c.self.inside.lasts.items)
+    c.self.inside.lasts.items c.self.inside.totals)
     (λ i. (sym c.validate.ensures.pen i, map arc_value c.self.inside.history.items, sym c.epoch-epoch.ensures.step i, c.self.inside.streams.items))
-    (kept.0, ready, kept.2, kept.3, kept.4, kept.5, kept.6, kept.7, kept.8, kept.9, streams, kept.11)
+    (kept.0, ready, kept.2, kept.3, kept.4, kept.5, kept.6, kept.7, kept.8, kept.9, streams, kept.11, kept.12)
 
 pub invariant_of-self-in-Err : goal.invariant_of-self-in-Err
 invariant_of-self-in-Err g c =
@@ -152,14 +156,14 @@ invariant_of-self-in-Err g c =
     (record { taken = same.0; last_taken = same.1; waiting = same.2; mark = same.3 }) in
     subst (Keeps g.K.Run.first (initial (arc_value c.self.inside.population)) g.K.Run.cells g.K.Run.board g.K.Run.seed
     (seed_of (arc_value c.self.inside.population)) g.K.Run.past c.self.inside.past g.K.Ledger.parts c.self.inside.shares.total c.self.inside.newest.items
-    c.self.inside.lasts.items)
+    c.self.inside.lasts.items c.self.inside.totals)
     (λ i. (
       sym c.validate.ensures.pen i,
       map arc_value (sym c.prepare.ensures.history i),
       sym c.epoch-epoch.ensures.step i,
       slice_set c.self.inside.streams.items (c.share.inside.terminal % c.len.result) c.prepare.new.stream,
     ))
-    (kept.0, ready, kept.2, kept.3, kept.4, kept.5, kept.6, kept.7, kept.8, kept.9, reserved, kept.11)
+    (kept.0, ready, kept.2, kept.3, kept.4, kept.5, kept.6, kept.7, kept.8, kept.9, reserved, kept.11, kept.12)
 
 pub returns-in-Err-clause-answer : goal.returns-in-Err-clause-answer
 returns-in-Err-clause-answer g c =
@@ -215,13 +219,34 @@ returns-in-Err-clause-cap_first g c =
     c.share.inside.terminal c.in-Some.seen c.index.result.now found.2 found.1 last (subst (λ (q : ℕ × ℕ). q.0 < q.1)
     (λ i. (c.self.invariant.9 i + sym (length-map c.self.inside.history.items arc_value) i, cap i)) below) none)
 
-pub store-requires-clause-read : goal.store-requires-clause-read
-store-requires-clause-read g c =
+pub store_counted-requires-clause-read : goal.store_counted-requires-clause-read
+store_counted-requires-clause-read g c =
     subst (λ (cells : List _). IsReadBy (length cells) c.validate.new.reader c.args.work.reads) (sym c.requires.cells)
     (read_by_more (length g.K.Run.cells) c.args.reader.now c.validate.new.reader c.args.work.reads c.requires.work.read c.validate.ensures.reader)
 
-pub store-requires-clause-larger : goal.store-requires-clause-larger
-store-requires-clause-larger g c =
+pub store_counted-requires-clause-counted : goal.store_counted-requires-clause-counted
+store_counted-requires-clause-counted g c =
+    let items : List Entry = map arc_value c.self.inside.history.items in
+    let t = replay g.K.Run.first items in
+    let ready = ready_loaded c.self.inside.seat c.self.invariant.6 c.requires.board c.epoch-epoch.ensures.later c.self.invariant.1 in
+    let cap = capped g.K.Run.first c.commits.ensures.value c.scale.ensures c.deref.ensures c.self.invariant.3 in
+    let size = sym (length-map c.self.inside.history.items arc_value) in
+    let small : g.K.Run.past + length items < g.K.Run.first.scale.commits =
+    subst (λ (q : ℕ × ℕ × ℕ). q.0 + q.1 < q.2) (λ i. (c.self.invariant.9 i, size i, cap i)) c.in-Ok.ensures.below in
+    let stored : c.deref-2.result.now ≡ entry_of (c.self.inside.past + length c.self.inside.history.items + 1) c.in-Ok.prepared.tid c.share.inside.terminal
+    c.args.work = c.deref-2.ensures ∙ c.in-Ok.ensures.entry in (
+      t,
+      c.args.work.input,
+      c.args.work.reply,
+      subst (λ (q : List Newest × WriteSetView). MayFollow t c.args.work.input c.args.work.reply c.self.inside.totals q.0 q.1)
+          (λ i. (sym c.deref_mut.ensures.value i, (sym stored i).writes))
+          (may_follow g.K.Run.past g.K.Run.first g.K.Run.cells c.epoch-epoch.result c.self.inside.pen items t c.self.invariant.0 ready
+          c.self.inside.newest.items c.self.invariant.2 c.self.inside.totals c.self.invariant.12 c.args.reader.now c.args.work c.requires.work
+          c.in-Some.ensures.latest.0 c.in_order.ensures small),
+    )
+
+pub store_counted-requires-clause-larger : goal.store_counted-requires-clause-larger
+store_counted-requires-clause-larger g c =
     let items : List Entry = map arc_value c.self.inside.history.items in
     let ready = ready_loaded c.self.inside.seat c.self.invariant.6 c.requires.board c.epoch-epoch.ensures.later c.self.invariant.1 in
     let found = c.in-Some.ensures.latest in
@@ -237,7 +262,7 @@ store-requires-clause-larger g c =
     c.share.inside.terminal c.in-Some.seen c.index.result.now found.2 found.1 last c.in-Ok.prepared.tid c.in-Ok.ensures.lawful c.in-Ok.ensures.tid))
 
 pub returns-clause-reader : goal.returns-clause-reader
-returns-clause-reader g c = grown_twice c.args.reader.now c.validate.new.reader c.store.new.reader c.validate.ensures.reader c.store.ensures.reader
+returns-clause-reader g c = grown_twice c.args.reader.now c.validate.new.reader c.store_counted.new.reader c.validate.ensures.reader c.store_counted.ensures.reader
 
 pub invariant_of-self-2 : goal.invariant_of-self-2
 invariant_of-self-2 g c =
@@ -251,18 +276,18 @@ invariant_of-self-2 g c =
     let size = sym (length-map c.self.inside.history.items arc_value) in
     let small : g.K.Run.past + length items < g.K.Run.first.scale.commits = subst (λ (q : ℕ × ℕ × ℕ). q.0 + q.1 < q.2) (λ i. (here i, size i, cap i))
     c.in-Ok.ensures.below in
-    let cells : c.store.new.pen.cells ≡ c.self.inside.pen.cells = c.store.ensures.cells ∙ ap (λ (w : PenView). w.cells) c.validate.ensures.pen in
+    let cells : c.store_counted.new.pen.cells ≡ c.self.inside.pen.cells = c.store_counted.ensures.cells ∙ ap (λ (w : PenView). w.cells) c.validate.ensures.pen in
     let last : c.index.result.now ≡ last_of c.share.inside.terminal items = last_is c.self.invariant.5 c.share.invariant.1 c.index.ensures in
     let tid : ℕ = c.in-Ok.prepared.tid in
     let stored : c.deref-2.result.now ≡ entry_of (c.self.inside.past + length c.self.inside.history.items + 1) c.in-Ok.prepared.tid c.share.inside.terminal
     c.args.work = c.deref-2.ensures ∙ c.in-Ok.ensures.entry in
-    let stores : (n : ℕ) → at c.store.new.pen.all n ≡ at c.self.inside.pen.all n ++ new_versions c.in-Ok.prepared.tid c.args.work.writes.values n =
-    λ n. c.store.ensures.versions n ∙ (λ i. at (c.validate.ensures.pen i).all n ++ new_versions (stored i).tid (stored i).writes.values n) in
+    let stores : (n : ℕ) → at c.store_counted.new.pen.all n ≡ at c.self.inside.pen.all n ++ new_versions c.in-Ok.prepared.tid c.args.work.writes.values n =
+    λ n. c.store_counted.ensures.versions n ∙ (λ i. at (c.validate.ensures.pen i).all n ++ new_versions (stored i).tid (stored i).writes.values n) in
     let made = next_kept g.K.Run.past g.K.Run.first g.K.Run.cells c.epoch-epoch.result c.self.inside.pen items (replay g.K.Run.first items)
     c.self.invariant.0 ready
     c.args.reader.now c.args.work c.requires.work found.0
     c.share.inside.terminal c.in-Some.seen c.index.result.now found.2 found.1 last c.in-Ok.prepared.tid c.in-Ok.ensures.lawful c.in-Ok.ensures.tid
-    c.store.new.pen small cells stores in
+    c.store_counted.new.pen small cells stores in
     let entry : arc_value c.in-Ok.prepared.entry ≡ entry_of (g.K.Run.past + length items + 1) c.in-Ok.prepared.tid c.share.inside.terminal c.args.work =
     c.in-Ok.ensures.entry ∙ (λ i. entry_of (here i + size i + 1) c.in-Ok.prepared.tid c.share.inside.terminal c.args.work) in
     let history : map arc_value c.push_reserved.new.self.items ≡ items
@@ -281,12 +306,12 @@ invariant_of-self-2 g c =
     let led : after (replay g.K.Run.first items) c.args.work.input ≡ replay g.K.Run.first (map arc_value c.push_reserved.new.self.items) =
     sym (replay_push g.K.Run.first items (entry_of (g.K.Run.past + length items + 1) c.in-Ok.prepared.tid c.share.inside.terminal c.args.work))
     ∙ ap (replay g.K.Run.first) (sym history) in (
-      subst (λ (q : List Entry × Database). IsSound g.K.Run.past g.K.Run.first c.store.new.pen q.0 q.1) (λ i. (sym history i, led i))
+      subst (λ (q : List Entry × Database). IsSound g.K.Run.past g.K.Run.first c.store_counted.new.pen q.0 q.1) (λ i. (sym history i, led i))
           made.0,
-      subst (λ (q : List Entry × Database × ℕ). IsReady g.K.Run.past g.K.Run.first g.K.Run.cells q.2 c.store.new.pen q.0 q.1)
+      subst (λ (q : List Entry × Database × ℕ). IsReady g.K.Run.past g.K.Run.first g.K.Run.cells q.2 c.store_counted.new.pen q.0 q.1)
           (λ i. (sym history i, led i, sym (ap found_epoch seat) i)) made.1,
-      subst (AreNewest c.store.new.pen) (sym (given_back c.self.inside.newest.len c.store.new.newest c.self.inside.newest.items c.self.inside.newest.ok.0
-          (c.store.ensures.newest.count ∙ ap length cells ∙ sym c.self.invariant.2.count))) c.store.ensures.newest,
+      subst (AreNewest c.store_counted.new.pen) (sym (given_back c.self.inside.newest.len c.store_counted.new.newest c.self.inside.newest.items c.self.inside.newest.ok.0
+          (c.store_counted.ensures.newest.count ∙ ap length cells ∙ sym c.self.invariant.2.count))) c.store_counted.ensures.newest,
       c.self.invariant.3,
       c.add-2.ensures.total ∙ ap (λ n. n + 1) c.self.invariant.4
           ∙ sym (ap length history ∙ length-append items (entry_of (g.K.Run.past + length items + 1) c.in-Ok.prepared.tid c.share.inside.terminal
@@ -311,6 +336,16 @@ invariant_of-self-2 g c =
           (done_there g.K.Run.past g.K.Run.first g.K.Run.cells c.epoch-epoch.result c.self.inside.pen items (replay g.K.Run.first items) c.self.invariant.0
           ready c.args.reader.now c.args.work c.requires.work found.0)
           made.0.well_formed c.share.invariant.1),
+      subst (λ t. AreTotals t c.store_counted.new.totals) led
+          (c.store_counted.ensures.totals (replay g.K.Run.first items) c.args.work.input c.args.work.reply
+          (subst (λ (q : List Newest × WriteSetView). MayFollow (replay g.K.Run.first items) c.args.work.input c.args.work.reply c.self.inside.totals q.0 q.1)
+          (λ i. (sym c.deref_mut.ensures.value i, (sym stored i).writes))
+          (may_follow g.K.Run.past g.K.Run.first g.K.Run.cells c.epoch-epoch.result c.self.inside.pen items (replay g.K.Run.first items) c.self.invariant.0
+          ready
+          c.self.inside.newest.items c.self.invariant.2 c.self.inside.totals c.self.invariant.12 c.args.reader.now c.args.work c.requires.work
+          found.0 c.in_order.ensures small))
+          (held_there g.K.Run.past g.K.Run.first c.store_counted.new.pen _ (after (replay g.K.Run.first items) c.args.work.input) c.store_counted.new.newest
+          made.0 c.store_counted.ensures.newest made.1.of_population.scale (ap length made.1.cells ∙ made.1.count))),
     )
 
 pub returns-clause-answer : goal.returns-clause-answer
@@ -325,7 +360,7 @@ returns-clause-answer g c =
     let size = sym (length-map c.self.inside.history.items arc_value) in
     let small : g.K.Run.past + length items < g.K.Run.first.scale.commits = subst (λ (q : ℕ × ℕ × ℕ). q.0 + q.1 < q.2) (λ i. (here i, size i, cap i))
     c.in-Ok.ensures.below in
-    let cells : c.store.new.pen.cells ≡ c.self.inside.pen.cells = c.store.ensures.cells ∙ ap (λ (w : PenView). w.cells) c.validate.ensures.pen in
+    let cells : c.store_counted.new.pen.cells ≡ c.self.inside.pen.cells = c.store_counted.ensures.cells ∙ ap (λ (w : PenView). w.cells) c.validate.ensures.pen in
     let last : c.index.result.now ≡ last_of c.share.inside.terminal items = last_is c.self.invariant.5 c.share.invariant.1 c.index.ensures in
     let same = same_next g.K.Run.past g.K.Run.first g.K.Run.cells c.epoch-epoch.result c.self.inside.pen items (replay g.K.Run.first items)
     c.self.invariant.0 ready
@@ -333,8 +368,8 @@ returns-clause-answer g c =
     c.share.inside.terminal c.in-Some.seen c.index.result.now found.2 found.1 last in
     let stored : c.deref-2.result.now ≡ entry_of (c.self.inside.past + length c.self.inside.history.items + 1) c.in-Ok.prepared.tid c.share.inside.terminal
     c.args.work = c.deref-2.ensures ∙ c.in-Ok.ensures.entry in
-    let stores : (n : ℕ) → at c.store.new.pen.all n ≡ at c.self.inside.pen.all n ++ new_versions c.in-Ok.prepared.tid c.args.work.writes.values n =
-    λ n. c.store.ensures.versions n ∙ (λ i. at (c.validate.ensures.pen i).all n ++ new_versions (stored i).tid (stored i).writes.values n) in
+    let stores : (n : ℕ) → at c.store_counted.new.pen.all n ≡ at c.self.inside.pen.all n ++ new_versions c.in-Ok.prepared.tid c.args.work.writes.values n =
+    λ n. c.store_counted.ensures.versions n ∙ (λ i. at (c.validate.ensures.pen i).all n ++ new_versions (stored i).tid (stored i).writes.values n) in
     let entry : arc_value c.in-Ok.prepared.entry ≡ entry_of (g.K.Run.past + length items + 1) c.in-Ok.prepared.tid c.share.inside.terminal c.args.work =
     c.in-Ok.ensures.entry ∙ (λ i. entry_of (here i + size i + 1) c.in-Ok.prepared.tid c.share.inside.terminal c.args.work) in
     let history : map arc_value c.push_reserved.new.self.items ≡ items
@@ -347,13 +382,13 @@ returns-clause-answer g c =
     subst (λ (q : BookView × ShareView × Done × ℕ). AreLatest q.0.written.all c.args.work.reads ×
     (g.K.Run.past + length q.0.history < g.K.Run.first.scale.commits)
     × (tid_for q.0.history q.1.terminal q.3 c.args.work.reads ≡ Some q.2.tid)
-    × Commits q.0 (kept c.store.new.pen (map arc_value c.push_reserved.new.self.items) c.commit_step.new.seat
+    × Commits q.0 (kept c.store_counted.new.pen (map arc_value c.push_reserved.new.self.items) c.commit_step.new.seat
     (slice_set c.self.inside.streams.items (c.share.inside.terminal % c.len.result) c.add.new.self))
     (entry_of (g.K.Run.past + length q.0.history + 1) q.2.tid q.1.terminal c.args.work)
     × (q.2.number ≡ g.K.Run.past + length q.0.history + 1) × (q.2.reply ≡ c.args.work.reply)
     × (◌≡◌ {A = ShareView} (record { terminal = c.share.inside.terminal; parts = c.add-2.new.share.parts; commits = c.add-2.new.share.amount })
     (record { terminal = q.1.terminal; parts = q.1.parts; commits = q.1.commits + 1 }))
-    × HasSeen c.store.new.reader c.store.new.pen c.args.work.writes
+    × HasSeen c.store_counted.new.reader c.store_counted.new.pen c.args.work.writes
     × CommitsAt (replay g.K.Run.first q.0.history) c.args.work.input c.args.work.writes c.args.work.reply)
     (λ i. (c.self.view_is i, c.share.view_is i, sym of i, sym (ap found_epoch seat) i)) (
       found.0,
@@ -371,7 +406,7 @@ returns-clause-answer g c =
       refl,
       refl,
       (λ i. record { terminal = c.share.inside.terminal; parts = c.add-2.ensures.parts i; commits = c.add-2.ensures.amount i }),
-      subst (λ (e : Entry). HasSeen c.store.new.reader c.store.new.pen e.writes) stored c.store.ensures.seen,
+      subst (λ (e : Entry). HasSeen c.store_counted.new.reader c.store_counted.new.pen e.writes) stored c.store_counted.ensures.seen,
       done_there g.K.Run.past g.K.Run.first g.K.Run.cells c.epoch-epoch.result c.self.inside.pen items (replay g.K.Run.first items) c.self.invariant.0 ready
           c.args.reader.now
           c.args.work c.requires.work found.0,
@@ -438,13 +473,13 @@ returns-clause-section g c m w shows =
     c.self.invariant.0 ready
     c.args.reader.now c.args.work c.requires.work found.0
     c.share.inside.terminal c.in-Some.seen c.index.result.now found.2 found.1 last in
-    let cells : c.store.new.pen.cells ≡ c.self.inside.pen.cells = c.store.ensures.cells ∙ ap (λ (w : PenView). w.cells) c.validate.ensures.pen in
+    let cells : c.store_counted.new.pen.cells ≡ c.self.inside.pen.cells = c.store_counted.ensures.cells ∙ ap (λ (w : PenView). w.cells) c.validate.ensures.pen in
     let stored : c.deref-2.result.now ≡ entry_of (c.self.inside.past + length c.self.inside.history.items + 1) c.in-Ok.prepared.tid c.share.inside.terminal
     c.args.work = c.deref-2.ensures ∙ c.in-Ok.ensures.entry in
-    let stores : (n : ℕ) → at c.store.new.pen.all n ≡ at c.self.inside.pen.all n ++ new_versions c.in-Ok.prepared.tid c.args.work.writes.values n =
-    λ n. c.store.ensures.versions n ∙ (λ i. at (c.validate.ensures.pen i).all n ++ new_versions (stored i).tid (stored i).writes.values n) in
+    let stores : (n : ℕ) → at c.store_counted.new.pen.all n ≡ at c.self.inside.pen.all n ++ new_versions c.in-Ok.prepared.tid c.args.work.writes.values n =
+    λ n. c.store_counted.ensures.versions n ∙ (λ i. at (c.validate.ensures.pen i).all n ++ new_versions (stored i).tid (stored i).writes.values n) in
     let tid : c.in-Ok.prepared.tid ≡ c.in-Ok.prepared.done.tid = sym (ap (λ (done : Done). done.tid) c.in-Ok.ensures.done) in
-    subst (λ (n : ℕ). IsCommitRun m w (reads_of c.args.work.reads) c.args.work.writes.values n c.store.new.pen) tid
+    subst (λ (n : ℕ). IsCommitRun m w (reads_of c.args.work.reads) c.args.work.writes.values n c.store_counted.new.pen) tid
     (run g.K.Run.past g.K.Run.first g.K.Run.cells c.epoch-epoch.result (kept c.self.inside.pen items c.self.inside.seat c.self.inside.streams.items)
     (replay g.K.Run.first items) c.self.invariant.0 ready
     c.args.reader.now
@@ -453,7 +488,7 @@ returns-clause-section g c m w shows =
     (subst (λ (q : BookView × ShareView × ℕ). Mirrors q.0 q.1.terminal q.2 c.args.work.reads m w)
     (λ i. (sym c.self.view_is i, sym c.share.view_is i, ap found_epoch seat i)) shows)
     found.0
-    c.in-Ok.prepared.tid c.store.new.pen (sym same ∙ c.in-Ok.ensures.tid) c.in-Ok.ensures.lawful.bits cells stores)
+    c.in-Ok.prepared.tid c.store_counted.new.pen (sym same ∙ c.in-Ok.ensures.tid) c.in-Ok.ensures.lawful.bits cells stores)
 
 pub commit_step-requires-clause-room : goal.commit_step-requires-clause-room
 commit_step-requires-clause-room g c =

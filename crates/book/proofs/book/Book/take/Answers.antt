@@ -89,6 +89,7 @@ invariant_of-self g c =
       subst (λ (q : SeatView). AreStreams g.K.Run.board.plan (found_epoch q) (map arc_value c.self.inside.history.items)
           (slice_set c.self.inside.streams.items c.args.logger c.take-entries.new.self)) (sym step) taken,
       i.11,
+      i.12,
     )
 
 pub invariant_of-result : goal.invariant_of-result

@@ -18,6 +18,7 @@ use Rattle.board.specs.Seats.{BoardView, SeatView, new_seat}
 use Rattle.book.specs.Epochs.{HasCounted, found_epoch}
 use Rattle.book.specs.Streams.{AreStreams}
 use Rattle.book.specs.Loggable.{AreLoggable}
+use Rattle.totals.specs.Totals.{AreTotals}
 use Rattle.book.specs.declared.engine.TheConstants.{MAX_TERMINALS}
 use Rattle.book.proofs.Opened.{first_sound, first_ready, first_lasts, first_newest}
 use Rattle.book.proofs.Streams.{first_streams}
@@ -61,6 +62,7 @@ invariant_of-book g c =
           (first_streams parts.board.plan parts.streams.items fresh.loggers.0 fresh.loggers.1 fresh.streams),
       subst (AreLoggable g.K.Run.first.scale g.K.Ledger.parts) (sym none)
           (first_loggable g.K.Run.first.scale g.K.Ledger.parts (subst (λ n. n ≤ MAX_TERMINALS) (sym fresh.parts ∙ c.requires.ledger.1) fresh.few)),
+      subst (λ (q : Database × List Entry). AreTotals (replay q.0 q.1) c.args.parts.totals) (λ i. (c.requires.run.first_is i, sym none i)) fresh.totals,
     )
 
 pub invariant_of-terminals : goal.invariant_of-terminals

@@ -1,7 +1,5 @@
 use Rattle.std.proofs.Common.{◌==◌, ◌∙◌, pos, sym}
-use Rattle.tables.specs.Keys.{is_district, is_order}
-use Rattle.tables.specs.Conditions.{is_line_of}
-use Rattle.tables.specs.Database.{database}
+use Rattle.tables.specs.Keys.{is_district}
 use Rattle.tables.proofs.Orders.{exact_district, exact_order, exact_line}
 use Rattle.tables.proofs.Totals.{total-view}
 use Rattle.conditions.specs.Amounts.{share}
@@ -18,15 +16,10 @@ returns c = record {
       c.in_ok-line_counts.ensures.ordered);
   lines = λ k. c.in_ok-lines.ensures.sums k
       ∙ sym (total-view exact_line (λ j r. share (is_district j.warehouse j.district k) (pos 1)) c.args.tables.now.lines c.in_ok-lines.ensures.ordered);
-  order_lines = λ k. c.in_ok-order_lines.ensures.sums k
-      ∙ sym (total-view exact_line (λ j r. share (is_order j.warehouse j.district j.order k) (pos 1)) c.args.tables.now.lines
-      c.in_ok-order_lines.ensures.ordered);
   warehouse_history = c.in_ok-warehouse_history.ensures.sums;
   district_history = c.in_ok-district_history.ensures.sums;
   customer_history = c.in_ok-customer_history.ensures.sums;
   customer_history_bound = c.in_ok-customer_history.ensures.bound;
-  delivered = λ k. c.in_ok-delivered.ensures.sums k
-      ∙ sym (total-view exact_line (λ j r. share (is_line_of (database c.args.tables.now).orders k j r) r.amount) c.args.tables.now.lines
-      c.in_ok-delivered.ensures.ordered);
+  delivered = c.in_ok-delivered.ensures.sums;
   delivered_bound = c.in_ok-delivered.ensures.bound;
 }

@@ -1,7 +1,7 @@
 use Rattle.std.proofs.Common.{Some, sym, subst}
 use Rattle.tables.specs.WellFormed.{IsHistoryRow}
 use Rattle.totals.specs.Moves.{MovesSums, held_in, order_before, moved, no_record, row_moves}
-use Rattle.totals.proofs.Moving.{history_moves, with_row}
+use Rattle.totals.proofs.Moving.{history_moves, with_rows}
 use Rattle.totals.proofs.running.RunningSums.follow.Goals as goal
 
 pub follow_row-requires : goal.follow_row-requires
@@ -20,5 +20,5 @@ returns-in-Some-clause-sums c =
     (subst (λ r. MovesSums middle.scale order no_record (row_moves r) middle c.follow_row.new.self) c.in-Some.ensures
     (subst (λ v. MovesSums middle.scale order no_record (row_moves (Some c.in-Some.row)) middle v) (sym c.follow_row.ensures.paid)
     (history_moves middle order c.follow_row.ensures.places c.in-Some.row row))) in
-    with_row s order (moved s (held_in c.args.newest.now) c.args.writes.now.values) c.args.writes.now.history_row c.args.self.now middle c.follow_row.new.self
+    with_rows s order (moved s (held_in c.args.newest.now) c.args.writes.now.values) (row_moves c.args.writes.now.history_row) c.args.self.now middle c.follow_row.new.self
     c.follow_values.ensures.moves then

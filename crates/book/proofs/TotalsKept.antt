@@ -1,0 +1,102 @@
+-- The totals of the committed tables.
+use Rattle.std.proofs.Common.{◌≡◌, ℕ, ◌<◌, ◌≤◌, ◌+◌, ◌-◌, List, length, get_or, sym, ap, ◌∙◌, subst, arith}
+use Rattle.atomic_table.specs.Seated.{TableId}
+use Rattle.tables.specs.Database.{Database}
+use Rattle.tables.specs.Apply.{after}
+use Rattle.tables.specs.Conditions.{IsConsistent}
+use Rattle.tables.specs.Records.{record_count}
+use Rattle.tables.specs.Rows.{rows}
+use Rattle.tables.specs.WellFormed.{IsWellFormed, HasRoom}
+use Rattle.tables.specs.declared.limits.TheConstants.{MAX_COMMITS}
+use Rattle.tables.specs.declared.input.Input.{Input}
+use Rattle.tables.specs.declared.reply.Reply.{Reply}
+use Rattle.cells.specs.Records.{PenView, ReaderView}
+use Rattle.cells.specs.Versions.{value_in}
+use Rattle.cells.specs.declared.cells.Newest.{Newest}
+use Rattle.encoding.specs.Newest.{words_at, AreFirst}
+use Rattle.laws.proofs.Kept.{after-scale, after-IsWellFormed}
+use Rattle.readset.specs.Writes.{WriteSetView}
+use Rattle.readset.specs.declared.work.Work.{Work}
+use Rattle.bounds.specs.Bounds.{AreBounds}
+use Rattle.bounds.specs.Written.{HasOrdersWithin}
+use Rattle.totals.specs.Totals.{TotalsView, AreSums, AreTotals}
+use Rattle.totals.specs.Written.{AreWrites}
+use Rattle.totals.specs.Counts.{AreHeld, AreRecords, MayFollow}
+use Rattle.book.specs.Book.{IsSound, IsWorkOf, AreInOrder, AreLatest}
+use Rattle.book.specs.History.{CommitsAt}
+use Rattle.book.specs.Ready.{AreNewest, IsReady}
+use Rattle.book.specs.declared.entry.Entry.{Entry}
+use Rattle.book.proofs.Opened.{first_value}
+use Rattle.book.proofs.Sound.{done_there}
+
+-- what the newest versions of a sound book hold
+pub held_there : (past : ℕ) (t0 : Database) (pen : PenView) (history : List Entry) (t : Database) (newest : List Newest)
+    → IsSound past t0 pen history t → AreNewest pen newest → t.scale ≡ t0.scale → length pen.cells ≡ record_count t0.scale → AreHeld newest t
+held_there past t0 pen history t newest sound are scale count n below =
+    let here : n < record_count t0.scale = subst (λ s. n < record_count s) scale below in
+    sound.latest n here (words_at newest n) (are.last n (subst (λ m. n < m) (sym (are.count ∙ count)) here))
+
+pub records_there : (past : ℕ) (t0 : Database) (pen : PenView) (history : List Entry) (t : Database) (newest : List Newest)
+    → IsSound past t0 pen history t → AreNewest pen newest → t.scale ≡ t0.scale → length pen.cells ≡ record_count t0.scale → AreRecords newest t
+records_there past t0 pen history t newest sound are scale count = record {
+  count = are.count ∙ count ∙ ap record_count (sym scale);
+  held = held_there past t0 pen history t newest sound are scale count;
+  well_formed = sound.well_formed;
+  consistent = sound.consistent;
+}
+
+-- those of a population
+pub first_records : (t0 : Database) (newest : List Newest) → AreFirst t0 newest → IsWellFormed t0 → IsConsistent t0 → AreRecords newest t0
+first_records t0 newest are well_formed consistent = record {
+  count = are.count;
+  held = λ n below. ap value_in (are.words n below) ∙ first_value (rows t0 n);
+  well_formed = well_formed;
+  consistent = consistent;
+}
+
+-- a work's writes
+pub writes_there : (t0 t : Database) (cells : ℕ) (reader : ReaderView) (work : Work) → IsWorkOf t0 cells reader work → cells ≡ record_count t0.scale
+    → t.scale ≡ t0.scale → AreInOrder work.reads work.writes → AreWrites t.scale work.writes
+writes_there t0 t cells reader work is_work count scale ordered = record {
+  ascend = ordered.writes_ascend;
+  found = ordered.writes_found;
+  below = λ i d inside. subst (λ m. (get_or work.writes.values i d).0 < m) (count ∙ ap record_count (sym scale))
+      (is_work.limits.writes_cells _ _ (ordered.writes_found i d inside));
+}
+
+-- totals that have followed a commit's writes, and then its stores
+pub totals_after : (t : Database) (x : Input) (reply : Reply) (v v' : TotalsView) (newest : List Newest) (writes : WriteSetView) → MayFollow t x reply v newest writes
+    → v'.sums.scale ≡ v.sums.scale → v'.bounds.scale ≡ v.bounds.scale → AreSums (after t x).scale (after t x) v'.sums
+    → AreBounds (after t x).scale (after t x) v'.bounds → AreTotals (after t x) v'
+totals_after t x reply v v' newest writes may sums_scale bounds_scale sums bounds = record {
+  sums_scale = sums_scale ∙ may.totals.sums_scale ∙ sym (after-scale t x);
+  bounds_scale = bounds_scale ∙ may.totals.bounds_scale ∙ sym (after-scale t x);
+  sums = sums;
+  bounds = bounds;
+}
+
+pub within : (t : Database) → IsWellFormed t → HasOrdersWithin t
+within t wf = record { orders = wf.orders; new_orders = wf.new_orders }
+
+-- the totals of the committed tables may follow a work that commits
+module _ (past : ℕ) (t0 : Database) (run_cells : List TableId) (epoch : ℕ) (written : PenView) (history : List Entry) (t : Database)
+    (sound : IsSound past t0 written history t) (ready : IsReady past t0 run_cells epoch written history t) where
+  rest : (n cap : ℕ) → n < cap → cap ≤ MAX_COMMITS → MAX_COMMITS - n ≡ MAX_COMMITS - (n + 1) + 1
+  rest n cap h few = omega (arith, h, few)
+
+  pub may_follow : (newest : List Newest) → AreNewest written newest → (v : TotalsView) → AreTotals t v → (reader : ReaderView) (work : Work)
+      → IsWorkOf t0 (length run_cells) reader work → AreLatest written.all work.reads → AreInOrder work.reads work.writes
+      → past + length history < t0.scale.commits → MayFollow t work.input work.reply v newest work.writes
+  may_follow newest are v totals reader work is_work latest ordered below =
+      let done : CommitsAt t work.input work.writes work.reply = subst (λ s. CommitsAt s work.input work.writes work.reply) sound.legal.end
+      (done_there past t0 run_cells epoch written history t sound ready reader work is_work latest) in
+      let room = subst (λ n. HasRoom n t) (rest (past + length history) t0.scale.commits below ready.few) ready.room in
+      record {
+        totals = totals;
+        records = records_there past t0 written history t newest sound are ready.of_population.scale (ap length ready.cells ∙ ready.count);
+        input = done.input;
+        commit = done.commit;
+        ordered = writes_there t0 t (length run_cells) reader work is_work ready.count ready.of_population.scale ordered;
+        leaves = after-IsWellFormed t work.input (MAX_COMMITS - (past + length history + 1)) done.input done.commit.numbered sound.well_formed sound.consistent
+            room;
+      }

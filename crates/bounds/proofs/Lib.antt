@@ -1,0 +1,6 @@
+mod Stepped
+mod Placed
+mod Joined
+mod Recorded
+mod Stored
+mod Opening

@@ -1,0 +1,48 @@
+use Rattle.std.proofs.Common.{◌+◌, ◌<◌, ◌≡◌, ℕ, List, Option, None, true, All, [], drop, get_or, refl, sym, ◌∙◌, subst}
+use Rattle.std.proofs.lemmas.List.{drop_more, drop_all}
+use Rattle.tables.specs.Records.{record_count}
+use Rattle.bounds.specs.Written.{held_in}
+use Rattle.bounds.specs.Ends.{AreEnds, Follows, is_among}
+use Rattle.bounds.proofs.Placed.{looked_at}
+use Rattle.bounds.proofs.order_bounds.OrderBounds.follow_values.Goals as goal
+
+pub loop-number-init : goal.loop-number-init
+loop-number-init c = record {
+  scale = refl;
+  ends = subst (λ (ws : List (ℕ × Option (List ℕ))). AreEnds c.args.self.now.scale (held_in c.args.newest.now) (is_among ws) c.args.self.now)
+      (sym c.values-number-items.ensures.values);
+}
+
+pub follow_record-requires : goal.follow_record-requires
+follow_record-requires c =
+    subst (λ z. (get_or c.values-number-items.result.now c.loop-number.number-index (0, None)).0 < record_count z) (sym c.loop-number.invariant.scale)
+    (subst (λ ws. All (λ e. e.0 < record_count c.args.self.now.scale) ws) (sym c.values-number-items.ensures.values) c.requires c.loop-number.number-index
+    (0, None) c.loop-number-test.true)
+
+pub loop-number-preserved : goal.loop-number-preserved
+loop-number-preserved c =
+    let s = c.args.self.now.scale in
+    let held = held_in c.args.newest.now in
+    let items = c.values-number-items.result.now in
+    let i = c.loop-number.number-index in
+    let w = get_or items i (0, None) in
+    record {
+      scale = c.follow_record.ensures.scale ∙ c.loop-number.invariant.scale;
+      ends = λ before.
+          let follows = subst (λ z. Follows z held w.0 c.loop-number.self c.follow_record.new.self) c.loop-number.invariant.scale
+          c.follow_record.ensures.follows in
+          follows (is_among (drop i items)) (is_among (drop (i + 1) items))
+          (λ n done was. looked_at w (drop (i + 1) items) n done
+          (subst (λ ws. is_among ws n ≡ true) (drop_more items i (0, None) c.loop-number-test.true) was))
+          (c.loop-number.invariant.ends before);
+    }
+
+pub returns-clause-scale : goal.returns-clause-scale
+returns-clause-scale c = c.loop-number.invariant.scale
+
+pub returns-clause-ends : goal.returns-clause-ends
+returns-clause-ends c = λ before.
+    let none : drop c.loop-number.number-index c.values-number-items.result.now ≡ [] =
+    drop_all c.loop-number.number-index c.values-number-items.result.now c.loop-number-test.false in
+    subst (λ (ws : List (ℕ × Option (List ℕ))). AreEnds c.args.self.now.scale (held_in c.args.newest.now) (is_among ws) c.loop-number.self) none
+    (c.loop-number.invariant.ends before)

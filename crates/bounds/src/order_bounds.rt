@@ -1,0 +1,215 @@
+//! The least and the greatest order numbers of all districts.
+
+ghost use Rattle.std.specs.Prelude.{◌≡◌, ◌<◌, ◌*◌, All, IfOk, false, slice_index};
+ghost use Rattle.tables.specs.Keys.{IsDistrictKey, IsOrderKey};
+ghost use Rattle.tables.specs.Records.{record_count, number_of_key, district_place};
+ghost use Rattle.tables.specs.Database.{Database, empty_database};
+ghost use Rattle.tables.specs.declared.records.RecordKey.TheVariants as record_key;
+ghost use Rattle.bounds.specs.Bounds.{AreBounds, no_bounds};
+ghost use Rattle.bounds.specs.Written.{held_in, HasOrdersWithin, AreRowsOf, IsWith};
+ghost use Rattle.bounds.specs.Ends.{AreEnds, Follows, is_among};
+
+use crate::ends::{greatest_after, greatest_beside, least_after};
+use cells::Newest;
+use readset::WriteList;
+use std::alloc::{AllocError, Global};
+use std::marker::Model;
+use tables::{DistrictKey, OrderKey, RecordKey, Scale, Table, key_of, number_of_key};
+
+/// The least and the greatest order numbers of a database's districts, each a list by place of its district: 12 bytes
+/// a district.
+#[derive(Drop)]
+pub struct OrderBounds {
+    scale: Scale,
+    greatest_order: Vec<u32>,
+    least_waiting: Vec<u32>,
+    greatest_waiting: Vec<u32>,
+}
+
+impl Model for OrderBounds {
+    ghost use Rattle.bounds.specs.Bounds.{BoundsView};
+    ghost use Rattle.bounds.specs.Ends.{HasPlaces};
+
+    ghost Value = { BoundsView };
+
+    ghost view = { λ a. record {
+      scale = a.scale;
+      greatest_order = a.greatest_order.items;
+      least_waiting = a.least_waiting.items;
+      greatest_waiting = a.greatest_waiting.items;
+    } };
+
+    ghost invariant = { λ a. HasPlaces (record {
+      scale = a.scale;
+      greatest_order = a.greatest_order.items;
+      least_waiting = a.least_waiting.items;
+      greatest_waiting = a.greatest_waiting.items;
+    }) };
+}
+
+impl OrderBounds {
+    /// Those of tables without rows: all 0.
+    pub fn new(alloc: Global, scale: Scale) -> Result<OrderBounds, AllocError>
+        ensures zeros { IfOk result (λ bounds. bounds ≡ no_bounds scale) }
+        ensures bounds { IfOk result (λ bounds. AreBounds scale (empty_database scale) bounds) }
+    {
+        let districts = (scale.warehouses() * scale.districts()) as usize;
+        Ok(OrderBounds {
+            scale,
+            greatest_order: vec![in alloc; 0; districts]?,
+            least_waiting: vec![in alloc; 0; districts]?,
+            greatest_waiting: vec![in alloc; 0; districts]?,
+        })
+    }
+
+    /// Those of the tables whose records have these versions. Takes a step for each record of ORDER and of NEW-ORDER.
+    pub fn of(alloc: Global, scale: Scale, newest: &[Newest]) -> Result<OrderBounds, AllocError>
+        ensures scale { IfOk result (λ bounds. bounds.scale ≡ scale) }
+        ensures bounds { IfOk result (λ bounds. (t : Database) → t.scale ≡ scale → HasOrdersWithin t
+            → AreRowsOf t (held_in newest.now) → AreBounds t.scale t bounds) }
+    {
+        let mut bounds = OrderBounds::new(alloc, scale)?;
+        bounds.follow_all(newest);
+        Ok(bounds)
+    }
+
+    /// The greatest O_ID of a district, 0 where it has none. Constant time.
+    pub fn greatest_order(&self, key: DistrictKey) -> u32
+        requires { IsDistrictKey self.now.scale key }
+        ensures { result ≡ slice_index self.now.greatest_order
+            (district_place self.now.scale key.warehouse key.district) }
+    {
+        self.greatest_order[place_of(&self.scale, key)]
+    }
+
+    /// The least NO_O_ID of a district, 0 where it has none. Constant time.
+    pub fn least_waiting(&self, key: DistrictKey) -> u32
+        requires { IsDistrictKey self.now.scale key }
+        ensures { result ≡ slice_index self.now.least_waiting
+            (district_place self.now.scale key.warehouse key.district) }
+    {
+        self.least_waiting[place_of(&self.scale, key)]
+    }
+
+    /// The greatest NO_O_ID of a district, 0 where it has none. Constant time.
+    pub fn greatest_waiting(&self, key: DistrictKey) -> u32
+        requires { IsDistrictKey self.now.scale key }
+        ensures { result ≡ slice_index self.now.greatest_waiting
+            (district_place self.now.scale key.warehouse key.district) }
+    {
+        self.greatest_waiting[place_of(&self.scale, key)]
+    }
+
+    /// Looks at a record of ORDER.
+    fn follow_order(&mut self, newest: &[Newest], key: OrderKey)
+        requires { IsOrderKey self.old.scale key }
+        ensures scale { self.new.scale ≡ self.old.scale }
+        ensures follows { Follows self.old.scale (held_in newest.now)
+            (number_of_key self.old.scale (record_key.Order key)) self.old self.new }
+    {
+        let place = place_of(&self.scale, district_of(key));
+        let first = number_of_key(&self.scale, RecordKey::Order(first_of(key)));
+        let greatest = self.greatest_order[place];
+        self.greatest_order[place] = greatest_after(newest, first, key.order, 0, greatest);
+    }
+
+    /// Looks at a record of NEW-ORDER.
+    fn follow_new_order(&mut self, newest: &[Newest], key: OrderKey)
+        requires { IsOrderKey self.old.scale key }
+        ensures scale { self.new.scale ≡ self.old.scale }
+        ensures follows { Follows self.old.scale (held_in newest.now)
+            (number_of_key self.old.scale (record_key.NewOrder key)) self.old self.new }
+    {
+        let place = place_of(&self.scale, district_of(key));
+        let first = number_of_key(&self.scale, RecordKey::NewOrder(first_of(key)));
+        let least = self.least_waiting[place];
+        let greatest = self.greatest_waiting[place];
+        let low = least_after(newest, first, key.order, least, greatest);
+        self.least_waiting[place] = low;
+        self.greatest_waiting[place] = greatest_beside(newest, first, key.order, low, greatest);
+    }
+
+    /// Looks at a record.
+    fn follow_record(&mut self, newest: &[Newest], number: u32)
+        requires { number < record_count self.old.scale }
+        ensures scale { self.new.scale ≡ self.old.scale }
+        ensures follows { Follows self.old.scale (held_in newest.now) number self.old self.new }
+    {
+        match key_of(&self.scale, number) {
+            RecordKey::Order(key) => self.follow_order(newest, key),
+            RecordKey::NewOrder(key) => self.follow_new_order(newest, key),
+            _ => {}
+        }
+    }
+
+    /// Looks at the records that a commit has written.
+    fn follow_values(&mut self, newest: &[Newest], writes: &WriteList)
+        requires { All (λ e. e.0 < record_count self.old.scale) writes.now.values }
+        ensures scale { self.new.scale ≡ self.old.scale }
+        ensures ends { AreEnds self.old.scale (held_in newest.now) (is_among writes.now.values) self.old
+            → AreEnds self.old.scale (held_in newest.now) (λ n. false) self.new }
+    {
+        for (number, _) in writes.values() {
+            self.follow_record(newest, *number);
+        }
+    }
+
+    /// Looks at all records of ORDER and of NEW-ORDER.
+    fn follow_all(&mut self, newest: &[Newest])
+        ensures scale { self.new.scale ≡ self.old.scale }
+        ensures ends { self.old ≡ no_bounds self.old.scale
+            → AreEnds self.old.scale (held_in newest.now) (λ n. false) self.new }
+    {
+        let one = OrderKey {
+            warehouse: 1,
+            district: 1,
+            order: 1,
+        };
+        let first = number_of_key(&self.scale, RecordKey::NewOrder(one));
+        let size = Table::NewOrder.size(&self.scale) + Table::Order.size(&self.scale);
+        for number in first..first + size {
+            self.follow_record(newest, number);
+        }
+    }
+
+    /// Brings the bounds up to date with a commit, where the records have the versions after it. A commit of the five
+    /// transactions takes constant time for each record written, without memory: where a number has gone that was the
+    /// least or the greatest, the next one is looked for, and that is its neighbour in sound tables.
+    pub fn follow(&mut self, newest: &[Newest], writes: &WriteList)
+        requires { All (λ e. e.0 < record_count self.old.scale) writes.now.values }
+        ensures scale { self.new.scale ≡ self.old.scale }
+        ensures bounds { (t u : Database) → t.scale ≡ self.old.scale → HasOrdersWithin t → HasOrdersWithin u
+            → IsWith t u writes.now → AreRowsOf u (held_in newest.now) → AreBounds t.scale t self.old
+            → AreBounds u.scale u self.new }
+    {
+        self.follow_values(newest, writes);
+    }
+}
+
+/// The place of a district.
+#[tactic(auto, using(tables::proofs::Numbers::district_there))]
+fn place_of(scale: &Scale, key: DistrictKey) -> usize
+    requires { IsDistrictKey scale.now key }
+    ensures value { result ≡ district_place scale.now key.warehouse key.district }
+    ensures limit { result < scale.now.warehouses * scale.now.districts }
+{
+    let number = number_of_key(scale, RecordKey::District(key));
+    (number - scale.warehouses()) as usize
+}
+
+/// The district of an order.
+fn district_of(key: OrderKey) -> DistrictKey
+    ensures { result ≡ record { warehouse = key.warehouse; district = key.district } }
+{
+    DistrictKey {
+        warehouse: key.warehouse,
+        district: key.district,
+    }
+}
+
+/// The first order of an order's district.
+fn first_of(key: OrderKey) -> OrderKey
+    ensures { result ≡ record { warehouse = key.warehouse; district = key.district; order = 1 } }
+{
+    OrderKey { order: 1, ..key }
+}

@@ -1,0 +1,4 @@
+mod Steps
+mod Tells
+mod Least
+mod Arms

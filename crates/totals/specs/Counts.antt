@@ -1,0 +1,38 @@
+-- When totals may be taken of records, and when they may follow a commit.
+use Rattle.std.specs.Prelude.{◌≡◌, ℕ, ◌<◌, List, length}
+use Rattle.tables.specs.Inputs.{IsInput}
+use Rattle.tables.specs.Apply.{after}
+use Rattle.tables.specs.Records.{record_count}
+use Rattle.tables.specs.Rows.{rows}
+use Rattle.tables.specs.Conditions.{IsConsistent}
+use Rattle.tables.specs.WellFormed.{IsWellFormed}
+use Rattle.tables.specs.Database.{Database}
+use Rattle.tables.specs.declared.input.Input.{Input}
+use Rattle.tables.specs.declared.reply.Reply.{Reply}
+use Rattle.cells.specs.declared.cells.Newest.{Newest}
+use Rattle.readset.specs.Writes.{WriteSetView}
+use Rattle.readset.specs.Commit.{IsCommitOf}
+use Rattle.totals.specs.Totals.{TotalsView, AreTotals}
+use Rattle.totals.specs.Moves.{held_in}
+use Rattle.totals.specs.Written.{AreWrites}
+
+-- these are what the records of tables hold
+abbrev pub AreHeld : List Newest → Database → Type 0
+AreHeld newest t = (n : ℕ) → n < record_count t.scale → held_in newest n ≡ rows t n
+
+-- these are the newest versions of the records of well-formed, consistent tables
+pub record AreRecords (newest : List Newest) (t : Database) : Type 0 where
+  pub count : length newest ≡ record_count t.scale
+  pub held : AreHeld newest t
+  pub well_formed : IsWellFormed t
+  pub consistent : IsConsistent t
+
+-- totals of tables, and a commit's writes there, that leave well-formed tables
+pub record MayFollow (t : Database) (x : Input) (reply : Reply) (v : TotalsView) (newest : List Newest) (writes : WriteSetView)
+    : Type 0 where
+  pub totals : AreTotals t v
+  pub records : AreRecords newest t
+  pub input : IsInput t.scale x
+  pub commit : IsCommitOf t x writes reply
+  pub ordered : AreWrites t.scale writes
+  pub leaves : IsWellFormed (after t x)

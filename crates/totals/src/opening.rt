@@ -1,0 +1,113 @@
+//! The sums of the tables that a database begins with.
+
+ghost use Rattle.std.specs.Prelude.{◌≡◌, ◌<◌, pos, All, IfOk, length, None, replicate};
+ghost use Rattle.tables.specs.Maps.{sum_of};
+ghost use Rattle.tables.specs.Records.{record_count, key_of};
+ghost use Rattle.tables.specs.WellFormed.{IsHistoryRow};
+ghost use Rattle.totals.specs.Moves.{MovesSums, HasBuyers, held_in, order_before, step, no_history, no_record};
+ghost use Rattle.totals.specs.Opening.{no_sums, worth_from, SumsOpen};
+
+use crate::running::{RunningSums, held};
+use cells::Newest;
+use encoding::record_count;
+use std::alloc::{AllocError, Global};
+use tables::{History, Scale, Table};
+
+impl RunningSums {
+    /// The sums of the tables whose records have these newest versions, and whose HISTORY has these rows. Costs a look
+    /// at each record and row. Refuses only for memory.
+    pub fn of(
+        alloc: Global,
+        scale: &Scale,
+        newest: &[Newest],
+        history: &[History],
+    ) -> Result<RunningSums, AllocError>
+        requires newest { length newest.now ≡ record_count scale.now }
+        requires buyers { HasBuyers scale.now (held_in newest.now) }
+        requires rows { All (IsHistoryRow scale.now) history.now }
+        ensures scale { IfOk result (λ sums. sums.scale ≡ scale.now) }
+        ensures sums { IfOk result (SumsOpen scale.now (held_in newest.now) history.now) }
+    {
+        let mut sums = RunningSums::of_no_rows(alloc, scale)?;
+        sums.count_records(newest);
+        sums.count_rows(history);
+        Ok(sums)
+    }
+
+    /// The sums of tables without rows.
+    fn of_no_rows(alloc: Global, scale: &Scale) -> Result<RunningSums, AllocError>
+        ensures { IfOk result (λ sums. sums ≡ no_sums scale.now) }
+    {
+        let districts = Table::District.size(scale);
+        let customers = Table::Customer.size(scale);
+        Ok(RunningSums {
+            scale: *scale,
+            year_to_date: none(alloc, scale.warehouses())?,
+            paid_at_warehouse: none(alloc, scale.warehouses())?,
+            paid_at_district: none(alloc, districts)?,
+            paid_by_customer: none(alloc, customers)?,
+            delivered: none(alloc, customers)?,
+            line_counts: none(alloc, districts)?,
+            district_lines: none(alloc, districts)?,
+            order_lines: none_small(alloc, Table::Order.size(scale))?,
+            waiting: none(alloc, districts)?,
+        })
+    }
+
+    /// Counts all records, none of which was counted.
+    fn count_records(&mut self, newest: &[Newest])
+        requires newest { length newest.now ≡ record_count self.old.scale }
+        requires buyers { HasBuyers self.old.scale (held_in newest.now) }
+        ensures scale { self.new.scale ≡ self.old.scale }
+        ensures moves { MovesSums self.old.scale (order_before self.old.scale (held_in newest.now))
+            (worth_from self.old.scale (held_in newest.now) (record_count self.old.scale) 0) no_history
+            self.old self.new }
+    {
+        let count = record_count(&self.scale);
+        for number in 0..count {
+            self.count_record(newest, number);
+        }
+    }
+
+    /// Counts a record, which wasn't counted.
+    fn count_record(&mut self, newest: &[Newest], number: u32)
+        requires number { number < record_count self.old.scale }
+        requires newest { length newest.now ≡ record_count self.old.scale }
+        requires buyers { HasBuyers self.old.scale (held_in newest.now) }
+        ensures scale { self.new.scale ≡ self.old.scale }
+        ensures moves { MovesSums self.old.scale (order_before self.old.scale (held_in newest.now))
+            (step (key_of self.old.scale number) None (held_in newest.now number)) no_history self.old self.new }
+    {
+        let value = held(newest, number);
+        // Most records of a database are absent.
+        if value.is_some() {
+            self.move_record(newest, number, &None, &value);
+        }
+    }
+
+    /// Counts HISTORY rows.
+    fn count_rows(&mut self, rows: &[History])
+        requires { All (IsHistoryRow self.old.scale) rows.now }
+        ensures scale { self.new.scale ≡ self.old.scale }
+        ensures moves { (order : _) → MovesSums self.old.scale order no_record (λ f. sum_of f rows.now)
+            self.old self.new }
+    {
+        for row in rows {
+            self.follow_row(row);
+        }
+    }
+}
+
+/// So many amounts of 0.
+fn none(alloc: Global, count: u32) -> Result<Vec<i64>, AllocError>
+    ensures { IfOk result (λ amounts. amounts.items ≡ replicate count (pos 0)) }
+{
+    vec![in alloc; 0; count as usize]
+}
+
+/// The same, of small ones.
+fn none_small(alloc: Global, count: u32) -> Result<Vec<i8>, AllocError>
+    ensures { IfOk result (λ amounts. amounts.items ≡ replicate count (pos 0)) }
+{
+    vec![in alloc; 0; count as usize]
+}

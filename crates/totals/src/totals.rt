@@ -1,0 +1,111 @@
+//! The running totals of a database.
+
+ghost use Rattle.std.specs.Prelude.{◌≡◌, ◌<◌, All, IfOk, length};
+ghost use Rattle.std.specs.Option.{ForSome};
+ghost use Rattle.tables.specs.Sizes.{IsScale};
+ghost use Rattle.tables.specs.Apply.{after};
+ghost use Rattle.tables.specs.Records.{record_count};
+ghost use Rattle.tables.specs.WellFormed.{IsHistoryRow};
+ghost use Rattle.tables.specs.Database.{Database};
+ghost use Rattle.tables.specs.declared.input.Input.{Input as InputOf};
+ghost use Rattle.tables.specs.declared.reply.Reply.{Reply as ReplyOf};
+ghost use Rattle.bounds.specs.Bounds.{AreBounds};
+ghost use Rattle.bounds.specs.Written.{HasOrdersWithin, IsWith};
+ghost use Rattle.totals.specs.Totals.{AreSums, AreTotals};
+ghost use Rattle.totals.specs.Moves.{HasBuyers, held_in};
+ghost use Rattle.totals.specs.Counts.{AreHeld, AreRecords, MayFollow};
+
+use crate::follows::{sums_begin_with_tables, sums_follow_commits};
+use crate::running::RunningSums;
+use bounds::OrderBounds;
+use cells::Newest;
+use readset::WriteList;
+use std::alloc::{AllocError, Global};
+use std::marker::Model;
+use tables::{History, Scale};
+
+/// The totals over a database's tables that its consistency conditions speak of (TPC-C 3.3.2): its sums and counts, and
+/// the least and greatest order numbers of its districts.
+#[derive(Drop)]
+pub struct Totals {
+    sums: RunningSums,
+    bounds: OrderBounds,
+}
+
+impl Model for Totals {
+    ghost use Rattle.totals.specs.Totals.{TotalsView};
+
+    ghost Value = { TotalsView };
+
+    ghost view = { λ a. record { sums = a.sums; bounds = a.bounds } };
+}
+
+impl Totals {
+    /// The totals of the tables whose records have these newest versions, and whose HISTORY has these rows. Costs a few
+    /// looks at each record and row. Refuses only for memory.
+    pub fn of(
+        alloc: Global,
+        scale: &Scale,
+        newest: &[Newest],
+        history: &[History],
+    ) -> Result<Totals, AllocError>
+        requires { (t : Database) × (t.scale ≡ scale.now) × (t.history ≡ history.now) × AreRecords newest.now t }
+        ensures { IfOk result (λ totals. (t : Database) → t.scale ≡ scale.now → t.history ≡ history.now
+            → AreRecords newest.now t → AreTotals t totals) }
+    {
+        sums_begin_with_tables();
+        keeps_limits(scale);
+        let sums = RunningSums::of(alloc, scale, newest, history)?;
+        let bounds = OrderBounds::of(alloc, *scale, newest)?;
+        Ok(Totals { sums, bounds })
+    }
+
+    /// The sums and counts.
+    pub fn sums(&self) -> &RunningSums
+        ensures { result.now ≡ self.now.sums }
+    {
+        &self.sums
+    }
+
+    /// The least and greatest order numbers.
+    pub fn bounds(&self) -> &OrderBounds
+        ensures { result.now ≡ self.now.bounds }
+    {
+        &self.bounds
+    }
+
+    /// Follows a commit, before its versions are stored: the sums. Constant time for each record written, without
+    /// memory.
+    pub fn follow(&mut self, newest: &[Newest], writes: &WriteList)
+        requires { (t : Database) × (x : InputOf) × (reply : ReplyOf)
+            × MayFollow t x reply self.old newest.now writes.now }
+        ensures bounds { self.new.bounds ≡ self.old.bounds }
+        ensures scale { self.new.sums.scale ≡ self.old.sums.scale }
+        ensures sums { (t : Database) (x : InputOf) (reply : ReplyOf) → MayFollow t x reply self.old newest.now writes.now
+            → AreSums (after t x).scale (after t x) self.new.sums }
+    {
+        sums_follow_commits();
+        keeps_limits(self.sums.scale());
+        self.sums.follow(newest, writes);
+    }
+
+    /// Follows it once they are stored: the least and greatest order numbers. The same cost.
+    pub fn follow_stores(&mut self, newest: &[Newest], writes: &WriteList)
+        requires { All (λ e. e.0 < record_count self.old.bounds.scale) writes.now.values }
+        ensures sums { self.new.sums ≡ self.old.sums }
+        ensures scale { self.new.bounds.scale ≡ self.old.bounds.scale }
+        ensures bounds { (t u : Database) → t.scale ≡ self.old.bounds.scale → HasOrdersWithin t → HasOrdersWithin u
+            → IsWith t u writes.now → AreHeld newest.now u → AreBounds t.scale t self.old.bounds
+            → AreBounds u.scale u self.new.bounds }
+    {
+        self.bounds.follow(newest, writes);
+    }
+}
+
+/// Does nothing: it says of a scale as a whole what its getters say of each number.
+fn keeps_limits(scale: &Scale)
+    ensures { IsScale scale.now }
+{
+    let _ = (scale.warehouses(), scale.districts(), scale.customers());
+    let _ = (scale.items(), scale.orders(), scale.commits());
+}
