@@ -15,9 +15,9 @@ use reports::report_of;
 use std::alloc::Global;
 use std::marker::Model;
 use std::sync::{Arc, ledger};
-use tables::Tables;
+use tables::{DistrictKey, Tables};
 use tidword::TidWord;
-use totals::Totals;
+use totals::{DistrictTotals, Totals};
 
 /// The committed state, which stands under the engine's lock: the newest version of each record, by record number,
 /// and what has committed. The committed tables are what these tell, and are kept nowhere. Its type keeps `IsSound` of
@@ -87,6 +87,8 @@ impl<K: Run> Book<K> {
     ghost use Rattle.book.specs.History.{replay};
     ghost use Rattle.book.specs.Book.{IsSound};
     ghost use Rattle.book.specs.Epochs.{HasCounted};
+    ghost use Rattle.tables.specs.Keys.{IsDistrictKey};
+    ghost use Rattle.totals.specs.District.{AreDistrictTotals};
 
     /// What has committed, in order. Takes no memory.
     ///
@@ -145,6 +147,14 @@ impl<K: Run> Book<K> {
             self.totals.sums(),
             self.totals.bounds(),
         ))
+    }
+
+    /// A district's totals over the committed tables. Constant time, no memory.
+    pub fn totals(&self, key: DistrictKey) -> DistrictTotals
+        requires { IsDistrictKey K.first.scale key }
+        ensures { AreDistrictTotals (replay K.first self.now.history) key result }
+    {
+        self.totals.of_district(key)
     }
 
     /// For proofs: a share with all parts of the ledger has as many commits as the history has entries. Changes

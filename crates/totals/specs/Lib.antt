@@ -6,3 +6,4 @@ pub mod Small
 pub mod Steps
 pub mod Opening
 pub mod Counts
+pub mod District

@@ -4,6 +4,7 @@
 
 mod amounts;
 mod answering;
+mod district;
 mod follows;
 mod opening;
 mod places;
@@ -11,6 +12,7 @@ mod running;
 mod totals;
 mod worth;
 
+pub use district::DistrictTotals;
 pub use follows::{sums_begin_with_tables, sums_follow_commits};
 pub use running::{RunningSums, held};
 pub use totals::Totals;
