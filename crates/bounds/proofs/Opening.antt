@@ -1,5 +1,5 @@
 -- Bounds that begin at those of no rows, and have looked at the records of ORDER and NEW-ORDER up to one.
-use Rattle.std.proofs.Common.{◌≡◌, ℕ, ◌+◌, ◌*◌, ◌<◌, ◌≤◌, ◌||◌, nat_lt, not, Bool, true, false, true≢false, List, Option, is_some, unwrap_or, slice_index, replicate, ap, sym, ◌∙◌, subst, arith}
+use Rattle.std.proofs.Common.{◌≡◌, ◌≢◌, ◌⊎◌, inl, inr, ℕ, ◌+◌, ◌*◌, ◌<◌, ◌≤◌, ◌||◌, nat_lt, not, Bool, true, false, true≢false, List, Option, is_some, unwrap_or, slice_index, replicate, ap, sym, ◌∙◌, subst, arith}
 use Rattle.std.proofs.lemmas.Bool.Decides.{nat_tests}
 use Rattle.std.proofs.lemmas.List.{get_or-replicate}
 use Rattle.std.specs.FinMap.{get, empty, get-empty}
@@ -13,8 +13,9 @@ use Rattle.tables.specs.declared.records.Table.TheVariants as table
 use Rattle.tables.specs.declared.records.RecordKey.TheVariants as key
 use Rattle.tables.proofs.Numbers.{district_there, order_there}
 use Rattle.bounds.specs.Bounds.{BoundsView, AreBounds, no_bounds}
-use Rattle.bounds.specs.Ends.{IsLeast, IsGreatest, AreEnds, numbered, order_in, first_order, first_new_order}
+use Rattle.bounds.specs.Ends.{Follows, IsLeast, IsGreatest, AreEnds, numbered, order_in, first_order, first_new_order}
 use Rattle.bounds.proofs.Stepped.{least_kept, greatest_kept}
+use Rattle.bounds.proofs.Placed.{others_follow}
 use Rattle.bounds.proofs.Joined.{none_left, is_greatest, is_least}
 
 -- whether a record isn't among those from the first to before the next
@@ -27,12 +28,12 @@ all_outside first n = grind (arith, nat_tests)
 inside : (first next n : ℕ) → first ≤ n → n < next → is_outside first next n ≡ false
 inside first next n h k = grind (arith, nat_tests)
 
+pub outside : (first next n : ℕ) → (n < first) ⊎ ((first ≤ n) × (next ≤ n)) → is_outside first next n ≡ true
+outside first next n (inl below) = grind (arith, nat_tests, below)
+outside first next n (inr above) = let h = above.1 in grind (arith, nat_tests, h)
+
 pub next_inside : (first next n : ℕ) → is_outside first (next + 1) n ≡ false → is_outside first next n ≡ true → n ≡ next
 next_inside first next n h k = grind (arith, nat_tests)
-
--- the first record of NEW-ORDER
-pub first_is : (s : Sizes) → number_of_key s (key.NewOrder (record { warehouse = 1; district = 1; order = 1 })) ≡ first_number s table.NewOrder
-first_is s = omega arith
 
 zero_at : (s : Sizes) (k : DistrictKey) → IsDistrictKey s k
     → slice_index (replicate (s.warehouses * s.districts) 0) (district_place s k.warehouse k.district) ≡ 0
@@ -76,6 +77,32 @@ module _ (s : Sizes) (held : ℕ → Option (List ℕ)) where
       let h = (order_there s (order_in k n) (is.0, is.1, at)).0 in
       inside (first_number s table.NewOrder) (first_number s table.NewOrder + (size s table.NewOrder + size s table.Order)) (numbered (first_new_order s k) n)
       (omega arith) (omega (arith, h))
+
+  -- a record outside is of neither
+  pub outside_follows : (number : ℕ)
+      → is_outside (first_number s table.NewOrder) (first_number s table.NewOrder + (size s table.NewOrder + size s table.Order)) number ≡ true
+      → (v : BoundsView) → Follows s held number v v
+  outside_follows number past v = others_follow s held number
+      (λ k n is at e. other (number_of_key s (key.Order (order_in k n))) (order_here k n is at) e)
+      (λ k n is at e. other (number_of_key s (key.NewOrder (order_in k n))) (new_order_here k n is at) e) v
+    where
+      range : ℕ → Bool
+      range = is_outside (first_number s table.NewOrder) (first_number s table.NewOrder + (size s table.NewOrder + size s table.Order))
+
+      order_here : (k : DistrictKey) (n : ℕ) → IsDistrictKey s k → IsNumber s.orders n → range (number_of_key s (key.Order (order_in k n))) ≡ false
+      order_here k n is at =
+          let h = (order_there s (order_in k n) (is.0, is.1, at)).0 in
+          inside (first_number s table.NewOrder) (first_number s table.NewOrder + (size s table.NewOrder + size s table.Order))
+          (number_of_key s (key.Order (order_in k n))) (omega arith) (omega (arith, h))
+
+      new_order_here : (k : DistrictKey) (n : ℕ) → IsDistrictKey s k → IsNumber s.orders n → range (number_of_key s (key.NewOrder (order_in k n))) ≡ false
+      new_order_here k n is at =
+          let h = (order_there s (order_in k n) (is.0, is.1, at)).0 in
+          inside (first_number s table.NewOrder) (first_number s table.NewOrder + (size s table.NewOrder + size s table.Order))
+          (number_of_key s (key.NewOrder (order_in k n))) (omega arith) (omega (arith, h))
+
+      other : (m : ℕ) → range m ≡ false → m ≢ number
+      other m here e = true≢false (sym (ap range e ∙ past) ∙ here)
 
   pub all_seen : (v : BoundsView)
       → AreEnds s held (is_outside (first_number s table.NewOrder) (first_number s table.NewOrder + (size s table.NewOrder + size s table.Order))) v

@@ -89,7 +89,7 @@ module _ (s : Sizes) (held : ℕ → Option (List ℕ)) (number : ℕ) (left lat
   greatest_waiting_kept k differs high = greatest_kept _ _ _ _ (λ n is. other _ (λ e. differs n is (sym (new_order_numbered s k n) ∙ e))) high
 
 -- a record of neither table
-others_follow : (s : Sizes) (held : ℕ → Option (List ℕ)) (number : ℕ)
+pub others_follow : (s : Sizes) (held : ℕ → Option (List ℕ)) (number : ℕ)
     → ((k : DistrictKey) (n : ℕ) → IsDistrictKey s k → IsNumber s.orders n → number_of_key s (key.Order (order_in k n)) ≢ number)
     → ((k : DistrictKey) (n : ℕ) → IsDistrictKey s k → IsNumber s.orders n → number_of_key s (key.NewOrder (order_in k n)) ≢ number)
     → (v : BoundsView) → Follows s held number v v

@@ -1,8 +1,9 @@
 //! The least and the greatest order numbers of all districts.
 
-ghost use Rattle.std.specs.Prelude.{◌≡◌, ◌<◌, ◌*◌, All, IfOk, false, slice_index};
+ghost use Rattle.std.specs.Prelude.{◌≡◌, ◌+◌, ◌<◌, ◌*◌, All, IfOk, false, slice_index};
 ghost use Rattle.tables.specs.Keys.{IsDistrictKey, IsOrderKey};
-ghost use Rattle.tables.specs.Records.{record_count, number_of_key, district_place};
+ghost use Rattle.tables.specs.Records.{record_count, number_of_key, district_place, first_number, size};
+ghost use Rattle.tables.specs.declared.records.Table.TheVariants as table;
 ghost use Rattle.tables.specs.Database.{Database, empty_database};
 ghost use Rattle.tables.specs.declared.records.RecordKey.TheVariants as record_key;
 ghost use Rattle.bounds.specs.Bounds.{AreBounds, no_bounds};
@@ -14,7 +15,7 @@ use cells::Newest;
 use readset::WriteList;
 use std::alloc::{AllocError, Global};
 use std::marker::Model;
-use tables::{DistrictKey, OrderKey, RecordKey, Scale, Table, key_of, number_of_key};
+use tables::{DistrictKey, OrderKey, RecordKey, Scale, key_of, number_of_key};
 
 /// The least and the greatest order numbers of a database's districts, each a list by place of its district: 12 bytes
 /// a district.
@@ -129,12 +130,19 @@ impl OrderBounds {
         self.greatest_waiting[place] = greatest_beside(newest, first, key.order, low, greatest);
     }
 
-    /// Looks at a record.
-    fn follow_record(&mut self, newest: &[Newest], number: u32)
-        requires { number < record_count self.old.scale }
+    /// Looks at a record, where these are the first record of NEW-ORDER and the one behind the last of ORDER.
+    fn follow_record(&mut self, newest: &[Newest], number: u32, first: u32, end: u32)
+        requires number { number < record_count self.old.scale }
+        requires first { first ≡ first_number self.old.scale table.NewOrder }
+        requires end { end ≡ first_number self.old.scale table.NewOrder
+            + (size self.old.scale table.NewOrder + size self.old.scale table.Order) }
         ensures scale { self.new.scale ≡ self.old.scale }
         ensures follows { Follows self.old.scale (held_in newest.now) number self.old self.new }
     {
+        // Most records written are of other tables.
+        if number < first || end <= number {
+            return;
+        }
         match key_of(&self.scale, number) {
             RecordKey::Order(key) => self.follow_order(newest, key),
             RecordKey::NewOrder(key) => self.follow_new_order(newest, key),
@@ -149,8 +157,9 @@ impl OrderBounds {
         ensures ends { AreEnds self.old.scale (held_in newest.now) (is_among writes.now.values) self.old
             → AreEnds self.old.scale (held_in newest.now) (λ n. false) self.new }
     {
+        let (first, end) = order_records(&self.scale);
         for (number, _) in writes.values() {
-            self.follow_record(newest, *number);
+            self.follow_record(newest, *number, first, end);
         }
     }
 
@@ -160,15 +169,9 @@ impl OrderBounds {
         ensures ends { self.old ≡ no_bounds self.old.scale
             → AreEnds self.old.scale (held_in newest.now) (λ n. false) self.new }
     {
-        let one = OrderKey {
-            warehouse: 1,
-            district: 1,
-            order: 1,
-        };
-        let first = number_of_key(&self.scale, RecordKey::NewOrder(one));
-        let size = Table::NewOrder.size(&self.scale) + Table::Order.size(&self.scale);
-        for number in first..first + size {
-            self.follow_record(newest, number);
+        let (first, end) = order_records(&self.scale);
+        for number in first..end {
+            self.follow_record(newest, number, first, end);
         }
     }
 
@@ -184,6 +187,19 @@ impl OrderBounds {
     {
         self.follow_values(newest, writes);
     }
+}
+
+/// The first record of NEW-ORDER, and the one behind the last of ORDER, whose records follow.
+fn order_records(scale: &Scale) -> (u32, u32)
+    ensures first { result.0 ≡ first_number scale.now table.NewOrder }
+    ensures end { result.1 ≡ first_number scale.now table.NewOrder
+        + (size scale.now table.NewOrder + size scale.now table.Order) }
+{
+    let districts = scale.warehouses() * scale.districts();
+    let customers = districts * scale.customers();
+    let orders = districts * scale.orders();
+    let first = scale.warehouses() + districts + customers;
+    (first, first + orders * 2)
 }
 
 /// The place of a district.

@@ -13,3 +13,4 @@ mod Moving
 mod Opened
 mod Begin
 mod Recorded
+mod Uncounted

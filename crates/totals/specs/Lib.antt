@@ -7,3 +7,4 @@ pub mod Steps
 pub mod Opening
 pub mod Counts
 pub mod District
+pub mod Counted

@@ -1,9 +1,10 @@
 //! The places of keys among the totals: those of their records in their tables.
 
-ghost use Rattle.std.specs.Prelude.{◌≡◌, ◌+◌, ◌-◌, ◌*◌, ◌<◌, ◌≤◌};
+ghost use Rattle.std.specs.Prelude.{◌≡◌, ◌+◌, ◌-◌, ◌*◌, ◌<◌, ◌≤◌, IsTrue};
 ghost use Rattle.tables.specs.Keys.{IsDistrictKey, IsCustomerKey, IsOrderKey};
 ghost use Rattle.tables.specs.Records.{size, district_place, customer_place, order_place};
 ghost use Rattle.tables.specs.declared.records.Table.TheVariants as table;
+ghost use Rattle.totals.specs.Counted.{counted_in, IsPast};
 
 use tables::{CustomerKey, DistrictKey, OrderKey, Scale, Table};
 
@@ -71,4 +72,39 @@ pub fn place_in_districts(scale: &Scale, key: OrderKey) -> u32
         district: key.district,
     };
     place_of_district(scale, district)
+}
+
+/// Where the records stand that sums count: those of DISTRICT, and those of NEW-ORDER, ORDER and ORDER-LINE, which follow
+/// one another. Each from its first record to the one behind its last.
+#[derive(Clone, Copy)]
+pub struct Counted {
+    pub first_district: u32,
+    pub end_districts: u32,
+    pub first_order: u32,
+    pub end_lines: u32,
+}
+
+/// Those of a scale.
+pub fn counted_records(scale: &Scale) -> Counted
+    ensures { result ≡ counted_in scale.now }
+{
+    let districts = scale.warehouses() * scale.districts();
+    let customers = districts * scale.customers();
+    let orders = districts * scale.orders();
+    let first_order = scale.warehouses() + districts + customers;
+    Counted {
+        first_district: scale.warehouses(),
+        end_districts: scale.warehouses() + districts,
+        first_order,
+        end_lines: first_order + orders * 17,
+    }
+}
+
+/// Whether a record isn't among them.
+pub fn is_past(counted: Counted, number: u32) -> bool
+    ensures { IsTrue result → IsPast counted number }
+{
+    number < counted.first_district
+        || (counted.end_districts <= number && number < counted.first_order)
+        || counted.end_lines <= number
 }

@@ -9,11 +9,15 @@ ghost use Rattle.tables.specs.WellFormed.{IsHistoryRow};
 ghost use Rattle.tables.specs.declared.keys.OrderKey.{OrderKey};
 ghost use Rattle.tables.specs.declared.records.RecordKey.TheVariants as record_key;
 ghost use Rattle.totals.specs.Moves.{MovesSums, SumsFollow, HasBuyers, held_in, order_before, step, moved, no_history};
+ghost use Rattle.totals.specs.Counted.{counted_in};
 ghost use Rattle.totals.specs.Steps.{HasPlaces, district_step, order_step, new_order_step, district_line_step, order_line_step};
 ghost use Rattle.totals.specs.Steps.{deliver_step, line_step, warehouse_paid_step, district_paid_step, customer_paid_step, history_step};
 
 use crate::amounts::{move_amount, move_small};
-use crate::places::{place_in_districts, place_of_customer, place_of_district, place_of_order};
+use crate::places::{
+    Counted, counted_records, is_past, place_in_districts, place_of_customer, place_of_district,
+    place_of_order,
+};
 use crate::worth::{delivered_amount, presence, signed_word, small_presence};
 use cells::Newest;
 use money::Payload;
@@ -222,8 +226,9 @@ impl RunningSums {
         ensures moves { MovesSums self.old.scale (order_before self.old.scale (held_in newest.now))
             (moved self.old.scale (held_in newest.now) writes.now.values) no_history self.old self.new }
     {
+        let counted = counted_records(&self.scale);
         for (number, value) in writes.values() {
-            self.follow_record(newest, *number, value);
+            self.follow_record(newest, counted, *number, value);
         }
     }
 
@@ -244,7 +249,14 @@ impl RunningSums {
     }
 
     /// Follows one record, which held what its newest version has and comes to hold this value.
-    fn follow_record(&mut self, newest: &[Newest], number: u32, new: &Option<Payload>)
+    fn follow_record(
+        &mut self,
+        newest: &[Newest],
+        counted: Counted,
+        number: u32,
+        new: &Option<Payload>,
+    )
+        requires counted { counted ≡ counted_in self.old.scale }
         requires number { number < record_count self.old.scale }
         requires newest { length newest.now ≡ record_count self.old.scale }
         requires buyers { HasBuyers self.old.scale (held_in newest.now) }
@@ -252,6 +264,10 @@ impl RunningSums {
         ensures moves { MovesSums self.old.scale (order_before self.old.scale (held_in newest.now))
             (step (key_of self.old.scale number) (held_in newest.now number) new.now) no_history self.old self.new }
     {
+        // Many of the records written are of other tables.
+        if is_past(counted, number) {
+            return;
+        }
         let old = held(newest, number);
         self.move_record(newest, number, &old, new);
     }

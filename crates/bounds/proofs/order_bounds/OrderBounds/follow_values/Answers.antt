@@ -1,6 +1,8 @@
-use Rattle.std.proofs.Common.{◌+◌, ◌<◌, ◌≡◌, ℕ, List, Option, None, true, All, [], drop, get_or, refl, sym, ◌∙◌, subst}
+use Rattle.std.proofs.Common.{◌+◌, ◌<◌, ◌≡◌, ℕ, List, Option, None, true, All, [], drop, get_or, refl, sym, ap, ◌∙◌, subst}
 use Rattle.std.proofs.lemmas.List.{drop_more, drop_all}
-use Rattle.tables.specs.Records.{record_count}
+use Rattle.tables.specs.Records.{record_count, first_number, size}
+use Rattle.tables.specs.declared.records.Table.TheVariants as table
+use Rattle.bounds.specs.Bounds.{BoundsView}
 use Rattle.bounds.specs.Written.{held_in}
 use Rattle.bounds.specs.Ends.{AreEnds, Follows, is_among}
 use Rattle.bounds.proofs.Placed.{looked_at}
@@ -13,11 +15,21 @@ loop-number-init c = record {
       (sym c.values-number-items.ensures.values);
 }
 
-pub follow_record-requires : goal.follow_record-requires
-follow_record-requires c =
+pub follow_record-requires-clause-number : goal.follow_record-requires-clause-number
+follow_record-requires-clause-number c =
     subst (λ z. (get_or c.values-number-items.result.now c.loop-number.number-index (0, None)).0 < record_count z) (sym c.loop-number.invariant.scale)
     (subst (λ ws. All (λ e. e.0 < record_count c.args.self.now.scale) ws) (sym c.values-number-items.ensures.values) c.requires c.loop-number.number-index
     (0, None) c.loop-number-test.true)
+
+pub follow_record-requires-clause-first : goal.follow_record-requires-clause-first
+follow_record-requires-clause-first c = c.order_records-first.ensures.first
+    ∙ ap (λ (w : BoundsView). first_number w.scale table.NewOrder) c.self.view_is
+    ∙ ap (λ s. first_number s table.NewOrder) (sym c.loop-number.invariant.scale)
+
+pub follow_record-requires-clause-end : goal.follow_record-requires-clause-end
+follow_record-requires-clause-end c = c.order_records-first.ensures.end
+    ∙ ap (λ (w : BoundsView). first_number w.scale table.NewOrder + (size w.scale table.NewOrder + size w.scale table.Order)) c.self.view_is
+    ∙ ap (λ s. first_number s table.NewOrder + (size s table.NewOrder + size s table.Order)) (sym c.loop-number.invariant.scale)
 
 pub loop-number-preserved : goal.loop-number-preserved
 loop-number-preserved c =
