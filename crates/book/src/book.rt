@@ -134,7 +134,7 @@ impl<K: Run> Book<K> {
     }
 
     /// Which conditions the committed tables meet: all. Costs one pass over the records, each of which is compared with
-    /// the running totals, and takes no memory, so that there is no refusal.
+    /// the running totals, and takes no memory.
     pub fn report(&self, _alloc: Global) -> Result<Report, Refusal>
         ensures report { IfOk result (IsReportOf (replay K.first self.now.history)) }
         ensures good { IfOk result IsGood }

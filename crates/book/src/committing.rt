@@ -26,8 +26,8 @@ use std::sync::Wait;
 
 impl<K: Run> Book<K> {
     /// Commits a transaction that this reader has executed, as the next in the history (Silo, section 4.4). Costs a
-    /// comparison a record read; a store, a comparison, two copies and a step of the totals a record written; and constant
-    /// time, amortized, for the history and the logger's stream. May wait, at a record's cell alone.
+    /// comparison a record read; a store, a comparison, two copies and a step of the totals a record written; and
+    /// constant time, amortized, for the history and the logger's stream. May wait, at a record's cell alone.
     ///
     /// Where the versions read are the latest, the transaction is done at the committed tables: its reply and its
     /// writes are those of its definition there, though it may be refused. Its TID is the least of the epoch E that is

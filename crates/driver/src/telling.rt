@@ -22,8 +22,8 @@ use std::io::Write;
 ///
 /// # Errors
 ///
-/// `Device` where the writer fails, `OutOfMemory` where report or text have no room. A beginning of the text was
-/// written then.
+/// `Device` where the writer fails, `OutOfMemory` where the text has no room. A beginning of the text was written
+/// then.
 pub fn ran<K: Run, D: Disk, W: Write>(
     alloc: Global,
     outcome: &Outcome<K, D>,

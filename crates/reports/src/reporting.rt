@@ -17,8 +17,8 @@ use tables::Scale;
 use totals::RunningSums;
 
 /// For each consistency condition (TPC-C 3.3.2) the least key that breaks it, of the tables whose records have these
-/// newest versions, and whose totals these are. Good of consistent tables. Costs one pass over the records, in which each that is there is compared
-/// with the totals of its key, and no memory.
+/// newest versions, and whose totals these are. Good of consistent tables. Costs one pass over the records, in which
+/// each that is there is compared with the totals of its key, and no memory.
 pub fn report_of(
     scale: &Scale,
     newest: &[Newest],

@@ -122,7 +122,7 @@ impl<'e, K: Run> Session<'e, K> {
         self.dones.as_slice()
     }
 
-    /// The report of the committed tables, and what was committed. Refuses only for memory.
+    /// The report of the committed tables, and what was committed. Costs what `Book::report` does.
     pub fn close(self) -> Result<(Report, Vec<Done>), Refusal>
         ensures report { IfOk result (λ closed. IsReportOf (replay K.first self.entry.history) closed.0) }
         ensures dones { IfOk result (λ closed. closed.1.items ≡ self.entry.dones) }

@@ -10,19 +10,19 @@ use tables::DistrictKey;
 /// The totals of one district.
 #[derive(Clone, Copy, Debug, PartialEq, Eq)]
 pub struct DistrictTotals {
-    /// The sum of H_AMOUNT.
+    /// The sum of H_AMOUNT by H_W_ID and H_D_ID, in cents (TPC-C 3.3.2.9).
     pub paid: i64,
-    /// The sum of O_OL_CNT.
+    /// The sum of O_OL_CNT (3.3.2.4).
     pub line_counts: i64,
-    /// The number of ORDER-LINE rows.
+    /// The number of ORDER-LINE rows (3.3.2.4).
     pub lines: i64,
-    /// The number of NEW-ORDER rows.
+    /// The number of NEW-ORDER rows (3.3.2.3).
     pub waiting: i64,
-    /// The greatest O_ID, 0 where there is none.
+    /// The greatest O_ID, 0 where there is none (3.3.2.2).
     pub greatest_order: u32,
-    /// The least NO_O_ID, 0 where there is none.
+    /// The least NO_O_ID, 0 where there is none (3.3.2.3).
     pub least_waiting: u32,
-    /// The greatest NO_O_ID, 0 where there is none.
+    /// The greatest NO_O_ID, 0 where there is none (3.3.2.2, 3.3.2.3).
     pub greatest_waiting: u32,
 }
 

@@ -89,7 +89,7 @@ impl Totals {
         self.sums.follow(newest, writes);
     }
 
-    /// Follows it once they are stored: the least and greatest order numbers. The same cost.
+    /// Follows it once they are stored: the least and greatest order numbers. Costs what `OrderBounds::follow` does.
     pub fn follow_stores(&mut self, newest: &[Newest], writes: &WriteList)
         requires { All (λ e. e.0 < record_count self.old.bounds.scale) writes.now.values }
         ensures sums { self.new.sums ≡ self.old.sums }
