@@ -59,8 +59,8 @@ pub const MAX_TERMINALS: u16 = 16;
 
 impl Parts {
     /// The parts of an engine over this population, for 1 to 8 loggers and 1 to 16 terminals, of which each gets a
-    /// seat, with a board at epoch 1. Costs what `newest_of`, `Totals::of` and `Cells::new` cost: passes over the tables
-    /// and the records, and a step a record and terminal. May wait, at a record's cell alone.
+    /// seat, with a board at epoch 1. Costs what `newest_of`, `Totals::of` and `Cells::new` cost: passes over the
+    /// tables and the records, and a step a record and terminal. May wait, at a record's cell alone.
     ///
     /// # Errors
     ///

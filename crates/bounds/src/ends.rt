@@ -80,8 +80,8 @@ pub fn least_after(newest: &[Newest], first: u32, number: u32, least: u32, great
     least_there(newest, first, low, greatest.max(number))
 }
 
-/// The greatest number whose row is there, where a number's row may have changed, and this was the greatest before; none
-/// below `low` has a row.
+/// The greatest number whose row is there, where a number's row may have changed, and this was the greatest before;
+/// none below `low` has a row.
 pub fn greatest_after(newest: &[Newest], first: u32, number: u32, low: u32, greatest: u32) -> u32
     requires number { 1 ≤ number }
     requires low { 1 ≤ low → is_there (held_in newest.now) first low ≡ true }

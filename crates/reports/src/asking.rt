@@ -72,7 +72,8 @@ fn ask_warehouse(
     words: &Payload,
 )
     requires { IsWarehouseKey sums.now.scale warehouse }
-    ensures { (t : Database) → HasTotals sums.now bounds.now t → row_at t (record_key.Warehouse warehouse) ≡ Some words.now
+    ensures { (t : Database) → HasTotals sums.now bounds.now t
+        → row_at t (record_key.Warehouse warehouse) ≡ Some words.now
         → IsFound t (number_of_key t.scale (record_key.Warehouse warehouse)) report.old
         → IsFound t (number_of_key t.scale (record_key.Warehouse warehouse) + 1) report.new }
 {

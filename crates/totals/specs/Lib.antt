@@ -8,3 +8,4 @@ pub mod Opening
 pub mod Counts
 pub mod District
 pub mod Counted
+pub mod Inside

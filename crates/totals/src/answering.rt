@@ -38,7 +38,8 @@ impl RunningSums {
     /// The sum of H_AMOUNT by H_W_ID and H_D_ID.
     pub fn paid_at_district(&self, key: DistrictKey) -> i64
         requires { IsDistrictKey self.now.scale key }
-        ensures { result ≡ amount_at self.now.paid_at_district (district_place self.now.scale key.warehouse key.district) }
+        ensures { result ≡ amount_at self.now.paid_at_district
+            (district_place self.now.scale key.warehouse key.district) }
     {
         let place = place_of_district(&self.scale, key);
         self.paid_at_district[place as usize]
@@ -56,7 +57,8 @@ impl RunningSums {
     /// The number of a district's ORDER-LINE rows.
     pub fn district_lines(&self, key: DistrictKey) -> i64
         requires { IsDistrictKey self.now.scale key }
-        ensures { result ≡ amount_at self.now.district_lines (district_place self.now.scale key.warehouse key.district) }
+        ensures { result ≡ amount_at self.now.district_lines
+            (district_place self.now.scale key.warehouse key.district) }
     {
         let place = place_of_district(&self.scale, key);
         self.district_lines[place as usize]

@@ -74,8 +74,8 @@ pub fn place_in_districts(scale: &Scale, key: OrderKey) -> u32
     place_of_district(scale, district)
 }
 
-/// Where the records stand that sums count: those of DISTRICT, and those of NEW-ORDER, ORDER and ORDER-LINE, which follow
-/// one another. Each from its first record to the one behind its last.
+/// Where the records stand that sums count: those of DISTRICT, and those of NEW-ORDER, ORDER and ORDER-LINE, which
+/// follow one another. Each from its first record to the one behind its last.
 #[derive(Clone, Copy)]
 pub struct Counted {
     pub first_district: u32,

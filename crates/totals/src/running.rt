@@ -46,34 +46,13 @@ pub struct RunningSums {
 impl Model for RunningSums {
     ghost use Rattle.totals.specs.Totals.{SumsView};
     ghost use Rattle.totals.specs.Steps.{HasPlaces};
+    ghost use Rattle.totals.specs.Inside.{sums_in};
 
     ghost Value = { SumsView };
 
-    ghost view = { λ a. record {
-      scale = a.scale;
-      year_to_date = a.year_to_date.items;
-      paid_at_warehouse = a.paid_at_warehouse.items;
-      paid_at_district = a.paid_at_district.items;
-      paid_by_customer = a.paid_by_customer.items;
-      delivered = a.delivered.items;
-      line_counts = a.line_counts.items;
-      district_lines = a.district_lines.items;
-      order_lines = a.order_lines.items;
-      waiting = a.waiting.items;
-    } };
+    ghost view = { sums_in };
 
-    ghost invariant = { λ a. HasPlaces (record {
-      scale = a.scale;
-      year_to_date = a.year_to_date.items;
-      paid_at_warehouse = a.paid_at_warehouse.items;
-      paid_at_district = a.paid_at_district.items;
-      paid_by_customer = a.paid_by_customer.items;
-      delivered = a.delivered.items;
-      line_counts = a.line_counts.items;
-      district_lines = a.district_lines.items;
-      order_lines = a.order_lines.items;
-      waiting = a.waiting.items;
-    }) };
+    ghost invariant = { λ a. HasPlaces (sums_in a) };
 }
 
 impl RunningSums {

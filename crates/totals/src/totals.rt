@@ -81,8 +81,8 @@ impl Totals {
             × MayFollow t x reply self.old newest.now writes.now }
         ensures bounds { self.new.bounds ≡ self.old.bounds }
         ensures scale { self.new.sums.scale ≡ self.old.sums.scale }
-        ensures sums { (t : Database) (x : InputOf) (reply : ReplyOf) → MayFollow t x reply self.old newest.now writes.now
-            → AreSums (after t x).scale (after t x) self.new.sums }
+        ensures sums { (t : Database) (x : InputOf) (reply : ReplyOf)
+            → MayFollow t x reply self.old newest.now writes.now → AreSums (after t x).scale (after t x) self.new.sums }
     {
         sums_follow_commits();
         keeps_limits(self.sums.scale());
