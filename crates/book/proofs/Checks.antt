@@ -18,9 +18,12 @@ use Rattle.readset.proofs.Numbers.{same_number}
 use Rattle.book.specs.Stamps.{greatest_tid}
 use Rattle.book.specs.Book.{AreLatest, HasConflict, IsReadBy, IsRead}
 
--- the next of some versions
-pub next : (items : ReadSetView) (i : ℕ) (e : ℕ × Version) → i < length items → e ≡ get_or items i e → drop i items ≡ e ∷ drop (i + 1) items
-next items i e inside is = drop_more items i e inside ∙ ap (λ (f : ℕ × Version). f ∷ drop (i + 1) items) (sym is)
+-- the version at a place, and those behind it
+pub next : (reads : ReadSetView) (i : ℕ) (v : Version) → i < length reads → ((d : ℕ × Version) → v ≡ (get_or reads i d).1)
+    → drop i reads ≡ ((get_or reads i (0, v)).0, v) ∷ drop (i + 1) reads
+next reads i v inside is =
+    let d : ℕ × Version = (0, v) in
+    drop_more reads i d inside ∙ ap (λ (w : Version). ((get_or reads i d).0, w) ∷ drop (i + 1) reads) (sym (is d))
 
 abbrev IsFound : ReadSetView → ℕ × Version → Type 0
 IsFound reads e = held reads e.0 ≡ Some e.1

@@ -88,6 +88,7 @@ pub(crate) fn prepare(
         return Err(Refusal::OutOfMemory);
     };
     stream.reserve()?;
+    let writes = writes.into_list()?;
     let (entry, waiting) = shared(
         alloc,
         Entry {
@@ -96,7 +97,7 @@ pub(crate) fn prepare(
             terminal: place.terminal,
             input,
             reply,
-            writes: writes.into_list(),
+            writes,
         },
     )?;
     let told = Arc::try_clone(&entry)?;

@@ -21,8 +21,8 @@ use tidword::TidWord;
 pub(crate) fn in_order(reads: &ReadSet, writes: &WriteSet)
     ensures { AreInOrder reads.now writes.now }
 {
-    reads.versions();
-    writes.values();
+    reads.len();
+    writes.len();
 }
 
 /// The greatest TID of what was read, if each version read is still its record's latest (phase 2). The reader may have
@@ -43,7 +43,8 @@ pub(crate) fn validate<R: Wait>(
         × IsRead reads.now seen) }
 {
     let mut seen = 0;
-    for (_, version) in reads.versions() {
+    for place in 0..reads.len() {
+        let version = reads.version(place);
         if !cells.meet(rt, pen, reader, version) {
             return None;
         }

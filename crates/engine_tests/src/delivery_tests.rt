@@ -84,8 +84,8 @@ fn seen_of(work: &Work) -> Seen {
     let [first, second] = PLACES;
     Seen {
         told: told_of(&work.reply),
-        reads: work.reads.versions().len(),
-        writes: work.writes.values().len(),
+        reads: work.reads.len(),
+        writes: work.writes.len(),
         written: [
             written_of(&work.writes, first),
             written_of(&work.writes, second),

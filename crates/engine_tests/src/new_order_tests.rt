@@ -82,8 +82,8 @@ fn order<R: Wait>(
     Ok(Seen {
         told: told_of(&work.reply),
         stocks: stocks_of(&work.reply),
-        reads: work.reads.versions().len(),
-        writes: work.writes.values().len(),
+        reads: work.reads.len(),
+        writes: work.writes.len(),
         written: written_of(&work),
     })
 }

@@ -73,8 +73,8 @@ fn seen_of(work: &Work) -> Seen {
     Seen {
         input: payment_input(&work.input),
         told: told_of(&work.reply),
-        reads: work.reads.versions().len(),
-        writes: work.writes.values().len(),
+        reads: work.reads.len(),
+        writes: work.writes.len(),
         read: Read {
             warehouse: version_of(&work.reads, 0),
             district: version_of(&work.reads, 1),

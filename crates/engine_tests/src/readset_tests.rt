@@ -33,7 +33,7 @@ fn read<R: Wait>(rt: &R, alloc: Global, stage: &mut Stage) -> Result<ReadSet, Re
 
 fn seen_of(writes: &WriteSet, reads: &ReadSet, number: u32) -> Seen {
     Seen {
-        count: writes.values().len(),
+        count: writes.len(),
         value: writes.value(number),
         left: writes.left(reads, number),
     }
@@ -110,7 +110,7 @@ fn seen_of_list(alloc: Global) -> Result<Listed, Refusal> {
     let mut writes = WriteSet::new(alloc);
     put_three(&mut writes)?;
     let row = writes.history_row();
-    let list = writes.into_list();
+    let list = writes.into_list()?;
     Ok(Listed {
         rows: (row, list.history_row()),
         count: list.values().len(),
@@ -119,10 +119,11 @@ fn seen_of_list(alloc: Global) -> Result<Listed, Refusal> {
     })
 }
 
-/// Says what two records are to hold, the later one first, and which row HISTORY is to get.
+/// Says what two records are to hold, the later one first and once more at the end, and which row HISTORY is to get.
 fn put_three(writes: &mut WriteSet) -> Result<(), Refusal> {
-    writes.put(2, None)?;
+    writes.put(2, Some(WAREHOUSE))?;
     writes.put(1, Some(WAREHOUSE))?;
+    writes.put(2, None)?;
     writes.put_history_row(history_row(3, 1_234));
     Ok(())
 }

@@ -6,6 +6,7 @@ pub mod WrittenRecords
 mod Lookups
 mod Search
 mod Placed
+mod Ordered
 pub mod Entries
 mod Loaded
 pub mod UnderWay

@@ -80,11 +80,12 @@ load_chain first old new reads more n (Err e) absent load put unread kept so_far
     subst (λ (p : ReaderView × ReadSetView). AreRead first p.0 p.1) (λ i. (sym unread i, sym kept i)) so_far
 
 -- a version that a look-up finds at its place, and a record that has none
-pub read_there : (entries reads items : ReadSetView) (n at : ℕ) (r : Result ℕ ℕ) (e : ℕ × Version) → entries ≡ reads → items ≡ entries
-    → r ≡ place items n → r ≡ Ok at → e ≡ get_or entries at e → held reads n ≡ Some e.1
-read_there entries reads items n at r e view same search found is =
-    ap (λ (reads : ReadSetView). held reads n) (sym view) ∙ (stands n entries at (ap (λ (es : ReadSetView). place es n) (sym same) ∙ sym search ∙ found)).value e
-    ∙ ap (λ (e : ℕ × Version). Some e.1) (sym is)
+pub read_there : (entries reads items : ReadSetView) (n at : ℕ) (r : Result ℕ ℕ) (v : Version) → entries ≡ reads → items ≡ entries
+    → r ≡ place items n → r ≡ Ok at → ((d : ℕ × Version) → v ≡ (get_or items at d).1) → held reads n ≡ Some v
+read_there entries reads items n at r v view same search found is =
+    let d : ℕ × Version = (n, v) in
+    ap (λ (reads : ReadSetView). held reads n) (sym view) ∙ ap (λ (es : ReadSetView). held es n) (sym same)
+    ∙ (stands n items at (sym search ∙ found)).value d ∙ ap Some (sym (is d))
 
 pub unread : (entries reads items : ReadSetView) (n at : ℕ) (r : Result ℕ ℕ) → entries ≡ reads → items ≡ entries → IsStrictlySortedBy nat_cmp (keys_of entries)
     → r ≡ place items n → r ≡ Err at → held reads n ≡ None

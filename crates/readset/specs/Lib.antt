@@ -1,4 +1,5 @@
 pub mod Places
+pub mod Arrivals
 pub mod Reads
 pub mod Writes
 pub mod Commit

@@ -2,6 +2,7 @@
 //! SOSP 2013, section 4.4).
 #![tactic(auto)]
 
+mod arrivals;
 pub mod limits;
 mod list;
 mod places;

@@ -1,6 +1,6 @@
 //! What a transaction has read.
 ghost use Rattle.std.specs.Prelude.{◌≡◌, ◌≢◌, ℕ, ◌+◌, ◌<◌, ◌≤◌, Some, None, Ok, Err, IfOk, IfErr, OnErr, [], length};
-ghost use Rattle.std.specs.Prelude.{All, vec_len};
+ghost use Rattle.std.specs.Prelude.{All, slice_index_or};
 ghost use Rattle.std.specs.Option.{option_copied};
 ghost use Rattle.std.specs.Ordering.{nat_cmp};
 ghost use Rattle.std.specs.Map.{keys_of};
@@ -8,11 +8,12 @@ ghost use Rattle.std.specs.BTreeMap.{insert_entry};
 ghost use Rattle.money.specs.declared.refusal.Refusal.TheVariants.{OutOfMemory};
 ghost use Rattle.std.specs.List.Sorted.{IsStrictlySortedBy};
 ghost use Rattle.readset.specs.Places.{place};
+ghost use Rattle.readset.specs.Arrivals.{AreArrivals, in_order};
 ghost use Rattle.readset.specs.Reads.{held, value_of, Keeps, AreWithin, AreRead};
 ghost use Rattle.cells.specs.Records.{ReaderView, LoadsRecord, HasGrown, words_of};
 ghost use Rattle.cells.specs.declared.cells.Version.{Version};
 
-use crate::places::{place_of, value_at};
+use crate::arrivals::{add, count, find, make_room, value_at, value_in};
 use cells::{Cells, Reader, Version};
 use money::{Payload, Refusal};
 use std::alloc::Global;
@@ -20,24 +21,23 @@ use std::marker::Model;
 use std::sync::Wait;
 
 /// The versions that a transaction has read, one a record (Silo, section 4.4: the read set). Contracts see
-/// them by record number. In the order of the numbers, so that a transaction that reads some 400 records spends a few
-/// steps on each look-up.
+/// them by record number, in the order of the numbers. They stand as they came, so that a transaction that reads some 400
+/// records neither moves versions nor spends more than a few steps on each look-up.
 #[derive(Drop)]
 pub struct ReadSet {
     versions: Vec<(u32, Version)>,
+    order: Vec<(u32, u32)>,
 }
 
 impl Model for ReadSet {
-    ghost use Rattle.std.specs.Ordering.{nat_cmp};
-    ghost use Rattle.std.specs.Map.{keys_of};
-    ghost use Rattle.std.specs.List.Sorted.{IsStrictlySortedBy};
     ghost use Rattle.readset.specs.Reads.{ReadSetView};
+    ghost use Rattle.readset.specs.Arrivals.{AreArrivals, in_order};
 
     ghost Value = { ReadSetView };
 
-    ghost view = { λ r. r.versions.items };
+    ghost view = { λ r. in_order r.versions.items r.order.items };
 
-    ghost invariant = { λ r. IsStrictlySortedBy nat_cmp (keys_of r.versions.items) };
+    ghost invariant = { λ r. AreArrivals r.versions.items r.order.items };
 }
 
 impl ReadSet {
@@ -47,12 +47,13 @@ impl ReadSet {
     {
         ReadSet {
             versions: Vec::new(alloc),
+            order: Vec::new(alloc),
         }
     }
 
     /// The version of a record: the one held, or else what a load of its cell gives, which is held from then
     /// on. Costs constant time, amortized, for a record above all others held; else the logarithm of how many are held,
-    /// and for a load a move of those above.
+    /// and for a load a move of 8 bytes for each of those above.
     ///
     /// # Errors
     ///
@@ -85,9 +86,19 @@ impl ReadSet {
             → HasGrown first reader.new }
         ensures only_memory { IfErr result (λ refusal. refusal ≡ OutOfMemory) }
     {
-        match place_of(self.versions.as_slice(), number) {
-            Ok(at) => Ok(self.versions[at].1),
-            Err(at) => load(rt, cells, reader, &mut self.versions, at, number),
+        let versions = self.versions.as_slice();
+        let order = self.order.as_slice();
+        match find(versions, order, number) {
+            Ok(at) => Ok(*value_in(versions, order, at)),
+            Err(at) => load(
+                rt,
+                cells,
+                reader,
+                &mut self.versions,
+                &mut self.order,
+                at,
+                number,
+            ),
         }
     }
 
@@ -95,48 +106,55 @@ impl ReadSet {
     pub fn held(&self, number: u32) -> Option<&Version>
         ensures { option_copied result ≡ held self.now number }
     {
-        value_at(self.versions.as_slice(), number)
+        value_at(self.versions.as_slice(), self.order.as_slice(), number)
     }
 
-    /// The versions held, by record number and in the order of the numbers.
-    pub fn versions(&self) -> &[(u32, Version)]
-        ensures versions { result.now ≡ self.now }
+    /// How many versions are held.
+    pub fn len(&self) -> usize
+        ensures len { result ≡ length self.now }
         ensures found { All (λ e. held self.now e.0 ≡ Some e.1) self.now }
         ensures ordered { IsStrictlySortedBy nat_cmp (keys_of self.now) }
     {
-        self.versions.as_slice()
+        count(self.versions.as_slice(), self.order.as_slice())
+    }
+
+    /// The version held at a place in the order of the record numbers. Takes constant time.
+    pub fn version(&self, place: usize) -> &Version
+        requires { place < length self.now }
+        ensures { (d : ℕ × Version) → result.now ≡ (slice_index_or self.now place d).1 }
+    {
+        value_in(self.versions.as_slice(), self.order.as_slice(), place)
     }
 }
 
-/// Loads a record's version into its place, for which there is room first: what was loaded is held.
+/// Loads a record's version, for which there is room first: what was loaded is held. This is its place in the order.
 fn load<R: Wait>(
     rt: &R,
     cells: &Cells,
     reader: &mut Reader,
     versions: &mut Vec<(u32, Version)>,
+    order: &mut Vec<(u32, u32)>,
     at: usize,
     number: u32,
 ) -> Result<Version, Refusal>
     requires own { reader.old.cells ≡ cells.now }
     requires is_record { number < length cells.now }
-    requires ordered { IsStrictlySortedBy nat_cmp (keys_of versions.old.items) }
-    requires at { place versions.old.items number ≡ Err at }
-    requires bound { at ≤ vec_len versions.old }
+    requires arrivals { AreArrivals versions.old.items order.old.items }
+    requires at { place (in_order versions.old.items order.old.items) number ≡ Err at }
     ensures read { IfOk result (λ v. LoadsRecord reader.old reader.new number (words_of v)
         × (v.record ≡ number)) }
-    ensures entries { IfOk result (λ v. versions.new.items
-        ≡ insert_entry nat_cmp versions.old.items number v) }
-    ensures ordered { IsStrictlySortedBy nat_cmp (keys_of versions.new.items) }
+    ensures entries { IfOk result (λ v. in_order versions.new.items order.new.items
+        ≡ insert_entry nat_cmp (in_order versions.old.items order.old.items) number v) }
+    ensures arrivals { AreArrivals versions.new.items order.new.items }
     ensures grown { HasGrown reader.old reader.new }
     ensures unread { OnErr result (reader.new ≡ reader.old) }
-    ensures kept { OnErr result (versions.new.items ≡ versions.old.items) }
+    ensures kept { OnErr result (in_order versions.new.items order.new.items
+        ≡ in_order versions.old.items order.old.items) }
     ensures only_memory { IfErr result (λ refusal. refusal ≡ OutOfMemory) }
 {
-    versions.reserve(1)?;
+    make_room(versions, order, at)?;
     let version = &cells.read(rt, reader, number);
-    let Ok(()) = versions.insert(at, (number, *version)) else {
-        unreachable!()
-    };
+    add(versions, order, at, number, *version);
     Ok(*version)
 }
 

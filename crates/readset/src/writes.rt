@@ -1,12 +1,12 @@
 //! What a transaction is to write.
-ghost use Rattle.std.specs.Prelude.{◌≡◌, Some, All, OnOk, OnErr, IfOk, IfErr};
+ghost use Rattle.std.specs.Prelude.{◌≡◌, Some, All, OnOk, OnErr, IfOk, IfErr, length};
 ghost use Rattle.std.specs.Ordering.{nat_cmp};
 ghost use Rattle.std.specs.Map.{keys_of};
 ghost use Rattle.std.specs.List.Sorted.{IsStrictlySortedBy};
 ghost use Rattle.readset.specs.Writes.{no_writes, value_for, puts, left_at};
 
 use crate::list::WriteList;
-use crate::places::{put, value_at};
+use crate::arrivals::{add, count, find, make_room, ordered, replace, value_at};
 use crate::reads::{ReadSet, value_of};
 use money::{Payload, Refusal};
 use std::alloc::Global;
@@ -15,25 +15,27 @@ use tables::History;
 
 /// What a transaction is to write: for each record written the words that it is to hold, or nothing
 /// where it is to be absent, and at most one HISTORY row (Silo, section 4.4: the write set). Contracts see it
-/// as `WriteSetView`. In the order of the record numbers, so that a transaction that writes some 200 records spends a
-/// few steps on each look-up.
+/// as `WriteSetView`, in the order of the record numbers. They stand as they came, so that a transaction that writes
+/// some 200 records neither moves values nor spends more than a few steps on each look-up.
 #[derive(Drop)]
 pub struct WriteSet {
     values: Vec<(u32, Option<Payload>)>,
+    order: Vec<(u32, u32)>,
     history_row: Option<History>,
 }
 
 impl Model for WriteSet {
-    ghost use Rattle.std.specs.Ordering.{nat_cmp};
-    ghost use Rattle.std.specs.Map.{keys_of};
-    ghost use Rattle.std.specs.List.Sorted.{IsStrictlySortedBy};
     ghost use Rattle.readset.specs.Writes.{WriteSetView};
+    ghost use Rattle.readset.specs.Arrivals.{AreArrivals, in_order};
 
     ghost Value = { WriteSetView };
 
-    ghost view = { λ w. record { values = w.values.items; history_row = w.history_row } };
+    ghost view = { λ w. record {
+      values = in_order w.values.items w.order.items;
+      history_row = w.history_row;
+    } };
 
-    ghost invariant = { λ w. IsStrictlySortedBy nat_cmp (keys_of w.values.items) };
+    ghost invariant = { λ w. AreArrivals w.values.items w.order.items };
 }
 
 impl WriteSet {
@@ -45,12 +47,14 @@ impl WriteSet {
     {
         WriteSet {
             values: Vec::new(alloc),
+            order: Vec::new(alloc),
             history_row: None,
         }
     }
 
     /// Says what a record is to hold, in the place of what was said of it before. Costs constant time, amortized, for a
-    /// record above all others written; else the logarithm of how many are written, and a move of those above.
+    /// record above all others written; else the logarithm of how many are written, and a move of 8 bytes for each of
+    /// those above.
     ///
     /// # Errors
     ///
@@ -60,7 +64,14 @@ impl WriteSet {
         ensures kept { OnErr result (self.new ≡ self.old) }
         ensures only_memory { IfErr result (λ refusal. refusal ≡ OutOfMemory) }
     {
-        put(&mut self.values, number, value)
+        match find(self.values.as_slice(), self.order.as_slice(), number) {
+            Ok(at) => replace(&mut self.values, &mut self.order, at, number, value),
+            Err(at) => {
+                make_room(&mut self.values, &mut self.order, at)?;
+                add(&mut self.values, &mut self.order, at, number, value);
+                Ok(())
+            }
+        }
     }
 
     /// Says which row HISTORY is to get, in the place of the row said before.
@@ -74,7 +85,7 @@ impl WriteSet {
     pub fn value(&self, number: u32) -> Option<Option<Payload>>
         ensures { result ≡ value_for self.now number }
     {
-        value_at(self.values.as_slice(), number).copied()
+        value_at(self.values.as_slice(), self.order.as_slice(), number).copied()
     }
 
     /// What the transaction leaves of a record: what it is to write there, or else what it has read there. Nothing
@@ -82,19 +93,19 @@ impl WriteSet {
     pub fn left(&self, reads: &ReadSet, number: u32) -> Option<Payload>
         ensures { result ≡ left_at self.now reads.now number }
     {
-        match value_at(self.values.as_slice(), number) {
+        match value_at(self.values.as_slice(), self.order.as_slice(), number) {
             Some(value) => *value,
             None => value_of(reads.held(number)?),
         }
     }
 
-    /// What each record written is to hold, by record number and in the order of the numbers.
-    pub fn values(&self) -> &[(u32, Option<Payload>)]
-        ensures values { result.now ≡ self.now.values }
+    /// How many records are written.
+    pub fn len(&self) -> usize
+        ensures len { result ≡ length self.now.values }
         ensures found { All (λ e. value_for self.now e.0 ≡ Some e.1) self.now.values }
         ensures ordered { IsStrictlySortedBy nat_cmp (keys_of self.now.values) }
     {
-        self.values.as_slice()
+        count(self.values.as_slice(), self.order.as_slice())
     }
 
     /// The row that HISTORY is to get, if there is one.
@@ -104,15 +115,20 @@ impl WriteSet {
         self.history_row
     }
 
-    /// The same writes as a list. Takes no memory, and gives back what they don't need.
-    pub fn into_list(self) -> WriteList
-        ensures { result ≡ self }
+    /// The same writes as a list, in one pass over them.
+    ///
+    /// # Errors
+    ///
+    /// `OutOfMemory`, and no other.
+    pub fn into_list(self) -> Result<WriteList, Refusal>
+        ensures list { IfOk result (λ list. list ≡ self) }
+        ensures only_memory { IfErr result (λ refusal. refusal ≡ OutOfMemory) }
     {
         let WriteSet {
-            mut values,
+            values,
+            order,
             history_row,
         } = self;
-        values.shrink_to_fit();
-        WriteList::new(values, history_row)
+        Ok(WriteList::new(ordered(values, &order)?, history_row))
     }
 }

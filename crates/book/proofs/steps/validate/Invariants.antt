@@ -2,5 +2,5 @@ use Rattle.std.proofs.Common.{drop}
 use Rattle.book.proofs.Checks.{AreCompared}
 use Rattle.book.proofs.steps.validate.Given as goal
 
-abbrev pub invariant-loop-version : goal.invariant-loop-version
-invariant-loop-version g l = AreCompared l.fn.pen l.fn.reader l.reads l.pen l.reader (drop l.version-index l.version-items) l.seen
+abbrev pub invariant-loop-place : goal.invariant-loop-place
+invariant-loop-place g l = AreCompared l.fn.pen l.fn.reader l.reads l.pen l.reader (drop l.place l.reads) l.seen

@@ -1,11 +1,5 @@
-use Rattle.std.proofs.Common.{sym, subst}
-use Rattle.std.specs.Ordering.{nat_cmp}
-use Rattle.std.specs.Map.{keys_of}
-use Rattle.std.specs.List.Sorted.{IsStrictlySortedBy}
-use Rattle.cells.specs.declared.cells.Version.{Version}
-use Rattle.readset.specs.Reads.{ReadSetView}
-use Rattle.readset.proofs.Entries.{none_ordered}
+use Rattle.readset.proofs.Ordered.{none_arrive, none_in_order}
 use Rattle.readset.proofs.reads.ReadSet.new.Goals as goal
 
 pub invariant_of-result : goal.invariant_of-result
-invariant_of-result c = subst (λ (r : ReadSetView). IsStrictlySortedBy nat_cmp (keys_of r)) (sym c.new.ensures.items) (none_ordered Version)
+invariant_of-result c = none_arrive c.new.result.items c.new-2.result.items c.new.ensures.items c.new-2.ensures.items
