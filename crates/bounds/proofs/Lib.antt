@@ -1,3 +1,4 @@
+pub mod KeysAt
 mod Stepped
 mod Placed
 mod Joined

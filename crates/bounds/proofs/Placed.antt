@@ -99,12 +99,6 @@ others_follow s held number no_order no_new_order v left later looked ends = rec
   greatest_waiting = λ k is. greatest_waiting_kept s held number left later looked k (λ n. no_new_order k n is) _ (ends.greatest_waiting k is);
 }
 
-pub other_follows : (s : Sizes) (held : ℕ → Option (List ℕ)) (number : ℕ) → ((j : OrderKey) → key_of s number ≢ key.Order j)
-    → ((j : OrderKey) → key_of s number ≢ key.NewOrder j) → (v : BoundsView) → Follows s held number v v
-other_follows s held number no_order no_new_order v = others_follow s held number
-    (λ k n is at e. no_order (order_in k n) (ap (key_of s) (sym e) ∙ ((one_to_one s).0 (key.Order (order_in k n)) (is.0, is.1, at)).1))
-    (λ k n is at e. no_new_order (order_in k n) (ap (key_of s) (sym e) ∙ ((one_to_one s).0 (key.NewOrder (order_in k n)) (is.0, is.1, at)).1)) v
-
 module _ (s : Sizes) (held : ℕ → Option (List ℕ)) (k : DistrictKey) (o : ℕ) (is : IsDistrictKey s k) (number : IsNumber s.orders o) (v : BoundsView) where
   abbrev place : ℕ
   place = district_place s k.warehouse k.district

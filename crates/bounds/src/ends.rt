@@ -13,7 +13,7 @@ fn has_row(newest: &[Newest], number: usize) -> bool
     ensures { result ≡ is_some (held_in newest.now number) }
 {
     match newest.get(number) {
-        Some(version) => version.value().is_some(),
+        Some(version) => !version.word.is_absent(),
         None => false,
     }
 }

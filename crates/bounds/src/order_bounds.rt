@@ -1,11 +1,10 @@
 //! The least and the greatest order numbers of all districts.
 
-ghost use Rattle.std.specs.Prelude.{◌≡◌, ◌+◌, ◌<◌, ◌*◌, All, IfOk, false, slice_index};
-ghost use Rattle.tables.specs.Keys.{IsDistrictKey, IsOrderKey};
-ghost use Rattle.tables.specs.Records.{record_count, number_of_key, district_place, first_number, size};
+ghost use Rattle.std.specs.Prelude.{◌≡◌, ◌+◌, ◌<◌, ◌≤◌, ◌*◌, ◌/◌, ◌%◌, All, IfOk, false, slice_index};
+ghost use Rattle.tables.specs.Keys.{IsDistrictKey};
+ghost use Rattle.tables.specs.Records.{record_count, record_number, district_place, first_number, size};
 ghost use Rattle.tables.specs.declared.records.Table.TheVariants as table;
 ghost use Rattle.tables.specs.Database.{Database, empty_database};
-ghost use Rattle.tables.specs.declared.records.RecordKey.TheVariants as record_key;
 ghost use Rattle.bounds.specs.Bounds.{AreBounds, no_bounds};
 ghost use Rattle.bounds.specs.Written.{held_in, HasOrdersWithin, AreRowsOf, IsWith};
 ghost use Rattle.bounds.specs.Ends.{AreEnds, Follows, is_among};
@@ -15,7 +14,7 @@ use cells::Newest;
 use readset::WriteList;
 use std::alloc::{AllocError, Global};
 use std::marker::Model;
-use tables::{DistrictKey, OrderKey, RecordKey, Scale, key_of, number_of_key};
+use tables::{DistrictKey, RecordKey, Scale, number_of_key};
 
 /// The least and the greatest order numbers of a database's districts, each a list by place of its district: 12 bytes
 /// a district.
@@ -101,38 +100,37 @@ impl OrderBounds {
         self.greatest_waiting[place_of(&self.scale, key)]
     }
 
-    /// Looks at a record of ORDER.
-    fn follow_order(&mut self, newest: &[Newest], key: OrderKey)
-        requires { IsOrderKey self.old.scale key }
+    /// Looks at a record of ORDER, by its place there.
+    fn follow_order(&mut self, newest: &[Newest], number: u32, place: u32)
+        requires place { place < size self.old.scale table.Order }
+        requires number { number ≡ record_number self.old.scale table.Order place }
         ensures scale { self.new.scale ≡ self.old.scale }
-        ensures follows { Follows self.old.scale (held_in newest.now)
-            (number_of_key self.old.scale (record_key.Order key)) self.old self.new }
+        ensures follows { Follows self.old.scale (held_in newest.now) number self.old self.new }
     {
-        let place = place_of(&self.scale, district_of(key));
-        let first = number_of_key(&self.scale, RecordKey::Order(first_of(key)));
-        let greatest = self.greatest_order[place];
-        self.greatest_order[place] = greatest_after(newest, first, key.order, 0, greatest);
+        let (district, order) = order_at(&self.scale, place);
+        let first = number - (order - 1);
+        let greatest = self.greatest_order[district];
+        self.greatest_order[district] = greatest_after(newest, first, order, 0, greatest);
     }
 
-    /// Looks at a record of NEW-ORDER.
-    fn follow_new_order(&mut self, newest: &[Newest], key: OrderKey)
-        requires { IsOrderKey self.old.scale key }
+    /// Looks at a record of NEW-ORDER, by its place there.
+    fn follow_new_order(&mut self, newest: &[Newest], number: u32, place: u32)
+        requires place { place < size self.old.scale table.NewOrder }
+        requires number { number ≡ record_number self.old.scale table.NewOrder place }
         ensures scale { self.new.scale ≡ self.old.scale }
-        ensures follows { Follows self.old.scale (held_in newest.now)
-            (number_of_key self.old.scale (record_key.NewOrder key)) self.old self.new }
+        ensures follows { Follows self.old.scale (held_in newest.now) number self.old self.new }
     {
-        let place = place_of(&self.scale, district_of(key));
-        let first = number_of_key(&self.scale, RecordKey::NewOrder(first_of(key)));
-        let least = self.least_waiting[place];
-        let greatest = self.greatest_waiting[place];
-        let low = least_after(newest, first, key.order, least, greatest);
-        self.least_waiting[place] = low;
-        self.greatest_waiting[place] = greatest_beside(newest, first, key.order, low, greatest);
+        let (district, order) = order_at(&self.scale, place);
+        let first = number - (order - 1);
+        let least = self.least_waiting[district];
+        let greatest = self.greatest_waiting[district];
+        let low = least_after(newest, first, order, least, greatest);
+        self.least_waiting[district] = low;
+        self.greatest_waiting[district] = greatest_beside(newest, first, order, low, greatest);
     }
 
     /// Looks at a record, where these are the first record of NEW-ORDER and the one behind the last of ORDER.
     fn follow_record(&mut self, newest: &[Newest], number: u32, first: u32, end: u32)
-        requires number { number < record_count self.old.scale }
         requires first { first ≡ first_number self.old.scale table.NewOrder }
         requires end { end ≡ first_number self.old.scale table.NewOrder
             + (size self.old.scale table.NewOrder + size self.old.scale table.Order) }
@@ -143,16 +141,18 @@ impl OrderBounds {
         if number < first || end <= number {
             return;
         }
-        match key_of(&self.scale, number) {
-            RecordKey::Order(key) => self.follow_order(newest, key),
-            RecordKey::NewOrder(key) => self.follow_new_order(newest, key),
-            _ => {}
+        // The two tables are of one size.
+        let size = (end - first) / 2;
+        let place = number - first;
+        if place < size {
+            self.follow_new_order(newest, number, place);
+        } else {
+            self.follow_order(newest, number, place - size);
         }
     }
 
     /// Looks at the records that a commit has written.
     fn follow_values(&mut self, newest: &[Newest], writes: &WriteList)
-        requires { All (λ e. e.0 < record_count self.old.scale) writes.now.values }
         ensures scale { self.new.scale ≡ self.old.scale }
         ensures ends { AreEnds self.old.scale (held_in newest.now) (is_among writes.now.values) self.old
             → AreEnds self.old.scale (held_in newest.now) (λ n. false) self.new }
@@ -176,8 +176,9 @@ impl OrderBounds {
     }
 
     /// Brings the bounds up to date with a commit, where the records have the versions after it. A commit of the five
-    /// transactions takes constant time for each record written, without memory: where a number has gone that was the
-    /// least or the greatest, the next one is looked for, and that is its neighbour in sound tables.
+    /// transactions takes constant time for each record written, without memory: two comparisons, and at a record of
+    /// ORDER or NEW-ORDER a division and a look at a few versions, not at their data. Where a number has gone that was
+    /// the least or the greatest, the next one is looked for, and that is its neighbour in sound tables.
     pub fn follow(&mut self, newest: &[Newest], writes: &WriteList)
         requires { All (λ e. e.0 < record_count self.old.scale) writes.now.values }
         ensures scale { self.new.scale ≡ self.old.scale }
@@ -213,19 +214,16 @@ fn place_of(scale: &Scale, key: DistrictKey) -> usize
     (number - scale.warehouses()) as usize
 }
 
-/// The district of an order.
-fn district_of(key: OrderKey) -> DistrictKey
-    ensures { result ≡ record { warehouse = key.warehouse; district = key.district } }
+/// The place of an order's district, and the order's number, by the place of its record in its table.
+fn order_at(scale: &Scale, place: u32) -> (usize, u32)
+    requires { place < size scale.now table.Order }
+    ensures district { result.0 ≡ place / scale.now.orders }
+    ensures limit { result.0 < scale.now.warehouses * scale.now.districts }
+    ensures order { result.1 ≡ place % scale.now.orders + 1 }
+    ensures within { result.1 ≤ place + 1 }
 {
-    DistrictKey {
-        warehouse: key.warehouse,
-        district: key.district,
-    }
-}
-
-/// The first order of an order's district.
-fn first_of(key: OrderKey) -> OrderKey
-    ensures { result ≡ record { warehouse = key.warehouse; district = key.district; order = 1 } }
-{
-    OrderKey { order: 1, ..key }
+    // The order cap is at least the number of customers, which isn't 0.
+    prove!(scale.customers() > 0);
+    let orders = scale.orders();
+    ((place / orders) as usize, place % orders + 1)
 }

@@ -14,3 +14,4 @@ mod Opened
 mod Begin
 mod Recorded
 mod Uncounted
+mod ByNumber

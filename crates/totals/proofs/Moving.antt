@@ -1,5 +1,5 @@
 -- What a written record moves, sum by sum.
-use Rattle.std.proofs.Common.{◌≡◌, ◌≢◌, ℕ, ◌<◌, ◌-◌, ◌*◌, ◌==◌, ◌&&◌, nat_lt, ℤ, pos, ◌+ℤ◌, ◌-ℤ◌, Bool, true, false, cond, true≢false, List, Option, Some, None, length, ◌⊎◌, inl, inr}
+use Rattle.std.proofs.Common.{◌≡◌, ◌≢◌, ℕ, ◌<◌, ◌-◌, ◌*◌, ◌==◌, ◌&&◌, nat_lt, ℤ, pos, ◌+ℤ◌, ◌-ℤ◌, Bool, true, false, cond, true≢false, List, Option, Some, None, length, inl, inr}
 use Rattle.std.proofs.Common.{slice_index, slice_index_or, refl, sym, ap, ◌∙◌, subst, arith}
 use Rattle.std.proofs.lemmas.Bool.{eqb-true}
 use Rattle.std.proofs.lemmas.Int.{ints, int_wrap_fits, int_wrap-add_left, SFits-int_wrap}
@@ -16,7 +16,6 @@ use Rattle.tables.specs.declared.keys.DistrictKey.{DistrictKey}
 use Rattle.tables.specs.declared.keys.CustomerKey.{CustomerKey}
 use Rattle.tables.specs.declared.keys.OrderKey.{OrderKey}
 use Rattle.tables.specs.declared.keys.LineKey.{LineKey}
-use Rattle.tables.specs.declared.keys.StockKey.{StockKey}
 use Rattle.tables.specs.declared.rows.History.{History}
 use Rattle.tables.specs.declared.records.RecordKey.{RecordKey}
 use Rattle.tables.specs.declared.records.RecordKey.TheVariants as key
@@ -26,9 +25,9 @@ use Rattle.tables.proofs.Entries.{tied}
 use Rattle.tables.proofs.KeyTests.{is_order-key}
 use Rattle.laws.proofs.Touched.{self, district_named, customer_named}
 use Rattle.totals.specs.Totals.{SumsView, amount_at}
-use Rattle.totals.specs.Worth.{Worth, year_to_date_of, line_count_in, line_in, line_of, one_in, delivered_to}
+use Rattle.totals.specs.Worth.{Worth, year_to_date_of, line_count_in, line_in, line_of, one_in, is_bought, delivered_to}
 use Rattle.totals.specs.Moves.{worth_of, step, IsMoved, MovesSums, row_moves, no_history, no_record}
-use Rattle.totals.specs.Steps.{HasPlaces, moved_at, district_step, order_step, new_order_step, line_step, history_step, signed_in, one_of, delivered_in, buyer_of}
+use Rattle.totals.specs.Steps.{HasPlaces, moved_at, district_step, order_step, new_order_step, counted_step, FollowsLine, history_step, signed_in, one_of, delivered_in, buyer_of}
 
 -- ---- one amount
 zero_more : (a : ℤ) → a +ℤ pos 0 ≡ a
@@ -83,6 +82,12 @@ tested f k here g is old new = (λ i. worth new i -ℤ worth old i) ∙ together
         ≡ cond b (option_map_or g new (pos 0) -ℤ option_map_or g old (pos 0)) (pos 0)
     together true = refl
     together false = no_difference (pos 0) (pos 0) refl refl
+
+-- two tests, in turn
+turned : (a b : Bool) (z : ℤ) → cond (a && b) z (pos 0) ≡ cond b (cond a z (pos 0)) (pos 0)
+turned true b z = refl
+turned false true z = refl
+turned false false z = refl
 
 -- ---- places of two keys
 warehouse_same : (j w : ℕ) → (j == w) ≡ true → w - 1 ≡ j - 1
@@ -209,21 +214,18 @@ module _ (order : OrderKey → Option (List ℕ)) (v : SumsView) (places : HasPl
       (λ words. ap (λ w. cond (nat_lt 0 (slice_index words 2) && option_map_or (λ b. is_customer j.warehouse j.district (slice_index b 0) k) w false)
       (money_of (slice_index words 4)) (pos 0)) ordered
       ∙ turned (nat_lt 0 (slice_index words 2)) (is_customer j.warehouse j.district (slice_index o 0) k) (money_of (slice_index words 4))) old new)
-    where
-      turned : (a b : Bool) (z : ℤ) → cond (a && b) z (pos 0) ≡ cond b (cond a z (pos 0)) (pos 0)
-      turned true b z = refl
-      turned false true z = refl
-      turned false false z = refl
 
-  pub line_moves : (j : LineKey) → IsLineKey v.scale j
-      → ((words : List ℕ) → order (order_of j) ≡ Some words → IsNumber v.scale.customers (slice_index words 0))
-      → MovesSums v.scale order (step (key.OrderLine j) old new) no_history v (line_step v (order (order_of j)) j old new)
-  line_moves j at named = record {
+  -- a line is counted, and of these amounts is what is delivered of it
+  counted_moves : (j : LineKey) → IsLineKey v.scale j → (delivered : List ℤ)
+      → ((k : CustomerKey) → IsCustomerKey v.scale k → IsMoved w64 (amount_at v.delivered (customer_place v.scale k))
+      (amount_at delivered (customer_place v.scale k)) (step (key.OrderLine j) old new (delivered_to order k)))
+      → MovesSums v.scale order (step (key.OrderLine j) old new) no_history v (record (counted_step v j old new) { delivered = delivered })
+  counted_moves j at delivered moves = record {
     year_to_date = λ w is. quiet w64 _ (year_to_date_of w) (key.OrderLine j) old new (λ words. refl);
     paid_at_warehouse = λ w is. stays w64 _ _ refl;
     paid_at_district = λ k is. stays w64 _ _ refl;
     paid_by_customer = λ k is. stays w64 _ _ refl;
-    delivered = delivered_moves j at (order (order_of j)) refl named;
+    delivered = moves;
     line_counts = λ k is. quiet w64 _ (line_count_in k) (key.OrderLine j) old new (λ words. refl);
     district_lines = λ k is.
         by_district v.district_lines places.district_lines (record { warehouse = j.warehouse; district = j.district }) k (at.0, at.1) is (one_of new -ℤ one_of old) _
@@ -236,6 +238,29 @@ module _ (order : OrderKey → Option (List ℕ)) (v : SumsView) (places : HasPl
         (tested (line_of k) (key.OrderLine j) (is_order j.warehouse j.district j.order k) (λ words. pos 1) (λ words. refl) old new);
     waiting = λ k is. quiet w64 _ (one_in k) (key.OrderLine j) old new (λ words. refl);
   }
+
+  -- where what is delivered of it is what it was, nobody's amount moves
+  undelivered : (j : LineKey) → delivered_in old ≡ delivered_in new → (k : CustomerKey) → step (key.OrderLine j) old new (delivered_to order k) ≡ pos 0
+  undelivered j same k = tested (delivered_to order k) (key.OrderLine j) (is_bought order k j)
+      (λ words. cond (nat_lt 0 (slice_index words 2)) (money_of (slice_index words 4)) (pos 0))
+      (λ words. turned (nat_lt 0 (slice_index words 2)) (is_bought order k j) (money_of (slice_index words 4))) old new
+      ∙ none (is_bought order k j)
+    where
+      no_more : (a b : ℤ) → a ≡ b → b -ℤ a ≡ pos 0
+      no_more a b e = omega (arith, ints, e)
+
+      none : (b : Bool) → cond b (delivered_in new -ℤ delivered_in old) (pos 0) ≡ pos 0
+      none true = no_more (delivered_in old) (delivered_in new) same
+      none false = refl
+
+  pub line_moves : (j : LineKey) → IsLineKey v.scale j
+      → ((words : List ℕ) → order (order_of j) ≡ Some words → IsNumber v.scale.customers (slice_index words 0))
+      → (v' : SumsView) → FollowsLine v v' (order (order_of j)) j old new
+      → MovesSums v.scale order (step (key.OrderLine j) old new) no_history v v'
+  line_moves j at named v' (inl is) = subst (λ a. MovesSums v.scale order (step (key.OrderLine j) old new) no_history v a) (sym is)
+      (counted_moves j at _ (delivered_moves j at (order (order_of j)) refl named))
+  line_moves j at named v' (inr is) = subst (λ a. MovesSums v.scale order (step (key.OrderLine j) old new) no_history v a) (sym is.0)
+      (counted_moves j at v.delivered (λ k here. stays w64 _ _ (undelivered j is.1 k)))
 
 -- a record of another table is worth nothing
 abbrev pub IsOther : RecordKey → Type 0
@@ -326,22 +351,6 @@ pub told : (s : Sizes) (order : OrderKey → Option (List ℕ)) (v next after : 
 told s order v next after k j old was new moves key held is =
     subst (λ a. MovesSums s order (step j was new) no_history v a) (sym is)
     (subst (λ w. MovesSums s order (step j w new) no_history v next) held (subst (λ q. MovesSums s order (step q old new) no_history v next) key moves))
-
-nothing_worth : {A : Type 0} (c : A → RecordKey) (k : RecordKey) → ((x : A) → IsOther (c x)) → (x : A) × (k ≡ c x) → IsOther k
-nothing_worth c k none is = subst IsOther (sym is.1) (none is.0)
-
--- the records of five tables are worth nothing
-pub are_other : (k : RecordKey)
-    → ((x : ℕ) × (k ≡ key.Warehouse x)) ⊎ (((x : CustomerKey) × (k ≡ key.Customer x)) ⊎ (((x : StockKey) × (k ≡ key.Stock x))
-    ⊎ (((x : DistrictKey) × (k ≡ key.Oldest x)) ⊎ ((x : CustomerKey) × (k ≡ key.Last x)))))
-    → IsOther k
-are_other k (inl is) = nothing_worth key.Warehouse k (λ x order words. ((λ w. refl), (λ w. refl), (λ w. refl), (λ w. refl), (λ w. refl), (λ w. refl))) is
-are_other k (inr (inl is)) = nothing_worth key.Customer k (λ x order words. ((λ w. refl), (λ w. refl), (λ w. refl), (λ w. refl), (λ w. refl), (λ w. refl))) is
-are_other k (inr (inr (inl is))) = nothing_worth key.Stock k (λ x order words. ((λ w. refl), (λ w. refl), (λ w. refl), (λ w. refl), (λ w. refl), (λ w. refl))) is
-are_other k (inr (inr (inr (inl is)))) =
-    nothing_worth key.Oldest k (λ x order words. ((λ w. refl), (λ w. refl), (λ w. refl), (λ w. refl), (λ w. refl), (λ w. refl))) is
-are_other k (inr (inr (inr (inr is)))) =
-    nothing_worth key.Last k (λ x order words. ((λ w. refl), (λ w. refl), (λ w. refl), (λ w. refl), (λ w. refl), (λ w. refl))) is
 
 -- records, and then HISTORY rows
 pub with_rows : (s : Sizes) (order : OrderKey → Option (List ℕ)) (m : Worth → ℤ) (p : (History → ℤ) → ℤ) (a b c : SumsView)

@@ -19,9 +19,9 @@ not_past a b c d n (inr h) e f g (inr (inl p)) = omega (arith, h.0, p.1)
 not_past a b c d n (inr h) e f g (inr (inr p)) = omega (arith, h.1, p)
 
 module _ (s : Sizes) (n : ℕ) where
-  counted : ((counted_in s).first_district ≤ n) × (n < (counted_in s).end_districts) ⊎ (((counted_in s).first_order ≤ n) × (n < (counted_in s).end_lines))
+  counted : ((counted_in s).first_district ≤ n) × (n < (counted_in s).end_districts) ⊎ (((counted_in s).first_new_order ≤ n) × (n < (counted_in s).end_lines))
       → IsPast (counted_in s) n → ⊥
-  counted among past = not_past (counted_in s).first_district (counted_in s).end_districts (counted_in s).first_order (counted_in s).end_lines n among
+  counted among past = not_past (counted_in s).first_district (counted_in s).end_districts (counted_in s).first_new_order (counted_in s).end_lines n among
       (omega arith) (omega arith) (omega arith) past
 
   of_kind : IsPast (counted_in s) n → (k : RecordKey) → IsRecordKey s k → number_of_key s k ≡ n → IsOther k

@@ -10,10 +10,12 @@ abbrev pub counted_in : Sizes → Counted
 counted_in s = record {
   first_district = first_number s table.District;
   end_districts = first_number s table.District + size s table.District;
-  first_order = first_number s table.NewOrder;
+  first_new_order = first_number s table.NewOrder;
+  first_order = first_number s table.Order;
+  first_line = first_number s table.OrderLine;
   end_lines = first_number s table.OrderLine + size s table.OrderLine;
 }
 
 -- a record of another table
 abbrev pub IsPast : Counted → ℕ → Type 0
-IsPast c n = (n < c.first_district) ⊎ (((c.end_districts ≤ n) × (n < c.first_order)) ⊎ (c.end_lines ≤ n))
+IsPast c n = (n < c.first_district) ⊎ (((c.end_districts ≤ n) × (n < c.first_new_order)) ⊎ (c.end_lines ≤ n))

@@ -1,7 +1,9 @@
 -- What one written record, and what a HISTORY row, does to the running sums. No public clause cites it.
-use Rattle.std.specs.Prelude.{◌≡◌, ℕ, ◌-◌, ◌*◌, nat_lt, ℤ, pos, ◌+ℤ◌, ◌-ℤ◌, cond, Option, List, length, slice_index, slice_set}
+use Rattle.std.specs.Prelude.{◌≡◌, ◌⊎◌, ℕ, ◌+◌, ◌-◌, ◌*◌, nat_lt, ℤ, pos, ◌+ℤ◌, ◌-ℤ◌, cond, Option}
+use Rattle.std.specs.Prelude.{List, length, slice_index, slice_set}
 use Rattle.std.specs.Int.{Width, w8, w64, int_wrap}
 use Rattle.std.specs.Option.{option_map_or}
+use Rattle.tables.specs.Sizes.{Sizes}
 use Rattle.tables.specs.Records.{district_place, customer_place, order_place}
 use Rattle.tables.specs.Keys.{order_of}
 use Rattle.tables.specs.Rows.{money_of}
@@ -62,31 +64,52 @@ new_order_step v k old new = record v {
   waiting = moved_at w64 v.waiting (district_place v.scale k.warehouse k.district) (one_of new -ℤ one_of old);
 }
 
-abbrev pub district_line_step : SumsView → LineKey → Option (List ℕ) → Option (List ℕ) → SumsView
-district_line_step v k old new = record v {
-  district_lines = moved_at w64 v.district_lines (district_place v.scale k.warehouse k.district)
-      (one_of new -ℤ one_of old);
+-- the parts of a line's step, by the places of its district and of its order
+abbrev pub district_line_step : SumsView → ℕ → Option (List ℕ) → Option (List ℕ) → SumsView
+district_line_step v district old new = record v {
+  district_lines = moved_at w64 v.district_lines district (one_of new -ℤ one_of old);
 }
 
-abbrev pub order_line_step : SumsView → LineKey → Option (List ℕ) → Option (List ℕ) → SumsView
-order_line_step v k old new = record v {
+abbrev pub order_line_step : SumsView → ℕ → Option (List ℕ) → Option (List ℕ) → SumsView
+order_line_step v order old new = record v {
+  order_lines = moved_at w8 v.order_lines order (one_of new -ℤ one_of old);
+}
+
+-- the place of the customer of a line of a district, by the words of its order
+abbrev pub buyer_place : Sizes → ℕ → List ℕ → ℕ
+buyer_place s district words = district * s.customers + (slice_index words 0 - 1)
+
+-- what is delivered of a line was one amount and is another: by the words of its order, and by what its record holds
+abbrev pub delivered_step : SumsView → ℕ → List ℕ → ℤ → ℤ → SumsView
+delivered_step v district order before after = record v {
+  delivered = moved_at w64 v.delivered (buyer_place v.scale district order) (after -ℤ before);
+}
+
+abbrev pub deliver_step : SumsView → ℕ → Option (List ℕ) → ℤ → ℤ → SumsView
+deliver_step v district order before after = record v {
+  delivered = option_map_or (λ words. moved_at w64 v.delivered (buyer_place v.scale district words) (after -ℤ before))
+      order v.delivered;
+}
+
+-- a line is counted for its district and its order
+abbrev pub counted_step : SumsView → LineKey → Option (List ℕ) → Option (List ℕ) → SumsView
+counted_step v k old new = record v {
+  district_lines = moved_at w64 v.district_lines (district_place v.scale k.warehouse k.district)
+      (one_of new -ℤ one_of old);
   order_lines = moved_at w8 v.order_lines (order_place v.scale (order_of k)) (one_of new -ℤ one_of old);
 }
 
-abbrev pub deliver_step : SumsView → List ℕ → LineKey → Option (List ℕ) → Option (List ℕ) → SumsView
-deliver_step v order k old new = record v {
-  delivered = moved_at w64 v.delivered (customer_place v.scale (buyer_of k order))
-      (delivered_in new -ℤ delivered_in old);
-}
-
+-- and what is delivered of it goes to the customer of its order
 abbrev pub line_step : SumsView → Option (List ℕ) → LineKey → Option (List ℕ) → Option (List ℕ) → SumsView
-line_step v order k old new = record v {
-  district_lines = moved_at w64 v.district_lines (district_place v.scale k.warehouse k.district)
-      (one_of new -ℤ one_of old);
-  order_lines = moved_at w8 v.order_lines (order_place v.scale (order_of k)) (one_of new -ℤ one_of old);
+line_step v order k old new = record (counted_step v k old new) {
   delivered = option_map_or (λ words. moved_at w64 v.delivered (customer_place v.scale (buyer_of k words))
       (delivered_in new -ℤ delivered_in old)) order v.delivered;
 }
+
+-- where that hasn't changed, nothing goes
+abbrev pub FollowsLine : SumsView → SumsView → Option (List ℕ) → LineKey → Option (List ℕ) → Option (List ℕ) → Type 0
+FollowsLine v v' order k old new = (v' ≡ line_step v order k old new)
+    ⊎ ((v' ≡ counted_step v k old new) × (delivered_in old ≡ delivered_in new))
 
 -- and after a HISTORY row
 abbrev pub payer : History → CustomerKey

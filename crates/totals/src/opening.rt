@@ -5,9 +5,11 @@ ghost use Rattle.tables.specs.Maps.{sum_of};
 ghost use Rattle.tables.specs.Records.{record_count, key_of};
 ghost use Rattle.tables.specs.WellFormed.{IsHistoryRow};
 ghost use Rattle.totals.specs.Moves.{MovesSums, HasBuyers, held_in, order_before, step, no_history, no_record};
+ghost use Rattle.totals.specs.Counted.{counted_in};
 ghost use Rattle.totals.specs.Opening.{no_sums, worth_from, SumsOpen};
 
-use crate::running::{RunningSums, held};
+use crate::places::{Counted, counted_records, is_past};
+use crate::running::{RunningSums, held_there};
 use cells::Newest;
 use encoding::record_count;
 use std::alloc::{AllocError, Global};
@@ -63,14 +65,16 @@ impl RunningSums {
             (worth_from self.old.scale (held_in newest.now) (record_count self.old.scale) 0) no_history
             self.old self.new }
     {
+        let counted = counted_records(&self.scale);
         let count = record_count(&self.scale);
         for number in 0..count {
-            self.count_record(newest, number);
+            self.count_record(newest, counted, number);
         }
     }
 
     /// Counts a record, which wasn't counted.
-    fn count_record(&mut self, newest: &[Newest], number: u32)
+    fn count_record(&mut self, newest: &[Newest], counted: Counted, number: u32)
+        requires counted { counted ≡ counted_in self.old.scale }
         requires number { number < record_count self.old.scale }
         requires newest { length newest.now ≡ record_count self.old.scale }
         requires buyers { HasBuyers self.old.scale (held_in newest.now) }
@@ -78,10 +82,13 @@ impl RunningSums {
         ensures moves { MovesSums self.old.scale (order_before self.old.scale (held_in newest.now))
             (step (key_of self.old.scale number) None (held_in newest.now number)) no_history self.old self.new }
     {
-        let value = held(newest, number);
+        if is_past(counted, number) {
+            return;
+        }
+        let value = held_there(newest, number as usize);
         // Most records of a database are absent.
         if value.is_some() {
-            self.move_record(newest, number, &None, &value);
+            self.move_record(newest, counted, number, None, value);
         }
     }
 

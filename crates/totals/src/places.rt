@@ -1,6 +1,7 @@
 //! The places of keys among the totals: those of their records in their tables.
 
-ghost use Rattle.std.specs.Prelude.{◌≡◌, ◌+◌, ◌-◌, ◌*◌, ◌<◌, ◌≤◌, IsTrue};
+ghost use Rattle.std.specs.Prelude.{◌≡◌, ◌+◌, ◌-◌, ◌*◌, ◌/◌, ◌<◌, ◌≤◌, IsTrue, IsFalse};
+ghost use Rattle.tables.specs.Sizes.{IsNumber};
 ghost use Rattle.tables.specs.Keys.{IsDistrictKey, IsCustomerKey, IsOrderKey};
 ghost use Rattle.tables.specs.Records.{size, district_place, customer_place, order_place};
 ghost use Rattle.tables.specs.declared.records.Table.TheVariants as table;
@@ -61,17 +62,29 @@ fn place(size: u32, row: u32, width: u32, column: u32) -> u32
     place
 }
 
-/// The place of an order's district.
-pub fn place_in_districts(scale: &Scale, key: OrderKey) -> u32
-    requires { IsOrderKey scale.now key }
-    ensures value { result ≡ district_place scale.now key.warehouse key.district }
+/// The place of an order's district, by the order's place.
+pub fn district_of_order(scale: &Scale, order: u32) -> u32
+    requires { order < size scale.now table.Order }
+    ensures value { result ≡ order / scale.now.orders }
     ensures limit { result < size scale.now table.District }
 {
-    let district = DistrictKey {
-        warehouse: key.warehouse,
-        district: key.district,
-    };
-    place_of_district(scale, district)
+    // The order cap is at least the number of customers, which isn't 0.
+    prove!(scale.customers() > 0);
+    order / scale.orders()
+}
+
+/// The place of a customer of a district, by the word of an order that names it.
+pub fn place_of_buyer(scale: &Scale, district: u32, customer: u64) -> u32
+    requires district { district < size scale.now table.District }
+    requires customer { IsNumber scale.now.customers customer }
+    ensures value { result ≡ district * scale.now.customers + (customer - 1) }
+    ensures limit { result < size scale.now table.Customer }
+{
+    let customers = scale.customers();
+    let most = u64::from(customers);
+    prove!(customer <= most);
+    let size = Table::Customer.size(scale);
+    place(size, district, customers, customer as u32)
 }
 
 /// Where the records stand that sums count: those of DISTRICT, and those of NEW-ORDER, ORDER and ORDER-LINE, which
@@ -80,7 +93,9 @@ pub fn place_in_districts(scale: &Scale, key: OrderKey) -> u32
 pub struct Counted {
     pub first_district: u32,
     pub end_districts: u32,
+    pub first_new_order: u32,
     pub first_order: u32,
+    pub first_line: u32,
     pub end_lines: u32,
 }
 
@@ -91,20 +106,25 @@ pub fn counted_records(scale: &Scale) -> Counted
     let districts = scale.warehouses() * scale.districts();
     let customers = districts * scale.customers();
     let orders = districts * scale.orders();
-    let first_order = scale.warehouses() + districts + customers;
+    let first_new_order = scale.warehouses() + districts + customers;
     Counted {
         first_district: scale.warehouses(),
         end_districts: scale.warehouses() + districts,
-        first_order,
-        end_lines: first_order + orders * 17,
+        first_new_order,
+        first_order: first_new_order + orders,
+        first_line: first_new_order + orders * 2,
+        end_lines: first_new_order + orders * 17,
     }
 }
 
 /// Whether a record isn't among them.
 pub fn is_past(counted: Counted, number: u32) -> bool
-    ensures { IsTrue result → IsPast counted number }
+    ensures past { IsTrue result → IsPast counted number }
+    ensures first { IsFalse result → counted.first_district ≤ number }
+    ensures between { IsFalse result → counted.end_districts ≤ number → counted.first_new_order ≤ number }
+    ensures end { IsFalse result → number < counted.end_lines }
 {
     number < counted.first_district
-        || (counted.end_districts <= number && number < counted.first_order)
+        || (counted.end_districts <= number && number < counted.first_new_order)
         || counted.end_lines <= number
 }

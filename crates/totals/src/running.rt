@@ -1,31 +1,30 @@
 //! The totals that are sums and counts.
 
-ghost use Rattle.std.specs.Prelude.{◌≡◌, ◌<◌, ℕ, pos, List, Option, Some, All, length, slice_index};
-ghost use Rattle.std.specs.Option.{ForSome};
+ghost use Rattle.std.specs.Prelude.{◌≡◌, ◌<◌, ◌≤◌, ℕ, pos, List, Option, Some, All, length, slice_index};
+ghost use Rattle.std.specs.Option.{ForSome, option_copied};
 ghost use Rattle.tables.specs.Sizes.{IsNumber};
-ghost use Rattle.tables.specs.Keys.{IsDistrictKey, IsOrderKey, IsLineKey, order_of};
-ghost use Rattle.tables.specs.Records.{record_count, key_of};
+ghost use Rattle.tables.specs.Keys.{order_of};
+ghost use Rattle.tables.specs.Records.{record_count, key_of, size, first_number, district_at, order_at, line_at};
 ghost use Rattle.tables.specs.WellFormed.{IsHistoryRow};
-ghost use Rattle.tables.specs.declared.keys.OrderKey.{OrderKey};
-ghost use Rattle.tables.specs.declared.records.RecordKey.TheVariants as record_key;
+ghost use Rattle.tables.specs.declared.records.Table.TheVariants as table;
 ghost use Rattle.totals.specs.Moves.{MovesSums, SumsFollow, HasBuyers, held_in, order_before, step, moved, no_history};
 ghost use Rattle.totals.specs.Counted.{counted_in};
-ghost use Rattle.totals.specs.Steps.{HasPlaces, district_step, order_step, new_order_step, district_line_step, order_line_step};
-ghost use Rattle.totals.specs.Steps.{deliver_step, line_step, warehouse_paid_step, district_paid_step, customer_paid_step, history_step};
+ghost use Rattle.totals.specs.Steps.{HasPlaces, district_step, order_step, new_order_step, district_line_step};
+ghost use Rattle.totals.specs.Steps.{order_line_step, delivered_step, deliver_step, FollowsLine};
+ghost use Rattle.totals.specs.Steps.{warehouse_paid_step, district_paid_step, customer_paid_step, history_step};
 
 use crate::amounts::{move_amount, move_small};
 use crate::places::{
-    Counted, counted_records, is_past, place_in_districts, place_of_customer, place_of_district,
-    place_of_order,
+    Counted, counted_records, district_of_order, is_past, place_of_buyer, place_of_customer,
+    place_of_district,
 };
 use crate::worth::{delivered_amount, presence, signed_word, small_presence};
 use cells::Newest;
 use money::Payload;
 use readset::WriteList;
 use std::marker::Model;
-use tables::{
-    CustomerKey, DistrictKey, History, LineKey, OrderKey, RecordKey, Scale, key_of, number_of_key,
-};
+use tables::limits::MAX_ORDER_LINES;
+use tables::{CustomerKey, DistrictKey, History, Scale};
 
 /// The sums over a database's tables that its consistency conditions speak of, each a list by place of its key: 8 bytes
 /// a warehouse, district or customer and sum, and 1 byte an order number of the scale.
@@ -56,99 +55,114 @@ impl Model for RunningSums {
 }
 
 impl RunningSums {
-    fn follow_district(&mut self, key: DistrictKey, old: &Option<Payload>, new: &Option<Payload>)
-        requires { IsDistrictKey self.old.scale key }
-        ensures { self.new ≡ district_step self.old key old.now new.now }
+    /// Follows a record of DISTRICT, by its place there.
+    fn follow_district(&mut self, place: u32, old: Option<&Payload>, new: Option<&Payload>)
+        requires { place < size self.old.scale table.District }
+        ensures { self.new ≡ district_step self.old (district_at self.old.scale place)
+            (option_copied old.entry) (option_copied new.entry) }
     {
+        let warehouse = place / self.scale.districts();
         let before = signed_word(old, 0);
         let after = signed_word(new, 0);
-        move_amount(&mut self.year_to_date, key.warehouse - 1, before, after);
+        move_amount(&mut self.year_to_date, warehouse, before, after);
     }
 
-    fn follow_order(&mut self, key: OrderKey, old: &Option<Payload>, new: &Option<Payload>)
-        requires { IsOrderKey self.old.scale key }
-        ensures { self.new ≡ order_step self.old key old.now new.now }
+    /// Follows a record of ORDER, by its place there.
+    fn follow_order(&mut self, place: u32, old: Option<&Payload>, new: Option<&Payload>)
+        requires { place < size self.old.scale table.Order }
+        ensures { self.new ≡ order_step self.old (order_at self.old.scale place)
+            (option_copied old.entry) (option_copied new.entry) }
     {
-        let place = place_in_districts(&self.scale, key);
+        let district = district_of_order(&self.scale, place);
         let before = signed_word(old, 3);
         let after = signed_word(new, 3);
-        move_amount(&mut self.line_counts, place, before, after);
+        move_amount(&mut self.line_counts, district, before, after);
     }
 
-    fn follow_new_order(&mut self, key: OrderKey, old: &Option<Payload>, new: &Option<Payload>)
-        requires { IsOrderKey self.old.scale key }
-        ensures { self.new ≡ new_order_step self.old key old.now new.now }
+    /// Follows a record of NEW-ORDER, by its place there.
+    fn follow_new_order(&mut self, place: u32, old: Option<&Payload>, new: Option<&Payload>)
+        requires { place < size self.old.scale table.NewOrder }
+        ensures { self.new ≡ new_order_step self.old (order_at self.old.scale place)
+            (option_copied old.entry) (option_copied new.entry) }
     {
-        let place = place_in_districts(&self.scale, key);
+        let district = district_of_order(&self.scale, place);
         let before = presence(old);
         let after = presence(new);
-        move_amount(&mut self.waiting, place, before, after);
+        move_amount(&mut self.waiting, district, before, after);
     }
 
     /// Counts a line for its district.
-    fn count_in_district(&mut self, key: LineKey, old: &Option<Payload>, new: &Option<Payload>)
-        requires { IsLineKey self.old.scale key }
-        ensures { self.new ≡ district_line_step self.old key old.now new.now }
+    fn count_in_district(&mut self, district: u32, old: Option<&Payload>, new: Option<&Payload>)
+        requires { district < size self.old.scale table.District }
+        ensures { self.new ≡ district_line_step self.old district (option_copied old.entry) (option_copied new.entry) }
     {
-        let place = place_in_districts(&self.scale, key.order_key());
         let before = presence(old);
         let after = presence(new);
-        move_amount(&mut self.district_lines, place, before, after);
+        move_amount(&mut self.district_lines, district, before, after);
     }
 
     /// Counts a line for its order.
-    fn count_in_order(&mut self, key: LineKey, old: &Option<Payload>, new: &Option<Payload>)
-        requires { IsLineKey self.old.scale key }
-        ensures { self.new ≡ order_line_step self.old key old.now new.now }
+    fn count_in_order(&mut self, order: u32, old: Option<&Payload>, new: Option<&Payload>)
+        requires { order < size self.old.scale table.Order }
+        ensures { self.new ≡ order_line_step self.old order (option_copied old.entry) (option_copied new.entry) }
     {
-        let place = place_of_order(&self.scale, key.order_key());
         let before = small_presence(old);
         let after = small_presence(new);
-        move_small(&mut self.order_lines, place, before, after);
+        move_small(&mut self.order_lines, order, before, after);
     }
 
-    /// Adds what is delivered of a line to what its order's customer has of it.
-    fn deliver(
-        &mut self,
-        key: LineKey,
-        order: &Payload,
-        old: &Option<Payload>,
-        new: &Option<Payload>,
-    )
-        requires key { IsLineKey self.old.scale key }
+    /// Moves what the customer of an order has of delivered lines.
+    fn move_delivered(&mut self, district: u32, order: &Payload, before: i64, after: i64)
+        requires district { district < size self.old.scale table.District }
         requires buyer { IsNumber self.old.scale.customers (slice_index order.now 0) }
-        ensures { self.new ≡ deliver_step self.old order.now key old.now new.now }
+        ensures { self.new ≡ delivered_step self.old district order.now before after }
     {
-        let customers = u64::from(self.scale.customers());
-        prove!(order[0] <= customers);
-        let buyer = CustomerKey {
-            warehouse: key.warehouse,
-            district: key.district,
-            customer: order[0] as u32,
-        };
-        let place = place_of_customer(&self.scale, buyer);
-        let before = delivered_amount(old);
-        let after = delivered_amount(new);
+        let place = place_of_buyer(&self.scale, district, order[0]);
         move_amount(&mut self.delivered, place, before, after);
     }
 
-    /// Counts a line, whose order has these words.
+    /// Moves what the customer has whose order this record is.
+    fn deliver(&mut self, district: u32, newest: &[Newest], order: usize, before: i64, after: i64)
+        requires district { district < size self.old.scale table.District }
+        requires order { order < length newest.now }
+        requires buyer { ForSome (held_in newest.now order)
+            (λ words. IsNumber self.old.scale.customers (slice_index words 0)) }
+        ensures { self.new ≡ deliver_step self.old district (held_in newest.now order) before after }
+    {
+        if let Some(words) = held_there(newest, order) {
+            self.move_delivered(district, words, before, after);
+        }
+    }
+
+    /// Follows a record of ORDER-LINE, by its place there.
     fn follow_line(
         &mut self,
-        key: LineKey,
-        order: &Option<Payload>,
-        old: &Option<Payload>,
-        new: &Option<Payload>,
+        newest: &[Newest],
+        first_order: u32,
+        place: u32,
+        old: Option<&Payload>,
+        new: Option<&Payload>,
     )
-        requires key { IsLineKey self.old.scale key }
-        requires buyer { ForSome order.now (λ words. IsNumber self.old.scale.customers (slice_index words 0)) }
-        ensures { self.new ≡ line_step self.old order.now key old.now new.now }
+        requires place { place < size self.old.scale table.OrderLine }
+        requires first { first_order ≡ first_number self.old.scale table.Order }
+        requires newest { length newest.now ≡ record_count self.old.scale }
+        requires buyers { HasBuyers self.old.scale (held_in newest.now) }
+        ensures { FollowsLine self.old self.new
+            (order_before self.old.scale (held_in newest.now) (order_of (line_at self.old.scale place)))
+            (line_at self.old.scale place) (option_copied old.entry) (option_copied new.entry) }
     {
-        self.count_in_district(key, old, new);
-        self.count_in_order(key, old, new);
-        if let Some(words) = order {
-            self.deliver(key, words, old, new);
+        let order = place / MAX_ORDER_LINES;
+        let district = district_of_order(&self.scale, order);
+        self.count_in_district(district, old, new);
+        self.count_in_order(order, old, new);
+        let before = delivered_amount(old);
+        let after = delivered_amount(new);
+        // A line isn't delivered by the commit that makes it.
+        if before == after {
+            return;
         }
+        let number = first_order as usize + order as usize;
+        self.deliver(district, newest, number, before, after);
     }
 
     fn pay_at_warehouse(&mut self, row: &History)
@@ -211,8 +225,9 @@ impl RunningSums {
         }
     }
 
-    /// Brings the sums up to date with a commit, where the records still have the versions before it. A step in
-    /// constant time for each record written, without memory.
+    /// Brings the sums up to date with a commit, where the records still have the versions before it. Without memory,
+    /// and in constant time for each record written: a few comparisons, and at one that they count a division or two
+    /// and a look at the words that count, where they stand.
     pub fn follow(&mut self, newest: &[Newest], writes: &WriteList)
         requires below { All (λ e. e.0 < record_count self.old.scale) writes.now.values }
         requires row { ForSome writes.now.history_row (IsHistoryRow self.old.scale) }
@@ -247,42 +262,42 @@ impl RunningSums {
         if is_past(counted, number) {
             return;
         }
-        let old = held(newest, number);
-        self.move_record(newest, number, &old, new);
+        let old = held_there(newest, number as usize);
+        self.move_record(newest, counted, number, old, new.as_ref());
     }
 
-    /// Moves the sums by a record that held one value and comes to hold another, where orders hold what their newest
-    /// versions have.
+    /// Moves the sums by a record that they count, which held one value and comes to hold another, where orders hold
+    /// what their newest versions have. A few comparisons, a division or two, and the words that count.
     pub(crate) fn move_record(
         &mut self,
         newest: &[Newest],
+        counted: Counted,
         number: u32,
-        old: &Option<Payload>,
-        new: &Option<Payload>,
+        old: Option<&Payload>,
+        new: Option<&Payload>,
     )
-        requires number { number < record_count self.old.scale }
+        requires counted { counted ≡ counted_in self.old.scale }
+        requires first { counted.first_district ≤ number }
+        requires between { counted.end_districts ≤ number → counted.first_new_order ≤ number }
+        requires end { number < counted.end_lines }
         requires newest { length newest.now ≡ record_count self.old.scale }
         requires buyers { HasBuyers self.old.scale (held_in newest.now) }
         ensures scale { self.new.scale ≡ self.old.scale }
         ensures moves { MovesSums self.old.scale (order_before self.old.scale (held_in newest.now))
-            (step (key_of self.old.scale number) old.now new.now) no_history self.old self.new }
+            (step (key_of self.old.scale number) (option_copied old.entry) (option_copied new.entry)) no_history
+            self.old self.new }
     {
-        match key_of(&self.scale, number) {
-            RecordKey::District(key) => self.follow_district(key, old, new),
-            RecordKey::NewOrder(key) => self.follow_new_order(key, old, new),
-            RecordKey::Order(key) => self.follow_order(key, old, new),
-            RecordKey::OrderLine(key) => {
-                let order = held(
-                    newest,
-                    number_of_key(&self.scale, RecordKey::Order(key.order_key())),
-                );
-                self.follow_line(key, &order, old, new);
-            }
-            RecordKey::Warehouse(_)
-            | RecordKey::Customer(_)
-            | RecordKey::Stock(_)
-            | RecordKey::Oldest(_)
-            | RecordKey::Last(_) => {}
+        // The proof needs to know that there are places for all keys.
+        let _ = &self.scale;
+        if number < counted.end_districts {
+            self.follow_district(number - counted.first_district, old, new);
+        } else if number < counted.first_order {
+            self.follow_new_order(number - counted.first_new_order, old, new);
+        } else if number < counted.first_line {
+            self.follow_order(number - counted.first_order, old, new);
+        } else {
+            let place = number - counted.first_line;
+            self.follow_line(newest, counted.first_order, place, old, new);
         }
     }
 }
@@ -293,4 +308,17 @@ pub fn held(newest: &[Newest], number: u32) -> Option<Payload>
     ensures { result ≡ held_in newest.now number }
 {
     newest[number as usize].value()
+}
+
+/// The same, where it stands in the version.
+pub(crate) fn held_there(newest: &[Newest], number: usize) -> Option<&Payload>
+    requires { number < length newest.now }
+    ensures { option_copied result ≡ held_in newest.now number }
+{
+    let version = &newest[number];
+    if version.word.is_absent() {
+        None
+    } else {
+        Some(&version.payload)
+    }
 }

@@ -1,14 +1,15 @@
 //! What a record's words are worth to the sums.
 
 ghost use Rattle.std.specs.Prelude.{◌≡◌, ◌<◌};
+ghost use Rattle.std.specs.Option.{option_copied};
 ghost use Rattle.totals.specs.Steps.{signed_in, one_of, delivered_in};
 
 use money::Payload;
 
 /// A word of a record as a number with a sign, and 0 where the record is absent.
-pub fn signed_word(value: &Option<Payload>, place: usize) -> i64
+pub fn signed_word(value: Option<&Payload>, place: usize) -> i64
     requires { place < 7 }
-    ensures { result ≡ signed_in place value.now }
+    ensures { result ≡ signed_in place (option_copied value.entry) }
 {
     match value {
         Some(words) => words[place].cast_signed(),
@@ -17,8 +18,8 @@ pub fn signed_word(value: &Option<Payload>, place: usize) -> i64
 }
 
 /// 1 where the record is there.
-pub fn presence(value: &Option<Payload>) -> i64
-    ensures { result ≡ one_of value.now }
+pub fn presence(value: Option<&Payload>) -> i64
+    ensures { result ≡ one_of (option_copied value.entry) }
 {
     match value {
         Some(_) => 1,
@@ -27,8 +28,8 @@ pub fn presence(value: &Option<Payload>) -> i64
 }
 
 /// The same as a small number.
-pub fn small_presence(value: &Option<Payload>) -> i8
-    ensures { result ≡ one_of value.now }
+pub fn small_presence(value: Option<&Payload>) -> i8
+    ensures { result ≡ one_of (option_copied value.entry) }
 {
     match value {
         Some(_) => 1,
@@ -37,8 +38,8 @@ pub fn small_presence(value: &Option<Payload>) -> i8
 }
 
 /// OL_AMOUNT of a line that has a date of delivery.
-pub fn delivered_amount(value: &Option<Payload>) -> i64
-    ensures { result ≡ delivered_in value.now }
+pub fn delivered_amount(value: Option<&Payload>) -> i64
+    ensures { result ≡ delivered_in (option_copied value.entry) }
 {
     match value {
         Some(words) if words[2] > 0 => words[4].cast_signed(),

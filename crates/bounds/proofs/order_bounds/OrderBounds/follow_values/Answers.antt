@@ -1,6 +1,6 @@
-use Rattle.std.proofs.Common.{◌+◌, ◌<◌, ◌≡◌, ℕ, List, Option, None, true, All, [], drop, get_or, refl, sym, ap, ◌∙◌, subst}
+use Rattle.std.proofs.Common.{◌+◌, ◌≡◌, ℕ, List, Option, None, true, [], drop, get_or, refl, sym, ap, ◌∙◌, subst}
 use Rattle.std.proofs.lemmas.List.{drop_more, drop_all}
-use Rattle.tables.specs.Records.{record_count, first_number, size}
+use Rattle.tables.specs.Records.{first_number, size}
 use Rattle.tables.specs.declared.records.Table.TheVariants as table
 use Rattle.bounds.specs.Bounds.{BoundsView}
 use Rattle.bounds.specs.Written.{held_in}
@@ -14,12 +14,6 @@ loop-number-init c = record {
   ends = subst (λ (ws : List (ℕ × Option (List ℕ))). AreEnds c.args.self.now.scale (held_in c.args.newest.now) (is_among ws) c.args.self.now)
       (sym c.values-number-items.ensures.values);
 }
-
-pub follow_record-requires-clause-number : goal.follow_record-requires-clause-number
-follow_record-requires-clause-number c =
-    subst (λ z. (get_or c.values-number-items.result.now c.loop-number.number-index (0, None)).0 < record_count z) (sym c.loop-number.invariant.scale)
-    (subst (λ ws. All (λ e. e.0 < record_count c.args.self.now.scale) ws) (sym c.values-number-items.ensures.values) c.requires c.loop-number.number-index
-    (0, None) c.loop-number-test.true)
 
 pub follow_record-requires-clause-first : goal.follow_record-requires-clause-first
 follow_record-requires-clause-first c = c.order_records-first.ensures.first

@@ -1,71 +1,74 @@
-use Rattle.std.proofs.Common.{◌≡◌, ◌∙◌, refl, ap, subst}
-use Rattle.tables.specs.Keys.{IsDistrictKey, IsOrderKey, IsLineKey, order_of}
-use Rattle.tables.specs.Records.{key_of, number_of_key}
-use Rattle.tables.specs.declared.records.RecordKey.TheVariants as record_key
-use Rattle.totals.specs.Totals.{SumsView}
-use Rattle.totals.specs.Moves.{held_in, order_before}
-use Rattle.totals.specs.Steps.{HasPlaces, line_step}
-use Rattle.totals.proofs.Moving.{district_moves, new_order_moves, order_moves, line_moves, other_moves, IsOther, are_other, told}
+use Rattle.std.proofs.Common.{◌≡◌, ◌+◌, ◌-◌, ◌<◌, ◌≤◌, option_copied, refl, ap, ◌∙◌, subst, arith}
+use Rattle.tables.specs.Keys.{order_of}
+use Rattle.tables.specs.Records.{size, first_number, district_at, order_at, line_at}
+use Rattle.tables.specs.declared.records.Table.TheVariants as table
+use Rattle.bounds.proofs.KeysAt.{district_is, order_is, line_is}
+use Rattle.totals.specs.declared.places.Counted.{Counted}
+use Rattle.totals.specs.Moves.{MovesSums, held_in, order_before, step, no_history}
+use Rattle.totals.specs.Steps.{HasPlaces}
+use Rattle.totals.proofs.Moving.{district_moves, new_order_moves, order_moves, line_moves, told}
+use Rattle.totals.proofs.ByNumber.{district_named, new_order_named, order_named, line_named, place_same, place_below}
 use Rattle.totals.proofs.running.RunningSums.move_record.Goals as goal
 
-pub returns-in-District-clause-moves : goal.returns-in-District-clause-moves
-returns-in-District-clause-moves c =
+pub returns-then-number-counted-clause-moves : goal.returns-then-number-counted-clause-moves
+returns-then-number-counted-clause-moves c =
     let v = c.args.self.now in
+    let s = v.scale in
+    let n = c.args.number in
+    let p = n - c.args.counted.first_district in
     let places : HasPlaces v = subst HasPlaces c.self.view_is c.self.invariant in
-    let order = order_before v.scale (held_in c.args.newest.now) in
-    let at : IsDistrictKey v.scale c.in-District.key = subst (λ (w : SumsView). IsDistrictKey w.scale c.in-District.key) c.self.view_is c.in-District.ensures.key in
-    let named : record_key.District c.in-District.key ≡ key_of v.scale c.args.number =
-    c.in-District.ensures.value ∙ ap (λ (w : SumsView). key_of w.scale c.args.number) c.self.view_is in
-    told v.scale order v _ _ _ _ _ _ c.args.new.now (district_moves order v places c.args.old.now c.args.new.now c.in-District.key at) named refl
-    c.follow_district.ensures
+    let start : c.args.counted.first_district ≡ first_number s table.District = ap (λ (q : Counted). q.first_district) c.requires.counted in
+    let stop : c.args.counted.end_districts ≡ first_number s table.District + size s table.District = ap (λ (q : Counted). q.end_districts) c.requires.counted in
+    let up : c.args.counted.first_district ≤ n = c.requires.first in
+    let below : p < size s table.District = place_below n c.args.counted.first_district (first_number s table.District) c.args.counted.end_districts (size s table.District) start stop up c.if-number-counted.true in
+    told s (order_before s (held_in c.args.newest.now)) v _ _ _ _ _ _ (option_copied c.args.new)
+    (district_moves (order_before s (held_in c.args.newest.now)) v places (option_copied c.args.old) (option_copied c.args.new) (district_at s p) (district_is s p below))
+    (district_named s n p below (place_same n c.args.counted.first_district (first_number s table.District) start up)) refl c.follow_district.ensures
 
-pub returns-in-NewOrder-clause-moves : goal.returns-in-NewOrder-clause-moves
-returns-in-NewOrder-clause-moves c =
+pub returns-then-number-counted-2-clause-moves : goal.returns-then-number-counted-2-clause-moves
+returns-then-number-counted-2-clause-moves c =
     let v = c.args.self.now in
+    let s = v.scale in
+    let n = c.args.number in
+    let p = n - c.args.counted.first_new_order in
     let places : HasPlaces v = subst HasPlaces c.self.view_is c.self.invariant in
-    let order = order_before v.scale (held_in c.args.newest.now) in
-    let at : IsOrderKey v.scale c.in-NewOrder.key = subst (λ (w : SumsView). IsOrderKey w.scale c.in-NewOrder.key) c.self.view_is c.in-NewOrder.ensures.key in
-    let named : record_key.NewOrder c.in-NewOrder.key ≡ key_of v.scale c.args.number =
-    c.in-NewOrder.ensures.value ∙ ap (λ (w : SumsView). key_of w.scale c.args.number) c.self.view_is in
-    told v.scale order v _ _ _ _ _ _ c.args.new.now (new_order_moves order v places c.args.old.now c.args.new.now c.in-NewOrder.key at) named
-    refl
-    c.follow_new_order.ensures
+    let start : c.args.counted.first_new_order ≡ first_number s table.NewOrder = ap (λ (q : Counted). q.first_new_order) c.requires.counted in
+    let stop : c.args.counted.first_order ≡ first_number s table.NewOrder + size s table.NewOrder = ap (λ (q : Counted). q.first_order) c.requires.counted ∙ omega arith in
+    let up : c.args.counted.first_new_order ≤ n = c.requires.between (omega (arith, c.if-number-counted.false)) in
+    let below : p < size s table.NewOrder = place_below n c.args.counted.first_new_order (first_number s table.NewOrder) c.args.counted.first_order (size s table.NewOrder) start stop up c.if-number-counted-2.true in
+    told s (order_before s (held_in c.args.newest.now)) v _ _ _ _ _ _ (option_copied c.args.new)
+    (new_order_moves (order_before s (held_in c.args.newest.now)) v places (option_copied c.args.old) (option_copied c.args.new) (order_at s p) (order_is s p below))
+    (new_order_named s n p below (place_same n c.args.counted.first_new_order (first_number s table.NewOrder) start up)) refl c.follow_new_order.ensures
 
-pub returns-in-Order-clause-moves : goal.returns-in-Order-clause-moves
-returns-in-Order-clause-moves c =
+pub returns-then-number-counted-3-clause-moves : goal.returns-then-number-counted-3-clause-moves
+returns-then-number-counted-3-clause-moves c =
     let v = c.args.self.now in
+    let s = v.scale in
+    let n = c.args.number in
+    let p = n - c.args.counted.first_order in
     let places : HasPlaces v = subst HasPlaces c.self.view_is c.self.invariant in
-    let order = order_before v.scale (held_in c.args.newest.now) in
-    let at : IsOrderKey v.scale c.in-Order.key = subst (λ (w : SumsView). IsOrderKey w.scale c.in-Order.key) c.self.view_is c.in-Order.ensures.key in
-    let named : record_key.Order c.in-Order.key ≡ key_of v.scale c.args.number =
-    c.in-Order.ensures.value ∙ ap (λ (w : SumsView). key_of w.scale c.args.number) c.self.view_is in
-    told v.scale order v _ _ _ _ _ _ c.args.new.now (order_moves order v places c.args.old.now c.args.new.now c.in-Order.key at) named refl
-    c.follow_order.ensures
+    let start : c.args.counted.first_order ≡ first_number s table.Order = ap (λ (q : Counted). q.first_order) c.requires.counted in
+    let stop : c.args.counted.first_line ≡ first_number s table.Order + size s table.Order = ap (λ (q : Counted). q.first_line) c.requires.counted ∙ omega arith in
+    let up : c.args.counted.first_order ≤ n = omega (arith, c.if-number-counted-2.false) in
+    let below : p < size s table.Order = place_below n c.args.counted.first_order (first_number s table.Order) c.args.counted.first_line (size s table.Order) start stop up c.if-number-counted-3.true in
+    told s (order_before s (held_in c.args.newest.now)) v _ _ _ _ _ _ (option_copied c.args.new)
+    (order_moves (order_before s (held_in c.args.newest.now)) v places (option_copied c.args.old) (option_copied c.args.new) (order_at s p) (order_is s p below))
+    (order_named s n p below (place_same n c.args.counted.first_order (first_number s table.Order) start up)) refl c.follow_order.ensures
 
-pub returns-in-OrderLine-clause-moves : goal.returns-in-OrderLine-clause-moves
-returns-in-OrderLine-clause-moves c =
+pub returns-else-number-counted-3-clause-moves : goal.returns-else-number-counted-3-clause-moves
+returns-else-number-counted-3-clause-moves c =
     let v = c.args.self.now in
-    let j = c.in-OrderLine.key in
+    let s = v.scale in
+    let n = c.args.number in
+    let p = n - c.args.counted.first_line in
     let places : HasPlaces v = subst HasPlaces c.self.view_is c.self.invariant in
-    let order = order_before v.scale (held_in c.args.newest.now) in
-    let at : IsLineKey v.scale j = subst (λ (w : SumsView). IsLineKey w.scale j) c.self.view_is c.in-OrderLine.ensures.key in
-    let named : record_key.OrderLine j ≡ key_of v.scale c.args.number =
-    c.in-OrderLine.ensures.value ∙ ap (λ (w : SumsView). key_of w.scale c.args.number) c.self.view_is in
-    let words : c.held-order.result ≡ order (order_of j) =
-    c.held-order.ensures ∙ ap (held_in c.args.newest.now)
-    (c.number_of_key.ensures.value ∙ (λ i. number_of_key (c.self.view_is i).scale (record_key.Order (c.order_key.ensures i)))) in
-    told v.scale order v _ _ _ _ _ _ c.args.new.now
-    (line_moves order v places c.args.old.now c.args.new.now j at (c.requires.buyers (order_of j) (at.0, at.1, at.2))) named refl
-    (c.follow_line.ensures ∙ ap (λ w. line_step v w j c.args.old.now c.args.new.now) words)
-
-pub returns-in-Warehouse : goal.returns-in-Warehouse
-returns-in-Warehouse c =
-    let v = c.args.self.now in
-    let named : c.key_of.result ≡ key_of v.scale c.args.number =
-    c.key_of.ensures.value ∙ ap (λ (w : SumsView). key_of w.scale c.args.number) c.self.view_is in
-    record {
-      scale = refl;
-      moves = other_moves v.scale (order_before v.scale (held_in c.args.newest.now)) v (key_of v.scale c.args.number)
-          c.args.old.now c.args.new.now
-          (subst IsOther named (are_other c.key_of.result c.in-Warehouse.is));
-    }
+    let start : c.args.counted.first_line ≡ first_number s table.OrderLine = ap (λ (q : Counted). q.first_line) c.requires.counted in
+    let stop : c.args.counted.end_lines ≡ first_number s table.OrderLine + size s table.OrderLine = ap (λ (q : Counted). q.end_lines) c.requires.counted in
+    let up : c.args.counted.first_line ≤ n = omega (arith, c.if-number-counted-3.false) in
+    let below : p < size s table.OrderLine = place_below n c.args.counted.first_line (first_number s table.OrderLine) c.args.counted.end_lines (size s table.OrderLine) start stop up c.requires.end in
+    let is = line_is s p below in
+    subst (λ j. MovesSums s (order_before s (held_in c.args.newest.now)) (step j (option_copied c.args.old) (option_copied c.args.new)) no_history v
+    c.follow_line.new.self)
+    (line_named s n p below (place_same n c.args.counted.first_line (first_number s table.OrderLine) start up))
+    (line_moves (order_before s (held_in c.args.newest.now)) v places (option_copied c.args.old) (option_copied c.args.new) (line_at s p) is
+    (c.requires.buyers (order_of (line_at s p)) (is.0, is.1, is.2)) c.follow_line.new.self c.follow_line.ensures)
