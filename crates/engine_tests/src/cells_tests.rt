@@ -1,19 +1,16 @@
-//! Reads, stores and meets by one thread, and reads while another thread stores.
+//! Reads, stores and meets by one thread.
 ghost use Rattle.std.specs.Prelude.{◌≡◌, ◌<◌, length};
 ghost use Rattle.tidword.specs.TidWord.{tid_of};
 ghost use Rattle.cells.specs.Versions.{last_tid};
 ghost use Rattle.cells.specs.Records.{at};
 
-use crate::stage::{CUSTOMER, DISTRICT, Stage, WAREHOUSE, open};
+use crate::stage::{CUSTOMER, DISTRICT, WAREHOUSE, open};
 use cells::{Cells, Pen, Reader, Version};
 use money::Payload;
 use std::alloc::Global;
 use std::sync::Wait;
 use std::test::Fail;
-use std::thread::{Threads, join};
 use tidword::{Status, TidWord};
-
-const TURNS: u64 = 200_000;
 
 /// The first version of a record.
 fn populated(record: u32, payload: Payload) -> Version {
@@ -106,58 +103,4 @@ fn tid_words(rt: HostRuntime) {
     assert!(rt;
         there.is_latest() && !there.is_absent() && absent.is_latest() && absent.is_absent()
     );
-}
-
-/// Stores versions of the warehouse whose payloads are all their TID's number.
-fn store_turns<R: Wait>(rt: &R, cells: &Cells, mut pen: Pen)
-    requires own { (pen.cells ≡ cells.now) × (length cells.now ≡ 1085) }
-    requires first { last_tid (at pen.all 0) ≡ 0 }
-{
-    for turn in 1..TURNS {
-        cells.store(rt, &mut pen, 0, TidWord::new(turn * 8 + 2), [turn; 7]);
-    }
-}
-
-/// The payload of the version of a turn, where turn 0 is the population's.
-fn payload_of(turn: u64) -> Payload {
-    if turn == 0 { WAREHOUSE } else { [turn; 7] }
-}
-
-/// Whether each version of the warehouse that it reads is whole, and none is older than the one before.
-fn read_turns<R: Wait>(rt: &R, cells: &Cells, mut reader: Reader) -> bool
-    requires { (reader.cells ≡ cells.now) × (length cells.now ≡ 1085) }
-{
-    let mut last = 0;
-    let mut is_well = true;
-    for _ in 0..TURNS {
-        let version = cells.read(rt, &mut reader, 0);
-        let turn = version.word.word() / 8;
-        is_well = is_well && last <= turn && version.payload == payload_of(turn);
-        last = turn;
-    }
-    is_well
-}
-
-fn both<R: Threads + Wait + Sync>(rt: &R, cells: &Cells, pen: Pen, reader: Reader) -> bool
-    requires own { (pen.cells ≡ cells.now) × (reader.cells ≡ cells.now) × (length cells.now ≡ 1085) }
-    requires first { last_tid (at pen.all 0) ≡ 0 }
-{
-    let (_, is_well) = join(
-        rt,
-        move || store_turns(rt, cells, pen),
-        move || read_turns(rt, cells, reader),
-    );
-    is_well
-}
-
-#[test]
-fn two_threads(rt: HostRuntime) -> Result<(), Fail> {
-    let Stage {
-        population: _,
-        cells,
-        pen,
-        reader,
-    } = open(&rt, rt.alloc())?;
-    assert!(rt; both(&rt, &cells, pen, reader));
-    Ok(())
 }

@@ -18,6 +18,8 @@ mod new_order_tests;
 #[cfg(test)]
 mod new_orders;
 #[cfg(test)]
+mod page_tests;
+#[cfg(test)]
 mod pairs;
 #[cfg(test)]
 mod payment_tests;
@@ -35,3 +37,5 @@ mod stage;
 mod streams_tests;
 #[cfg(test)]
 mod told;
+#[cfg(test)]
+mod totals_tests;
