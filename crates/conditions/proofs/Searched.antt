@@ -98,7 +98,14 @@ module _ {K X : Type 0} {R : K → K → Ordering} (o : IsExact R) where
             missing e = cc
 
   -- from `BTreeMap` to the finite map
-  pub finds-view : (m : BTreeMap K X) (T : K → X → Type 0) (found : Option K)
+  finds-view : (m : BTreeMap K X) (T : K → X → Type 0) (found : Option K)
       → FindsLeast R (λ k. IsSome (tree.get R m k)) (λ k. ForSome (tree.get R m k) (T k)) found
       → FindsLeast R (λ k. IsSome (get (from_entries {R = R} m.entries) k)) (λ k. ForSome (get (from_entries {R = R} m.entries) k) (T k)) found
   finds-view m T found = subst (λ (row : K → Option X). FindsLeast R (λ k. IsSome (row k)) (λ k. ForSome (row k) (T k)) found) (λ i k. sym (get-view o m k) i)
+
+  -- so where what each row is held against is told otherwise
+  pub finds_told : {A : Type 0} (m : BTreeMap K X) (T : A → K → X → Type 0) (a b : A) → a ≡ b → (found : Option K)
+      → FindsLeast R (λ k. IsSome (tree.get R m k)) (λ k. ForSome (tree.get R m k) (T a k)) found
+      → FindsLeast R (λ k. IsSome (get (from_entries {R = R} m.entries) k)) (λ k. ForSome (get (from_entries {R = R} m.entries) k) (T b k)) found
+  finds_told {A} m T a b same found finds = finds-view m (T b) found
+      (subst (λ (s : A). FindsLeast R (λ k. IsSome (tree.get R m k)) (λ k. ForSome (tree.get R m k) (T s k)) found) same finds)

@@ -3,7 +3,7 @@ pub mod Report
 pub mod Amounts
 pub mod Running
 pub mod Walk
-pub mod LineWalk
+pub mod Lines
 pub mod Numbers
 pub mod Sums
 pub mod Walks

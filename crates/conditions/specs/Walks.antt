@@ -7,8 +7,5 @@ use Rattle.conditions.specs.declared.walks.Walks.{Walks}
 -- each goes along the table or the sums of its name
 pub record AreWalksOf (t : Tables) (s : Sums) (w : Walks) : Type 0 where
   pub customers : w.customers ≡ t.customers.entries
-  pub new_orders : w.new_orders ≡ t.new_orders.entries
-  pub orders : w.orders ≡ t.orders.entries
-  pub lines : w.lines ≡ t.lines.entries
-  pub customer_history : w.customer_history ≡ s.customer_history.entries
-  pub delivered : w.delivered ≡ s.delivered.entries
+  pub history : w.history ≡ s.history.customers.entries
+  pub delivered : w.delivered ≡ s.lines.delivered.entries

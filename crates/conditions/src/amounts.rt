@@ -73,7 +73,7 @@ pub fn history_by<S: Share<(), History>>(
 }
 
 /// Adds what a row adds.
-fn add_row<K, X, S: Share<K, X>>(
+pub fn add_row<K, X, S: Share<K, X>>(
     sums: &mut Running<S::Group>,
     by: &mut S,
     key: &K,

@@ -5,8 +5,9 @@
 mod amounts;
 mod checks;
 mod columns;
+mod customer_conditions;
 mod key_conditions;
-mod line_walk;
+mod lines;
 mod numbers;
 mod report;
 mod row_conditions;

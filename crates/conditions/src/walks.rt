@@ -1,20 +1,16 @@
-//! The tables and the sums that a condition looks into at each key or row.
+//! What the conditions that are asked of each customer look into.
 
 ghost use Rattle.conditions.specs.Walks.{AreWalksOf};
 
-use crate::line_walk::LineWalk;
 use crate::sums::Sums;
 use crate::walk::Walk;
-use tables::{Customer, CustomerKey, NewOrder, Order, OrderKey, Tables};
+use tables::{Customer, CustomerKey, Tables};
 
-/// A walk along each, for the keys in order.
+/// A walk along CUSTOMER and along each sum by customer, for the customers in order.
 #[derive(Drop)]
 pub struct Walks<'a> {
     pub customers: Walk<'a, CustomerKey, Customer>,
-    pub new_orders: Walk<'a, OrderKey, NewOrder>,
-    pub orders: Walk<'a, OrderKey, Order>,
-    pub lines: LineWalk<'a>,
-    pub customer_history: Walk<'a, CustomerKey, i128>,
+    pub history: Walk<'a, CustomerKey, i128>,
     pub delivered: Walk<'a, CustomerKey, i128>,
 }
 
@@ -25,11 +21,8 @@ impl<'a> Walks<'a> {
     {
         Walks {
             customers: Walk::new(&tables.customers),
-            new_orders: Walk::new(&tables.new_orders),
-            orders: Walk::new(&tables.orders),
-            lines: LineWalk::new(&tables.lines),
-            customer_history: Walk::new(&sums.customer_history),
-            delivered: Walk::new(&sums.delivered),
+            history: Walk::new(&sums.history.customers),
+            delivered: Walk::new(&sums.lines.delivered),
         }
     }
 }

@@ -7,5 +7,5 @@ abbrev pub invariant-loop-customer : goal.invariant-loop-customer
 invariant-loop-customer g l = record {
   walks : AreWalksOf l.tables l.sums l.walks;
   below : (c : ℕ) → 1 ≤ c → c < l.customer
-      → g.C.Condition.holds_at (database l.tables) (record { warehouse = l.warehouse; district = l.district; customer = c });
+      → g.C.CustomerCondition.holds_at (database l.tables) (record { warehouse = l.warehouse; district = l.district; customer = c });
 }

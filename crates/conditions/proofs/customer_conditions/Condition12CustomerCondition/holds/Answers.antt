@@ -9,7 +9,7 @@ use Rattle.tables.specs.Database.{database}
 use Rattle.tables.specs.declared.rows.Customer.{Customer}
 use Rattle.tables.proofs.Orders.{exact_customer}
 use Rattle.conditions.proofs.Told.{walked, walked_amount, same_told}
-use Rattle.conditions.proofs.key_conditions.Condition12ConditionCustomerKey.holds.Goals as goal
+use Rattle.conditions.proofs.customer_conditions.Condition12CustomerCondition.holds.Goals as goal
 
 pub returns-clause-answer : goal.returns-clause-answer
 returns-clause-answer c =
@@ -24,5 +24,5 @@ returns-clause-answer c =
     omega (arith, ints, c.both.ensures, balance, paid) in
     let same : to_z w128 (of_z w128 c.amount_along-delivered.result) ≡ c.amount_along-delivered.result = omega (arith, ints) in
     same_told _ _ _ _ c.equal.ensures both
-    (same ∙ walked_amount customer_cmp c.args._sums.now.delivered c.args.key.now _ _ c.requires.walks.delivered c.amount_along-delivered.ensures.amount
-    ∙ c.requires.sums.delivered c.args.key.now)
+    (same ∙ walked_amount customer_cmp c.args._sums.now.lines.delivered c.args.key.now _ _ c.requires.walks.delivered c.amount_along-delivered.ensures.amount
+    ∙ c.requires.sums.lines.delivered c.args.key.now)

@@ -8,7 +8,7 @@ use Rattle.std.specs.Option.{option_map_or}
 use Rattle.tables.specs.declared.rows.Customer.{Customer}
 use Rattle.tables.proofs.Orders.{exact_customer}
 use Rattle.conditions.proofs.Told.{walked, same_told}
-use Rattle.conditions.proofs.key_conditions.Condition10ConditionCustomerKey.holds.Goals as goal
+use Rattle.conditions.proofs.customer_conditions.Condition10CustomerCondition.holds.Goals as goal
 
 pub returns-clause-answer : goal.returns-clause-answer
 returns-clause-answer c =
