@@ -2,14 +2,14 @@
 use Rattle.std.proofs.Common.{◌≡◌, ℕ, ◌+◌, ◌*◌, ◌^◌, ◌≤◌, ℤ, pos, neg_ℤ, ◌+ℤ◌, ◌-ℤ◌, ◌≤ℤ◌, ◌<ℤ◌, Bool, true, false, cond, Option, Some, unwrap_or, refl, sym, ap, ◌∙◌, arith}
 use Rattle.std.proofs.lemmas.Int.{ints}
 use Rattle.std.proofs.Math.IntN.{+ℤ_idr}
-use Rattle.std.specs.Ordering.{eq_by_cmp}
-use Rattle.std.specs.Cmp.{IsTotalOrder, eq_by_cmp_equiv}
+use Rattle.std.specs.Ordering.{eq_by_cmp, is_eq}
+use Rattle.std.specs.Cmp.{IsTotalOrder, eq_by_cmp_equiv, tied_itself}
 use Rattle.std.specs.HashMap.Eq.{lookup_congr}
 use Rattle.std.specs.BTreeMap as tree
 use Rattle.std.specs.BTreeMap.{BTreeMap}
 use Rattle.std.specs.declared.cmp.Ordering.{Ordering}
 use Rattle.conditions.specs.Amounts.{amount_at, share}
-use Rattle.conditions.specs.Running.{running_at, IsWithin}
+use Rattle.conditions.specs.Running.{held_at, running_at, IsWithin}
 use Rattle.conditions.specs.declared.running.Running.{Running}
 
 pub added : {K : Type 0} {R : K → K → Ordering} → IsTotalOrder R → (m n : BTreeMap K ℤ) (key : K) (a v : ℤ) → tree.Updates R m n key (Some v)
@@ -21,6 +21,13 @@ added {K} {R} o m n key a v h new k =
       | true ↦ λ t. new ∙ ap (λ (w : Option ℤ). unwrap_or w (pos 0) +ℤ a) (lookup_congr (eq_by_cmp R) (eq_by_cmp_equiv o).congr m.entries key k t)
       | false ↦ λ t. sym (+ℤ_idr (amount_at R m k))
     ] refl)
+
+-- what is held counts for its group
+pub held_here : {K : Type 0} {R : K → K → Ordering} → IsTotalOrder R → (s : Running K) (k : K) → s.group ≡ Some k
+    → running_at R s k ≡ amount_at R s.sums k +ℤ s.held
+held_here {R = R} o s k held =
+    ap (λ g. amount_at R s.sums k +ℤ held_at R g s.held k) held
+    ∙ ap (λ b. amount_at R s.sums k +ℤ share b s.held) (ap is_eq (tied_itself o k))
 
 -- what is held adds more
 pub held_more : (b : Bool) (rest held a more : ℤ) → more ≡ held +ℤ a → rest +ℤ share b more ≡ (rest +ℤ share b held) +ℤ share b a

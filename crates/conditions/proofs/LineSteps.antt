@@ -1,6 +1,5 @@
 -- The sums over ORDER-LINE, as a walk along it goes on.
 use Rattle.std.proofs.Common.{◌≡◌, ℕ, ◌+◌, ◌-◌, ◌≤◌, ℤ, pos, ◌+ℤ◌, List, [], ◌∷◌, length, refl, sym, ap, ◌∙◌, subst, arith}
-use Rattle.std.proofs.lemmas.Int.{ints}
 use Rattle.std.specs.BTreeMap as tree
 use Rattle.std.specs.FinMap.{from_entries}
 use Rattle.tables.specs.Keys.{district_cmp, customer_cmp, order_cmp, line_cmp, is_district, is_order}
@@ -24,7 +23,7 @@ use Rattle.conditions.specs.declared.lines.LinesUnderWay.{LinesUnderWay}
 use Rattle.conditions.specs.declared.lines.LineSums.{LineSums}
 use Rattle.conditions.specs.declared.shares.Delivered.{Delivered}
 use Rattle.conditions.proofs.Added.{within_weaker}
-use Rattle.conditions.proofs.SumSteps.{sum_entries_more, sum_entries_all}
+use Rattle.conditions.proofs.SumSteps.{sum_entries_none, sum_entries_more, sum_entries_all, none_passed}
 
 -- what a line adds to the sum of a district, of an order, and of a customer
 abbrev to_district : DistrictKey → LineKey → OrderLine → ℤ
@@ -46,24 +45,18 @@ pub record AreUnderWay (rows : List (OrderKey × Order)) (all left : List (LineK
   pub among : length left ≤ length all
   pub within : AreWithin s (length all - length left)
 
-from_zero : (sum all : ℤ) → sum ≡ pos 0 → sum +ℤ all ≡ all
-from_zero sum all none = omega (arith, ints, none)
-
 pub under_way_all : (orders : List (OrderKey × Order)) (all : List (LineKey × OrderLine)) (s : LinesUnderWay)
     → ((k : DistrictKey) → running_at district_cmp s.districts k ≡ pos 0) → ((k : OrderKey) → running_at order_cmp s.orders k ≡ pos 0)
     → ((k : CustomerKey) → running_at customer_cmp s.delivered k ≡ pos 0) → s.customers.orders ≡ orders → AreWithin s 0
     → AreUnderWay orders all all s
 under_way_all orders all s districts of_orders delivered customers within = record {
-  districts = λ k. from_zero _ (sum_entries (to_district k) all) (districts k);
-  orders = λ k. from_zero _ (sum_entries (to_order k) all) (of_orders k);
-  delivered = λ k. from_zero _ (sum_entries (to_customer orders k) all) (delivered k);
+  districts = λ k. sum_entries_none _ (sum_entries (to_district k) all) (districts k);
+  orders = λ k. sum_entries_none _ (sum_entries (to_order k) all) (of_orders k);
+  delivered = λ k. sum_entries_none _ (sum_entries (to_customer orders k) all) (delivered k);
   customers = customers;
   among = omega arith;
-  within = subst (AreWithin s) (none (length all)) within;
+  within = subst (AreWithin s) (none_passed (length all)) within;
 }
-  where
-    none : (n : ℕ) → 0 ≡ n - n
-    none n = omega arith
 
 pub lines_within : (s : LinesUnderWay) (n m : ℕ) → n ≤ m → AreWithin s n → AreWithin s m
 lines_within s n m le h = record {
