@@ -15,14 +15,14 @@ use Rattle.tables.specs.declared.rows.Order.{Order}
 use Rattle.tables.specs.declared.rows.OrderLine.{OrderLine}
 use Rattle.tables.proofs.Orders.{exact_line}
 use Rattle.tables.proofs.Totals.{total-view}
-use Rattle.conditions.specs.Amounts.{share}
-use Rattle.conditions.specs.Running.{running_at}
+use Rattle.walks.specs.Amounts.{share}
+use Rattle.walks.specs.Running.{running_at}
 use Rattle.conditions.specs.Lines.{AreWithin, IsLineAdded, AreClosed}
 use Rattle.conditions.specs.Sums.{AreLineSumsOf}
 use Rattle.conditions.specs.declared.lines.LinesUnderWay.{LinesUnderWay}
 use Rattle.conditions.specs.declared.lines.LineSums.{LineSums}
 use Rattle.conditions.specs.declared.shares.Delivered.{Delivered}
-use Rattle.conditions.proofs.Added.{within_weaker}
+use Rattle.walks.proofs.Added.{within_weaker}
 use Rattle.conditions.proofs.SumSteps.{sum_entries_none, sum_entries_more, sum_entries_all, none_passed}
 
 -- what a line adds to the sum of a district, of an order, and of a customer

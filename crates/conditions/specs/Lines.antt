@@ -8,8 +8,8 @@ use Rattle.tables.specs.declared.keys.CustomerKey.{CustomerKey}
 use Rattle.tables.specs.declared.keys.OrderKey.{OrderKey}
 use Rattle.tables.specs.declared.keys.LineKey.{LineKey}
 use Rattle.tables.specs.declared.rows.OrderLine.{OrderLine}
-use Rattle.conditions.specs.Amounts.{amount_at, AreBounded, share}
-use Rattle.conditions.specs.Running.{running_at, IsWithin}
+use Rattle.walks.specs.Amounts.{amount_at, AreBounded, share}
+use Rattle.walks.specs.Running.{running_at, IsWithin}
 use Rattle.conditions.specs.declared.lines.LinesUnderWay.{LinesUnderWay}
 use Rattle.conditions.specs.declared.lines.LineSums.{LineSums}
 

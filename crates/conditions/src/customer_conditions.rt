@@ -5,13 +5,13 @@ ghost use Rattle.tables.specs.Database.{Database, database};
 ghost use Rattle.tables.specs.Conditions.{Condition10At, Condition12At, delivered_amount, paid_by_customer};
 ghost use Rattle.tables.specs.declared.keys.CustomerKey.{CustomerKey as KeyOfCustomer};
 ghost use Rattle.conditions.specs.Sums.{AreSumsOf};
-ghost use Rattle.conditions.specs.Walks.{AreWalksOf};
+ghost use Rattle.conditions.specs.CustomerWalks.{AreWalksOf};
 
 use crate::amounts::{amount_along, difference, equal};
 use crate::columns::{balance, paid};
+use crate::customer_walks::CustomerWalks;
 use crate::key_conditions::amount;
 use crate::sums::Sums;
-use crate::walks::Walks;
 use money::Cents;
 use tables::{CustomerKey, Tables};
 
@@ -20,7 +20,7 @@ pub trait CustomerCondition {
     ghost holds_at: { Database → KeyOfCustomer → Type 0 };
 
     /// Whether it holds at a customer.
-    fn holds(tables: &Tables, sums: &Sums, walks: &mut Walks<'_>, key: &CustomerKey) -> bool
+    fn holds(tables: &Tables, sums: &Sums, walks: &mut CustomerWalks<'_>, key: &CustomerKey) -> bool
         requires sums { AreSumsOf (database tables.now) sums.now }
         requires walks { AreWalksOf tables.now sums.now walks.old }
         ensures walks { AreWalksOf tables.now sums.now walks.new }
@@ -33,7 +33,12 @@ pub struct Condition10;
 impl CustomerCondition for Condition10 {
     ghost holds_at = { Condition10At };
 
-    fn holds(tables: &Tables, sums: &Sums, walks: &mut Walks<'_>, key: &CustomerKey) -> bool {
+    fn holds(
+        tables: &Tables,
+        sums: &Sums,
+        walks: &mut CustomerWalks<'_>,
+        key: &CustomerKey,
+    ) -> bool {
         let owed = owed(tables, sums, walks, key);
         let balance = amount(balance(&mut walks.customers, key));
         equal(balance, owed)
@@ -46,7 +51,12 @@ pub struct Condition12;
 impl CustomerCondition for Condition12 {
     ghost holds_at = { Condition12At };
 
-    fn holds(_tables: &Tables, _sums: &Sums, walks: &mut Walks<'_>, key: &CustomerKey) -> bool {
+    fn holds(
+        _tables: &Tables,
+        _sums: &Sums,
+        walks: &mut CustomerWalks<'_>,
+        key: &CustomerKey,
+    ) -> bool {
         let balance = balance(&mut walks.customers, key);
         let paid = paid(&mut walks.customers, key);
         let delivered = amount_along(&mut walks.delivered, key);
@@ -55,7 +65,7 @@ impl CustomerCondition for Condition12 {
 }
 
 /// What was delivered to a customer minus what it paid.
-fn owed(tables: &Tables, sums: &Sums, walks: &mut Walks<'_>, key: &CustomerKey) -> i128
+fn owed(tables: &Tables, sums: &Sums, walks: &mut CustomerWalks<'_>, key: &CustomerKey) -> i128
     requires sums { AreSumsOf (database tables.now) sums.now }
     requires walks { AreWalksOf tables.now sums.now walks.old }
     ensures walks { AreWalksOf tables.now sums.now walks.new }

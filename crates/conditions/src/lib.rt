@@ -6,17 +6,15 @@ mod amounts;
 mod checks;
 mod columns;
 mod customer_conditions;
+mod customer_walks;
 mod key_conditions;
 mod lines;
 mod numbers;
 mod report;
 mod row_conditions;
-mod running;
 mod search;
 mod shares;
 mod sums;
-mod walk;
-mod walks;
 
 pub use checks::check;
 pub use report::Report;

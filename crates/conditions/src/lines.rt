@@ -6,12 +6,11 @@ ghost use Rattle.conditions.specs.Lines.{AreWithin, IsLineAdded, AreClosed};
 ghost use Rattle.conditions.specs.Sums.{AreLineSumsOf};
 
 use crate::amounts::add_row;
-use crate::running::Running;
 use crate::shares::{Delivered, DistrictLines, OrderLines};
-use crate::walk::Walk;
 use std::alloc::{AllocError, Global};
 use std::collections::BTreeMap;
 use tables::{CustomerKey, DistrictKey, LineKey, OrderKey, OrderLine, Tables};
+use walks::{Running, Walk};
 
 /// Sums over the rows of ORDER-LINE.
 #[derive(Drop)]

@@ -9,14 +9,14 @@ ghost use Rattle.tables.specs.Keys.{district_cmp, customer_cmp, IsWarehouseKey, 
 ghost use Rattle.tables.specs.Database.{database};
 ghost use Rattle.conditions.specs.Finds.{FindsLeast};
 ghost use Rattle.conditions.specs.Sums.{AreSumsOf};
-ghost use Rattle.conditions.specs.Walks.{AreWalksOf};
+ghost use Rattle.conditions.specs.CustomerWalks.{AreWalksOf};
 ghost use Rattle.conditions.specs.Steps.{FindsDistrictOf, FindsCustomerOf};
 
 use crate::customer_conditions::CustomerCondition;
+use crate::customer_walks::CustomerWalks;
 use crate::key_conditions::Condition;
 use crate::row_conditions::RowCondition;
 use crate::sums::Sums;
-use crate::walks::Walks;
 use std::collections::BTreeMap;
 use tables::{CustomerKey, DistrictKey, Tables};
 
@@ -78,7 +78,7 @@ pub fn least_customer<C: CustomerCondition>(tables: &Tables, sums: &Sums) -> Opt
     ensures { FindsLeast customer_cmp (IsCustomerKey (database tables.now).scale) (C.holds_at (database tables.now))
         result }
 {
-    let mut walks = Walks::new(tables, sums);
+    let mut walks = CustomerWalks::new(tables, sums);
     for warehouse in 1..=tables.scale.warehouses() {
         for district in 1..=tables.scale.districts() {
             if let Some(key) = least_customer_of::<C>(
@@ -95,7 +95,7 @@ pub fn least_customer<C: CustomerCondition>(tables: &Tables, sums: &Sums) -> Opt
 fn least_customer_of<C: CustomerCondition>(
     tables: &Tables,
     sums: &Sums,
-    walks: &mut Walks<'_>,
+    walks: &mut CustomerWalks<'_>,
     warehouse: u32,
     district: u32,
 ) -> Option<CustomerKey>

@@ -25,8 +25,7 @@ returns-clause-ok c = record {
 
 pub returns-clause-good : goal.returns-clause-good
 returns-clause-good c = λ holds.
-    let t = database c.args.tables.now in
-    (
+    let t = database c.args.tables.now in (
       finds_none nat_cmp (IsWarehouseKey t.scale) (Condition1At t) _ c.least_warehouse.ensures holds.condition_1,
       finds_none district_cmp (IsDistrictKey t.scale) (Condition2At t) _ c.least_district.ensures holds.condition_2,
       finds_none district_cmp (IsDistrictKey t.scale) (Condition3At t) _ c.least_district-2.ensures holds.condition_3,

@@ -1,7 +1,7 @@
 use Rattle.std.proofs.Common.{ℕ, ◌<◌, ◌≤◌}
 use Rattle.tables.specs.Sizes.{IsNumber}
 use Rattle.tables.specs.Database.{database}
-use Rattle.conditions.specs.Walks.{AreWalksOf}
+use Rattle.conditions.specs.CustomerWalks.{AreWalksOf}
 use Rattle.conditions.proofs.search.least_customer.Given as goal
 
 abbrev pub invariant-loop-warehouse : goal.invariant-loop-warehouse

@@ -1,6 +1,6 @@
 use Rattle.std.proofs.Common.{ℕ, ◌<◌, ◌≤◌}
 use Rattle.tables.specs.Database.{database}
-use Rattle.conditions.specs.Walks.{AreWalksOf}
+use Rattle.conditions.specs.CustomerWalks.{AreWalksOf}
 use Rattle.conditions.proofs.search.least_customer_of.Given as goal
 
 abbrev pub invariant-loop-customer : goal.invariant-loop-customer

@@ -18,7 +18,7 @@ loop-key-preserved g c =
     record {
       condition = c.if-not-holds.ensures.stays ∙ c.loop-key.invariant.condition;
       searched = searched_more o c.args.rows.now (g.C.RowCondition.holds_of c.args.condition.now) c.loop-key.key-iterator c.next.new.self
-          c.in-Some.key.now c.in-Some.row.now c.in-Some.ensures.steps c.loop-key.invariant.searched 
+          c.in-Some.key.now c.in-Some.row.now c.in-Some.ensures.steps c.loop-key.invariant.searched
           (subst (λ (s : g.row.C.Denot). g.C.RowCondition.holds_of s c.in-Some.key.now c.in-Some.row.now) c.loop-key.invariant.condition
           (c.if-not-holds.ensures.answer.0 refl));
     }
@@ -33,6 +33,6 @@ pub returns-then-not-holds : goal.returns-then-not-holds
 returns-then-not-holds g c =
     let o : IsExact g.K.Ord.cmp = record { total = g.met.K.Ord.total; same = c.requires } in
     searched_first o c.args.rows.now (g.C.RowCondition.holds_of c.args.condition.now) c.loop-key.key-iterator c.next.new.self c.in-Some.key.now
-    c.in-Some.row.now c.in-Some.ensures.steps c.loop-key.invariant.searched 
+    c.in-Some.row.now c.in-Some.ensures.steps c.loop-key.invariant.searched
     (λ t. true≢false (sym (c.if-not-holds.ensures.answer.1
     (subst (λ (s : g.row.C.Denot). g.C.RowCondition.holds_of s c.in-Some.key.now c.in-Some.row.now) (sym c.loop-key.invariant.condition) t))))

@@ -11,7 +11,7 @@ use Rattle.std.specs.BTreeMap.{is_at}
 use Rattle.std.specs.declared.cmp.Ordering.{Ordering}
 use Rattle.std.specs.declared.cmp.Ordering.TheVariants.{Less, Equal, Greater}
 use Rattle.std.proofs.lemmas.Map.Keys.{sorted_head, sorted_tail}
-use Rattle.conditions.specs.Walk.{IsPast, IsAfter, IsAlong, left}
+use Rattle.walks.specs.Walk.{IsPast, IsAfter, IsAlong, left}
 
 -- what an iterator's step takes is the first of what is left
 pub left_next : {A X : Type 0} (shows : A → X) (s t : List X) (r : Option A) → TakesFirst shows s r t → s ≡ left (option_map shows r) t

@@ -3,10 +3,10 @@ use Rattle.std.proofs.lemmas.Int.{ints}
 use mir.Syntax.{w128}
 use mir.Val.{to_z, of_z}
 use Rattle.std.specs.Ordering.{eq_by_cmp}
-use Rattle.conditions.specs.Amounts.{amount_at, share}
-use Rattle.conditions.specs.Running.{IsWithin}
-use Rattle.conditions.proofs.Added.{held_more, within_more}
-use Rattle.conditions.proofs.running.Running.add.Goals as goal
+use Rattle.walks.specs.Amounts.{amount_at, share}
+use Rattle.walks.specs.Running.{IsWithin}
+use Rattle.walks.proofs.Added.{held_more, within_more}
+use Rattle.walks.proofs.running.Running.add.Goals as goal
 
 pub plus-self-requires : goal.plus-self-requires
 plus-self-requires g c =

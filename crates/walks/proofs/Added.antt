@@ -8,9 +8,9 @@ use Rattle.std.specs.HashMap.Eq.{lookup_congr}
 use Rattle.std.specs.BTreeMap as tree
 use Rattle.std.specs.BTreeMap.{BTreeMap}
 use Rattle.std.specs.declared.cmp.Ordering.{Ordering}
-use Rattle.conditions.specs.Amounts.{amount_at, share}
-use Rattle.conditions.specs.Running.{held_at, running_at, IsWithin}
-use Rattle.conditions.specs.declared.running.Running.{Running}
+use Rattle.walks.specs.Amounts.{amount_at, share}
+use Rattle.walks.specs.Running.{held_at, running_at, IsWithin}
+use Rattle.walks.specs.declared.running.Running.{Running}
 
 pub added : {K : Type 0} {R : K → K → Ordering} → IsTotalOrder R → (m n : BTreeMap K ℤ) (key : K) (a v : ℤ) → tree.Updates R m n key (Some v)
     → v ≡ amount_at R m key +ℤ a

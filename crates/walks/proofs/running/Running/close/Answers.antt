@@ -1,7 +1,7 @@
 use Rattle.std.proofs.Common.{arith}
 use Rattle.std.proofs.lemmas.Int.{ints}
-use Rattle.conditions.proofs.Added.{within_weaker}
-use Rattle.conditions.proofs.running.Running.close.Goals as goal
+use Rattle.walks.proofs.Added.{within_weaker}
+use Rattle.walks.proofs.running.Running.close.Goals as goal
 
 pub put-requires : goal.put-requires
 put-requires g c = within_weaker g.G.Ord.cmp c.args.self _ _ (omega arith) c.requires

@@ -4,8 +4,8 @@
 ghost use Rattle.std.specs.Prelude.{IfOk, OnOk, ◌≡◌, ◌+◌, ◌-◌, ◌^◌, ℕ, ℤ, pos, neg_ℤ, ◌+ℤ◌, ◌≤ℤ◌, ◌<ℤ◌, false};
 ghost use Rattle.std.specs.Option.{option_map_or};
 ghost use Rattle.std.specs.Ordering.{eq_by_cmp};
-ghost use Rattle.conditions.specs.Amounts.{amount_at, AreBounded, share};
-ghost use Rattle.conditions.specs.Running.{held_at, running_at, IsWithin};
+ghost use Rattle.walks.specs.Amounts.{amount_at, AreBounded, share};
+ghost use Rattle.walks.specs.Running.{held_at, running_at, IsWithin};
 
 use std::alloc::{AllocError, Global};
 use std::cmp::Ordering;

@@ -3,9 +3,9 @@ use Rattle.std.proofs.lemmas.Int.{ints}
 use mir.Syntax.{w128}
 use mir.Val.{to_z, of_z}
 use Rattle.std.specs.BTreeMap.Entry.{map_with_value}
-use Rattle.conditions.specs.Amounts.{amount_at}
-use Rattle.conditions.proofs.Added.{added}
-use Rattle.conditions.proofs.running.add.Goals as goal
+use Rattle.walks.specs.Amounts.{amount_at}
+use Rattle.walks.proofs.Added.{added}
+use Rattle.walks.proofs.running.add.Goals as goal
 
 -- the entry's sum is written
 pub returns : goal.returns

@@ -6,7 +6,7 @@ ghost use Rattle.std.specs.BTreeMap as tree;
 ghost use Rattle.std.specs.BTreeMap.{is_at};
 ghost use Rattle.std.specs.Map.{lookup};
 ghost use Rattle.std.specs.Map.Iter.{deref};
-ghost use Rattle.conditions.specs.Walk.{IsPast};
+ghost use Rattle.walks.specs.Walk.{IsPast};
 
 use std::cmp::Ordering;
 use std::collections::BTreeMap;
@@ -30,7 +30,7 @@ impl<'a, K: Ord, X> Model for Walk<'a, K, X> {
     ghost use Rattle.std.specs.Option.{option_map};
     ghost use Rattle.std.specs.Prelude.{List};
     ghost use Rattle.std.specs.Map.Iter.{deref, deref_pair};
-    ghost use Rattle.conditions.specs.Walk.{IsAlong, left};
+    ghost use Rattle.walks.specs.Walk.{IsAlong, left};
 
     ghost Value = { List (K × X) };
 

@@ -1,8 +1,8 @@
 use Rattle.std.proofs.Common.{◌≡◌, length}
 use Rattle.std.specs.Option.{option_map}
 use Rattle.std.specs.Map.Iter.{deref, deref_pair}
-use Rattle.conditions.specs.Walk.{IsAlong, left}
-use Rattle.conditions.proofs.walk.Walk.get.Given as goal
+use Rattle.walks.specs.Walk.{IsAlong, left}
+use Rattle.walks.proofs.walk.Walk.get.Given as goal
 
 abbrev pub invariant-loop-self : goal.invariant-loop-self
 invariant-loop-self g l = record {

@@ -1,7 +1,7 @@
 use Rattle.std.proofs.Common.{arith}
 use Rattle.std.proofs.lemmas.Int.{ints}
-use Rattle.conditions.proofs.Added.{held_here}
-use Rattle.conditions.proofs.running.Running.put.Goals as goal
+use Rattle.walks.proofs.Added.{held_here}
+use Rattle.walks.proofs.running.Running.put.Goals as goal
 
 pub add-requires : goal.add-requires
 add-requires g c =

@@ -1,10 +1,10 @@
--- Sums by group under way. No public clause cites them.
+-- Sums by group under way.
 use Rattle.std.specs.Prelude.{◌*◌, ◌^◌, ℕ, ℤ, pos, neg_ℤ, ◌+ℤ◌, ◌≤ℤ◌, Option}
 use Rattle.std.specs.Option.{option_map_or}
 use Rattle.std.specs.Ordering.{eq_by_cmp}
 use Rattle.std.specs.declared.cmp.Ordering.{Ordering}
-use Rattle.conditions.specs.Amounts.{amount_at, share}
-use Rattle.conditions.specs.declared.running.Running.{Running}
+use Rattle.walks.specs.Amounts.{amount_at, share}
+use Rattle.walks.specs.declared.running.Running.{Running}
 
 module _ {K : Type 0} (R : K → K → Ordering) where
   -- what is held adds to the sum of its group

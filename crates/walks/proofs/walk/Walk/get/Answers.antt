@@ -1,9 +1,9 @@
 use Rattle.std.proofs.Common.{◌∷◌, sym, ◌∙◌, subst}
 use Rattle.std.specs.Option.{option_map}
 use Rattle.std.specs.Map.Iter.{deref, deref_pair}
-use Rattle.conditions.specs.Walk.{IsAlong, left}
-use Rattle.conditions.proofs.Walked.{left_next, along_next, along_below}
-use Rattle.conditions.proofs.walk.Walk.get.Goals as goal
+use Rattle.walks.specs.Walk.{IsAlong, left}
+use Rattle.walks.proofs.Walked.{left_next, along_next, along_below}
+use Rattle.walks.proofs.walk.Walk.get.Goals as goal
 
 pub searched-requires : goal.searched-requires
 searched-requires g c = λ past.

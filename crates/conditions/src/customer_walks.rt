@@ -1,25 +1,25 @@
 //! What the conditions that are asked of each customer look into.
 
-ghost use Rattle.conditions.specs.Walks.{AreWalksOf};
+ghost use Rattle.conditions.specs.CustomerWalks.{AreWalksOf};
 
 use crate::sums::Sums;
-use crate::walk::Walk;
 use tables::{Customer, CustomerKey, Tables};
+use walks::Walk;
 
 /// A walk along CUSTOMER and along each sum by customer, for the customers in order.
 #[derive(Drop)]
-pub struct Walks<'a> {
+pub struct CustomerWalks<'a> {
     pub customers: Walk<'a, CustomerKey, Customer>,
     pub history: Walk<'a, CustomerKey, i128>,
     pub delivered: Walk<'a, CustomerKey, i128>,
 }
 
-impl<'a> Walks<'a> {
+impl<'a> CustomerWalks<'a> {
     /// From where each begins.
-    pub fn new(tables: &'a Tables, sums: &'a Sums) -> Walks<'a>
+    pub fn new(tables: &'a Tables, sums: &'a Sums) -> CustomerWalks<'a>
         ensures { AreWalksOf tables.now sums.now result }
     {
-        Walks {
+        CustomerWalks {
             customers: Walk::new(&tables.customers),
             history: Walk::new(&sums.history.customers),
             delivered: Walk::new(&sums.lines.delivered),
