@@ -1,8 +1,6 @@
 mod SumSteps
-mod Added
-mod Lines
+mod Orderers
+mod LineSteps
 mod Numbered
 mod Told
 mod Searched
-mod Walked
-mod Counted

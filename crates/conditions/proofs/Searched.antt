@@ -1,5 +1,5 @@
 -- A search for the least key whose row fails a test: what the entries that are left still have to show.
-use Rattle.std.proofs.Common.{◌≡◌, ◌⊎◌, inl, inr, ⊎_elim, true, false, cond, Option, Some, None, IsSome, List, [], ◌∷◌, refl, sym, ap, ◌∙◌, subst}
+use Rattle.std.proofs.Common.{◌≡◌, ◌⊎◌, inl, inr, ⊎_elim, true, false, cond, Option, Some, None, IsSome, IsNone, List, [], ◌∷◌, refl, sym, ap, ◌∙◌, subst}
 use Rattle.std.specs.List.{AllByRecursion}
 use Rattle.std.specs.List.Sorted.{IsStrictlySortedBy}
 use Rattle.std.specs.Map.{keys_of, lookup}
@@ -15,6 +15,12 @@ use Rattle.std.proofs.lemmas.Map.Keys.{sorted_head, sorted_tail}
 use Rattle.tables.proofs.Orders.{IsExact}
 use Rattle.tables.proofs.Views.{get-view}
 use Rattle.conditions.specs.Finds.{FindsLeast}
+
+-- where the condition holds at each key, nothing is found
+pub finds_none : {K : Type 0} (R : K → K → Ordering) (IsKey HoldsAt : K → Type 0) (found : Option K) → FindsLeast R IsKey HoldsAt found
+    → ((k : K) → IsKey k → HoldsAt k) → IsNone found
+finds_none R IsKey HoldsAt None finds holds = refl
+finds_none R IsKey HoldsAt (Some k) finds holds = absurd (finds.1 (holds k finds.0))
 
 -- T holds of each row that isn't left
 pub record IsSearched {K X : Type 0} (R : K → K → Ordering) (m : BTreeMap K X) (T : K → X → Type 0) (left : List (K × X)) : Type 0 where
@@ -98,7 +104,14 @@ module _ {K X : Type 0} {R : K → K → Ordering} (o : IsExact R) where
             missing e = cc
 
   -- from `BTreeMap` to the finite map
-  pub finds-view : (m : BTreeMap K X) (T : K → X → Type 0) (found : Option K)
+  finds-view : (m : BTreeMap K X) (T : K → X → Type 0) (found : Option K)
       → FindsLeast R (λ k. IsSome (tree.get R m k)) (λ k. ForSome (tree.get R m k) (T k)) found
       → FindsLeast R (λ k. IsSome (get (from_entries {R = R} m.entries) k)) (λ k. ForSome (get (from_entries {R = R} m.entries) k) (T k)) found
   finds-view m T found = subst (λ (row : K → Option X). FindsLeast R (λ k. IsSome (row k)) (λ k. ForSome (row k) (T k)) found) (λ i k. sym (get-view o m k) i)
+
+  -- so where what each row is held against is told otherwise
+  pub finds_told : {A : Type 0} (m : BTreeMap K X) (T : A → K → X → Type 0) (a b : A) → a ≡ b → (found : Option K)
+      → FindsLeast R (λ k. IsSome (tree.get R m k)) (λ k. ForSome (tree.get R m k) (T a k)) found
+      → FindsLeast R (λ k. IsSome (get (from_entries {R = R} m.entries) k)) (λ k. ForSome (get (from_entries {R = R} m.entries) k) (T b k)) found
+  finds_told {A} m T a b same found finds = finds-view m (T b) found
+      (subst (λ (s : A). FindsLeast R (λ k. IsSome (tree.get R m k)) (λ k. ForSome (tree.get R m k) (T s k)) found) same finds)

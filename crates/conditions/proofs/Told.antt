@@ -7,7 +7,7 @@ use Rattle.std.specs.FinMap.{find, get, get-from_entries, from_entries}
 use Rattle.std.specs.declared.cmp.Ordering.{Ordering}
 use Rattle.tables.proofs.Orders.{IsExact}
 use Rattle.tables.proofs.Views.{get-view}
-use Rattle.conditions.specs.Amounts.{amount_at}
+use Rattle.walks.specs.Amounts.{amount_at}
 
 -- any function of what was found, or of nothing
 pub told : {K X A : Type 0} {R : K → K → Ordering} (o : IsExact R) (f : Option X → A) (m : BTreeMap K X) (k : K) (r : Option X) → r ≡ tree.get R m k
@@ -21,6 +21,11 @@ find-lookup R (e ∷ es) q = ap (cond (is_at (R q) e.0) (Some e.1)) (find-lookup
 -- the row of a table that a walk along its entries finds
 pub get-walked : {K X : Type 0} {R : K → K → Ordering} (o : IsExact R) (es : List (K × X)) (q : K) → get (from_entries {R = R} es) q ≡ lookup (is_at (R q)) es
 get-walked {R = R} o es q = get-from_entries o.total es q ∙ find-lookup R es q
+
+-- all of them
+pub walked_rows : {K X : Type 0} {R : K → K → Ordering} (o : IsExact R) (m : BTreeMap K X) (es : List (K × X)) → es ≡ m.entries
+    → ◌≡◌ {A = K → Option X} (λ q. lookup (is_at (R q)) es) (λ q. get (from_entries {R = R} m.entries) q)
+walked_rows {R = R} o m es along = λ i q. (ap (λ t. lookup (is_at (R q)) t) along ∙ sym (get-walked o m.entries q)) i
 
 -- any function of what it found, or of nothing
 pub walked : {K X A : Type 0} {R : K → K → Ordering} (o : IsExact R) (f : Option X → A) (m : BTreeMap K X) (k : K) (es : List (K × X)) (a : A) → es ≡ m.entries

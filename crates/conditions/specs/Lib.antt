@@ -1,10 +1,7 @@
 pub mod Finds
 pub mod Report
-pub mod Amounts
-pub mod Running
-pub mod Walk
-pub mod LineWalk
+pub mod Lines
 pub mod Numbers
 pub mod Sums
-pub mod Walks
+pub mod CustomerWalks
 pub mod Steps

@@ -5,17 +5,16 @@
 mod amounts;
 mod checks;
 mod columns;
+mod customer_conditions;
+mod customer_walks;
 mod key_conditions;
-mod line_walk;
+mod lines;
 mod numbers;
 mod report;
 mod row_conditions;
-mod running;
 mod search;
 mod shares;
 mod sums;
-mod walk;
-mod walks;
 
 pub use checks::check;
 pub use report::Report;

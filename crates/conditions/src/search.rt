@@ -4,21 +4,21 @@ ghost use Rattle.std.specs.Prelude.{◌≡◌, IsSome};
 ghost use Rattle.std.specs.Option.{ForSome};
 ghost use Rattle.std.specs.Ordering.{nat_cmp};
 ghost use Rattle.std.specs.BTreeMap as tree;
-ghost use Rattle.std.specs.FinMap.{get, IsAntisymmetric};
-ghost use Rattle.tables.specs.Keys.{district_cmp, customer_cmp, order_cmp, line_cmp, IsWarehouseKey, IsDistrictKey};
-ghost use Rattle.tables.specs.Keys.{IsCustomerKey};
+ghost use Rattle.std.specs.FinMap.{IsAntisymmetric};
+ghost use Rattle.tables.specs.Keys.{district_cmp, customer_cmp, IsWarehouseKey, IsDistrictKey, IsCustomerKey};
 ghost use Rattle.tables.specs.Database.{database};
 ghost use Rattle.conditions.specs.Finds.{FindsLeast};
 ghost use Rattle.conditions.specs.Sums.{AreSumsOf};
-ghost use Rattle.conditions.specs.Walks.{AreWalksOf};
+ghost use Rattle.conditions.specs.CustomerWalks.{AreWalksOf};
 ghost use Rattle.conditions.specs.Steps.{FindsDistrictOf, FindsCustomerOf};
 
+use crate::customer_conditions::CustomerCondition;
+use crate::customer_walks::CustomerWalks;
 use crate::key_conditions::Condition;
 use crate::row_conditions::RowCondition;
 use crate::sums::Sums;
-use crate::walks::Walks;
 use std::collections::BTreeMap;
-use tables::{CustomerKey, DistrictKey, LineKey, Order, OrderKey, OrderLine, Tables};
+use tables::{CustomerKey, DistrictKey, Tables};
 
 /// The least warehouse that breaks the condition.
 pub fn least_warehouse<C: Condition<u32>>(tables: &Tables, sums: &Sums) -> Option<u32>
@@ -26,9 +26,8 @@ pub fn least_warehouse<C: Condition<u32>>(tables: &Tables, sums: &Sums) -> Optio
     ensures { FindsLeast nat_cmp (IsWarehouseKey (database tables.now).scale) (C.holds_at (database tables.now))
         result }
 {
-    let mut walks = Walks::new(tables, sums);
     for warehouse in 1..=tables.scale.warehouses() {
-        if !C::holds(tables, sums, &mut walks, &warehouse) {
+        if !C::holds(tables, sums, &warehouse) {
             return Some(warehouse);
         }
     }
@@ -44,9 +43,8 @@ pub fn least_district<C: Condition<DistrictKey>>(
     ensures { FindsLeast district_cmp (IsDistrictKey (database tables.now).scale) (C.holds_at (database tables.now))
         result }
 {
-    let mut walks = Walks::new(tables, sums);
     for warehouse in 1..=tables.scale.warehouses() {
-        if let Some(key) = least_district_of::<C>(tables, sums, &mut walks, warehouse) {
+        if let Some(key) = least_district_of::<C>(tables, sums, warehouse) {
             return Some(key);
         }
     }
@@ -57,20 +55,17 @@ pub fn least_district<C: Condition<DistrictKey>>(
 fn least_district_of<C: Condition<DistrictKey>>(
     tables: &Tables,
     sums: &Sums,
-    walks: &mut Walks<'_>,
     warehouse: u32,
 ) -> Option<DistrictKey>
-    requires sums { AreSumsOf (database tables.now) sums.now }
-    requires walks { AreWalksOf tables.now sums.now walks.old }
-    ensures walks { AreWalksOf tables.now sums.now walks.new }
-    ensures finds { FindsDistrictOf warehouse tables.now.scale.districts (C.holds_at (database tables.now)) result }
+    requires { AreSumsOf (database tables.now) sums.now }
+    ensures { FindsDistrictOf warehouse tables.now.scale.districts (C.holds_at (database tables.now)) result }
 {
     for district in 1..=tables.scale.districts() {
         let key = DistrictKey {
             warehouse,
             district,
         };
-        if !C::holds(tables, sums, walks, &key) {
+        if !C::holds(tables, sums, &key) {
             return Some(key);
         }
     }
@@ -78,15 +73,12 @@ fn least_district_of<C: Condition<DistrictKey>>(
 }
 
 /// The least customer that breaks the condition.
-pub fn least_customer<C: Condition<CustomerKey>>(
-    tables: &Tables,
-    sums: &Sums,
-) -> Option<CustomerKey>
+pub fn least_customer<C: CustomerCondition>(tables: &Tables, sums: &Sums) -> Option<CustomerKey>
     requires { AreSumsOf (database tables.now) sums.now }
     ensures { FindsLeast customer_cmp (IsCustomerKey (database tables.now).scale) (C.holds_at (database tables.now))
         result }
 {
-    let mut walks = Walks::new(tables, sums);
+    let mut walks = CustomerWalks::new(tables, sums);
     for warehouse in 1..=tables.scale.warehouses() {
         for district in 1..=tables.scale.districts() {
             if let Some(key) = least_customer_of::<C>(
@@ -100,10 +92,10 @@ pub fn least_customer<C: Condition<CustomerKey>>(
 }
 
 /// The least customer of a district that breaks the condition.
-fn least_customer_of<C: Condition<CustomerKey>>(
+fn least_customer_of<C: CustomerCondition>(
     tables: &Tables,
     sums: &Sums,
-    walks: &mut Walks<'_>,
+    walks: &mut CustomerWalks<'_>,
     warehouse: u32,
     district: u32,
 ) -> Option<CustomerKey>
@@ -126,44 +118,17 @@ fn least_customer_of<C: Condition<CustomerKey>>(
     None
 }
 
-/// The least order whose ORDER row breaks the condition.
-pub fn least_order<C: RowCondition<OrderKey, Order>>(
-    tables: &Tables,
-    sums: &Sums,
-) -> Option<OrderKey>
-    requires { AreSumsOf (database tables.now) sums.now }
-    ensures { FindsLeast order_cmp (λ k. IsSome (get (database tables.now).orders k))
-        (λ k. ForSome (get (database tables.now).orders k) (C.holds_of (database tables.now) k)) result }
-{
-    least_row::<OrderKey, Order, C>(tables, sums, &tables.orders)
-}
-
-/// The least line whose ORDER-LINE row breaks the condition.
-pub fn least_line<C: RowCondition<LineKey, OrderLine>>(
-    tables: &Tables,
-    sums: &Sums,
-) -> Option<LineKey>
-    requires { AreSumsOf (database tables.now) sums.now }
-    ensures { FindsLeast line_cmp (λ k. IsSome (get (database tables.now).lines k))
-        (λ k. ForSome (get (database tables.now).lines k) (C.holds_of (database tables.now) k)) result }
-{
-    least_row::<LineKey, OrderLine, C>(tables, sums, &tables.lines)
-}
-
 /// The least key of a table whose row breaks the condition.
-fn least_row<K: Ord + Copy, X, C: RowCondition<K, X>>(
-    tables: &Tables,
-    sums: &Sums,
+pub fn least_row<K: Ord + Copy, X, C: RowCondition<K, X>>(
+    condition: &mut C,
     rows: &BTreeMap<K, X>,
 ) -> Option<K>
-    requires sums { AreSumsOf (database tables.now) sums.now }
-    requires exact { IsAntisymmetric K.cmp }
+    requires { IsAntisymmetric K.cmp }
     ensures { FindsLeast K.cmp (λ k. IsSome (tree.get K.cmp rows.now k))
-        (λ k. ForSome (tree.get K.cmp rows.now k) (C.holds_of (database tables.now) k)) result }
+        (λ k. ForSome (tree.get K.cmp rows.now k) (C.holds_of condition.old k)) result }
 {
-    let mut walks = Walks::new(tables, sums);
     for (key, row) in rows.iter() {
-        if !C::holds(tables, sums, &mut walks, key, row) {
+        if !condition.holds(key, row) {
             return Some(*key);
         }
     }

@@ -3,13 +3,13 @@
 ghost use Rattle.std.specs.Prelude.{◌≡◌, pos, ◌==◌, false, IfSome, IfNone};
 ghost use Rattle.std.specs.Ordering.{eq_by_cmp};
 ghost use Rattle.std.specs.FinMap.{from_entries};
-ghost use Rattle.tables.specs.Keys.{customer_cmp, order_cmp, is_district, is_customer};
+ghost use Rattle.tables.specs.Keys.{customer_cmp, order_cmp, is_district, is_customer, is_order};
 ghost use Rattle.tables.specs.Conditions.{is_line_of};
 ghost use Rattle.tables.specs.declared.keys.CustomerKey.{CustomerKey as KeyOfCustomer};
 
 use crate::amounts::Share;
-use crate::walk::Walk;
 use tables::{CustomerKey, District, DistrictKey, History, LineKey, Order, OrderKey, OrderLine};
+use walks::Walk;
 
 /// D_YTD, by warehouse.
 #[derive(Drop)]
@@ -69,6 +69,30 @@ impl Share<LineKey, OrderLine> for DistrictLines {
         Some(DistrictKey {
             warehouse: key.warehouse,
             district: key.district,
+        })
+    }
+
+    fn amount_of(_row: &OrderLine) -> i64 {
+        1
+    }
+}
+
+/// The number of ORDER-LINE rows, by order.
+#[derive(Drop)]
+pub struct OrderLines;
+
+impl Share<LineKey, OrderLine> for OrderLines {
+    type Group = OrderKey;
+
+    ghost is_of = { λ s g k r. is_order k.warehouse k.district k.order g };
+
+    ghost amount = { λ r. pos 1 };
+
+    fn group(&mut self, key: &LineKey, _row: &OrderLine) -> Option<OrderKey> {
+        Some(OrderKey {
+            warehouse: key.warehouse,
+            district: key.district,
+            order: key.order,
         })
     }
 

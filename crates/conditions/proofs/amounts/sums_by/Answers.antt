@@ -1,9 +1,10 @@
-use Rattle.std.proofs.Common.{◌≡◌, ◌+◌, ◌-◌, ◌∙◌, ap, length, subst, arith}
+use Rattle.std.proofs.Common.{◌≡◌, ◌+◌, ◌-◌, ◌∙◌, ap, length, refl, subst, arith}
+use Rattle.std.proofs.lemmas.Result.{IfOk-weaker}
 use Rattle.std.specs.BTreeMap.{btree_map_len}
-use Rattle.conditions.specs.Amounts.{share}
-use Rattle.conditions.specs.Running.{IsWithin}
-use Rattle.conditions.proofs.Added.{within_weaker}
-use Rattle.conditions.proofs.SumSteps.{sum_entries_more}
+use Rattle.walks.specs.Amounts.{share}
+use Rattle.walks.specs.Running.{IsWithin}
+use Rattle.walks.proofs.Added.{within_weaker}
+use Rattle.conditions.proofs.SumSteps.{sum_entries_none, sum_entries_more, sum_entries_all, none_passed}
 use Rattle.conditions.proofs.amounts.sums_by.Goals as goal
 
 pub add_row-requires : goal.add_row-requires
@@ -27,3 +28,20 @@ loop-key-preserved g c =
 
 pub close-requires : goal.close-requires
 close-requires g c = within_weaker g.S.Group.Ord.cmp c.loop-key.sums _ _ (omega arith) c.loop-key.invariant.within
+
+pub loop-key-init : goal.loop-key-init
+loop-key-init g c = rw (c.into_iter-key-iterator.ensures.into_iter_gives, c.iter-key-items.ensures.rest) (record {
+  by = refl;
+  sums = λ k. sum_entries_none _ _ (c.new-sums.ensures.nothing k);
+  left = omega arith;
+  within = subst (IsWithin g.S.Group.Ord.cmp c.new-sums.result) (none_passed (btree_map_len c.args.rows.now)) c.new-sums.ensures.within;
+})
+
+pub returns : goal.returns
+returns g c = record {
+  sums = IfOk-weaker c.close.result _ _ (λ sums closed k. closed k
+      ∙ sum_entries_all (λ (j : g.row.K.Denot) (r : g.row.X.Denot). share (g.S.Share.is_of c.args.by.now k j r) (g.S.Share.amount r))
+      c.args.rows.now.entries c.loop-key.key-iterator _ c.in-None.ensures.steps.0 (c.loop-key.invariant.sums k)) c.close.ensures.sums;
+  bound = c.close.ensures.bound;
+  ordered = c.iter-key-items.ensures.ordered;
+}

@@ -4,7 +4,7 @@ use Rattle.tables.specs.Keys.{order_of}
 use Rattle.tables.proofs.Orders.{exact_order}
 use Rattle.tables.proofs.KeyTests.{is_customer-key}
 use Rattle.conditions.proofs.Told.{get-walked}
-use Rattle.conditions.proofs.Lines.{no_order, line_of_orderer}
+use Rattle.conditions.proofs.Orderers.{no_order, line_of_orderer}
 use Rattle.conditions.proofs.shares.DeliveredShareLineKeyOrderLine.group.Goals as goal
 
 pub returns-in_default-clause-none : goal.returns-in_default-clause-none

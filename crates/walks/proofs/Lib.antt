@@ -1,0 +1,2 @@
+pub mod Added
+mod Walked
