@@ -44,11 +44,7 @@ pub(crate) fn count<V>(entries: &[(u32, V)], order: &[(u32, u32)]) -> usize
 }
 
 /// The value at a place in the order. Takes constant time.
-pub(crate) fn value_in<'a, V>(
-    entries: &'a [(u32, V)],
-    order: &[(u32, u32)],
-    at: usize,
-) -> &'a V
+pub(crate) fn value_in<'a, V>(entries: &'a [(u32, V)], order: &[(u32, u32)], at: usize) -> &'a V
     requires arrivals { AreArrivals entries.now order.now }
     requires inside { at < length (in_order entries.now order.now) }
     ensures { (d : ℕ × V) → result.now ≡ (get_or (in_order entries.now order.now) at d).1 }

@@ -5,8 +5,8 @@ ghost use Rattle.std.specs.Map.{keys_of};
 ghost use Rattle.std.specs.List.Sorted.{IsStrictlySortedBy};
 ghost use Rattle.readset.specs.Writes.{no_writes, value_for, puts, left_at};
 
-use crate::list::WriteList;
 use crate::arrivals::{add, count, find, make_room, ordered, replace, value_at};
+use crate::list::WriteList;
 use crate::reads::{ReadSet, value_of};
 use money::{Payload, Refusal};
 use std::alloc::Global;

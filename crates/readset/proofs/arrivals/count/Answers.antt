@@ -1,4 +1,3 @@
-use Rattle.std.proofs.Common.{sym, ◌∙◌, arith}
 use Rattle.readset.proofs.Ordered.{is_listed, ordered_length}
 use Rattle.readset.proofs.arrivals.count.Goals as goal
 

@@ -1,4 +1,4 @@
-use Rattle.std.proofs.Common.{sym, ◌∙◌, arith}
+use Rattle.std.proofs.Common.{◌∙◌}
 use Rattle.readset.proofs.Ordered.{is_listed, ordered_keys, ordered_place}
 use Rattle.readset.proofs.arrivals.find.Goals as goal
 

@@ -1,4 +1,4 @@
-use Rattle.readset.proofs.Ordered.{none_arrive, none_in_order}
+use Rattle.readset.proofs.Ordered.{none_arrive}
 use Rattle.readset.proofs.writes.WriteSet.new.Goals as goal
 
 pub invariant_of-result : goal.invariant_of-result
