@@ -68,13 +68,13 @@ impl RunningSums {
         let counted = counted_records(&self.scale);
         let count = record_count(&self.scale);
         for number in 0..count {
-            self.count_record(newest, counted, number);
+            self.count_record(newest, &counted, number);
         }
     }
 
     /// Counts a record, which wasn't counted.
-    fn count_record(&mut self, newest: &[Newest], counted: Counted, number: u32)
-        requires counted { counted ≡ counted_in self.old.scale }
+    fn count_record(&mut self, newest: &[Newest], counted: &Counted, number: u32)
+        requires counted { counted.now ≡ counted_in self.old.scale }
         requires number { number < record_count self.old.scale }
         requires newest { length newest.now ≡ record_count self.old.scale }
         requires buyers { HasBuyers self.old.scale (held_in newest.now) }

@@ -118,11 +118,11 @@ pub fn counted_records(scale: &Scale) -> Counted
 }
 
 /// Whether a record isn't among them.
-pub fn is_past(counted: Counted, number: u32) -> bool
-    ensures past { IsTrue result → IsPast counted number }
-    ensures first { IsFalse result → counted.first_district ≤ number }
-    ensures between { IsFalse result → counted.end_districts ≤ number → counted.first_new_order ≤ number }
-    ensures end { IsFalse result → number < counted.end_lines }
+pub fn is_past(counted: &Counted, number: u32) -> bool
+    ensures past { IsTrue result → IsPast counted.now number }
+    ensures first { IsFalse result → counted.now.first_district ≤ number }
+    ensures between { IsFalse result → counted.now.end_districts ≤ number → counted.now.first_new_order ≤ number }
+    ensures end { IsFalse result → number < counted.now.end_lines }
 {
     number < counted.first_district
         || (counted.end_districts <= number && number < counted.first_new_order)

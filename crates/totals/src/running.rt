@@ -221,7 +221,7 @@ impl RunningSums {
     {
         let counted = counted_records(&self.scale);
         for (number, value) in writes.values() {
-            self.follow_record(newest, counted, *number, value);
+            self.follow_record(newest, &counted, *number, value);
         }
     }
 
@@ -246,11 +246,11 @@ impl RunningSums {
     fn follow_record(
         &mut self,
         newest: &[Newest],
-        counted: Counted,
+        counted: &Counted,
         number: u32,
         new: &Option<Payload>,
     )
-        requires counted { counted ≡ counted_in self.old.scale }
+        requires counted { counted.now ≡ counted_in self.old.scale }
         requires number { number < record_count self.old.scale }
         requires newest { length newest.now ≡ record_count self.old.scale }
         requires buyers { HasBuyers self.old.scale (held_in newest.now) }
@@ -271,15 +271,15 @@ impl RunningSums {
     pub(crate) fn move_record(
         &mut self,
         newest: &[Newest],
-        counted: Counted,
+        counted: &Counted,
         number: u32,
         old: Option<&Payload>,
         new: Option<&Payload>,
     )
-        requires counted { counted ≡ counted_in self.old.scale }
-        requires first { counted.first_district ≤ number }
-        requires between { counted.end_districts ≤ number → counted.first_new_order ≤ number }
-        requires end { number < counted.end_lines }
+        requires counted { counted.now ≡ counted_in self.old.scale }
+        requires first { counted.now.first_district ≤ number }
+        requires between { counted.now.end_districts ≤ number → counted.now.first_new_order ≤ number }
+        requires end { number < counted.now.end_lines }
         requires newest { length newest.now ≡ record_count self.old.scale }
         requires buyers { HasBuyers self.old.scale (held_in newest.now) }
         ensures scale { self.new.scale ≡ self.old.scale }
