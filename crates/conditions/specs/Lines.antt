@@ -22,9 +22,11 @@ pub record AreWithin (s : LinesUnderWay) (n : ℕ) : Type 0 where
 -- with what a line adds
 pub record IsLineAdded (s s' : LinesUnderWay) (j : LineKey) (line : OrderLine) : Type 0 where
   pub districts : (k : DistrictKey)
-      → running_at district_cmp s'.districts k ≡ running_at district_cmp s.districts k +ℤ share (is_district j.warehouse j.district k) (pos 1)
+      → running_at district_cmp s'.districts k
+      ≡ running_at district_cmp s.districts k +ℤ share (is_district j.warehouse j.district k) (pos 1)
   pub orders : (k : OrderKey)
-      → running_at order_cmp s'.orders k ≡ running_at order_cmp s.orders k +ℤ share (is_order j.warehouse j.district j.order k) (pos 1)
+      → running_at order_cmp s'.orders k
+      ≡ running_at order_cmp s.orders k +ℤ share (is_order j.warehouse j.district j.order k) (pos 1)
   pub delivered : (k : CustomerKey) → running_at customer_cmp s'.delivered k ≡ running_at customer_cmp s.delivered k
       +ℤ share (is_line_of (from_entries {R = order_cmp} s.customers.orders) k j line) line.amount
   pub customers : s'.customers ≡ s.customers

@@ -12,13 +12,13 @@ pub add_line-requires : goal.add_line-requires
 add_line-requires c = lines_within c.loop-key.sums _ _ (omega arith) c.loop-key.invariant.within
 
 pub loop-key-preserved : goal.loop-key-preserved
-loop-key-preserved c = under_way_more c.args.tables.now.orders.entries c.args.tables.now.lines.entries c.loop-key.key-iterator c.next.new.self
-    c.in-Some.key.now c.in-Some.row.now c.loop-key.sums c.add_line.new.sums c.in-Some.ensures.steps c.loop-key.invariant
+loop-key-preserved c = under_way_more c.args.tables.now.orders.entries c.args.tables.now.lines.entries
+    c.loop-key.key-iterator c.next.new.self c.in-Some.key.now c.in-Some.row.now c.loop-key.sums c.add_line.new.sums c.in-Some.ensures.steps c.loop-key.invariant
     c.in_ok-add_line.ensures.added c.in_ok-add_line.ensures.within
 
 pub close-requires : goal.close-requires
 close-requires c = lines_within c.loop-key.sums _ _ (omega arith) c.loop-key.invariant.within
 
 pub returns : goal.returns
-returns c = IfOk-weaker c.close.result _ _ (λ sums closed. line_sums c.args.tables.now c.loop-key.key-iterator c.loop-key.sums sums
-    c.iter-key-items.ensures.ordered c.in-None.ensures.steps.0 c.loop-key.invariant closed) c.close.ensures
+returns c = IfOk-weaker c.close.result _ _ (λ sums closed. line_sums c.args.tables.now c.loop-key.key-iterator
+    c.loop-key.sums sums c.iter-key-items.ensures.ordered c.in-None.ensures.steps.0 c.loop-key.invariant closed) c.close.ensures

@@ -10,4 +10,5 @@ use Rattle.conditions.proofs.row_conditions.Condition5.least.Goals as goal
 pub returns : goal.returns
 returns c = finds_told exact_order c.args.tables.now.orders
     (λ (row : OrderKey → Option NewOrder) (k : OrderKey) (order : Order). is_none order.carrier ≡ is_some (row k)) _ _
-    (walked_rows exact_order c.args.tables.now.new_orders c.new.result c.new.ensures) c.least_row.result c.least_row.ensures
+    (walked_rows exact_order c.args.tables.now.new_orders c.new.result c.new.ensures) c.least_row.result
+    c.least_row.ensures
