@@ -1,6 +1,7 @@
 //! What the book answers of a district's totals: of the small population, and after a New-Order, a Payment and a
 //! Delivery.
-ghost use Rattle.std.specs.Prelude.{◌≡◌};
+ghost use Rattle.std.specs.Prelude.{◌≡◌, IfSome};
+ghost use Rattle.tables.specs.Keys.{IsDistrictKey};
 ghost use Rattle.book.specs.Parts.{IsFresh, IsRunOf, ledger_name, ledger_parts};
 
 use crate::engine::{attempt, parts};
@@ -11,27 +12,33 @@ use std::alloc::Global;
 use std::marker::Brand;
 use std::sync::Wait;
 use std::test::Fail;
-use tables::DistrictKey;
+use tables::{DistrictKey, Scale};
 use totals::DistrictTotals;
 
 /// The totals of the first district and of the second.
 type Both = [DistrictTotals; 2];
 
-fn totals_of<K: Run, R: Wait>(rt: &R, engine: &Engine<K>) -> Result<Both, Refusal> {
-    let scale = engine.population().scale();
+/// The keys of both, where there are two.
+fn keys_of(scale: &Scale) -> Option<(DistrictKey, DistrictKey)>
+    ensures first { IfSome result (λ keys. IsDistrictKey scale.now keys.0) }
+    ensures second { IfSome result (λ keys. IsDistrictKey scale.now keys.1) }
+{
     if scale.warehouses() < 1 || scale.districts() < 2 {
-        return Err(Refusal::BadScale);
+        return None;
     }
+    let key = |district: u32| DistrictKey {
+        warehouse: 1,
+        district,
+    };
+    Some((key(1), key(2)))
+}
+
+fn totals_of<K: Run, R: Wait>(rt: &R, engine: &Engine<K>) -> Result<Both, Refusal> {
+    let Some((first, second)) = keys_of(&engine.population().scale()) else {
+        return Err(Refusal::BadScale);
+    };
     let book = engine.lock(rt);
-    let first = book.totals(DistrictKey {
-        warehouse: 1,
-        district: 1,
-    });
-    let second = book.totals(DistrictKey {
-        warehouse: 1,
-        district: 2,
-    });
-    Ok([first, second])
+    Ok([book.totals(first), book.totals(second)])
 }
 
 /// The totals once the terminal has committed what it asks for.
