@@ -37,3 +37,5 @@ mod stage;
 mod streams_tests;
 #[cfg(test)]
 mod told;
+#[cfg(test)]
+mod totals_tests;
