@@ -40,14 +40,6 @@ pub share_bounded : (b : Bool) (a before after : ℤ) → neg_ℤ (pos (2 ^ 63))
 share_bounded true a before after low high is = (omega (arith, ints), omega (arith, ints))
 share_bounded false a before after low high is = (omega (arith, ints), omega (arith, ints))
 
--- a row of another group adds nothing
-pub share_none : (b : Bool) (a before : ℤ) → b ≡ false → before ≡ before +ℤ share b a
-share_none b a before other = sym (+ℤ_idr before) ∙ ap (λ t. before +ℤ share t a) (sym other)
-
--- the same amount, to the same groups
-pub share_same : (b b' : Bool) (a a' before after : ℤ) → b ≡ b' → a' ≡ a → after ≡ before +ℤ share b' a' → after ≡ before +ℤ share b a
-share_same b b' a a' before after group amount is = is ∙ (λ i. before +ℤ share (sym group i) (amount i))
-
 -- so where none was further from 0 than n amounts, none is further than one more
 pub within_more : {K : Type 0} (R : K → K → Ordering) (s s' : Running K) (n : ℕ) (b : K → Bool) (a : ℤ) → neg_ℤ (pos (2 ^ 63)) ≤ℤ a → a <ℤ pos (2 ^ 63)
     → IsWithin R s n → ((k : K) → running_at R s' k ≡ running_at R s k +ℤ share (b k) a)

@@ -1,7 +1,6 @@
 -- A walk along a map: how it goes on, and what it finds.
-use Rattle.std.proofs.Common.{◌≡◌, false, cond, Option, Some, None, List, [], ◌∷◌, refl, sym, ap, ◌∙◌}
+use Rattle.std.proofs.Common.{◌≡◌, false, cond, Option, Some, None, List, [], ◌∷◌, refl, ap, ◌∙◌}
 use Rattle.std.specs.List.{AllByRecursion}
-use Rattle.std.specs.List.Sorted.{IsStrictlySortedBy}
 use Rattle.std.specs.Map.{keys_of, lookup}
 use Rattle.std.specs.Map.Iter.{TakesFirst}
 use Rattle.std.specs.Option.{option_map}
@@ -38,14 +37,6 @@ module _ {K X : Type 0} {R : K → K → Ordering} (o : IsTotalOrder R) where
   lower j k (e ∷ es) below h = (o.trans j k e.0 below h.0, lower j k es below h.1)
 
   module _ (all : List (K × X)) where
-    pub along_all : IsStrictlySortedBy R (keys_of all) → (passed : Option K) → passed ≡ None → IsAlong R all passed all
-    along_all sorted None e = record { ahead = λ q p. refl; within = λ q x h. h; after = first all; sorted = sorted }
-      where
-        first : (es : List (K × X)) → IsAfter R None es
-        first [] = tt
-        first (e ∷ es) = tt
-    along_all sorted (Some p) e = absurd cc
-
     -- one entry is passed
     pub along_next : (passed : Option K) (k : K) (x : X) (es : List (K × X)) → IsAlong R all passed ((k, x) ∷ es) → IsAlong R all (Some k) es
     along_next passed k x es h = record {
@@ -74,17 +65,8 @@ module _ {K X : Type 0} {R : K → K → Ordering} (o : IsTotalOrder R) where
             missing : lookup (is_at (R q)) es ≡ None → lookup (is_at (R q)) es ≡ Some y → ⊥
             missing n s = cc
 
-    -- the next entry is at the key
-    pub along_found : (passed : Option K) (k q : K) (x : X) (es : List (K × X)) → IsAlong R all passed ((k, x) ∷ es) → R q k ≡ Equal
-        → Some x ≡ lookup (is_at (R q)) all
-    along_found passed k q x es h at = sym (h.within q x (ap (λ r. cond (is_eq r) (Some x) (lookup (is_at (R q)) es)) at))
-
     -- the next entry is above the key
     pub along_below : (passed : Option K) (k q : K) (x : X) (es : List (K × X)) → IsAlong R all passed ((k, x) ∷ es) → R q k ≡ Less
         → IsPast R passed q → lookup (is_at (R q)) all ≡ None
     along_below passed k q x es h below p =
         h.ahead q p ∙ above q ((k, x) ∷ es) (below, lower q k es below (sorted_head R k (keys_of es) h.sorted))
-
-    -- there is no next entry
-    pub along_end : (passed : Option K) (q : K) (es : List (K × X)) → es ≡ [] → IsAlong R all passed es → IsPast R passed q → lookup (is_at (R q)) all ≡ None
-    along_end passed q es none h p = h.ahead q p ∙ ap (λ t. lookup (is_at (R q)) t) none
