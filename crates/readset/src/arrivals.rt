@@ -12,6 +12,7 @@ ghost use Rattle.readset.specs.Arrivals.{AreArrivals, in_order};
 
 use crate::places::place_of;
 use money::Refusal;
+use std::alloc::Global;
 
 /// The place of a number in the order, or else the place where it would go. Takes constant time for a number above all
 /// others, as most are of a transaction that goes through its records in their order; else the logarithm of how many
@@ -92,7 +93,10 @@ pub(crate) fn make_room<V>(
     if entries.len() >= u32::MAX as usize {
         return Err(Refusal::OutOfMemory);
     }
-    entries.reserve(1)?;
+    // A dozen first, as a short transaction needs, and then four times as many: growing was a tenth of a long one.
+    if entries.capacity() <= entries.len() {
+        entries.reserve(entries.len() * 3 + 12)?;
+    }
     if order.is_empty() {
         if at == entries.len() {
             return Ok(());
@@ -113,8 +117,8 @@ fn list_order<V>(entries: &[(u32, V)], order: &mut Vec<(u32, u32)>) -> Result<()
     ensures listed { OnOk result (order.new.items ≡ [] → entries.now ≡ []) }
     ensures only_memory { IfErr result (λ refusal. refusal ≡ OutOfMemory) }
 {
-    // Room for as many again, since more will come.
-    order.reserve(entries.len() + entries.len() + 1)?;
+    // More will come: a block of 1 KB costs no more than a small one.
+    order.reserve(entries.len() + 96)?;
     for place in 0..entries.len() {
         let Ok(()) = order.push((entries[place].0, place as u32)) else {
             order.clear();
@@ -210,23 +214,20 @@ pub(crate) fn replace<V: Copy>(
     Ok(())
 }
 
-/// The entries in the order of their numbers, in memory for just these. In one pass over them.
+/// The entries in the order of their numbers, in memory for just these: what they came in is soon used again. In one
+/// pass over them.
 pub(crate) fn ordered<V: Copy>(
-    entries: Vec<(u32, V)>,
+    alloc: Global,
+    entries: &[(u32, V)],
     order: &[(u32, u32)],
 ) -> Result<Vec<(u32, V)>, Refusal>
-    requires { AreArrivals entries.items order.now }
-    ensures ordered { IfOk result (λ list. list.items ≡ in_order entries.items order.now) }
+    requires { AreArrivals entries.now order.now }
+    ensures ordered { IfOk result (λ list. list.items ≡ in_order entries.now order.now) }
     ensures only_memory { IfErr result (λ refusal. refusal ≡ OutOfMemory) }
 {
-    let mut entries = entries;
-    if order.is_empty() {
-        entries.shrink_to_fit();
-        return Ok(entries);
-    }
-    let mut list = Vec::with_capacity(*entries.allocator(), order.len())?;
-    let entries = entries.as_slice();
-    for place in 0..order.len() {
+    let count = count(entries, order);
+    let mut list = Vec::with_capacity(alloc, count)?;
+    for place in 0..count {
         let Ok(()) = list.push(entry_in(entries, order, place)) else {
             return Err(Refusal::OutOfMemory);
         };

@@ -124,11 +124,8 @@ impl WriteSet {
         ensures list { IfOk result (λ list. list ≡ self) }
         ensures only_memory { IfErr result (λ refusal. refusal ≡ OutOfMemory) }
     {
-        let WriteSet {
-            values,
-            order,
-            history_row,
-        } = self;
-        Ok(WriteList::new(ordered(values, &order)?, history_row))
+        let alloc = *self.values.allocator();
+        let values = ordered(alloc, self.values.as_slice(), self.order.as_slice())?;
+        Ok(WriteList::new(values, self.history_row))
     }
 }
