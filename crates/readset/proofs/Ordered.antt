@@ -74,16 +74,6 @@ module _ {X : Type 0} where
   ordered_length [] (o ∷ order) some h = absurd (no_place (o ∷ order) some h.places)
   ordered_length (e ∷ es) (o ∷ order) some h = sym (length-map (o ∷ order) (taken (e ∷ es) e))
 
-  pub ordered_value : (es : List (ℕ × X)) (order : List (ℕ × ℕ)) (at : ℕ) (p : ℕ × ℕ) (x d : ℕ × X) → 0 < length order → AreArrivals es order → at < length order
-      → p ≡ get_or order at p → x ≡ get_or es p.1 x → (get_or (in_order es order) at d).1 ≡ x.1
-  ordered_value es [] at p x d some h inside is_p is_x = absurd (omega (arith, some))
-  ordered_value [] (o ∷ order) at p x d some h inside is_p is_x = absurd (no_place (o ∷ order) some h.places)
-  ordered_value (e ∷ es) (o ∷ order) at p x d some h inside is_p is_x =
-      let within : p.1 < length (e ∷ es) = subst (λ (q : ℕ × ℕ). q.1 < length (e ∷ es)) (sym is_p) (h.places at p inside) in
-      ap (λ (q : ℕ × X). q.1) (get_or-map (taken (e ∷ es) e) (o ∷ order) at p d inside)
-      ∙ ap (λ (q : ℕ × ℕ). (get_or (e ∷ es) q.1 e).1) (sym is_p)
-      ∙ ap (λ (q : ℕ × X). q.1) (get_or_default (e ∷ es) p.1 e x within ∙ sym is_x)
-
   -- one entry more, which leaves those at the places before it
   more_taken : (es : List (ℕ × X)) (x d : ℕ × X) (order : List (ℕ × ℕ)) → All (λ o. o.1 < length es) order
       → map (taken (es ++ x ∷ []) d) order ≡ map (taken es d) order
@@ -204,7 +194,3 @@ module _ {X : Type 0} where
   none_arrive (e ∷ es) order none unlisted = absurd (omega (arith, ap length none))
   none_arrive [] (o ∷ order) none unlisted = absurd (omega (arith, ap length unlisted))
   none_arrive [] [] none unlisted = record { sorted = none_ordered X; places = All-nil (λ (o : ℕ × ℕ). o.1 < 0) }
-
-  pub none_in_order : (es : List (ℕ × X)) (order : List (ℕ × ℕ)) → es ≡ [] → order ≡ [] → in_order es order ≡ []
-  none_in_order es [] none unlisted = none
-  none_in_order es (o ∷ order) none unlisted = absurd (omega (arith, ap length unlisted))

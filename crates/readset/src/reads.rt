@@ -21,8 +21,8 @@ use std::marker::Model;
 use std::sync::Wait;
 
 /// The versions that a transaction has read, one a record (Silo, section 4.4: the read set). Contracts see
-/// them by record number, in the order of the numbers. They stand as they came, so that a transaction that reads some 400
-/// records neither moves versions nor spends more than a few steps on each look-up.
+/// them by record number, in the order of the numbers. They stand as they came, so that a transaction that reads
+/// some 400 records neither moves versions nor spends more than a few steps on each look-up.
 #[derive(Drop)]
 pub struct ReadSet {
     versions: Vec<(u32, Version)>,
