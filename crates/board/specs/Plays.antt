@@ -3,6 +3,7 @@
 use Rattle.std.specs.Prelude.{◌≡◌, ℕ, ◌+◌, ◌<◌, ◌≤◌, List, ◌∷◌}
 use Rattle.atomic_table.specs.declared.shared.Seat.{Seat}
 use Rattle.atomic_table.specs.Seated.{TableId}
+use Rattle.board.specs.declared.steps.TheConstants.{FLOORS}
 use Rattle.board.specs.declared.rule.View.{View}
 use Rattle.board.specs.declared.rule.WordStep.TheVariants.{LoadEpoch, AddEpoch, CountCommit, StoreFloor}
 use Rattle.board.specs.declared.rule.WordStep.TheVariants.{StoreMark, LoadMark, RaiseDurable, LoadDurable}
@@ -39,7 +40,7 @@ abbrev pub CountsCommitOf : View → View → Type 0
 CountsCommitOf v w = w ≡ with_step v (CountCommit (known_epoch v.plan.base v.steps))
 
 abbrev pub StoresFloorOf : ℕ → View → ℕ → View → Type 0
-StoresFloorOf word v stored w = (l : ℕ) → word ≡ 8 + l → w ≡ with_step v (StoreFloor l stored)
+StoresFloorOf word v stored w = (l : ℕ) → word ≡ FLOORS + l → w ≡ with_step v (StoreFloor l stored)
 
 abbrev pub StoresMarkOf : ℕ → View → ℕ → View → Type 0
 StoresMarkOf word v stored w = w ≡ with_step v (StoreMark word stored)

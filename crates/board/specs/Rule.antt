@@ -2,6 +2,8 @@
 use Rattle.std.specs.Prelude.{◌≡◌, ℕ, ◌+◌, ◌<◌, ◌≤◌, List, [], length}
 use mathlib.Core.Option.{some}
 use lib.ListN.{get_elem?}
+use Rattle.tables.specs.declared.limits.TheConstants.{MAX_LOGGERS}
+use Rattle.board.specs.declared.steps.TheConstants.{WORDS}
 use Rattle.board.specs.declared.rule.Plan.{Plan}
 use Rattle.board.specs.declared.rule.View.{View}
 use Rattle.board.specs.declared.rule.Role.{Role}
@@ -22,7 +24,7 @@ role_number (Logger logger) = logger + 3
 abbrev pub KnowsOwn : Plan → List ℕ → Role → List WordStep → Type 0
 KnowsOwn plan words Terminal steps = Unit {0}
 KnowsOwn plan words Book steps = (count_in words ≡ length (counted steps))
-    × ((l : ℕ) → l < 8 → floor_in words l ≤ known_epoch plan.base steps)
+    × ((l : ℕ) → l < MAX_LOGGERS → floor_in words l ≤ known_epoch plan.base steps)
 KnowsOwn plan words Clock steps = epoch_in words ≡ known_epoch plan.base steps
 KnowsOwn plan words (Logger logger) steps = (logger < plan.loggers)
     × (mark_in words logger ≡ stored_mark plan.base steps)
@@ -43,11 +45,11 @@ pub record FitsWords (seat_of : ℕ → ℕ) (dealt : ℕ) (plan : Plan) (words 
 pub record IsLawfulBoard (plan : Plan) (words : List ℕ) (views : List View) : Type 0 where
   pub seat_of : ℕ → ℕ
   pub dealt : ℕ
-  pub few : plan.loggers ≤ 8
-  pub size : length words ≡ 19
+  pub few : plan.loggers ≤ MAX_LOGGERS
+  pub size : length words ≡ WORDS
   pub begun : plan.base < epoch_in words
   pub ends : epoch_in words ≤ last_epoch
-  pub floors : (l : ℕ) → l < 8 → floor_in words l ≤ epoch_in words
+  pub floors : (l : ℕ) → l < MAX_LOGGERS → floor_in words l ≤ epoch_in words
   pub lasting : plan.base ≤ durable_in words
   pub durable : (l : ℕ) → l < plan.loggers → durable_in words ≤ mark_in words l
   pub idle : (r : Role) → dealt ≤ role_number r → role_number r < plan.loggers + 3 → KnowsOwn plan words r []

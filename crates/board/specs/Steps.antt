@@ -1,5 +1,6 @@
 -- What a seat knows by its own steps, newest first, on a board with this base.
 use Rattle.std.specs.Prelude.{ℕ, ◌+◌, ◌<◌, ◌≤◌, max, List, [], ◌∷◌}
+use Rattle.tables.specs.declared.limits.TheConstants.{MAX_LOGGERS}
 use Rattle.board.specs.declared.rule.WordStep.{WordStep}
 use Rattle.board.specs.declared.rule.WordStep.TheVariants.{LoadEpoch, AddEpoch, CountCommit, StoreFloor}
 use Rattle.board.specs.declared.rule.WordStep.TheVariants.{StoreMark, LoadMark, RaiseDurable, LoadDurable}
@@ -48,7 +49,7 @@ abbrev pub StillStands : List ℕ → WordStep → Type 0
 StillStands words (LoadEpoch epoch) = epoch ≤ epoch_in words
 StillStands words (AddEpoch epoch) = epoch ≤ epoch_in words
 StillStands words (CountCommit epoch) = epoch ≤ epoch_in words
-StillStands words (StoreFloor logger floor) = (logger < 8) × (floor ≤ floor_in words logger)
+StillStands words (StoreFloor logger floor) = (logger < MAX_LOGGERS) × (floor ≤ floor_in words logger)
 StillStands words (StoreMark logger mark) = mark ≤ mark_in words logger
 StillStands words (LoadMark logger mark) = mark ≤ mark_in words logger
 StillStands words (RaiseDurable epoch) = epoch ≤ durable_in words

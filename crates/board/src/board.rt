@@ -20,9 +20,7 @@ use atomic_table::Table;
 use money::Refusal;
 use std::alloc::Global;
 use std::marker::Model;
-
-// The number of an epoch has 32 bits.
-const LAST_EPOCH: u64 = 4_294_967_295;
+use tables::limits::LAST_EPOCH;
 
 /// The epoch words of an engine. Contracts see which words they are, and what they opened with (`BoardView`). Each call
 /// takes one step or a few, never waits, and takes no memory.
@@ -34,14 +32,16 @@ pub struct Board {
 
 impl Model for Board {
     ghost use Rattle.std.specs.Prelude.{◌≡◌, ◌<◌, ◌≤◌};
+    ghost use Rattle.tables.specs.declared.limits.TheConstants.{MAX_LOGGERS};
+    ghost use Rattle.board.specs.declared.steps.TheConstants.{WORDS};
     ghost use Rattle.board.specs.Seats.{BoardView};
 
     ghost Value = { BoardView };
 
     ghost view = { λ b. record { table = b.table.shared.table_id; plan = b.plan } };
 
-    ghost invariant = { λ b. (b.table.shared.table_id.words ≡ 19) × (b.table.shared.table_id.slots ≡ 0)
-        × (b.table.shared.key ≡ b.plan) × (0 < b.plan.loggers) × (b.plan.loggers ≤ 8) };
+    ghost invariant = { λ b. (b.table.shared.table_id.words ≡ WORDS) × (b.table.shared.table_id.slots ≡ 0)
+        × (b.table.shared.key ≡ b.plan) × (0 < b.plan.loggers) × (b.plan.loggers ≤ MAX_LOGGERS) };
 }
 
 impl Board {

@@ -1,6 +1,7 @@
 //! Making a board, with its seats.
 ghost use Rattle.std.specs.Prelude.{◌≡◌, ℕ, ◌+◌, ◌<◌, ◌≤◌, [], ◌∷◌, replicate, IfOk, IfErr};
 ghost use Rattle.money.specs.declared.refusal.Refusal.TheVariants.{OutOfMemory};
+ghost use Rattle.tables.specs.declared.limits.TheConstants.{MAX_LOGGERS};
 ghost use Rattle.board.specs.declared.rule.Role.TheVariants.{Terminal, Book, Clock, Logger};
 ghost use Rattle.board.specs.Words.{last_epoch};
 ghost use Rattle.board.specs.Plays.{HasSeatAt};
@@ -11,7 +12,7 @@ ghost use Rattle.board.specs.Opening.{Opens, logger_seats};
 use crate::board::Board;
 use crate::rule::{DealsClock, DealsLogger, DealsTerminal, EpochRule, Plan, View};
 use crate::seats::{BookSeat, ClockSeat, LoggerSeat, TerminalSeat, WordSeat};
-use crate::steps::Words;
+use crate::steps::{COUNT, EPOCH, WORDS, Words};
 use atomic_table::Table;
 use money::Refusal;
 use std::alloc::Global;
@@ -29,7 +30,7 @@ impl Board {
     /// A board for 1 to 8 loggers, with a seat for each role and for this many terminals. E is 1, and D, the floors and
     /// the local marks are 0. Takes memory for its words and for the seats of loggers and terminals.
     pub fn new(alloc: Global, loggers: u64, terminals: u64) -> Result<(Board, BoardSeats), Refusal>
-        requires { (0 < loggers) × (loggers ≤ 8) }
+        requires { (0 < loggers) × (loggers ≤ MAX_LOGGERS) }
         ensures ok { IfOk result (λ made.
             Opens (record { loggers = loggers; base = 0 }) terminals made.0 made.1) }
         ensures memory { IfErr result (λ e. e ≡ OutOfMemory) }
@@ -40,7 +41,7 @@ impl Board {
 
 // A board that opens as this plan says.
 fn open(alloc: Global, plan: Plan, terminals: u64) -> Result<(Board, BoardSeats), Refusal>
-    requires loggers { (0 < plan.loggers) × (plan.loggers ≤ 8) }
+    requires loggers { (0 < plan.loggers) × (plan.loggers ≤ MAX_LOGGERS) }
     requires base { plan.base < last_epoch }
     ensures ok { IfOk result (λ made. Opens plan terminals made.0 made.1) }
     ensures memory { IfErr result (λ e. e ≡ OutOfMemory) }
@@ -63,16 +64,16 @@ fn words_of(
     alloc: Global,
     plan: Plan,
 ) -> Result<(Table<(), View, Plan, EpochRule, Global>, WordSeat), Refusal>
-    requires loggers { plan.loggers ≤ 8 }
+    requires loggers { plan.loggers ≤ MAX_LOGGERS }
     requires base { plan.base < last_epoch }
     ensures ok { IfOk result (λ made. (made.0.shared.table_id.slots ≡ 0) × (made.0.shared.key ≡ plan)
         × HasSeatAt made.0.shared.table_id made.1 × IsDealer plan 2 made.1.me.0) }
     ensures memory { IfErr result (λ e. e ≡ OutOfMemory) }
 {
     let base = plan.base;
-    let mut words = [base; 19];
-    words[16] = base + 1;
-    words[17] = 0;
+    let mut words = [base; WORDS];
+    words[EPOCH] = base + 1;
+    words[COUNT] = 0;
     Ok(Table::of_words(alloc, &words, &plan)?)
 }
 

@@ -2,6 +2,7 @@
 //!
 //! A method of a ruled table is dear to prove where it is called, so each is called in one small function.
 ghost use Rattle.std.specs.Prelude.{◌≡◌, ℕ, ◌+◌, ◌-◌, ◌^◌, ◌<◌, ◌≤◌, length};
+ghost use Rattle.tables.specs.declared.limits.TheConstants.{MAX_LOGGERS};
 ghost use Rattle.board.specs.declared.rule.Role.TheVariants.{Book, Clock, Logger};
 ghost use Rattle.board.specs.declared.rule.WordStep.TheVariants.{AddEpoch, CountCommit, StoreFloor};
 ghost use Rattle.board.specs.declared.rule.WordStep.TheVariants.{StoreMark, LoadMark, RaiseDurable};
@@ -15,18 +16,22 @@ use crate::rule::{
 };
 use crate::seats::WordSeat;
 use atomic_table::Shared;
+use tables::limits::MAX_LOGGERS;
 
 /// The words of a board, as threads see them.
 pub(crate) type Words = Shared<(), View, Plan, EpochRule>;
 
-// Where a word stands: local marks from 0, floors from 8.
-const FLOORS: usize = 8;
+// Where a word stands: local marks from 0, and floors behind them.
+const FLOORS: usize = MAX_LOGGERS as usize;
 
-const EPOCH: usize = 16;
+pub(crate) const EPOCH: usize = 2 * FLOORS;
 
-const COUNT: usize = 17;
+pub(crate) const COUNT: usize = EPOCH + 1;
 
-pub(crate) const DURABLE: usize = 18;
+pub(crate) const DURABLE: usize = EPOCH + 2;
+
+// How many words there are.
+pub(crate) const WORDS: usize = EPOCH + 3;
 
 // Loads E.
 pub(crate) fn load_epoch(words: &Words, seat: &mut WordSeat) -> u64
@@ -65,7 +70,7 @@ pub(crate) fn count_commit(words: &Words, seat: &mut WordSeat)
 pub(crate) fn store_floor(words: &Words, seat: &mut WordSeat, logger: u64, epoch: u64)
     requires own { HasSeatAt words.now.table_id seat.old }
     requires book { seat.old.me.0.role ≡ Book }
-    requires logger { logger < 8 }
+    requires logger { logger < MAX_LOGGERS }
     requires loaded { epoch ≡ known_epoch seat.old.me.0.plan.base seat.old.me.0.steps }
     ensures own { seat.new.table_id ≡ seat.old.table_id }
     ensures told { seat.new.me.0 ≡ with_step seat.old.me.0 (StoreFloor logger epoch) }
@@ -76,7 +81,7 @@ pub(crate) fn store_floor(words: &Words, seat: &mut WordSeat, logger: u64, epoch
 // Stores a logger's local mark, which is no lower than the one before.
 pub(crate) fn store_mark(words: &Words, seat: &mut WordSeat, logger: u64, mark: u64)
     requires own { HasSeatAt words.now.table_id seat.old }
-    requires logger { (seat.old.me.0.role ≡ Logger logger) × (logger < 8) }
+    requires logger { (seat.old.me.0.role ≡ Logger logger) × (logger < MAX_LOGGERS) }
     requires more { stored_mark seat.old.me.0.plan.base seat.old.me.0.steps ≤ mark }
     ensures own { seat.new.table_id ≡ seat.old.table_id }
     ensures told { seat.new.me.0 ≡ with_step seat.old.me.0 (StoreMark logger mark) }
@@ -87,7 +92,7 @@ pub(crate) fn store_mark(words: &Words, seat: &mut WordSeat, logger: u64, mark: 
 // Loads a logger's local mark.
 pub(crate) fn load_mark(words: &Words, seat: &mut WordSeat, logger: u64) -> u64
     requires own { HasSeatAt words.now.table_id seat.old }
-    requires logger { logger < 8 }
+    requires logger { logger < MAX_LOGGERS }
     ensures own { seat.new.table_id ≡ seat.old.table_id }
     ensures told { seat.new.me.0 ≡ with_step seat.old.me.0 (LoadMark logger result) }
 {

@@ -20,7 +20,7 @@ use Rattle.book.specs.Loggable.{IsLoggable, AreLoggable, NumbersRise}
 use Rattle.book.specs.Ready.{IsReady, IsPassed}
 use Rattle.book.specs.Stamps.{AreStamped, Follows}
 use Rattle.book.specs.Streams.{stream, last_number, IsUntakenOf}
-use Rattle.book.specs.declared.engine.TheConstants.{MAX_LOGGERS, MAX_TERMINALS}
+use Rattle.tables.specs.declared.limits.TheConstants.{MAX_LOGGERS, MAX_TERMINALS}
 use Rattle.book.specs.declared.entry.Entry.{Entry}
 use Rattle.book.specs.declared.untaken.Untaken.{Untaken}
 

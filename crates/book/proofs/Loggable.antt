@@ -12,7 +12,7 @@ use Rattle.readset.specs.declared.work.Work.{Work}
 use Rattle.book.specs.Book.{IsWorkOf, AreInOrder, entry_of}
 use Rattle.book.specs.History.{replay, CommitsAt}
 use Rattle.book.specs.Loggable.{IsLoggable, AreLoggable}
-use Rattle.book.specs.declared.engine.TheConstants.{MAX_TERMINALS}
+use Rattle.tables.specs.declared.limits.TheConstants.{MAX_TERMINALS}
 use Rattle.book.specs.declared.entry.Entry.{Entry}
 use Rattle.book.proofs.Replaying.{replay-scale}
 

@@ -14,7 +14,7 @@ use Rattle.tidword.specs.TidWord.{epoch_of}
 use Rattle.board.specs.declared.rule.Plan.{Plan}
 use Rattle.book.specs.Parts.{AreEmpty}
 use Rattle.book.specs.Streams.{stream, last_number, IsUntakenOf, AreStreams}
-use Rattle.book.specs.declared.engine.TheConstants.{MAX_LOGGERS}
+use Rattle.tables.specs.declared.limits.TheConstants.{MAX_LOGGERS}
 use Rattle.book.specs.declared.entry.Entry.{Entry}
 use Rattle.book.specs.declared.untaken.Untaken.{Untaken}
 

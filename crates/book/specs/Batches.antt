@@ -8,7 +8,7 @@ use Rattle.book.specs.Book.{BookView}
 use Rattle.book.specs.Loggable.{IsLoggable, NumbersRise}
 use Rattle.book.specs.Stamps.{AreStamped}
 use Rattle.book.specs.Streams.{stream, last_number}
-use Rattle.book.specs.declared.engine.TheConstants.{MAX_LOGGERS, MAX_TERMINALS}
+use Rattle.tables.specs.declared.limits.TheConstants.{MAX_LOGGERS, MAX_TERMINALS}
 use Rattle.book.specs.declared.entry.Entry.{Entry}
 
 -- what contracts see of a batch: whose it is and of what run, what the stream had before it, its entries, and its mark

@@ -10,10 +10,10 @@ use Rattle.tables.specs.Apply.{after}
 use Rattle.tables.specs.Records.{record_count}
 use Rattle.tables.specs.WellFormed.{IsWellFormed}
 use Rattle.readset.specs.Writes.{value_for}
-use Rattle.readset.specs.declared.limits.TheConstants.{MAX_WRITES}
+use Rattle.tables.specs.declared.limits.TheConstants.{MAX_WRITES}
 use Rattle.book.specs.History.{CommitsAt}
 use Rattle.book.specs.declared.entry.Entry.{Entry}
-use Rattle.book.specs.declared.engine.TheConstants.{MAX_TERMINALS}
+use Rattle.tables.specs.declared.limits.TheConstants.{MAX_TERMINALS}
 
 -- the entry is done at some tables of this scale, which leaves well-formed ones
 pub record IsDone (s : Sizes) (e : Entry) : Type 0 where

@@ -12,7 +12,7 @@ use Rattle.board.specs.Seats.{BoardView}
 use Rattle.board.specs.Opening.{Opens}
 use Rattle.book.specs.declared.untaken.Untaken.{Untaken}
 use Rattle.book.specs.declared.engine.Parts.{Parts}
-use Rattle.book.specs.declared.engine.TheConstants.{MAX_LOGGERS, MAX_TERMINALS}
+use Rattle.tables.specs.declared.limits.TheConstants.{MAX_LOGGERS, MAX_TERMINALS}
 
 -- the tables that a run of these parts begins with, how many commits made them, the seed of its population, its cells,
 -- its board and what that opened with, its ledger, and how many loggers and terminals it has

@@ -6,7 +6,7 @@ use Rattle.std.specs.Arc.{arc_value}
 use Rattle.tidword.specs.TidWord.{epoch_of}
 use Rattle.board.specs.declared.rule.Plan.{Plan}
 use Rattle.book.specs.declared.entry.Entry.{Entry}
-use Rattle.book.specs.declared.engine.TheConstants.{MAX_LOGGERS}
+use Rattle.tables.specs.declared.limits.TheConstants.{MAX_LOGGERS}
 use Rattle.book.specs.declared.untaken.Untaken.{Untaken}
 
 -- the stream of one of so many loggers: the entries of the terminals that are its own

@@ -11,8 +11,7 @@ ghost use Rattle.board.specs.Seats.{new_seat};
 ghost use Rattle.board.specs.Opening.{logger_seats};
 ghost use Rattle.book.specs.Parts.{IsFresh, IsRunOf, AreEmpty, first_of, ledger_name, ledger_parts};
 ghost use Rattle.book.specs.Parts.{base_of, past_of, population_seed, loggers_of, terminals_of};
-ghost use Rattle.book.specs.declared.engine.TheConstants.{MAX_LOGGERS as the_most_loggers};
-ghost use Rattle.book.specs.declared.engine.TheConstants.{MAX_TERMINALS as the_most_terminals};
+ghost use Rattle.tables.specs.declared.limits.TheConstants.{MAX_LOGGERS, MAX_TERMINALS};
 
 use crate::book::Book;
 use crate::entry::Entry;
@@ -51,12 +50,6 @@ pub struct Parts {
     seats: BoardSeats,
 }
 
-/// The most loggers.
-pub const MAX_LOGGERS: u16 = 8;
-
-/// The most terminals.
-pub const MAX_TERMINALS: u16 = 16;
-
 impl Parts {
     /// The parts of an engine over this population, for 1 to 8 loggers and 1 to 16 terminals, of which each gets a
     /// seat, with a board at epoch 1. Costs what `newest_of`, `Totals::of` and `Cells::new` cost: passes over the
@@ -72,8 +65,8 @@ impl Parts {
         loggers: u16,
         terminals: u16,
     ) -> Result<Parts, Refusal>
-        requires loggers { (0 < loggers) × (loggers ≤ the_most_loggers) }
-        requires terminals { (0 < terminals) × (terminals ≤ the_most_terminals) }
+        requires loggers { (0 < loggers) × (loggers ≤ MAX_LOGGERS) }
+        requires terminals { (0 < terminals) × (terminals ≤ MAX_TERMINALS) }
         ensures fresh { IfOk result IsFresh }
         ensures first { IfOk result (λ parts. first_of parts ≡ initial population) }
         ensures seed { IfOk result (λ parts. population_seed parts ≡ seed_of population) }

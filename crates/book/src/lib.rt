@@ -27,7 +27,7 @@ pub use batch::Batch;
 pub use book::Book;
 pub use closed::Closed;
 pub use done::Done;
-pub use engine::{Engine, MAX_LOGGERS, MAX_TERMINALS, Parts, Seat, Seats, TerminalSeats};
+pub use engine::{Engine, Parts, Seat, Seats, TerminalSeats};
 pub use entry::Entry;
 pub use run::Run;
 pub use share::Share;

@@ -14,6 +14,8 @@ use Rattle.clap.specs.declared.builder.value_parser.ValueParser.{ValueParser}
 use Rattle.clap.specs.declared.builder.value_parser.ValueParser.TheVariants.{NonEmptyString, Signed, Unsigned}
 use Rattle.clap.specs.declared.error.Error.{Error}
 use Rattle.clap.specs.declared.error.kind.ErrorKind.TheVariants.{InvalidValue}
+use Rattle.tables.specs.declared.limits.TheConstants.{MAX_LOGGERS, MAX_TERMINALS}
+use Rattle.command_line.specs.declared.asked.TheConstants.{MAX_INPUTS}
 use Rattle.command_line.specs.declared.asked.LogFiles.{LogFiles}
 use Rattle.command_line.specs.declared.asked.Options.{Options}
 use Rattle.command_line.specs.declared.asked.RunOptions.{RunOptions}
@@ -79,7 +81,7 @@ limited_option name low high = record (new_rule name) {
 
 -- the number of their loggers
 abbrev pub loggers_option : Rule
-loggers_option = limited_option (codes "loggers") 1 8
+loggers_option = limited_option (codes "loggers") 1 MAX_LOGGERS
 
 -- a command with the options of log files that are there, which must be given
 abbrev pub with_logs : App → App
@@ -89,8 +91,8 @@ with_logs app = with_rule (with_rule app folder_option) (record loggers_option {
 abbrev pub run_options : List Rule
 run_options = folder_option
     ∷ record loggers_option { defaults = codes "2" ∷ [] }
-    ∷ record (limited_option (codes "terminals") 1 16) { defaults = codes "4" ∷ [] }
-    ∷ record (limited_option (codes "count") 0 1000000) { defaults = codes "100" ∷ [] }
+    ∷ record (limited_option (codes "terminals") 1 MAX_TERMINALS) { defaults = codes "4" ∷ [] }
+    ∷ record (limited_option (codes "count") 0 MAX_INPUTS) { defaults = codes "100" ∷ [] }
     ∷ seed_option (codes "seed") (codes "1")
     ∷ []
 
@@ -188,9 +190,9 @@ pub record AreLogFiles (rows : List Row) (files : LogFiles) : Type 0 where
 -- the same of the log files that a run makes; each other option of its own is the number that its text writes
 pub record AreRunOptions (text : Text → Text → Option Text) (rows : List Row) (r : RunOptions) : Type 0 where
   pub folder : first_of (codes "logs") rows ≡ Some (string_bytes r.files.folder)
-  pub loggers : WritesWithin 1 8 (text (codes "loggers") (codes "2")) r.files.loggers
-  pub terminals : WritesWithin 1 16 (text (codes "terminals") (codes "4")) r.terminals
-  pub count : WritesWithin 0 1000000 (text (codes "count") (codes "100")) r.count
+  pub loggers : WritesWithin 1 MAX_LOGGERS (text (codes "loggers") (codes "2")) r.files.loggers
+  pub terminals : WritesWithin 1 MAX_TERMINALS (text (codes "terminals") (codes "4")) r.terminals
+  pub count : WritesWithin 0 MAX_INPUTS (text (codes "count") (codes "100")) r.count
   pub seed : WritesNumber 64 (text (codes "seed") (codes "1")) r.seed
 
 -- so it is of a subcommand's own options, beside those of the tables

@@ -1,8 +1,12 @@
 //! What a command line asks for.
 ghost use Rattle.std.specs.Prelude.{◌≤◌};
+ghost use Rattle.tables.specs.declared.limits.TheConstants.{MAX_LOGGERS, MAX_TERMINALS};
 
 use money::Refusal;
 use tables::Scale;
+
+/// The most inputs of a terminal in a run.
+pub const MAX_INPUTS: u32 = 1_000_000;
 
 /// What the program is to do.
 #[derive(Debug, Drop, PartialEq, Eq)]
@@ -37,8 +41,8 @@ pub struct RunOptions {
     pub count: u32,
     /// `--seed`, which the inputs are drawn from.
     pub seed: u64,
-    ghost loggers: { (1 ≤ files.loggers) × (files.loggers ≤ 8) },
-    ghost stations: { (1 ≤ terminals) × (terminals ≤ 16) },
+    ghost loggers: { (1 ≤ files.loggers) × (files.loggers ≤ MAX_LOGGERS) },
+    ghost stations: { (1 ≤ terminals) × (terminals ≤ MAX_TERMINALS) },
 }
 
 /// A command line: the subcommand and its options.

@@ -3,13 +3,16 @@ ghost use Rattle.std.specs.Prelude.{◌≡◌, ◌≤◌, ◌∷◌, IfErr, IfOk
 ghost use Rattle.clap.specs.Words.{app_of, found_of, one_of, rows_of, rule_of};
 ghost use Rattle.clap.specs.Kinds.{HasKind};
 ghost use Rattle.clap.specs.declared.error.kind.ErrorKind.TheVariants.{InvalidValue};
+ghost use Rattle.tables.specs.declared.limits.TheConstants.{MAX_TERMINALS};
+ghost use Rattle.command_line.specs.declared.asked.TheConstants.{MAX_INPUTS};
 ghost use Rattle.command_line.specs.CommandLine.{AreRunOptions, HasApp, IsLocal, WritesWithin, limited_option};
 ghost use Rattle.command_line.specs.CommandLine.{text_in, with_run as with_run_options};
 
-use crate::asked::{LogFiles, RunOptions};
+use crate::asked::{LogFiles, MAX_INPUTS, RunOptions};
 use crate::words::{folder, folder_given, loggers, refusal, seed, value_of};
 use clap::{Arg, ArgMatches, Command, Error, value_parser};
 use std::alloc::{AllocError, Global};
+use tables::limits::{MAX_LOGGERS, MAX_TERMINALS};
 
 /// A subcommand with the options of a run: where its log files are made, how many loggers and terminals it has, and
 /// what inputs these do.
@@ -32,25 +35,25 @@ pub(crate) fn with_run<'a>(alloc: Global, command: Command<'a>) -> Result<Comman
 
 /// The option `--terminals`.
 fn terminals<'a>(alloc: Global) -> Arg<'a>
-    ensures rule { rule_of result ≡ limited_option (codes "terminals") 1 16 }
+    ensures rule { rule_of result ≡ limited_option (codes "terminals") 1 MAX_TERMINALS }
     ensures local { result.global ≡ false }
 {
     Arg::new(alloc, "terminals")
         .long("terminals")
         .value_name("N")
-        .value_parser(value_parser!(u32).range(1..=16))
+        .value_parser(value_parser!(u32).range(1..=MAX_TERMINALS as i64))
         .help("The number of terminals, 1 to 16")
 }
 
 /// The option `--count`.
 fn count<'a>(alloc: Global) -> Arg<'a>
-    ensures rule { rule_of result ≡ limited_option (codes "count") 0 1000000 }
+    ensures rule { rule_of result ≡ limited_option (codes "count") 0 MAX_INPUTS }
     ensures local { result.global ≡ false }
 {
     Arg::new(alloc, "count")
         .long("count")
         .value_name("N")
-        .value_parser(value_parser!(u32).range(0..=1000000))
+        .value_parser(value_parser!(u32).range(0..=MAX_INPUTS as i64))
         .help("Inputs of each terminal, 0 to 1000000")
 }
 
@@ -63,10 +66,10 @@ pub(crate) fn run_options(alloc: Global, given: &ArgMatches<'_>) -> Result<RunOp
     Ok(RunOptions {
         files: LogFiles {
             folder: folder_given(alloc, given)?,
-            loggers: number_within(alloc, given, "loggers", (1, 8))?,
+            loggers: number_within(alloc, given, "loggers", (1, MAX_LOGGERS as u32))?,
         },
-        terminals: number_within(alloc, given, "terminals", (1, 16))?,
-        count: number_within(alloc, given, "count", (0, 1_000_000))?,
+        terminals: number_within(alloc, given, "terminals", (1, MAX_TERMINALS as u32))?,
+        count: number_within(alloc, given, "count", (0, MAX_INPUTS))?,
         seed: value_of::<u64>(alloc, given, "seed")?,
     })
 }

@@ -18,6 +18,7 @@ use clap::error::ErrorKind;
 use clap::{Arg, ArgMatches, Command, Error, value_parser};
 use std::alloc::{AllocError, Global};
 use std::str::FromStr;
+use tables::limits::MAX_LOGGERS;
 
 /// The options that these words ask for, the first of which is the program's own name: the subcommand is the one that
 /// they name, and each option is what the words behind it give, or its default. An error's text says what is wrong with
@@ -126,7 +127,7 @@ pub(crate) fn loggers<'a>(alloc: Global, help: &'a str) -> Arg<'a>
     Arg::new(alloc, "loggers")
         .long("loggers")
         .value_name("N")
-        .value_parser(value_parser!(u32).range(1..=8))
+        .value_parser(value_parser!(u32).range(1..=MAX_LOGGERS as i64))
         .help(help)
 }
 

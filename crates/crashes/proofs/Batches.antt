@@ -14,7 +14,7 @@ use Rattle.book.specs.Loggable.{IsLoggable}
 use Rattle.book.specs.Stamps.{AreStamped}
 use Rattle.book.specs.Streams.{stream}
 use Rattle.book.specs.declared.entry.Entry.{Entry}
-use Rattle.book.specs.declared.engine.TheConstants.{MAX_TERMINALS}
+use Rattle.tables.specs.declared.limits.TheConstants.{MAX_TERMINALS}
 use Rattle.crashes.specs.World.{Life, Idle, World, header_of}
 use Rattle.crashes.specs.Events.{MayTake}
 use Rattle.crashes.proofs.Lists.{all_behind}

@@ -14,7 +14,7 @@ use Rattle.book.specs.Streams.{stream}
 use Rattle.book.specs.Batches.{BatchView}
 use Rattle.book.specs.Loggable.{IsLoggable}
 use Rattle.book.specs.declared.entry.Entry.{Entry}
-use Rattle.book.specs.declared.engine.TheConstants.{MAX_TERMINALS}
+use Rattle.tables.specs.declared.limits.TheConstants.{MAX_TERMINALS}
 use Rattle.log_entries.specs.Following.{body_of_batch, behind_batch, Continues}
 use Rattle.logfile.specs.Standing.{LogFileView}
 use Rattle.crashes.specs.World.{Life, DiskView, Stage, BatchTaken, TextWritten, TextSynced, GateOpened, DeviceFailed}

@@ -1,6 +1,7 @@
 //! A run from a population to its report.
 ghost use Rattle.std.specs.Prelude.{◌≡◌, ◌≢◌, ◌*◌, ◌<◌, ◌≤◌, [], length, All, IfOk, IfErr};
 ghost use Rattle.money.specs.declared.refusal.Refusal.TheVariants.{OutOfMemory, Device};
+ghost use Rattle.tables.specs.declared.limits.TheConstants.{MAX_LOGGERS, MAX_TERMINALS};
 ghost use Rattle.population.specs.Initial.{initial};
 ghost use Rattle.book.specs.Parts.{IsFresh, IsRunOf, base_of, ledger_name, ledger_parts, loggers_of, terminals_of};
 ghost use Rattle.driver.specs.Told.{IsBroken, IsCounted, IsRan, counts};
@@ -55,8 +56,8 @@ pub fn drive<D: Disk + Send + Drop, P: Pace + Send + Drop, W: Write, R: Threads 
     plan: &Plan,
     writer: &mut W,
 ) -> Result<Driven, Refusal>
-    requires loggers { (0 < length slots.items) × (length slots.items ≤ 8) }
-    requires terminals { (0 < plan.now.terminals) × (plan.now.terminals ≤ 16) }
+    requires loggers { (0 < length slots.items) × (length slots.items ≤ MAX_LOGGERS) }
+    requires terminals { (0 < plan.now.terminals) × (plan.now.terminals ≤ MAX_TERMINALS) }
     requires empty { D.is_modelled → All (λ slot. D.seen slot.disk ≡ []) slots.items }
     ensures ran { IfOk result (λ driven. IsRan (initial population) (plan.now.terminals * plan.now.inputs)
         (W.contents writer.old) (W.contents writer.new) driven.report) }
@@ -85,9 +86,9 @@ fn drive_parts<
     requires fresh { IsFresh parts }
     requires run { IsRunOf parts K.first K.past K.cells K.board K.seed }
     requires ledger { (ledger_name parts ≡ K.name) × (ledger_parts parts ≡ K.parts) }
-    requires loggers { (loggers_of parts ≡ length slots.items) × (length slots.items ≤ 8) }
+    requires loggers { (loggers_of parts ≡ length slots.items) × (length slots.items ≤ MAX_LOGGERS) }
     requires base { base_of parts ≡ 0 }
-    requires terminals { (terminals_of parts ≡ plan.now.terminals) × (plan.now.terminals ≤ 16) }
+    requires terminals { (terminals_of parts ≡ plan.now.terminals) × (plan.now.terminals ≤ MAX_TERMINALS) }
     requires empty { D.is_modelled → All (λ slot. D.seen slot.disk ≡ []) slots.items }
     ensures ran { IfOk result (λ driven. IsRan K.first (plan.now.terminals * plan.now.inputs)
         (W.contents writer.old) (W.contents writer.new) driven.report) }
@@ -124,9 +125,9 @@ fn outcome_of<
     requires fresh { IsFresh parts }
     requires run { IsRunOf parts K.first K.past K.cells K.board K.seed }
     requires ledger { (ledger_name parts ≡ K.name) × (ledger_parts parts ≡ K.parts) }
-    requires loggers { (loggers_of parts ≡ length slots.items) × (length slots.items ≤ 8) }
+    requires loggers { (loggers_of parts ≡ length slots.items) × (length slots.items ≤ MAX_LOGGERS) }
     requires base { base_of parts ≡ 0 }
-    requires terminals { (terminals_of parts ≡ plan.now.terminals) × (plan.now.terminals ≤ 16) }
+    requires terminals { (terminals_of parts ≡ plan.now.terminals) × (plan.now.terminals ≤ MAX_TERMINALS) }
     requires empty { D.is_modelled → All (λ slot. D.seen slot.disk ≡ []) slots.items }
     ensures counted { IfOk result (λ outcome. IsCounted (plan.now.terminals * plan.now.inputs) outcome.closed
         (counts outcome.commits outcome.rollbacks outcome.gave_up outcome.refused outcome.durable

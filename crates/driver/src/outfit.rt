@@ -1,6 +1,7 @@
 //! What the terminals and loggers of a run are given.
 ghost use Rattle.std.specs.Prelude.{◌≡◌, ◌≢◌, ◌<◌, ◌≤◌, [], length, All, IfOk, IfErr};
 ghost use Rattle.money.specs.declared.refusal.Refusal.TheVariants.{OutOfMemory, Device};
+ghost use Rattle.tables.specs.declared.limits.TheConstants.{MAX_LOGGERS};
 ghost use Rattle.board.specs.declared.rule.Role.TheVariants.{Logger as logger_role};
 ghost use Rattle.board.specs.Opening.{logger_seats};
 ghost use Rattle.board.specs.Seats.{new_seat};
@@ -59,7 +60,7 @@ pub(crate) fn logs<D: Disk + Drop, P: Pace + Drop>(
 ) -> Result<Vec<Log<D, P>>, Refusal>
     requires seats { seats.items ≡ logger_seats board.now board.now.plan.loggers }
     requires slots { length slots.items ≡ board.now.plan.loggers }
-    requires few { board.now.plan.loggers ≤ 8 }
+    requires few { board.now.plan.loggers ≤ MAX_LOGGERS }
     requires base { board.now.plan.base ≡ 0 }
     requires empty { D.is_modelled → All (λ slot. D.seen slot.disk ≡ []) slots.items }
     ensures own { IfOk result (λ logs. All (λ log. log.logger.seat.board ≡ board.now) logs.items) }

@@ -4,12 +4,12 @@ ghost use Rattle.std.specs.Prelude.{◌≡◌, length};
 use crate::payments::history_row;
 use crate::stage::{Stage, WAREHOUSE, open};
 use money::{Payload, Refusal};
-use readset::limits::{MAX_READS, MAX_WRITES};
 use readset::{ReadSet, WriteSet};
 use std::alloc::Global;
 use std::sync::Wait;
 use std::test::Fail;
 use tables::History;
+use tables::limits::{MAX_READS, MAX_WRITES};
 
 /// What was seen of writes.
 #[derive(Clone, Copy, Debug, PartialEq, Eq)]

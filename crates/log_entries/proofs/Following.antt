@@ -29,7 +29,7 @@ use Rattle.log_header.specs.Header.{HeaderView}
 use Rattle.log_text.specs.Writes.{are_writes}
 use Rattle.log_text.specs.Bodies.{is_entry, entries_after, behind, marked, body_after}
 use Rattle.log_text.specs.declared.last.Last.{Last}
-use Rattle.log_text.specs.declared.limits.TheConstants.{MAX_MARK, MAX_TERMINALS}
+use Rattle.tables.specs.declared.limits.TheConstants.{MAX_MARK, MAX_TERMINALS}
 use Rattle.book.specs.Batches.{BatchView, IsBatch}
 use Rattle.book.specs.Loggable.{IsDone, IsLoggable, NumbersRise}
 use Rattle.book.specs.Stamps.{AreStamped, Follows}

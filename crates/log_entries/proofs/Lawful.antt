@@ -24,7 +24,7 @@ use Rattle.tables.specs.declared.records.Table.{Table}
 use Rattle.tables.specs.declared.records.Table.TheVariants as table
 use Rattle.tables.specs.declared.records.RecordKey.TheVariants as key
 use Rattle.readset.specs.Writes.{WriteSetView, value_for, added}
-use Rattle.readset.specs.declared.limits.TheConstants.{MAX_WRITES}
+use Rattle.tables.specs.declared.limits.TheConstants.{MAX_WRITES}
 use Rattle.readset.proofs.Entries.{each_found}
 use Rattle.log_text.specs.Columns.{ranges, are_within}
 use Rattle.log_text.specs.Writes.{places, is_history, is_value, is_write, rank, rise_from, are_writes}

@@ -4,7 +4,7 @@ ghost use Rattle.std.specs.List.{filter};
 ghost use Rattle.tables.specs.Records.{first_number, record_count};
 ghost use Rattle.tables.specs.declared.records.Table.TheVariants as table;
 ghost use Rattle.readset.specs.Writes.{added, value_for};
-ghost use Rattle.readset.specs.declared.limits.TheConstants.{MAX_WRITES};
+ghost use Rattle.tables.specs.declared.limits.TheConstants.{MAX_WRITES};
 ghost use Rattle.log_text.specs.Writes.{write_text};
 ghost use Rattle.log_text.specs.Entries.{entry_text};
 ghost use Rattle.log_entries.specs.Logged.{entry_of, history_write, write_at, writes_of};

@@ -10,7 +10,7 @@ use Rattle.codec.proofs.NumberTexts.{codec-number}
 use Rattle.codec.proofs.Codecs.{codec-both, codec-chosen, codec-same}
 use Rattle.tables.specs.Sizes.{Sizes, IsScale, IsBetween}
 use Rattle.tables.specs.declared.limits.TheConstants.{MAX_WAREHOUSES, MAX_DISTRICTS, MIN_CUSTOMERS, MAX_CUSTOMERS}
-use Rattle.tables.specs.declared.limits.TheConstants.{MIN_ITEMS, MAX_ITEMS, MAX_ORDERS, MAX_COMMITS}
+use Rattle.tables.specs.declared.limits.TheConstants.{MIN_ITEMS, MAX_ITEMS, MAX_ORDERS, MAX_COMMITS, MAX_LOGGERS}
 use Rattle.log_header.specs.declared.header.TheConstants.{MAGIC, VERSION}
 use Rattle.log_header.specs.Header.{HeaderView, IsHeader, scale_text, header_text}
 use Rattle.log_header.specs.HeaderReading.{SixNumbers, Parts, is_between, is_scale, is_logger, sizes_of, scale_if, header_if, view_of, six_numbers, parts}
@@ -96,9 +96,9 @@ unfolding header_text
 text_of_header h =
     ap (λ name. name ++ (number 4 VERSION ++ (number 2 h.logger ++ (number 2 h.loggers ++ (scale_text h.scale ++ number 8 h.seed))))) (sym number_MAGIC)
 
-Decides-logger : (logger loggers : ℕ) → Decides (is_logger logger loggers) (IsBetween 1 8 loggers × (logger < loggers))
+Decides-logger : (logger loggers : ℕ) → Decides (is_logger logger loggers) (IsBetween 1 MAX_LOGGERS loggers × (logger < loggers))
 unfolding is_logger
-Decides-logger logger loggers = Decides-and _ _ (Decides-between 1 8 loggers) (Decides-ltb logger loggers)
+Decides-logger logger loggers = Decides-and _ _ (Decides-between 1 MAX_LOGGERS loggers) (Decides-ltb logger loggers)
 
 parts_of : HeaderView → Parts
 parts_of h = (MAGIC, (VERSION, (h.logger, (h.loggers, (h.scale, h.seed)))))
@@ -119,7 +119,7 @@ codec-parts =
 is_header_of : Parts → Bool
 is_header_of p = p.0 == MAGIC && (p.1.0 == VERSION && is_logger p.1.1.0 p.1.1.1.0)
 
-Decides-parts : (p : Parts) → Decides (is_header_of p) ((p.0 ≡ MAGIC) × ((p.1.0 ≡ VERSION) × (IsBetween 1 8 p.1.1.1.0 × (p.1.1.0 < p.1.1.1.0))))
+Decides-parts : (p : Parts) → Decides (is_header_of p) ((p.0 ≡ MAGIC) × ((p.1.0 ≡ VERSION) × (IsBetween 1 MAX_LOGGERS p.1.1.1.0 × (p.1.1.0 < p.1.1.1.0))))
 unfolding is_header_of
 Decides-parts p =
     Decides-and _ _ (Decides-eqb p.0 MAGIC) (Decides-and _ _ (Decides-eqb p.1.0 VERSION) (Decides-logger p.1.1.0 p.1.1.1.0))

@@ -2,6 +2,7 @@
 use Rattle.std.specs.Prelude.{ℕ, ◌<◌, ◌^◌, List, ◌++◌, codes}
 use Rattle.codec.specs.Numbers.{number}
 use Rattle.tables.specs.Sizes.{Sizes, IsScale, IsBetween}
+use Rattle.tables.specs.declared.limits.TheConstants.{MAX_LOGGERS}
 
 -- the number of the file's logger, how many loggers there are, the scale, and the number that seeded the population, 0
 -- for the plain one
@@ -19,7 +20,7 @@ header_view logger loggers scale seed =
 -- the rules of a header: loggers are numbered from 0, and a seed has eight bytes
 pub record IsHeader (h : HeaderView) : Type 0 where
   pub scale : IsScale h.scale
-  pub loggers : IsBetween 1 8 h.loggers
+  pub loggers : IsBetween 1 MAX_LOGGERS h.loggers
   pub logger : h.logger < h.loggers
   pub seed : h.seed < 256 ^ 8
 

@@ -4,7 +4,7 @@ use Rattle.codec.specs.Numbers.{Reader, number_at}
 use Rattle.codec.specs.Readers.{both, chosen}
 use Rattle.tables.specs.Sizes.{Sizes, sizes}
 use Rattle.tables.specs.declared.limits.TheConstants.{MAX_WAREHOUSES, MAX_DISTRICTS, MIN_CUSTOMERS, MAX_CUSTOMERS}
-use Rattle.tables.specs.declared.limits.TheConstants.{MIN_ITEMS, MAX_ITEMS, MAX_ORDERS, MAX_COMMITS}
+use Rattle.tables.specs.declared.limits.TheConstants.{MIN_ITEMS, MAX_ITEMS, MAX_ORDERS, MAX_COMMITS, MAX_LOGGERS}
 use Rattle.log_header.specs.declared.header.TheConstants.{MAGIC, VERSION}
 use Rattle.log_header.specs.Header.{HeaderView, header_view}
 
@@ -42,7 +42,7 @@ Parts = ℕ × (ℕ × (ℕ × (ℕ × (Sizes × ℕ))))
 
 -- whether a logger has this number, among so many
 unfoldable pub is_logger : ℕ → ℕ → Bool
-is_logger logger loggers = is_between 1 8 loggers && nat_lt logger loggers
+is_logger logger loggers = is_between 1 MAX_LOGGERS loggers && nat_lt logger loggers
 
 abbrev pub view_of : Parts → HeaderView
 view_of p = header_view p.1.1.0 p.1.1.1.0 p.1.1.1.1.0 p.1.1.1.1.1

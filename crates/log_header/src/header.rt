@@ -4,6 +4,7 @@ ghost use Rattle.std.specs.Prelude.{length, take};
 ghost use Rattle.std.specs.Option.{option_map};
 ghost use Rattle.codec.specs.Readers.{chosen};
 ghost use Rattle.tables.specs.Sizes.{IsScale};
+ghost use Rattle.tables.specs.declared.limits.TheConstants.{MAX_LOGGERS};
 ghost use Rattle.log_header.specs.Header.{HeaderView, IsHeader, scale_text, header_text};
 ghost use Rattle.log_header.specs.HeaderReading.{scale_if, scale_from, header_if, parts};
 
@@ -11,6 +12,7 @@ use codec::{put_u16, put_u32, put_u64, u16_at, u32_at, u64_at};
 use std::alloc::AllocError;
 use std::marker::Model;
 use tables::Scale;
+use tables::limits::MAX_LOGGERS;
 
 /// The name of the format, `SILOTPCC`, as a number of eight bytes.
 const MAGIC: u64 = 0x4343_5054_4f4c_4953;
@@ -49,7 +51,7 @@ impl Header {
     /// The header of the logger with this number, from 0, among 1 to 8 loggers, over a scale and the population of this
     /// seed, where 0 stands for the plain one.
     pub fn new(scale: Scale, seed: u64, logger: u16, loggers: u16) -> Header
-        requires loggers { (1 ≤ loggers) × (loggers ≤ 8) }
+        requires loggers { (1 ≤ loggers) × (loggers ≤ MAX_LOGGERS) }
         requires logger { logger < loggers }
         ensures value { result ≡ header_view logger loggers scale seed }
         ensures lawful { IsHeader result }
@@ -133,7 +135,7 @@ fn header_of(
     ensures { result ≡ header_if (magic, (version, (logger, (loggers, (scale, seed))))) }
 {
     let is_format = magic == MAGIC && version == VERSION;
-    let is_logger = 1 <= loggers && loggers <= 8 && logger < loggers;
+    let is_logger = 1 <= loggers && loggers <= MAX_LOGGERS && logger < loggers;
     if is_format && is_logger {
         Some(Header::new(scale, seed, logger, loggers))
     } else {

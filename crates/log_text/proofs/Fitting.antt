@@ -17,7 +17,7 @@ use Rattle.tables.specs.declared.records.Table.TheVariants as table
 use Rattle.log_text.specs.Columns.{span, columns, width, ranges, is_within, are_within}
 use Rattle.log_text.specs.Writes.{places, is_value, is_write, is_history, rank, rise_from, are_writes}
 use Rattle.log_text.specs.declared.columns.Range.{Range}
-use Rattle.log_text.specs.declared.limits.TheConstants.{MAX_WRITES}
+use Rattle.tables.specs.declared.limits.TheConstants.{MAX_WRITES}
 use Rattle.log_text.specs.declared.write.Write.{Write}
 use Rattle.log_text.proofs.Texts.{FitsWords, FitsValue, FitsWrite}
 

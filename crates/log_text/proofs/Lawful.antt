@@ -10,7 +10,7 @@ use Rattle.log_header.specs.Header.{HeaderView, IsHeader}
 use Rattle.log_text.specs.Writes.{are_writes}
 use Rattle.log_text.specs.Entries.{EntryView}
 use Rattle.log_text.specs.Bodies.{BodyView, is_next, is_timed, is_asked, is_entry, behind, entries_after, marked, body_after}
-use Rattle.log_text.specs.declared.limits.TheConstants.{MAX_MARK, MAX_TERMINALS}
+use Rattle.tables.specs.declared.limits.TheConstants.{MAX_MARK, MAX_TERMINALS}
 use Rattle.log_text.specs.declared.last.Last.{Last}
 use Rattle.log_text.proofs.Texts.{FitsEntry}
 use Rattle.log_text.proofs.Fitting.{and_split, few_writes, all_writes_fit}

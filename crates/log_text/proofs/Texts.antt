@@ -21,7 +21,7 @@ use Rattle.log_text.specs.Columns.{width}
 use Rattle.log_text.specs.Writes.{value_text, write_text}
 use Rattle.log_text.specs.Entries.{EntryView, entry_text}
 use Rattle.log_text.specs.Reads.{table_numbered, table_from, words_from, kind_numbered, words_if, value_from, write_from, count_numbered, entry_from}
-use Rattle.log_text.specs.declared.limits.TheConstants.{MAX_WRITES}
+use Rattle.tables.specs.declared.limits.TheConstants.{MAX_WRITES}
 use Rattle.log_text.specs.declared.write.Write.{Write}
 
 pub pair_is : {A B : Type 0} (x y : A × B) → Some x ≡ Some y → x ≡ y

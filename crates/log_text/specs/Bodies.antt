@@ -7,7 +7,7 @@ use Rattle.tidword.specs.TidWord.{epoch_of}
 use Rattle.log_text.specs.Entries.{EntryView, entry_text, logged}
 use Rattle.log_header.specs.Header.{HeaderView}
 use Rattle.log_text.specs.Writes.{are_writes}
-use Rattle.log_text.specs.declared.limits.TheConstants.{MAX_MARK, MAX_TERMINALS}
+use Rattle.tables.specs.declared.limits.TheConstants.{MAX_MARK, MAX_TERMINALS}
 use Rattle.log_text.specs.declared.body.Body.{Body}
 use Rattle.log_text.specs.declared.last.Last.{Last}
 

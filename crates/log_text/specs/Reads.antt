@@ -12,7 +12,7 @@ use Rattle.tables.specs.declared.records.Table.{Table}
 use Rattle.log_text.specs.Columns.{width}
 use Rattle.log_text.specs.Entries.{EntryView}
 use Rattle.log_text.specs.Bodies.{BodyView}
-use Rattle.log_text.specs.declared.limits.TheConstants.{MAX_WRITES}
+use Rattle.tables.specs.declared.limits.TheConstants.{MAX_WRITES}
 use Rattle.log_text.specs.declared.write.Write.{Write}
 
 -- the table of a number

@@ -8,7 +8,7 @@ use Rattle.tables.specs.Records.{size, table_number}
 use Rattle.tables.specs.declared.records.Table.{Table}
 use Rattle.tables.specs.declared.records.Table.TheVariants as table
 use Rattle.log_text.specs.Columns.{width, ranges, are_within}
-use Rattle.log_text.specs.declared.limits.TheConstants.{MAX_WRITES}
+use Rattle.tables.specs.declared.limits.TheConstants.{MAX_WRITES}
 use Rattle.log_text.specs.declared.write.Write.{Write}
 
 -- 1 and the columns where the record is present, and 0 where it is absent

@@ -9,7 +9,6 @@ mod entry;
 mod files;
 mod last;
 mod laws;
-pub mod limits;
 mod reading;
 mod reading_entries;
 mod rules;

@@ -8,12 +8,12 @@ ghost use Rattle.log_text.specs.Reads.{Gives, body_from, content_from, entries_f
 
 use crate::body::Body;
 use crate::entry::LoggedEntry;
-use crate::limits::MAX_WRITES;
 use crate::reading::write_from;
 use crate::write::Write;
 use codec::{u16_at, u64_at};
 use money::Refusal;
 use std::alloc::Global;
+use tables::limits::MAX_WRITES;
 
 /// So many writes, one behind the other.
 fn writes_from(alloc: Global, count: u16, bytes: &[u8]) -> Result<(Vec<Write>, &[u8]), Refusal>

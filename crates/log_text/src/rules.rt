@@ -3,14 +3,14 @@ ghost use Rattle.std.specs.Prelude.{◌≡◌, ◌≤◌, map};
 ghost use Rattle.log_text.specs.Entries.{logged};
 ghost use Rattle.log_text.specs.Bodies.{behind, body_after, body_of, entries_after};
 ghost use Rattle.log_text.specs.Bodies.{is_asked, is_entry, is_next, is_timed};
-ghost use Rattle.log_text.specs.declared.limits.TheConstants.{MAX_MARK};
+ghost use Rattle.tables.specs.declared.limits.TheConstants.{MAX_MARK};
 
 use crate::body::Body;
 use crate::entry::LoggedEntry;
 use crate::last::Last;
-use crate::limits::{MAX_MARK, MAX_TERMINALS};
 use crate::write_rules::are_writes;
 use log_header::Header;
+use tables::limits::{MAX_MARK, MAX_TERMINALS};
 
 fn is_next(header: &Header, last: Last, number: u64) -> bool
     ensures { result ≡ is_next header.now last number }

@@ -5,9 +5,9 @@ ghost use Rattle.tables.specs.Records.{table_number};
 ghost use Rattle.log_text.specs.Writes.{are_writes, is_history, is_value, is_write, places, rank, rise_from};
 
 use crate::columns::are_columns;
-use crate::limits::MAX_WRITES;
 use crate::write::Write;
 use money::Payload;
+use tables::limits::MAX_WRITES;
 use tables::{Scale, Table};
 
 /// A table's number in the file, from 1 to 11.

@@ -17,7 +17,7 @@ use Rattle.readset.specs.Reads.{ReadSetView, Keeps, AreWithin, AreRead, held, va
 use Rattle.readset.specs.Writes.{WriteSetView, puts}
 use Rattle.readset.specs.Commit.{IsCommitOf}
 use Rattle.readset.specs.Refused.{NoneMissing, IsAboveCap, IsRefusal}
-use Rattle.readset.specs.declared.limits.TheConstants.{MAX_READS, MAX_WRITES}
+use Rattle.tables.specs.declared.limits.TheConstants.{MAX_READS, MAX_WRITES}
 use Rattle.readset.specs.Explains.{IsCandidate}
 use Rattle.readset.specs.Transaction.{TransactionView, IsUnderWay, ReadsMore, GoesOn, IsStepRefusal, IsExecuted}
 use Rattle.readset.proofs.LeftIs.{row_read}

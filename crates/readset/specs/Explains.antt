@@ -13,7 +13,7 @@ use Rattle.tables.specs.declared.records.RecordKey.TheVariants as key
 use Rattle.tables.specs.declared.input.Input.{Input}
 use Rattle.tables.specs.declared.reply.Reply.{Reply}
 use Rattle.cells.specs.declared.cells.Version.{Version}
-use Rattle.readset.specs.declared.limits.TheConstants.{MAX_READS, MAX_WRITES}
+use Rattle.tables.specs.declared.limits.TheConstants.{MAX_READS, MAX_WRITES}
 use Rattle.readset.specs.Reads.{ReadSetView, AreWithin, held, value_of}
 use Rattle.readset.specs.Writes.{WriteSetView, value_for}
 use Rattle.readset.specs.Commit.{IsCommitOf}

@@ -3,7 +3,6 @@
 #![tactic(auto)]
 
 mod arrivals;
-pub mod limits;
 mod list;
 mod places;
 mod reads;

@@ -6,7 +6,7 @@ ghost use Rattle.tables.specs.Records.{IsRecordKey, number_of_key, record_count}
 ghost use Rattle.tables.specs.Rows.{row_at};
 ghost use Rattle.population.specs.Initial.{initial};
 ghost use Rattle.cells.specs.Records.{ReaderView};
-ghost use Rattle.readset.specs.declared.limits.TheConstants.{MAX_READS, MAX_WRITES};
+ghost use Rattle.tables.specs.declared.limits.TheConstants.{MAX_READS, MAX_WRITES};
 ghost use Rattle.readset.specs.Reads.{held};
 ghost use Rattle.readset.specs.Writes.{no_writes, puts, left_at};
 ghost use Rattle.readset.specs.Commit.{IsCommitOf};

@@ -11,7 +11,7 @@ use Rattle.log_text.specs.Writes.{are_writes}
 use Rattle.log_text.specs.Bodies.{BodyView, entries_in, is_next, is_timed, is_asked, is_entry, behind, entries_after, marked, body_after}
 use Rattle.log_text.specs.Bodies.{bodies_after, start}
 use Rattle.log_text.specs.File.{IsFile}
-use Rattle.log_text.specs.declared.limits.TheConstants.{MAX_MARK}
+use Rattle.tables.specs.declared.limits.TheConstants.{MAX_MARK}
 use Rattle.log_text.specs.declared.last.Last.{Last}
 use Rattle.log_text.proofs.Fitting.{and_split}
 use Rattle.log_text.proofs.Lawful.{through}

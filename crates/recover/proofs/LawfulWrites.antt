@@ -22,7 +22,7 @@ use Rattle.tables.specs.Rows.{order_words, line_words}
 use Rattle.tables.specs.WellFormed.{IsLineRow}
 use Rattle.log_text.specs.Entries.{EntryView}
 use Rattle.log_text.specs.Writes.{places, is_history, is_value, is_write, rise_from, are_writes}
-use Rattle.log_text.specs.declared.limits.TheConstants.{MAX_WRITES}
+use Rattle.tables.specs.declared.limits.TheConstants.{MAX_WRITES}
 use Rattle.log_text.specs.declared.write.Write.{Write}
 use Rattle.log_text.proofs.Fitting.{and_split}
 use Rattle.rebuilt.specs.Rebuilt.{number_of, Leaves}

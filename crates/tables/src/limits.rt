@@ -24,6 +24,24 @@ pub const MAX_ORDERS: u32 = 100_000;
 /// The largest commit cap.
 pub const MAX_COMMITS: u32 = 600_000;
 
+/// The most terminals of an engine.
+pub const MAX_TERMINALS: u16 = 16;
+
+/// The most loggers of an engine, and so log files of a database.
+pub const MAX_LOGGERS: u16 = 8;
+
+/// The most records that a transaction reads.
+pub const MAX_READS: usize = 1_024;
+
+/// The most records that a transaction writes, its HISTORY row not counted.
+pub const MAX_WRITES: usize = 200;
+
+/// The last epoch: the number of one has 32 bits (Silo, section 4.2).
+pub const LAST_EPOCH: u64 = 4_294_967_295;
+
+/// The largest mark of a log file: at least one epoch is behind it.
+pub const MAX_MARK: u64 = LAST_EPOCH - 1;
+
 /// The last date. The first is 1.
 pub const MAX_DATE: u32 = 4_000_000_000;
 

@@ -19,7 +19,7 @@ use Rattle.book.specs.Epochs.{HasCounted, found_epoch}
 use Rattle.book.specs.Streams.{AreStreams}
 use Rattle.book.specs.Loggable.{AreLoggable}
 use Rattle.totals.specs.Totals.{AreTotals}
-use Rattle.book.specs.declared.engine.TheConstants.{MAX_TERMINALS}
+use Rattle.tables.specs.declared.limits.TheConstants.{MAX_TERMINALS}
 use Rattle.book.proofs.Opened.{first_sound, first_ready, first_lasts, first_newest}
 use Rattle.book.proofs.Streams.{first_streams}
 use Rattle.book.proofs.Loggable.{first_loggable}

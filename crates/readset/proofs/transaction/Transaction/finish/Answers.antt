@@ -1,7 +1,7 @@
 use Rattle.std.proofs.Common.{◌≡◌, ◌≤◌, Result, length, sym, subst}
 use Rattle.money.specs.declared.refusal.Refusal.{Refusal}
 use Rattle.tables.specs.declared.reply.Reply.{Reply}
-use Rattle.readset.specs.declared.limits.TheConstants.{MAX_READS, MAX_WRITES}
+use Rattle.tables.specs.declared.limits.TheConstants.{MAX_READS, MAX_WRITES}
 use Rattle.readset.specs.Commit.{IsCommitOf}
 use Rattle.readset.specs.Refused.{IsAboveCap}
 use Rattle.readset.specs.Transaction.{TransactionView, IsUnderWay, Finds}
