@@ -87,6 +87,7 @@ impl<K: Run> Book<K> {
     ghost use Rattle.book.specs.History.{replay};
     ghost use Rattle.book.specs.Book.{IsSound};
     ghost use Rattle.book.specs.Epochs.{HasCounted};
+    ghost use Rattle.book.specs.Loggable.{AreLoggable};
     ghost use Rattle.tables.specs.Keys.{IsDistrictKey};
     ghost use Rattle.totals.specs.District.{AreDistrictTotals};
 
@@ -94,11 +95,12 @@ impl<K: Run> Book<K> {
     ///
     /// The committed tables, `replay K.first` of it, meet the conditions, and each entry's reply is the one that
     /// its transaction has at its place in the order. The book's seat of the board has counted as many commits, each
-    /// with its epoch.
+    /// with its epoch. Each entry is of a terminal of the run, and may be written to a log file.
     pub fn history(&self) -> &[Arc<Entry, Global>]
         ensures history { map arc_value result.now ≡ self.now.history }
         ensures counted { HasCounted self.now.seat self.now.history }
         ensures sound { IsSound K.past K.first self.now.written self.now.history (replay K.first self.now.history) }
+        ensures loggable { AreLoggable K.first.scale K.parts self.now.history }
     {
         self.history.as_slice()
     }
@@ -133,8 +135,8 @@ impl<K: Run> Book<K> {
         tables_of(alloc, &self.population, &self.newest, &added)
     }
 
-    /// Which conditions the committed tables meet: all. Costs one pass over the records, each of which is compared with
-    /// the running totals, and takes no memory.
+    /// Which conditions the committed tables meet: all, as the type keeps. Costs one pass over the records, each of which
+    /// is compared with the running totals, and takes no memory; no clause can ask that it looks at any.
     pub fn report(&self, _alloc: Global) -> Result<Report, Refusal>
         ensures report { IfOk result (IsReportOf (replay K.first self.now.history)) }
         ensures good { IfOk result IsGood }

@@ -1,14 +1,16 @@
 //! The end of a run.
 ghost use Rattle.std.specs.Prelude.{◌≡◌, ◌+◌, ◌<◌, ◌≤◌, length, map, IfOk, IfErr, IfSome, IfNone};
-ghost use Rattle.std.specs.List.{sum_by};
+ghost use Rattle.std.specs.List.{All, sum_by};
 ghost use Rattle.std.specs.Arc.{arc_value};
 ghost use Rattle.money.specs.declared.refusal.Refusal.TheVariants.{OutOfMemory};
+ghost use Rattle.tables.specs.Conditions.{IsConsistent};
 ghost use Rattle.tables.specs.Database.{database};
+ghost use Rattle.tables.specs.WellFormed.{IsWellFormed};
 ghost use Rattle.tables.specs.declared.limits.TheConstants.{MAX_COMMITS};
 ghost use Rattle.conditions.specs.Report.{IsReportOf, IsGood};
-ghost use Rattle.book.specs.History.{replay};
-ghost use Rattle.book.specs.Book.{IsSound};
+ghost use Rattle.book.specs.History.{IsLegal, replay};
 ghost use Rattle.book.specs.Share.{parts_of, commits_of};
+ghost use Rattle.book.specs.Stamps.{AreStamped};
 
 use crate::book::Book;
 use crate::engine::Engine;
@@ -47,8 +49,14 @@ impl<K: Run> Closed<K> {
     }
 
     /// What has committed, in order. Takes no memory.
+    ///
+    /// Each entry is done at the tables that those before it leave, its reply is the one that its transaction has there,
+    /// and its terminal is one of the run's. TIDs rise by record and by terminal, and epochs don't fall.
     pub fn history(&self) -> &[Arc<Entry, Global>]
-        ensures { map arc_value result.now ≡ self.now }
+        ensures history { map arc_value result.now ≡ self.now }
+        ensures legal { IsLegal K.past K.first self.now (replay K.first self.now) }
+        ensures stamped { AreStamped self.now }
+        ensures asked { All (λ e. e.terminal < K.parts) self.now }
     {
         self.book.history()
     }
@@ -57,6 +65,8 @@ impl<K: Run> Closed<K> {
     /// `Book::tables` does. `OutOfMemory` is the only refusal.
     pub fn tables(&self) -> Result<Tables, Refusal>
         ensures tables { IfOk result (λ tables. database tables ≡ replay K.first self.now) }
+        ensures well_formed { IfOk result (λ tables. IsWellFormed (database tables)) }
+        ensures consistent { IfOk result (λ tables. IsConsistent (database tables)) }
         ensures only_memory { IfErr result (λ refusal. refusal ≡ OutOfMemory) }
     {
         self.book.tables()

@@ -32,8 +32,8 @@ impl<K: Run> Book<K> {
     /// Where the versions read are the latest, the transaction is done at the committed tables: its reply and its
     /// writes are those of its definition there, though it may be refused. Its TID is the least of the epoch E that is
     /// larger than all TIDs that it has read and than its terminal's last (`next_tid`). This call loads E from the
-    /// board, before it looks at the first version. After Ok its input is the next commit, the board has counted it
-    /// with this E, and the reader has seen the versions stored.
+    /// board. It does so before it looks at the first version, as Silo does, which no clause can ask for. After Ok its
+    /// input is the next commit, the board has counted it with this E, and the reader has seen the versions stored.
     ///
     /// To a machine of the commit protocol that shows the book to the terminal as any one of its workers, the commit is
     /// a run: the worker locks what it writes, reads the epoch, validates, takes this TID and installs, or fails at the

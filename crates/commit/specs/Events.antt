@@ -89,7 +89,7 @@ abbrev pub written_cell : Cell → ℕ → Option (Option (List ℕ)) → Cell
 written_cell c tid (Some value) = record { word = installed_word tid value; value = value }
 written_cell c tid None = c
 
--- the machine with worker w as it stands after_event its choice or an install, by which it may have finished
+-- the machine with worker w as it stands after its choice or an install, by which it may have finished
 abbrev pub settled_with : Machine → ℕ → Worker → Machine
 settled_with m w x = record (with_worker m w x) { finished = finished_by m.finished x }
 
@@ -113,7 +113,7 @@ after_event m (Unlock w r) = with_cell (with_worker m w (record (worker m w) { l
     r (unlocked_cell (cell m r))
 after_event m AdvanceEpoch = record m { epoch = m.epoch + 1 }
 
--- a list of events, oldest first, each of which may happen where it does, and the machine after_event them
+-- a list of events, oldest first, each of which may happen where it does, and the machine after them
 abbrev pub AreEnabled : Machine → List Event → Type 0
 AreEnabled m [] = Unit {0}
 AreEnabled m (event ∷ events) = IsEnabled m event × AreEnabled (after_event m event) events
