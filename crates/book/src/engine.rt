@@ -1,5 +1,5 @@
 //! The engine: the cells, which anyone reads, and the book under its lock.
-ghost use Rattle.std.specs.Prelude.{◌≡◌, ◌<◌, ◌≤◌, ◌+◌, length, IfOk, IfErr, IfSome, IfNone};
+ghost use Rattle.std.specs.Prelude.{◌≡◌, ◌<◌, ◌≤◌, ◌+◌, length, replicate, IfOk, IfErr, IfSome, IfNone};
 ghost use Rattle.std.specs.Arc.{arc_value};
 ghost use Rattle.money.specs.declared.refusal.Refusal.TheVariants.{OutOfMemory};
 ghost use Rattle.population.specs.Initial.{initial, seed_of};
@@ -75,11 +75,19 @@ impl Parts {
         ensures terminals { IfOk result (λ parts. terminals_of parts ≡ terminals) }
         ensures only_memory { IfErr result (λ refusal. refusal ≡ OutOfMemory) }
     {
-        let newest = newest_of(alloc, &population)?;
-        let totals = totals_of(alloc, &population, &newest)?;
-        let (cells, pen, readers) = Cells::new(rt, alloc, &newest, terminals as usize)?;
-        let (population, lent) = shared(alloc, population)?;
-        let (board, seats) = Board::new(alloc, u64::from(loggers), u64::from(terminals))?;
+        let state = state_of(alloc, population)?;
+        let cells = Cells::new(rt, alloc, &state.newest, terminals as usize)?;
+        let board = Board::new(alloc, u64::from(loggers), u64::from(terminals))?;
+        let lists = lists_of(alloc, loggers, terminals)?;
+        let State {
+            population,
+            lent,
+            newest,
+            totals,
+        } = state;
+        let (cells, pen, readers) = cells;
+        let (board, seats) = board;
+        let (streams, lasts) = lists;
         Ok(Parts {
             population,
             lent,
@@ -87,8 +95,8 @@ impl Parts {
             newest,
             totals,
             history: Vec::new(alloc),
-            streams: streams(alloc, loggers)?,
-            lasts: vec![in alloc; TidWord::new(0); terminals as usize]?,
+            streams,
+            lasts,
             cells,
             pen,
             readers,
@@ -97,6 +105,51 @@ impl Parts {
             seats,
         })
     }
+}
+
+/// What is committed as a run begins: the population, for the engine and for the book, its records' versions, and the
+/// totals of its tables.
+#[derive(Drop)]
+struct State {
+    population: Arc<Population, Global>,
+    lent: Arc<Population, Global>,
+    newest: Vec<Newest>,
+    totals: Totals,
+}
+
+/// What is committed as a run over this population begins. `OutOfMemory` is the only refusal.
+fn state_of(alloc: Global, population: Population) -> Result<State, Refusal>
+    ensures population { IfOk result (λ state. arc_value state.population ≡ population) }
+    ensures lent { IfOk result (λ state. arc_value state.lent ≡ population) }
+    ensures newest { IfOk result (λ state. AreFirst (initial population) state.newest.items) }
+    ensures totals { IfOk result (λ state. AreTotals (initial population) state.totals) }
+    ensures only_memory { IfErr result (λ refusal. refusal ≡ OutOfMemory) }
+{
+    let newest = newest_of(alloc, &population)?;
+    let totals = totals_of(alloc, &population, &newest)?;
+    let (population, lent) = shared(alloc, population)?;
+    Ok(State {
+        population,
+        lent,
+        newest,
+        totals,
+    })
+}
+
+/// The streams of loggers that have taken nothing, and the last TIDs of terminals that have committed nothing.
+/// `OutOfMemory` is the only refusal.
+fn lists_of(
+    alloc: Global,
+    loggers: u16,
+    terminals: u16,
+) -> Result<(Vec<Untaken>, Vec<TidWord>), Refusal>
+    ensures streams { IfOk result (λ lists. AreEmpty loggers 0 lists.0.items) }
+    ensures lasts { IfOk result (λ lists. lists.1.items ≡ replicate terminals 0) }
+    ensures only_memory { IfErr result (λ refusal. refusal ≡ OutOfMemory) }
+{
+    let streams = streams(alloc, loggers)?;
+    let lasts = vec![in alloc; TidWord::new(0); terminals as usize]?;
+    Ok((streams, lasts))
 }
 
 /// The totals of a population's tables, whose records these are. `OutOfMemory` is the only refusal.
