@@ -2,6 +2,8 @@
 ghost use Rattle.std.specs.Prelude.{◌≡◌};
 ghost use Rattle.terminals.specs.Calls.{executed, committing, committed};
 
+use book::Done;
+
 /// How many calls a gate has had of each kind. Each count stays at its greatest number.
 #[derive(Clone, Copy, Debug, Default, PartialEq, Eq)]
 pub struct Calls {
@@ -33,6 +35,12 @@ pub trait Gate {
     /// After a commit.
     fn after_commit(&mut self)
         ensures { calls self.new ≡ committed (calls self.old) };
+
+    /// After these replies were released, which is told by whoever has the terminal acknowledge: those that it released
+    /// then, the oldest first.
+    fn released(&mut self, _replies: &[Done])
+        ensures { calls self.new ≡ calls self.old }
+    {}
 }
 
 /// A gate that only counts.
