@@ -1,266 +1,84 @@
 //! A terminal's deck.
 
-ghost use Rattle.std.proofs.Props.{props};
-ghost use Rattle.tables.specs.Sizes.{IsNumber, IsBetween};
-ghost use Rattle.tables.specs.declared.limits.TheConstants.{MAX_DATE};
-
-use crate::order::{DrawnOrder, MOST_LINES};
+use crate::drawing::Drawing;
+use crate::drawn::Drawn;
 use crate::settings::Settings;
-use draws::{CUSTOMER_SPREAD, Draws, ITEM_SPREAD, LAST_NAME_SPREAD};
-use money::{Cents, Refusal};
+use money::Refusal;
 use std::alloc::Global;
-use tables::limits::{
-    LAST_NAMES, MAX_CARRIER, MAX_DATE, MAX_ORDER_LINES, MAX_PAYMENT, MAX_QUANTITY, MAX_THRESHOLD,
-    MIN_ORDER_LINES, MIN_PAYMENT, MIN_THRESHOLD,
-};
-use tables::{
-    DeliveryInput, Input, OrderStatusInput, PaymentInput, RequestedLine, Scale, StockLevelInput,
-    Who,
-};
+use std::marker::Model;
+use tables::limits::MAX_DATE;
+use tables::{Input, Scale};
 
 /// The inputs of a terminal, one after another, drawn from a seed. The terminal's number names the stream of the draws
-/// and the home warehouse, of which every input is. Of 100 inputs about 45 are New-Orders, 43 Payments, and 4 each of
-/// the others (TPC-C 5.2.3).
+/// and the home warehouse, of which every input is. Contracts see the scale, the home warehouse, and the next input,
+/// which is drawn already, with its date.
 #[derive(Drop)]
 pub struct Deck {
-    scale: Scale,
-    settings: Settings,
-    draws: Draws,
-    home: u32,
+    drawing: Drawing,
     date: u32,
-    pub ghost at_home: { IsNumber scale.warehouses home } by { Prim.hlevel props },
-    pub ghost dated: { IsBetween 1 MAX_DATE date } by { Prim.hlevel props },
+    next: Drawn,
+}
+
+impl Model for Deck {
+    ghost use Rattle.std.specs.Prelude.{◌≤◌};
+    ghost use Rattle.tables.specs.Sizes.{IsBetween};
+    ghost use Rattle.tables.specs.declared.limits.TheConstants.{MAX_DATE};
+    ghost use Rattle.deck.specs.Drawn.{input_of, IsDrawn};
+    ghost use Rattle.deck.specs.Deck.{DeckView};
+
+    ghost Value = { DeckView };
+
+    ghost view = { λ d. record {
+      scale = d.drawing.scale;
+      home = d.drawing.home;
+      date = d.date;
+      next = input_of d.next;
+    } };
+
+    ghost invariant = { λ d. IsBetween 1 MAX_DATE d.date × IsDrawn d.drawing.scale d.drawing.home d.date d.next };
 }
 
 impl Deck {
-    ghost use Rattle.std.specs.Prelude.{◌≡◌, ◌≢◌, ℕ, ◌+◌, ◌≤ℤ◌, min, Some, IfOk, IfErr, All};
+    ghost use Rattle.std.specs.Prelude.{◌≡◌, ◌+◌, min, IfOk, IfErr};
     ghost use Rattle.money.specs.declared.refusal.Refusal.TheVariants.{OutOfMemory};
     ghost use Rattle.tables.specs.Inputs.{IsInput};
-    ghost use Rattle.tables.specs.Customer.{IsWho};
-    ghost use Rattle.tables.specs.NewOrder.{IsRequestedLine};
-    ghost use Rattle.tables.specs.Payment.{IsPayment};
-    ghost use Rattle.tables.specs.OrderStatus.{IsOrderStatus};
-    ghost use Rattle.tables.specs.Delivery.{IsDelivery};
-    ghost use Rattle.tables.specs.StockLevel.{IsStockLevel};
-    ghost use Rattle.tables.specs.declared.limits.TheConstants.{MIN_ORDER_LINES, MAX_ORDER_LINES, MIN_PAYMENT};
-    ghost use Rattle.tables.specs.declared.limits.TheConstants.{MAX_PAYMENT};
-    ghost use Rattle.deck.specs.Deck.{scale_of, home_of, date_of, home_warehouse, IsAskedAt, IsDrawnOrder, IsSameDeck};
+    ghost use Rattle.tables.specs.declared.limits.TheConstants.{MAX_DATE};
+    ghost use Rattle.deck.specs.Deck.{home_warehouse, IsAskedAt};
 
-    /// The deck of a terminal. Its home warehouse is the remainder of the terminal's number by that of warehouses,
-    /// plus 1.
+    /// The deck of a terminal, of which the first input is drawn. Its home warehouse is the remainder of the terminal's
+    /// number by that of warehouses, plus 1. Takes no memory.
     pub fn new(scale: Scale, settings: Settings, seed: u64, terminal: u32) -> Deck
-        ensures scale { scale_of result ≡ scale }
-        ensures home { home_of result ≡ home_warehouse scale terminal }
-        ensures date { date_of result ≡ 1 }
+        ensures scale { result.scale ≡ scale }
+        ensures home { result.home ≡ home_warehouse scale terminal }
+        ensures date { result.date ≡ 1 }
     {
+        let mut drawing = Drawing::new(scale, settings, seed, terminal);
+        let next = drawing.draw(1);
         Deck {
-            scale,
-            settings,
-            draws: Draws::new(seed, u64::from(terminal)),
-            home: terminal % scale.warehouses() + 1,
+            drawing,
             date: 1,
+            next,
         }
     }
 
-    /// The next input. Its date is 1 for the first, and rises by 1 from input to input up to 4,000,000,000. All draws
-    /// are made before memory is taken, so after a refusal the deck stands behind that input.
+    /// The next input, and draws the one behind it. Its date is 1 for the first, and rises by 1 from input to input up
+    /// to 4,000,000,000. After a refusal, too, the deck stands behind that input.
     ///
     /// # Errors
     ///
     /// `OutOfMemory`, and no other.
     pub fn next(&mut self, alloc: Global) -> Result<Input, Refusal>
-        ensures valid { IfOk result (λ input. IsInput (scale_of self.old) input) }
-        ensures asked { IfOk result (λ input. IsAskedAt (home_of self.old) (date_of self.old) input) }
+        ensures next { IfOk result (λ input. input ≡ self.old.next) }
+        ensures valid { IsInput self.old.scale self.old.next }
+        ensures asked { IsAskedAt self.old.home self.old.date self.old.next }
         ensures only_memory { IfErr result (λ refusal. refusal ≡ OutOfMemory) }
-        ensures scale { scale_of self.new ≡ scale_of self.old }
-        ensures home { home_of self.new ≡ home_of self.old }
-        ensures date { date_of self.new ≡ min (date_of self.old + 1) MAX_DATE }
+        ensures scale { self.new.scale ≡ self.old.scale }
+        ensures home { self.new.home ≡ self.old.home }
+        ensures date { self.new.date ≡ min (self.old.date + 1) MAX_DATE }
     {
-        let input = match self.draws.number(1, 100) {
-            1..=45 => self.new_order().into_input(alloc, &self.scale),
-            46..=88 => Ok(Input::Payment(self.payment())),
-            89..=92 => Ok(Input::OrderStatus(self.order_status())),
-            93..=96 => Ok(Input::Delivery(self.delivery())),
-            _ => Ok(Input::StockLevel(self.stock_level())),
-        };
+        let input = self.next.into_input(alloc);
         self.date = (self.date + 1).min(MAX_DATE);
+        self.next = self.drawing.draw(self.date);
         input
-    }
-
-    /// A New-Order (TPC-C 2.4.1), in one of a hundred with an item that isn't there.
-    fn new_order(&mut self) -> DrawnOrder
-        ensures valid { IsDrawnOrder (scale_of self.old) result }
-        ensures warehouse { result.warehouse ≡ home_of self.old }
-        ensures date { result.date ≡ date_of self.old }
-        ensures same { IsSameDeck self.old self.new }
-    {
-        let district = self.district();
-        let customer = self.customer();
-        let count = self.draws.number(MIN_ORDER_LINES, MAX_ORDER_LINES);
-        let is_rolled_back = self.draws.happens(1, 100);
-        DrawnOrder {
-            date: self.date,
-            warehouse: self.home,
-            district,
-            customer,
-            count,
-            lines: self.lines(count, is_rolled_back),
-        }
-    }
-
-    /// This many lines, and after them some that count for nothing. In an order that is rolled back the last of them
-    /// has an item that isn't there.
-    fn lines(&mut self, count: u32, is_rolled_back: bool) -> [RequestedLine; MOST_LINES]
-        requires { IsBetween MIN_ORDER_LINES MAX_ORDER_LINES count }
-        ensures valid { All (IsRequestedLine (scale_of self.old)) result }
-        ensures same { IsSameDeck self.old self.new }
-    {
-        let unused = RequestedLine {
-            item: 1,
-            supply_warehouse: self.home,
-            quantity: 1,
-        };
-        let mut lines = [unused; MOST_LINES];
-        for place in 0..count {
-            lines[place as usize] = self.line(is_rolled_back && place + 1 == count);
-        }
-        lines
-    }
-
-    /// A line: in one of a hundred another warehouse supplies it, if there is one. The missing item's number is the one
-    /// after the last, and is taken in place of a drawn one.
-    fn line(&mut self, is_missing: bool) -> RequestedLine
-        ensures valid { IsRequestedLine (scale_of self.old) result }
-        ensures same { IsSameDeck self.old self.new }
-    {
-        let items = self.scale.items();
-        let drawn = self.draws.skewed(ITEM_SPREAD, 1, items, self.settings.item);
-        let supply_warehouse = self.other_warehouse(1).unwrap_or(self.home);
-        RequestedLine {
-            item: if is_missing { items + 1 } else { drawn },
-            supply_warehouse,
-            quantity: self.draws.number(1, MAX_QUANTITY),
-        }
-    }
-
-    /// A Payment (TPC-C 2.5.1), in 15 of a hundred by a customer of another warehouse, if there is one.
-    fn payment(&mut self) -> PaymentInput
-        ensures valid { IsPayment (scale_of self.old) result }
-        ensures warehouse { result.warehouse ≡ home_of self.old }
-        ensures date { result.date ≡ date_of self.old }
-        ensures same { IsSameDeck self.old self.new }
-    {
-        let district = self.district();
-        let (customer_warehouse, customer_district) = match self.other_warehouse(15) {
-            Some(other) => (other, self.district()),
-            None => (self.home, district),
-        };
-        PaymentInput {
-            date: self.date,
-            warehouse: self.home,
-            district,
-            customer_warehouse,
-            customer_district,
-            who: self.who(),
-            amount: self.amount(),
-        }
-    }
-
-    /// An Order-Status (TPC-C 2.6.1).
-    fn order_status(&mut self) -> OrderStatusInput
-        ensures valid { IsOrderStatus (scale_of self.old) result }
-        ensures warehouse { result.warehouse ≡ home_of self.old }
-        ensures date { result.date ≡ date_of self.old }
-        ensures same { IsSameDeck self.old self.new }
-    {
-        OrderStatusInput {
-            date: self.date,
-            warehouse: self.home,
-            district: self.district(),
-            who: self.who(),
-        }
-    }
-
-    /// A Delivery (TPC-C 2.7.1).
-    fn delivery(&mut self) -> DeliveryInput
-        ensures valid { IsDelivery (scale_of self.old) result }
-        ensures warehouse { result.warehouse ≡ home_of self.old }
-        ensures date { result.date ≡ date_of self.old }
-        ensures same { IsSameDeck self.old self.new }
-    {
-        DeliveryInput {
-            date: self.date,
-            warehouse: self.home,
-            carrier: self.draws.number(1, MAX_CARRIER),
-        }
-    }
-
-    /// A Stock-Level (TPC-C 2.8.1), of a district that is drawn each time: a terminal of the standard keeps to one.
-    fn stock_level(&mut self) -> StockLevelInput
-        ensures valid { IsStockLevel (scale_of self.old) result }
-        ensures warehouse { result.warehouse ≡ home_of self.old }
-        ensures date { result.date ≡ date_of self.old }
-        ensures same { IsSameDeck self.old self.new }
-    {
-        StockLevelInput {
-            date: self.date,
-            warehouse: self.home,
-            district: self.district(),
-            threshold: self.draws.number(MIN_THRESHOLD, MAX_THRESHOLD),
-        }
-    }
-
-    fn district(&mut self) -> u32
-        ensures valid { IsNumber (scale_of self.old).districts result }
-        ensures same { IsSameDeck self.old self.new }
-    {
-        self.draws.number(1, self.scale.districts())
-    }
-
-    fn customer(&mut self) -> u32
-        ensures valid { IsNumber (scale_of self.old).customers result }
-        ensures same { IsSameDeck self.old self.new }
-    {
-        let customers = self.scale.customers();
-        self.draws
-            .skewed(CUSTOMER_SPREAD, 1, customers, self.settings.customer)
-    }
-
-    /// The customer of a Payment or an Order-Status, in 60 of a hundred by last name (TPC-C 2.5.1.2, 2.6.1.2).
-    fn who(&mut self) -> Who
-        ensures valid { IsWho (scale_of self.old) result }
-        ensures same { IsSameDeck self.old self.new }
-    {
-        if !self.draws.happens(60, 100) {
-            return Who::Id(self.customer());
-        }
-        let names = self.scale.customers().min(LAST_NAMES);
-        let constant = self.settings.last_name;
-        Who::Last(self.draws.skewed(LAST_NAME_SPREAD, 0, names - 1, constant))
-    }
-
-    /// H_AMOUNT (TPC-C 2.5.1.3).
-    fn amount(&mut self) -> Cents
-        ensures at_least { MIN_PAYMENT ≤ℤ result }
-        ensures at_most { result ≤ℤ MAX_PAYMENT }
-        ensures same { IsSameDeck self.old self.new }
-    {
-        let cents = self.draws.number(MIN_PAYMENT as u32, MAX_PAYMENT as u32);
-        Cents::new(i64::from(cents))
-    }
-
-    /// In `chance` of a hundred another warehouse, each as likely as the others; else, and where there is no other,
-    /// None.
-    fn other_warehouse(&mut self, chance: u32) -> Option<u32>
-        ensures valid { (w : ℕ) → result ≡ Some w → IsNumber (scale_of self.old).warehouses w }
-        ensures other { (w : ℕ) → result ≡ Some w → w ≢ home_of self.old }
-        ensures same { IsSameDeck self.old self.new }
-    {
-        let warehouses = self.scale.warehouses();
-        if !self.draws.happens(chance, 100) || warehouses < 2 {
-            return None;
-        }
-        let step = self.draws.number(1, warehouses - 1);
-        Some((self.home - 1 + step) % warehouses + 1)
     }
 }

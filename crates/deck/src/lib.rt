@@ -2,6 +2,8 @@
 #![tactic(auto)]
 
 mod deck;
+mod drawing;
+mod drawn;
 mod order;
 mod settings;
 

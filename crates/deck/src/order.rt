@@ -1,14 +1,14 @@
-//! A drawn order, before memory is taken for it.
+//! A drawn order.
 
-ghost use Rattle.std.specs.Prelude.{◌≡◌, IfOk, IfErr};
+ghost use Rattle.std.specs.Prelude.{◌≡◌, ◌≤◌, IfOk, IfErr};
 ghost use Rattle.money.specs.declared.refusal.Refusal.TheVariants.{OutOfMemory};
-ghost use Rattle.tables.specs.Inputs.{IsInput};
-ghost use Rattle.deck.specs.Deck.{IsDrawnOrder, IsAskedAt};
+ghost use Rattle.tables.specs.declared.limits.TheConstants.{MAX_ORDER_LINES};
+ghost use Rattle.deck.specs.Order.{new_order_of};
 
 use money::Refusal;
 use std::alloc::Global;
 use tables::limits::MAX_ORDER_LINES;
-use tables::{Input, Lines, NewOrderInput, RequestedLine, Scale};
+use tables::{Input, Lines, NewOrderInput, RequestedLine};
 
 /// The most lines of an order.
 pub const MOST_LINES: usize = MAX_ORDER_LINES as usize;
@@ -26,10 +26,9 @@ pub struct DrawnOrder {
 
 impl DrawnOrder {
     /// The input. Takes memory for its lines.
-    pub fn into_input(self, alloc: Global, scale: &Scale) -> Result<Input, Refusal>
-        requires { IsDrawnOrder scale.now self }
-        ensures valid { IfOk result (λ input. IsInput scale.now input) }
-        ensures asked { IfOk result (λ input. IsAskedAt self.warehouse self.date input) }
+    pub fn into_input(self, alloc: Global) -> Result<Input, Refusal>
+        requires { self.count ≤ MAX_ORDER_LINES }
+        ensures input { IfOk result (λ input. input ≡ Input.NewOrder (new_order_of self)) }
         ensures only_memory { IfErr result (λ refusal. refusal ≡ OutOfMemory) }
     {
         let lines = Vec::from_slice(alloc, &self.lines.as_slice()[..self.count as usize])?;

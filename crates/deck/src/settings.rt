@@ -1,7 +1,7 @@
 //! The constants of the skewed draws.
 
 ghost use Rattle.std.specs.Prelude.{◌≡◌};
-ghost use Rattle.deck.specs.Deck.{usual_settings};
+ghost use Rattle.deck.specs.Settings.{usual_settings};
 
 use draws::{CUSTOMER_CONSTANT, ITEM_CONSTANT, LAST_NAME_CONSTANT};
 

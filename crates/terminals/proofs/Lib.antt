@@ -1,1 +1,5 @@
 mod Releasing
+mod Trying
+mod Counting
+mod Following
+mod Executing

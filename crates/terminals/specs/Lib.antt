@@ -1,3 +1,4 @@
 pub mod Outbox
 pub mod Calls
+pub mod Tries
 pub mod Terminal

@@ -4,6 +4,7 @@
 
 mod gate;
 mod outbox;
+mod steps;
 mod terminal;
 
 pub use gate::{Calls, Gate};

@@ -1,15 +1,14 @@
 //! A terminal, and one input of it.
-ghost use Rattle.std.specs.Prelude.{◌≡◌, ◌≢◌, ℕ, ◌≤◌, ◌⊎◌, ◌↔◌, Err, IsTrue, IfOk, IfErr, OnErr, IsErrOf, MatchResult};
-ghost use Rattle.money.specs.declared.refusal.Refusal.TheVariants.{OutOfMemory, Stale, Conflict, GaveUp};
+ghost use Rattle.std.specs.Prelude.{◌≡◌, ◌↔◌, ℕ, Err, IsTrue, IfOk, IfErr, OnErr};
 ghost use Rattle.tables.specs.Inputs.{IsInput};
-ghost use Rattle.deck.specs.Deck.{scale_of};
-ghost use Rattle.terminals.specs.Calls.{counted};
+ghost use Rattle.terminals.specs.Calls.{AreCalls};
 ghost use Rattle.terminals.specs.Outbox.{Acknowledges};
-ghost use Rattle.terminals.specs.Terminal.{HasCommitted, HasRefused, IsCause, IsTurned};
-ghost use Rattle.terminals.specs.declared.terminal.TheConstants.{TRIES as the_tries};
+ghost use Rattle.terminals.specs.Terminal.{HasCommitted, HasRefused, IsTurned};
+ghost use Rattle.terminals.specs.Tries.{AreTries, IsAgain, IsTry, TellsMissing};
 
 use crate::gate::Gate;
 use crate::outbox::Outbox;
+use crate::steps::{commit_at, execute_at};
 use board::Board;
 use book::{Done, Engine, Run, Share};
 use cells::Reader;
@@ -19,7 +18,6 @@ use std::alloc::Global;
 use std::marker::Model;
 use std::sync::Wait;
 use tables::Input;
-use transactions::execute;
 
 /// How often an input is tried before its terminal gives up.
 pub const TRIES: u32 = 64;
@@ -36,15 +34,14 @@ pub struct Terminal<K: Run> {
 
 impl<K: Run> Model for Terminal<K> {
     ghost use Rattle.std.specs.Prelude.{◌≡◌};
-    ghost use Rattle.deck.specs.Deck.{scale_of};
     ghost use Rattle.terminals.specs.Terminal.{TerminalView};
 
     ghost Value = { TerminalView };
 
-    ghost view = { λ t. record { share = t.share; outbox = t.outbox; deck = t.deck } };
+    ghost view = { λ t. record { reader = t.reader; share = t.share; outbox = t.outbox; deck = t.deck } };
 
     ghost invariant = { λ t. (t.reader.cells ≡ K.cells) × (t.outbox.seat.board ≡ K.board)
-        × (scale_of t.deck ≡ K.first.scale) };
+        × (t.deck.scale ≡ K.first.scale) };
 }
 
 impl<K: Run> Terminal<K> {
@@ -52,8 +49,8 @@ impl<K: Run> Terminal<K> {
     pub fn new(reader: Reader, share: Share<K>, outbox: Outbox, deck: Deck) -> Terminal<K>
         requires reader { reader.cells ≡ K.cells }
         requires outbox { outbox.seat.board ≡ K.board }
-        requires deck { scale_of deck ≡ K.first.scale }
-        ensures { result ≡ record { share = share; outbox = outbox; deck = deck } }
+        requires deck { deck.scale ≡ K.first.scale }
+        ensures { result ≡ record { reader = reader; share = share; outbox = outbox; deck = deck } }
     {
         Terminal {
             reader,
@@ -90,9 +87,11 @@ impl<K: Run> Terminal<K> {
     ///
     /// # Errors
     ///
-    /// `ItemNotValid`, `OrdersFull`, `CommitsFull` and `OutOfMemory` as `execute` and `Book::commit` have them, and
-    /// `GaveUp` exactly where 64 tries have ended as stale or in conflict. After each of them the deck stands behind
-    /// this input all the same, and share and outbox are as before, but that its room may have risen.
+    /// `ItemNotValid` exactly where an item of the input isn't in ITEM, with the first such item. `OrdersFull` where, in
+    /// the last try, D_NEXT_O_ID as read was above the order cap, and `CommitsFull` where the book was at the commit
+    /// cap. `GaveUp` exactly where 64 tries have ended as stale or in conflict. `OutOfMemory` at any time. After each of
+    /// them the deck stands behind this input all the same, and share and outbox are as before, but that its room may
+    /// have risen.
     pub fn one<R: Wait, G: Gate>(
         &mut self,
         rt: &R,
@@ -101,16 +100,12 @@ impl<K: Run> Terminal<K> {
         gate: &mut G,
     ) -> Result<u64, Refusal>
         ensures deck { IsTurned self.old.deck self.new.deck }
-        ensures ok { IfOk result (HasCommitted self.old self.new) }
+        ensures ok { IfOk result (HasCommitted K.past K.first self.old.deck.next self.old self.new) }
         ensures err { OnErr result (HasRefused self.old self.new) }
-        ensures causes { IfErr result IsCause }
-        ensures tries { (tries : ℕ) × (tries ≤ the_tries)
-            × ((G.calls gate.new).executes ≡ counted tries (G.calls gate.old).executes) }
-        ensures gave_up { IsErrOf result GaveUp
-            → (G.calls gate.new).executes ≡ counted the_tries (G.calls gate.old).executes }
-        ensures committed { MatchResult result
-            (λ number. (G.calls gate.new).committed ≡ counted 1 (G.calls gate.old).committed)
-            (λ refusal. (G.calls gate.new).committed ≡ (G.calls gate.old).committed) }
+        ensures missing { TellsMissing K.first self.old.deck.next result }
+        ensures tries { (tries : ℕ)
+            × AreTries K.past K.first self.old.deck.next self.old.reader self.new.reader tries result
+            × AreCalls tries result (G.calls gate.old) (G.calls gate.new) }
     {
         let input = self.deck.next(alloc)?;
         for _ in 0..TRIES {
@@ -122,7 +117,7 @@ impl<K: Run> Terminal<K> {
         Err(Refusal::GaveUp)
     }
 
-    /// Executes an input, and commits it if what it read is still the latest.
+    /// A try of an input: executes it, and commits it if what it read is still the latest.
     ///
     /// # Errors
     ///
@@ -137,31 +132,17 @@ impl<K: Run> Terminal<K> {
     ) -> Result<u64, Refusal>
         requires input { IsInput K.first.scale input.now }
         ensures deck { self.new.deck ≡ self.old.deck }
-        ensures ok { IfOk result (HasCommitted self.old self.new) }
+        ensures ok { IfOk result (HasCommitted K.past K.first input.now self.old self.new) }
         ensures err { OnErr result (HasRefused self.old self.new) }
-        ensures causes { IfErr result (λ refusal. (refusal ≡ Stale) ⊎ (refusal ≡ Conflict)
-            ⊎ (IsCause refusal × (refusal ≢ GaveUp))) }
-        ensures calls { ((G.calls gate.new).executes ≡ counted 1 (G.calls gate.old).executes)
-            ⊎ (((G.calls gate.new).executes ≡ (G.calls gate.old).executes) × IsErrOf result OutOfMemory) }
-        ensures committed { MatchResult result
-            (λ number. (G.calls gate.new).committed ≡ counted 1 (G.calls gate.old).committed)
-            (λ refusal. (G.calls gate.new).committed ≡ (G.calls gate.old).committed) }
+        ensures missing { TellsMissing K.first input.now result }
+        ensures tried { IfErr result (IsTry K.past K.first input.now self.old.reader self.new.reader) }
+        ensures calls { AreCalls 1 result (G.calls gate.old) (G.calls gate.new) }
     {
-        self.outbox.reserve()?;
         gate.before_execute();
-        let (board, cells) = (engine.board(), engine.cells());
-        let work = execute(
-            rt,
-            alloc,
-            cells,
-            &mut self.reader,
-            engine.population(),
-            input,
-        )?;
+        self.outbox.reserve()?;
+        let work = execute_at(rt, alloc, engine, &mut self.reader, input)?;
         gate.before_commit();
-        let done = engine
-            .lock(rt)
-            .commit(rt, board, cells, &mut self.reader, &mut self.share, work)?;
+        let done = commit_at(rt, engine, &mut self.reader, &mut self.share, work)?;
         gate.after_commit();
         let number = u64::from(done.number());
         self.outbox.hold(done);
@@ -171,6 +152,7 @@ impl<K: Run> Terminal<K> {
     /// Releases the replies that are durable, as `Outbox::acknowledge` does, and answers how many.
     pub fn acknowledge(&mut self, board: &Board) -> u64
         requires { board.now ≡ K.board }
+        ensures reader { self.new.reader ≡ self.old.reader }
         ensures share { self.new.share ≡ self.old.share }
         ensures deck { self.new.deck ≡ self.old.deck }
         ensures outbox { Acknowledges self.old.outbox result self.new.outbox }
@@ -181,7 +163,7 @@ impl<K: Run> Terminal<K> {
 
 /// Whether an input is tried again after this outcome: exactly where what it read wasn't or isn't the latest.
 fn is_retried(outcome: &Result<u64, Refusal>) -> bool
-    ensures { IsTrue result ↔ (outcome.now ≡ Err Stale) ⊎ (outcome.now ≡ Err Conflict) }
+    ensures { IsTrue result ↔ IsAgain outcome.now }
 {
     matches!(outcome, Err(Refusal::Stale | Refusal::Conflict))
 }

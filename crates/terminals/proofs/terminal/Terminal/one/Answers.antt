@@ -1,16 +1,56 @@
-use Rattle.std.proofs.Common.{◌≡◌, ℕ, ◌+◌, ◌<◌, ◌≤◌, ◌⊎◌, inl, inr, ◌∙◌, arith, rules}
-use Rattle.terminals.specs.Calls.{counted}
-use Rattle.terminals.specs.declared.terminal.TheConstants.{TRIES}
+use Rattle.std.proofs.Common.{ap, subst, rules, arith}
+use Rattle.money.specs.declared.refusal.Refusal.TheVariants.{GaveUp}
+use Rattle.cells.specs.Records.{ReaderView}
+use Rattle.readset.specs.Refused.{NoneMissing}
+use Rattle.terminals.specs.Terminal.{TerminalView}
+use Rattle.terminals.specs.Tries.{AreTriedAgain, IsAgain}
+use Rattle.terminals.proofs.Counting.{calls_none, calls_again}
+use Rattle.terminals.proofs.Following.{refused_again}
+use Rattle.terminals.proofs.Trying.{none_missing_of, tried_again, tried_none, tries_of}
 use Rattle.terminals.proofs.terminal.Terminal.one.Goals as goal
 
--- the tries that are counted after one more try, which began, or for which there was no room
-with_one : {X : Type 0} (tries before middle after : ℕ) → tries < TRIES → middle ≡ counted tries before
-    → (after ≡ counted 1 middle) ⊎ ((after ≡ middle) × X) → (x : ℕ) × (x ≤ TRIES) × (after ≡ counted x before)
-with_one tries before middle after few counts (inl began) = (tries + 1, omega (arith, few), omega (arith, counts, began))
-with_one tries before middle after few counts (inr stays) = (tries, omega (arith, few), stays.0 ∙ counts)
+pub loop-init : goal.loop-init
+loop-init g c = record {
+  next = search rules;
+  valid = search rules;
+  deck = search rules;
+  refused = search rules;
+  tried =
+      subst (λ (reader : ReaderView). AreTriedAgain g.K.Run.past g.K.Run.first c.in_ok-input.input reader 0 c.self.inside.reader)
+      (ap (λ (t : TerminalView). t.reader) c.self.view_is)
+      (tried_none g.K.Run.past g.K.Run.first c.in_ok-input.input c.self.inside.reader);
+  calls = calls_none GaveUp (g.G.Gate.calls c.args.gate.now);
+}
 
 pub returns-then-not-is_retried-clause-tries : goal.returns-then-not-is_retried-clause-tries
 returns-then-not-is_retried-clause-tries g c =
-    let few : c.loop.counter < TRIES = search rules in
-    with_one c.loop.counter (g.G.Gate.calls c.args.gate.now).executes (g.G.Gate.calls c.loop.gate).executes
-    (g.G.Gate.calls c.attempt-outcome.new.gate).executes few c.loop.invariant.3 c.attempt-outcome.ensures.calls
+    let i = c.loop.invariant in
+    let made = c.attempt-outcome.ensures in
+    let final : ¬ IsAgain c.attempt-outcome.result = search rules in
+    tries_of g.K.Run.past g.K.Run.first _ _ i.next c.args.self.now.reader c.loop.self.reader c.attempt-outcome.new.self.reader
+    c.loop.counter c.attempt-outcome.result (g.G.Gate.calls c.args.gate.now) (g.G.Gate.calls c.loop.gate) (g.G.Gate.calls c.attempt-outcome.new.gate)
+    (search rules) i.tried final made.tried i.calls made.calls
+
+pub loop-preserved : goal.loop-preserved
+loop-preserved g c =
+    let i = c.loop.invariant in
+    let made = c.attempt-outcome.ensures in
+    let again : IsAgain c.attempt-outcome.result = search rules in
+    record {
+      next = i.next;
+      valid = i.valid;
+      deck = search rules;
+      refused = refused_again c.args.self.now c.loop.self c.attempt-outcome.new.self c.attempt-outcome.result again i.refused made.err;
+      tried =
+          tried_again g.K.Run.past g.K.Run.first _ c.args.self.now.reader c.loop.self.reader c.attempt-outcome.new.self.reader c.loop.counter
+          c.attempt-outcome.result i.tried again made.tried;
+      calls =
+          calls_again c.loop.counter GaveUp c.attempt-outcome.result (g.G.Gate.calls c.args.gate.now) (g.G.Gate.calls c.loop.gate)
+          (g.G.Gate.calls c.attempt-outcome.new.gate) again i.calls made.calls;
+    }
+
+pub returns-clause-missing : goal.returns-clause-missing
+returns-clause-missing g c =
+    let i = c.loop.invariant in
+    subst (NoneMissing g.K.Run.first) i.next
+    (none_missing_of g.K.Run.past g.K.Run.first _ c.args.self.now.reader c.loop.self.reader c.loop.counter (omega (arith, c.loop-test.false)) i.tried)

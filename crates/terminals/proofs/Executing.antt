@@ -1,0 +1,17 @@
+-- What an execution comes to.
+use Rattle.std.proofs.Common.{length, Result, Ok, Err, IfOk, refl}
+use Rattle.money.specs.declared.refusal.Refusal.{Refusal}
+use Rattle.tables.specs.Database.{Database}
+use Rattle.tables.specs.Inputs.{IsInput}
+use Rattle.tables.specs.declared.input.Input.{Input}
+use Rattle.cells.specs.Records.{ReaderView}
+use Rattle.readset.specs.Transaction.{IsExecuted}
+use Rattle.readset.specs.declared.work.Work.{Work}
+use Rattle.book.specs.Book.{IsWorkOf}
+use Rattle.book.proofs.Executed.{work_of}
+
+-- the reader's work
+pub work_executed : (t0 : Database) (x : Input) (old new : ReaderView) (r : Result Work Refusal) → IsInput t0.scale x
+    → IsExecuted t0 x old new r → IfOk r (IsWorkOf t0 (length old.cells) new)
+work_executed t0 x old new (Ok work) input made = work_of refl refl x input old new work made.input made.explains made.limits made.read
+work_executed t0 x old new (Err refusal) input made = tt

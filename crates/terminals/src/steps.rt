@@ -1,0 +1,82 @@
+//! The two steps of a try: an execution without a lock, and a commit under the book's.
+ghost use Rattle.std.specs.Prelude.{◌≡◌, length, IfOk, IfErr};
+ghost use Rattle.tables.specs.Inputs.{IsInput};
+ghost use Rattle.cells.specs.Records.{HasGrown};
+ghost use Rattle.readset.specs.Transaction.{IsExecuted};
+ghost use Rattle.book.specs.Book.{BookView, IsWorkOf};
+ghost use Rattle.terminals.specs.Terminal.{IsEntered, with_commit};
+ghost use Rattle.terminals.specs.Tries.{IsSoundBook, IsTurnedAway};
+
+use book::{Book, Done, Engine, Run, Share};
+use cells::Reader;
+use money::Refusal;
+use readset::Work;
+use std::alloc::Global;
+use std::sync::Wait;
+use tables::Input;
+use transactions::execute;
+
+/// Executes an input, as `execute` does.
+pub(crate) fn execute_at<K: Run, R: Wait>(
+    rt: &R,
+    alloc: Global,
+    engine: &Engine<K>,
+    reader: &mut Reader,
+    input: &Input,
+) -> Result<Work, Refusal>
+    requires input { IsInput K.first.scale input.now }
+    requires reader { reader.old.cells ≡ K.cells }
+    ensures executed { IsExecuted K.first input.now reader.old reader.new result }
+    ensures work { IfOk result (IsWorkOf K.first (length K.cells) reader.new) }
+{
+    execute(
+        rt,
+        alloc,
+        engine.cells(),
+        reader,
+        engine.population(),
+        input,
+    )
+}
+
+/// Commits a work under the book's lock, as `Book::commit` does.
+pub(crate) fn commit_at<K: Run, R: Wait>(
+    rt: &R,
+    engine: &Engine<K>,
+    reader: &mut Reader,
+    share: &mut Share<K>,
+    work: Work,
+) -> Result<Done, Refusal>
+    requires reader { reader.old.cells ≡ K.cells }
+    requires work { IsWorkOf K.first (length K.cells) reader.old work }
+    ensures reader { HasGrown reader.old reader.new }
+    ensures ok { IfOk result (λ done. (share.new ≡ with_commit share.old)
+        × ((book : BookView) × IsEntered K.past K.first book work.input share.old.terminal done)) }
+    ensures err { IfErr result (λ refusal. (share.new ≡ share.old)
+        × ((book : BookView) × IsSoundBook K.past K.first book × IsTurnedAway K.past K.first book work refusal)) }
+{
+    commit_to(rt, engine, &mut engine.lock(rt), reader, share, work)
+}
+
+/// The same of a book that is at hand.
+fn commit_to<K: Run, R: Wait>(
+    rt: &R,
+    engine: &Engine<K>,
+    book: &mut Book<K>,
+    reader: &mut Reader,
+    share: &mut Share<K>,
+    work: Work,
+) -> Result<Done, Refusal>
+    requires reader { reader.old.cells ≡ K.cells }
+    requires work { IsWorkOf K.first (length K.cells) reader.old work }
+    ensures reader { HasGrown reader.old reader.new }
+    ensures sound { IsSoundBook K.past K.first book.old }
+    ensures ok { IfOk result (λ done. (share.new ≡ with_commit share.old)
+        × IsEntered K.past K.first book.old work.input share.old.terminal done) }
+    ensures err { IfErr result (λ refusal. (share.new ≡ share.old)
+        × IsTurnedAway K.past K.first book.old work refusal) }
+{
+    // The contract of the history says that the book is sound.
+    let _ = book.history();
+    book.commit(rt, engine.board(), engine.cells(), reader, share, work)
+}
