@@ -1,41 +1,36 @@
 -- What recovery finds after a crash.
-use Rattle.std.proofs.Common.{◌≡◌, ℕ, suc, ◌+◌, ◌-◌, ◌%◌, ◌<◌, ◌≤◌, ◌==◌, false, List, [], ◌++◌, filter, map, refl, sym, ap, ◌∙◌, subst, arith, append-nil}
+use Rattle.std.proofs.Common.{◌≡◌, ℕ, suc, ◌+◌, ◌-◌, ◌<◌, ◌≤◌, List, [], refl, subst, arith}
 use Rattle.std.specs.List.{All, Contains}
-use Rattle.std.proofs.lemmas.Bool.{le-leb, lt-leb}
-use Rattle.std.proofs.lemmas.List.Elements.{All-weaker, filter-append}
+use Rattle.std.proofs.lemmas.Bool.{le-leb}
+use Rattle.std.proofs.lemmas.List.Elements.{All-weaker}
 use Rattle.tidword.specs.TidWord.{epoch_of}
-use Rattle.log_text.specs.Entries.{EntryView}
+use Rattle.log_header.specs.Header.{HeaderView}
 use Rattle.book.specs.Batches.{BatchView}
 use Rattle.book.specs.Streams.{stream}
 use Rattle.book.specs.History.{Replays}
 use Rattle.book.specs.Loggable.{IsLoggable}
 use Rattle.book.specs.Stamps.{AreStamped}
 use Rattle.book.specs.declared.entry.Entry.{Entry}
-use Rattle.log_entries.specs.Logged.{entry_of}
 use Rattle.crashes.specs.World.{Life, World, header_of}
-use Rattle.crashes.specs.Recovering.{Crashes, Recovers, counts, cut, counted, last_mark}
+use Rattle.crashes.specs.Recovering.{Crashes, HoldsStream, HoldTheHistory, Recovers, counts, cut, last_mark}
+use Rattle.crashes.specs.Keeping.{IsLawfulEpoch}
 use Rattle.crashes.proofs.Batches.{IsFit}
-use Rattle.crashes.proofs.Lists.{all_in_front, IsLeast, least_of, chosen_below, none_kept, kept_if_there, tests_commute, test_of_map}
+use Rattle.crashes.proofs.Lists.{all_in_front, IsLeast, least_of, chosen_below, kept_if_there}
+use Rattle.crashes.proofs.Holding.{held_up_to, stands_there}
 use Rattle.crashes.proofs.Histories.{replays_front, stamped_front, cut_begins}
 use Rattle.crashes.proofs.Lanes.{IsLeft, lane_left, taken, bodies_of}
 use Rattle.crashes.proofs.Sound.{IsSound, MayTell, local_of}
 
--- a file's entries up to a durable epoch that is no later than its last mark
-held_up_to : (life : Life) (w : World) (l durable : ℕ) (bytes : List ℕ) (batches : List BatchView)
-    → IsLeft (header_of life l) (stream life.plan.loggers l w.history) [] (local_of w l) bytes batches
-    → durable ≤ last_mark 0 (bodies_of batches)
-    → counted durable (bodies_of batches) ≡ map (entry_of life.first.scale) (stream life.plan.loggers l (cut durable w.history))
-held_up_to life w l durable bytes batches left low =
-    let none : All (λ (e : Entry). counts durable e.tid ≡ false) left.behind
-    = λ k d lt. lt-leb _ durable (omega (arith, low, left.above k d lt)) in
-    ap (filter (λ (e : EntryView). counts durable e.tid)) left.logged
-    ∙ test_of_map (λ (e : EntryView). counts durable e.tid) (entry_of life.first.scale) (taken batches)
-    ∙ ap (map (entry_of life.first.scale))
-    (sym (append-nil (cut durable (taken batches)))
-    ∙ ap (λ (r : List Entry). cut durable (taken batches) ++ r) (sym (none_kept (λ (e : Entry). counts durable e.tid) left.behind none))
-    ∙ sym (filter-append (λ (e : Entry). counts durable e.tid) (taken batches) left.behind)
-    ∙ ap (cut durable) (sym left.all)
-    ∙ tests_commute (λ (e : Entry). counts durable e.tid) (λ (e : Entry). e.terminal % life.plan.loggers == l) w.history)
+-- what a crash leaves of a logger's file holds the stream
+holds_stream : (h : HeaderView) (entries : List Entry) (local : ℕ) (bytes : List ℕ) (batches : List BatchView) → IsLeft h entries [] local bytes batches
+    → HoldsStream h.scale (bodies_of batches) entries
+holds_stream h entries local bytes batches left = record {
+  front = taken batches;
+  behind = left.behind;
+  beginning = left.all;
+  same = left.logged;
+  later = left.above;
+}
 
 module _ (life : Life) (w : World) (sound : IsSound life (λ l. []) w) (strings : ℕ → List ℕ) (crash : Crashes life w strings) where
   abbrev IsLeftAt : ℕ → List BatchView → Type 0
@@ -52,6 +47,8 @@ module _ (life : Life) (w : World) (sound : IsSound life (λ l. []) w) (strings 
       let front = cut_begins durable w.history sound.stamped in
       let fits : All (IsFit life.first.scale) (cut durable w.history)
       = all_in_front (IsFit life.first.scale) (cut durable w.history) front.0 (subst (All (IsFit life.first.scale)) front.1 sound.fit) in
+      let holds : HoldTheHistory life.first.scale life.plan.loggers (λ l. bodies_of (batches l)) w.history
+      = λ l lt. holds_stream (header_of life l) (stream life.plan.loggers l w.history) (local_of w l) (strings l) (batches l) (left l lt) in
       let low : w.durable ≤ durable = omega (
         arith,
         sound.durable is.among.0 is.among.1,
@@ -63,6 +60,7 @@ module _ (life : Life) (w : World) (sound : IsSound life (λ l. []) w) (strings 
         durable = durable;
         rest = front.0;
         files = λ l lt. (left l lt).file;
+        hold = holds;
         is_durable = record { among = is.among; least = is.below };
         no_less = low;
         beginning = front.1;
@@ -74,7 +72,7 @@ module _ (life : Life) (w : World) (sound : IsSound life (λ l. []) w) (strings 
         stamped = stamped_front (cut durable w.history) front.0 (subst AreStamped front.1 sound.stamped);
         loggable = All-weaker (IsFit life.first.scale) (IsLoggable life.first.scale) (λ e fit. fit.loggable) (cut durable w.history) fits;
         capped = All-weaker (IsFit life.first.scale) (λ e. e.number ≤ life.first.scale.commits) (λ e fit. fit.cap) (cut durable w.history) fits;
-        held = λ l lt. held_up_to life w l durable (strings l) (batches l) (left l lt) (is.below l lt);
+        held = λ l lt. held_up_to life.first.scale life.plan.loggers l durable (bodies_of (batches l)) w.history (holds l lt) (is.below l lt);
         released = All-weaker (MayTell w) (Contains (cut durable w.history))
             (λ e tell. kept_if_there (λ (d : Entry). counts durable d.tid) w.history e tell.0
             (le-leb (epoch_of e.tid) durable (omega (arith, tell.1, low))))
@@ -88,3 +86,17 @@ module _ (life : Life) (w : World) (sound : IsSound life (λ l. []) w) (strings 
       let least = least_of (life.plan.loggers - 1) (λ l. last_mark 0 (bodies_of (all.0 l))) in
       recovers_by all.0 all.1 least.0
       (subst (λ (m : ℕ). IsLeast m (λ l. last_mark 0 (bodies_of (all.0 l))) least.0) e least.1)
+
+-- D is lawful: it is at most each local mark, and so at most the last mark of what a crash leaves
+pub is_lawful : (life : Life) (w : World) → IsSound life (λ l. []) w → IsLawfulEpoch life w w.durable
+is_lawful life w sound = λ l lt bytes may.
+    let entries : List Entry = stream life.plan.loggers l w.history in
+    let left = lane_left (header_of life l) life.past w.found entries [] (sound.landed l) (w.logger l).file (local_of w l) bytes
+    (w.logger l).flight (sound.lanes l lt) may in
+    let holds = holds_stream (header_of life l) entries (local_of w l) bytes left.0 left.1 in
+    record {
+      bodies = bodies_of left.0;
+      file = left.1.file;
+      each = λ e there low. stands_there life.first.scale (bodies_of left.0) entries e holds there
+          (omega (arith, low, sound.durable l lt, left.1.kept));
+    }

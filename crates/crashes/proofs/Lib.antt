@@ -1,6 +1,7 @@
-mod Lists
+pub mod Lists
 mod Marks
-mod Histories
+pub mod Histories
+pub mod Holding
 mod Disks
 mod Lanes
 mod Batches

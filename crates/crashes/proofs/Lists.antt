@@ -7,7 +7,7 @@ use Rattle.std.proofs.lemmas.Bool.Decides.{eqb_tells, leb_tells}
 use Rattle.std.proofs.lemmas.Bool.{cases_eq}
 use Rattle.std.proofs.Math.Logic.{⊎_map}
 use Rattle.std.proofs.lemmas.List.{get_or_append_left, length-append}
-use Rattle.std.proofs.lemmas.List.Elements.{All-head, All-tail, Contains-append_right}
+use Rattle.std.proofs.lemmas.List.Elements.{All-contains, All-head, All-tail, Contains-append_right}
 
 module _ {X : Type 0} (p : X → Bool) where
   pub kept_here : (x : X) (xs : List X) → p x ≡ true → filter p (x ∷ xs) ≡ x ∷ filter p xs
@@ -69,6 +69,26 @@ all_in_front P xs ys h k d lt =
 pub all_behind : {X : Type 0} (P : X → Type 0) (xs ys : List X) → All P (xs ++ ys) → All P ys
 all_behind P [] ys h = h
 all_behind P (x ∷ xs) ys h = all_behind P xs ys (All-tail P x (xs ++ ys) h)
+
+-- what is in two lists and isn't like all of the second is in the first
+pub in_front : {X : Type 0} (P : X → Type 0) (xs ys : List X) (x : X) → (P x → ⊥) → All P ys → Contains (xs ++ ys) x → Contains xs x
+in_front P [] ys x not all there = absurd (not (All-contains P ys x all there))
+in_front {X = X} P (y ∷ xs) ys x not all there = at (in_front P xs ys x not all) there.0 there.1 there.2
+  where
+    at : (Contains (xs ++ ys) x → Contains xs x) → (k : ℕ) → k < length (y ∷ (xs ++ ys)) → slice_index_or (y ∷ (xs ++ ys)) k x ≡ x
+        → Contains (y ∷ xs) x
+    at later zero lt is = (zero, omega arith, is)
+    at later (suc k) lt is = Contains-append_right (y ∷ []) xs x (later (k, omega (arith, lt), is))
+
+-- what a function makes of an element is in the mapped list
+pub in_map : {X Y : Type 0} (f : X → Y) (xs : List X) (x : X) → Contains xs x → Contains (map f xs) (f x)
+in_map f [] x there = absurd (omega (arith, there.1))
+in_map {X = X} {Y = Y} f (y ∷ ys) x there = at (in_map f ys x) there.0 there.1 there.2
+  where
+    at : (Contains ys x → Contains (map f ys) (f x)) → (k : ℕ) → k < length (y ∷ ys) → slice_index_or (y ∷ ys) k x ≡ x
+        → Contains (f y ∷ map f ys) (f x)
+    at later zero lt is = (zero, omega arith, ap f is)
+    at later (suc k) lt is = Contains-append_right (f y ∷ []) (map f ys) (f x) (later (k, omega (arith, lt), is))
 
 -- what holds at each number holds once a function is changed at one of them
 pub each_set : {X : Type 0} (P : ℕ → X → Type 0) (f : ℕ → X) (k : ℕ) (x : X) → P k x → ((l : ℕ) → l ≢ k → P l (f l))

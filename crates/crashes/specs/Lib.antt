@@ -1,3 +1,4 @@
 pub mod World
 pub mod Events
 pub mod Recovering
+pub mod Keeping

@@ -1,6 +1,7 @@
 -- What a crash leaves, and what recovery finds there.
 use Rattle.std.specs.Prelude.{◌≡◌, ℕ, ◌<◌, ◌≤◌, nat_le, Bool, List, [], ◌∷◌, ◌++◌, filter, map, flat_map}
 use Rattle.std.specs.List.{All, Contains}
+use Rattle.tables.specs.Sizes.{Sizes}
 use Rattle.tidword.specs.TidWord.{epoch_of}
 use Rattle.disk.specs.Crashes.{MayLeave}
 use Rattle.log_text.specs.Bodies.{BodyView, mark_of, entries_in}
@@ -26,6 +27,19 @@ last_mark before (b ∷ bs) = last_mark (mark_of b) bs
 abbrev pub entries_of : List BodyView → List EntryView
 entries_of bodies = flat_map entries_in bodies
 
+-- a file holds a stream: its entries are a beginning of it, with the same numbers, TIDs, terminals and writes, and what
+-- isn't in the file is of later epochs than its last mark
+pub record HoldsStream (s : Sizes) (bodies : List BodyView) (entries : List Entry) : Type 0 where
+  pub front : List Entry
+  pub behind : List Entry
+  pub beginning : entries ≡ front ++ behind
+  pub same : entries_of bodies ≡ map (entry_of s) front
+  pub later : All (λ e. last_mark 0 bodies < epoch_of e.tid) behind
+
+-- files hold a history: each holds its logger's stream
+abbrev pub HoldTheHistory : Sizes → ℕ → (ℕ → List BodyView) → List Entry → Type 0
+HoldTheHistory s loggers files history = (l : ℕ) → l < loggers → HoldsStream s (files l) (stream loggers l history)
+
 -- the durable epoch that files tell: the least of their last marks
 pub record IsDurable (loggers : ℕ) (files : ℕ → List BodyView) (durable : ℕ) : Type 0 where
   pub among : (l : ℕ) × (l < loggers) × (last_mark 0 (files l) ≡ durable)
@@ -42,15 +56,16 @@ cut durable history = filter (λ e. counts durable e.tid) history
 abbrev pub counted : ℕ → List BodyView → List EntryView
 counted durable bodies = filter (λ e. counts durable e.tid) (entries_of bodies)
 
--- what stands on the disks after a crash. Each string is a log file. The durable epoch that they tell is no less than
--- the board's D. The entries up to it are a beginning of the history, legal and stamped, so that replay is at tables
--- that the run had, and fit for log files. Each file has its logger's share of them, entry for entry, and no other entry
--- that counts. And each entry whose reply was released is among them
+-- what stands on the disks after a crash. Each string is a log file, and the files hold the history. The durable epoch
+-- that they tell is no less than the board's D. The entries up to it are a beginning of the history, legal and stamped,
+-- so that replay is at tables that the run had, and fit for log files. Each file has its logger's share of them, entry
+-- for entry, and no other entry that counts. And each entry whose reply was released is among them
 pub record Recovers (life : Life) (w : World) (strings : ℕ → List ℕ) : Type 0 where
   pub left : ℕ → List BodyView
   pub durable : ℕ
   pub rest : List Entry
   pub files : (l : ℕ) → l < life.plan.loggers → IsFile (strings l) (header_of life l) (left l)
+  pub hold : HoldTheHistory life.first.scale life.plan.loggers left w.history
   pub is_durable : IsDurable life.plan.loggers left durable
   pub no_less : w.durable ≤ durable
   pub beginning : w.history ≡ cut durable w.history ++ rest

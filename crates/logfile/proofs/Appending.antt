@@ -207,6 +207,13 @@ is_open h end last seen story settled stands = record {
   stands = stands;
 }
 
+-- what the first write leaves on an empty disk
+pub first_bytes : (h : HeaderView) (text before seen now : List ℕ) → text ≡ header_text h ++ 0 ∷ [] → before ≡ []
+    → seen ≡ written before 0 text → now ≡ seen → now ≡ header_text h ++ 0 ∷ []
+first_bytes h text before seen now text_is none wrote same =
+    same ∙ wrote ∙ ap (λ (d : List ℕ). written d 0 text) none ∙ ap (λ (d : List ℕ). text ++ d) (drop_all (0 + length text) [] (omega arith))
+    ∙ append-nil text ∙ text_is
+
 -- a file that was just made
 pub created : (h : HeaderView) → IsHeader h → (end : ℕ) (last : Last) (text before seen now : List ℕ) (old new : List Call)
     → text ≡ header_text h ++ 0 ∷ [] → end + 1 ≡ length text → last ≡ start → before ≡ [] → seen ≡ written before 0 text
@@ -215,8 +222,7 @@ created h is end last text before seen now old new text_is end_is last_is none w
   file = record {
     gate = 0;
     rest = [];
-    text = same ∙ wrote ∙ ap (λ (d : List ℕ). written d 0 text) none ∙ ap (λ (d : List ℕ). text ++ d) (drop_all (0 + length text) [] (omega arith))
-        ∙ append-nil text ∙ text_is;
+    text = first_bytes h text before seen now text_is none wrote same;
     is_closed = λ q. cc;
     header = is;
     lawful = refl;

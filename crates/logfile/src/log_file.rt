@@ -79,6 +79,8 @@ impl<D: Disk> LogFile<D> {
         ensures last { IfOk result (λ file. (file.last ≡ start) × (file.count ≡ 0) × (file.failed ≡ false)) }
         ensures stands { D.is_modelled → IfOk result (λ file.
             Stands file.header [] file.end file.last (D.seen file.disk) (D.story file.disk)) }
+        ensures bytes { D.is_modelled → IfOk result (λ file.
+            D.seen file.disk ≡ header_text header ++ CLOSED ∷ []) }
         ensures calls { D.is_modelled → IfOk result (λ file.
             D.story file.disk ≡ Synced (D.seen file.disk) ∷ Wrote 0 (file.end + 1) ∷ D.story disk) }
         ensures none_failed { IfOk result (λ file. D.failed file.disk ≡ D.failed disk) }

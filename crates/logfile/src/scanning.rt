@@ -21,8 +21,8 @@ pub fn scan<D: Disk>(alloc: Global, disk: &mut D) -> Result<(Header, Vec<Body>),
     ensures found { D.is_modelled → IfOk result (λ x. IsFile (D.seen disk.old) x.0 (map body_of x.1.items)) }
     ensures read { IfOk result (λ x. (file : List ℕ) × (length file < 2 ^ 64)
         × (D.is_modelled → file ≡ D.seen disk.old) × IsFile file x.0 (map body_of x.1.items)) }
-    ensures damaged { D.is_modelled → IsErrOf result Damaged → (h : HeaderView) (bodies : List BodyView)
-        → IsFile (D.seen disk.old) h bodies → ⊥ }
+    ensures damaged { IsErrOf result Damaged → (file : List ℕ) × (D.is_modelled → file ≡ D.seen disk.old)
+        × ((h : HeaderView) (bodies : List BodyView) → IsFile file h bodies → ⊥) }
     ensures failed { IsErrOf result Device → D.failed disk.new ≡ min (D.failed disk.old + 1) (2 ^ 64 - 1) }
     ensures not_failed { (IsErrOf result Device → ⊥) → D.failed disk.new ≡ D.failed disk.old }
     ensures others { IfErr result (λ refusal. (refusal ≢ OutOfMemory) → (refusal ≢ Device) → refusal ≡ Damaged) }

@@ -1,5 +1,5 @@
 -- What a crash leaves of log files is what is rebuilt.
-use Rattle.std.proofs.Common.{◌≡◌, ◌⊎◌, inl, inr, ⊎_elim, ℕ, zero, suc, ◌+◌, ◌*◌, ◌<◌, ◌≤◌, Bool, true, false, cond, List, [], ◌∷◌, ◌++◌, map, filter, length, Option, Some, None, refl, sym, ap, ◌∙◌}
+use Rattle.std.proofs.Common.{◌≡◌, ◌⊎◌, inl, inr, ⊎_elim, ℕ, zero, suc, ◌+◌, ◌<◌, ◌≤◌, Bool, true, false, cond, List, [], ◌∷◌, ◌++◌, map, filter, length, Option, Some, None, refl, sym, ap, ◌∙◌}
 use Rattle.std.proofs.Common.{subst, arith, append-nil}
 use Rattle.std.specs.Prelude.{min, nat_le, unwrap_or, slice_index_or}
 use Rattle.std.specs.List.{All, Contains}
@@ -7,8 +7,9 @@ use Rattle.std.specs.Option.{option_map_or}
 use Rattle.std.proofs.lemmas.Bool.{leb-true, leb-false}
 use Rattle.std.proofs.lemmas.Int.{ints}
 use Rattle.std.proofs.lemmas.Option.{none-some, same_Some}
+use Rattle.std.proofs.lemmas.List.{get_or_default}
 use Rattle.std.proofs.lemmas.List.Elements.{All-head, All-tail}
-use Rattle.tables.specs.Sizes.{IsScale}
+use Rattle.tables.specs.Sizes.{Sizes}
 use Rattle.tables.specs.Database.{Database}
 use Rattle.tables.specs.OrderNumbers.{least}
 use Rattle.tables.specs.Apply.{after}
@@ -16,18 +17,18 @@ use Rattle.tables.specs.WellFormed.{HasRoom}
 use Rattle.tables.specs.declared.limits.TheConstants.{MAX_COMMITS}
 use Rattle.log_text.specs.Bodies.{BodyView}
 use Rattle.log_text.specs.File.{IsFile}
-use Rattle.log_text.specs.Entries.{EntryView}
-use Rattle.book.specs.History.{Replays, replay}
+use Rattle.book.specs.History.{IsLegal, Replays, replay}
 use Rattle.book.specs.Stamps.{AreStamped}
 use Rattle.book.specs.Streams.{stream}
 use Rattle.book.specs.declared.entry.Entry.{Entry}
 use Rattle.log_entries.specs.Logged.{entry_of}
 use Rattle.crashes.specs.World.{Life, World, header_of}
-use Rattle.crashes.specs.Recovering.{Recovers, last_mark, counts, counted, cut as up_to}
-use Rattle.rebuilt.specs.Found.{durable_of, kept, found, cut}
-use Rattle.rebuilt.specs.Rebuilt.{HaveNoGap, IsRebuilt}
+use Rattle.crashes.specs.Recovering.{HoldTheHistory, Recovers, last_mark, counts, counted, cut as up_to}
+use Rattle.crashes.proofs.Histories.{cut_begins}
+use Rattle.crashes.proofs.Holding.{held_up_to}
+use Rattle.rebuilt.specs.Found.{durable_of, cut}
 use Rattle.rebuilt.specs.Recovered.{HoldTheCut, IsHistoryOf, GiveTheReplay, IsFirstLife, LeavesTheReplay}
-use Rattle.rebuilt.proofs.Elements.{Has}
+use Rattle.rebuilt.proofs.Elements.{Has, has_from, maps}
 
 -- the first values of a function, as a list
 abbrev listed : {X : Type 0} → ℕ → (ℕ → X) → List X
@@ -84,6 +85,16 @@ least_is (x ∷ xs) d h low = by (least xs) refl (λ k. least_is xs d k (λ y m.
         let low_x : d ≤ x = low x (inl refl) in
         ⊎_elim (λ e. omega (arith, low_k, e))
         (λ m. let is_k : k ≡ d = sym (ap (λ o. unwrap_or o 0) some) ∙ rest m in omega (arith, low_x, is_k)) h
+
+-- the least is no more than any of them
+least_low : (xs : List ℕ) (y : ℕ) → Has xs y → unwrap_or (least xs) 0 ≤ y
+least_low [] y never = elim never [ ]
+least_low (x ∷ xs) y h = by (least xs) refl (least_low xs y)
+  where
+    by : (o : Option ℕ) → least xs ≡ o → (Has xs y → unwrap_or (least xs) 0 ≤ y) → option_map_or (min x) o x ≤ y
+    by None none rest = ⊎_elim (λ (e : x ≡ y). omega (arith, e)) (λ k. absurd (nothing xs y none k)) h
+    by (Some k) some rest = ⊎_elim (λ (e : x ≡ y). omega (arith, e))
+        (λ m. let low = rest m in let is : unwrap_or (least xs) 0 ≡ k = ap (λ o. unwrap_or o 0) some in omega (arith, low, is)) h
 
 -- what was kept once is kept again
 filter_again : {X : Type 0} (p : X → Bool) (xs : List X) → filter p (filter p xs) ≡ filter p xs
@@ -174,10 +185,15 @@ module _ (life : Life) (w : World) (strings : ℕ → List ℕ) (first : IsFirst
     left = left;
     count = count;
     files = λ l lt. subst (IsFile (strings l) (header_of life l)) (sym (listed_at n r.left l [] lt)) (r.files l lt);
+    no_less = omega (arith, r.no_less, marks);
     rest = r.rest;
     beginning = r.beginning ∙ ap (λ (es : List Entry). es ++ r.rest) (sym cut_is);
-    no_gap = give.no_gap;
-    is_replay = λ t h. give.is_replay t h ∙ ap (replay life.first) (cut_again ∙ sym cut_is);
+    legal = subst (λ (es : List Entry). IsLegal life.past life.first es (replay life.first es)) (sym cut_is) r.legal;
+    give = record {
+      as_many = give.as_many ∙ ap length (cut_again ∙ sym cut_is);
+      no_gap = give.no_gap;
+      is_replay = λ t h. give.is_replay t h ∙ ap (replay life.first) (cut_again ∙ sym cut_is);
+    };
     released = subst (λ (es : List Entry). All (Contains es) w.released) (sym cut_is) r.released;
   }
 
@@ -189,3 +205,20 @@ module _ (life : Life) (w : World) (strings : ℕ → List ℕ) (first : IsFirst
 
   pub history : IsHistoryOf life.first front
   history = is_history
+
+-- the durable epoch is no later than the last mark of any file
+durable_low : (files : List (List BodyView)) (l : ℕ) → l < length files → durable_of files ≤ last_mark 0 (slice_index_or files l [])
+durable_low files l lt =
+    least_low (map (last_mark 0) files) (last_mark 0 (slice_index_or files l []))
+    (maps (last_mark 0) files (slice_index_or files l []) (has_from files (slice_index_or files l []) (l, lt, get_or_default files l (slice_index_or files l []) [] lt)))
+
+-- files that hold a history hold what counts of it
+pub hold_the_cut : (s : Sizes) (files : List (List BodyView)) (history : List Entry) → AreStamped history
+    → HoldTheHistory s (length files) (λ l. slice_index_or files l []) history → HoldTheCut s files history
+hold_the_cut s files history stamped hold =
+    let front = cut_begins (durable_of files) history stamped in
+    record {
+      rest = front.0;
+      beginning = front.1;
+      same = λ l lt. held_up_to s (length files) l (durable_of files) (slice_index_or files l []) history (hold l lt) (durable_low files l lt);
+    }

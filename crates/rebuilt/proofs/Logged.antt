@@ -1,6 +1,6 @@
 -- What an entry of the history leaves in records is what its log file says.
-use Rattle.std.proofs.Common.{◌≡◌, ◌⊎◌, inl, inr, ⊎_elim, ℕ, ◌<◌, Bool, true, false, true≢false, not, List, [], ◌∷◌, ◌++◌, map, Option, Some, None, refl, sym, ap, ◌∙◌, subst, arith}
-use Rattle.std.specs.List.{All, AllByRecursion, Contains, filter}
+use Rattle.std.proofs.Common.{◌≡◌, inl, inr, ⊎_elim, ℕ, ◌<◌, Bool, true, false, true≢false, not, List, ◌++◌, map, Option, Some, None, refl, sym, ap, ◌∙◌, subst, arith}
+use Rattle.std.specs.List.{filter}
 use Rattle.std.specs.Ordering.{nat_cmp}
 use Rattle.std.specs.Prelude.{nat_lt, ◌==◌}
 use Rattle.std.proofs.lemmas.Bool.{ltb-true, ltb-false}
@@ -13,10 +13,9 @@ use Rattle.tables.specs.Sizes.{Sizes, IsScale}
 use Rattle.tables.specs.Records.{record_number, record_count, table_at, place_at, table_number, first_number}
 use Rattle.tables.specs.declared.rows.History.{History}
 use Rattle.tables.specs.declared.records.Table.TheVariants as table
-use Rattle.readset.specs.Writes.{WriteSetView, value_for, added}
+use Rattle.readset.specs.Writes.{value_for, added}
 use Rattle.book.specs.Loggable.{IsLoggable}
 use Rattle.book.specs.declared.entry.Entry.{Entry}
-use Rattle.log_text.specs.Entries.{EntryView}
 use Rattle.log_text.specs.Writes.{is_history}
 use Rattle.log_text.specs.declared.write.Write.{Write}
 use Rattle.log_entries.specs.Logged.{write_at, history_write, is_before_history, is_behind_history, writes_of, entry_of}

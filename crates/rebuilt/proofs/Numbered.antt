@@ -1,5 +1,5 @@
 -- Entries that are numbered one after another: their order follows.
-use Rattle.std.proofs.Common.{◌≡◌, ◌⊎◌, inl, inr, ⊎_elim, ℕ, ◌+◌, ◌≤◌, List, [], ◌∷◌, ◌++◌, map, refl, sym, ap, ◌∙◌, subst, arith}
+use Rattle.std.proofs.Common.{◌≡◌, inl, inr, ⊎_elim, ℕ, ◌+◌, ◌≤◌, List, [], ◌∷◌, refl, sym, ap, ◌∙◌, arith}
 use Rattle.log_text.specs.Entries.{EntryView}
 use Rattle.rebuilt.specs.Rebuilt.{AreNumbered}
 use Rattle.rebuilt.proofs.Elements.{Has}

@@ -1,16 +1,13 @@
 -- A record's number names its table and its place there.
-use Rattle.std.proofs.Common.{◌≡◌, ℕ, ◌+◌, ◌-◌, ◌<◌, ◌≤◌, Bool, true, false, cond, List, [], ◌∷◌, refl, sym, ap, ◌∙◌, subst, arith}
+use Rattle.std.proofs.Common.{◌≡◌, ℕ, ◌+◌, ◌-◌, ◌<◌, ◌≤◌, Bool, true, false, cond, List, [], ◌∷◌, refl, ap, ◌∙◌, arith}
 use Rattle.std.proofs.Common.{not-suc-le-zero}
 use Rattle.std.specs.Prelude.{nat_lt}
 use Rattle.std.specs.List.{sum_by}
 use Rattle.std.proofs.lemmas.Bool.{lt-ltb, le-ltb, ltb-true, ltb-false}
 use Rattle.std.proofs.lemmas.List.Sums.{sum_by-cons}
 use Rattle.tables.specs.Sizes.{Sizes}
-use Rattle.tables.specs.Records.{tables, size, first_number, record_count, record_number, table_among, place_among, table_at, place_at, key_at, key_of}
-use Rattle.tables.specs.Records.{number_of_key}
+use Rattle.tables.specs.Records.{tables, size, first_number, record_count, record_number, table_among, place_among, table_at, place_at}
 use Rattle.tables.specs.declared.records.Table.{Table}
-use Rattle.tables.specs.declared.records.Table.TheVariants as table
-use Rattle.tables.proofs.Numbers.{places, numbered}
 
 module _ (s : Sizes) where
   -- each of these tables begins where those before it end

@@ -1,14 +1,13 @@
 -- What is rebuilt of files that hold a part of a history is its replay.
-use Rattle.std.proofs.Common.{◌≡◌, ◌⊎◌, inl, inr, ⊎_elim, ℕ, zero, suc, ◌+◌, ◌<◌, ◌≤◌, ◌%◌, List, [], ◌∷◌, ◌++◌, map, length, Option, Some, None, refl, sym, ap, ◌∙◌, subst, arith}
-use Rattle.std.specs.Prelude.{flat_map, slice_index_or}
+use Rattle.std.proofs.Common.{◌≡◌, inl, inr, ℕ, ◌+◌, ◌<◌, ◌≤◌, ◌%◌, List, [], ◌∷◌, ◌++◌, map, length, Option, sym, ap, ◌∙◌, subst, arith}
+use Rattle.std.specs.Prelude.{flat_map}
 use Rattle.std.specs.List.{All, AllByRecursion, Contains}
 use Rattle.std.specs.List.Sorted.{IsPermutation}
 use Rattle.std.proofs.Math.Nat.{mod-lt}
-use Rattle.std.proofs.lemmas.List.{length-append, get_or_append_left}
-use Rattle.std.proofs.lemmas.List.Elements.{All-head, All-tail}
-use Rattle.std.proofs.lemmas.List.Sorted.{IsPermutation-sym, IsPermutation-map, Contains-permutation}
+use Rattle.std.proofs.lemmas.List.{length-append, length-map}
+use Rattle.std.proofs.lemmas.List.Sorted.{length_permutation, IsPermutation-sym, IsPermutation-map, Contains-permutation}
 use Rattle.std.proofs.lemmas.Option.{same_Some}
-use Rattle.tables.specs.Sizes.{Sizes, IsScale}
+use Rattle.tables.specs.Sizes.{Sizes}
 use Rattle.tables.specs.Database.{Database}
 use Rattle.tables.specs.Apply.{after}
 use Rattle.tables.specs.Constant.{IsOf}
@@ -16,42 +15,25 @@ use Rattle.tables.specs.Rows.{rows}
 use Rattle.tables.specs.WellFormed.{IsWellFormed, HasRoom}
 use Rattle.tables.specs.declared.records.RecordKey.{RecordKey}
 use Rattle.encoding.specs.Held.{row_count, by_key, AreTables}
-use Rattle.readset.specs.Writes.{value_for}
-use Rattle.book.specs.History.{Replays, replay, rows_added}
+use Rattle.book.specs.History.{Replays, replay}
 use Rattle.book.specs.Loggable.{IsLoggable}
-use Rattle.book.specs.Stamps.{Follows, AreStamped}
+use Rattle.book.specs.Stamps.{AreStamped}
 use Rattle.book.specs.Streams.{stream}
 use Rattle.book.specs.declared.entry.Entry.{Entry}
 use Rattle.book.proofs.Replaying.{replay-history}
 use Rattle.log_text.specs.Bodies.{BodyView}
 use Rattle.log_text.specs.Entries.{EntryView}
 use Rattle.log_entries.specs.Logged.{entry_of}
+use Rattle.crashes.proofs.Lists.{all_in_front}
+use Rattle.crashes.proofs.Histories.{replays_front, stamped_front}
 use Rattle.rebuilt.specs.Found.{kept, found, cut}
-use Rattle.rebuilt.specs.Rebuilt.{Leaves, IsUpTo, IsNewest, AreLeft, IsUnwritten, added_by, AreNumbered, AreInOrder, HaveNoGap, IsRebuilt}
-use Rattle.rebuilt.specs.Recovered.{HoldTheCut, IsHistoryOf, GiveTheReplay}
-use Rattle.rebuilt.proofs.Elements.{Has, has_from, has_to, mapped, maps}
+use Rattle.rebuilt.specs.Rebuilt.{Leaves, IsUpTo, IsNewest, AreLeft, added_by, AreNumbered, HaveNoGap, IsRebuilt}
+use Rattle.rebuilt.specs.Recovered.{HoldTheCut, IsHistoryOf}
+use Rattle.rebuilt.proofs.Elements.{Has, has_from, has_to, mapped}
 use Rattle.rebuilt.proofs.Numbered.{same_entry, same_order}
 use Rattle.rebuilt.proofs.Parts.{parts, parts_all, files_parts}
 use Rattle.rebuilt.proofs.Logged.{leaves_value}
 use Rattle.rebuilt.proofs.Walk.{IsReached, reached}
-
--- parts of a history
-replays_front : (n : ℕ) (t : Database) (es rest : List Entry) → Replays n t (es ++ rest) → Replays n t es
-replays_front n t [] rest h = tt
-replays_front n t (e ∷ es) rest h = (h.0, h.1, replays_front (n + 1) (after t e.input) es rest h.2)
-
-all_front : {X : Type 0} (P : X → Type 0) (xs ys : List X) → All P (xs ++ ys) → All P xs
-all_front {X = X} P xs ys h = λ k d lt. subst P (in_front k d lt) (h k d (longer k lt))
-  where
-    longer : (k : ℕ) → k < length xs → k < length (xs ++ ys)
-    longer k lt = omega (arith, lt, length-append xs ys)
-
-    in_front : (k : ℕ) (d : X) → k < length xs → slice_index_or (xs ++ ys) k d ≡ slice_index_or xs k d
-    in_front k d lt = get_or_append_left xs ys d k lt
-
-stamped_front : (es rest : List Entry) → AreStamped (es ++ rest) → AreStamped es
-stamped_front [] rest h = tt
-stamped_front (e ∷ es) rest h = (h.0, all_front (Follows e) es rest h.1, stamped_front es rest h.2)
 
 numbered_replay : (s : Sizes) (n : ℕ) (t : Database) (es : List Entry) → Replays n t es → AreNumbered n (map (entry_of s) es)
 numbered_replay s n t [] h = tt
@@ -95,13 +77,16 @@ module _ (t0 : Database) (files : List (List BodyView)) (history : List Entry) (
   ends = reached t0 h.scale (length holds.rest) kept_front h.well_formed h.consistent
       (subst (λ (n : ℕ). HasRoom n t0) (ap length holds.beginning ∙ length-append kept_front holds.rest) h.room) replays
       (stamped_front kept_front holds.rest (subst AreStamped holds.beginning h.stamped))
-      (all_front (IsLoggable s) kept_front holds.rest (subst (All (IsLoggable s)) holds.beginning h.loggable))
+      (all_in_front (IsLoggable s) kept_front holds.rest (subst (All (IsLoggable s)) holds.beginning h.loggable))
 
   numbers : AreNumbered 1 log
   numbers = numbered_replay s 1 t0 kept_front replays
 
   pub no_gap : HaveNoGap (found files)
   no_gap = (log, record { same = IsPermutation-sym log (found files) log_found; numbers = numbers })
+
+  pub as_many : length (found files) ≡ length kept_front
+  as_many = length_permutation log (found files) log_found ∙ length-map kept_front (entry_of s)
 
   -- what one entry leaves in a record is one value
   one_value : (n : ℕ) (e : EntryView) (v w : Option (List ℕ)) → Has log e → Leaves s e n v → Leaves s e n w → v ≡ w

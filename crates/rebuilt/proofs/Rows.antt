@@ -1,24 +1,22 @@
 -- The rows that an entry adds to HISTORY are those that its log file says.
-use Rattle.std.proofs.Common.{◌≡◌, inl, inr, ℕ, ◌<◌, Bool, true, false, true≢false, cond, List, [], ◌∷◌, ◌++◌, map, Option, Some, None, refl, sym, ap, ◌∙◌, subst, arith}
+use Rattle.std.proofs.Common.{◌≡◌, inl, inr, ℕ, Bool, true, false, true≢false, cond, List, [], ◌∷◌, ◌++◌, map, Option, Some, None, refl, ap, ◌∙◌, arith}
 use Rattle.std.specs.Prelude.{flat_map, ◌==◌}
-use Rattle.std.specs.List.{All, AllByRecursion, filter}
-use Rattle.std.proofs.lemmas.Bool.Decides.{nat_tests}
+use Rattle.std.specs.List.{All, filter}
 use Rattle.std.proofs.lemmas.Grind.{flat_map-append}
 use Rattle.std.proofs.lemmas.Int.{ints}
 use Rattle.std.proofs.lemmas.List.{append-nil}
 use Rattle.std.proofs.lemmas.List.Elements.{All-head}
 use Rattle.tables.specs.Sizes.{Sizes, IsScale}
-use Rattle.tables.specs.Records.{record_count, table_at, table_number}
-use Rattle.tables.specs.Rows.{money_word, money_of}
+use Rattle.tables.specs.Records.{table_at, table_number}
 use Rattle.tables.specs.WellFormed.{IsHistoryRow}
 use Rattle.tables.specs.declared.rows.History.{History}
 use Rattle.tables.specs.declared.records.Table.{Table}
 use Rattle.tables.specs.declared.records.Table.TheVariants as table
-use Rattle.readset.specs.Writes.{WriteSetView, value_for, added}
+use Rattle.readset.specs.Writes.{added}
 use Rattle.book.specs.Loggable.{IsLoggable}
 use Rattle.book.specs.declared.entry.Entry.{Entry}
 use Rattle.log_text.specs.declared.write.Write.{Write}
-use Rattle.log_entries.specs.Logged.{write_at, history_words, history_write, is_before_history, is_behind_history, writes_of, entry_of}
+use Rattle.log_entries.specs.Logged.{write_at, history_words, history_write, is_before_history, is_behind_history, entry_of}
 use Rattle.rebuilt.specs.Rebuilt.{history_of, rows_in, added_by}
 use Rattle.rebuilt.proofs.Elements.{Has}
 use Rattle.rebuilt.proofs.Logged.{no_history, distinct}

@@ -1,11 +1,11 @@
 -- What a replayed history leaves in the records is what its entries in log files leave.
-use Rattle.std.proofs.Common.{◌≡◌, ◌⊎◌, inl, inr, ⊎_elim, ℕ, zero, suc, ◌+◌, ◌<◌, ◌≤◌, List, [], ◌∷◌, ◌++◌, map, length, Option, Some, None, IsSome, refl, sym, ap, ◌∙◌, subst, arith}
+use Rattle.std.proofs.Common.{◌≡◌, ◌⊎◌, inl, inr, ⊎_elim, ℕ, zero, suc, ◌+◌, ◌<◌, List, [], ◌∷◌, ◌++◌, map, length, Option, Some, None, IsSome, refl, sym, ap, ◌∙◌, subst, arith}
 use Rattle.std.specs.Prelude.{flat_map, unwrap_or}
-use Rattle.std.specs.List.{All, Contains}
+use Rattle.std.specs.List.{All}
 use Rattle.std.proofs.lemmas.Grind.{flat_map-append}
 use Rattle.std.proofs.lemmas.List.{append-nil, append_assoc, map-append}
 use Rattle.std.proofs.lemmas.List.Elements.{All-head, All-tail}
-use Rattle.std.proofs.lemmas.Option.{none-some, same_Some}
+use Rattle.std.proofs.lemmas.Option.{none-some}
 use Rattle.tables.specs.Sizes.{Sizes, IsScale}
 use Rattle.tables.specs.Database.{Database}
 use Rattle.tables.specs.Apply.{after}
@@ -25,7 +25,7 @@ use Rattle.book.specs.Stamps.{Follows, AreStamped}
 use Rattle.book.specs.declared.entry.Entry.{Entry}
 use Rattle.log_text.specs.Entries.{EntryView}
 use Rattle.log_entries.specs.Logged.{entry_of}
-use Rattle.rebuilt.specs.Rebuilt.{Leaves, IsUpTo, IsNewest, IsUnwritten, AreLeft, added_by}
+use Rattle.rebuilt.specs.Rebuilt.{Leaves, IsUpTo, IsNewest, AreLeft, added_by}
 use Rattle.rebuilt.proofs.Elements.{Has, has_from, has_to, has_left, has_right, has_either, mapped, maps}
 use Rattle.rebuilt.proofs.Logged.{leaves_value, value_leaves}
 use Rattle.rebuilt.proofs.Rows.{added_rows}

@@ -1,5 +1,5 @@
 -- That recovery gives a part of the history.
-use Rattle.std.specs.Prelude.{◌≡◌, ℕ, ◌<◌, List, [], ◌++◌, length, map, slice_index_or}
+use Rattle.std.specs.Prelude.{◌≡◌, ℕ, ◌<◌, ◌≤◌, List, [], ◌++◌, length, map, slice_index_or}
 use Rattle.std.specs.List.{All, Contains}
 use Rattle.tables.specs.Database.{Database}
 use Rattle.tables.specs.Sizes.{Sizes, IsScale}
@@ -9,13 +9,13 @@ use Rattle.tables.specs.declared.limits.TheConstants.{MAX_COMMITS}
 use Rattle.log_text.specs.Bodies.{BodyView}
 use Rattle.log_text.specs.File.{IsFile}
 use Rattle.log_entries.specs.Logged.{entry_of}
-use Rattle.book.specs.History.{Replays, replay}
+use Rattle.book.specs.History.{IsLegal, Replays, replay}
 use Rattle.book.specs.Loggable.{IsLoggable}
 use Rattle.book.specs.Stamps.{AreStamped}
 use Rattle.book.specs.Streams.{stream}
 use Rattle.book.specs.declared.entry.Entry.{Entry}
 use Rattle.crashes.specs.World.{Life, World, header_of}
-use Rattle.rebuilt.specs.Found.{kept, found, cut}
+use Rattle.rebuilt.specs.Found.{durable_of, kept, found, cut}
 use Rattle.rebuilt.specs.Rebuilt.{HaveNoGap, IsRebuilt}
 
 -- what recovery keeps of a history is a beginning of it, and of each file what that has of the logger's stream
@@ -35,21 +35,24 @@ pub record IsHistoryOf (t0 : Database) (history : List Entry) : Type 0 where
   pub stamped : AreStamped history
   pub loggable : All (IsLoggable t0.scale) history
 
--- files that hold the cut have no gap, and what is rebuilt of them is the cut's replay
+-- files that hold the cut have its entries, each once, with no gap; and what is rebuilt of them is the cut's replay
 pub record GiveTheReplay (t0 : Database) (files : List (List BodyView)) (history : List Entry) : Type 0 where
+  pub as_many : length (found files) ≡ length (cut files history)
   pub no_gap : HaveNoGap (found files)
   pub is_replay : (t : Database) → IsRebuilt t0 (found files) t → t ≡ replay t0 (cut files history)
 
--- after a crash that leaves these strings: they are log files, and what is rebuilt of them is the replay of a beginning of
--- the history, with each entry whose reply was released
+-- after a crash that leaves these strings: they are log files, whose durable epoch is no less than the board's D. The
+-- entries up to it are a beginning of the history, and legal; each entry whose reply was released is among them; and the
+-- files give their replay
 pub record LeavesTheReplay (life : Life) (w : World) (strings : ℕ → List ℕ) : Type 0 where
   pub left : List (List BodyView)
   pub count : length left ≡ life.plan.loggers
   pub files : (l : ℕ) → l < life.plan.loggers → IsFile (strings l) (header_of life l) (slice_index_or left l [])
+  pub no_less : w.durable ≤ durable_of left
   pub rest : List Entry
   pub beginning : w.history ≡ cut left w.history ++ rest
-  pub no_gap : HaveNoGap (found left)
-  pub is_replay : (t : Database) → IsRebuilt life.first (found left) t → t ≡ replay life.first (cut left w.history)
+  pub legal : IsLegal life.past life.first (cut left w.history) (replay life.first (cut left w.history))
+  pub give : GiveTheReplay life.first left w.history
   pub released : All (Contains (cut left w.history)) w.released
 
 -- the tables that a first life begins with: well-formed and consistent, with room for all commits

@@ -2,18 +2,28 @@
 //! they keep (Silo, section 4.10). The crate has definitions and laws, and no code.
 #![tactic(auto)]
 
-ghost use Rattle.std.specs.Prelude.{ℕ, ◌<◌, List, length};
+ghost use Rattle.std.specs.Prelude.{ℕ, ◌<◌, List, [], length, slice_index_or};
+ghost use Rattle.tables.specs.Sizes.{Sizes};
 ghost use Rattle.tables.specs.Database.{Database};
 ghost use Rattle.log_text.specs.Bodies.{BodyView};
 ghost use Rattle.book.specs.declared.entry.Entry.{Entry as CommittedEntry};
 ghost use Rattle.logfile.specs.Standing.{LogFileView};
 ghost use Rattle.crashes.specs.World.{Life, DiskView, IsFirst, opening};
 ghost use Rattle.crashes.specs.Events.{Event, AreEnabled, after_all};
-ghost use Rattle.crashes.specs.Recovering.{Crashes};
+ghost use Rattle.book.specs.Stamps.{AreStamped};
+ghost use Rattle.crashes.specs.Recovering.{Crashes, HoldTheHistory};
 ghost use Rattle.rebuilt.specs.Recovered.{IsHistoryOf, HoldTheCut, GiveTheReplay, IsFirstLife, LeavesTheReplay};
 
 use crashes::every_crash_recovers;
 use encoding::values_determine_tables;
+
+/// Files that hold a history, each a beginning of its logger's stream with all up to the file's last mark, hold what
+/// counts of it: the entries up to the durable epoch. The function does nothing: its contract is the law.
+pub fn files_hold_the_cut()
+    ensures { (s : Sizes) (files : List (List BodyView)) (history : List CommittedEntry)
+        → AreStamped history → HoldTheHistory s (length files) (λ l. slice_index_or files l []) history
+        → HoldTheCut s files history }
+{}
 
 /// Whoever rebuilds tables of what log files keep of a history has the replay of just that: it is a beginning of the
 /// history, and there is no gap in it. The function does nothing: its contract is the law.
@@ -26,8 +36,8 @@ pub fn rebuilt_tables_are_the_replay()
 }
 
 /// Whatever happens in the first life of a database, and whatever a crash then leaves of its log files: tables that
-/// are rebuilt of these are the replay of a beginning of the history, with each entry whose reply was released (Silo,
-/// section 4.10). The function does nothing: its contract is the law.
+/// are rebuilt of these are the replay of a beginning of the history, legal and with each entry whose reply was released
+/// (Silo, section 4.10). The function does nothing: its contract is the law.
 pub fn every_crash_leaves_the_replay()
     ensures { (life : Life) (files : ℕ → LogFileView DiskView) (events : List Event) (strings : ℕ → List ℕ)
         → IsFirstLife life → IsFirst life files → AreEnabled life (opening life.plan files) events

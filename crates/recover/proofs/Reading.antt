@@ -1,6 +1,6 @@
 -- Reading log files, disk after disk.
 use Rattle.std.proofs.Common.{◌≡◌, ℕ, ◌+◌, ◌-◌, ◌<◌, ◌≤◌, ◌^◌, min, List, [], ◌∷◌, ◌++◌, map, length, get_or, set, take, Vec, Global, refl, sym, ap, ◌∙◌, subst, arith, below_more}
-use Rattle.std.proofs.lemmas.List.{get_or-map, get_or-set_same, length-set, length-map, length_push, get_or_append_left, get_or_push, take_more, take_all, map_push}
+use Rattle.std.proofs.lemmas.List.{get_or-map, get_or-set_same, set-get_or, length-set, length-map, length_push, get_or_append_left, get_or_push, take_more, take_all, map_push}
 use Rattle.std.proofs.Math.Seq.{map-set_same}
 use Rattle.tables.specs.Sizes.{Sizes}
 use Rattle.disk.specs.Calls.{Call}
@@ -8,7 +8,7 @@ use Rattle.log_header.specs.Header.{HeaderView, header_view}
 use Rattle.log_text.specs.Bodies.{BodyView}
 use Rattle.log_text.specs.File.{IsFile}
 use Rattle.log_text.specs.declared.body.Body.{Body}
-use Rattle.recover.specs.Files.{AreFiles, AreShort, bodies_in, HasFailed}
+use Rattle.recover.specs.Files.{AreFiles, AreDamaged, AreShort, bodies_in, HasFailed}
 
 abbrev pub bodies_of_file : Vec Body Global → List BodyView
 bodies_of_file bodies = bodies_in bodies.items
@@ -142,17 +142,21 @@ module _ {X : Type 0} {modelled : Type 0} {seen : X → List ℕ} {story : X →
       }
 
       -- a disk that holds no such file
-      pub none : modelled
-          → ((bodies : List BodyView)
-          → IsFile (seen (get_or disks i past)) (header_view i (length disks) s seed) bodies → ⊥)
-          → (all : List (List BodyView)) → AreFiles s seed (map seen first) all → ⊥
-      none given missing all are =
-          let bodies = get_or all i [] in
-          missing bodies
-          (subst (λ (t : List ℕ). IsFile t (header_view i (length disks) s seed) bodies)
-          (here seen [] (so_far.same_seen given))
-          (subst (λ (n : ℕ). IsFile (get_or (map seen first) i []) (header_view i n s seed) bodies)
-          (length-map first seen ∙ sym so_far.count) (are.each i (among seen))))
+      pub none : ((file : List ℕ) × (modelled → file ≡ seen (get_or disks i past))
+          × ((bodies : List BodyView) → IsFile file (header_view i (length disks) s seed) bodies → ⊥))
+          → (strings : List (List ℕ)) × (modelled → strings ≡ map seen first) × AreDamaged s seed strings
+      none read =
+          let strings : List (List ℕ) = set (map seen first) i read.0 in
+          let count : length strings ≡ length disks = length-set (map seen first) i read.0 ∙ length-map first seen ∙ sym so_far.count in (
+            strings,
+            (λ given. ap (set (map seen first) i) (read.1 given ∙ sym (here seen [] (so_far.same_seen given))) ∙ set-get_or (map seen first) i []),
+            λ all are.
+                let is : IsFile (get_or strings i []) (header_view i (length strings) s seed) (get_or all i []) = are.each i (omega (arith, within, count)) in
+                read.2 (get_or all i [])
+                (subst (λ (t : List ℕ). IsFile t (header_view i (length disks) s seed) (get_or all i []))
+                (get_or-set_same (map seen first) i read.0 [] (among seen))
+                (subst (λ (n : ℕ). IsFile (get_or strings i []) (header_view i n s seed) (get_or all i [])) count is)),
+          )
 
       -- a disk whose call fails
       pub fails : failed now ≡ min (failed (get_or disks i past) + 1) (2 ^ 64 - 1)

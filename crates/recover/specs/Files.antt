@@ -16,6 +16,10 @@ pub record AreFiles (s : Sizes) (seed : ℕ) (strings : List (List ℕ)) (files 
   pub each : (l : ℕ) → l < length strings
       → IsFile (slice_index_or strings l []) (header_view l (length strings) s seed) (slice_index_or files l [])
 
+-- they are no log files of such a database
+abbrev pub AreDamaged : Sizes → ℕ → List (List ℕ) → Type 0
+AreDamaged s seed strings = (files : List (List BodyView)) → AreFiles s seed strings files → ⊥
+
 -- strings that a computer of 64 bits can hold
 abbrev pub AreShort : List (List ℕ) → Type 0
 AreShort strings = (l : ℕ) → l < length strings → length (slice_index_or strings l []) < 2 ^ 64

@@ -1,10 +1,10 @@
 -- What recovery gives.
-use Rattle.std.specs.Prelude.{◌≡◌, ℕ, ◌<◌, List, [], ◌++◌, length, slice_index_or}
+use Rattle.std.specs.Prelude.{◌≡◌, ℕ, ◌<◌, ◌≤◌, List, [], ◌++◌, length, slice_index_or}
 use Rattle.std.specs.List.{All, Contains}
 use Rattle.tables.specs.Sizes.{Sizes}
 use Rattle.tables.specs.Database.{Database, database}
 use Rattle.log_text.specs.Bodies.{BodyView}
-use Rattle.book.specs.History.{replay}
+use Rattle.book.specs.History.{IsLegal, replay}
 use Rattle.book.specs.declared.entry.Entry.{Entry}
 use Rattle.crashes.specs.Recovering.{cut}
 use Rattle.crashes.specs.World.{Life, World}
@@ -35,10 +35,17 @@ pub record AreInTurn (loggers : ℕ) (by_logger : ℕ → List ℕ) (strings : L
   pub count : length strings ≡ loggers
   pub each : (l : ℕ) → l < length strings → slice_index_or strings l [] ≡ by_logger l
 
--- what was recovered is a beginning of what had happened: its commits up to the durable epoch, in replay, and among
--- them each whose reply was released
+-- what was recovered is a history's replay up to the durable epoch, and its commits are as many
+pub record IsReplayOf (t0 : Database) (history : List Entry) (r : Recovered) : Type 0 where
+  pub tables : database r.tables ≡ replay t0 (cut r.durable history)
+  pub commits : r.commits ≡ length (cut r.durable history)
+
+-- what was recovered is a beginning of what had happened: its commits up to the durable epoch, which is no less than the
+-- board's D; they are legal, and in replay; and among them is each whose reply was released
 pub record IsBeginningOf (life : Life) (w : World) (r : Recovered) : Type 0 where
+  pub no_less : w.durable ≤ r.durable
   pub rest : List Entry
   pub beginning : w.history ≡ cut r.durable w.history ++ rest
-  pub tables : database r.tables ≡ replay life.first (cut r.durable w.history)
+  pub legal : IsLegal life.past life.first (cut r.durable w.history) (replay life.first (cut r.durable w.history))
+  pub recovered : IsReplayOf life.first w.history r
   pub released : All (Contains (cut r.durable w.history)) w.released

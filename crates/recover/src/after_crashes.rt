@@ -1,21 +1,39 @@
-//! What recovery gives after a crash.
-ghost use Rattle.std.specs.Prelude.{ℕ, List};
+//! What recovery gives of the files of a history, and after a crash.
+ghost use Rattle.std.specs.Prelude.{ℕ, ◌<◌, List, [], length, slice_index_or};
+ghost use Rattle.tables.specs.Database.{Database};
 ghost use Rattle.log_text.specs.Bodies.{BodyView};
+ghost use Rattle.book.specs.declared.entry.Entry.{Entry as CommittedEntry};
 ghost use Rattle.logfile.specs.Standing.{LogFileView};
 ghost use Rattle.crashes.specs.World.{Life, DiskView, IsFirst, opening};
 ghost use Rattle.crashes.specs.Events.{Event, AreEnabled, after_all};
-ghost use Rattle.crashes.specs.Recovering.{Crashes};
-ghost use Rattle.rebuilt.specs.Recovered.{IsFirstLife};
+ghost use Rattle.crashes.specs.Recovering.{Crashes, HoldTheHistory};
+ghost use Rattle.rebuilt.specs.Recovered.{IsHistoryOf, IsFirstLife};
 ghost use Rattle.recover.specs.Files.{AreFiles};
-ghost use Rattle.recover.specs.Recovered.{AreInTurn, IsRecovery, HasGap, IsBeginningOf};
+ghost use Rattle.recover.specs.Recovered.{AreInTurn, IsRecovery, HasGap, IsReplayOf, IsBeginningOf};
 ghost use Rattle.recover.specs.declared.recovering.Recovered.{Recovered as RecoveredValue};
 
-use rebuilt::every_crash_leaves_the_replay;
+use rebuilt::{every_crash_leaves_the_replay, files_hold_the_cut, rebuilt_tables_are_the_replay};
+
+/// Where strings are log files that hold a history, `recover` doesn't refuse them by `Gap`, and what it gives is the
+/// history's replay up to the durable epoch. The function does nothing: its contract is the law.
+pub fn recovery_is_the_replay()
+    ensures no_gap { (t0 : Database) (seed : ℕ) (strings : List (List ℕ)) (files : List (List BodyView))
+        (history : List CommittedEntry) → IsHistoryOf t0 history → AreFiles t0.scale seed strings files
+        → HoldTheHistory t0.scale (length files) (λ l. slice_index_or files l []) history → 0 < length files
+        → HasGap t0.scale seed strings → ⊥ }
+    ensures replay { (t0 : Database) (seed : ℕ) (strings : List (List ℕ)) (files : List (List BodyView))
+        (history : List CommittedEntry) → IsHistoryOf t0 history → AreFiles t0.scale seed strings files
+        → HoldTheHistory t0.scale (length files) (λ l. slice_index_or files l []) history → 0 < length files
+        → (r : RecoveredValue) → IsRecovery t0 seed strings r → IsReplayOf t0 history r }
+{
+    files_hold_the_cut();
+    rebuilt_tables_are_the_replay();
+}
 
 /// Whatever happens in the first life of a database, and whatever strings a crash then leaves of its log files: they
 /// are its log files, so that `recover` doesn't refuse them by `Damaged`; they have no gap, so that it doesn't refuse
-/// them by `Gap`; and what it gives is a beginning of the history, with each commit whose reply was released (Silo,
-/// section 4.10). The function does nothing: its contract is the law.
+/// them by `Gap`; and what it gives is the replay of a beginning of the history, up to a durable epoch that is no less
+/// than the board's D, with each commit whose reply was released (Silo, section 4.10). The function does nothing: its contract is the law.
 pub fn every_crash_is_recovered()
     ensures files { (life : Life) (files : ℕ → LogFileView DiskView) (events : List Event) (by_logger : ℕ → List ℕ)
         → IsFirstLife life → IsFirst life files → AreEnabled life (opening life.plan files) events

@@ -6,7 +6,7 @@ ghost use Rattle.log_header.specs.Header.{header_view};
 ghost use Rattle.log_text.specs.Bodies.{BodyView};
 ghost use Rattle.log_text.specs.File.{IsFile};
 ghost use Rattle.population.specs.Initial.{initial, seed_of};
-ghost use Rattle.recover.specs.Files.{AreFiles, AreShort, bodies_in, HasFailed};
+ghost use Rattle.recover.specs.Files.{AreFiles, AreDamaged, AreShort, bodies_in, HasFailed};
 
 use disk::Disk;
 use log_header::Header;
@@ -25,8 +25,9 @@ pub fn read_all<D: Disk>(
     ensures found { IfOk result (λ files. (strings : List (List ℕ)) × (D.is_modelled → strings ≡ map D.seen disks.old)
         × AreShort strings × AreFiles (initial population.now).scale (seed_of population.now) strings
         (map (λ bodies. bodies_in bodies.items) files.items)) }
-    ensures damaged { D.is_modelled → IsErrOf result Damaged → (files : List (List BodyView))
-        → AreFiles (initial population.now).scale (seed_of population.now) (map D.seen disks.old) files → ⊥ }
+    ensures damaged { IsErrOf result Damaged → (strings : List (List ℕ))
+        × (D.is_modelled → strings ≡ map D.seen disks.old)
+        × AreDamaged (initial population.now).scale (seed_of population.now) strings }
     ensures failed { IsErrOf result Device → HasFailed (map D.failed disks.old) (map D.failed disks.new) }
     ensures not_failed { (IsErrOf result Device → ⊥) → map D.failed disks.new ≡ map D.failed disks.old }
     ensures others { IfErr result (λ refusal. (refusal ≢ OutOfMemory) → (refusal ≢ Device) → refusal ≡ Damaged) }
@@ -55,9 +56,9 @@ fn read_one<D: Disk>(
         × (D.is_modelled → file ≡ D.seen disk.old)
         × IsFile file (header_view logger loggers (initial population.now).scale (seed_of population.now))
         (bodies_in bodies.items)) }
-    ensures damaged { D.is_modelled → IsErrOf result Damaged → (bodies : List BodyView)
-        → IsFile (D.seen disk.old)
-        (header_view logger loggers (initial population.now).scale (seed_of population.now)) bodies → ⊥ }
+    ensures damaged { IsErrOf result Damaged → (file : List ℕ) × (D.is_modelled → file ≡ D.seen disk.old)
+        × ((bodies : List BodyView) → IsFile file
+        (header_view logger loggers (initial population.now).scale (seed_of population.now)) bodies → ⊥) }
     ensures failed { IsErrOf result Device → D.failed disk.new ≡ min (D.failed disk.old + 1) (2 ^ 64 - 1) }
     ensures not_failed { (IsErrOf result Device → ⊥) → D.failed disk.new ≡ D.failed disk.old }
     ensures others { IfErr result (λ refusal. (refusal ≢ OutOfMemory) → (refusal ≢ Device) → refusal ≡ Damaged) }

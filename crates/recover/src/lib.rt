@@ -9,5 +9,5 @@ mod numbering;
 mod part;
 mod recovering;
 
-pub use after_crashes::every_crash_is_recovered;
+pub use after_crashes::{every_crash_is_recovered, recovery_is_the_replay};
 pub use recovering::{Recovered, recover};

@@ -3,11 +3,10 @@ ghost use Rattle.std.specs.Prelude.{◌≡◌, ◌≢◌, ℕ, List, map, flat_m
 ghost use Rattle.std.specs.List.{All};
 ghost use Rattle.money.specs.declared.refusal.Refusal.TheVariants.{OutOfMemory, Damaged, Device, Gap};
 ghost use Rattle.tables.specs.Database.{database};
-ghost use Rattle.log_text.specs.Bodies.{BodyView};
 ghost use Rattle.population.specs.Initial.{initial, seed_of};
 ghost use Rattle.crashes.specs.Recovering.{counted, entries_of};
 ghost use Rattle.rebuilt.specs.Rebuilt.{HaveNoGap, IsRebuilt};
-ghost use Rattle.recover.specs.Files.{AreFiles, bodies_in, HasFailed};
+ghost use Rattle.recover.specs.Files.{AreDamaged, bodies_in, HasFailed};
 ghost use Rattle.recover.specs.Parts.{IsPart, HaveLawfulWrites, looked_at};
 ghost use Rattle.recover.specs.Recovered.{IsRecovery, HasGap};
 
@@ -59,8 +58,9 @@ pub fn recover<D: Disk>(
         × IsRecovery (initial population.now) (seed_of population.now) strings r) }
     ensures gap { IsErrOf result Gap → (strings : List (List ℕ)) × (D.is_modelled → strings ≡ map D.seen disks.old)
         × HasGap (initial population.now).scale (seed_of population.now) strings }
-    ensures damaged { D.is_modelled → IsErrOf result Damaged → (files : List (List BodyView))
-        → AreFiles (initial population.now).scale (seed_of population.now) (map D.seen disks.old) files → ⊥ }
+    ensures damaged { IsErrOf result Damaged → (strings : List (List ℕ))
+        × (D.is_modelled → strings ≡ map D.seen disks.old)
+        × AreDamaged (initial population.now).scale (seed_of population.now) strings }
     ensures failed { IsErrOf result Device → HasFailed (map D.failed disks.old) (map D.failed disks.new) }
     ensures not_failed { (IsErrOf result Device → ⊥) → map D.failed disks.new ≡ map D.failed disks.old }
     ensures others { IfErr result (λ refusal. (refusal ≢ OutOfMemory) → (refusal ≢ Device) → (refusal ≢ Damaged)

@@ -1,6 +1,6 @@
 use Rattle.crashes.specs.World.{opening}
 use Rattle.crashes.specs.Events.{after_all}
-use Rattle.recover.proofs.Crashed.{are_files, none_missing, is_beginning}
+use Rattle.recover.proofs.Crashed.{are_files, no_gap_left, is_beginning}
 use Rattle.recover.proofs.after_crashes.every_crash_is_recovered.Goals as goal
 
 pub returns-clause-files : goal.returns-clause-files
@@ -10,7 +10,7 @@ returns-clause-files c = λ life files events by_logger first begins enabled cra
 
 pub returns-clause-no_gap : goal.returns-clause-no_gap
 returns-clause-no_gap c = λ life files events by_logger first begins enabled crash strings turn gap.
-    none_missing life (after_all (opening life.plan files) events) by_logger
+    no_gap_left life (after_all (opening life.plan files) events) by_logger
     (c.every_crash_leaves_the_replay.ensures life files events by_logger first begins enabled crash) strings turn gap
 
 pub returns-clause-recovered : goal.returns-clause-recovered

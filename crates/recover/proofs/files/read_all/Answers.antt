@@ -8,8 +8,8 @@ loop-logger-init g c =
 
 pub returns-in_err-bodies-clause-damaged : goal.returns-in_err-bodies-clause-damaged
 returns-in_err-bodies-clause-damaged g c =
-    λ modelled e. none c.index-disks-logger.result c.read_one.new.disk c.loop-logger.invariant (omega arith) modelled
-    (c.in_err-bodies.ensures.damaged modelled (search rules))
+    λ e. none c.index-disks-logger.result c.read_one.new.disk c.loop-logger.invariant (omega arith)
+    (c.in_err-bodies.ensures.damaged (search rules))
 
 pub returns-in_err-bodies-clause-failed : goal.returns-in_err-bodies-clause-failed
 returns-in_err-bodies-clause-failed g c =

@@ -3,7 +3,7 @@ use Rattle.disk.specs.Calls.{Call, Wrote, Synced}
 use Rattle.log_header.specs.Header.{IsHeader, header_text}
 use Rattle.log_text.specs.declared.last.Last.{Last}
 use Rattle.logfile.specs.Standing.{Stands}
-use Rattle.logfile.proofs.Appending.{all_kept, is_open, created}
+use Rattle.logfile.proofs.Appending.{all_kept, is_open, first_bytes, created}
 use Rattle.logfile.proofs.log_file.LogFile.create.Goals as goal
 
 pub invariant_of-result : goal.invariant_of-result
@@ -33,6 +33,11 @@ returns-clause-stands g c = λ modelled.
     = omega (arith, size, ap length text, length-append (header_text c.args.header) (0 ∷ [])) in
     created c.args.header is _ _ _ _ _ _ _ _ text end c.start.ensures (c.requires.empty modelled)
     (c.in_ok-write_at.ensures.bytes modelled) (c.in_ok-sync.ensures.seen modelled) (c.in_ok-sync.ensures.story modelled)
+
+pub returns-clause-bytes : goal.returns-clause-bytes
+returns-clause-bytes g c = λ modelled.
+    first_bytes c.args.header _ _ _ _ (c.deref.ensures.value ∙ c.in_ok-buffer.ensures.text) (c.requires.empty modelled)
+    (c.in_ok-write_at.ensures.bytes modelled) (c.in_ok-sync.ensures.seen modelled)
 
 pub returns-clause-calls : goal.returns-clause-calls
 returns-clause-calls g c = λ modelled.
