@@ -34,7 +34,7 @@ BUILT = HERE.parent / "crates" / "tpcc" / "out" / "tpcc"
 
 TERMINALS, LOGGERS = 4, 2
 
-# Order numbers for as many New-Orders as 600,000 commits have. Memory goes by the order cap: 1.6 GB at the start.
+# Order numbers for as many New-Orders as 600,000 commits have. Memory goes by the order cap: 0.9 GB at the start.
 TABLES = "--warehouses 2 --districts 10 --customers 100 --items 1000 --orders 20000 --commits 600000".split()
 
 # In seconds: how long after its first progress line a run is killed at the latest, and how long a program may take
@@ -54,17 +54,40 @@ Progress = namedtuple("Progress", "inputs commits rate acknowledged epoch durabl
 
 PROGRESS = re.compile(rb"inputs (\d+) commits (\d+) \((\d+)/s\) acknowledged (\d+) epoch (\d+) durable (\d+) *")
 
+# What is left at the end: seconds, commits a second, the mean wait for an acknowledgement and that of 99 of 100 in
+# milliseconds, and how many of each kind of transaction.
+Summary = namedtuple("Summary", "seconds rate mean most kinds")
+
+SUMMARY = re.compile(
+    rb"(\d+\.\d) s, (\d+) commits/s, acknowledged after (\d+) ms, 99 of 100 within (\d+) ms; "
+    rb"New-Order (\d+), Payment (\d+), Order-Status (\d+), Delivery (\d+), Stock-Level (\d+) *"
+)
+
+
+def summary_of(line):
+    """The summary that a line is."""
+    match = SUMMARY.fullmatch(line)
+    if not match:
+        raise Failed(f"no summary at the end: {line!r}")
+    seconds, *numbers = match.groups()
+    rate, mean, most, *kinds = map(int, numbers)
+    return Summary(float(seconds), rate, mean, most, kinds)
+
 
 def progress_of(shown):
-    """The progress lines in what a terminal was shown, in their order: each behind a carriage return, and as long as
-    the one before it or longer. A line feed ends the last. Without it, the last may be cut short, and is then left out.
+    """The progress lines in what a terminal was shown, in their order, and the summary behind them, or None. Each stands
+    behind a carriage return, and is as long as the one before it or longer. A line feed ends the summary. Without it, the
+    last line may be cut short, and is then left out.
     """
     text, ended, behind = shown.partition(b"\n")
     front, *lines = text.split(b"\r")
-    if front or behind or (ended and not lines):
-        raise Failed(f"the terminal was shown more than a progress line: {shown!r}")
+    if front or behind or (ended and len(lines) < 2):
+        raise Failed(f"the terminal was shown more than progress lines and a summary: {shown!r}")
+    summary = summary_of(lines[-1]) if ended else None
+    if ended and len(lines[-1]) < len(lines[-2].rstrip(b" ")):
+        raise Failed(f"a summary that leaves some of an older line: {lines[-1]!r}")
     found, width = [], 0
-    for place, line in enumerate(lines, 1):
+    for place, line in enumerate(lines[:-1] if ended else lines, 1):
         match = PROGRESS.fullmatch(line)
         if not match and not ended and place == len(lines):
             break
@@ -72,7 +95,7 @@ def progress_of(shown):
             raise Failed(f"no progress line, or one that leaves some of an older one: {line!r}")
         found.append(Progress(*map(int, match.groups())))
         width = len(line.rstrip(b" "))
-    return found
+    return found, summary
 
 
 class Run:
@@ -121,12 +144,12 @@ def kill_a_run(program, folder, words, latest=LATEST):
     run = Run(program, folder, words)
     try:
         give_up = time.monotonic() + SILENT
-        while not progress_of(run.shown) and not run.ended and time.monotonic() < give_up:
+        while not progress_of(run.shown)[0] and not run.ended and time.monotonic() < give_up:
             run.watch(0.1)
         run.watch(random.uniform(0, latest))
     finally:
         status, output = run.kill()
-    lines = progress_of(run.shown)
+    lines, _ = progress_of(run.shown)
     if status != -signal.SIGKILL or not lines or output:
         raise Failed(f"it ended with status {status}, showed {run.shown!r} and wrote {output!r}")
     return lines[-1]

@@ -654,8 +654,8 @@ def falls(lines):
 
 
 def progress_of_a_run(inputs):
-    """Checks what a run of four terminals with so many inputs each shows on a terminal. Gives the lines, and how many
-    seconds the whole run took.
+    """Checks what a run of four terminals with so many inputs each shows on a terminal. Gives the progress lines, and how
+    many seconds the whole run took.
     """
     with tempfile.TemporaryDirectory() as folder:
         begun = time.monotonic()
@@ -671,7 +671,7 @@ def progress_of_a_run(inputs):
             long.process.kill()
         seconds = time.monotonic() - begun
         same("the status of a long run", status, 0)
-        counts, lines = counts_of(output), kills.progress_of(long.shown)
+        counts, (lines, summary) = counts_of(output), kills.progress_of(long.shown)
         same("the number of inputs of a long run", inputs_of(counts), 4 * inputs)
         same("what is acknowledged of a long run", counts.acknowledged, counts.commits)
         same("whether there are at most ten lines a second", len(lines) <= 10 * seconds, True)
@@ -681,6 +681,15 @@ def progress_of_a_run(inputs):
             same("whether too many commits are shown", last.commits > counts.commits, False)
             same("whether too many are shown as acknowledged", last.acknowledged > counts.acknowledged, False)
             same("whether too late an epoch is shown as durable", last.durable > counts.durable, False)
+            same("how many are summed up", sum(summary.kinds), counts.acknowledged)
+            same("whether a kind is missing", 0 in summary.kinds, False)
+            same("whether a longer time is told", summary.seconds > seconds, False)
+            same("whether a shorter one than a second is", summary.seconds < 1, False)
+            least, most = (counts.commits / (summary.seconds + off) for off in (0.1, 0))
+            same("whether the commits a second are so many", least <= summary.rate + 1 and summary.rate <= most, True)
+            same("whether the mean wait is above most", summary.mean > summary.most, False)
+            # A logger's turns begin 40 ms apart.
+            same("whether the waits are too short", summary.most < 20, False)
     return lines, seconds
 
 
