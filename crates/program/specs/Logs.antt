@@ -42,13 +42,14 @@ pub record IsShownWith (t0 : Database) (seed : ℕ) (old new : Option (List ℕ)
 abbrev pub IsCheckedWith : Database → ℕ → Option (List ℕ) → Option (List ℕ) → Report → Type 0
 IsCheckedWith t0 seed old new report = (strings : List (List ℕ)) × IsChecked t0 seed strings old new report
 
--- it was refused: the files weren't read, or the recovery of some bytes of theirs was refused
+-- it was refused: the files weren't read, or the recovery of some bytes of theirs was refused, on devices that had
+-- some numbers of failures before and after
 pub data IsRefusedWith (files : LogFiles) (Tells : Recovered → List ℕ → Type 0) (t0 : Database) (seed : ℕ)
     (old new : Option (List ℕ)) (refusal : Refusal) (file : Option (List ℕ × Purpose)) : Type 0 where
   unread : AreUnready Read files refusal file → Appends old new []
       → IsRefusedWith files Tells t0 seed old new refusal file
-  untold : (strings : List (List ℕ)) → IsRefused t0 seed strings Tells old new refusal → file ≡ None
-      → IsRefusedWith files Tells t0 seed old new refusal file
+  untold : (strings : List (List ℕ)) (before now : List ℕ) → IsRefused t0 seed strings Tells before now old new refusal
+      → file ≡ None → IsRefusedWith files Tells t0 seed old new refusal file
 
 -- how many inputs a run has
 abbrev pub inputs_of : RunOptions → ℕ

@@ -12,7 +12,7 @@ use Rattle.first_tables.specs.First.{IsSeeded}
 use Rattle.conditions.specs.Report.{IsGood}
 use Rattle.conditions.specs.declared.report.Report.{Report}
 use Rattle.book.specs.Done.{Done}
-use Rattle.script.specs.Written.{IsWhole, IsBeginning}
+use Rattle.script.specs.Written.{HasTooManyLines, IsWhole, IsBeginning}
 use Rattle.command_line.specs.CommandLine.{IsAskedBy, IsOptionsRefusal}
 use Rattle.command_line.specs.declared.asked.Options.{Options}
 use Rattle.command_line.specs.declared.asked.Subcommand.{Subcommand}
@@ -40,10 +40,11 @@ pub record IsAnswered (t0 : Database) (bytes : List ℕ) (old new : Option (List
   pub wrote : Appends old new text
   pub whole : IsWhole t0 bytes text report dones
 
--- or it was refused, when a beginning of its text was written
+-- or it was refused, when a beginning of its text was written: for want of memory, for having more lines than a script
+-- may have, or where a device failed
 pub record IsBrokenOff (t0 : Database) (bytes : List ℕ) (old new : Option (List ℕ)) (refusal : Refusal) : Type 0 where
   pub front : List ℕ
-  pub cause : (refusal ≡ OutOfMemory) ⊎ (refusal ≡ BadInput) ⊎ (refusal ≡ Device)
+  pub cause : (refusal ≡ OutOfMemory) ⊎ ((refusal ≡ BadInput) × HasTooManyLines bytes) ⊎ (refusal ≡ Device)
   pub wrote : Appends old new front
   pub beginning : IsBeginning t0 bytes front
 

@@ -1,5 +1,5 @@
 //! Log files: opening those that a command line names, and telling what they recover to.
-ghost use Rattle.std.specs.Prelude.{◌≡◌, ◌<◌, ℕ, List, length, IfOk, IfErr, string_bytes};
+ghost use Rattle.std.specs.Prelude.{◌≡◌, ◌<◌, ℕ, List, length, map, IfOk, IfErr, string_bytes};
 ghost use Rattle.money.specs.declared.refusal.Refusal.TheVariants.{Device};
 ghost use Rattle.population.specs.Initial.{initial, seed_of};
 ghost use Rattle.recovery.specs.Told.{IsRefused, Shows, Reports};
@@ -73,7 +73,8 @@ fn show_recovered<D: Disk, W: Write>(
     ensures shown { IfOk result (IsShownWith (initial population.now) (seed_of population.now)
         (W.contents output.old) (W.contents output.new)) }
     ensures refused { IfErr result (λ refusal. (strings : List (List ℕ)) × IsRefused (initial population.now)
-        (seed_of population.now) strings Shows (W.contents output.old) (W.contents output.new) refusal) }
+        (seed_of population.now) strings Shows (map D.failed disks.old) (map D.failed disks.new)
+        (W.contents output.old) (W.contents output.new) refusal) }
 {
     let recovered = recovered(alloc, population, disks, output)?;
     check(alloc, &recovered.tables)

@@ -7,6 +7,7 @@ use Rattle.tables.specs.Database.{Database, database}
 use Rattle.conditions.specs.Report.{IsReportOf}
 use Rattle.conditions.specs.declared.report.Report.{Report}
 use Rattle.script_text.specs.Report.{report_text}
+use Rattle.recover.specs.Files.{AreDamaged, HasFailed}
 use Rattle.recover.specs.Recovered.{IsRecovery, HasGap}
 use Rattle.recover.specs.declared.recovering.Recovered.{Recovered}
 use Rattle.recovery.specs.Text.{recovery_text}
@@ -32,15 +33,20 @@ Shows r text = text ≡ recovery_text r
 abbrev pub Reports : Recovered → List ℕ → Type 0
 Reports r text = (report : Report) × IsReportOf (database r.tables) report × (text ≡ report_text r.commits report)
 
--- it was refused: nothing was recovered, and nothing written; or a beginning of the text of what was recovered was
--- written
+-- it was refused, and the disks had so many failures before and have so many now. Nothing was recovered, and nothing
+-- written: for want of memory, where a disk failed, where the strings are no log files of the database, or where a
+-- commit is missing. Or a beginning of the text of what was recovered was written, and no disk failed: for want of
+-- memory, or where the writer failed
 pub data IsRefused (t0 : Database) (seed : ℕ) (strings : List (List ℕ)) (Tells : Recovered → List ℕ → Type 0)
-    (old new : Option (List ℕ)) (refusal : Refusal) : Type 0 where
-  memory : refusal ≡ OutOfMemory → Appends old new [] → IsRefused t0 seed strings Tells old new refusal
-  device : refusal ≡ Device → Appends old new [] → IsRefused t0 seed strings Tells old new refusal
-  damaged : refusal ≡ Damaged → Appends old new [] → IsRefused t0 seed strings Tells old new refusal
-  gap : refusal ≡ Gap → HasGap t0.scale seed strings → Appends old new []
-      → IsRefused t0 seed strings Tells old new refusal
+    (before now : List ℕ) (old new : Option (List ℕ)) (refusal : Refusal) : Type 0 where
+  memory : refusal ≡ OutOfMemory → now ≡ before → Appends old new []
+      → IsRefused t0 seed strings Tells before now old new refusal
+  device : refusal ≡ Device → HasFailed before now → Appends old new []
+      → IsRefused t0 seed strings Tells before now old new refusal
+  damaged : refusal ≡ Damaged → AreDamaged t0.scale seed strings → now ≡ before → Appends old new []
+      → IsRefused t0 seed strings Tells before now old new refusal
+  gap : refusal ≡ Gap → HasGap t0.scale seed strings → now ≡ before → Appends old new []
+      → IsRefused t0 seed strings Tells before now old new refusal
   begun : (r : Recovered) (front rest : List ℕ) → IsRecovery t0 seed strings r → Tells r (front ++ rest)
-      → Appends old new front → (refusal ≡ OutOfMemory) ⊎ (refusal ≡ Device)
-      → IsRefused t0 seed strings Tells old new refusal
+      → Appends old new front → now ≡ before → (refusal ≡ OutOfMemory) ⊎ (refusal ≡ Device)
+      → IsRefused t0 seed strings Tells before now old new refusal

@@ -1,11 +1,9 @@
 //! Recovering log files, and telling what they recover to.
-ghost use Rattle.std.specs.Prelude.{◌≡◌, ◌⊎◌, ◌++◌, ℕ, List, map, IfOk, IfErr, OnOk, IsErrOf};
+ghost use Rattle.std.specs.Prelude.{◌≡◌, ◌⊎◌, ◌++◌, ℕ, List, map, IfOk, IfErr, OnOk};
 ghost use Rattle.std.specs.Io.KnownBytes.{Appends};
-ghost use Rattle.money.specs.declared.refusal.Refusal.TheVariants.{OutOfMemory, Device, Damaged};
+ghost use Rattle.money.specs.declared.refusal.Refusal.TheVariants.{OutOfMemory, Device};
 ghost use Rattle.population.specs.Initial.{initial, seed_of};
 ghost use Rattle.script_text.specs.Report.{report_text};
-ghost use Rattle.log_text.specs.Bodies.{BodyView};
-ghost use Rattle.recover.specs.Files.{AreFiles};
 ghost use Rattle.recovery.specs.Text.{recovery_text};
 ghost use Rattle.recovery.specs.Told.{IsShown, IsChecked, IsRefused, Shows, Reports};
 
@@ -26,8 +24,8 @@ use std::io::Write;
 ///
 /// # Errors
 ///
-/// As `recover`, and then nothing is written; and `Device` where the writer fails, `OutOfMemory` where the text has no
-/// room.
+/// As `recover`, and then nothing is written; and, where no disk fails, `Device` where the writer fails, `OutOfMemory`
+/// where the text has no room.
 pub fn recovered<D: Disk, W: Write>(
     alloc: Global,
     population: &Population,
@@ -40,15 +38,14 @@ pub fn recovered<D: Disk, W: Write>(
     ensures refused { IfErr result (λ refusal. (strings : List (List ℕ))
         × (D.is_modelled → strings ≡ map D.seen disks.old)
         × IsRefused (initial population.now) (seed_of population.now) strings Shows
-        (W.contents writer.old) (W.contents writer.new) refusal) }
-    ensures damaged { D.is_modelled → IsErrOf result Damaged → (files : List (List BodyView))
-        → AreFiles (initial population.now).scale (seed_of population.now) (map D.seen disks.old) files → ⊥ }
+        (map D.failed disks.old) (map D.failed disks.new) (W.contents writer.old) (W.contents writer.new) refusal) }
+    ensures not_failed { OnOk result (map D.failed disks.new ≡ map D.failed disks.old) }
     ensures seen { D.is_modelled → map D.seen disks.new ≡ map D.seen disks.old }
     ensures story { D.is_modelled → map D.story disks.new ≡ map D.story disks.old }
 {
-    let recovered = recover(alloc, population, disks)?;
-    show(alloc, &recovered, writer)?;
-    Ok(recovered)
+    let found = recover(alloc, population, disks)?;
+    show(alloc, &found, writer)?;
+    Ok(found)
 }
 
 /// Recovers the tables that log files hold, as `recover` does, and writes the report of the consistency conditions on
@@ -56,8 +53,8 @@ pub fn recovered<D: Disk, W: Write>(
 ///
 /// # Errors
 ///
-/// As `recover`, and then nothing is written; and `Device` where the writer fails, `OutOfMemory` where check or text
-/// have no room.
+/// As `recover`, and then nothing is written; and, where no disk fails, `Device` where the writer fails, `OutOfMemory`
+/// where check or text have no room.
 pub fn checked<D: Disk, W: Write>(
     alloc: Global,
     population: &Population,
@@ -71,9 +68,8 @@ pub fn checked<D: Disk, W: Write>(
     ensures refused { IfErr result (λ refusal. (strings : List (List ℕ))
         × (D.is_modelled → strings ≡ map D.seen disks.old)
         × IsRefused (initial population.now) (seed_of population.now) strings Reports
-        (W.contents writer.old) (W.contents writer.new) refusal) }
-    ensures damaged { D.is_modelled → IsErrOf result Damaged → (files : List (List BodyView))
-        → AreFiles (initial population.now).scale (seed_of population.now) (map D.seen disks.old) files → ⊥ }
+        (map D.failed disks.old) (map D.failed disks.new) (W.contents writer.old) (W.contents writer.new) refusal) }
+    ensures not_failed { OnOk result (map D.failed disks.new ≡ map D.failed disks.old) }
     ensures seen { D.is_modelled → map D.seen disks.new ≡ map D.seen disks.old }
     ensures story { D.is_modelled → map D.story disks.new ≡ map D.story disks.old }
 {

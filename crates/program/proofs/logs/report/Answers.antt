@@ -14,4 +14,4 @@ returns-clause-refused g c =
     let refused = c.in-Err-checked.ensures.refused in
     subst (λ (fault : Fault). IsRefusedWith c.args.files.now Reports (initial c.args.population.now) (seed_of c.args.population.now)
     (g.W.Write.contents c.args.output.now) (g.W.Write.contents c.checked.new.writer) fault.refusal (file_of fault)) (sym c.of.ensures)
-    (untold refused.0 refused.2 refl)
+    (untold refused.0 _ _ refused.2 refl)

@@ -14,4 +14,4 @@ returns-clause-refused g c =
     let refused = c.in-Err-show_recovered.ensures.refused in
     subst (λ (fault : Fault). IsRefusedWith c.args.files.now Shows (initial c.args.population.now) (seed_of c.args.population.now)
     (g.W.Write.contents c.args.output.now) (g.W.Write.contents c.show_recovered.new.output) fault.refusal (file_of fault)) (sym c.of.ensures)
-    (untold refused.0 refused.1 refl)
+    (untold refused.0 _ _ refused.1 refl)

@@ -19,4 +19,4 @@ returns-clause-refused g c =
     let known = c.in_ok-recovered.ensures.shown in
     let r = c.in_ok-recovered.recovered in
     IfErr-weaker c.check.result _ _ (λ refusal memory.
-    (known.0, begun r (recovery_text r) [] known.2.recovery (append-nil (recovery_text r)) known.2.wrote (inl memory))) c.check.ensures.memory
+    (known.0, begun r (recovery_text r) [] known.2.recovery (append-nil (recovery_text r)) known.2.wrote c.in_ok-recovered.ensures.not_failed (inl memory))) c.check.ensures.memory

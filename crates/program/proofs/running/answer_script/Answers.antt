@@ -1,4 +1,5 @@
-use Rattle.std.proofs.Common.{◌≡◌, None, refl, subst, sym}
+use Rattle.std.proofs.Common.{◌≡◌, None, Err, ap, refl, subst, sym}
+use Rattle.std.proofs.Math.Logic.{⊎_map}
 use Rattle.population.specs.Initial.{initial}
 use Rattle.program.specs.declared.fault.Fault.{Fault}
 use Rattle.program.specs.Logs.{file_of}
@@ -12,7 +13,8 @@ returns-in-Err-clause-broken_off g c = λ bytes left.
     fault.refusal × (file_of fault ≡ None)) (sym c.of.ensures) (
       record {
         front = beginning.0;
-        cause = c.in-Err.ensures.refusals;
+        cause = ⊎_map (λ memory. memory) (⊎_map (λ input. (input, c.in-Err.ensures.too_many (ap Err input) bytes left)) (λ device. device))
+            c.in-Err.ensures.refusals;
         wrote = beginning.1;
         beginning = beginning.2;
       },

@@ -10,9 +10,12 @@ returns-in_err-recovered-clause-refused g c =
     let e = c.in_err-recovered.field-0.0 in
     let w = g.W.Write.contents c.args.writer.now in
     let seed = seed_of c.args.population.now in
-    let refused : SomeStrings g.D.Disk.is_modelled (map g.D.Disk.seen c.args.disks.now) (λ strings. IsRefused (initial c.args.population.now) seed strings Reports w w e) =
-    unrecovered (map g.D.Disk.seen c.args.disks.now) (initial c.args.population.now) seed Reports w e c.in_err-recovered.ensures.gap
-    c.in_err-recovered.ensures.others in
+    let before = map g.D.Disk.failed c.args.disks.now in
+    let now = map g.D.Disk.failed c.recover.new.disks in
+    let refused : SomeStrings g.D.Disk.is_modelled (map g.D.Disk.seen c.args.disks.now)
+    (λ strings. IsRefused (initial c.args.population.now) seed strings Reports before now w w e) =
+    unrecovered g.D.Disk.is_modelled (map g.D.Disk.seen c.args.disks.now) (initial c.args.population.now) seed Reports before now w e c.in_err-recovered.ensures.failed
+    c.in_err-recovered.ensures.not_failed c.in_err-recovered.ensures.damaged c.in_err-recovered.ensures.gap c.in_err-recovered.ensures.others in
     search rules
 
 pub returns-in_err-report_on-clause-refused : goal.returns-in_err-report_on-clause-refused
@@ -21,10 +24,13 @@ returns-in_err-report_on-clause-refused g c =
     let r = c.in_ok-recovered.recovered in
     let report = c.in_ok-report.report in
     let seed = seed_of c.args.population.now in
-    let refused : SomeStrings g.D.Disk.is_modelled (map g.D.Disk.seen c.args.disks.now) (λ strings. IsRefused (initial c.args.population.now) seed strings Reports
+    let before = map g.D.Disk.failed c.args.disks.now in
+    let now = map g.D.Disk.failed c.recover.new.disks in
+    let refused : SomeStrings g.D.Disk.is_modelled (map g.D.Disk.seen c.args.disks.now)
+    (λ strings. IsRefused (initial c.args.population.now) seed strings Reports before now
     (g.W.Write.contents c.args.writer.now) (g.W.Write.contents c.report_on.new.writer) e) =
-    untold (map g.D.Disk.seen c.args.disks.now) (initial c.args.population.now) seed Reports (report_text r.commits report) r _ _ e
-    c.in_ok-recovered.ensures.recovered (report, c.in_ok-report.ensures.ok, refl) c.in_err-report_on.ensures.beginning in
+    untold (map g.D.Disk.seen c.args.disks.now) (initial c.args.population.now) seed Reports (report_text r.commits report) r before now _ _ e
+    c.in_ok-recovered.ensures.recovered (report, c.in_ok-report.ensures.ok, refl) (c.in_ok-recovered.ensures.not_failed (search rules)) c.in_err-report_on.ensures.beginning in
     search rules
 
 pub returns-clause-checked : goal.returns-clause-checked
