@@ -1,5 +1,5 @@
 -- What is told of a run.
-use Rattle.std.specs.Prelude.{◌≡◌, ◌≢◌, ◌+◌, ◌⊎◌, ◌++◌, ℕ, List, [], Option, codes, length}
+use Rattle.std.specs.Prelude.{◌≡◌, ◌≢◌, ◌⊎◌, ◌++◌, ℕ, List, [], Option, codes, length}
 use Rattle.std.specs.Fmt.{decimal}
 use Rattle.std.specs.Io.KnownBytes.{Appends}
 use Rattle.money.specs.declared.refusal.Refusal.{Refusal}
@@ -10,6 +10,9 @@ use Rattle.conditions.specs.declared.report.Report.{Report}
 use Rattle.script_text.specs.Report.{verdicts}
 use Rattle.book.specs.History.{replay}
 use Rattle.book.specs.declared.entry.Entry.{Entry}
+use Rattle.engine_run.specs.History.{IsMadeBy}
+use Rattle.engine_run.specs.Tally.{IsCounted}
+use Rattle.engine_run.specs.declared.tally.Tally.{Tally}
 use Rattle.driver.specs.declared.counts.Counts.{Counts}
 
 -- the counts with these numbers
@@ -49,21 +52,26 @@ pub data IsCutShort (committed : Database) (c : Counts) (old new : Option (List 
   begun : (report : Report) (front rest : List ℕ) → IsReportOf committed report → front ++ rest ≡ run_text c report
       → Appends old new front → (refusal ≡ OutOfMemory) ⊎ (refusal ≡ Device) → IsCutShort committed c old new refusal
 
--- these are the counts of a history that so many inputs have made
-pub record IsCounted (inputs : ℕ) (history : List Entry) (c : Counts) : Type 0 where
+-- of so many inputs at each of so many terminals, so much came of each terminal's, and these are the counts of that and
+-- of the history that they have made from these tables on
+pub record AreCounts (t0 : Database) (terminals inputs : ℕ) (history : List Entry) (tallies : List Tally) (c : Counts)
+    : Type 0 where
+  pub made : IsMadeBy terminals 0 t0 history
   pub commits : c.commits ≡ length history
-  pub all : c.commits + c.rollbacks + c.gave_up + c.refused ≡ inputs
+  pub counted : IsCounted terminals inputs tallies c.commits c.rollbacks c.gave_up c.refused
 
--- so many inputs ran from these tables on, and what came of them was told
-pub record IsRan (t0 : Database) (inputs : ℕ) (old new : Option (List ℕ)) (report : Report) : Type 0 where
+-- so many inputs ran at each of so many terminals from these tables on, and what came of them was told
+pub record IsRan (t0 : Database) (terminals inputs : ℕ) (old new : Option (List ℕ)) (report : Report) : Type 0 where
   pub history : List Entry
+  pub tallies : List Tally
   pub counts : Counts
-  pub counted : IsCounted inputs history counts
+  pub counted : AreCounts t0 terminals inputs history tallies counts
   pub told : IsTold (replay t0 history) counts old new report
 
 -- it was refused: no input ran, for want of memory or since a device failed, and nothing was written; or all did, and a
 -- beginning of the text was written
-pub data IsBroken (t0 : Database) (inputs : ℕ) (old new : Option (List ℕ)) (refusal : Refusal) : Type 0 where
-  unrun : ((refusal ≢ OutOfMemory) → refusal ≡ Device) → Appends old new [] → IsBroken t0 inputs old new refusal
-  untold : (history : List Entry) (c : Counts) → IsCounted inputs history c
-      → IsCutShort (replay t0 history) c old new refusal → IsBroken t0 inputs old new refusal
+pub data IsBroken (t0 : Database) (terminals inputs : ℕ) (old new : Option (List ℕ)) (refusal : Refusal) : Type 0 where
+  unrun : ((refusal ≢ OutOfMemory) → refusal ≡ Device) → Appends old new []
+      → IsBroken t0 terminals inputs old new refusal
+  untold : (history : List Entry) (tallies : List Tally) (c : Counts) → AreCounts t0 terminals inputs history tallies c
+      → IsCutShort (replay t0 history) c old new refusal → IsBroken t0 terminals inputs old new refusal

@@ -1,10 +1,10 @@
 //! A run from a population to its report.
-ghost use Rattle.std.specs.Prelude.{◌≡◌, ◌≢◌, ◌*◌, ◌<◌, ◌≤◌, [], length, All, IfOk, IfErr};
+ghost use Rattle.std.specs.Prelude.{◌≡◌, ◌≢◌, ◌<◌, ◌≤◌, [], length, All, IfOk, IfErr};
 ghost use Rattle.money.specs.declared.refusal.Refusal.TheVariants.{OutOfMemory, Device};
 ghost use Rattle.tables.specs.declared.limits.TheConstants.{MAX_LOGGERS, MAX_TERMINALS};
 ghost use Rattle.population.specs.Initial.{initial};
-ghost use Rattle.book.specs.Parts.{IsFresh, IsRunOf, base_of, ledger_name, ledger_parts, loggers_of, terminals_of};
-ghost use Rattle.driver.specs.Told.{IsBroken, IsCounted, IsRan, counts};
+ghost use Rattle.book.specs.Parts.{IsFresh, IsRunOf, base_of, past_of, ledger_name, ledger_parts, loggers_of, terminals_of};
+ghost use Rattle.driver.specs.Told.{AreCounts, IsBroken, IsRan, counts};
 
 use crate::outfit::{Slot, logs, stations};
 use crate::telling::ran;
@@ -59,9 +59,9 @@ pub fn drive<D: Disk + Send + Drop, P: Pace + Send + Drop, W: Write, R: Threads 
     requires loggers { (0 < length slots.items) × (length slots.items ≤ MAX_LOGGERS) }
     requires terminals { (0 < plan.now.terminals) × (plan.now.terminals ≤ MAX_TERMINALS) }
     requires empty { D.is_modelled → All (λ slot. D.seen slot.disk ≡ []) slots.items }
-    ensures ran { IfOk result (λ driven. IsRan (initial population) (plan.now.terminals * plan.now.inputs)
+    ensures ran { IfOk result (λ driven. IsRan (initial population) plan.now.terminals plan.now.inputs
         (W.contents writer.old) (W.contents writer.new) driven.report) }
-    ensures broken { IfErr result (IsBroken (initial population) (plan.now.terminals * plan.now.inputs)
+    ensures broken { IfErr result (IsBroken (initial population) plan.now.terminals plan.now.inputs
         (W.contents writer.old) (W.contents writer.new)) }
 {
     let parts = Parts::new(rt, alloc, population, slots.len() as u16, plan.terminals)?;
@@ -87,12 +87,12 @@ fn drive_parts<
     requires run { IsRunOf parts K.first K.past K.cells K.board K.seed }
     requires ledger { (ledger_name parts ≡ K.name) × (ledger_parts parts ≡ K.parts) }
     requires loggers { (loggers_of parts ≡ length slots.items) × (length slots.items ≤ MAX_LOGGERS) }
-    requires base { base_of parts ≡ 0 }
+    requires begins { (base_of parts ≡ 0) × (past_of parts ≡ 0) }
     requires terminals { (terminals_of parts ≡ plan.now.terminals) × (plan.now.terminals ≤ MAX_TERMINALS) }
     requires empty { D.is_modelled → All (λ slot. D.seen slot.disk ≡ []) slots.items }
-    ensures ran { IfOk result (λ driven. IsRan K.first (plan.now.terminals * plan.now.inputs)
+    ensures ran { IfOk result (λ driven. IsRan K.first plan.now.terminals plan.now.inputs
         (W.contents writer.old) (W.contents writer.new) driven.report) }
-    ensures broken { IfErr result (IsBroken K.first (plan.now.terminals * plan.now.inputs)
+    ensures broken { IfErr result (IsBroken K.first plan.now.terminals plan.now.inputs
         (W.contents writer.old) (W.contents writer.new)) }
 {
     let outcome = match outcome_of::<K, D, P, R>(rt, alloc, parts, slots, plan) {
@@ -126,11 +126,11 @@ fn outcome_of<
     requires run { IsRunOf parts K.first K.past K.cells K.board K.seed }
     requires ledger { (ledger_name parts ≡ K.name) × (ledger_parts parts ≡ K.parts) }
     requires loggers { (loggers_of parts ≡ length slots.items) × (length slots.items ≤ MAX_LOGGERS) }
-    requires base { base_of parts ≡ 0 }
+    requires begins { (base_of parts ≡ 0) × (past_of parts ≡ 0) }
     requires terminals { (terminals_of parts ≡ plan.now.terminals) × (plan.now.terminals ≤ MAX_TERMINALS) }
     requires empty { D.is_modelled → All (λ slot. D.seen slot.disk ≡ []) slots.items }
-    ensures counted { IfOk result (λ outcome. IsCounted (plan.now.terminals * plan.now.inputs) outcome.closed
-        (counts outcome.commits outcome.rollbacks outcome.gave_up outcome.refused outcome.durable
+    ensures counted { IfOk result (λ outcome. AreCounts K.first plan.now.terminals plan.now.inputs outcome.closed
+        outcome.tallies.items (counts outcome.commits outcome.rollbacks outcome.gave_up outcome.refused outcome.durable
         outcome.acknowledged)) }
     ensures cause { IfErr result (λ refusal. (refusal ≢ OutOfMemory) → refusal ≡ Device) }
 {

@@ -5,7 +5,6 @@ ghost use Rattle.tables.specs.declared.limits.TheConstants.{MAX_LOGGERS};
 ghost use Rattle.board.specs.declared.rule.Role.TheVariants.{Logger as logger_role};
 ghost use Rattle.board.specs.Opening.{logger_seats};
 ghost use Rattle.board.specs.Seats.{new_seat};
-ghost use Rattle.deck.specs.Deck.{scale_of};
 
 use board::{Board, LoggerSeat};
 use deck::{Deck, Settings};
@@ -36,7 +35,7 @@ pub(crate) fn stations(
     seed: u64,
 ) -> Result<Vec<Station<Calls>>, Refusal>
     ensures count { IfOk result (λ stations. length stations.items ≡ terminals) }
-    ensures decks { IfOk result (λ stations. All (λ station. scale_of station.deck ≡ scale) stations.items) }
+    ensures decks { IfOk result (λ stations. All (λ station. station.deck.scale ≡ scale) stations.items) }
     ensures only_memory { IfErr result (λ refusal. refusal ≡ OutOfMemory) }
 {
     let mut stations = Vec::new(alloc);

@@ -1,0 +1,3 @@
+mod Turned
+mod Clocks
+mod Counted

@@ -1,1 +1,4 @@
 pub mod Tally
+pub mod Appending
+pub mod Clocks
+pub mod History

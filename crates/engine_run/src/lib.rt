@@ -1,6 +1,7 @@
 //! A run of an engine in threads: terminals, each with its deck of inputs, beside loggers, each with its file.
 #![tactic(auto)]
 
+mod appender;
 mod outcome;
 mod pace;
 mod progress;

@@ -1,5 +1,7 @@
 //! What comes of a run.
+ghost use Rattle.std.specs.Prelude.{◌≡◌, false};
 
+use crate::tally::Tally;
 use book::{Closed, Run};
 use disk::Disk;
 use logger::Logger;
@@ -15,6 +17,8 @@ pub struct Outcome<K: Run, D: Disk> {
     pub gave_up: u64,
     /// Inputs refused for memory, the order cap or the commit cap.
     pub refused: u64,
+    /// What came of each terminal's inputs, in the order of their numbers: the four above are the sums of these.
+    pub tallies: Vec<Tally>,
     /// The last D.
     pub durable: u64,
     /// Replies that were released.
@@ -31,4 +35,5 @@ pub struct Written<D: Disk> {
     pub logger: Logger<D>,
     /// Whether it stopped before the end: its device has failed.
     pub has_stopped: bool,
+    pub ghost told: { has_stopped ≡ false → logger.file.failed ≡ false },
 }

@@ -1,8 +1,8 @@
 //! What came of the inputs of all terminals.
-ghost use Rattle.std.specs.Prelude.{◌≡◌, ◌+◌, ◌*◌, ◌^◌, ◌<◌, ◌≤◌, length, All, [], vec_capacity};
+ghost use Rattle.std.specs.Prelude.{◌≡◌, ◌^◌, ◌<◌, ◌≤◌, [], length, map, vec_capacity};
 ghost use Rattle.std.specs.List.{sum_by};
 ghost use Rattle.book.specs.Share.{parts_of, commits_of};
-ghost use Rattle.engine_run.specs.Tally.{total, total_of, IsSummed};
+ghost use Rattle.engine_run.specs.Tally.{AreSums, committed};
 
 use crate::tally::Tally;
 use crate::worker::Worker;
@@ -10,51 +10,50 @@ use book::{Engine, Run, Share};
 use terminals::Gate;
 
 /// What came of the inputs of terminals, added up.
-#[derive(Clone, Copy, Debug, Default)]
+#[derive(Clone, Copy, Debug)]
 pub(crate) struct Sums {
     pub(crate) commits: u64,
     pub(crate) rollbacks: u64,
     pub(crate) gave_up: u64,
     pub(crate) refused: u64,
-    pub(crate) acknowledged: u64,
 }
 
 impl Sums {
-    /// Adds what came of one terminal's.
-    fn add(&mut self, tally: &Tally, acknowledged: u64)
-        requires { total_of self.old + total tally.now < 2 ^ 64 }
-        ensures { IsSummed self.old tally.now self.new }
+    /// The sums of these.
+    pub(crate) fn of(tallies: &[Tally]) -> Sums
+        requires { length tallies.now < 2 ^ 16 }
+        ensures { AreSums tallies.now result.commits result.rollbacks result.gave_up result.refused }
     {
-        self.commits += u64::from(tally.commits);
-        self.rollbacks += u64::from(tally.rollbacks);
-        self.gave_up += u64::from(tally.gave_up);
-        self.refused += u64::from(tally.refused);
-        self.acknowledged = self.acknowledged.saturating_add(acknowledged);
+        Sums {
+            commits: tallies.iter().map(|tally| u64::from(tally.commits)).sum(),
+            rollbacks: tallies.iter().map(|tally| u64::from(tally.rollbacks)).sum(),
+            gave_up: tallies.iter().map(|tally| u64::from(tally.gave_up)).sum(),
+            refused: tallies.iter().map(|tally| u64::from(tally.refused)).sum(),
+        }
     }
 }
 
-/// Ends terminals that have done so many inputs each: each acknowledges what is durable, and its share is gathered,
-/// for which there is room.
+/// Ends terminals: each acknowledges what is durable, and what came of its inputs and its share are gathered, in their
+/// order. There is room for both. Answers how many replies were released.
 pub(crate) fn gathered<K: Run, G: Gate + Drop>(
     engine: &Engine<K>,
     workers: Vec<Worker<K, G>>,
-    shares: Vec<Share<K>>,
-    inputs: u32,
-) -> (Sums, Vec<Share<K>>)
-    requires all { All (λ worker. total worker.tally ≡ inputs) workers.items }
-    requires few { length workers.items < 2 ^ 16 }
-    requires none { shares.items ≡ [] }
-    requires room { length workers.items ≤ vec_capacity shares }
-    ensures all { total_of result.0 ≡ length workers.items * inputs }
-    ensures parts { sum_by parts_of result.1.items ≡ length workers.items }
-    ensures commits { sum_by commits_of result.1.items ≡ result.0.commits }
+    tallies: &mut Vec<Tally>,
+    shares: &mut Vec<Share<K>>,
+) -> u64
+    requires none { (tallies.old.items ≡ []) × (shares.old.items ≡ []) }
+    requires tallies { length workers.items ≤ vec_capacity tallies.old }
+    requires shares { length workers.items ≤ vec_capacity shares.old }
+    ensures tallies { tallies.new.items ≡ map (λ worker. worker.tally) workers.items }
+    ensures parts { sum_by parts_of shares.new.items ≡ length workers.items }
+    ensures commits { sum_by commits_of shares.new.items ≡ sum_by committed tallies.new.items }
 {
-    let (mut workers, mut shares) = (workers, shares);
-    let mut sums = Sums::default();
-    while let Some(worker) = workers.pop() {
+    let mut released = 0u64;
+    for worker in workers {
         let (tally, acknowledged, share) = worker.end(engine);
-        sums.add(&tally, acknowledged);
+        released = released.saturating_add(acknowledged);
+        tallies.push_reserved(tally);
         shares.push_reserved(share);
     }
-    (sums, shares)
+    released
 }

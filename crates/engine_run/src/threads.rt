@@ -1,17 +1,21 @@
 //! The threads of a run.
-ghost use Rattle.std.specs.Prelude.{◌≡◌, ◌+◌, ◌*◌, ◌^◌, ◌<◌, ◌≤◌, length, All, IfOk, IfErr, IfSome, vec_len, vec_capacity, []};
+ghost use Rattle.std.specs.Prelude.{◌≡◌, ◌+◌, ◌^◌, ◌<◌, ◌≤◌, length, map, All, Some, IfOk, IfErr, vec_len, vec_capacity, []};
 ghost use Rattle.money.specs.declared.refusal.Refusal.TheVariants.{OutOfMemory};
-ghost use Rattle.deck.specs.Deck.{scale_of};
-ghost use Rattle.engine_run.specs.Tally.{total};
+ghost use Rattle.std.specs.List.{sum_by};
+ghost use Rattle.book.specs.Share.{parts_of, commits_of};
+ghost use Rattle.engine_run.specs.Clocks.{clocks};
+ghost use Rattle.engine_run.specs.History.{IsMadeBy};
+ghost use Rattle.engine_run.specs.Tally.{AreSums, IsCounted, total};
 
 use crate::outcome::{Outcome, Written};
 use crate::pace::Pace;
 use crate::progress::Progress;
-use crate::sums::gathered;
+use crate::sums::{Sums, gathered};
+use crate::tally::Tally;
 use crate::worker::{Station, Worker};
 use crate::writer::Writer;
 use board::ClockSeat;
-use book::{Engine, Run, Share, TerminalSeats};
+use book::{Closed, Engine, Run, Share, TerminalSeats};
 use disk::Disk;
 use logger::Logger;
 use money::Refusal;
@@ -64,29 +68,116 @@ pub fn run<
     requires logs { All (λ log. log.logger.seat.board ≡ K.board) logs.items }
     requires terminals { (desks.terminals.left ≡ K.parts) × (length stations.items ≡ K.parts) }
     requires few { K.parts < 2 ^ 16 }
-    requires decks { All (λ station. scale_of station.deck ≡ K.first.scale) stations.items }
+    requires decks { All (λ station. station.deck.scale ≡ K.first.scale) stations.items }
+    ensures history { IfOk result (λ outcome. IsMadeBy K.parts K.past K.first outcome.closed) }
     ensures commits { IfOk result (λ outcome. outcome.commits ≡ length outcome.closed) }
-    ensures inputs { IfOk result (λ outcome.
-        outcome.commits + outcome.rollbacks + outcome.gave_up + outcome.refused ≡ K.parts * inputs) }
+    ensures counted { IfOk result (λ outcome. IsCounted K.parts inputs outcome.tallies.items
+        outcome.commits outcome.rollbacks outcome.gave_up outcome.refused) }
     ensures memory { IfErr result (λ refusal. refusal ≡ OutOfMemory) }
 {
-    let Desks { clock, terminals } = desks;
-    let workers = staffed(alloc, terminals, stations)?;
-    let writers = manned::<K, D, P>(alloc, clock, logs)?;
-    let room = Room {
-        shares: Vec::with_capacity(alloc, workers.len())?,
-        files: Vec::with_capacity(alloc, writers.len())?,
-    };
-    let progress = Progress::new();
-    let (workers, writers) = in_threads(rt, alloc, &engine, workers, writers, inputs, &progress);
-    Ok(settled(rt, engine, workers, writers, room, inputs, &progress))
+    let crew = crew_of(alloc, desks, logs, stations)?;
+    Ok(run_crew(rt, alloc, engine, crew, inputs))
 }
 
 /// The memory that the end of a run takes.
 #[derive(Drop)]
 struct Room<K: Run, D: Disk> {
+    tallies: Vec<Tally>,
     shares: Vec<Share<K>>,
     files: Vec<Written<D>>,
+}
+
+impl<K: Run, D: Disk> Room<K, D> {
+    /// For so many terminals and loggers. `OutOfMemory` is the only refusal.
+    fn new(alloc: Global, terminals: usize, loggers: usize) -> Result<Room<K, D>, Refusal>
+        ensures empty { IfOk result (λ room.
+            (room.tallies.items ≡ []) × (room.shares.items ≡ []) × (room.files.items ≡ [])) }
+        ensures tallies { IfOk result (λ room. terminals ≤ vec_capacity room.tallies) }
+        ensures shares { IfOk result (λ room. terminals ≤ vec_capacity room.shares) }
+        ensures files { IfOk result (λ room. loggers ≤ vec_capacity room.files) }
+        ensures only_memory { IfErr result (λ refusal. refusal ≡ OutOfMemory) }
+    {
+        Ok(Room {
+            tallies: Vec::with_capacity(alloc, terminals)?,
+            shares: Vec::with_capacity(alloc, terminals)?,
+            files: Vec::with_capacity(alloc, loggers)?,
+        })
+    }
+}
+
+/// Those who go to work in a run, with the memory that its end takes.
+#[derive(Drop)]
+struct Crew<K: Run, G: Gate, D: Disk, P: Pace> {
+    workers: Vec<Worker<K, G>>,
+    writers: Vec<Writer<K, D, P>>,
+    room: Room<K, D>,
+}
+
+/// The terminals and loggers that go to work. `OutOfMemory` is the only refusal.
+fn crew_of<K: Run, G: Gate + Drop, D: Disk + Drop, P: Pace + Drop>(
+    alloc: Global,
+    desks: Desks<K>,
+    logs: Vec<Log<D, P>>,
+    stations: Vec<Station<G>>,
+) -> Result<Crew<K, G, D, P>, Refusal>
+    requires clock { desks.clock.board ≡ K.board }
+    requires logs { All (λ log. log.logger.seat.board ≡ K.board) logs.items }
+    requires terminals { (desks.terminals.left ≡ K.parts) × (length stations.items ≡ K.parts) }
+    requires decks { All (λ station. station.deck.scale ≡ K.first.scale) stations.items }
+    ensures count { IfOk result (λ crew. length crew.workers.items ≡ K.parts) }
+    ensures idle { IfOk result (λ crew. All (λ worker. total worker.tally ≡ 0) crew.workers.items) }
+    ensures empty { IfOk result (λ crew. (crew.room.tallies.items ≡ []) × (crew.room.shares.items ≡ [])
+        × (crew.room.files.items ≡ [])) }
+    ensures tallies { IfOk result (λ crew. length crew.workers.items ≤ vec_capacity crew.room.tallies) }
+    ensures shares { IfOk result (λ crew. length crew.workers.items ≤ vec_capacity crew.room.shares) }
+    ensures files { IfOk result (λ crew. length crew.writers.items ≤ vec_capacity crew.room.files) }
+    ensures only_memory { IfErr result (λ refusal. refusal ≡ OutOfMemory) }
+{
+    let Desks { clock, terminals } = desks;
+    let workers = staffed(alloc, terminals, stations)?;
+    let writers = manned(alloc, clock, logs)?;
+    let room = Room::new(alloc, workers.len(), writers.len())?;
+    Ok(Crew {
+        workers,
+        writers,
+        room,
+    })
+}
+
+/// All of them do their work, and the run ends.
+fn run_crew<
+    K: Run + Send + Sync,
+    G: Gate + Send + Drop,
+    D: Disk + Send + Drop,
+    P: Pace + Send + Drop,
+    R: Threads + Wait + Sync,
+>(
+    rt: &R,
+    alloc: Global,
+    engine: Engine<K>,
+    crew: Crew<K, G, D, P>,
+    inputs: u32,
+) -> Outcome<K, D>
+    requires count { length crew.workers.items ≡ K.parts }
+    requires few { K.parts < 2 ^ 16 }
+    requires idle { All (λ worker. total worker.tally ≡ 0) crew.workers.items }
+    requires empty { (crew.room.tallies.items ≡ []) × (crew.room.shares.items ≡ []) × (crew.room.files.items ≡ []) }
+    requires tallies { length crew.workers.items ≤ vec_capacity crew.room.tallies }
+    requires shares { length crew.workers.items ≤ vec_capacity crew.room.shares }
+    requires files { length crew.writers.items ≤ vec_capacity crew.room.files }
+    ensures history { IsMadeBy K.parts K.past K.first result.closed }
+    ensures commits { result.commits ≡ length result.closed }
+    ensures counted { IsCounted K.parts inputs result.tallies.items
+        result.commits result.rollbacks result.gave_up result.refused }
+{
+    let Crew {
+        workers,
+        writers,
+        room,
+    } = crew;
+    let progress = Progress::new();
+    let (workers, writers) = in_threads(rt, alloc, &engine, workers, writers, inputs, &progress);
+    settled(rt, engine, workers, writers, room, &progress)
 }
 
 /// The terminals at their stations. `OutOfMemory` is the only refusal.
@@ -96,7 +187,7 @@ fn staffed<K: Run, G: Gate + Drop>(
     stations: Vec<Station<G>>,
 ) -> Result<Vec<Worker<K, G>>, Refusal>
     requires seats { (seats.left ≡ K.parts) × (length stations.items ≡ K.parts) }
-    requires decks { All (λ station. scale_of station.deck ≡ K.first.scale) stations.items }
+    requires decks { All (λ station. station.deck.scale ≡ K.first.scale) stations.items }
     ensures count { IfOk result (λ workers. length workers.items ≡ K.parts) }
     ensures idle { IfOk result (λ workers. All (λ worker. total worker.tally ≡ 0) workers.items) }
     ensures only_memory { IfErr result (λ refusal. refusal ≡ OutOfMemory) }
@@ -121,12 +212,15 @@ fn manned<K: Run, D: Disk + Drop, P: Pace + Drop>(
 ) -> Result<Vec<Writer<K, D, P>>, Refusal>
     requires clock { clock.board ≡ K.board }
     requires logs { All (λ log. log.logger.seat.board ≡ K.board) logs.items }
+    ensures loggers { IfOk result (λ writers.
+        map (λ writer. writer.appender.logger) writers.items ≡ map (λ log. log.logger) logs.items) }
+    ensures clocks { IfOk result (λ writers.
+        map (λ writer. writer.clock) writers.items ≡ clocks (Some clock) (length logs.items)) }
     ensures only_memory { IfErr result (λ refusal. refusal ≡ OutOfMemory) }
 {
-    let (mut clock, mut logs) = (Some(clock), logs);
-    logs.reverse();
+    let mut clock = Some(clock);
     let mut writers = Vec::new(alloc);
-    while let Some(log) = logs.pop() {
+    for log in logs {
         writers.push(Writer::new(log.logger, log.pace, clock.take()))?;
     }
     Ok(writers)
@@ -221,31 +315,51 @@ fn settled<K: Run, G: Gate + Drop, D: Disk + Drop, P: Pace + Drop, R: Wait>(
     workers: Vec<Worker<K, G>>,
     writers: Vec<Writer<K, D, P>>,
     room: Room<K, D>,
-    inputs: u32,
     progress: &Progress,
 ) -> Outcome<K, D>
-    requires all { All (λ worker. total worker.tally ≡ inputs) workers.items }
     requires count { length workers.items ≡ K.parts }
-    requires few { length workers.items < 2 ^ 16 }
-    requires empty { (room.shares.items ≡ []) × (room.files.items ≡ []) }
+    requires few { K.parts < 2 ^ 16 }
+    requires empty { (room.tallies.items ≡ []) × (room.shares.items ≡ []) × (room.files.items ≡ []) }
+    requires tallies { length workers.items ≤ vec_capacity room.tallies }
     requires shares { length workers.items ≤ vec_capacity room.shares }
     requires files { length writers.items ≤ vec_capacity room.files }
+    ensures history { IsMadeBy K.parts K.past K.first result.closed }
     ensures commits { result.commits ≡ length result.closed }
-    ensures inputs { result.commits + result.rollbacks + result.gave_up + result.refused ≡ K.parts * inputs }
+    ensures tallies { result.tallies.items ≡ map (λ worker. worker.tally) workers.items }
+    ensures sums { AreSums result.tallies.items result.commits result.rollbacks result.gave_up result.refused }
 {
-    let Room { shares, files } = room;
-    let files = last_turns(rt, &engine, writers, files, progress);
-    let (sums, shares) = gathered(&engine, workers, shares, inputs);
+    let Room {
+        mut tallies,
+        mut shares,
+        mut files,
+    } = room;
+    last_turns(rt, &engine, writers, &mut files, progress);
+    let acknowledged = gathered(&engine, workers, &mut tallies, &mut shares);
+    let sums = Sums::of(&tallies);
+    let closed = closed_of(engine, shares);
     Outcome {
         commits: sums.commits,
         rollbacks: sums.rollbacks,
         gave_up: sums.gave_up,
         refused: sums.refused,
+        tallies,
         durable: progress.durable(),
-        acknowledged: sums.acknowledged,
+        acknowledged,
         files,
-        closed: engine.close(shares),
+        closed,
     }
+}
+
+/// Ends an engine for the shares of all its terminals.
+fn closed_of<K: Run>(engine: Engine<K>, shares: Vec<Share<K>>) -> Closed<K>
+    requires { sum_by parts_of shares.items ≡ K.parts }
+    ensures history { IsMadeBy K.parts K.past K.first result }
+    ensures commits { length result ≡ sum_by commits_of shares.items }
+{
+    let closed = engine.close(shares);
+    // The contract of the history says that it is legal.
+    let _ = closed.history();
+    closed
 }
 
 /// Each logger takes its last turn, the first first, and gives its file, for which there is room.
@@ -253,19 +367,12 @@ fn last_turns<K: Run, D: Disk + Drop, P: Pace + Drop, R: Wait>(
     rt: &R,
     engine: &Engine<K>,
     writers: Vec<Writer<K, D, P>>,
-    files: Vec<Written<D>>,
+    files: &mut Vec<Written<D>>,
     progress: &Progress,
-) -> Vec<Written<D>>
-    requires room { length files.items + length writers.items ≤ vec_capacity files }
+)
+    requires { length files.old.items + length writers.items ≤ vec_capacity files.old }
 {
-    let (mut writers, mut files) = (writers, files);
-    for writer in &mut writers {
-        writer.turn(rt, engine, progress);
-        writer.pace.end(progress);
+    for writer in writers {
+        files.push_reserved(writer.last_turn(rt, engine, progress));
     }
-    while let Some(writer) = writers.pop() {
-        files.push_reserved(writer.end());
-    }
-    files.as_mut_slice().reverse();
-    files
 }

@@ -1,6 +1,5 @@
 //! A terminal at work.
 ghost use Rattle.std.specs.Prelude.{◌≡◌, ◌+◌};
-ghost use Rattle.deck.specs.Deck.{scale_of};
 ghost use Rattle.money.specs.declared.refusal.Refusal.TheVariants.{OutOfMemory};
 ghost use Rattle.engine_run.specs.Tally.{total};
 
@@ -45,7 +44,7 @@ impl<K: Run, G: Gate + Drop> Worker<K, G> {
         requires board { seat.board.board ≡ K.board }
         requires parts { seat.share.parts ≡ 1 }
         requires commits { seat.share.commits ≡ 0 }
-        requires deck { scale_of station.deck ≡ K.first.scale }
+        requires deck { station.deck.scale ≡ K.first.scale }
         ensures idle { IfOk result (λ worker. total worker.tally ≡ 0) }
         ensures only_memory { IfErr result (λ refusal. refusal ≡ OutOfMemory) }
     {

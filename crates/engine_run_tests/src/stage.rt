@@ -4,7 +4,6 @@ ghost use Rattle.board.specs.declared.rule.Role.TheVariants.{Logger as logger_ro
 ghost use Rattle.board.specs.Opening.{logger_seats};
 ghost use Rattle.board.specs.Seats.{new_seat};
 ghost use Rattle.book.specs.Parts.{IsFresh, base_of, loggers_of, terminals_of};
-ghost use Rattle.deck.specs.Deck.{scale_of};
 
 use crate::held::{Follower, Passing};
 use crate::meeting::{Attendance, Meeting};
@@ -54,7 +53,7 @@ pub(crate) fn stations<'a>(
     meeting: &'a Meeting,
 ) -> Result<Vec<Station<Attendance<'a>>>, Refusal>
     ensures count { IfOk result (λ stations. length stations.items ≡ 4) }
-    ensures decks { IfOk result (λ stations. All (λ station. scale_of station.deck ≡ scale) stations.items) }
+    ensures decks { IfOk result (λ stations. All (λ station. station.deck.scale ≡ scale) stations.items) }
 {
     let mut stations = Vec::new(alloc);
     for terminal in 0..TERMINALS {
@@ -77,7 +76,7 @@ pub(crate) fn follower<'a>(
     passing: &'a Passing,
 ) -> Result<Vec<Station<Follower<'a>>>, Refusal>
     ensures count { IfOk result (λ stations. length stations.items ≡ 1) }
-    ensures decks { IfOk result (λ stations. All (λ station. scale_of station.deck ≡ scale) stations.items) }
+    ensures decks { IfOk result (λ stations. All (λ station. station.deck.scale ≡ scale) stations.items) }
 {
     let mut stations = Vec::new(alloc);
     stations.push(Station {

@@ -1,5 +1,5 @@
 -- What comes of the log files of a command line.
-use Rattle.std.specs.Prelude.{◌≡◌, ◌*◌, ◌<◌, ◌⊎◌, ◌++◌, ℕ, List, [], Option, Some, None, codes, option_map, string_bytes}
+use Rattle.std.specs.Prelude.{◌≡◌, ◌<◌, ◌⊎◌, ◌++◌, ℕ, List, [], Option, Some, None, codes, option_map, string_bytes}
 use Rattle.std.specs.Fmt.{decimal}
 use Rattle.std.specs.Io.KnownBytes.{Appends}
 use Rattle.money.specs.declared.refusal.Refusal.{Refusal}
@@ -51,15 +51,11 @@ pub data IsRefusedWith (files : LogFiles) (Tells : Recovered → List ℕ → Ty
   untold : (strings : List (List ℕ)) (before now : List ℕ) → IsRefused t0 seed strings Tells before now old new refusal
       → file ≡ None → IsRefusedWith files Tells t0 seed old new refusal file
 
--- how many inputs a run has
-abbrev pub inputs_of : RunOptions → ℕ
-inputs_of r = r.terminals * r.count
-
 -- a run was refused: its files couldn't be made; it was broken off for want of memory, or a device failed; or it was told
 -- whole, and a logger had stopped, since this file couldn't be written, which is told where memory is there for that
 pub data IsFailedRun (r : RunOptions) (t0 : Database) (old new : Option (List ℕ)) (refusal : Refusal)
     (file : Option (List ℕ × Purpose)) : Type 0 where
   unmade : AreUnready Create r.files refusal file → Appends old new [] → IsFailedRun r t0 old new refusal file
-  broken : IsBroken t0 (inputs_of r) old new refusal → file ≡ None → IsFailedRun r t0 old new refusal file
-  stopped : (report : Report) (logger : ℕ) → IsRan t0 (inputs_of r) old new report → refusal ≡ Device
+  broken : IsBroken t0 r.terminals r.count old new refusal → file ≡ None → IsFailedRun r t0 old new refusal file
+  stopped : (report : Report) (logger : ℕ) → IsRan t0 r.terminals r.count old new report → refusal ≡ Device
       → (file ≡ None) ⊎ (file ≡ Some (path_of r.files logger, Append)) → IsFailedRun r t0 old new refusal file

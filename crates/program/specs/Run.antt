@@ -22,7 +22,7 @@ use Rattle.recovery.specs.Told.{Shows, Reports}
 use Rattle.program.specs.Status.{IsRefusedStatus, refusal_line, WritesBeginning}
 use Rattle.program.specs.Detail.{IsDetail}
 use Rattle.program.specs.declared.fault.Purpose.{Purpose}
-use Rattle.program.specs.Logs.{IsShownWith, IsCheckedWith, IsRefusedWith, IsFailedRun, inputs_of}
+use Rattle.program.specs.Logs.{IsShownWith, IsCheckedWith, IsRefusedWith, IsFailedRun}
 
 -- the scale that options ask for
 abbrev pub scale_of : Options → Sizes
@@ -51,7 +51,7 @@ pub record IsBrokenOff (t0 : Database) (bytes : List ℕ) (old new : Option (Lis
 -- a subcommand was done, over a population of these tables and this seed, and it ends with this report
 abbrev pub IsDone : Database → ℕ → Subcommand → List ℕ → Option (List ℕ) → Option (List ℕ) → Report → Type 0
 IsDone t0 seed Script bytes old new report = IsAnswered t0 bytes old new report
-IsDone t0 seed (Run r) bytes old new report = IsRan t0 (inputs_of r) old new report
+IsDone t0 seed (Run r) bytes old new report = IsRan t0 r.terminals r.count old new report
 IsDone t0 seed (Recover files) bytes old new report = IsShownWith t0 seed old new report
 IsDone t0 seed (Check files) bytes old new report = IsCheckedWith t0 seed old new report
 

@@ -3,7 +3,7 @@ ghost use Rattle.std.specs.Prelude.{◌≡◌, ◌⊎◌, ℕ, None, Some, lengt
 ghost use Rattle.money.specs.declared.refusal.Refusal.TheVariants.{Device};
 ghost use Rattle.population.specs.Initial.{initial};
 ghost use Rattle.driver.specs.Told.{IsRan};
-ghost use Rattle.program.specs.Logs.{IsFailedRun, file_of, inputs_of, path_of};
+ghost use Rattle.program.specs.Logs.{IsFailedRun, file_of, path_of};
 ghost use Rattle.program.specs.declared.fault.Purpose.TheVariants.{Append};
 
 use crate::fault::{BadFile, Fault, Purpose};
@@ -40,7 +40,7 @@ pub(crate) fn live<
     output: &mut W,
     screen: Option<S>,
 ) -> Result<Report, Fault>
-    ensures ran { IfOk result (IsRan (initial population) (inputs_of options.now)
+    ensures ran { IfOk result (IsRan (initial population) options.now.terminals options.now.count
         (W.contents output.old) (W.contents output.new)) }
     ensures failed { IfErr result (λ fault. IsFailedRun options.now (initial population)
         (W.contents output.old) (W.contents output.new) fault.refusal (file_of fault)) }

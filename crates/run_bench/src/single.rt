@@ -2,7 +2,6 @@
 
 ghost use Rattle.std.specs.Prelude.{◌≡◌};
 ghost use Rattle.book.specs.Parts.{IsFresh, IsRunOf, past_of, ledger_name, ledger_parts, terminals_of};
-ghost use Rattle.deck.specs.Deck.{scale_of};
 
 use crate::{SEED, population};
 use anyhow::bail;

@@ -7,6 +7,7 @@ returns-clause-ran g c =
     let o = c.in-Ok.outcome in
     record {
       history = o.closed;
+      tallies = o.tallies.items;
       counts = counts o.commits o.rollbacks o.gave_up o.refused o.durable o.acknowledged;
       counted = c.in-Ok.ensures.counted;
       told = c.in-Ok-ran.ensures.told;
@@ -18,4 +19,4 @@ returns-in-Err-clause-broken g c = unrun c.in-Err.ensures.cause (Appends-nil (g.
 pub returns-in-Err-ran-clause-broken : goal.returns-in-Err-ran-clause-broken
 returns-in-Err-ran-clause-broken g c =
     let o = c.in-Ok.outcome in
-    untold o.closed (counts o.commits o.rollbacks o.gave_up o.refused o.durable o.acknowledged) c.in-Ok.ensures.counted c.in-Err-ran.ensures.cut_short
+    untold o.closed o.tallies.items (counts o.commits o.rollbacks o.gave_up o.refused o.durable o.acknowledged) c.in-Ok.ensures.counted c.in-Err-ran.ensures.cut_short

@@ -1,11 +1,13 @@
-use Rattle.std.proofs.Common.{◌≡◌, All, IfSome, vec_len}
+use Rattle.std.proofs.Common.{◌≡◌, map, Some, length, IfSome}
+use Rattle.engine_run.specs.Clocks.{clocks}
+use Rattle.engine_run.proofs.Clocks.{clock_left}
 use Rattle.engine_run.proofs.threads.manned.Given as goal
 
--- the loggers that are left step on this board, and so does the clock, where it is left
+-- the loggers so far, in their order, of which the first got the clock, and what of it is left
 abbrev pub invariant-loop-log : goal.invariant-loop-log
-invariant-loop-log g l =
-    All (λ log. log.logger.seat.board ≡ g.K.Run.board) l.logs.items
-    × IfSome l.clock (λ seat. seat.board ≡ g.K.Run.board)
-
-abbrev pub decreases-loop-log : goal.decreases-loop-log
-decreases-loop-log g l = vec_len l.logs
+invariant-loop-log g l = record {
+  loggers : map (λ writer. writer.appender.logger) l.writers.items ≡ map (λ log. log.logger) l.yielded;
+  clocks : map (λ writer. writer.clock) l.writers.items ≡ clocks (Some l.fn.clock) (length l.yielded);
+  left : l.clock ≡ clock_left (Some l.fn.clock) (length l.yielded);
+  own : IfSome l.clock (λ seat. seat.board ≡ g.K.Run.board);
+}

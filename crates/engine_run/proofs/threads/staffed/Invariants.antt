@@ -1,12 +1,11 @@
 use Rattle.std.proofs.Common.{◌≡◌, ◌+◌, All, length, vec_len}
-use Rattle.deck.specs.Deck.{scale_of}
 use Rattle.engine_run.specs.Tally.{total}
 use Rattle.engine_run.proofs.threads.staffed.Given as goal
 
 -- there is a seat for each station that is left, and each terminal that has one is idle
 abbrev pub invariant-loop-station : goal.invariant-loop-station
 invariant-loop-station g l =
-    All (λ station. scale_of station.deck ≡ g.K.Run.first.scale) l.stations.items
+    All (λ station. station.deck.scale ≡ g.K.Run.first.scale) l.stations.items
     × (l.seats.left ≡ length l.stations.items)
     × (length l.workers.items + length l.stations.items ≡ g.K.Ledger.parts)
     × All (λ worker. total worker.tally ≡ 0) l.workers.items
