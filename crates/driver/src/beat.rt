@@ -13,12 +13,12 @@ pub struct Beat<'a, C: Clock, S: Write> {
     clock: &'a C,
     interval: Duration,
     due: Duration,
-    screen: Option<Screen<S>>,
+    screen: Option<Screen<'a, S>>,
 }
 
 impl<'a, C: Clock, S: Write> Beat<'a, C, S> {
     /// The pace of this interval by a clock.
-    pub fn new(clock: &'a C, interval: Duration, screen: Option<Screen<S>>) -> Beat<'a, C, S> {
+    pub fn new(clock: &'a C, interval: Duration, screen: Option<Screen<'a, S>>) -> Beat<'a, C, S> {
         Beat {
             clock,
             interval,

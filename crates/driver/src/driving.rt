@@ -19,7 +19,7 @@ use std::io::Write;
 use std::marker::Brand;
 use std::sync::Wait;
 use std::thread::Threads;
-use terminals::Calls;
+use terminals::Gate;
 
 /// What terminals there are, and what they do.
 #[derive(Clone, Copy, Debug, PartialEq, Eq)]
@@ -41,23 +41,31 @@ pub struct Driven {
     pub stopped: Option<u16>,
 }
 
-/// Runs an engine over the population, with new log files on the disks, one for each logger, and writes what came of
-/// it, as `ran` does. May wait, as `engine_run::run` does.
+/// Runs an engine over the population, with new log files on the disks, one for each logger, and a gate for each
+/// terminal, and writes what came of it, as `ran` does. May wait, as `engine_run::run` does.
 ///
 /// # Errors
 ///
 /// `OutOfMemory`, `Device` where a header can't be written: then no input runs, and nothing is written. Both also as
 /// `ran`. A disk that fails later stops its logger.
-pub fn drive<D: Disk + Send + Drop, P: Pace + Send + Drop, W: Write, R: Threads + Wait + Sync>(
+pub fn drive<
+    D: Disk + Send + Drop,
+    P: Pace + Send + Drop,
+    G: Gate + Send + Drop,
+    W: Write,
+    R: Threads + Wait + Sync,
+>(
     rt: &R,
     alloc: Global,
     population: Population,
     slots: Vec<Slot<D, P>>,
+    gates: Vec<G>,
     plan: &Plan,
     writer: &mut W,
 ) -> Result<Driven, Refusal>
     requires loggers { (0 < length slots.items) × (length slots.items ≤ MAX_LOGGERS) }
     requires terminals { (0 < plan.now.terminals) × (plan.now.terminals ≤ MAX_TERMINALS) }
+    requires gates { length gates.items ≡ plan.now.terminals }
     requires empty { D.is_modelled → All (λ slot. D.seen slot.disk ≡ []) slots.items }
     ensures ran { IfOk result (λ driven. IsRan (initial population) plan.now.terminals plan.now.inputs
         (W.contents writer.old) (W.contents writer.new) driven.report) }
@@ -65,7 +73,7 @@ pub fn drive<D: Disk + Send + Drop, P: Pace + Send + Drop, W: Write, R: Threads 
         (W.contents writer.old) (W.contents writer.new)) }
 {
     let parts = Parts::new(rt, alloc, population, slots.len() as u16, plan.terminals)?;
-    drive_parts::<Brand, D, P, W, R>(rt, alloc, parts, slots, plan, writer)
+    drive_parts::<Brand, D, P, G, W, R>(rt, alloc, parts, slots, gates, plan, writer)
 }
 
 /// Runs an engine of these parts, and writes what came of it.
@@ -73,6 +81,7 @@ fn drive_parts<
     K: Run + Send + Sync,
     D: Disk + Send + Drop,
     P: Pace + Send + Drop,
+    G: Gate + Send + Drop,
     W: Write,
     R: Threads + Wait + Sync,
 >(
@@ -80,6 +89,7 @@ fn drive_parts<
     alloc: Global,
     parts: Parts,
     slots: Vec<Slot<D, P>>,
+    gates: Vec<G>,
     plan: &Plan,
     writer: &mut W,
 ) -> Result<Driven, Refusal>
@@ -89,13 +99,14 @@ fn drive_parts<
     requires loggers { (loggers_of parts ≡ length slots.items) × (length slots.items ≤ MAX_LOGGERS) }
     requires begins { (base_of parts ≡ 0) × (past_of parts ≡ 0) }
     requires terminals { (terminals_of parts ≡ plan.now.terminals) × (plan.now.terminals ≤ MAX_TERMINALS) }
+    requires gates { length gates.items ≡ plan.now.terminals }
     requires empty { D.is_modelled → All (λ slot. D.seen slot.disk ≡ []) slots.items }
     ensures ran { IfOk result (λ driven. IsRan K.first plan.now.terminals plan.now.inputs
         (W.contents writer.old) (W.contents writer.new) driven.report) }
     ensures broken { IfErr result (IsBroken K.first plan.now.terminals plan.now.inputs
         (W.contents writer.old) (W.contents writer.new)) }
 {
-    let outcome = match outcome_of::<K, D, P, R>(rt, alloc, parts, slots, plan) {
+    let outcome = match outcome_of::<K, D, P, G, R>(rt, alloc, parts, slots, gates, plan) {
         Ok(outcome) => outcome,
         Err(refusal) => return Err(refusal),
     };
@@ -114,12 +125,14 @@ fn outcome_of<
     K: Run + Send + Sync,
     D: Disk + Send + Drop,
     P: Pace + Send + Drop,
+    G: Gate + Send + Drop,
     R: Threads + Wait + Sync,
 >(
     rt: &R,
     alloc: Global,
     parts: Parts,
     slots: Vec<Slot<D, P>>,
+    gates: Vec<G>,
     plan: &Plan,
 ) -> Result<Outcome<K, D>, Refusal>
     requires fresh { IsFresh parts }
@@ -128,6 +141,7 @@ fn outcome_of<
     requires loggers { (loggers_of parts ≡ length slots.items) × (length slots.items ≤ MAX_LOGGERS) }
     requires begins { (base_of parts ≡ 0) × (past_of parts ≡ 0) }
     requires terminals { (terminals_of parts ≡ plan.now.terminals) × (plan.now.terminals ≤ MAX_TERMINALS) }
+    requires gates { length gates.items ≡ plan.now.terminals }
     requires empty { D.is_modelled → All (λ slot. D.seen slot.disk ≡ []) slots.items }
     ensures counted { IfOk result (λ outcome. AreCounts K.first plan.now.terminals plan.now.inputs outcome.closed
         outcome.tallies.items (counts outcome.commits outcome.rollbacks outcome.gave_up outcome.refused outcome.durable
@@ -145,10 +159,11 @@ fn outcome_of<
     let stations = stations(
         alloc,
         engine.population().scale(),
+        gates,
         plan.terminals,
         plan.seed,
     )?;
-    run::<K, Calls, D, P, R>(rt, alloc, engine, desks, logs, stations, plan.inputs)
+    run::<K, G, D, P, R>(rt, alloc, engine, desks, logs, stations, plan.inputs)
 }
 
 /// The number of the first logger that stopped, if one did.

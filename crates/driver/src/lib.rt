@@ -6,11 +6,15 @@ mod counts;
 mod driving;
 mod outfit;
 mod screen;
+mod stopwatch;
 mod telling;
+mod waits;
 
 pub use beat::Beat;
 pub use counts::Counts;
 pub use driving::{Driven, Plan, drive};
 pub use outfit::Slot;
 pub use screen::Screen;
+pub use stopwatch::Stopwatch;
 pub use telling::ran;
+pub use waits::Waits;

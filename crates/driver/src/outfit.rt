@@ -17,7 +17,7 @@ use money::Refusal;
 use population::Population;
 use std::alloc::Global;
 use tables::Scale;
-use terminals::Calls;
+use terminals::Gate;
 
 /// A disk for a log file, and how its logger waits between its turns.
 #[derive(Drop)]
@@ -26,23 +26,30 @@ pub struct Slot<D: Disk, P: Pace> {
     pub pace: P,
 }
 
-/// A station for each of so many terminals: a deck of its own, drawn from the seed, and a gate that holds nobody.
-/// `OutOfMemory` is the only refusal.
-pub(crate) fn stations(
+/// A station for each of so many terminals: a deck of its own, drawn from the seed, and its gate. `OutOfMemory` is the
+/// only refusal.
+pub(crate) fn stations<G: Gate + Drop>(
     alloc: Global,
     scale: Scale,
+    gates: Vec<G>,
     terminals: u16,
     seed: u64,
-) -> Result<Vec<Station<Calls>>, Refusal>
+) -> Result<Vec<Station<G>>, Refusal>
+    requires gates { length gates.items ≡ terminals }
     ensures count { IfOk result (λ stations. length stations.items ≡ terminals) }
     ensures decks { IfOk result (λ stations. All (λ station. station.deck.scale ≡ scale) stations.items) }
     ensures only_memory { IfErr result (λ refusal. refusal ≡ OutOfMemory) }
 {
+    let mut gates = gates;
+    gates.reverse();
     let mut stations = Vec::new(alloc);
     for terminal in 0..terminals {
+        let Some(gate) = gates.pop() else {
+            unreachable!()
+        };
         stations.push(Station {
             deck: Deck::new(scale, Settings::usual(), seed, u32::from(terminal)),
-            gate: Calls::default(),
+            gate,
         })?;
     }
     Ok(stations)

@@ -1,5 +1,6 @@
 //! How far a run is, on one line of a terminal's screen.
 
+use crate::waits::Waits;
 use engine_run::Progress;
 use script::write_text;
 use std::alloc::{AllocError, Global};
@@ -12,13 +13,14 @@ const QUIET: u64 = 1000;
 /// How long a line stands before it is rewritten, in milliseconds.
 const STANDING: u64 = 100;
 
-/// A line on a screen that is rewritten, at most ten times a second, once a run takes longer than a second. What can't
-/// be written is left aside.
+/// A line on a screen that is rewritten, at most ten times a second, once a run takes longer than a second. At the end a
+/// summary of the run is left in its place. What can't be written is left aside.
 #[derive(Drop)]
-pub struct Screen<S: Write> {
+pub struct Screen<'a, S: Write> {
     alloc: Global,
     writer: S,
     began: Duration,
+    waits: &'a Waits,
     line: Option<Line>,
 }
 
@@ -30,13 +32,15 @@ struct Line {
     width: usize,
 }
 
-impl<S: Write> Screen<S> {
-    /// A screen on which nothing stands, for a run that begins at this time of a clock.
-    pub fn new(alloc: Global, writer: S, began: Duration) -> Screen<S> {
+impl<'a, S: Write> Screen<'a, S> {
+    /// A screen on which nothing stands, for a run that begins at this time of a clock, and whose terminals tell here
+    /// what their commits wait.
+    pub fn new(alloc: Global, writer: S, began: Duration, waits: &'a Waits) -> Screen<'a, S> {
         Screen {
             alloc,
             writer,
             began,
+            waits,
             line: None,
         }
     }
@@ -52,14 +56,14 @@ impl<S: Write> Screen<S> {
         }
     }
 
-    /// Shows how far the run is at its end, if anything stands there, and ends the line. Where the time isn't known,
+    /// Leaves the summary of the run at its end, if anything stands there, and ends the line. Where the time isn't known,
     /// the line stays as it is.
     pub fn end(&mut self, now: Option<Duration>, progress: &Progress) {
-        if self.line.is_none() {
+        let Some(line) = self.line else {
             return;
-        }
+        };
         if let Some(now) = now {
-            self.rewrite(now, progress);
+            self.sum_up(now, progress, line.width);
         }
         let _ = write_text(&mut self.writer, b"\n");
     }
@@ -72,7 +76,8 @@ impl<S: Write> Screen<S> {
             width: 0,
         });
         let numbers = Numbers::of(progress);
-        let rate = line.rate(now, numbers.commits);
+        let since = millis(line.written, now);
+        let rate = per_second(numbers.commits.saturating_sub(line.commits), since);
         let Ok(text) = numbers.text(self.alloc, rate, line.width) else {
             return;
         };
@@ -83,18 +88,52 @@ impl<S: Write> Screen<S> {
             width: line.width.max(text.len()),
         });
     }
+
+    /// Writes the summary of a run that ends now, over a line of this width.
+    fn sum_up(&mut self, now: Duration, progress: &Progress, width: usize) {
+        let millis = millis(self.began, now);
+        let Ok(waits) = self.waits.text(self.alloc) else {
+            return;
+        };
+        let Ok(text) = summary(self.alloc, millis, progress.commits(), &waits, width) else {
+            return;
+        };
+        let _ = write_text(&mut self.writer, text.as_bytes());
+    }
 }
 
-impl Line {
-    /// Commits a second since this line was written.
-    fn rate(&self, now: Duration, commits: u64) -> u64 {
-        let since = now.saturating_sub(self.written);
-        let millis = since
-            .as_secs()
-            .saturating_mul(1000)
-            .saturating_add(u64::from(since.subsec_millis()));
-        commits.saturating_sub(self.commits).saturating_mul(1000) / millis.max(1)
+/// The text of a run that took so long and committed so much, from its carriage return on, which blanks fill up to this
+/// width: its seconds, its commits a second, and what is told of how long they waited.
+fn summary(
+    alloc: Global,
+    millis: u64,
+    commits: u64,
+    waits: &str,
+    width: usize,
+) -> Result<String, AllocError> {
+    let (seconds, tenths) = (millis / 1000, millis % 1000 / 100);
+    let rate = per_second(commits, millis);
+    let mut text = format!(in alloc; "\r{seconds}.{tenths} s, {rate} commits/s, {waits}")?;
+    fill(&mut text, width)?;
+    Ok(text)
+}
+
+/// Appends blanks up to this width.
+fn fill(text: &mut String, width: usize) -> Result<(), AllocError> {
+    for _ in text.len()..width {
+        text.push(' ')?;
     }
+    Ok(())
+}
+
+/// The whole milliseconds from one time to another, or none where that is before.
+fn millis(from: Duration, to: Duration) -> u64 {
+    u64::try_from(to.saturating_sub(from).as_millis()).unwrap_or(u64::MAX)
+}
+
+/// How many a second these are, in so many milliseconds.
+fn per_second(count: u64, millis: u64) -> u64 {
+    count.saturating_mul(1000) / millis.max(1)
 }
 
 /// The numbers of a line.
@@ -132,9 +171,7 @@ impl Numbers {
             "\rinputs {inputs} commits {commits} ({rate}/s) acknowledged {acknowledged}"
         )?;
         write!(text, " epoch {epoch} durable {durable}")?;
-        for _ in text.len()..width {
-            text.push(' ')?;
-        }
+        fill(&mut text, width)?;
         Ok(text)
     }
 }

@@ -8,7 +8,7 @@ pub trait Pace {
     /// Called after each turn of the logger while the run lasts, outside the book's lock.
     fn pause(&mut self, progress: &Progress);
 
-    /// Called once, after the logger's last turn.
+    /// Called once, after all loggers' last turns, and after the terminals have acknowledged what is durable then.
     fn end(&mut self, _progress: &Progress) {}
 }
 

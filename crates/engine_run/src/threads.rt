@@ -81,26 +81,29 @@ pub fn run<
 
 /// The memory that the end of a run takes.
 #[derive(Drop)]
-struct Room<K: Run, D: Disk> {
+struct Room<K: Run, D: Disk, P: Pace> {
     tallies: Vec<Tally>,
     shares: Vec<Share<K>>,
     files: Vec<Written<D>>,
+    paces: Vec<P>,
 }
 
-impl<K: Run, D: Disk> Room<K, D> {
+impl<K: Run, D: Disk + Drop, P: Pace + Drop> Room<K, D, P> {
     /// For so many terminals and loggers. `OutOfMemory` is the only refusal.
-    fn new(alloc: Global, terminals: usize, loggers: usize) -> Result<Room<K, D>, Refusal>
-        ensures empty { IfOk result (λ room.
-            (room.tallies.items ≡ []) × (room.shares.items ≡ []) × (room.files.items ≡ [])) }
+    fn new(alloc: Global, terminals: usize, loggers: usize) -> Result<Room<K, D, P>, Refusal>
+        ensures empty { IfOk result (λ room. (room.tallies.items ≡ []) × (room.shares.items ≡ [])
+            × (room.files.items ≡ []) × (room.paces.items ≡ [])) }
         ensures tallies { IfOk result (λ room. terminals ≤ vec_capacity room.tallies) }
         ensures shares { IfOk result (λ room. terminals ≤ vec_capacity room.shares) }
         ensures files { IfOk result (λ room. loggers ≤ vec_capacity room.files) }
+        ensures paces { IfOk result (λ room. loggers ≤ vec_capacity room.paces) }
         ensures only_memory { IfErr result (λ refusal. refusal ≡ OutOfMemory) }
     {
         Ok(Room {
             tallies: Vec::with_capacity(alloc, terminals)?,
             shares: Vec::with_capacity(alloc, terminals)?,
             files: Vec::with_capacity(alloc, loggers)?,
+            paces: Vec::with_capacity(alloc, loggers)?,
         })
     }
 }
@@ -110,7 +113,7 @@ impl<K: Run, D: Disk> Room<K, D> {
 struct Crew<K: Run, G: Gate, D: Disk, P: Pace> {
     workers: Vec<Worker<K, G>>,
     writers: Vec<Writer<K, D, P>>,
-    room: Room<K, D>,
+    room: Room<K, D, P>,
 }
 
 /// The terminals and loggers that go to work. `OutOfMemory` is the only refusal.
@@ -127,10 +130,11 @@ fn crew_of<K: Run, G: Gate + Drop, D: Disk + Drop, P: Pace + Drop>(
     ensures count { IfOk result (λ crew. length crew.workers.items ≡ K.parts) }
     ensures idle { IfOk result (λ crew. All (λ worker. total worker.tally ≡ 0) crew.workers.items) }
     ensures empty { IfOk result (λ crew. (crew.room.tallies.items ≡ []) × (crew.room.shares.items ≡ [])
-        × (crew.room.files.items ≡ [])) }
+        × (crew.room.files.items ≡ []) × (crew.room.paces.items ≡ [])) }
     ensures tallies { IfOk result (λ crew. length crew.workers.items ≤ vec_capacity crew.room.tallies) }
     ensures shares { IfOk result (λ crew. length crew.workers.items ≤ vec_capacity crew.room.shares) }
     ensures files { IfOk result (λ crew. length crew.writers.items ≤ vec_capacity crew.room.files) }
+    ensures paces { IfOk result (λ crew. length crew.writers.items ≤ vec_capacity crew.room.paces) }
     ensures only_memory { IfErr result (λ refusal. refusal ≡ OutOfMemory) }
 {
     let Desks { clock, terminals } = desks;
@@ -151,20 +155,16 @@ fn run_crew<
     D: Disk + Send + Drop,
     P: Pace + Send + Drop,
     R: Threads + Wait + Sync,
->(
-    rt: &R,
-    alloc: Global,
-    engine: Engine<K>,
-    crew: Crew<K, G, D, P>,
-    inputs: u32,
-) -> Outcome<K, D>
+>(rt: &R, alloc: Global, engine: Engine<K>, crew: Crew<K, G, D, P>, inputs: u32) -> Outcome<K, D>
     requires count { length crew.workers.items ≡ K.parts }
     requires few { K.parts < 2 ^ 16 }
     requires idle { All (λ worker. total worker.tally ≡ 0) crew.workers.items }
-    requires empty { (crew.room.tallies.items ≡ []) × (crew.room.shares.items ≡ []) × (crew.room.files.items ≡ []) }
+    requires empty { (crew.room.tallies.items ≡ []) × (crew.room.shares.items ≡ []) × (crew.room.files.items ≡ [])
+        × (crew.room.paces.items ≡ []) }
     requires tallies { length crew.workers.items ≤ vec_capacity crew.room.tallies }
     requires shares { length crew.workers.items ≤ vec_capacity crew.room.shares }
     requires files { length crew.writers.items ≤ vec_capacity crew.room.files }
+    requires paces { length crew.writers.items ≤ vec_capacity crew.room.paces }
     ensures history { IsMadeBy K.parts K.past K.first result.closed }
     ensures commits { result.commits ≡ length result.closed }
     ensures counted { IsCounted K.parts inputs result.tallies.items
@@ -314,15 +314,17 @@ fn settled<K: Run, G: Gate + Drop, D: Disk + Drop, P: Pace + Drop, R: Wait>(
     engine: Engine<K>,
     workers: Vec<Worker<K, G>>,
     writers: Vec<Writer<K, D, P>>,
-    room: Room<K, D>,
+    room: Room<K, D, P>,
     progress: &Progress,
 ) -> Outcome<K, D>
     requires count { length workers.items ≡ K.parts }
     requires few { K.parts < 2 ^ 16 }
-    requires empty { (room.tallies.items ≡ []) × (room.shares.items ≡ []) × (room.files.items ≡ []) }
+    requires empty { (room.tallies.items ≡ []) × (room.shares.items ≡ []) × (room.files.items ≡ [])
+        × (room.paces.items ≡ []) }
     requires tallies { length workers.items ≤ vec_capacity room.tallies }
     requires shares { length workers.items ≤ vec_capacity room.shares }
     requires files { length writers.items ≤ vec_capacity room.files }
+    requires paces { length writers.items ≤ vec_capacity room.paces }
     ensures history { IsMadeBy K.parts K.past K.first result.closed }
     ensures commits { result.commits ≡ length result.closed }
     ensures tallies { result.tallies.items ≡ map (λ worker. worker.tally) workers.items }
@@ -332,9 +334,11 @@ fn settled<K: Run, G: Gate + Drop, D: Disk + Drop, P: Pace + Drop, R: Wait>(
         mut tallies,
         mut shares,
         mut files,
+        mut paces,
     } = room;
-    last_turns(rt, &engine, writers, &mut files, progress);
+    last_turns(rt, &engine, writers, &mut files, &mut paces, progress);
     let acknowledged = gathered(&engine, workers, &mut tallies, &mut shares);
+    end_paces(paces, progress);
     let sums = Sums::of(&tallies);
     let closed = closed_of(engine, shares);
     Outcome {
@@ -362,17 +366,34 @@ fn closed_of<K: Run>(engine: Engine<K>, shares: Vec<Share<K>>) -> Closed<K>
     closed
 }
 
-/// Each logger takes its last turn, the first first, and gives its file, for which there is room.
+/// Each logger's pace hears that the run has ended, the first first.
+fn end_paces<P: Pace + Drop>(paces: Vec<P>, progress: &Progress) {
+    for pace in paces {
+        end_pace(pace, progress);
+    }
+}
+
+/// A logger's pace hears it.
+fn end_pace<P: Pace + Drop>(pace: P, progress: &Progress) {
+    let mut pace = pace;
+    pace.end(progress);
+}
+
+/// Each logger takes its last turn, the first first, and gives its file and its pace, for which there is room.
 fn last_turns<K: Run, D: Disk + Drop, P: Pace + Drop, R: Wait>(
     rt: &R,
     engine: &Engine<K>,
     writers: Vec<Writer<K, D, P>>,
     files: &mut Vec<Written<D>>,
+    paces: &mut Vec<P>,
     progress: &Progress,
 )
-    requires { length files.old.items + length writers.items ≤ vec_capacity files.old }
+    requires files { length files.old.items + length writers.items ≤ vec_capacity files.old }
+    requires paces { length paces.old.items + length writers.items ≤ vec_capacity paces.old }
 {
     for writer in writers {
-        files.push_reserved(writer.last_turn(rt, engine, progress));
+        let (file, pace) = writer.last_turn(rt, engine, progress);
+        files.push_reserved(file);
+        paces.push_reserved(pace);
     }
 }

@@ -91,10 +91,10 @@ impl<K: Run, G: Gate + Drop> Worker<K, G> {
     {
         let Worker {
             mut terminal,
-            gate: _,
+            mut gate,
             tally,
         } = self;
-        terminal.acknowledge(engine.board());
+        acknowledge(engine, &mut terminal, &mut gate);
         let released = terminal.released().len() as u64;
         let (share, _) = terminal.end();
         (tally, released, share)
@@ -119,8 +119,18 @@ fn tally_of<K: Run, G: Gate, R: Wait>(
     for _ in 0..inputs {
         let outcome = terminal.one(rt, alloc, engine, gate);
         tally.count(&outcome);
-        let acknowledged = terminal.acknowledge(engine.board());
+        let acknowledged = acknowledge(engine, terminal, gate);
         progress.note_input(outcome.is_ok(), acknowledged);
     }
     tally
+}
+
+/// A terminal acknowledges what is durable, which its gate hears. Answers how many replies were released.
+fn acknowledge<K: Run, G: Gate>(engine: &Engine<K>, terminal: &mut Terminal<K>, gate: &mut G) -> u64
+    ensures { terminal.new.share ≡ terminal.old.share }
+{
+    let before = terminal.released().len();
+    let count = terminal.acknowledge(engine.board());
+    gate.released(&terminal.released()[before..]);
+    count
 }

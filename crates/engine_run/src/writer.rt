@@ -66,21 +66,20 @@ impl<K: Run, D: Disk, P: Pace + Drop> Writer<K, D, P> {
         }
     }
 
-    /// Takes the last turn, and ends the logger.
+    /// Takes the last turn, and ends the logger. Its pace ends once the terminals have acknowledged what is durable then.
     pub(crate) fn last_turn<R: Wait>(
         self,
         rt: &R,
         engine: &Engine<K>,
         progress: &Progress,
-    ) -> Written<D> {
+    ) -> (Written<D>, P) {
         let mut writer = self;
         writer.turn(rt, engine, progress);
-        writer.pace.end(progress);
         let Writer {
             appender,
             clock: _,
-            pace: _,
+            pace,
         } = writer;
-        appender.end()
+        (appender.end(), pace)
     }
 }

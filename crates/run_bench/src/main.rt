@@ -29,6 +29,7 @@ use std::thread::Threads;
 use std::time::Duration;
 use std::{env, fs};
 use tables::Scale;
+use terminals::Calls;
 
 /// The draws of the decks.
 pub(crate) const SEED: u64 = 1;
@@ -118,7 +119,8 @@ fn run_on<
     };
     let population = population(rt.alloc(), load.warehouses)?;
     let mut told = Vec::new(rt.alloc());
-    drive(rt, rt.alloc(), population, slots, &plan, &mut told)?;
+    let gates = vec![in rt.alloc(); Calls::default(); load.terminals as usize]?;
+    drive(rt, rt.alloc(), population, slots, gates, &plan, &mut told)?;
     let seen = dial.seen();
     println!(rt;
         "commits {} a second {} latency {} us",

@@ -9,4 +9,4 @@ push_reserved-requires g c =
     let b = c.into_iter-writer-iterator.ensures.into_iter_gives in
     let turn = YieldsList-turn (YieldsList-from_vec {s = c.into_iter-writer-iterator.result} c.args.writers.items b.0 (b.1 ∙ c.args.writers.ok.0))
     c.loop-writer.yielded c.loop-writer.writer-iterator c.loop-writer.yielded_by c.next.result c.next.new.self c.in-Some.writer c.in-Some.is c.next.ensures.steps in
-    omega (arith, turn.0, i.files, i.room, c.requires, c.loop-writer.files.ok.0)
+    omega (arith, turn.0, i.files, i.room, c.requires.files, c.loop-writer.files.ok.0)
