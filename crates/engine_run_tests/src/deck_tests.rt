@@ -1,7 +1,6 @@
 //! Two terminals, whose entries are their decks' inputs, and more inputs than commits that their population takes.
 ghost use Rattle.std.specs.Prelude.{◌≡◌, [], length, All, IfOk};
 ghost use Rattle.book.specs.Parts.{IsFresh, IsRunOf, base_of, ledger_name, ledger_parts, loggers_of, terminals_of};
-ghost use Rattle.deck.specs.Deck.{scale_of};
 
 use crate::stage::one_log;
 use book::{Engine, Entry, Parts, Run, Seats};
@@ -32,13 +31,13 @@ const COMMITS: u32 = 25;
 const TOLD: &str = "commits 1\nrollbacks 2\ngaveup 3\nrefused 4\ndurable 5\nacknowledged 6\n";
 
 fn deck(scale: Scale, terminal: u16) -> Deck
-    ensures { scale_of result ≡ scale }
+    ensures { result.scale ≡ scale }
 {
     Deck::new(scale, Settings::usual(), SEED, u32::from(terminal))
 }
 
 fn station(scale: Scale, terminal: u16) -> Station<Calls>
-    ensures { scale_of result.deck ≡ scale }
+    ensures { result.deck.scale ≡ scale }
 {
     Station {
         deck: deck(scale, terminal),
@@ -49,7 +48,7 @@ fn station(scale: Scale, terminal: u16) -> Station<Calls>
 /// The stations of terminals 0 and 1.
 fn stations(alloc: Global, scale: Scale) -> Result<Vec<Station<Calls>>, Refusal>
     ensures count { IfOk result (λ stations. length stations.items ≡ 2) }
-    ensures decks { IfOk result (λ stations. All (λ station. scale_of station.deck ≡ scale) stations.items) }
+    ensures decks { IfOk result (λ stations. All (λ station. station.deck.scale ≡ scale) stations.items) }
 {
     let mut stations = Vec::new(alloc);
     stations.push(station(scale, 0))?;
