@@ -1,5 +1,5 @@
 #!/usr/bin/env python3
-"""Prints the rows of a small seeded population and the first inputs of a deck, from their definitions alone.
+"""Prints the rows of seeded populations and the first inputs of decks, from their definitions alone.
 
     python3 tests/draws.py > crates/drawn/stdout
 
@@ -8,11 +8,37 @@ The program crates/drawn must print the same. This program shares nothing with i
 out.
 """
 
+from dataclasses import dataclass
+
 WORD = 1 << 32
-SEED, TERMINAL, INPUTS = 7, 1, 60
-WAREHOUSES, DISTRICTS, CUSTOMERS, ITEMS = 2, 2, 12, 20
+SEED, INPUTS, LAST_ROWS = 7, 60, 996
 POPULATION_STREAM = 1000
-LAST_NAME, CUSTOMER, ITEM = (255, 100), (1023, 500), (8191, 4000)
+
+
+@dataclass
+class Scale:
+    """How many warehouses, districts in each, customers in each of these, and items there are."""
+
+    warehouses: int
+    districts: int
+    customers: int
+    items: int
+
+
+@dataclass
+class Settings:
+    """C of NURand for each of its uses, and A."""
+
+    last_name: int
+    customer: int
+    item: int
+
+    LAST_NAME, CUSTOMER, ITEM = 255, 1023, 8191
+
+
+ONE_WAREHOUSE, TWO_WAREHOUSES = Scale(1, 2, 1010, 20), Scale(2, 2, 12, 20)
+USUAL, OTHERS = Settings(100, 500, 4000), Settings(255, 7, 1234)
+DECKS = ((ONE_WAREHOUSE, USUAL, 0), (TWO_WAREHOUSES, USUAL, 1), (TWO_WAREHOUSES, USUAL, 3), (TWO_WAREHOUSES, OTHERS, 1))
 
 
 class Draws:
@@ -42,9 +68,8 @@ class Draws:
     def number(self, low, high):
         return low + self.below(high - low + 1)
 
-    def skewed(self, spread_and_constant, low, high):
+    def skewed(self, spread, constant, low, high):
         """NURand (TPC-C 2.1.6)."""
-        spread, constant = spread_and_constant
         a = self.number(0, spread)
         b = self.number(low, high)
         return ((a | b) + constant) % (high - low + 1) + low
@@ -70,43 +95,41 @@ class Draws:
 class Population:
     """The drawn columns of each table's rows, behind their keys."""
 
-    def __init__(self):
-        self.draws = Draws(SEED, POPULATION_STREAM)
-        self.rows = {}
-        for item in range(1, ITEMS + 1):
+    def __init__(self, scale):
+        self.scale, self.draws, self.rows = scale, Draws(SEED, POPULATION_STREAM), {}
+        for item in range(1, scale.items + 1):
             self.add("item", item, self.draws.number(100, 10000))
-        for warehouse in range(1, WAREHOUSES + 1):
+        for warehouse in range(1, scale.warehouses + 1):
             self.add("warehouse", warehouse, self.draws.number(0, 2000))
-            for item in range(1, ITEMS + 1):
+            for item in range(1, scale.items + 1):
                 self.add("stock", warehouse, item, self.draws.number(10, 100))
-            for district in range(1, DISTRICTS + 1):
+            for district in range(1, scale.districts + 1):
                 self.add_district(warehouse, district)
 
     def add(self, table, *columns):
         self.rows.setdefault(table, []).append(columns)
 
     def add_district(self, warehouse, district):
-        draws = self.draws
+        draws, customers = self.draws, list(range(1, self.scale.customers + 1))
         self.add("district", warehouse, district, draws.number(0, 2000))
-        for customer in range(1, CUSTOMERS + 1):
+        for customer in customers:
             first_name = draws.number(0, 9999)
-            last_name = customer - 1 if customer <= 1000 else draws.skewed(LAST_NAME, 0, 999)
+            last_name = customer - 1 if customer <= 1000 else draws.skewed(Settings.LAST_NAME, USUAL.last_name, 0, 999)
             discount = draws.number(0, 5000)
             credit = "BC" if draws.happens(1, 10) else "GC"
             self.add("customer", warehouse, district, customer, first_name, last_name, discount, credit)
-        customers = list(range(1, CUSTOMERS + 1))
         draws.shuffle(customers)
         for order, customer in enumerate(customers, 1):
             self.add_order(warehouse, district, order, customer)
 
     def add_order(self, warehouse, district, order, customer):
         draws = self.draws
-        is_delivered = order <= 7 * CUSTOMERS // 10
+        is_delivered = order <= 7 * self.scale.customers // 10
         count = draws.number(5, 15)
         carrier = draws.number(1, 10) if is_delivered else 0
         self.add("order", warehouse, district, order, customer, carrier, count)
         for line in range(1, count + 1):
-            item = draws.number(1, ITEMS)
+            item = draws.number(1, self.scale.items)
             amount = 0 if is_delivered else draws.number(1, 999999)
             self.add("line", warehouse, district, order, line, item, amount)
 
@@ -115,23 +138,38 @@ class Population:
             for columns in self.rows[table]:
                 print(table, *columns)
 
+    def print_last(self):
+        """The last customers and orders of each district."""
+        for table in ("customer", "order"):
+            for columns in self.rows[table]:
+                if columns[2] >= LAST_ROWS:
+                    print(table, *columns)
+
 
 class Deck:
     """The inputs of a terminal."""
 
-    def __init__(self):
-        self.draws = Draws(SEED, TERMINAL)
-        self.home = TERMINAL % WAREHOUSES + 1
+    def __init__(self, scale, settings, terminal):
+        self.scale, self.settings, self.draws = scale, settings, Draws(SEED, terminal)
+        self.home = terminal % scale.warehouses + 1
 
     def other_warehouse(self, chance):
-        if not self.draws.happens(chance, 100) or WAREHOUSES < 2:
+        warehouses = self.scale.warehouses
+        if not self.draws.happens(chance, 100) or warehouses < 2:
             return None
-        return (self.home - 1 + self.draws.number(1, WAREHOUSES - 1)) % WAREHOUSES + 1
+        return (self.home - 1 + self.draws.number(1, warehouses - 1)) % warehouses + 1
+
+    def district(self):
+        return self.draws.number(1, self.scale.districts)
+
+    def customer(self):
+        return self.draws.skewed(Settings.CUSTOMER, self.settings.customer, 1, self.scale.customers)
 
     def who(self):
         if self.draws.happens(60, 100):
-            return f"last {self.draws.skewed(LAST_NAME, 0, min(CUSTOMERS, 1000) - 1)}"
-        return f"id {self.draws.skewed(CUSTOMER, 1, CUSTOMERS)}"
+            names = min(self.scale.customers, 1000)
+            return f"last {self.draws.skewed(Settings.LAST_NAME, self.settings.last_name, 0, names - 1)}"
+        return f"id {self.customer()}"
 
     def print_next(self, date):
         draws, kind = self.draws, self.draws.number(1, 100)
@@ -140,40 +178,42 @@ class Deck:
         elif kind <= 88:
             self.print_payment(date)
         elif kind <= 92:
-            print("order-status", date, self.home, draws.number(1, DISTRICTS), self.who())
+            print("order-status", date, self.home, self.district(), self.who())
         elif kind <= 96:
             print("delivery", date, self.home, draws.number(1, 10))
         else:
-            print("stock-level", date, self.home, draws.number(1, DISTRICTS), draws.number(10, 20))
+            print("stock-level", date, self.home, self.district(), draws.number(10, 20))
 
     def print_new_order(self, date):
         draws = self.draws
-        number = draws.number(1, DISTRICTS)
-        customer = draws.skewed(CUSTOMER, 1, CUSTOMERS)
+        number, customer = self.district(), self.customer()
         count = draws.number(5, 15)
         is_rolled_back = draws.happens(1, 100)
         lines = []
         for line in range(1, count + 1):
-            item = draws.skewed(ITEM, 1, ITEMS)
+            item = draws.skewed(Settings.ITEM, self.settings.item, 1, self.scale.items)
             supply = self.other_warehouse(1) or self.home
             if is_rolled_back and line == count:
-                item = ITEMS + 1
+                item = self.scale.items + 1
             lines.append(f"{item}:{supply}:{draws.number(1, 10)}")
         print("new-order", date, self.home, number, customer, *lines)
 
     def print_payment(self, date):
-        number = self.draws.number(1, DISTRICTS)
+        number = self.district()
         warehouse, district_of = self.other_warehouse(15), number
         if warehouse is None:
             warehouse = self.home
         else:
-            district_of = self.draws.number(1, DISTRICTS)
+            district_of = self.district()
         who = self.who()
         print("payment", date, self.home, number, warehouse, district_of, who, self.draws.number(100, 500000))
 
 
 if __name__ == "__main__":
-    Population().print()
-    deck = Deck()
-    for k in range(1, INPUTS + 1):
-        deck.print_next(k)
+    Population(TWO_WAREHOUSES).print()
+    Population(ONE_WAREHOUSE).print_last()
+    for scale, settings, terminal in DECKS:
+        print("deck", scale.warehouses, terminal, settings.last_name, settings.customer, settings.item)
+        deck = Deck(scale, settings, terminal)
+        for k in range(1, INPUTS + 1):
+            deck.print_next(k)

@@ -1,4 +1,4 @@
-//! The drawn columns of each table's rows, behind their keys.
+//! The drawn columns of tables' rows, behind their keys.
 
 use std::collections::BTreeMap;
 use tables::{
@@ -12,8 +12,8 @@ pub(crate) fn print_rows<R: Print + Alloc>(rt: &R, tables: &Tables) -> anyhow::R
     print_warehouses(rt, &tables.warehouses)?;
     print_stock(rt, &tables.stock)?;
     print_districts(rt, &tables.districts)?;
-    print_customers(rt, &tables.customers)?;
-    print_orders(rt, &tables.orders)?;
+    print_customers(rt, &tables.customers, 1)?;
+    print_orders(rt, &tables.orders, 1)?;
     print_lines(rt, &tables.lines)?;
     Ok(())
 }
@@ -58,11 +58,16 @@ fn print_districts<R: Print + Alloc>(
     Ok(())
 }
 
-fn print_customers<R: Print + Alloc>(
+/// Prints the rows of the customers from this number on.
+pub(crate) fn print_customers<R: Print + Alloc>(
     rt: &R,
     table: &BTreeMap<CustomerKey, Customer>,
+    first: u32,
 ) -> anyhow::Result<()> {
     for (key, row) in table.iter() {
+        if key.customer < first {
+            continue;
+        }
         let (warehouse, district, customer) = (key.warehouse, key.district, key.customer);
         let (first_name, last_name) = (row.first_name, row.last_name);
         let discount = row.discount.ten_thousandths();
@@ -76,8 +81,16 @@ fn print_customers<R: Print + Alloc>(
     Ok(())
 }
 
-fn print_orders<R: Print + Alloc>(rt: &R, table: &BTreeMap<OrderKey, Order>) -> anyhow::Result<()> {
+/// Prints the rows of the orders from this number on.
+pub(crate) fn print_orders<R: Print + Alloc>(
+    rt: &R,
+    table: &BTreeMap<OrderKey, Order>,
+    first: u32,
+) -> anyhow::Result<()> {
     for (key, row) in table.iter() {
+        if key.order < first {
+            continue;
+        }
         let (warehouse, district, order) = (key.warehouse, key.district, key.order);
         let (customer, count) = (row.customer, row.line_count);
         let carrier = row.carrier.unwrap_or(0);
