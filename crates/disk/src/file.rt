@@ -1,12 +1,13 @@
 //! A disk in a file of the system's.
-ghost use Rattle.std.specs.Prelude.{◌≡◌, ℕ, ◌+◌, ◌^◌, ◌<◌, [], length, IfOk, IfErr, OnOk};
+ghost use Rattle.std.specs.Prelude.{◌≡◌, ◌↔◌, ℕ, ◌+◌, ◌-◌, ◌^◌, ◌<◌, [], length, IfOk, IfErr, IsOk, IsSome, OnOk};
 ghost use Rattle.money.specs.declared.refusal.Refusal.TheVariants.{Device};
+ghost use Rattle.disk.specs.Calls.{Counts};
 
 use crate::disk::Disk;
 use crate::failing::{counted, fits, usable};
 use money::Refusal;
-use std::fs::{File, OpenOptions};
-use std::io;
+use std::fs::{File, OpenOptions, TryLockError};
+use std::io::{self, Error};
 use std::marker::Model;
 use std::os::unix::fs::FileExt;
 use std::rt::Files;
@@ -17,16 +18,19 @@ use std::rt::Files;
 pub struct FileDisk {
     file: File,
     failures: u64,
+    last_error: Option<Error>,
 }
 
 impl Model for FileDisk {
     ghost Value = { ℕ };
 
     ghost view = { λ disk. disk.failures };
+
+    ghost invariant = { λ disk. IsSome disk.last_error ↔ (0 < disk.failures) };
 }
 
 impl FileDisk {
-    /// A disk in a new file, at this path. The folder, which names the file, isn't synced.
+    /// A disk in a new file, at this path. The folder, which names the file, isn't synced: `sync_folder` does that.
     ///
     /// # Errors
     ///
@@ -35,12 +39,7 @@ impl FileDisk {
         ensures ok { IfOk result (λ disk. disk ≡ 0) }
         ensures device { IfErr result (λ refusal. refusal ≡ Device) }
     {
-        let opened = OpenOptions::new()
-            .read(true)
-            .write(true)
-            .create_new(true)
-            .open(files, path);
-        of_file(opened)
+        FileDisk::in_new_file(files, path).map_err(|_| Refusal::Device)
     }
 
     /// A disk in the file at this path, with the bytes that are there.
@@ -52,19 +51,73 @@ impl FileDisk {
         ensures ok { IfOk result (λ disk. disk ≡ 0) }
         ensures device { IfErr result (λ refusal. refusal ≡ Device) }
     {
-        let opened = OpenOptions::new().read(true).write(true).open(files, path);
-        of_file(opened)
+        FileDisk::in_file(files, path).map_err(|_| Refusal::Device)
     }
-}
 
-// The disk in a file that the system has opened.
-fn of_file(opened: io::Result<File>) -> Result<FileDisk, Refusal>
-    ensures ok { IfOk result (λ disk. disk ≡ 0) }
-    ensures device { IfErr result (λ refusal. refusal ≡ Device) }
-{
-    match opened {
-        Ok(file) => Ok(FileDisk { file, failures: 0 }),
-        Err(_) => Err(Refusal::Device),
+    /// As `create`, with the system's error in place of `Device`.
+    pub fn in_new_file<R: Files<File = File>>(files: &R, path: &str) -> io::Result<FileDisk>
+        ensures { IfOk result (λ disk. disk ≡ 0) }
+    {
+        let file = OpenOptions::new()
+            .read(true)
+            .write(true)
+            .create_new(true)
+            .open(files, path)?;
+        Ok(FileDisk::of(file))
+    }
+
+    /// As `open`, with the system's error in place of `Device`.
+    pub fn in_file<R: Files<File = File>>(files: &R, path: &str) -> io::Result<FileDisk>
+        ensures { IfOk result (λ disk. disk ≡ 0) }
+    {
+        let file = OpenOptions::new().read(true).write(true).open(files, path)?;
+        Ok(FileDisk::of(file))
+    }
+
+    // The disk in a file that is open.
+    fn of(file: File) -> FileDisk
+        ensures { result ≡ 0 }
+    {
+        FileDisk {
+            file,
+            failures: 0,
+            last_error: None,
+        }
+    }
+
+    /// Has the file for this disk alone, until it is dropped: no other disk may lock it so long, in whatever process.
+    /// A lock is kept from those alone who ask for one. Never waits.
+    ///
+    /// # Errors
+    ///
+    /// `WouldBlock` where another disk has locked the file, else the system's error.
+    pub fn try_lock(&self) -> Result<(), TryLockError> {
+        self.file.try_lock()
+    }
+
+    /// Has the file for this disk and others that share it so, until it is dropped; else as `try_lock`.
+    pub fn try_lock_shared(&self) -> Result<(), TryLockError> {
+        self.file.try_lock_shared()
+    }
+
+    /// Why the last call failed that did, or None where none has.
+    pub fn last_error(&self) -> Option<Error>
+        ensures { IsSome result ↔ (0 < self.now) }
+    {
+        self.last_error
+    }
+
+    // The answer of a call of the file, as the disk's: a failure is counted, and its error kept.
+    fn answered<T: Drop>(&mut self, answer: io::Result<T>) -> Result<T, Refusal>
+        requires { self.old < 2 ^ 64 - 1 }
+        ensures ok { IfOk answer (λ value. result ≡ Ok value) }
+        ensures err { IsOk result → IsOk answer }
+        ensures cause { Counts result self.old self.new }
+    {
+        if let Err(error) = &answer {
+            self.last_error = Some(*error);
+        }
+        counted(&mut self.failures, answer)
     }
 }
 
@@ -97,25 +150,25 @@ impl Disk for FileDisk {
     fn len(&mut self) -> Result<u64, Refusal> {
         usable(self.failures)?;
         let answer = length_of(&self.file);
-        counted(&mut self.failures, answer)
+        self.answered(answer)
     }
 
     fn read_at(&mut self, at: u64, into: &mut [u8]) -> Result<(), Refusal> {
         usable(self.failures)?;
         let answer = self.file.read_exact_at(into, at);
-        counted(&mut self.failures, answer)
+        self.answered(answer)
     }
 
     fn write_at(&mut self, at: u64, bytes: &[u8]) -> Result<(), Refusal> {
         usable(self.failures)?;
         let answer = write(&self.file, at, bytes);
-        counted(&mut self.failures, answer)
+        self.answered(answer)
     }
 
     fn sync(&mut self) -> Result<(), Refusal> {
         usable(self.failures)?;
         let answer = self.file.sync_all();
-        counted(&mut self.failures, answer)
+        self.answered(answer)
     }
 
     fn failures(&self) -> u64 {

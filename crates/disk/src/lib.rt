@@ -5,10 +5,12 @@
 mod disk;
 mod failing;
 mod file;
+mod folder;
 mod memory;
 mod memory_call;
 
 pub use disk::Disk;
 pub use file::FileDisk;
+pub use folder::sync_folder;
 pub use memory::Memory;
 pub use memory_call::MemoryCall;

@@ -1,0 +1,16 @@
+//! The folder of files.
+
+use std::fs::File;
+use std::io;
+use std::rt::Files;
+
+/// Makes the names of a folder's files durable, of those that were made and of those that were taken away: a file whose
+/// name a crash takes is gone, whatever was synced in it. No contract says anything of names.
+///
+/// # Errors
+///
+/// The system's, where it can't open the folder or sync it.
+pub fn sync_folder<R: Files<File = File>>(files: &R, path: &str) -> io::Result<()> {
+    let folder = File::open(files, path)?;
+    folder.sync_all()
+}
