@@ -8,122 +8,24 @@ Prints a line for each check that failed, and at last `N passed, M failed`; exit
 """
 
 import os
-import re
 import resource
 import signal
-import struct
 import subprocess
 import sys
 import tempfile
 import threading
 import time
-from collections import namedtuple
 from pathlib import Path
 
-TOP = Path(__file__).resolve().parent.parent
-
-# Runs that are killed, and what they leave.
+# Runs that are killed, and what they leave, are told there.
 sys.dont_write_bytecode = True
-sys.path.insert(0, str(TOP / "examples"))
+sys.path.insert(0, str(Path(__file__).resolve().parent.parent / "examples"))
+import devices
 import kills
-
-BUILT = TOP / "crates" / "tpcc" / "out" / "tpcc"
-
-# How long a run may take, with room for a slow machine.
-SECONDS = 60
-
-SHOWN = []
-
-
-def shows(function):
-    """Marks a function that shows what its name says."""
-    SHOWN.append(function)
-    return function
-
-
-# Those of the subcommand `run`, which are left out of a program that doesn't have it.
-RUNS = []
-
-
-def shows_runs(function):
-    """Marks one of these."""
-    RUNS.append(function)
-    return function
-
-
-class Checks:
-    """What was checked: the program, the function that is checking, and how many checks passed and failed."""
-
-    program = BUILT
-    showing = ""
-    passed = 0
-    failed = 0
-
-
-def fail(text):
-    Checks.failed += 1
-    print(f"FAILED {Checks.showing}: {text}", flush=True)
-
-
-def brief(value):
-    text = repr(value)
-    return text if len(text) <= 400 else f"{text[:200]} .. {text[-200:]}"
-
-
-def same(what, seen, wanted):
-    """One check: that what was seen is what was wanted."""
-    if seen == wanted:
-        Checks.passed += 1
-    else:
-        fail(f"{what} is {brief(seen)}, and not {brief(wanted)}")
-
-
-# ---- The program as a process
-
-Ran = namedtuple("Ran", "status out err")
-
-
-def start(args, **how):
-    """Starts the program on these words, which are text or bytes. Its own name is tpcc, wherever it lies."""
-    return subprocess.Popen(["tpcc", *args], executable=Checks.program, **how)
-
-
-def run(args, input=b"", *, stdin=None, stdout=subprocess.PIPE, before=None, seconds=SECONDS):
-    """Runs the program on these words to its end. Its input is these bytes, or what `stdin` is; its output is given
-    back, or goes where `stdout` says; `before` is called in the new process."""
-    with tempfile.TemporaryFile() as given:
-        given.write(input)
-        given.seek(0)
-        process = start(
-            args, stdin=given if stdin is None else stdin, stdout=stdout, stderr=subprocess.PIPE, preexec_fn=before
-        )
-        try:
-            out, err = process.communicate(timeout=seconds)
-        except subprocess.TimeoutExpired:
-            process.kill()
-            process.communicate()
-            raise
-    return Ran(process.returncode, out or b"", err)
-
-
-def ends(what, ran, status, out=b"", err=b""):
-    """Three checks: how a run ended, and what its streams got."""
-    same(f"the status {what}", ran.status, status)
-    same(f"the output {what}", ran.out, out)
-    same(f"the errors {what}", ran.err, err)
-
+from checks import RUNS, SECONDS, SHOWN, SMALL, Checks, Ran, ends, fail, run, same, shows, shows_runs, start, whole
+from logs import LATER, LOGS, LONG, SCALE, TWO, body, contents_of, counts_of, entry, inputs_of, log, on_logs, run_in
 
 # ---- Scripts
-
-SMALL = "script --warehouses 1 --districts 2 --customers 10 --items 20 --orders 30 --commits 1000".split()
-
-REPORT = b"C1 ok\nC2 ok\nC3 ok\nC4 ok\nC5 ok\nC6 ok\nC7 ok\nC8 ok\nC9 ok\nC10 ok\nC12 ok\n"
-
-
-def whole(answers, commits):
-    """What a script writes where every condition holds."""
-    return answers + b"commits %d\n" % commits + REPORT
-
 
 ORDER = b"neworder 1 1 1 1:1:1 2:1:1 3:1:1 4:1:1 5:1:1\n"
 
@@ -369,45 +271,6 @@ def a_scale_outside_its_limits_is_refused():
 # ---- Log files
 
 
-def entry(number, epoch, terminal):
-    """The entry of a commit: customer `number` of district 1 pays 1.00 there, after the customers before."""
-    paid = 100 * number
-    writes = [
-        struct.pack("<BIBq", 1, 0, 1, 20_000 + paid),
-        struct.pack("<BIBqQ", 2, 0, 1, 10_000 + paid, 11),
-        struct.pack("<BIBqqQQ", 3, number - 1, 1, -1_100, 1_100, 2, 0),
-        struct.pack("<BIB7Q", 4, 0, 1, number, 1, 1, 1, 1, number, 100),
-    ]
-    return struct.pack("<QQHH", number, epoch << 32, terminal, len(writes)) + b"".join(writes)
-
-
-def body(mark, *entries):
-    """A body, but for the gate that follows it, which its length counts."""
-    text = struct.pack("<Q", mark) + b"".join(entries)
-    return struct.pack("<Q", len(text) + 1) + text
-
-
-def log(logger, loggers, *bodies):
-    """A log file at the scale of SMALL, over the plain population: its header, then each body behind an open gate."""
-    header = struct.pack("<8sIHH6IQ", b"SILOTPCC", 1, logger, loggers, 1, 2, 10, 20, 30, 1000, 0)
-    return header + b"".join(b"\1" + text for text in bodies) + b"\0"
-
-
-LATER = log(1, 2, body(7, entry(2, 5, 1), entry(3, 6, 1), entry(4, 7, 1), entry(5, 8, 1)))
-
-LOGS = [log(0, 2, body(5, entry(1, 4, 0))), LATER]
-
-
-def on_logs(subcommand, files, loggers=None, scale=SMALL[1:], **how):
-    """Runs a subcommand on a folder of these log files. The folder is called DIR in what the errors got."""
-    with tempfile.TemporaryDirectory() as folder:
-        for logger, text in enumerate(files):
-            (Path(folder) / f"log-{logger}").write_bytes(text)
-        args = [subcommand, *scale, "--logs", folder, "--loggers", str(loggers or len(files))]
-        ran = run(args, **how)
-        return ran._replace(err=ran.err.replace(folder.encode(), b"DIR"))
-
-
 @shows
 def log_files_are_recovered():
     shown = b"durable 5\ncommits 2\nwarehouse 1 ytd 202.00\ndistrict 1 1 ytd 102.00 next 11\n"
@@ -448,10 +311,6 @@ def log_files_that_are_none_are_refused():
         ends(f"of {subcommand} on another population", ran, 1, err=b"10 Damaged\n")
         ran = on_logs(subcommand, [log(0, 2, body(5)), LATER])
         ends(f"of {subcommand} on a gap", ran, 1, err=b"11 Gap\n")
-        ran = on_logs(subcommand, LOGS, loggers=3)
-        ends(f"of {subcommand} without a file", ran, 1, err=b"9 Device\nDIR/log-2: can't be opened\n")
-        ran = on_logs(subcommand, [b""], loggers=2)
-        ends(f"of {subcommand} without the second", ran, 1, err=b"9 Device\nDIR/log-1: can't be opened\n")
         ran = on_logs(subcommand, LOGS, scale=["--items", "1"])
         text = b"13 BadScale\n--items is 1: it is to be from 20 to 100000\n"
         ends(f"of {subcommand} at a bad scale", ran, 2, err=text)
@@ -467,40 +326,6 @@ def log_files_are_told_on_an_output_that_fails():
 
 
 # ---- Runs of terminals in threads, with log files
-
-Counts = namedtuple("Counts", "commits rollbacks gaveup refused durable acknowledged")
-
-COUNTED = re.compile(b"".join(b"%s (0|[1-9][0-9]*)\n" % name.encode() for name in Counts._fields) + REPORT)
-
-SCALE = "--warehouses 1 --districts 2 --customers 10 --items 20 --orders 2000 --commits 2000".split()
-
-TWO = "--terminals 2 --loggers 2".split()
-
-# Such a run of a million inputs a terminal takes half a minute.
-LONG = "--warehouses 2 --districts 10 --customers 100 --items 1000 --orders 3000 --commits 600000".split()
-
-
-def run_in(folder, *words, **how):
-    """Runs terminals whose log files stand in this folder. It is called DIR in what the errors got."""
-    ran = run(["run", "--logs", folder, *words], **how)
-    return ran._replace(err=ran.err.replace(folder.encode(), b"DIR"))
-
-
-def counts_of(output):
-    """The counts that a run wrote, in front of a report in which every condition holds."""
-    match = COUNTED.fullmatch(output)
-    if not match:
-        raise kills.Failed(f"a run wrote {brief(output)}")
-    return Counts(*map(int, match.groups()))
-
-
-def inputs_of(counts):
-    return counts.commits + counts.rollbacks + counts.gaveup + counts.refused
-
-
-def contents_of(folder):
-    return {path.name: path.read_bytes() for path in Path(folder).iterdir()}
-
 
 def counts_and_recovers(what, words, inputs, loggers):
     """Checks of a run to its end: its counts, its log files, and what they recover to. Gives the counts, the rows that
@@ -518,12 +343,6 @@ def counts_and_recovers(what, words, inputs, loggers):
         rows = kills.answer(Checks.program, "recover", folder, loggers, SCALE).split("\n", 2)[2]
         same(f"the files of {what} once they are read", contents_of(folder), files)
     return counts, rows, files
-
-
-def is_refused_by_device(what, ran):
-    same(f"the status {what}", ran.status, 1)
-    same(f"the output {what}", ran.out, b"")
-    same(f"the first line of the errors {what}", ran.err.split(b"\n")[0], b"9 Device")
 
 
 @shows_runs
@@ -577,15 +396,16 @@ def a_run_begins_with_its_population():
 @shows_runs
 def log_files_that_are_there_are_left_as_they_are():
     words = [*SCALE, *TWO, "--count", "50"]
+    text = b"9 Device\nDIR/%s: can't be created, and the file that is there is left as it is: File exists (os error 17)\n"
     with tempfile.TemporaryDirectory() as folder:
         same("the status of a first run", run_in(folder, *words).status, 0)
         files = contents_of(folder)
-        is_refused_by_device("of a second run", run_in(folder, *words))
+        ends("of a second run", run_in(folder, *words), 1, err=text % b"log-0")
         same("the files after a second run", contents_of(folder), files)
     for name in ("log-0", "log-1"):
         with tempfile.TemporaryDirectory() as folder:
             (Path(folder) / name).write_bytes(b"here")
-            is_refused_by_device(f"where {name} is there", run_in(folder, *words))
+            ends(f"where {name} is there", run_in(folder, *words), 1, err=text % name.encode())
             same(f"{name} after it", contents_of(folder)[name], b"here")
 
 
@@ -617,7 +437,8 @@ def faults_of_a_run_come_in_their_order():
         large = "--warehouses 8 --customers 3000 --items 100000".split()
         ran = run_in(missing, *large, before=lambda: resource.setrlimit(resource.RLIMIT_AS, (limit, limit)))
         ends("of a large population in no folder", ran, 1, err=b"1 OutOfMemory\n")
-        is_refused_by_device("in no folder", run_in(missing, *SCALE))
+        text = b"9 Device\nDIR/log-0: can't be created: No such file or directory (os error 2)\n"
+        ends("in no folder", run_in(missing, *SCALE), 1, err=text)
         same("what faults leave in a folder", contents_of(folder), {})
 
 
@@ -631,7 +452,8 @@ def a_logger_whose_device_fails_stops():
         ran = run_in(folder, *SCALE, *TWO, "--count", "500", before=limit_files)
         counts = counts_of(ran.out)
         same("the status of it", ran.status, 1)
-        same("the first line of the errors of it", ran.err.split(b"\n")[0], b"9 Device")
+        texts = [b"9 Device\nDIR/log-%d: can't be written: File too large (os error 27)\n" % logger for logger in (0, 1)]
+        same("whether the errors of it tell a file", ran.err in texts, True)
         same("the number of inputs of it", inputs_of(counts), 1000)
         left = kills.examine(Checks.program, folder, 2, SCALE)
         same("whether it is durable as it says", left.durable >= counts.durable, True)

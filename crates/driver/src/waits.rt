@@ -1,8 +1,4 @@
 //! How long commits wait until they are acknowledged.
-ghost use Rattle.std.specs.Prelude.{◌≡◌, IfErr};
-ghost use Rattle.money.specs.declared.refusal.Refusal.TheVariants.{OutOfMemory};
-
-use money::Refusal;
 use std::alloc::{AllocError, Global};
 use std::sync::atomic::{AtomicU64, Ordering};
 use std::time::Duration;
@@ -27,10 +23,8 @@ pub struct Waits {
 }
 
 impl Waits {
-    /// Of a run that begins. `OutOfMemory` is the only refusal.
-    pub fn new(alloc: Global) -> Result<Waits, Refusal>
-        ensures { IfErr result (λ refusal. refusal ≡ OutOfMemory) }
-    {
+    /// Of a run that begins.
+    pub fn new(alloc: Global) -> Result<Waits, AllocError> {
         let mut by_millis = Vec::new(alloc);
         for _ in 0..=LONGEST {
             by_millis.push(AtomicU64::new(0))?;

@@ -1,7 +1,8 @@
 //! Disks in memory and in files.
-use disk::{Disk, FileDisk, Memory, MemoryCall};
+use disk::{Disk, FileDisk, Memory, MemoryCall, sync_folder};
 use money::Refusal;
-use std::fs;
+use std::fs::{self, TryLockError};
+use std::io::ErrorKind;
 use std::rt::Files;
 use std::test::Fail;
 
@@ -37,6 +38,16 @@ fn is_sync(call: Option<&MemoryCall>) -> bool {
 fn fresh<R: Files<File = fs::File>>(files: &R, path: &str) -> Result<FileDisk, Refusal> {
     let _ = fs::remove_file(files, path);
     FileDisk::create(files, path)
+}
+
+/// Of what kind the last failure of a disk was.
+fn last_kind(disk: &FileDisk) -> Option<ErrorKind> {
+    disk.last_error().map(|error| error.kind())
+}
+
+/// Whether another disk has locked the file of this one, which could share it otherwise.
+fn is_kept_from(disk: &FileDisk) -> bool {
+    matches!(disk.try_lock_shared(), Err(TryLockError::WouldBlock))
 }
 
 #[test]
@@ -98,11 +109,34 @@ fn a_file_is_written_and_read_back(rt: HostRuntime) -> Result<(), Fail> {
 fn failures_of_a_file_are_counted(rt: HostRuntime) -> Result<(), Fail> {
     assert!(rt; FileDisk::open(&rt, "disk-missing").err() == Some(Refusal::Device));
     let mut disk = fresh(&rt, "disk-failing")?;
+    assert!(rt; last_kind(&disk).is_none());
     assert!(rt; three_at(&mut disk, 0) == Err(Refusal::Device));
     assert!(rt; disk.failures() == 1);
+    assert!(rt; last_kind(&disk) == Some(ErrorKind::UnexpectedEof));
     assert!(rt; disk.write_at(1 << 63, b"a") == Err(Refusal::Device));
     assert!(rt; disk.failures() == 2);
     assert!(rt; disk.len() == Ok(0));
+    assert!(rt; last_kind(&disk) == Some(ErrorKind::InvalidInput));
     assert!(rt; fs::remove_file(&rt, "disk-failing").is_ok());
+    Ok(())
+}
+
+#[test]
+fn a_locked_file_is_kept_from_other_disks(rt: HostRuntime) -> Result<(), Fail> {
+    let disk = fresh(&rt, "disk-locked")?;
+    let other = FileDisk::open(&rt, "disk-locked")?;
+    assert!(rt; disk.try_lock().is_ok());
+    assert!(rt; is_kept_from(&other));
+    assert!(rt; disk.try_lock_shared().is_ok());
+    assert!(rt; !is_kept_from(&other));
+    assert!(rt; disk.try_lock().is_err());
+    assert!(rt; fs::remove_file(&rt, "disk-locked").is_ok());
+    Ok(())
+}
+
+#[test]
+fn a_folder_is_synced_or_missing(rt: HostRuntime) -> Result<(), Fail> {
+    assert!(rt; sync_folder(&rt, ".").is_ok());
+    assert!(rt; sync_folder(&rt, "folder-missing").is_err());
     Ok(())
 }

@@ -1,7 +1,9 @@
 -- What comes of the log files of a command line.
-use Rattle.std.specs.Prelude.{◌≡◌, ◌<◌, ◌⊎◌, ◌++◌, ℕ, List, [], Option, Some, None, codes, option_map, string_bytes}
+use Rattle.std.specs.Prelude.{◌≡◌, ◌<◌, ◌⊎◌, ◌++◌, ℕ, Bool, true, false, List, [], Option, Some, None, codes}
+use Rattle.std.specs.Prelude.{option_map, string_bytes, IfSome}
 use Rattle.std.specs.Fmt.{decimal}
 use Rattle.std.specs.Io.KnownBytes.{Appends}
+use Rattle.std.specs.declared.io.Error.{Error}
 use Rattle.money.specs.declared.refusal.Refusal.{Refusal}
 use Rattle.money.specs.declared.refusal.Refusal.TheVariants.{OutOfMemory, Device}
 use Rattle.tables.specs.Database.{Database, database}
@@ -14,22 +16,54 @@ use Rattle.command_line.specs.declared.asked.LogFiles.{LogFiles}
 use Rattle.command_line.specs.declared.asked.RunOptions.{RunOptions}
 use Rattle.program.specs.declared.fault.Fault.{Fault}
 use Rattle.program.specs.declared.fault.Purpose.{Purpose}
-use Rattle.program.specs.declared.fault.Purpose.TheVariants.{Read, Create, Append}
+use Rattle.program.specs.declared.fault.Purpose.TheVariants.{Read, Create}
+use Rattle.program.specs.declared.fault.Trouble.{Trouble}
+use Rattle.program.specs.declared.fault.Trouble.TheVariants.{NotCreated, Exists, NotOpened, NotLocked, InUse}
+use Rattle.program.specs.declared.fault.Trouble.TheVariants.{NotRead, NotWritten, NotSynced}
 
 -- the path of a logger's file, `DIR/log-0`
 abbrev pub path_of : LogFiles → ℕ → List ℕ
 path_of files logger = string_bytes files.folder ++ (codes "/log-" ++ decimal logger)
 
--- the path of the file that couldn't be used, and what for
-abbrev pub file_of : Fault → Option (List ℕ × Purpose)
-file_of fault = option_map (λ f. (string_bytes f.path, f.purpose)) fault.file
+-- the path of the folder, as it stands in front of its files' names
+abbrev pub folder_of : LogFiles → List ℕ
+folder_of files = string_bytes files.folder ++ codes "/"
 
--- the files weren't ready for this: memory ran out, or this one couldn't be used so
-pub data AreUnready (purpose : Purpose) (files : LogFiles) (refusal : Refusal) (file : Option (List ℕ × Purpose))
+-- the path of the file that couldn't be used, and what couldn't be done with it
+abbrev pub file_of : Fault → Option (List ℕ × Trouble)
+file_of fault = option_map (λ f. (string_bytes f.path, f.trouble)) fault.file
+
+-- what may stop a file from being made ready for this: it can't be made, or opened to be read, and locked
+abbrev pub may_stop : Purpose → Trouble → Bool
+may_stop Create (NotCreated error) = true
+may_stop Create (Exists error) = true
+may_stop Read (NotOpened error) = true
+may_stop purpose (NotLocked error) = true
+may_stop purpose InUse = true
+may_stop purpose trouble = false
+
+-- the files weren't ready for this: memory ran out; this one couldn't be used so; or they were made, and the names that
+-- their folder has of them couldn't be made durable
+pub data AreUnready (purpose : Purpose) (files : LogFiles) (refusal : Refusal) (file : Option (List ℕ × Trouble))
     : Type 0 where
   memory : refusal ≡ OutOfMemory → file ≡ None → AreUnready purpose files refusal file
-  one : (logger : ℕ) → logger < files.loggers → refusal ≡ Device → file ≡ Some (path_of files logger, purpose)
+  one : (logger : ℕ) (trouble : Trouble) → logger < files.loggers → may_stop purpose trouble ≡ true → refusal ≡ Device
+      → file ≡ Some (path_of files logger, trouble) → AreUnready purpose files refusal file
+  names : (error : Error) → purpose ≡ Create → refusal ≡ Device → file ≡ Some (folder_of files, NotSynced error)
       → AreUnready purpose files refusal file
+
+-- what it is called that a file can't be used for this any longer, once it was ready
+abbrev pub broken_off : Purpose → Error → Trouble
+broken_off Read error = NotRead error
+broken_off Create error = NotWritten error
+
+-- a device failed, and this is the log file on it
+pub record HasBroken (purpose : Purpose) (files : LogFiles) (refusal : Refusal) (file : List ℕ × Trouble) : Type 0 where
+  pub logger : ℕ
+  pub error : Error
+  pub device : refusal ≡ Device
+  pub among : logger < files.loggers
+  pub is : file ≡ (path_of files logger, broken_off purpose error)
 
 -- what some bytes of the files recover to was shown, and this is the report of the recovered tables
 pub record IsShownWith (t0 : Database) (seed : ℕ) (old new : Option (List ℕ)) (report : Report) : Type 0 where
@@ -42,20 +76,21 @@ pub record IsShownWith (t0 : Database) (seed : ℕ) (old new : Option (List ℕ)
 abbrev pub IsCheckedWith : Database → ℕ → Option (List ℕ) → Option (List ℕ) → Report → Type 0
 IsCheckedWith t0 seed old new report = (strings : List (List ℕ)) × IsChecked t0 seed strings old new report
 
--- it was refused: the files weren't read, or the recovery of some bytes of theirs was refused, on devices that had
--- some numbers of failures before and after
+-- it was refused: the files weren't ready; or the recovery of some bytes of theirs was refused, on devices that had some
+-- numbers of failures before and after, which tells a file that couldn't be read, where memory is there for that
 pub data IsRefusedWith (files : LogFiles) (Tells : Recovered → List ℕ → Type 0) (t0 : Database) (seed : ℕ)
-    (old new : Option (List ℕ)) (refusal : Refusal) (file : Option (List ℕ × Purpose)) : Type 0 where
+    (old new : Option (List ℕ)) (refusal : Refusal) (file : Option (List ℕ × Trouble)) : Type 0 where
   unread : AreUnready Read files refusal file → Appends old new []
       → IsRefusedWith files Tells t0 seed old new refusal file
   untold : (strings : List (List ℕ)) (before now : List ℕ) → IsRefused t0 seed strings Tells before now old new refusal
-      → file ≡ None → IsRefusedWith files Tells t0 seed old new refusal file
+      → IfSome file (HasBroken Read files refusal) → IsRefusedWith files Tells t0 seed old new refusal file
 
 -- a run was refused: its files couldn't be made; it was broken off for want of memory, or a device failed; or it was told
--- whole, and a logger had stopped, since this file couldn't be written, which is told where memory is there for that
+-- whole, and a logger had stopped. A file that couldn't be written is told, where memory is there for that
 pub data IsFailedRun (r : RunOptions) (t0 : Database) (old new : Option (List ℕ)) (refusal : Refusal)
-    (file : Option (List ℕ × Purpose)) : Type 0 where
+    (file : Option (List ℕ × Trouble)) : Type 0 where
   unmade : AreUnready Create r.files refusal file → Appends old new [] → IsFailedRun r t0 old new refusal file
-  broken : IsBroken t0 r.terminals r.count old new refusal → file ≡ None → IsFailedRun r t0 old new refusal file
-  stopped : (report : Report) (logger : ℕ) → IsRan t0 r.terminals r.count old new report → refusal ≡ Device
-      → (file ≡ None) ⊎ (file ≡ Some (path_of r.files logger, Append)) → IsFailedRun r t0 old new refusal file
+  broken : IsBroken t0 r.terminals r.count old new refusal → IfSome file (HasBroken Create r.files refusal)
+      → IsFailedRun r t0 old new refusal file
+  stopped : (report : Report) → IsRan t0 r.terminals r.count old new report → refusal ≡ Device
+      → IfSome file (HasBroken Create r.files refusal) → IsFailedRun r t0 old new refusal file

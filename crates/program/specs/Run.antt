@@ -21,7 +21,7 @@ use Rattle.driver.specs.Told.{IsRan}
 use Rattle.recovery.specs.Told.{Shows, Reports}
 use Rattle.program.specs.Status.{IsRefusedStatus, refusal_line, WritesBeginning}
 use Rattle.program.specs.Detail.{IsDetail}
-use Rattle.program.specs.declared.fault.Purpose.{Purpose}
+use Rattle.program.specs.declared.fault.Trouble.{Trouble}
 use Rattle.program.specs.Logs.{IsShownWith, IsCheckedWith, IsRefusedWith, IsFailedRun}
 
 -- the scale that options ask for
@@ -57,7 +57,7 @@ IsDone t0 seed (Check files) bytes old new report = IsCheckedWith t0 seed old ne
 
 -- or it was refused, where this file couldn't be used so, if that is why
 abbrev pub IsFailed : Database → ℕ → Subcommand → List ℕ → Option (List ℕ) → Option (List ℕ) → Refusal
-    → Option (List ℕ × Purpose) → Type 0
+    → Option (List ℕ × Trouble) → Type 0
 IsFailed t0 seed Script bytes old new refusal file = IsBrokenOff t0 bytes old new refusal × (file ≡ None)
 IsFailed t0 seed (Run r) bytes old new refusal file = IsFailedRun r t0 old new refusal file
 IsFailed t0 seed (Recover files) bytes old new refusal file =
@@ -74,7 +74,7 @@ pub record IsWholeRun (o : Options) (bytes : List ℕ) (old new : Option (List �
 
 -- it was refused: for its scale; for want of memory for the population; or later
 pub data IsRefusedRun (o : Options) (bytes : List ℕ) (old new : Option (List ℕ)) (refusal : Refusal)
-    (file : Option (List ℕ × Purpose)) : Type 0 where
+    (file : Option (List ℕ × Trouble)) : Type 0 where
   scale : ¬ IsScale (scale_of o) → refusal ≡ BadScale → file ≡ None → Appends old new []
       → IsRefusedRun o bytes old new refusal file
   memory : refusal ≡ OutOfMemory → file ≡ None → Appends old new []
@@ -94,7 +94,7 @@ pub data IsRun (words : List (List ℕ)) (bytes : List ℕ) (output written erro
   answered : (o : Options) (report : Report) → IsAskedBy words o → IsWholeRun o bytes output written report
       → Appends errors told [] → (IsGood report → status ≡ 0) → ((IsGood report → ⊥) → status ≡ 1)
       → IsRun words bytes output written errors told in_error out_error status
-  refused : (o : Options) (refusal : Refusal) (file : Option (List ℕ × Purpose)) (detail : List ℕ) → IsAskedBy words o
+  refused : (o : Options) (refusal : Refusal) (file : Option (List ℕ × Trouble)) (detail : List ℕ) → IsAskedBy words o
       → IsRefusedRun o bytes output written refusal file
       → IsDetail (scale_of o) file in_error out_error refusal detail
       → WritesBeginning (refusal_line refusal ++ detail) errors told → IsRefusedStatus refusal status

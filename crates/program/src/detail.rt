@@ -1,7 +1,9 @@
 //! What was wrong, in a line behind a refusal's.
 
-ghost use Rattle.std.specs.Prelude.{◌≡◌, ◌++◌, None, IfOk, codes, string_bytes};
-ghost use Rattle.program.specs.Detail.{IsDetail, IsDeviceLine, IsStreamLine, limit_line, scale_line, trouble_of};
+ghost use Rattle.std.specs.Prelude.{◌≡◌, ◌++◌, IfOk, codes, string_bytes};
+ghost use Rattle.std.specs.Option.{option_map};
+ghost use Rattle.program.specs.Detail.{IsDetail, IsDeviceLine, IsTold, limit_line, reason_of};
+ghost use Rattle.program.specs.Detail.{scale_line, trouble_of};
 ghost use Rattle.program.specs.Logs.{file_of};
 ghost use Rattle.program.specs.Run.{scale_of};
 
@@ -18,8 +20,8 @@ use tables::limits::{
 };
 
 /// The line on what was wrong where a run was refused, with its line feed: of a scale, on the first option that is
-/// outside its limits; of a device, on the file that couldn't be used, or on the stream on which the last call
-/// failed, and why; else, or where that isn't known, nothing.
+/// outside its limits; of a device, on the stream on which the last call failed, or on the file that couldn't be used,
+/// and why; else, or where that isn't known, nothing.
 pub(crate) fn detail_of<R, W>(
     alloc: Global,
     options: &Options,
@@ -32,36 +34,40 @@ pub(crate) fn detail_of<R, W>(
 {
     match fault.refusal {
         Refusal::BadScale => scale_detail(alloc, options),
-        Refusal::Device => match &fault.file {
-            Some(file) => file_detail(alloc, file),
-            None => streams_detail(alloc, input.failure(), output.failure()),
-        },
+        Refusal::Device => device_detail(alloc, &fault.file, input.failure(), output.failure()),
         _ => Ok(String::new(alloc)),
+    }
+}
+
+/// The line on the stream on which the last call failed, by the errors of those calls, else on the file that couldn't
+/// be used.
+fn device_detail(
+    alloc: Global,
+    file: &Option<BadFile>,
+    input: Option<Error>,
+    output: Option<Error>,
+) -> Result<String, AllocError>
+    ensures { IfOk result (λ line. IsDeviceLine (option_map (λ f. (string_bytes f.path, f.trouble)) file.now)
+        input output (string_bytes line)) }
+{
+    match (input, output) {
+        (Some(error), _) => told(alloc, "standard input", Some(error)),
+        (None, Some(error)) => told(alloc, "standard output", Some(error)),
+        (None, None) => match file {
+            Some(file) => file_detail(alloc, file),
+            None => Ok(String::new(alloc)),
+        },
     }
 }
 
 /// The line on a file that couldn't be used.
 fn file_detail(alloc: Global, file: &BadFile) -> Result<String, AllocError>
-    ensures { IfOk result (λ line. string_bytes line
-        ≡ string_bytes file.now.path ++ (codes ": " ++ (trouble_of file.now.purpose ++ codes "\n"))) }
+    ensures { IfOk result (λ line. IsTold (string_bytes file.now.path ++ (codes ": " ++ trouble_of file.now.trouble))
+        (reason_of file.now.trouble) (string_bytes line)) }
 {
-    let (path, trouble) = (file.path.as_str(), file.purpose.trouble());
-    format!(in alloc; "{path}: {trouble}\n")
-}
-
-/// The line on the stream on which the last call failed, by the errors of those calls.
-fn streams_detail(
-    alloc: Global,
-    input: Option<Error>,
-    output: Option<Error>,
-) -> Result<String, AllocError>
-    ensures { IfOk result (λ line. IsDeviceLine None input output (string_bytes line)) }
-{
-    match (input, output) {
-        (Some(error), _) => stream_detail(alloc, "standard input", error),
-        (None, Some(error)) => stream_detail(alloc, "standard output", error),
-        (None, None) => Ok(String::new(alloc)),
-    }
+    let (path, name) = (file.path.as_str(), file.trouble.name());
+    let what = format!(in alloc; "{path}: {name}")?;
+    told(alloc, what.as_str(), file.trouble.reason())
 }
 
 /// The line on the first option of a scale that is outside its limits, or nothing where none is.
@@ -117,10 +123,15 @@ fn limit_detail(
     format!(in alloc; "--{option} is {number}: it is to be from {low}{note} to {high}\n")
 }
 
-/// The line on a stream of this name, on which a call failed by this error.
-fn stream_detail(alloc: Global, name: &str, error: Error) -> Result<String, AllocError>
-    ensures { IfOk result (λ line. IsStreamLine name.now (string_bytes line)) }
+/// The line on what couldn't be done, and why, where that is the system's to say.
+fn told(alloc: Global, what: &str, reason: Option<Error>) -> Result<String, AllocError>
+    ensures { IfOk result (λ line. IsTold what.now reason (string_bytes line)) }
 {
-    let reason = format!(in alloc; "{error}")?;
-    format!(in alloc; "{name}: {reason}\n")
+    match reason {
+        Some(error) => {
+            let reason = format!(in alloc; "{error}")?;
+            format!(in alloc; "{what}: {reason}\n")
+        }
+        None => format!(in alloc; "{what}\n"),
+    }
 }

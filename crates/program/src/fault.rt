@@ -3,6 +3,7 @@ ghost use Rattle.std.specs.Prelude.{◌≡◌, None};
 
 use money::Refusal;
 use std::alloc::{AllocError, AllocFailed};
+use std::io::Error;
 
 /// A refusal, and the file that couldn't be used, if that is why.
 #[derive(Debug, Drop)]
@@ -11,36 +12,93 @@ pub(crate) struct Fault {
     pub(crate) file: Option<BadFile>,
 }
 
-/// A file that couldn't be used.
+/// A file that couldn't be used, or the folder of the files.
 #[derive(Debug, Drop)]
 pub(crate) struct BadFile {
     pub(crate) path: String,
-    pub(crate) purpose: Purpose,
+    pub(crate) trouble: Trouble,
 }
 
-/// What a file is used for.
+/// What log files are used for.
 #[derive(Clone, Copy, Debug, PartialEq, Eq)]
 pub(crate) enum Purpose {
-    /// To be read: it is there.
+    /// To be read: they are there.
     Read,
-    /// To be made: it isn't there yet.
+    /// To be made, and then written: they aren't there yet.
     Create,
-    /// To be written, once it is made.
-    Append,
 }
 
 impl Purpose {
     ghost use Rattle.std.specs.Prelude.{◌≡◌};
-    ghost use Rattle.program.specs.Detail.{trouble_of};
+    ghost use Rattle.program.specs.Logs.{broken_off};
 
-    /// What it is called that a file can't be used so.
-    pub(crate) fn trouble(&self) -> &'static str
+    /// What it is called that a file of this purpose couldn't be used on, once it was open.
+    pub(crate) fn broken_off(self, error: Error) -> Trouble
+        ensures { result ≡ broken_off self error }
+    {
+        match self {
+            Purpose::Read => Trouble::NotRead(error),
+            Purpose::Create => Trouble::NotWritten(error),
+        }
+    }
+}
+
+/// What couldn't be done with a file, and why, which is the system's to say.
+#[derive(Clone, Copy, Debug)]
+pub(crate) enum Trouble {
+    /// It couldn't be made.
+    NotCreated(Error),
+    /// It couldn't be made, since it is there.
+    Exists(Error),
+    /// It couldn't be opened.
+    NotOpened(Error),
+    /// It couldn't be locked.
+    NotLocked(Error),
+    /// Another process has locked it.
+    InUse,
+    /// Its bytes couldn't be read.
+    NotRead(Error),
+    /// It couldn't be written, or its bytes not be made durable.
+    NotWritten(Error),
+    /// The names in the folder couldn't be made durable.
+    NotSynced(Error),
+}
+
+impl Trouble {
+    ghost use Rattle.std.specs.Prelude.{◌≡◌};
+    ghost use Rattle.program.specs.Detail.{reason_of, trouble_of};
+
+    /// What it is called.
+    pub(crate) fn name(&self) -> &'static str
         ensures { result.now ≡ trouble_of self.now }
     {
         match self {
-            Purpose::Read => "can't be opened",
-            Purpose::Create => "can't be created; a file that is there is left as it is",
-            Purpose::Append => "can't be written",
+            Trouble::NotCreated(_) => "can't be created",
+            Trouble::Exists(_) => {
+                "can't be created, and the file that is there is left as it is"
+            }
+            Trouble::NotOpened(_) => "can't be opened",
+            Trouble::NotLocked(_) => "can't be locked",
+            Trouble::InUse => "in use by another process",
+            Trouble::NotRead(_) => "can't be read",
+            Trouble::NotWritten(_) => "can't be written",
+            Trouble::NotSynced(_) => "can't be synced",
+        }
+    }
+
+    /// The system's reason, if it is one of its own.
+    pub(crate) fn reason(&self) -> Option<Error>
+        ensures { result ≡ reason_of self.now }
+    {
+        match self {
+            Trouble::NotCreated(error)
+            | Trouble::Exists(error)
+            | Trouble::NotOpened(error)
+            | Trouble::NotLocked(error)
+            | Trouble::NotRead(error)
+            | Trouble::NotWritten(error)
+            | Trouble::NotSynced(error) => Some(*error),
+            Trouble::InUse => None,
         }
     }
 }

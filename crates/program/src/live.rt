@@ -1,17 +1,15 @@
 //! The subcommand `run`: terminals and loggers in threads, with a new log file a logger.
-ghost use Rattle.std.specs.Prelude.{◌≡◌, ◌⊎◌, ℕ, None, Some, length, IfOk, IfErr, IfSome, string_bytes};
-ghost use Rattle.money.specs.declared.refusal.Refusal.TheVariants.{Device};
+ghost use Rattle.std.specs.Prelude.{◌≡◌, length, IfOk, IfErr};
 ghost use Rattle.population.specs.Initial.{initial};
 ghost use Rattle.driver.specs.Told.{IsRan};
-ghost use Rattle.program.specs.Logs.{IsFailedRun, file_of, path_of};
-ghost use Rattle.program.specs.declared.fault.Purpose.TheVariants.{Append};
+ghost use Rattle.program.specs.Logs.{IsFailedRun, file_of};
 
-use crate::fault::{BadFile, Fault, Purpose};
-use crate::logs::{disks, path};
-use command_line::{LogFiles, RunOptions};
+use crate::fault::{Fault, Purpose};
+use crate::logs::{broken_off, disks};
+use command_line::RunOptions;
 use conditions::Report;
 use disk::FileDisk;
-use driver::{Beat, Driven, Plan, Screen, Slot, drive};
+use driver::{Beat, Plan, Screen, Slot, Stopwatch, Waits, drive};
 use money::Refusal;
 use population::Population;
 use std::alloc::{AllocError, Global};
@@ -45,72 +43,72 @@ pub(crate) fn live<
     ensures failed { IfErr result (λ fault. IsFailedRun options.now (initial population)
         (W.contents output.old) (W.contents output.new) fault.refusal (file_of fault)) }
 {
-    let disks = match disks(rt, alloc, &options.files, Purpose::Create) {
+    let mut disks = match disks(rt, alloc, &options.files, Purpose::Create) {
         Ok(disks) => disks,
         Err(fault) => return Err(fault),
     };
-    let slots = slots(rt, alloc, disks, screen)?;
+    let waits = waits_for(alloc, &screen)?;
+    let slots = slots(rt, alloc, &mut disks, screen, waits.as_ref())?;
+    let gates = gates(rt, alloc, options.terminals as u16, waits.as_ref())?;
     let plan = Plan {
         terminals: options.terminals as u16,
         inputs: options.count,
         seed: options.seed,
     };
-    match drive(rt, alloc, population, slots, &plan, output) {
-        Ok(driven) => ended(alloc, &options.files, driven),
-        Err(refusal) => Err(Fault::of(refusal)),
+    let files = &options.files;
+    match drive(rt, alloc, population, slots, gates, &plan, output) {
+        Ok(driven) => match driven.stopped {
+            None => Ok(driven.report),
+            Some(_) => Err(broken_off(alloc, files, Purpose::Create, Refusal::Device, &disks)),
+        },
+        Err(refusal) => Err(broken_off(alloc, files, Purpose::Create, refusal, &disks)),
     }
 }
 
-/// What loggers are given: each a disk, and turns an interval apart. The first one has the screen.
-fn slots<'a, C: Clock, S: Write + Drop>(
+/// What the terminals tell of what their commits wait, if there is a screen that shows it.
+fn waits_for<S>(alloc: Global, screen: &Option<S>) -> Result<Option<Waits>, AllocError> {
+    match screen {
+        Some(_) => Ok(Some(Waits::new(alloc)?)),
+        None => Ok(None),
+    }
+}
+
+/// What terminals are given: each a gate that takes the time of its commits, if that is to be told.
+fn gates<'a, C: Clock>(
     clock: &'a C,
     alloc: Global,
-    disks: Vec<FileDisk>,
-    screen: Option<S>,
-) -> Result<Vec<Slot<FileDisk, Beat<'a, C, S>>>, AllocError>
-    ensures { IfOk result (λ slots. length slots.items ≡ length disks.items) }
+    terminals: u16,
+    waits: Option<&'a Waits>,
+) -> Result<Vec<Stopwatch<'a, C>>, AllocError>
+    ensures { IfOk result (λ gates. length gates.items ≡ terminals) }
 {
-    let mut screen = match (screen, clock.monotonic()) {
-        (Some(screen), Ok(now)) => Some(Screen::new(alloc, screen, now)),
+    let mut gates = Vec::new(alloc);
+    for _ in 0..terminals {
+        gates.push(Stopwatch::new(alloc, clock, waits))?;
+    }
+    Ok(gates)
+}
+
+/// What loggers are given: each a disk, which it borrows, and turns an interval apart. The first one has the screen.
+fn slots<'a, 'd, C: Clock, S: Write + Drop>(
+    clock: &'a C,
+    alloc: Global,
+    disks: &'d mut [FileDisk],
+    screen: Option<S>,
+    waits: Option<&'a Waits>,
+) -> Result<Vec<Slot<&'d mut FileDisk, Beat<'a, C, S>>>, AllocError>
+    ensures { IfOk result (λ slots. length slots.items ≡ length disks.old) }
+{
+    let mut screen = match (screen, clock.monotonic(), waits) {
+        (Some(screen), Ok(now), Some(waits)) => Some(Screen::new(alloc, screen, now, waits)),
         _ => None,
     };
-    let mut disks = disks;
-    disks.reverse();
     let mut slots = Vec::new(alloc);
-    while let Some(disk) = disks.pop() {
+    for disk in disks.iter_mut() {
         slots.push(Slot {
             disk,
             pace: Beat::new(clock, Duration::from_millis(INTERVAL), screen.take()),
         })?;
     }
     Ok(slots)
-}
-
-/// The end of a run that was told: its report, or that a logger's file couldn't be written.
-fn ended(alloc: Global, files: &LogFiles, driven: Driven) -> Result<Report, Fault>
-    ensures report { IfOk result (λ report. report ≡ driven.report) }
-    ensures stopped { IfErr result (λ fault. (fault.refusal ≡ Device) × ((file_of fault ≡ None)
-        ⊎ ((logger : ℕ) × (file_of fault ≡ Some (path_of files.now logger, Append))))) }
-{
-    match driven.stopped {
-        None => Ok(driven.report),
-        Some(logger) => Err(Fault {
-            refusal: Refusal::Device,
-            file: unwritten(alloc, files, u32::from(logger)),
-        }),
-    }
-}
-
-/// The file of this logger, as one that couldn't be written. None for want of memory.
-fn unwritten(alloc: Global, files: &LogFiles, logger: u32) -> Option<BadFile>
-    ensures { IfSome result (λ file. (string_bytes file.path ≡ path_of files.now logger)
-        × (file.purpose ≡ Append)) }
-{
-    match path(alloc, files, logger) {
-        Ok(path) => Some(BadFile {
-            path,
-            purpose: Purpose::Append,
-        }),
-        Err(_) => None,
-    }
 }

@@ -1,20 +1,23 @@
 //! Log files: opening those that a command line names, and telling what they recover to.
-ghost use Rattle.std.specs.Prelude.{◌≡◌, ◌<◌, ℕ, List, length, map, IfOk, IfErr, string_bytes};
+ghost use Rattle.std.specs.Prelude.{◌≡◌, ◌<◌, ℕ, List, true, length, map, IfOk, IfErr, IfSome, string_bytes};
 ghost use Rattle.money.specs.declared.refusal.Refusal.TheVariants.{Device};
 ghost use Rattle.population.specs.Initial.{initial, seed_of};
 ghost use Rattle.recovery.specs.Told.{IsRefused, Shows, Reports};
-ghost use Rattle.program.specs.Logs.{AreUnready, IsShownWith, IsCheckedWith, IsRefusedWith, file_of, path_of};
+ghost use Rattle.program.specs.Logs.{AreUnready, HasBroken, IsShownWith, IsCheckedWith, IsRefusedWith};
+ghost use Rattle.program.specs.Logs.{file_of, folder_of, may_stop, path_of};
+ghost use Rattle.program.specs.declared.fault.Purpose.{Purpose as PurposeValue};
+ghost use Rattle.program.specs.declared.fault.Purpose.TheVariants.{Create};
 
-use crate::fault::{BadFile, Fault, Purpose};
+use crate::fault::{BadFile, Fault, Purpose, Trouble};
 use command_line::LogFiles;
 use conditions::{Report, check};
-use disk::{Disk, FileDisk};
+use disk::{Disk, FileDisk, sync_folder};
 use money::Refusal;
 use population::Population;
 use recovery::{checked, recovered};
 use std::alloc::{AllocError, Global};
-use std::fs::File;
-use std::io::Write;
+use std::fs::{File, TryLockError};
+use std::io::{Error, ErrorKind, Write};
 use std::rt::Files;
 
 /// Recovers log files and shows what they recover to. Answers the report of the recovered tables.
@@ -36,7 +39,7 @@ pub(crate) fn show<T: Files<File = File>, W: Write>(
     };
     match show_recovered(alloc, population, &mut disks, output) {
         Ok(report) => Ok(report),
-        Err(refusal) => Err(Fault::of(refusal)),
+        Err(refusal) => Err(broken_off(alloc, files, Purpose::Read, refusal, &disks)),
     }
 }
 
@@ -59,7 +62,7 @@ pub(crate) fn report<T: Files<File = File>, W: Write>(
     };
     match checked(alloc, population, &mut disks, output) {
         Ok(report) => Ok(report),
-        Err(refusal) => Err(Fault::of(refusal)),
+        Err(refusal) => Err(broken_off(alloc, files, Purpose::Read, refusal, &disks)),
     }
 }
 
@@ -81,7 +84,7 @@ fn show_recovered<D: Disk, W: Write>(
 }
 
 /// The disks in log files that are opened, or created, in the order of their loggers. The first file that can't be
-/// refuses.
+/// refuses. Once they are created, their names are durable.
 pub(crate) fn disks<T: Files<File = File>>(
     rt: &T,
     alloc: Global,
@@ -98,6 +101,11 @@ pub(crate) fn disks<T: Files<File = File>>(
             Err(fault) => return Err(fault),
         };
         disks.push(disk)?;
+    }
+    if let Purpose::Create = purpose {
+        if let Err(fault) = sync_names(rt, alloc, files) {
+            return Err(fault);
+        }
     }
     Ok(disks)
 }
@@ -116,25 +124,125 @@ fn disk<T: Files<File = File>>(
     let path = path(alloc, files, logger)?;
     match disk_at(rt, path.as_str(), purpose) {
         Ok(disk) => Ok(disk),
-        Err(refusal) => Err(Fault {
-            refusal,
-            file: Some(BadFile { path, purpose }),
+        Err(trouble) => Err(Fault {
+            refusal: Refusal::Device,
+            file: Some(BadFile { path, trouble }),
         }),
     }
 }
 
-/// The disk in the file of this path, which is opened or created.
-fn disk_at<T: Files<File = File>>(rt: &T, path: &str, purpose: Purpose) -> Result<FileDisk, Refusal>
-    ensures device { IfErr result (λ refusal. refusal ≡ Device) }
+/// The disk in the file of this path. One that is created belongs to this process alone, until it ends; one that is
+/// read may be shared by processes that read it.
+fn disk_at<T: Files<File = File>>(rt: &T, path: &str, purpose: Purpose) -> Result<FileDisk, Trouble>
+    ensures { IfErr result (λ trouble. may_stop purpose trouble ≡ true) }
 {
     match purpose {
-        Purpose::Create => FileDisk::create(rt, path),
-        Purpose::Read | Purpose::Append => FileDisk::open(rt, path),
+        Purpose::Create => {
+            let disk = FileDisk::in_new_file(rt, path).map_err(not_created)?;
+            disk.try_lock().map_err(not_locked)?;
+            Ok(disk)
+        }
+        Purpose::Read => {
+            let disk = FileDisk::in_file(rt, path).map_err(Trouble::NotOpened)?;
+            disk.try_lock_shared().map_err(not_locked)?;
+            Ok(disk)
+        }
     }
 }
 
+/// What it is called that a file couldn't be made.
+fn not_created(error: Error) -> Trouble
+    ensures { may_stop Create result ≡ true }
+{
+    match error.kind() {
+        ErrorKind::AlreadyExists => Trouble::Exists(error),
+        _ => Trouble::NotCreated(error),
+    }
+}
+
+/// What it is called that a file couldn't be locked.
+fn not_locked(error: TryLockError) -> Trouble
+    ensures { (purpose : PurposeValue) → may_stop purpose result ≡ true }
+{
+    match error {
+        TryLockError::WouldBlock => Trouble::InUse,
+        TryLockError::Error(error) => Trouble::NotLocked(error),
+    }
+}
+
+/// The fault of a refusal that came once the disks in log files were in use. Where a device failed, it tells the first
+/// file on whose disk a call has, unless memory is short.
+pub(crate) fn broken_off(
+    alloc: Global,
+    files: &LogFiles,
+    purpose: Purpose,
+    refusal: Refusal,
+    disks: &[FileDisk],
+) -> Fault
+    ensures refusal { result.refusal ≡ refusal }
+    ensures file { IfSome (file_of result) (HasBroken purpose files.now refusal) }
+{
+    match refusal {
+        Refusal::Device => Fault {
+            refusal,
+            file: broken_file(alloc, files, purpose, disks),
+        },
+        _ => Fault::of(refusal),
+    }
+}
+
+/// The first file on whose disk a call has failed. None where none has, or for want of memory.
+fn broken_file(
+    alloc: Global,
+    files: &LogFiles,
+    purpose: Purpose,
+    disks: &[FileDisk],
+) -> Option<BadFile>
+    ensures { IfSome result (λ file. HasBroken purpose files.now Device (string_bytes file.path, file.trouble)) }
+{
+    for (logger, disk) in (0..files.loggers).zip(disks) {
+        if let Some(error) = disk.last_error() {
+            let path = path(alloc, files, logger).ok()?;
+            return Some(BadFile {
+                path,
+                trouble: purpose.broken_off(error),
+            });
+        }
+    }
+    None
+}
+
+/// Makes the names of the log files in their folder durable.
+pub(crate) fn sync_names<T: Files<File = File>>(
+    rt: &T,
+    alloc: Global,
+    files: &LogFiles,
+) -> Result<(), Fault>
+    ensures { IfErr result (λ fault. AreUnready Create files.now fault.refusal (file_of fault)) }
+{
+    let path = folder(alloc, files)?;
+    match sync_folder(rt, path.as_str()) {
+        Ok(()) => Ok(()),
+        Err(error) => Err(Fault {
+            refusal: Refusal::Device,
+            file: Some(BadFile {
+                path,
+                trouble: Trouble::NotSynced(error),
+            }),
+        }),
+    }
+}
+
+/// The path of the folder, as it stands in front of its files' names.
+fn folder(alloc: Global, files: &LogFiles) -> Result<String, AllocError>
+    ensures { IfOk result (λ path. string_bytes path ≡ folder_of files.now) }
+{
+    let folder = files.folder.as_str();
+    format!(in alloc; "{folder}/")
+}
+
 /// The path of the file of this logger.
-pub(crate) fn path(alloc: Global, files: &LogFiles, logger: u32) -> Result<String, AllocError>
+fn path(alloc: Global, files: &LogFiles, logger: u32) -> Result<String, AllocError>
     ensures { IfOk result (λ path. string_bytes path ≡ path_of files.now logger) }
 {
     let folder = files.folder.as_str();

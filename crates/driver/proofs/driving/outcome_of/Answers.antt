@@ -15,8 +15,8 @@ pub returns-clause-counted : goal.returns-clause-counted
 returns-clause-counted g c =
     IfOk-three _ _ _ _
     (λ o made commits counted.
-      counts_are g.K.Run.first g.K.Ledger.parts c.args.plan.now.terminals g.K.Run.past c.args.plan.now.inputs o.closed o.tallies.items
-      (counts o.commits o.rollbacks o.gave_up o.refused o.durable o.acknowledged)
-      (sym c.requires.ledger.1 ∙ (c.requires.fresh.parts ∙ c.requires.terminals.0))
-      (sym c.requires.run.past_is ∙ c.requires.begins.1) made commits counted)
+    counts_are g.K.Run.first g.K.Ledger.parts c.args.plan.now.terminals g.K.Run.past c.args.plan.now.inputs o.closed o.tallies.items
+    (counts o.commits o.rollbacks o.gave_up o.refused o.durable o.acknowledged)
+    (sym c.requires.ledger.1 ∙ (c.requires.fresh.parts ∙ c.requires.terminals.0))
+    (sym c.requires.run.past_is ∙ c.requires.begins.1) made commits counted)
     c.run.result c.run.ensures.history c.run.ensures.commits c.run.ensures.counted

@@ -1,9 +1,10 @@
-use Rattle.std.proofs.Common.{refl, subst, sym}
+use Rattle.std.proofs.Common.{◌≡◌, Option, List, ℕ, IfSome, sym, subst}
 use Rattle.std.proofs.KnownBytes.{Appends-nil}
+use Rattle.money.specs.declared.refusal.Refusal.{Refusal}
 use Rattle.population.specs.Initial.{initial, seed_of}
 use Rattle.recovery.specs.Told.{Reports}
-use Rattle.program.specs.declared.fault.Fault.{Fault}
-use Rattle.program.specs.Logs.{IsRefusedWith, file_of, unread, untold}
+use Rattle.program.specs.declared.fault.Purpose.TheVariants.{Read}
+use Rattle.program.specs.Logs.{HasBroken, IsRefusedWith, file_of, unread, untold}
 use Rattle.program.proofs.logs.report.Goals as goal
 
 pub returns-in-Err-clause-refused : goal.returns-in-Err-clause-refused
@@ -12,6 +13,7 @@ returns-in-Err-clause-refused g c = unread c.in-Err.ensures.unready (Appends-nil
 pub returns-clause-refused : goal.returns-clause-refused
 returns-clause-refused g c =
     let refused = c.in-Err-checked.ensures.refused in
-    subst (λ (fault : Fault). IsRefusedWith c.args.files.now Reports (initial c.args.population.now) (seed_of c.args.population.now)
-    (g.W.Write.contents c.args.output.now) (g.W.Write.contents c.checked.new.writer) fault.refusal (file_of fault)) (sym c.of.ensures)
-    (untold refused.0 _ _ refused.2 refl)
+    let fault = c.broken_off.result in
+    subst (λ (refusal : Refusal). IsRefusedWith c.args.files.now Reports (initial c.args.population.now) (seed_of c.args.population.now)
+    (g.W.Write.contents c.args.output.now) (g.W.Write.contents c.checked.new.writer) refusal (file_of fault)) (sym c.broken_off.ensures.refusal)
+    (untold refused.0 _ _ refused.2 c.broken_off.ensures.file)

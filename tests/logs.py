@@ -1,0 +1,89 @@
+"""Log files, made by hand or by runs of terminals."""
+
+import re
+import struct
+import tempfile
+from collections import namedtuple
+from contextlib import nullcontext
+from pathlib import Path
+
+import kills
+from checks import REPORT, SMALL, brief, run
+
+# ---- Made by hand
+
+
+def entry(number, epoch, terminal):
+    """The entry of a commit: customer `number` of district 1 pays 1.00 there, after the customers before."""
+    paid = 100 * number
+    writes = [
+        struct.pack("<BIBq", 1, 0, 1, 20_000 + paid),
+        struct.pack("<BIBqQ", 2, 0, 1, 10_000 + paid, 11),
+        struct.pack("<BIBqqQQ", 3, number - 1, 1, -1_100, 1_100, 2, 0),
+        struct.pack("<BIB7Q", 4, 0, 1, number, 1, 1, 1, 1, number, 100),
+    ]
+    return struct.pack("<QQHH", number, epoch << 32, terminal, len(writes)) + b"".join(writes)
+
+
+def body(mark, *entries):
+    """A body, but for the gate that follows it, which its length counts."""
+    text = struct.pack("<Q", mark) + b"".join(entries)
+    return struct.pack("<Q", len(text) + 1) + text
+
+
+def log(logger, loggers, *bodies):
+    """A log file at the scale of SMALL, over the plain population: its header, then each body behind an open gate."""
+    header = struct.pack("<8sIHH6IQ", b"SILOTPCC", 1, logger, loggers, 1, 2, 10, 20, 30, 1000, 0)
+    return header + b"".join(b"\1" + text for text in bodies) + b"\0"
+
+
+LATER = log(1, 2, body(7, entry(2, 5, 1), entry(3, 6, 1), entry(4, 7, 1), entry(5, 8, 1)))
+
+LOGS = [log(0, 2, body(5, entry(1, 4, 0))), LATER]
+
+
+def on_logs(subcommand, files, loggers=None, scale=SMALL[1:], within=nullcontext, **how):
+    """Runs a subcommand on a folder of these log files, within what `within` makes of the folder. The folder is called
+    DIR in what the errors got."""
+    with tempfile.TemporaryDirectory() as folder:
+        for logger, text in enumerate(files):
+            (Path(folder) / f"log-{logger}").write_bytes(text)
+        with within(Path(folder)):
+            ran = run([subcommand, *scale, "--logs", folder, "--loggers", str(loggers or len(files))], **how)
+        return ran._replace(err=ran.err.replace(folder.encode(), b"DIR"))
+
+
+# ---- Made by runs
+
+Counts = namedtuple("Counts", "commits rollbacks gaveup refused durable acknowledged")
+
+COUNTED = re.compile(b"".join(b"%s (0|[1-9][0-9]*)\n" % name.encode() for name in Counts._fields) + REPORT)
+
+SCALE = "--warehouses 1 --districts 2 --customers 10 --items 20 --orders 2000 --commits 2000".split()
+
+TWO = "--terminals 2 --loggers 2".split()
+
+# Such a run of a million inputs a terminal takes half a minute.
+LONG = "--warehouses 2 --districts 10 --customers 100 --items 1000 --orders 3000 --commits 600000".split()
+
+
+def run_in(folder, *words, **how):
+    """Runs terminals whose log files stand in this folder. It is called DIR in what the errors got."""
+    ran = run(["run", "--logs", folder, *words], **how)
+    return ran._replace(err=ran.err.replace(folder.encode(), b"DIR"))
+
+
+def counts_of(output):
+    """The counts that a run wrote, in front of a report in which every condition holds."""
+    match = COUNTED.fullmatch(output)
+    if not match:
+        raise kills.Failed(f"a run wrote {brief(output)}")
+    return Counts(*map(int, match.groups()))
+
+
+def inputs_of(counts):
+    return counts.commits + counts.rollbacks + counts.gaveup + counts.refused
+
+
+def contents_of(folder):
+    return {path.name: path.read_bytes() for path in Path(folder).iterdir()}

@@ -1,0 +1,113 @@
+"""A wrapper of the system's calls, which a program is started with: it notes each sync, and fails those that it is to.
+
+The wrapper is C, made when it is first asked for, by the kit's compiler or by `cc`. Its environment says what it does:
+SYNCS names a file that gets a line for each `fsync` and `fdatasync`, with the path that was synced. A sync of the path
+that UNSYNCED names fails, and so does a read of the path that UNREAD names, by EIO.
+"""
+
+import os
+import shutil
+import subprocess
+import tempfile
+from collections import Counter
+from pathlib import Path
+
+SOURCE = r"""
+typedef unsigned long size_t;
+typedef long ssize_t;
+extern char *getenv(const char *);
+extern int close(int), open(const char *, int, ...), strcmp(const char *, const char *);
+extern int snprintf(char *, size_t, const char *, ...);
+extern int *__errno_location(void);
+extern long syscall(long, ...);
+extern ssize_t readlink(const char *, char *, size_t), write(int, const void *, size_t);
+
+enum { EIO = 5, PREAD = 17, FSYNC = 74, FDATASYNC = 75, APPEND = 02001, LONGEST = 4096 };
+
+/* The path of an open file, with a zero behind it. Gives its length. */
+static size_t path_of(int file, char *path) {
+    char link[64];
+    snprintf(link, sizeof link, "/proc/self/fd/%d", file);
+    ssize_t length = readlink(link, path, LONGEST);
+    if (length < 0) length = 0;
+    path[length] = 0;
+    return length;
+}
+
+/* Whether an open file is the one whose path the environment has by this name. */
+static int is_named(const char *name, int file) {
+    char path[LONGEST + 1];
+    const char *named = getenv(name);
+    path_of(file, path);
+    return named && !strcmp(path, named);
+}
+
+static int failed(void) {
+    *__errno_location() = EIO;
+    return -1;
+}
+
+static int synced(long call, int file) {
+    char line[LONGEST + 1];
+    const char *notes = getenv("SYNCS");
+    size_t length = path_of(file, line);
+    line[length] = '\n';
+    int out = notes ? open(notes, APPEND) : -1;
+    if (out >= 0) {
+        write(out, line, length + 1);
+        close(out);
+    }
+    return is_named("UNSYNCED", file) ? failed() : (int)syscall(call, file);
+}
+
+int fsync(int file) { return synced(FSYNC, file); }
+
+int fdatasync(int file) { return synced(FDATASYNC, file); }
+
+ssize_t pread(int file, void *into, size_t size, long at) {
+    return is_named("UNREAD", file) ? failed() : syscall(PREAD, file, into, size, at);
+}
+
+ssize_t pread64(int file, void *into, size_t size, long at) { return pread(file, into, size, at); }
+"""
+
+FLAGS = "-O2 -fPIC -ffreestanding -fno-stack-protector".split()
+
+
+def kit():
+    """The folder of the kit's own tools, if there is a kit."""
+    if not shutil.which("rt"):
+        return None
+    return Path(subprocess.check_output(["rt", "doc"], text=True).strip()).parent / "toolchain" / "bin"
+
+
+class Wrapper:
+    """The wrapper, in a folder of its own, which goes when this is closed."""
+
+    def __init__(self):
+        self.room = tempfile.TemporaryDirectory()
+        self.folder = Path(self.room.name)
+        (self.folder / "wrapper.c").write_text(SOURCE)
+        self.library = self.folder / "wrapper.so"
+        tools = kit()
+        if tools and (tools / "clang").exists():
+            target = ["--target=x86_64-unknown-linux-gnu", "-nostdinc"]
+            self.make([tools / "clang", *target, *FLAGS, "-c", "wrapper.c", "-o", "wrapper.o"])
+            self.make([tools / "ld.lld", "-m", "elf_x86_64", "-shared", "wrapper.o", "-o", self.library])
+        else:
+            self.make(["cc", *FLAGS, "-shared", "wrapper.c", "-o", self.library])
+
+    def make(self, words):
+        subprocess.run(list(map(str, words)), cwd=self.folder, check=True)
+
+    def environment(self, **names):
+        """That of a program which is started with the wrapper."""
+        return {**os.environ, "LD_PRELOAD": str(self.library), **names}
+
+    def close(self):
+        self.room.cleanup()
+
+
+def syncs_in(notes):
+    """How often each path was synced, by the file that SYNCS named."""
+    return Counter(Path(notes).read_text().splitlines())
