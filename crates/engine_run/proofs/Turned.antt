@@ -20,6 +20,6 @@ pub runs_turned : {D : Type 0} (old new : AppenderView D) → Turns old new → 
 runs_turned {D} old new (between, retried, inl (idle, (batch, comes))) runs = runs_after batch between new comes runs
 runs_turned {D} old new (between, retried, inr (busy, same)) runs =
     elim (runs_retried old between old.waiting refl retried (sym (ap (λ (a : AppenderView D). a.has_stopped) same) ∙ runs)) as (λ _. new.logger.file.failed ≡ false) [
-      inl idle ↦ absurd (busy idle)
-    | inr failed ↦ ap (λ (a : AppenderView D). a.logger.file.failed) same ∙ failed
+      | inl idle ↦ absurd (busy idle)
+      | inr failed ↦ ap (λ (a : AppenderView D). a.logger.file.failed) same ∙ failed
     ]

@@ -151,13 +151,7 @@ fn run_crew<
     D: Disk + Send + Drop,
     P: Pace + Send + Drop,
     R: Threads + Wait + Sync,
->(
-    rt: &R,
-    alloc: Global,
-    engine: Engine<K>,
-    crew: Crew<K, G, D, P>,
-    inputs: u32,
-) -> Outcome<K, D>
+>(rt: &R, alloc: Global, engine: Engine<K>, crew: Crew<K, G, D, P>, inputs: u32) -> Outcome<K, D>
     requires count { length crew.workers.items ≡ K.parts }
     requires few { K.parts < 2 ^ 16 }
     requires idle { All (λ worker. total worker.tally ≡ 0) crew.workers.items }
