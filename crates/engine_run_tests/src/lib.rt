@@ -13,6 +13,10 @@ mod held_tests;
 #[cfg(test)]
 mod meeting;
 #[cfg(test)]
+mod noting;
+#[cfg(test)]
+mod noting_tests;
+#[cfg(test)]
 mod run_tests;
 #[cfg(test)]
 mod stage;

@@ -7,7 +7,7 @@ use crate::meeting::Meeting;
 use crate::stage::{logs, parts, stations};
 use book::{Engine, Parts, Run, Seats};
 use disk::{Disk, Memory};
-use engine_run::{Desks, Outcome, run};
+use engine_run::{AtOnce, Desks, Outcome, run};
 use money::Refusal;
 use std::alloc::Global;
 use std::marker::Brand;
@@ -66,7 +66,8 @@ fn run_of<K: Run + Send + Sync, D: Disk + Send + Drop, R: Threads + Wait + Sync>
         loggers,
         terminals,
     } = seats;
-    let logs = logs(alloc, engine.population(), engine.board(), loggers, disks)?;
+    let slots = ((disks.0, AtOnce), (disks.1, AtOnce));
+    let logs = logs(alloc, engine.population(), engine.board(), loggers, slots)?;
     let stations = stations(alloc, engine.population().scale(), meeting)?;
     let desks = Desks { clock, terminals };
     let outcome = run(rt, alloc, engine, desks, logs, stations, 500)?;

@@ -11,7 +11,7 @@ use board::{Board, LoggerSeat};
 use book::Parts;
 use deck::{Deck, Settings};
 use disk::Disk;
-use engine_run::{AtOnce, Log, Station};
+use engine_run::{AtOnce, Log, Pace, Station};
 use log_header::Header;
 use logfile::LogFile;
 use logger::Logger;
@@ -89,17 +89,17 @@ pub(crate) fn follower<'a>(
     Ok(stations)
 }
 
-/// The two loggers, with new files on these disks.
-pub(crate) fn logs<D: Disk + Drop>(
+/// The two loggers, with new files on these disks, each with how it waits between its turns.
+pub(crate) fn logs<D: Disk + Drop, P: Pace + Drop>(
     alloc: Global,
     population: &Population,
     board: &Board,
     seats: Vec<LoggerSeat>,
-    disks: (D, D),
-) -> Result<Vec<Log<D, AtOnce>>, Refusal>
+    slots: ((D, P), (D, P)),
+) -> Result<Vec<Log<D, P>>, Refusal>
     requires seats { seats.items ≡ logger_seats board.now 2 }
     requires plan { (board.now.plan.loggers ≡ 2) × (board.now.plan.base ≡ 0) }
-    requires empty { D.is_modelled → (D.seen disks.0 ≡ []) × (D.seen disks.1 ≡ []) }
+    requires empty { D.is_modelled → (D.seen slots.0.0 ≡ []) × (D.seen slots.1.0 ≡ []) }
     ensures { IfOk result (λ logs. All (λ log. log.logger.seat.board ≡ board.now) logs.items) }
 {
     let mut seats = seats;
@@ -107,8 +107,8 @@ pub(crate) fn logs<D: Disk + Drop>(
         return Err(Refusal::BadInput);
     };
     let mut logs = Vec::new(alloc);
-    logs.push(log_on(alloc, population, disks.0, first, (0, 2))?)?;
-    logs.push(log_on(alloc, population, disks.1, second, (1, 2))?)?;
+    logs.push(log_on(alloc, population, slots.0, first, (0, 2))?)?;
+    logs.push(log_on(alloc, population, slots.1, second, (1, 2))?)?;
     Ok(logs)
 }
 
@@ -130,29 +130,29 @@ pub(crate) fn one_log<D: Disk + Drop>(
         return Err(Refusal::BadInput);
     };
     let mut logs = Vec::new(alloc);
-    logs.push(log_on(alloc, population, disk, seat, (0, 1))?)?;
+    logs.push(log_on(alloc, population, (disk, AtOnce), seat, (0, 1))?)?;
     Ok(logs)
 }
 
 /// A logger with a new file on a disk.
-fn log_on<D: Disk + Drop>(
+fn log_on<D: Disk + Drop, P: Pace + Drop>(
     alloc: Global,
     population: &Population,
-    disk: D,
+    slot: (D, P),
     seat: LoggerSeat,
     logger: (u16, u16),
-) -> Result<Log<D, AtOnce>, Refusal>
+) -> Result<Log<D, P>, Refusal>
     requires seat { seat ≡ new_seat seat.board (logger_role logger.0) }
     requires plan { (seat.board.plan.loggers ≡ logger.1) × (seat.board.plan.base ≡ 0) }
     requires logger { (logger.0 < logger.1) × (logger.1 ≤ 8) }
-    requires empty { D.is_modelled → D.seen disk ≡ [] }
+    requires empty { D.is_modelled → D.seen slot.0 ≡ [] }
     ensures { IfOk result (λ log. log.logger.seat.board ≡ seat.board) }
 {
-    let (number, loggers) = logger;
+    let ((disk, pace), (number, loggers)) = (slot, logger);
     let header = Header::new(population.scale(), population.seed(), number, loggers);
     let file = LogFile::create(alloc, disk, header)?;
     Ok(Log {
         logger: Logger::new(file, seat),
-        pace: AtOnce,
+        pace,
     })
 }

@@ -1,7 +1,7 @@
-use Rattle.std.proofs.Common.{◌≡◌, ◌+◌, List, [], ◌∷◌, ◌++◌, length, map, sum_by, ap, sym, ◌∙◌, length-append, rules, arith}
-use Rattle.std.proofs.lemmas.List.{length-map, map-append}
+use Rattle.std.proofs.Common.{List, [], ◌∷◌, ◌++◌, length, map, sum_by, ap, sym, ◌∙◌, length-append, arith}
+use Rattle.std.proofs.lemmas.List.{length-map, map-append, map-id}
 use Rattle.std.proofs.lemmas.Iterator.Adapters.{YieldsList-from_vec}
-use Rattle.std.proofs.lemmas.Iterator.Consumers.{YieldsList-turn}
+use Rattle.std.proofs.lemmas.Iterator.Consumers.{YieldsList-end, YieldsList-turn}
 use Rattle.std.proofs.lemmas.List.Sums.{sum_by_push}
 use Rattle.book.specs.Share.{parts_of, commits_of}
 use Rattle.engine_run.specs.Tally.{committed}
@@ -41,9 +41,27 @@ loop-worker-preserved g c =
           c.push_reserved.ensures.items ∙ ap (λ (some : List Tally). some ++ tally ∷ []) i.tallies
           ∙ ap (λ (t : Tally). map tally_of c.loop-worker.yielded ++ t ∷ []) c.end-acknowledged.ensures.tally
           ∙ sym (map-append tally_of c.loop-worker.yielded (c.in-Some.worker ∷ []));
-      shares = search rules;
+      shares = omega (arith, ap length c.push_reserved-in-loop-worker.ensures.items, length-append c.loop-worker.shares.items (share ∷ []), i.shares, more);
       parts = omega (arith, parts, c.end-acknowledged.ensures.parts, i.parts, more);
       commits = omega (arith, commits, counts, c.end-acknowledged.ensures.commits, ap (λ (t : Tally). t.commits) c.end-acknowledged.ensures.tally, i.commits);
-      room_for_tallies = search rules;
-      room_for_shares = search rules;
+      room_for_tallies = c.push_reserved.ensures.capacity ∙ i.room_for_tallies;
+      room_for_shares = c.push_reserved-in-loop-worker.ensures.capacity ∙ i.room_for_shares;
     }
+
+pub returns-clause-tallies : goal.returns-clause-tallies
+returns-clause-tallies g c =
+    let b = c.into_iter-worker-iterator.ensures.into_iter_gives in
+    let end = YieldsList-end (YieldsList-from_vec {s = c.into_iter-worker-iterator.result} c.args.workers.items b.0 (b.1 ∙ c.args.workers.ok.0))
+    c.loop-worker.yielded c.loop-worker.worker-iterator c.loop-worker.yielded_by c.next.result c.next.new.self c.in-None.is c.next.ensures.steps in
+    let tally_of : Worker g.row.K.Denot g.row.G.Denot g.K.Run g.G.Gate → Tally = λ worker. worker.tally in
+    c.loop-worker.invariant.tallies ∙ ap (map tally_of) (sym (map-id c.loop-worker.yielded) ∙ end.0)
+
+pub returns-clause-parts : goal.returns-clause-parts
+returns-clause-parts g c =
+    let b = c.into_iter-worker-iterator.ensures.into_iter_gives in
+    let end = YieldsList-end (YieldsList-from_vec {s = c.into_iter-worker-iterator.result} c.args.workers.items b.0 (b.1 ∙ c.args.workers.ok.0))
+    c.loop-worker.yielded c.loop-worker.worker-iterator c.loop-worker.yielded_by c.next.result c.next.new.self c.in-None.is c.next.ensures.steps in
+    c.loop-worker.invariant.parts ∙ end.1
+
+pub returns-clause-commits : goal.returns-clause-commits
+returns-clause-commits g c = c.loop-worker.invariant.commits

@@ -1,6 +1,5 @@
 use Rattle.std.proofs.Common.{◌≡◌, rules}
 use Rattle.engine_run.specs.declared.threads.Log.{Log}
-use Rattle.engine_run.specs.declared.pace.AtOnce.{AtOnce}
 use Rattle.engine_run_tests.proofs.Pushed.{both_meet}
 use Rattle.engine_run_tests.proofs.stage.logs.Goals as goal
 
@@ -8,7 +7,7 @@ pub returns : goal.returns
 returns g c =
     let first : c.in_ok-log_on.field-0.logger.seat.board ≡ c.args.board.now = search rules in
     let second : c.in_ok-log_on-2.field-0.logger.seat.board ≡ c.args.board.now = search rules in
-    both_meet (λ (log : Log g.row.D.Denot AtOnce). log.logger.seat.board ≡ c.args.board.now)
+    both_meet (λ (log : Log g.row.D.Denot g.row.P.Denot). log.logger.seat.board ≡ c.args.board.now)
     c.new-logs.result.items c.push.new.self.items c.push-2.new.self.items
     c.in_ok-log_on.field-0 c.in_ok-log_on-2.field-0
     c.new-logs.ensures.items c.in_ok-push.ensures.items c.in_ok-push-2.ensures.items first second
