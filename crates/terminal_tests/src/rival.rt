@@ -45,12 +45,7 @@ impl<K: Run> Payer<K> {
     }
 
     /// Commits a Payment of customer 3 of the first district, there.
-    fn pay<R: Wait>(
-        &mut self,
-        rt: &R,
-        alloc: Global,
-        engine: &Engine<K>,
-    ) -> Result<Done, Refusal> {
+    fn pay<R: Wait>(&mut self, rt: &R, alloc: Global, engine: &Engine<K>) -> Result<Done, Refusal> {
         let paid = PaymentInput {
             date: 1,
             warehouse: 1,
