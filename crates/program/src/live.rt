@@ -48,8 +48,8 @@ pub(crate) fn live<
         Err(fault) => return Err(fault),
     };
     let waits = waits_for(alloc, &screen)?;
-    let slots = slots(rt, alloc, &mut disks, screen, waits.as_ref())?;
     let gates = gates(rt, alloc, options.terminals as u16, waits.as_ref())?;
+    let slots = slots(rt, alloc, &mut disks, screen, waits.as_ref())?;
     let plan = Plan {
         terminals: options.terminals as u16,
         inputs: options.count,
