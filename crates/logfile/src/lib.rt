@@ -7,4 +7,4 @@ mod scanning;
 mod storing;
 
 pub use log_file::LogFile;
-pub use scanning::scan;
+pub use scanning::{contents, scan};

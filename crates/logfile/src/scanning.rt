@@ -33,7 +33,11 @@ pub fn scan<D: Disk>(alloc: Global, disk: &mut D) -> Result<(Header, Vec<Body>),
     read_file(alloc, &bytes)
 }
 
-fn contents<D: Disk>(alloc: Global, disk: &mut D) -> Result<Vec<u8>, Refusal>
+/// All bytes of a disk, by two calls: its length, and one read. It takes memory for them only once the disk's length shows
+/// that they are there.
+///
+/// Refuses by `Device` only where one of these calls fails, and else for memory.
+pub fn contents<D: Disk>(alloc: Global, disk: &mut D) -> Result<Vec<u8>, Refusal>
     ensures bytes { D.is_modelled → IfOk result (λ bytes. bytes.items ≡ D.seen disk.old) }
     ensures failed { IsErrOf result Device → D.failed disk.new ≡ min (D.failed disk.old + 1) (2 ^ 64 - 1) }
     ensures not_failed { (IsErrOf result Device → ⊥) → D.failed disk.new ≡ D.failed disk.old }

@@ -1,12 +1,20 @@
 -- What was wrong, in a line behind a refusal's.
 use Rattle.std.specs.Prelude.{◌≡◌, ◌++◌, ◌&&◌, ℕ, Bool, List, [], Option, Some, None, codes, nat_le, if◌then◌else◌}
+use Rattle.std.specs.Prelude.{option_map, string_bytes}
 use Rattle.std.specs.Fmt.{decimal}
 use Rattle.std.specs.declared.io.Error.{Error}
 use Rattle.money.specs.declared.refusal.Refusal.{Refusal}
-use Rattle.money.specs.declared.refusal.Refusal.TheVariants.{Device, BadScale}
+use Rattle.money.specs.declared.refusal.Refusal.TheVariants.{Device, Damaged, Gap, BadScale}
 use Rattle.tables.specs.declared.limits.TheConstants.{MAX_WAREHOUSES, MAX_DISTRICTS, MIN_CUSTOMERS, MAX_CUSTOMERS}
 use Rattle.tables.specs.declared.limits.TheConstants.{MIN_ITEMS, MAX_ITEMS, MAX_ORDERS, MAX_COMMITS}
 use Rattle.tables.specs.Sizes.{Sizes}
+use Rattle.log_flaws.specs.Texts.{flaw_text}
+use Rattle.log_flaws.specs.declared.flaw.FileFlaw.{FileFlaw}
+use Rattle.recovery.specs.Flaws.{misnumbered_text}
+use Rattle.recovery.specs.declared.gap.Misnumbered.{Misnumbered}
+use Rattle.program.specs.declared.fault.Cause.{Cause}
+use Rattle.program.specs.declared.fault.Cause.TheVariants as cause
+use Rattle.program.specs.declared.fault.Fault.{Fault}
 use Rattle.program.specs.declared.fault.Trouble.{Trouble}
 use Rattle.program.specs.declared.fault.Trouble.TheVariants.{NotCreated, Exists, NotOpened, NotLocked, InUse}
 use Rattle.program.specs.declared.fault.Trouble.TheVariants.{NotRead, NotWritten, NotSynced}
@@ -64,16 +72,40 @@ reason_of (NotRead error) = Some error
 reason_of (NotWritten error) = Some error
 reason_of (NotSynced error) = Some error
 
+-- why a run was refused: the file of this path, or the folder of the files, couldn't be used; the file isn't the log file
+-- that it is to be; or the numbers of commits are amiss
+pub data CauseView : Type 0 where
+  Unusable : List ℕ → Trouble → CauseView
+  Flawed : List ℕ → FileFlaw → CauseView
+  Amiss : Misnumbered → CauseView
+
+abbrev pub cause_view : Cause → CauseView
+cause_view (cause.Unusable path trouble) = Unusable (string_bytes path) trouble
+cause_view (cause.Flawed path flaw) = Flawed (string_bytes path) flaw
+cause_view (cause.Amiss gap) = Amiss gap
+
+-- what is known of why
+abbrev pub cause_of : Fault → Option CauseView
+cause_of fault = option_map cause_view fault.cause
+
+-- the line on it, if it is known
+abbrev pub IsCauseLine : Option CauseView → List ℕ → Type 0
+IsCauseLine (Some (Unusable path trouble)) line = IsTold (path ++ (codes ": " ++ trouble_of trouble)) (reason_of trouble) line
+IsCauseLine (Some (Flawed path flaw)) line = line ≡ path ++ (codes ": " ++ (flaw_text flaw ++ codes "\n"))
+IsCauseLine (Some (Amiss gap)) line = line ≡ misnumbered_text gap ++ codes "\n"
+IsCauseLine None line = line ≡ []
+
 -- the line on the stream on which the last call failed, by the errors of the last calls on the input and on the output,
--- or else on the file that couldn't be used, by its path and what couldn't be done with it
-abbrev pub IsDeviceLine : Option (List ℕ × Trouble) → Option Error → Option Error → List ℕ → Type 0
+-- or else on what is known
+abbrev pub IsDeviceLine : Option CauseView → Option Error → Option Error → List ℕ → Type 0
 IsDeviceLine _ (Some error) _ line = IsTold (codes "standard input") (Some error) line
 IsDeviceLine _ None (Some error) line = IsTold (codes "standard output") (Some error) line
-IsDeviceLine (Some file) None None line = IsTold (file.0 ++ (codes ": " ++ trouble_of file.1)) (reason_of file.1) line
-IsDeviceLine None None None line = line ≡ []
+IsDeviceLine known None None line = IsCauseLine known line
 
 -- what is told behind a refusal's line, over this scale
-abbrev pub IsDetail : Sizes → Option (List ℕ × Trouble) → Option Error → Option Error → Refusal → List ℕ → Type 0
-IsDetail s file input output BadScale line = line ≡ scale_line s
-IsDetail s file input output Device line = IsDeviceLine file input output line
-IsDetail s file input output _ line = line ≡ []
+abbrev pub IsDetail : Sizes → Option CauseView → Option Error → Option Error → Refusal → List ℕ → Type 0
+IsDetail s known input output BadScale line = line ≡ scale_line s
+IsDetail s known input output Device line = IsDeviceLine known input output line
+IsDetail s known input output Damaged line = IsCauseLine known line
+IsDetail s known input output Gap line = IsCauseLine known line
+IsDetail s known input output _ line = line ≡ []

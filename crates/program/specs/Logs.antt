@@ -1,20 +1,23 @@
 -- What comes of the log files of a command line.
 use Rattle.std.specs.Prelude.{◌≡◌, ◌<◌, ◌⊎◌, ◌++◌, ℕ, Bool, true, false, List, [], Option, Some, None, codes}
-use Rattle.std.specs.Prelude.{option_map, string_bytes, IfSome}
+use Rattle.std.specs.Prelude.{string_bytes, IfSome}
 use Rattle.std.specs.Fmt.{decimal}
 use Rattle.std.specs.Io.KnownBytes.{Appends}
 use Rattle.std.specs.declared.io.Error.{Error}
 use Rattle.money.specs.declared.refusal.Refusal.{Refusal}
-use Rattle.money.specs.declared.refusal.Refusal.TheVariants.{OutOfMemory, Device}
+use Rattle.money.specs.declared.refusal.Refusal.TheVariants.{OutOfMemory, Device, Damaged, Gap}
 use Rattle.tables.specs.Database.{Database, database}
 use Rattle.conditions.specs.Report.{IsReportOf}
 use Rattle.conditions.specs.declared.report.Report.{Report}
 use Rattle.recover.specs.declared.recovering.Recovered.{Recovered}
 use Rattle.recovery.specs.Told.{IsShown, IsChecked, IsRefused}
+use Rattle.recovery.specs.Flaws.{IsDamage, IsFirstGap}
+use Rattle.recovery.specs.declared.damage.Damage.{Damage}
+use Rattle.recovery.specs.declared.gap.Misnumbered.{Misnumbered}
 use Rattle.driver.specs.Told.{IsRan, IsBroken}
 use Rattle.command_line.specs.declared.asked.LogFiles.{LogFiles}
 use Rattle.command_line.specs.declared.asked.RunOptions.{RunOptions}
-use Rattle.program.specs.declared.fault.Fault.{Fault}
+use Rattle.program.specs.Detail.{CauseView, Unusable, Flawed, Amiss}
 use Rattle.program.specs.declared.fault.Purpose.{Purpose}
 use Rattle.program.specs.declared.fault.Purpose.TheVariants.{Read, Create}
 use Rattle.program.specs.declared.fault.Trouble.{Trouble}
@@ -29,10 +32,6 @@ path_of files logger = string_bytes files.folder ++ (codes "/log-" ++ decimal lo
 abbrev pub folder_of : LogFiles → List ℕ
 folder_of files = string_bytes files.folder ++ codes "/"
 
--- the path of the file that couldn't be used, and what couldn't be done with it
-abbrev pub file_of : Fault → Option (List ℕ × Trouble)
-file_of fault = option_map (λ f. (string_bytes f.path, f.trouble)) fault.file
-
 -- what may stop a file from being made ready for this: it can't be made, or opened to be read, and locked
 abbrev pub may_stop : Purpose → Trouble → Bool
 may_stop Create (NotCreated error) = true
@@ -44,26 +43,35 @@ may_stop purpose trouble = false
 
 -- the files weren't ready for this: memory ran out; this one couldn't be used so; or they were made, and the names that
 -- their folder has of them couldn't be made durable
-pub data AreUnready (purpose : Purpose) (files : LogFiles) (refusal : Refusal) (file : Option (List ℕ × Trouble))
+pub data AreUnready (purpose : Purpose) (files : LogFiles) (refusal : Refusal) (known : Option CauseView)
     : Type 0 where
-  memory : refusal ≡ OutOfMemory → file ≡ None → AreUnready purpose files refusal file
+  memory : refusal ≡ OutOfMemory → known ≡ None → AreUnready purpose files refusal known
   one : (logger : ℕ) (trouble : Trouble) → logger < files.loggers → may_stop purpose trouble ≡ true → refusal ≡ Device
-      → file ≡ Some (path_of files logger, trouble) → AreUnready purpose files refusal file
-  names : (error : Error) → purpose ≡ Create → refusal ≡ Device → file ≡ Some (folder_of files, NotSynced error)
-      → AreUnready purpose files refusal file
+      → known ≡ Some (Unusable (path_of files logger) trouble) → AreUnready purpose files refusal known
+  names : (error : Error) → purpose ≡ Create → refusal ≡ Device → known ≡ Some (Unusable (folder_of files) (NotSynced error))
+      → AreUnready purpose files refusal known
 
 -- what it is called that a file can't be used for this any longer, once it was ready
 abbrev pub broken_off : Purpose → Error → Trouble
 broken_off Read error = NotRead error
 broken_off Create error = NotWritten error
 
--- a device failed, and this is the log file on it
-pub record HasBroken (purpose : Purpose) (files : LogFiles) (refusal : Refusal) (file : List ℕ × Trouble) : Type 0 where
+-- a device failed, and this log file is on it
+pub record HasBroken (purpose : Purpose) (files : LogFiles) (refusal : Refusal) (cause : CauseView) : Type 0 where
   pub logger : ℕ
   pub error : Error
   pub device : refusal ≡ Device
   pub among : logger < files.loggers
-  pub is : file ≡ (path_of files logger, broken_off purpose error)
+  pub is : cause ≡ Unusable (path_of files logger) (broken_off purpose error)
+
+-- why log files weren't recovered: one couldn't be read; some bytes of one have this flaw; or the numbers of the commits
+-- that some bytes of theirs have are amiss
+pub data IsWhy (files : LogFiles) (t0 : Database) (seed : ℕ) (refusal : Refusal) (cause : CauseView) : Type 0 where
+  broken : HasBroken Read files refusal cause → IsWhy files t0 seed refusal cause
+  damaged : (file : List ℕ) (damage : Damage) → refusal ≡ Damaged → IsDamage t0.scale seed files.loggers file damage
+      → cause ≡ Flawed (path_of files damage.logger) damage.flaw → IsWhy files t0 seed refusal cause
+  gap : (strings : List (List ℕ)) (gap : Misnumbered) → refusal ≡ Gap → IsFirstGap t0.scale seed strings (Some gap)
+      → cause ≡ Amiss gap → IsWhy files t0 seed refusal cause
 
 -- what some bytes of the files recover to was shown, and this is the report of the recovered tables
 pub record IsShownWith (t0 : Database) (seed : ℕ) (old new : Option (List ℕ)) (report : Report) : Type 0 where
@@ -77,20 +85,20 @@ abbrev pub IsCheckedWith : Database → ℕ → Option (List ℕ) → Option (Li
 IsCheckedWith t0 seed old new report = (strings : List (List ℕ)) × IsChecked t0 seed strings old new report
 
 -- it was refused: the files weren't ready; or the recovery of some bytes of theirs was refused, on devices that had some
--- numbers of failures before and after, which tells a file that couldn't be read, where memory is there for that
+-- numbers of failures before and after, which is told why, where memory is there for that
 pub data IsRefusedWith (files : LogFiles) (Tells : Recovered → List ℕ → Type 0) (t0 : Database) (seed : ℕ)
-    (old new : Option (List ℕ)) (refusal : Refusal) (file : Option (List ℕ × Trouble)) : Type 0 where
-  unread : AreUnready Read files refusal file → Appends old new []
-      → IsRefusedWith files Tells t0 seed old new refusal file
+    (old new : Option (List ℕ)) (refusal : Refusal) (known : Option CauseView) : Type 0 where
+  unread : AreUnready Read files refusal known → Appends old new []
+      → IsRefusedWith files Tells t0 seed old new refusal known
   untold : (strings : List (List ℕ)) (before now : List ℕ) → IsRefused t0 seed strings Tells before now old new refusal
-      → IfSome file (HasBroken Read files refusal) → IsRefusedWith files Tells t0 seed old new refusal file
+      → IfSome known (IsWhy files t0 seed refusal) → IsRefusedWith files Tells t0 seed old new refusal known
 
 -- a run was refused: its files couldn't be made; it was broken off for want of memory, or a device failed; or it was told
 -- whole, and a logger had stopped. A file that couldn't be written is told, where memory is there for that
 pub data IsFailedRun (r : RunOptions) (t0 : Database) (old new : Option (List ℕ)) (refusal : Refusal)
-    (file : Option (List ℕ × Trouble)) : Type 0 where
-  unmade : AreUnready Create r.files refusal file → Appends old new [] → IsFailedRun r t0 old new refusal file
-  broken : IsBroken t0 r.terminals r.count old new refusal → IfSome file (HasBroken Create r.files refusal)
-      → IsFailedRun r t0 old new refusal file
+    (known : Option CauseView) : Type 0 where
+  unmade : AreUnready Create r.files refusal known → Appends old new [] → IsFailedRun r t0 old new refusal known
+  broken : IsBroken t0 r.terminals r.count old new refusal → IfSome known (HasBroken Create r.files refusal)
+      → IsFailedRun r t0 old new refusal known
   stopped : (report : Report) → IsRan t0 r.terminals r.count old new report → refusal ≡ Device
-      → IfSome file (HasBroken Create r.files refusal) → IsFailedRun r t0 old new refusal file
+      → IfSome known (HasBroken Create r.files refusal) → IsFailedRun r t0 old new refusal known

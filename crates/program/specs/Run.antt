@@ -20,8 +20,7 @@ use Rattle.command_line.specs.declared.asked.Subcommand.TheVariants.{Script, Run
 use Rattle.driver.specs.Told.{IsRan}
 use Rattle.recovery.specs.Told.{Shows, Reports}
 use Rattle.program.specs.Status.{IsRefusedStatus, refusal_line, WritesBeginning}
-use Rattle.program.specs.Detail.{IsDetail}
-use Rattle.program.specs.declared.fault.Trouble.{Trouble}
+use Rattle.program.specs.Detail.{CauseView, IsDetail}
 use Rattle.program.specs.Logs.{IsShownWith, IsCheckedWith, IsRefusedWith, IsFailedRun}
 
 -- the scale that options ask for
@@ -55,15 +54,15 @@ IsDone t0 seed (Run r) bytes old new report = IsRan t0 r.terminals r.count old n
 IsDone t0 seed (Recover files) bytes old new report = IsShownWith t0 seed old new report
 IsDone t0 seed (Check files) bytes old new report = IsCheckedWith t0 seed old new report
 
--- or it was refused, where this file couldn't be used so, if that is why
+-- or it was refused, of which this is known
 abbrev pub IsFailed : Database → ℕ → Subcommand → List ℕ → Option (List ℕ) → Option (List ℕ) → Refusal
-    → Option (List ℕ × Trouble) → Type 0
-IsFailed t0 seed Script bytes old new refusal file = IsBrokenOff t0 bytes old new refusal × (file ≡ None)
-IsFailed t0 seed (Run r) bytes old new refusal file = IsFailedRun r t0 old new refusal file
-IsFailed t0 seed (Recover files) bytes old new refusal file =
-    IsRefusedWith files Shows t0 seed old new refusal file
-IsFailed t0 seed (Check files) bytes old new refusal file =
-    IsRefusedWith files Reports t0 seed old new refusal file
+    → Option CauseView → Type 0
+IsFailed t0 seed Script bytes old new refusal known = IsBrokenOff t0 bytes old new refusal × (known ≡ None)
+IsFailed t0 seed (Run r) bytes old new refusal known = IsFailedRun r t0 old new refusal known
+IsFailed t0 seed (Recover files) bytes old new refusal known =
+    IsRefusedWith files Shows t0 seed old new refusal known
+IsFailed t0 seed (Check files) bytes old new refusal known =
+    IsRefusedWith files Reports t0 seed old new refusal known
 
 -- what was asked for was done, over the population and at the scale that were asked for
 pub record IsWholeRun (o : Options) (bytes : List ℕ) (old new : Option (List ℕ)) (report : Report) : Type 0 where
@@ -74,14 +73,14 @@ pub record IsWholeRun (o : Options) (bytes : List ℕ) (old new : Option (List �
 
 -- it was refused: for its scale; for want of memory for the population; or later
 pub data IsRefusedRun (o : Options) (bytes : List ℕ) (old new : Option (List ℕ)) (refusal : Refusal)
-    (file : Option (List ℕ × Trouble)) : Type 0 where
-  scale : ¬ IsScale (scale_of o) → refusal ≡ BadScale → file ≡ None → Appends old new []
-      → IsRefusedRun o bytes old new refusal file
-  memory : refusal ≡ OutOfMemory → file ≡ None → Appends old new []
-      → IsRefusedRun o bytes old new refusal file
+    (known : Option CauseView) : Type 0 where
+  scale : ¬ IsScale (scale_of o) → refusal ≡ BadScale → known ≡ None → Appends old new []
+      → IsRefusedRun o bytes old new refusal known
+  memory : refusal ≡ OutOfMemory → known ≡ None → Appends old new []
+      → IsRefusedRun o bytes old new refusal known
   begun : IsScale (scale_of o) → (tables : Database) → IsPopulation o.population (scale_of o) tables
-      → IsFailed tables o.population o.subcommand bytes old new refusal file
-      → IsRefusedRun o bytes old new refusal file
+      → IsFailed tables o.population o.subcommand bytes old new refusal known
+      → IsRefusedRun o bytes old new refusal known
 
 -- a run of the program, after which the last calls on its input and its output have these errors, where they failed:
 -- its words' fault, or the help that they ask for, goes to the errors alone; what a subcommand writes goes to the
@@ -94,8 +93,8 @@ pub data IsRun (words : List (List ℕ)) (bytes : List ℕ) (output written erro
   answered : (o : Options) (report : Report) → IsAskedBy words o → IsWholeRun o bytes output written report
       → Appends errors told [] → (IsGood report → status ≡ 0) → ((IsGood report → ⊥) → status ≡ 1)
       → IsRun words bytes output written errors told in_error out_error status
-  refused : (o : Options) (refusal : Refusal) (file : Option (List ℕ × Trouble)) (detail : List ℕ) → IsAskedBy words o
-      → IsRefusedRun o bytes output written refusal file
-      → IsDetail (scale_of o) file in_error out_error refusal detail
+  refused : (o : Options) (refusal : Refusal) (known : Option CauseView) (detail : List ℕ) → IsAskedBy words o
+      → IsRefusedRun o bytes output written refusal known
+      → IsDetail (scale_of o) known in_error out_error refusal detail
       → WritesBeginning (refusal_line refusal ++ detail) errors told → IsRefusedStatus refusal status
       → IsRun words bytes output written errors told in_error out_error status

@@ -2,12 +2,11 @@
 
 ghost use Rattle.std.specs.Prelude.{◌≡◌, ◌++◌, IfOk, codes, string_bytes};
 ghost use Rattle.std.specs.Option.{option_map};
-ghost use Rattle.program.specs.Detail.{IsDetail, IsDeviceLine, IsTold, limit_line, reason_of};
-ghost use Rattle.program.specs.Detail.{scale_line, trouble_of};
-ghost use Rattle.program.specs.Logs.{file_of};
+ghost use Rattle.program.specs.Detail.{IsCauseLine, IsDetail, IsDeviceLine, IsTold, cause_of, cause_view};
+ghost use Rattle.program.specs.Detail.{limit_line, reason_of, scale_line, trouble_of};
 ghost use Rattle.program.specs.Run.{scale_of};
 
-use crate::fault::{BadFile, Fault};
+use crate::fault::{Cause, Fault, Trouble};
 use crate::watched::Watched;
 use command_line::Options;
 use money::Refusal;
@@ -21,7 +20,7 @@ use tables::limits::{
 
 /// The line on what was wrong where a run was refused, with its line feed: of a scale, on the first option that is
 /// outside its limits; of a device, on the stream on which the last call failed, or on the file that couldn't be used,
-/// and why; else, or where that isn't known, nothing.
+/// and why; of log files, on their first flaw; else, or where that isn't known, nothing.
 pub(crate) fn detail_of<R, W>(
     alloc: Global,
     options: &Options,
@@ -29,45 +28,56 @@ pub(crate) fn detail_of<R, W>(
     input: &Watched<R>,
     output: &Watched<W>,
 ) -> Result<String, AllocError>
-    ensures { IfOk result (λ line. IsDetail (scale_of options.now) (file_of fault.now) input.now.failure
+    ensures { IfOk result (λ line. IsDetail (scale_of options.now) (cause_of fault.now) input.now.failure
         output.now.failure fault.now.refusal (string_bytes line)) }
 {
     match fault.refusal {
         Refusal::BadScale => scale_detail(alloc, options),
-        Refusal::Device => device_detail(alloc, &fault.file, input.failure(), output.failure()),
+        Refusal::Device => device_detail(alloc, &fault.cause, input.failure(), output.failure()),
+        Refusal::Damaged | Refusal::Gap => cause_detail(alloc, &fault.cause),
         _ => Ok(String::new(alloc)),
     }
 }
 
-/// The line on the stream on which the last call failed, by the errors of those calls, else on the file that couldn't
-/// be used.
+/// The line on the stream on which the last call failed, by the errors of those calls, else on what is known.
 fn device_detail(
     alloc: Global,
-    file: &Option<BadFile>,
+    cause: &Option<Cause>,
     input: Option<Error>,
     output: Option<Error>,
 ) -> Result<String, AllocError>
-    ensures { IfOk result (λ line. IsDeviceLine (option_map (λ f. (string_bytes f.path, f.trouble)) file.now)
-        input output (string_bytes line)) }
+    ensures { IfOk result (λ line. IsDeviceLine (option_map cause_view cause.now) input output (string_bytes line)) }
 {
     match (input, output) {
         (Some(error), _) => told(alloc, "standard input", Some(error)),
         (None, Some(error)) => told(alloc, "standard output", Some(error)),
-        (None, None) => match file {
-            Some(file) => file_detail(alloc, file),
-            None => Ok(String::new(alloc)),
-        },
+        (None, None) => cause_detail(alloc, cause),
+    }
+}
+
+/// The line on why, or nothing where that isn't known.
+fn cause_detail(alloc: Global, cause: &Option<Cause>) -> Result<String, AllocError>
+    ensures { IfOk result (λ line. IsCauseLine (option_map cause_view cause.now) (string_bytes line)) }
+{
+    match cause {
+        Some(Cause::Unusable { path, trouble }) => file_detail(alloc, path.as_str(), trouble),
+        Some(Cause::Flawed { path, flaw }) => {
+            let path = path.as_str();
+            format!(in alloc; "{path}: {flaw}\n")
+        }
+        Some(Cause::Amiss(gap)) => format!(in alloc; "{gap}\n"),
+        None => Ok(String::new(alloc)),
     }
 }
 
 /// The line on a file that couldn't be used.
-fn file_detail(alloc: Global, file: &BadFile) -> Result<String, AllocError>
-    ensures { IfOk result (λ line. IsTold (string_bytes file.now.path ++ (codes ": " ++ trouble_of file.now.trouble))
-        (reason_of file.now.trouble) (string_bytes line)) }
+fn file_detail(alloc: Global, path: &str, trouble: &Trouble) -> Result<String, AllocError>
+    ensures { IfOk result (λ line. IsTold (path.now ++ (codes ": " ++ trouble_of trouble.now)) (reason_of trouble.now)
+        (string_bytes line)) }
 {
-    let (path, name) = (file.path.as_str(), file.trouble.name());
+    let name = trouble.name();
     let what = format!(in alloc; "{path}: {name}")?;
-    told(alloc, what.as_str(), file.trouble.reason())
+    told(alloc, what.as_str(), trouble.reason())
 }
 
 /// The line on the first option of a scale that is outside its limits, or nothing where none is.

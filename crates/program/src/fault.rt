@@ -1,22 +1,28 @@
 //! Why a run was refused.
 ghost use Rattle.std.specs.Prelude.{◌≡◌, None};
 
+use log_flaws::FileFlaw;
 use money::Refusal;
+use recovery::Misnumbered;
 use std::alloc::{AllocError, AllocFailed};
 use std::io::Error;
 
-/// A refusal, and the file that couldn't be used, if that is why.
+/// A refusal, and what is known of why.
 #[derive(Debug, Drop)]
 pub(crate) struct Fault {
     pub(crate) refusal: Refusal,
-    pub(crate) file: Option<BadFile>,
+    pub(crate) cause: Option<Cause>,
 }
 
-/// A file that couldn't be used, or the folder of the files.
+/// Why a run was refused.
 #[derive(Debug, Drop)]
-pub(crate) struct BadFile {
-    pub(crate) path: String,
-    pub(crate) trouble: Trouble,
+pub(crate) enum Cause {
+    /// The file of this path, or the folder of the files, couldn't be used.
+    Unusable { path: String, trouble: Trouble },
+    /// The file of this path isn't the log file that it is to be.
+    Flawed { path: String, flaw: FileFlaw },
+    /// The commits that log files have lack one, or have one twice.
+    Amiss(Misnumbered),
 }
 
 /// What log files are used for.
@@ -106,11 +112,11 @@ impl Trouble {
 impl Fault {
     /// A refusal of which no more is known.
     pub(crate) fn of(refusal: Refusal) -> Fault
-        ensures { result ≡ record { refusal = refusal; file = None } }
+        ensures { result ≡ record { refusal = refusal; cause = None } }
     {
         Fault {
             refusal,
-            file: None,
+            cause: None,
         }
     }
 }
@@ -118,7 +124,7 @@ impl Fault {
 impl From<Refusal> for Fault {
     ghost use Rattle.std.specs.Prelude.{◌≡◌, None};
 
-    ghost from_gives = { λ refusal fault. fault ≡ record { refusal = refusal; file = None } };
+    ghost from_gives = { λ refusal fault. fault ≡ record { refusal = refusal; cause = None } };
 
     fn from(refusal: Refusal) -> Fault {
         Fault::of(refusal)
@@ -129,7 +135,7 @@ impl From<AllocError> for Fault {
     ghost use Rattle.std.specs.Prelude.{◌≡◌, None};
     ghost use Rattle.money.specs.declared.refusal.Refusal.TheVariants.{OutOfMemory};
 
-    ghost from_gives = { λ _ fault. fault ≡ record { refusal = OutOfMemory; file = None } };
+    ghost from_gives = { λ _ fault. fault ≡ record { refusal = OutOfMemory; cause = None } };
 
     fn from(_e: AllocError) -> Fault {
         Fault::of(Refusal::OutOfMemory)
@@ -140,7 +146,7 @@ impl<T: Drop> From<AllocFailed<T>> for Fault {
     ghost use Rattle.std.specs.Prelude.{◌≡◌, None};
     ghost use Rattle.money.specs.declared.refusal.Refusal.TheVariants.{OutOfMemory};
 
-    ghost from_gives = { λ _ fault. fault ≡ record { refusal = OutOfMemory; file = None } };
+    ghost from_gives = { λ _ fault. fault ≡ record { refusal = OutOfMemory; cause = None } };
 
     fn from(_e: AllocFailed<T>) -> Fault {
         Fault::of(Refusal::OutOfMemory)

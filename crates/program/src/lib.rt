@@ -1,6 +1,7 @@
 //! What the program `tpcc` does, over words, an input and two writers: its `main` hands over the real ones.
 #![tactic(auto)]
 
+mod causes;
 mod detail;
 mod ending;
 mod fault;

@@ -2,10 +2,12 @@
 ghost use Rattle.std.specs.Prelude.{◌≡◌, length, IfOk, IfErr};
 ghost use Rattle.population.specs.Initial.{initial};
 ghost use Rattle.driver.specs.Told.{IsRan};
-ghost use Rattle.program.specs.Logs.{IsFailedRun, file_of};
+ghost use Rattle.program.specs.Detail.{cause_of};
+ghost use Rattle.program.specs.Logs.{IsFailedRun};
 
+use crate::causes::broken_off;
 use crate::fault::{Fault, Purpose};
-use crate::logs::{broken_off, disks};
+use crate::logs::disks;
 use command_line::RunOptions;
 use conditions::Report;
 use disk::FileDisk;
@@ -41,7 +43,7 @@ pub(crate) fn live<
     ensures ran { IfOk result (IsRan (initial population) options.now.terminals options.now.count
         (W.contents output.old) (W.contents output.new)) }
     ensures failed { IfErr result (λ fault. IsFailedRun options.now (initial population)
-        (W.contents output.old) (W.contents output.new) fault.refusal (file_of fault)) }
+        (W.contents output.old) (W.contents output.new) fault.refusal (cause_of fault)) }
 {
     let mut disks = match disks(rt, alloc, &options.files, Purpose::Create) {
         Ok(disks) => disks,

@@ -1,14 +1,15 @@
 //! Log files: opening those that a command line names, and telling what they recover to.
-ghost use Rattle.std.specs.Prelude.{◌≡◌, ◌<◌, ℕ, List, true, length, map, IfOk, IfErr, IfSome, string_bytes};
-ghost use Rattle.money.specs.declared.refusal.Refusal.TheVariants.{Device};
+ghost use Rattle.std.specs.Prelude.{◌≡◌, ◌<◌, ℕ, List, true, length, map, IfOk, IfErr, string_bytes};
 ghost use Rattle.population.specs.Initial.{initial, seed_of};
 ghost use Rattle.recovery.specs.Told.{IsRefused, Shows, Reports};
-ghost use Rattle.program.specs.Logs.{AreUnready, HasBroken, IsShownWith, IsCheckedWith, IsRefusedWith};
-ghost use Rattle.program.specs.Logs.{file_of, folder_of, may_stop, path_of};
+ghost use Rattle.program.specs.Detail.{cause_of};
+ghost use Rattle.program.specs.Logs.{AreUnready, IsShownWith, IsCheckedWith, IsRefusedWith};
+ghost use Rattle.program.specs.Logs.{folder_of, may_stop, path_of};
 ghost use Rattle.program.specs.declared.fault.Purpose.{Purpose as PurposeValue};
 ghost use Rattle.program.specs.declared.fault.Purpose.TheVariants.{Create};
 
-use crate::fault::{BadFile, Fault, Purpose, Trouble};
+use crate::causes::unrecovered;
+use crate::fault::{Cause, Fault, Purpose, Trouble};
 use command_line::LogFiles;
 use conditions::{Report, check};
 use disk::{Disk, FileDisk, sync_folder};
@@ -31,7 +32,7 @@ pub(crate) fn show<T: Files<File = File>, W: Write>(
     ensures shown { IfOk result (IsShownWith (initial population.now) (seed_of population.now)
         (W.contents output.old) (W.contents output.new)) }
     ensures refused { IfErr result (λ fault. IsRefusedWith files.now Shows (initial population.now)
-        (seed_of population.now) (W.contents output.old) (W.contents output.new) fault.refusal (file_of fault)) }
+        (seed_of population.now) (W.contents output.old) (W.contents output.new) fault.refusal (cause_of fault)) }
 {
     let mut disks = match disks(rt, alloc, files, Purpose::Read) {
         Ok(disks) => disks,
@@ -39,7 +40,7 @@ pub(crate) fn show<T: Files<File = File>, W: Write>(
     };
     match show_recovered(alloc, population, &mut disks, output) {
         Ok(report) => Ok(report),
-        Err(refusal) => Err(broken_off(alloc, files, Purpose::Read, refusal, &disks)),
+        Err(refusal) => Err(unrecovered(alloc, population, files, refusal, &mut disks)),
     }
 }
 
@@ -54,7 +55,7 @@ pub(crate) fn report<T: Files<File = File>, W: Write>(
     ensures checked { IfOk result (IsCheckedWith (initial population.now) (seed_of population.now)
         (W.contents output.old) (W.contents output.new)) }
     ensures refused { IfErr result (λ fault. IsRefusedWith files.now Reports (initial population.now)
-        (seed_of population.now) (W.contents output.old) (W.contents output.new) fault.refusal (file_of fault)) }
+        (seed_of population.now) (W.contents output.old) (W.contents output.new) fault.refusal (cause_of fault)) }
 {
     let mut disks = match disks(rt, alloc, files, Purpose::Read) {
         Ok(disks) => disks,
@@ -62,7 +63,7 @@ pub(crate) fn report<T: Files<File = File>, W: Write>(
     };
     match checked(alloc, population, &mut disks, output) {
         Ok(report) => Ok(report),
-        Err(refusal) => Err(broken_off(alloc, files, Purpose::Read, refusal, &disks)),
+        Err(refusal) => Err(unrecovered(alloc, population, files, refusal, &mut disks)),
     }
 }
 
@@ -92,7 +93,7 @@ pub(crate) fn disks<T: Files<File = File>>(
     purpose: Purpose,
 ) -> Result<Vec<FileDisk>, Fault>
     ensures count { IfOk result (λ disks. length disks.items ≡ files.now.loggers) }
-    ensures unready { IfErr result (λ fault. AreUnready purpose files.now fault.refusal (file_of fault)) }
+    ensures unready { IfErr result (λ fault. AreUnready purpose files.now fault.refusal (cause_of fault)) }
 {
     let mut disks = Vec::new(alloc);
     for logger in 0..files.loggers {
@@ -119,14 +120,14 @@ fn disk<T: Files<File = File>>(
     purpose: Purpose,
 ) -> Result<FileDisk, Fault>
     ensures unready { IfErr result (λ fault. logger < files.now.loggers
-        → AreUnready purpose files.now fault.refusal (file_of fault)) }
+        → AreUnready purpose files.now fault.refusal (cause_of fault)) }
 {
     let path = path(alloc, files, logger)?;
     match disk_at(rt, path.as_str(), purpose) {
         Ok(disk) => Ok(disk),
         Err(trouble) => Err(Fault {
             refusal: Refusal::Device,
-            file: Some(BadFile { path, trouble }),
+            cause: Some(Cause::Unusable { path, trouble }),
         }),
     }
 }
@@ -170,62 +171,20 @@ fn not_locked(error: TryLockError) -> Trouble
     }
 }
 
-/// The fault of a refusal that came once the disks in log files were in use. Where a device failed, it tells the first
-/// file on whose disk a call has, unless memory is short.
-pub(crate) fn broken_off(
-    alloc: Global,
-    files: &LogFiles,
-    purpose: Purpose,
-    refusal: Refusal,
-    disks: &[FileDisk],
-) -> Fault
-    ensures refusal { result.refusal ≡ refusal }
-    ensures file { IfSome (file_of result) (HasBroken purpose files.now refusal) }
-{
-    match refusal {
-        Refusal::Device => Fault {
-            refusal,
-            file: broken_file(alloc, files, purpose, disks),
-        },
-        _ => Fault::of(refusal),
-    }
-}
-
-/// The first file on whose disk a call has failed. None where none has, or for want of memory.
-fn broken_file(
-    alloc: Global,
-    files: &LogFiles,
-    purpose: Purpose,
-    disks: &[FileDisk],
-) -> Option<BadFile>
-    ensures { IfSome result (λ file. HasBroken purpose files.now Device (string_bytes file.path, file.trouble)) }
-{
-    for (logger, disk) in (0..files.loggers).zip(disks) {
-        if let Some(error) = disk.last_error() {
-            let path = path(alloc, files, logger).ok()?;
-            return Some(BadFile {
-                path,
-                trouble: purpose.broken_off(error),
-            });
-        }
-    }
-    None
-}
-
 /// Makes the names of the log files in their folder durable.
 pub(crate) fn sync_names<T: Files<File = File>>(
     rt: &T,
     alloc: Global,
     files: &LogFiles,
 ) -> Result<(), Fault>
-    ensures { IfErr result (λ fault. AreUnready Create files.now fault.refusal (file_of fault)) }
+    ensures { IfErr result (λ fault. AreUnready Create files.now fault.refusal (cause_of fault)) }
 {
     let path = folder(alloc, files)?;
     match sync_folder(rt, path.as_str()) {
         Ok(()) => Ok(()),
         Err(error) => Err(Fault {
             refusal: Refusal::Device,
-            file: Some(BadFile {
+            cause: Some(Cause::Unusable {
                 path,
                 trouble: Trouble::NotSynced(error),
             }),
@@ -242,7 +201,7 @@ fn folder(alloc: Global, files: &LogFiles) -> Result<String, AllocError>
 }
 
 /// The path of the file of this logger.
-fn path(alloc: Global, files: &LogFiles, logger: u32) -> Result<String, AllocError>
+pub(crate) fn path(alloc: Global, files: &LogFiles, logger: u32) -> Result<String, AllocError>
     ensures { IfOk result (λ path. string_bytes path ≡ path_of files.now logger) }
 {
     let folder = files.folder.as_str();

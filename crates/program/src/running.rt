@@ -3,10 +3,9 @@ ghost use Rattle.std.specs.Prelude.{◌≡◌, ◌++◌, ℕ, List, Some, None, 
 ghost use Rattle.std.specs.Io.KnownBytes.{Appends};
 ghost use Rattle.money.specs.declared.refusal.Refusal.TheVariants.{OutOfMemory};
 ghost use Rattle.population.specs.Initial.{initial, seed_of};
-ghost use Rattle.program.specs.Logs.{file_of};
 ghost use Rattle.program.specs.Run.{IsRun, IsWholeRun, IsRefusedRun, IsPopulation, scale_of};
 ghost use Rattle.program.specs.Run.{IsDone, IsFailed, IsAnswered, IsBrokenOff};
-ghost use Rattle.program.specs.Detail.{IsDetail};
+ghost use Rattle.program.specs.Detail.{IsDetail, cause_of};
 ghost use Rattle.program.specs.Status.{IsRefusedStatus, refusal_line, WritesBeginning};
 
 use crate::detail::detail_of;
@@ -76,7 +75,7 @@ fn tell_refused<R, W, E: Write>(
     output: &Watched<W>,
     errors: &mut E,
 ) -> u8
-    ensures lines { (detail : List ℕ) × IsDetail (scale_of asked.now) (file_of fault.now) input.now.failure
+    ensures lines { (detail : List ℕ) × IsDetail (scale_of asked.now) (cause_of fault.now) input.now.failure
         output.now.failure fault.now.refusal detail
         × WritesBeginning (refusal_line fault.now.refusal ++ detail) (E.contents errors.old) (E.contents errors.new) }
     ensures status { IsRefusedStatus fault.now.refusal result }
@@ -105,7 +104,7 @@ fn answer<
         → IsWholeRun options.now bytes (W.contents output.old) (W.contents output.new) report) }
     ensures refused { IfErr result (λ fault. (bytes : List ℕ) → R.remaining input.old ≡ Some bytes
         → IsRefusedRun options.now bytes (W.contents output.old) (W.contents output.new) fault.refusal
-        (file_of fault)) }
+        (cause_of fault)) }
 {
     let scale = match options.scale() {
         Ok(scale) => scale,
@@ -146,7 +145,7 @@ fn answer_over<
         (W.contents output.old) (W.contents output.new) report) }
     ensures failed { IfErr result (λ fault. (bytes : List ℕ) → R.remaining input.old ≡ Some bytes
         → IsFailed (initial population) (seed_of population) subcommand.now bytes
-        (W.contents output.old) (W.contents output.new) fault.refusal (file_of fault)) }
+        (W.contents output.old) (W.contents output.new) fault.refusal (cause_of fault)) }
 {
     match subcommand {
         Subcommand::Script => answer_script(rt, alloc, population, input, output),
@@ -168,7 +167,7 @@ fn answer_script<T: Wait, R: Read, W: Write>(
         → IsAnswered (initial population) bytes (W.contents output.old) (W.contents output.new) report) }
     ensures broken_off { IfErr result (λ fault. (bytes : List ℕ) → R.remaining input.old ≡ Some bytes
         → IsBrokenOff (initial population) bytes (W.contents output.old) (W.contents output.new) fault.refusal
-        × (file_of fault ≡ None)) }
+        × (cause_of fault ≡ None)) }
 {
     match script(rt, alloc, population, input, output) {
         Ok(closed) => Ok(closed.0),

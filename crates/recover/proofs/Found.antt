@@ -2,19 +2,19 @@
 use Rattle.std.proofs.Common.{◌≡◌, true, ℕ, ◌<◌, get_or, List, [], ◌∷◌, length, sym, ap, subst}
 use Rattle.std.specs.List.{All, flat_map}
 use Rattle.std.proofs.lemmas.List.Concat.{flat_map-cons}
-use Rattle.std.proofs.lemmas.List.Elements.{All-append, All-from_get_or, All-head, All-tail}
+use Rattle.std.proofs.lemmas.List.Elements.{All-append, All-filter, All-from_get_or, All-head, All-tail}
 use Rattle.tables.specs.Sizes.{Sizes}
 use Rattle.log_header.specs.Header.{header_view}
 use Rattle.log_text.specs.Bodies.{BodyView}
 use Rattle.log_text.specs.Entries.{EntryView}
 use Rattle.log_text.specs.Writes.{are_writes}
 use Rattle.crashes.specs.Recovering.{counts, counted, entries_of}
-use Rattle.rebuilt.specs.Found.{durable_of, found}
+use Rattle.rebuilt.specs.Found.{durable_of, found, kept}
 use Rattle.rebuilt.proofs.Elements.{has_to}
 use Rattle.recover.specs.Files.{AreFiles}
 use Rattle.recover.specs.Parts.{HaveLawfulWrites}
-use Rattle.recover.proofs.LawfulEntries.{lawful_entries}
-use Rattle.recover.proofs.Looking.{all_from, all_passed}
+use Rattle.recover.proofs.LawfulEntries.{IsPositive, lawful_entries, positive_entries}
+use Rattle.recover.proofs.Looking.{all_from, all_in, all_passed}
 
 -- the entries of log files have lawful writes
 pub files_lawful : (s : Sizes) (seed : ℕ) (strings : List (List ℕ)) (files : List (List BodyView)) → AreFiles s seed strings files
@@ -41,3 +41,14 @@ counted_lawful s durable (file ∷ files) all =
 -- what counts up to the durable epoch is what is found
 pub counted_found : (durable : ℕ) (files : List (List BodyView)) → durable ≡ durable_of files → flat_map (counted durable) files ≡ found files
 counted_found durable files is = ap (λ (d : ℕ). flat_map (counted d) files) is
+
+-- the entries that are found have commit numbers from 1 on
+pub found_positive : (s : Sizes) (seed : ℕ) (strings : List (List ℕ)) (files : List (List BodyView)) → AreFiles s seed strings files → All IsPositive (found files)
+found_positive s seed strings files are = all_in IsPositive (kept files) files (All-from_get_or (λ (bodies : List BodyView). All IsPositive (kept files bodies)) files [] each)
+  where
+    each : (l : ℕ) → l < length files → All IsPositive (kept files (get_or files l []))
+    each l lt =
+        let is = are.each l (subst (λ (n : ℕ). l < n) are.count lt) in
+        let bodies = get_or files l [] in
+        All-filter (λ e. counts (durable_of files) e.tid) IsPositive (entries_of bodies)
+        (positive_entries (get_or strings l []) (header_view l (length strings) s seed) bodies is)

@@ -1,9 +1,10 @@
--- Each entry of a log file has lawful writes, and so has each that counts.
-use Rattle.std.proofs.Common.{◌≡◌, ℕ, true, ◌&&◌, true≢false, Option, Some, None, IsSome, List, [], ◌∷◌, ◌++◌, refl, sym}
-use Rattle.std.specs.Prelude.{nat_le}
+-- What each entry of a log file has: lawful writes, and a commit number from 1 on.
+use Rattle.std.proofs.Common.{◌≡◌, ◌≤◌, ℕ, true, ◌&&◌, true≢false, arith, Option, Some, None, IsSome, List, [], ◌∷◌, ◌++◌, refl, sym}
+use Rattle.std.specs.Prelude.{nat_le, nat_lt}
 use Rattle.std.specs.List.{All, AllByRecursion, Contains}
 use Rattle.std.specs.Option.{option_and_then}
-use Rattle.std.proofs.lemmas.List.Elements.{All-nil, All-append, All-filter, All-contains, All-from_recursion}
+use Rattle.std.proofs.lemmas.Bool.{ltb-true}
+use Rattle.std.proofs.lemmas.List.Elements.{All-nil, All-append, All-contains, All-from_recursion}
 use Rattle.tables.specs.Sizes.{Sizes}
 use Rattle.log_header.specs.Header.{HeaderView}
 use Rattle.log_text.specs.Entries.{EntryView}
@@ -15,56 +16,64 @@ use Rattle.tables.specs.declared.limits.TheConstants.{MAX_MARK}
 use Rattle.log_text.specs.declared.last.Last.{Last}
 use Rattle.log_text.proofs.Fitting.{and_split}
 use Rattle.log_text.proofs.Lawful.{through}
-use Rattle.crashes.specs.Recovering.{entries_of, counts, counted}
-
--- its writes are lawful
-abbrev HasLawful : Sizes → EntryView → Type 0
-HasLawful s e = are_writes s e.writes ≡ true
+use Rattle.crashes.specs.Recovering.{entries_of}
 
 -- what comes of a value was made of one
 made_of : {A B : Type 0} (f : A → Option B) (o : Option A) (y : B) → option_and_then f o ≡ Some y → (x : A) × (o ≡ Some x)
 made_of f None y e = absurd cc
 made_of f (Some x) y e = (x, refl)
 
--- an entry that may follow
+-- what holds of each entry that may follow holds of all entries of a file
+module _ (h : HeaderView) (P : EntryView → Type 0) (each : (mark : ℕ) (last : Last) (e : EntryView) → is_entry h mark last e ≡ true → P e) where
+  entries_keep : (mark : ℕ) (last : Last) (es : List EntryView) (now : Last) → entries_after h mark last es ≡ Some now → AllByRecursion P es
+  entries_keep mark last [] now e = tt
+  entries_keep mark last (entry ∷ es) now e =
+      let step = through (is_entry h mark last entry) (entries_after h mark (behind last entry) es) now e in
+      (each mark last entry step.0, entries_keep mark (behind last entry) es now step.1)
+
+  body_keeps : (last : Last) (b : BodyView) (now : Last) → body_after h last b ≡ Some now → All P (entries_in b)
+  body_keeps last b now e =
+      let after = λ (l : Last). Some (marked b.mark l) in
+      let step = through (nat_le last.mark b.mark && nat_le b.mark MAX_MARK) (option_and_then after (entries_after h b.mark last b.entries)) now e in
+      let entries = made_of after (entries_after h b.mark last b.entries) now step.1 in
+      All-from_recursion P b.entries (entries_keep b.mark last b.entries entries.0 entries.1)
+
+  bodies_keep : (last : Last) (bodies : List BodyView) → IsSome (bodies_after h last bodies) → All P (entries_of bodies)
+  bodies_keep last [] some = All-nil P
+  bodies_keep last (b ∷ bs) some = joined (body_after h last b) refl some (λ l. bodies_keep l bs)
+    where
+      joined : (o : Option Last) → body_after h last b ≡ o → IsSome (option_and_then (λ (l : Last). bodies_after h l bs) o)
+          → ((l : Last) → IsSome (bodies_after h l bs) → All P (entries_of bs)) → All P (entries_in b ++ entries_of bs)
+      joined None e is rest = absurd (true≢false (sym is))
+      joined (Some l) e is rest = All-append P (entries_in b) (entries_of bs) (body_keeps last b l e) (rest l is)
+
+  pub file_keeps : (file : List ℕ) (bodies : List BodyView) → IsFile file h bodies → All P (entries_of bodies)
+  file_keeps file bodies is = bodies_keep start bodies is.lawful
+
+-- its writes are lawful
+abbrev HasLawful : Sizes → EntryView → Type 0
+HasLawful s e = are_writes s e.writes ≡ true
+
 entry_lawful : (h : HeaderView) (mark : ℕ) (last : Last) (e : EntryView) → is_entry h mark last e ≡ true → HasLawful h.scale e
 entry_lawful h mark last e lawful =
     let halves = and_split (is_next h last e.number && is_timed mark last e.tid) (is_asked h e.terminal && are_writes h.scale e.writes) lawful in
     (and_split (is_asked h e.terminal) (are_writes h.scale e.writes) halves.1).1
 
--- the entries of a body
-entries_lawful : (h : HeaderView) (mark : ℕ) (last : Last) (es : List EntryView) (now : Last) → entries_after h mark last es ≡ Some now
-    → AllByRecursion (HasLawful h.scale) es
-entries_lawful h mark last [] now e = tt
-entries_lawful h mark last (entry ∷ es) now e =
-    let step = through (is_entry h mark last entry) (entries_after h mark (behind last entry) es) now e in
-    (entry_lawful h mark last entry step.0, entries_lawful h mark (behind last entry) es now step.1)
-
-body_lawful : (h : HeaderView) (last : Last) (b : BodyView) (now : Last) → body_after h last b ≡ Some now → All (HasLawful h.scale) (entries_in b)
-body_lawful h last b now e =
-    let after = λ (l : Last). Some (marked b.mark l) in
-    let step = through (nat_le last.mark b.mark && nat_le b.mark MAX_MARK) (option_and_then after (entries_after h b.mark last b.entries)) now e in
-    let entries = made_of after (entries_after h b.mark last b.entries) now step.1 in
-    All-from_recursion (HasLawful h.scale) b.entries (entries_lawful h b.mark last b.entries entries.0 entries.1)
-
--- those of all bodies
-bodies_lawful : (h : HeaderView) (last : Last) (bodies : List BodyView) → IsSome (bodies_after h last bodies) → All (HasLawful h.scale) (entries_of bodies)
-bodies_lawful h last [] some = All-nil (HasLawful h.scale)
-bodies_lawful h last (b ∷ bs) some = each (body_after h last b) refl some (λ l. bodies_lawful h l bs)
-  where
-    each : (o : Option Last) → body_after h last b ≡ o → IsSome (option_and_then (λ (l : Last). bodies_after h l bs) o)
-        → ((l : Last) → IsSome (bodies_after h l bs) → All (HasLawful h.scale) (entries_of bs)) → All (HasLawful h.scale) (entries_in b ++ entries_of bs)
-    each None e is rest = absurd (true≢false (sym is))
-    each (Some l) e is rest = All-append (HasLawful h.scale) (entries_in b) (entries_of bs) (body_lawful h last b l e) (rest l is)
-
 -- the entries of a log file
 pub lawful_entries : (file : List ℕ) (h : HeaderView) (bodies : List BodyView) → IsFile file h bodies → (e : EntryView) → Contains (entries_of bodies) e
     → are_writes h.scale e.writes ≡ true
-lawful_entries file h bodies is e among = All-contains (HasLawful h.scale) (entries_of bodies) e (bodies_lawful h start bodies is.lawful) among
+lawful_entries file h bodies is e among = All-contains (HasLawful h.scale) (entries_of bodies) e (file_keeps h (HasLawful h.scale) (entry_lawful h) file bodies is) among
 
--- and those that count, at whatever durable epoch
-pub lawful_counted : (file : List ℕ) (h : HeaderView) (bodies : List BodyView) → IsFile file h bodies → (durable : ℕ) (e : EntryView)
-    → Contains (counted durable bodies) e → are_writes h.scale e.writes ≡ true
-lawful_counted file h bodies is durable e among =
-    All-contains (HasLawful h.scale) (counted durable bodies) e
-    (All-filter (λ e. counts durable e.tid) (HasLawful h.scale) (entries_of bodies) (bodies_lawful h start bodies is.lawful)) among
+-- an entry's commit number is at least 1
+abbrev pub IsPositive : EntryView → Type 0
+IsPositive e = 1 ≤ e.number
+
+entry_positive : (h : HeaderView) (mark : ℕ) (last : Last) (e : EntryView) → is_entry h mark last e ≡ true → IsPositive e
+entry_positive h mark last e lawful =
+    let halves = and_split (is_next h last e.number && is_timed mark last e.tid) (is_asked h e.terminal && are_writes h.scale e.writes) lawful in
+    let next = and_split (is_next h last e.number) (is_timed mark last e.tid) halves.0 in
+    let above = and_split (nat_lt last.number e.number) (nat_le e.number h.scale.commits) next.0 in
+    omega (arith, ltb-true last.number e.number above.0)
+
+pub positive_entries : (file : List ℕ) (h : HeaderView) (bodies : List BodyView) → IsFile file h bodies → All IsPositive (entries_of bodies)
+positive_entries file h bodies is = file_keeps h IsPositive (entry_positive h) file bodies is

@@ -2,9 +2,9 @@ mod Looking
 mod Knowing
 mod Ordering
 mod Rebuilding
-mod Found
+pub mod Found
 mod Crashed
-mod LawfulEntries
+pub mod LawfulEntries
 mod Ranges
 mod RowsOfWords
 mod LawfulWrites

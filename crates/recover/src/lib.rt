@@ -2,6 +2,7 @@
 #![tactic(auto)]
 
 mod after_crashes;
+mod commits;
 mod durable;
 mod files;
 mod history;
@@ -10,4 +11,5 @@ mod part;
 mod recovering;
 
 pub use after_crashes::{every_crash_is_recovered, recovery_is_the_replay};
+pub use commits::commits_found;
 pub use recovering::{Recovered, recover};

@@ -81,7 +81,7 @@ pub fn recover<D: Disk>(
 }
 
 /// What the files say together, from one part a file.
-fn merged(
+pub(crate) fn merged(
     alloc: Global,
     scale: &Scale,
     files: Vec<Vec<Body>>,

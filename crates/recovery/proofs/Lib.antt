@@ -1,2 +1,4 @@
 mod Lines
 mod Refusing
+mod Walking
+mod Numbering

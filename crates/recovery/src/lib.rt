@@ -1,7 +1,11 @@
 //! What the log files of a database recover to, told: its rows, or the report of the consistency conditions.
 #![tactic(auto)]
 
+mod damage;
+mod gap;
 mod telling;
 mod text;
 
+pub use damage::{Damage, first_damage};
+pub use gap::{Misnumbered, first_gap};
 pub use telling::{checked, recovered};

@@ -4,7 +4,8 @@ use Rattle.money.specs.declared.refusal.Refusal.{Refusal}
 use Rattle.population.specs.Initial.{initial, seed_of}
 use Rattle.recovery.specs.Told.{Shows}
 use Rattle.program.specs.declared.fault.Purpose.TheVariants.{Read}
-use Rattle.program.specs.Logs.{HasBroken, IsRefusedWith, file_of, unread, untold}
+use Rattle.program.specs.Detail.{cause_of}
+use Rattle.program.specs.Logs.{HasBroken, IsRefusedWith, unread, untold}
 use Rattle.program.proofs.logs.show.Goals as goal
 
 pub returns-in-Err-clause-refused : goal.returns-in-Err-clause-refused
@@ -13,7 +14,6 @@ returns-in-Err-clause-refused g c = unread c.in-Err.ensures.unready (Appends-nil
 pub returns-clause-refused : goal.returns-clause-refused
 returns-clause-refused g c =
     let refused = c.in-Err-show_recovered.ensures.refused in
-    let fault = c.broken_off.result in
     subst (λ (refusal : Refusal). IsRefusedWith c.args.files.now Shows (initial c.args.population.now) (seed_of c.args.population.now)
-    (g.W.Write.contents c.args.output.now) (g.W.Write.contents c.show_recovered.new.output) refusal (file_of fault)) (sym c.broken_off.ensures.refusal)
-    (untold refused.0 _ _ refused.1 c.broken_off.ensures.file)
+    (g.W.Write.contents c.args.output.now) (g.W.Write.contents c.show_recovered.new.output) refusal (cause_of c.unrecovered.result)) (sym c.unrecovered.ensures.refusal)
+    (untold refused.0 _ _ refused.1 c.unrecovered.ensures.cause)

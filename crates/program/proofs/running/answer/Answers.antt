@@ -2,7 +2,8 @@ use Rattle.std.proofs.Common.{ℕ, subst}
 use Rattle.std.proofs.lemmas.Result.{IfOk-weaker, IfErr-weaker}
 use Rattle.tables.specs.Sizes.{Sizes}
 use Rattle.population.specs.Initial.{initial}
-use Rattle.program.specs.Logs.{file_of}
+use Rattle.program.specs.Detail.{cause_of}
+
 use Rattle.program.specs.Run.{IsPopulation, IsDone, IsFailed, begun}
 use Rattle.program.proofs.running.answer.Goals as goal
 
@@ -27,4 +28,4 @@ returns-clause-refused g c =
     IfErr-weaker c.answer_over.result _ _ (λ fault failed bytes left.
     begun limits.1 tables (subst (λ (s : Sizes). IsPopulation options.population s tables) limits.0 c.in-Ok-population_of.ensures.rows)
     (subst (λ (seed : ℕ). IsFailed tables seed options.subcommand bytes (g.W.Write.contents c.args.output.now) (g.W.Write.contents c.answer_over.new.output)
-    fault.refusal (file_of fault)) c.in-Ok-population_of.ensures.seed (failed bytes left))) c.answer_over.ensures.failed
+    fault.refusal (cause_of fault)) c.in-Ok-population_of.ensures.seed (failed bytes left))) c.answer_over.ensures.failed

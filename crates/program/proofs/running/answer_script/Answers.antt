@@ -2,7 +2,8 @@ use Rattle.std.proofs.Common.{◌≡◌, None, Err, ap, refl, subst, sym}
 use Rattle.std.proofs.Math.Logic.{⊎_map}
 use Rattle.population.specs.Initial.{initial}
 use Rattle.program.specs.declared.fault.Fault.{Fault}
-use Rattle.program.specs.Logs.{file_of}
+use Rattle.program.specs.Detail.{cause_of}
+
 use Rattle.program.specs.Run.{IsBrokenOff}
 use Rattle.program.proofs.running.answer_script.Goals as goal
 
@@ -10,7 +11,7 @@ pub returns-in-Err-clause-broken_off : goal.returns-in-Err-clause-broken_off
 returns-in-Err-clause-broken_off g c = λ bytes left.
     let beginning = c.in-Err.ensures.beginning bytes left in
     subst (λ (fault : Fault). IsBrokenOff (initial c.args.population) bytes (g.W.Write.contents c.args.output.now) (g.W.Write.contents c.script.new.writer)
-    fault.refusal × (file_of fault ≡ None)) (sym c.of.ensures) (
+    fault.refusal × (cause_of fault ≡ None)) (sym c.of.ensures) (
       record {
         front = beginning.0;
         cause = ⊎_map (λ memory. memory) (⊎_map (λ input. (input, c.in-Err.ensures.too_many (ap Err input) bytes left)) (λ device. device))

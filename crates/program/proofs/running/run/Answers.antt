@@ -1,6 +1,7 @@
 use Rattle.std.proofs.Common.{refl}
 use Rattle.std.proofs.KnownBytes.{Appends-nil}
-use Rattle.program.specs.Logs.{file_of}
+use Rattle.program.specs.Detail.{cause_of}
+
 use Rattle.program.specs.Run.{fault, answered, refused}
 use Rattle.program.proofs.Beginnings.{nothing_begun}
 use Rattle.program.proofs.running.run.Goals as goal
@@ -19,5 +20,5 @@ pub returns : goal.returns
 returns g c = λ bytes left.
     let told = c.tell_refused.ensures.lines in
     let fault = c.in-Err-answer.fault in
-    refused c.in-Ok.asked fault.refusal (file_of fault) told.0 c.in-Ok.ensures.asked (c.in-Err-answer.ensures.refused bytes left) told.1 told.2
+    refused c.in-Ok.asked fault.refusal (cause_of fault) told.0 c.in-Ok.ensures.asked (c.in-Err-answer.ensures.refused bytes left) told.1 told.2
     c.tell_refused.ensures.status

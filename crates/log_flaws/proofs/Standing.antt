@@ -1,0 +1,42 @@
+-- A log file, seen from behind its header.
+use Rattle.std.proofs.Common.{◌≡◌, ℕ, ◌-◌, List, [], ◌∷◌, ◌++◌, Some, length, refl, sym, ap, ◌∙◌, arith, length-append}
+use Rattle.codec.proofs.Codecs.{one_value}
+use Rattle.log_header.specs.Header.{HeaderView, IsHeader, header_text}
+use Rattle.log_header.proofs.Headers.{codec-header}
+use Rattle.log_text.specs.Bodies.{BodyView, bodies_after, start}
+use Rattle.log_text.specs.File.{AreBodies, IsFile, opened}
+use Rattle.log_text.specs.declared.last.Last.{Last}
+use Rattle.log_flaws.specs.Flaws.{Reaches}
+
+-- bytes that begin with a header are no file of another one
+pub one_header : (g h : HeaderView) → IsHeader g → (file rest : List ℕ) → file ≡ header_text g ++ rest → (bodies : List BodyView)
+    → IsFile file h bodies → g ≡ h
+one_header g h lawful file rest text bodies is =
+    (one_value codec-header g h rest (opened bodies ++ is.gate ∷ is.rest) lawful is.header (sym text ∙ is.text)).0
+
+-- behind a file's header are its bodies
+pub behind_header : (h : HeaderView) → IsHeader h → (file bytes : List ℕ) → file ≡ header_text h ++ bytes → (bodies : List BodyView)
+    → IsFile file h bodies → AreBodies h bodies bytes
+behind_header h lawful file bytes text bodies is = record {
+  gate = is.gate;
+  rest = is.rest;
+  text = (one_value codec-header h h bytes (opened bodies ++ is.gate ∷ is.rest) lawful lawful (sym text ∙ is.text)).1;
+  is_closed = is.is_closed;
+  lawful = is.lawful;
+}
+
+-- where bodies were read in front of the rest, a file reaches the rest
+pub is_reached : (h : HeaderView) (file bytes rest : List ℕ) (bodies : List BodyView) (last : Last) → file ≡ header_text h ++ bytes
+    → bytes ≡ opened bodies ++ rest → bodies_after h start bodies ≡ Some last → Reaches file h (length file - length rest) last rest
+is_reached h file bytes rest bodies last text read lawful =
+    let whole : file ≡ header_text h ++ (opened bodies ++ rest) = text ∙ ap (λ (l : List ℕ). header_text h ++ l) read in
+    record {
+      bodies = bodies;
+      text = whole;
+      place = omega (arith, ap length whole, length-append (header_text h) (opened bodies ++ rest), length-append (opened bodies) rest);
+      lawful = lawful;
+    }
+
+pub nothing : (bytes : List ℕ) → length bytes ≡ 0 → bytes ≡ []
+nothing [] none = refl
+nothing (b ∷ bs) none = absurd (omega (arith, none))

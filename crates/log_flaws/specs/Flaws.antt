@@ -1,0 +1,57 @@
+-- What keeps bytes from being the log file that was asked for.
+use Rattle.std.specs.Prelude.{◌≡◌, ◌≢◌, ℕ, ◌+◌, ◌<◌, Some, List, [], ◌∷◌, ◌++◌, length, map}
+use Rattle.log_header.specs.Header.{HeaderView, IsHeader, header_text}
+use Rattle.log_text.specs.Bodies.{BodyView, bodies_after, body_of, start}
+use Rattle.log_text.specs.File.{IsBody, IsFile, opened}
+use Rattle.log_text.specs.declared.last.Last.{Last}
+use Rattle.log_flaws.specs.Fields.{number_in}
+use Rattle.log_flaws.specs.declared.field.HeaderField.{HeaderField}
+use Rattle.log_flaws.specs.declared.flaw.FileFlaw.{FileFlaw}
+use Rattle.log_flaws.specs.declared.flaw.FileFlaw.TheVariants.{TooShort, NoHeader, OtherHeader, NoGate, NoBody}
+use Rattle.log_flaws.specs.declared.examining.Examined.{Examined}
+use Rattle.log_flaws.specs.declared.examining.Examined.TheVariants.{Whole, Flawed}
+
+-- bytes begin with no header
+abbrev pub IsHeadless : List ℕ → Type 0
+IsHeadless file = (h : HeaderView) (rest : List ℕ) → IsHeader h → file ≡ header_text h ++ rest → ⊥
+
+-- bytes begin with a header that has another number in this field
+pub record HasOtherHeader (file : List ℕ) (asked : HeaderView) (field : HeaderField) (number : ℕ) : Type 0 where
+  pub header : HeaderView
+  pub rest : List ℕ
+  pub lawful : IsHeader header
+  pub text : file ≡ header_text header ++ rest
+  pub found : number ≡ number_in field header
+  pub other : number ≢ number_in field asked
+
+-- bytes are this header, bodies that may follow it, each behind an open gate, and then these bytes, from this place on,
+-- and behind those bodies the file stands here
+pub record Reaches (file : List ℕ) (h : HeaderView) (at : ℕ) (last : Last) (rest : List ℕ) : Type 0 where
+  pub bodies : List BodyView
+  pub text : file ≡ header_text h ++ (opened bodies ++ rest)
+  pub place : at + length rest ≡ length file
+  pub lawful : bodies_after h start bodies ≡ Some last
+
+-- and no body that may follow stands at this place, behind an open gate
+pub record HasNoBody (file : List ℕ) (h : HeaderView) (at : ℕ) : Type 0 where
+  pub last : Last
+  pub text : List ℕ
+  pub gate : ℕ
+  pub behind : gate + 1 ≡ at
+  pub reached : Reaches file h gate last (1 ∷ text)
+  pub none : (body : BodyView) (now : Last) (rest : List ℕ) → IsBody h last body now rest text → ⊥
+
+-- the bytes have this flaw, where a file with this header was asked for
+abbrev pub HasFlaw : List ℕ → HeaderView → FileFlaw → Type 0
+HasFlaw file asked (TooShort n) = (length file ≡ n) × (n < 48) × IsHeadless file
+HasFlaw file asked NoHeader = IsHeadless file
+HasFlaw file asked (OtherHeader field found number) =
+    HasOtherHeader file asked field found × (number ≡ number_in field asked)
+HasFlaw file asked (NoGate at) = (last : Last) × Reaches file asked at last []
+HasFlaw file asked (NoBody at) = HasNoBody file asked at
+
+-- what they were found to be: the file with these bodies; or none, for this flaw
+abbrev pub IsExamined : List ℕ → HeaderView → Examined → Type 0
+IsExamined file asked (Whole bodies) = IsFile file asked (map body_of bodies.items)
+IsExamined file asked (Flawed flaw) =
+    HasFlaw file asked flaw × ((bodies : List BodyView) → IsFile file asked bodies → ⊥)

@@ -1,0 +1,94 @@
+//! Reading a log file to its first flaw.
+ghost use Rattle.std.specs.Prelude.{◌≡◌, ◌+◌, ◌++◌, ◌<◌, ◌^◌, List, ℕ, length, IfOk, IfErr};
+ghost use Rattle.money.specs.declared.refusal.Refusal.TheVariants.{OutOfMemory};
+ghost use Rattle.log_header.specs.Header.{HeaderView, IsHeader, header_text};
+ghost use Rattle.log_flaws.specs.Flaws.{HasFlaw, IsExamined, IsHeadless};
+
+use crate::field::first_difference;
+use crate::flaw::FileFlaw;
+use log_header::{Header, read_header};
+use log_text::{Body, Last, read_body};
+use money::Refusal;
+use std::alloc::Global;
+
+/// How many bytes a header has.
+const HEADER_BYTES: usize = 48;
+
+/// The byte of an open gate: a body stands behind it.
+const OPEN: u8 = 1;
+
+/// What bytes are found to be.
+#[derive(Drop)]
+pub enum Examined {
+    /// The log file that was asked for, with these bodies.
+    Whole(Vec<Body>),
+    /// None, for this flaw.
+    Flawed(FileFlaw),
+}
+
+/// Whether bytes are a log file with this header: its bodies, or the first flaw. As `log_text::read_file` reads them,
+/// and as dear. `OutOfMemory` is the only refusal.
+pub fn examine(alloc: Global, asked: &Header, file: &[u8]) -> Result<Examined, Refusal>
+    ensures examined { IfOk result (IsExamined file.now asked.now) }
+    ensures only_memory { IfErr result (λ refusal. refusal ≡ OutOfMemory) }
+{
+    let Some((header, bytes)) = read_header(file) else {
+        return Ok(Examined::Flawed(headless(file)));
+    };
+    if let Some(field) = first_difference(&header, asked) {
+        return Ok(Examined::Flawed(FileFlaw::OtherHeader {
+            field,
+            found: field.of(&header),
+            asked: field.of(asked),
+        }));
+    }
+    bodies_examined(alloc, asked, file, bytes)
+}
+
+/// The flaw of bytes that begin with no header.
+fn headless(file: &[u8]) -> FileFlaw
+    requires { IsHeadless file.now }
+    ensures flaw { (asked : HeaderView) → HasFlaw file.now asked result }
+{
+    if file.len() < HEADER_BYTES {
+        FileFlaw::TooShort {
+            length: file.len() as u64,
+        }
+    } else {
+        FileFlaw::NoHeader
+    }
+}
+
+/// What a file is found to be whose first bytes are the header that was asked for, and which has these bytes behind it.
+fn bodies_examined(
+    alloc: Global,
+    header: &Header,
+    file: &[u8],
+    bytes: &[u8],
+) -> Result<Examined, Refusal>
+    requires header { IsHeader header.now }
+    requires text { file.now ≡ header_text header.now ++ bytes.now }
+    ensures examined { IfOk result (IsExamined file.now header.now) }
+    ensures only_memory { IfErr result (λ refusal. refusal ≡ OutOfMemory) }
+{
+    let mut bodies = Vec::new(alloc);
+    let mut last = Last::start();
+    let mut rest = bytes;
+    'bodies: loop {
+        let gate = (file.len() - rest.len()) as u64;
+        let Some((byte, text)) = rest.split_first() else {
+            return Ok(Examined::Flawed(FileFlaw::NoGate { at: gate }));
+        };
+        if *byte != OPEN {
+            return Ok(Examined::Whole(bodies));
+        }
+        let (body, now, behind) = match read_body(alloc, header, last, text) {
+            Ok(read) => read,
+            Err(Refusal::Damaged) => return Ok(Examined::Flawed(FileFlaw::NoBody { at: gate + 1 })),
+            Err(_) => return Err(Refusal::OutOfMemory),
+        };
+        bodies.push(body)?;
+        last = now;
+        rest = behind;
+    }
+}

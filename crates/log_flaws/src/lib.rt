@@ -1,0 +1,11 @@
+//! What is wrong with the bytes of a log file that can't be read, so that a person can be told. Nothing that is recovered
+//! rests on it.
+#![tactic(auto)]
+
+mod examining;
+mod field;
+mod flaw;
+
+pub use examining::{Examined, examine};
+pub use field::HeaderField;
+pub use flaw::FileFlaw;

@@ -1,0 +1,118 @@
+//! Why a run on log files was refused.
+ghost use Rattle.std.specs.Prelude.{◌≡◌, ◌≤◌, length, IfSome};
+ghost use Rattle.money.specs.declared.refusal.Refusal.TheVariants.{Damaged, Device, Gap};
+ghost use Rattle.population.specs.Initial.{initial, seed_of};
+ghost use Rattle.command_line.specs.declared.asked.LogFiles.{LogFiles as LogFilesValue};
+ghost use Rattle.program.specs.Detail.{cause_of, cause_view};
+ghost use Rattle.program.specs.Logs.{HasBroken, IsWhy};
+
+use crate::fault::{Cause, Fault, Purpose};
+use crate::logs::path;
+use command_line::LogFiles;
+use disk::FileDisk;
+use money::Refusal;
+use population::Population;
+use recovery::{first_damage, first_gap};
+use std::alloc::Global;
+use tables::limits::MAX_LOGGERS;
+
+/// The fault of a refusal that came once the disks in log files were in use. Where a device failed, it tells the first
+/// file on whose disk a call has, unless memory is short.
+pub(crate) fn broken_off(
+    alloc: Global,
+    files: &LogFiles,
+    purpose: Purpose,
+    refusal: Refusal,
+    disks: &[FileDisk],
+) -> Fault
+    ensures refusal { result.refusal ≡ refusal }
+    ensures cause { IfSome (cause_of result) (HasBroken purpose files.now refusal) }
+{
+    match refusal {
+        Refusal::Device => Fault {
+            refusal,
+            cause: broken_file(alloc, files, purpose, disks),
+        },
+        _ => Fault::of(refusal),
+    }
+}
+
+/// The first file on whose disk a call has failed. None where none has, or for want of memory.
+fn broken_file(
+    alloc: Global,
+    files: &LogFiles,
+    purpose: Purpose,
+    disks: &[FileDisk],
+) -> Option<Cause>
+    ensures { IfSome result (λ cause. HasBroken purpose files.now Device (cause_view cause)) }
+{
+    for (logger, disk) in (0..files.loggers).zip(disks) {
+        if let Some(error) = disk.last_error() {
+            let path = path(alloc, files, logger).ok()?;
+            return Some(Cause::Unusable {
+                path,
+                trouble: purpose.broken_off(error),
+            });
+        }
+    }
+    None
+}
+
+/// The fault of a recovery that was refused. It tells the file that couldn't be read, or what is wrong with the files,
+/// for which it reads them once more, unless memory is short.
+pub(crate) fn unrecovered(
+    alloc: Global,
+    population: &Population,
+    files: &LogFiles,
+    refusal: Refusal,
+    disks: &mut [FileDisk],
+) -> Fault
+    requires { length disks.old ≡ files.now.loggers }
+    ensures refusal { result.refusal ≡ refusal }
+    ensures cause { IfSome (cause_of result) (IsWhy files.now (initial population.now) (seed_of population.now)
+        refusal) }
+{
+    match refusal {
+        Refusal::Damaged => Fault {
+            refusal,
+            cause: damaged_file(alloc, population, files, disks),
+        },
+        Refusal::Gap => Fault {
+            refusal,
+            cause: gap_in(alloc, population, disks),
+        },
+        _ => broken_off(alloc, files, Purpose::Read, refusal, disks),
+    }
+}
+
+/// The first file that isn't the log file that it is to be. None where none is, or it can't be told.
+fn damaged_file(
+    alloc: Global,
+    population: &Population,
+    files: &LogFiles,
+    disks: &mut [FileDisk],
+) -> Option<Cause>
+    requires { length disks.old ≡ files.now.loggers }
+    ensures { IfSome result (λ cause. IsWhy files.now (initial population.now) (seed_of population.now) Damaged
+        (cause_view cause)) }
+{
+    // A command line lets no more through.
+    if disks.len() > usize::from(MAX_LOGGERS) {
+        return None;
+    }
+    let damage = first_damage(alloc, population, disks).ok()??;
+    let path = path(alloc, files, u32::from(damage.logger)).ok()?;
+    Some(Cause::Flawed {
+        path,
+        flaw: damage.flaw,
+    })
+}
+
+/// The first number that is amiss of the commits that log files have. None where none is, or it can't be told.
+fn gap_in(alloc: Global, population: &Population, disks: &mut [FileDisk]) -> Option<Cause>
+    ensures { IfSome result (λ cause. (files : LogFilesValue) → IsWhy files (initial population.now)
+        (seed_of population.now) Gap (cause_view cause)) }
+{
+    let gap = first_gap(alloc, population, disks).ok()??;
+    Some(Cause::Amiss(gap))
+}

@@ -1,0 +1,47 @@
+//! The commits that count in log files.
+ghost use Rattle.std.specs.Prelude.{◌≡◌, ◌≢◌, ℕ, List, map, IfOk, IfErr};
+ghost use Rattle.std.specs.List.Sorted.{IsNonDecreasingBy, IsPermutation};
+ghost use Rattle.money.specs.declared.refusal.Refusal.TheVariants.{OutOfMemory, Damaged, Device};
+ghost use Rattle.log_text.specs.Bodies.{BodyView};
+ghost use Rattle.log_text.specs.Entries.{logged};
+ghost use Rattle.population.specs.Initial.{initial, seed_of};
+ghost use Rattle.rebuilt.specs.Found.{found};
+ghost use Rattle.recover.specs.Files.{AreFiles};
+
+use crate::durable::durable_of;
+use crate::files::read_all;
+use crate::numbering::sort;
+use crate::recovering::merged;
+use disk::Disk;
+use log_text::LoggedEntry;
+use money::Refusal;
+use population::Population;
+use std::alloc::Global;
+
+/// The commits up to the durable epoch that the log files of a population's database have, in the order of their
+/// numbers. Reads the disks, and writes nothing.
+///
+/// # Errors
+///
+/// As `recover`, but for `Gap`.
+pub fn commits_found<D: Disk>(
+    alloc: Global,
+    population: &Population,
+    disks: &mut [D],
+) -> Result<Vec<LoggedEntry>, Refusal>
+    ensures found { IfOk result (λ commits. (strings : List (List ℕ))
+        × (D.is_modelled → strings ≡ map D.seen disks.old) × (files : List (List BodyView))
+        × AreFiles (initial population.now).scale (seed_of population.now) strings files
+        × IsPermutation (found files) (map logged commits.items)) }
+    ensures sorted { IfOk result (λ commits. IsNonDecreasingBy (λ commit. commit.number) commits.items) }
+    ensures others { IfErr result (λ refusal. (refusal ≢ OutOfMemory) → (refusal ≢ Device) → refusal ≡ Damaged) }
+    ensures seen { D.is_modelled → map D.seen disks.new ≡ map D.seen disks.old }
+    ensures story { D.is_modelled → map D.story disks.new ≡ map D.story disks.old }
+{
+    let files = read_all(alloc, population, disks)?;
+    let durable = durable_of(&files);
+    let part = merged(alloc, &population.scale(), files, durable)?;
+    let mut commits = part.entries;
+    sort(&mut commits);
+    Ok(commits)
+}
