@@ -1,12 +1,10 @@
 //! A gate before whose commits another terminal pays.
-ghost use Rattle.std.specs.Prelude.{◌≡◌, length, IfOk};
+ghost use Rattle.std.specs.Prelude.{◌≡◌};
 ghost use Rattle.tables.specs.Inputs.{IsInput};
-ghost use Rattle.book.specs.Book.{IsWorkOf};
 
 use book::{Done, Engine, Run, Seat, Share};
 use cells::Reader;
 use money::{Cents, Refusal};
-use readset::Work;
 use std::alloc::Global;
 use std::marker::Model;
 use std::sync::Wait;
@@ -56,28 +54,31 @@ impl<K: Run> Payer<K> {
             amount: Cents::new(100),
         };
         let input = Input::payment(&engine.population().scale(), paid)?;
-        let work = executed(rt, alloc, engine, &mut self.reader, &input)?;
+        self.commit(rt, alloc, engine, &input)
+    }
+
+    fn commit<R: Wait>(
+        &mut self,
+        rt: &R,
+        alloc: Global,
+        engine: &Engine<K>,
+        input: &Input,
+    ) -> Result<Done, Refusal>
+        requires { IsInput K.first.scale input.now }
+    {
         let (board, cells) = (engine.board(), engine.cells());
+        let work = execute(
+            rt,
+            alloc,
+            cells,
+            &mut self.reader,
+            engine.population(),
+            input,
+        )?;
         engine
             .lock(rt)
             .commit(rt, board, cells, &mut self.reader, &mut self.share, work)
     }
-}
-
-fn executed<K: Run, R: Wait>(
-    rt: &R,
-    alloc: Global,
-    engine: &Engine<K>,
-    reader: &mut Reader,
-    input: &Input,
-) -> Result<Work, Refusal>
-    requires own { reader.old.cells ≡ K.cells }
-    requires input { IsInput K.first.scale input.now }
-    ensures reader { reader.new.cells ≡ K.cells }
-    ensures work { IfOk result (λ work. IsWorkOf K.first (length K.cells) reader.new work) }
-{
-    let (cells, population) = (engine.cells(), engine.population());
-    execute(rt, alloc, cells, reader, population, input)
 }
 
 /// A gate before whose commits, so often, another terminal pays: of what a Payment to that warehouse has read, its row is
