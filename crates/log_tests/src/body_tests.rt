@@ -217,6 +217,43 @@ fn fronts_that_break_a_rule_are_refused(rt: HostRuntime) -> Result<(), Fail> {
     Ok(())
 }
 
+/// A row of HISTORY and so many of ORDER-LINE.
+fn lines_behind_history(alloc: Global, lines: u32) -> Result<Vec<Write>, AllocError> {
+    let mut writes = Vec::new(alloc);
+    writes.push(HISTORY)?;
+    for place in 0..lines {
+        writes.push(present(Table::OrderLine, place, [1, 1, 0, 5, 500, 0, 0]))?;
+    }
+    Ok(writes)
+}
+
+#[test]
+fn an_entry_has_200_writes_beside_history_at_most(rt: HostRuntime) -> Result<(), Fail> {
+    for (lines, behind) in [(200, Some(BEHIND)), (201, None)] {
+        let writes = lines_behind_history(rt.alloc(), lines)?;
+        assert!(rt; writes.len() < 65_536);
+        assert!(rt; follows(rt.alloc(), Last::start(), FRONT, &writes)? == behind);
+    }
+    Ok(())
+}
+
+#[test]
+fn the_last_mark_and_the_last_epoch_behind_it(rt: HostRuntime) -> Result<(), Fail> {
+    let last = Front {
+        mark: 4_294_967_294,
+        tid: 4_294_967_295 << 32,
+        ..FRONT
+    };
+    let behind = Last {
+        mark: 4_294_967_294,
+        number: 1,
+        epoch: 4_294_967_295,
+    };
+    let now = follows(rt.alloc(), Last::start(), last, &[WAREHOUSE])?;
+    assert!(rt; now == Some(behind));
+    Ok(())
+}
+
 #[test]
 fn bodies_that_go_back_are_refused(rt: HostRuntime) -> Result<(), Fail> {
     let next = Front {

@@ -38,6 +38,15 @@ fn the_largest_numbers_are_read_back(rt: HostRuntime) -> Result<(), Fail> {
     Ok(())
 }
 
+/// The TID word of epoch 1 and sequence 2, as the latest version has it.
+#[test]
+fn a_tid_word_has_its_bytes(rt: HostRuntime) -> Result<(), Fail> {
+    let mut bytes = Vec::new(rt.alloc());
+    put_u64(&mut bytes, 4_294_967_314)?;
+    assert!(rt; bytes.as_slice() == [0x12, 0, 0, 0, 1, 0, 0, 0].as_slice());
+    Ok(())
+}
+
 #[test]
 fn a_number_leaves_what_stands_behind_it(rt: HostRuntime) -> Result<(), Fail> {
     let bytes = [1, 2, 3, 4, 5, 6, 7, 8, 9];

@@ -26,6 +26,16 @@ fn the_next_sequence_or_the_first_of_an_epoch(rt: HostRuntime) -> Result<(), Fai
     Ok(())
 }
 
+/// The word of the latest version by the third commit of epoch 1.
+#[test]
+fn the_word_of_an_epoch_and_a_sequence(rt: HostRuntime) {
+    let latest = Status {
+        latest: true,
+        ..NO_BITS
+    };
+    assert_eq!(rt; TidWord::pack(1, 2, latest).word(), 4_294_967_314);
+}
+
 #[test]
 fn no_tid_is_left(rt: HostRuntime) -> Result<(), Fail> {
     let none = TidWord::new(0);

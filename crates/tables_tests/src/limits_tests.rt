@@ -5,8 +5,8 @@ use population::Population;
 use std::alloc::{AllocError, Global};
 use std::test::Fail;
 use tables::limits::{
-    LAST_NAMES, MAX_COUNT, MAX_COUNT_STEP, MAX_LINE_AMOUNT, MAX_MONEY_STEP, MAX_PRICE, MAX_STOCK,
-    MIN_STOCK, RESTOCK,
+    LAST_EPOCH, LAST_NAMES, MAX_COUNT, MAX_COUNT_STEP, MAX_LINE_AMOUNT, MAX_LOGGERS, MAX_MARK,
+    MAX_MONEY_STEP, MAX_PRICE, MAX_STOCK, MAX_TERMINALS, MIN_STOCK, RESTOCK,
 };
 use tables::{
     DeliveryInput, Input, Lines, NewOrderInput, OrderStatusInput, PaymentInput, RequestedLine,
@@ -187,4 +187,11 @@ fn limits_of_columns(rt: HostRuntime) {
     assert_eq!(rt; [MAX_COUNT, LAST_NAMES], [1_000_000_000, 1_000]);
     assert_eq!(rt; [MIN_STOCK, MAX_STOCK, RESTOCK], [10, 100, 91]);
     assert_eq!(rt; [MAX_MONEY_STEP, MAX_COUNT_STEP], [15_000_000, 150]);
+}
+
+/// What an engine and its log files are held to.
+#[test]
+fn limits_of_engines(rt: HostRuntime) {
+    assert_eq!(rt; [MAX_TERMINALS, MAX_LOGGERS], [16, 8]);
+    assert_eq!(rt; [LAST_EPOCH, MAX_MARK], [4_294_967_295, 4_294_967_294]);
 }

@@ -131,6 +131,20 @@ fn prints_refusals(rt: HostRuntime) -> Result<(), Fail> {
     Ok(())
 }
 
+/// Those that no script and no file comes to.
+#[test]
+fn refusals_of_a_terminal(rt: HostRuntime) {
+    let told = [
+        (Refusal::Stale, 3, "Stale"),
+        (Refusal::Conflict, 4, "Conflict"),
+        (Refusal::EpochFull, 8, "EpochFull"),
+        (Refusal::GaveUp, 12, "GaveUp"),
+    ];
+    for (refusal, number, name) in told {
+        assert_eq!(rt; (refusal.number(), refusal.name()), (number, name));
+    }
+}
+
 fn pushed(alloc: Global) -> Result<Vec<u8>, Refusal> {
     let mut bytes = Vec::new(alloc);
     bytes.push(1)?;
