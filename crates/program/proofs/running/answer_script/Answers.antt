@@ -3,7 +3,6 @@ use Rattle.std.proofs.Math.Logic.{⊎_map}
 use Rattle.population.specs.Initial.{initial}
 use Rattle.program.specs.declared.fault.Fault.{Fault}
 use Rattle.program.specs.Detail.{cause_of}
-
 use Rattle.program.specs.Run.{IsBrokenOff}
 use Rattle.program.proofs.running.answer_script.Goals as goal
 

@@ -1,7 +1,6 @@
 use Rattle.std.proofs.Common.{refl}
 use Rattle.std.proofs.KnownBytes.{Appends-nil}
 use Rattle.program.specs.Detail.{cause_of}
-
 use Rattle.program.specs.Run.{fault, answered, refused}
 use Rattle.program.proofs.Beginnings.{nothing_begun}
 use Rattle.program.proofs.running.run.Goals as goal
