@@ -5,7 +5,7 @@ use book::Done;
 use conditions::Report;
 use money::{Cents, Refusal};
 use population::Population;
-use script::script;
+use script::{MAX_LINES, script};
 use std::alloc::Global;
 use std::io::{self, ErrorKind, Read, Write};
 use std::sync::Wait;
@@ -174,6 +174,12 @@ fn long_lines(rt: HostRuntime) -> Result<(), Fail> {
         );
     }
     Ok(())
+}
+
+/// No test has so many.
+#[test]
+fn how_many_lines_a_script_may_have(rt: HostRuntime) {
+    assert_eq!(rt; MAX_LINES, 4_000_000_000);
 }
 
 #[test]
