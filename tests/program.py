@@ -21,6 +21,7 @@ from pathlib import Path
 sys.dont_write_bytecode = True
 sys.path.insert(0, str(Path(__file__).resolve().parent.parent / "examples"))
 import devices
+import flaws
 import kills
 from checks import RUNS, SECONDS, SHOWN, SMALL, Checks, Ran, ends, fail, run, same, shows, shows_runs, start, whole
 from logs import LATER, LOGS, LONG, SCALE, TWO, body, contents_of, counts_of, entry, inputs_of, log, on_logs, run_in
@@ -293,25 +294,9 @@ def log_files_of_eight_loggers_are_recovered():
 
 
 @shows
-def log_files_that_are_none_are_refused():
-    damaged = [
-        ("47 bytes", [log(0, 1)[:47]]),
-        ("no gate", [log(0, 1)[:48]]),
-        ("an open gate and nothing behind", [log(0, 1)[:48] + b"\1"]),
-        ("the other order", LOGS[::-1]),
-        ("a mark that falls", [log(0, 1, body(5), body(4))]),
-        ("another logger's terminal", [log(0, 2, body(5, entry(1, 4, 1))), LATER]),
-    ]
+def faults_of_log_files_come_behind_those_of_a_scale():
     for subcommand in ("recover", "check"):
-        for what, files in damaged:
-            ends(f"of {subcommand} on {what}", on_logs(subcommand, files), 1, err=b"10 Damaged\n")
-        ran = on_logs(subcommand, LOGS, loggers=1)
-        ends(f"of {subcommand} on one of two", ran, 1, err=b"10 Damaged\n")
-        ran = on_logs(subcommand, LOGS, scale=[*SMALL[1:], "--population", "1"])
-        ends(f"of {subcommand} on another population", ran, 1, err=b"10 Damaged\n")
-        ran = on_logs(subcommand, [log(0, 2, body(5)), LATER])
-        ends(f"of {subcommand} on a gap", ran, 1, err=b"11 Gap\n")
-        ran = on_logs(subcommand, LOGS, scale=["--items", "1"])
+        ran = on_logs(subcommand, [b""], scale=["--items", "1"])
         text = b"13 BadScale\n--items is 1: it is to be from 20 to 100000\n"
         ends(f"of {subcommand} at a bad scale", ran, 2, err=text)
 
@@ -390,7 +375,8 @@ def a_run_begins_with_its_population():
         ends("with a seeded population", ran, 0, ran.out)
         logs = ["--logs", folder, "--loggers", "2"]
         ends("of check on it", run(["check", *scale, *logs]), 0, whole(b"", counts.commits))
-        ends("of check with the plain one", run(["check", *SCALE, *logs]), 1, err=b"10 Damaged\n")
+        text = f"10 Damaged\n{folder}/log-0: its header is of --population 1, and 0 was asked for\n"
+        ends("of check with the plain one", run(["check", *SCALE, *logs]), 1, err=text.encode())
 
 
 @shows_runs

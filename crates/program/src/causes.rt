@@ -3,8 +3,8 @@ ghost use Rattle.std.specs.Prelude.{◌≡◌, ◌≤◌, length, IfSome};
 ghost use Rattle.money.specs.declared.refusal.Refusal.TheVariants.{Damaged, Device, Gap};
 ghost use Rattle.population.specs.Initial.{initial, seed_of};
 ghost use Rattle.command_line.specs.declared.asked.LogFiles.{LogFiles as LogFilesValue};
-ghost use Rattle.program.specs.Detail.{cause_of, cause_view};
-ghost use Rattle.program.specs.Logs.{HasBroken, IsWhy};
+ghost use Rattle.program.specs.Detail.{Flawed, cause_of, cause_view};
+ghost use Rattle.program.specs.Logs.{HasBroken, IsWhy, path_of};
 
 use crate::fault::{Cause, Fault, Purpose};
 use crate::logs::path;
@@ -12,7 +12,7 @@ use command_line::LogFiles;
 use disk::FileDisk;
 use money::Refusal;
 use population::Population;
-use recovery::{first_damage, first_gap};
+use recovery::{Damage, first_damage, first_gap};
 use std::alloc::Global;
 use tables::limits::MAX_LOGGERS;
 
@@ -100,7 +100,17 @@ fn damaged_file(
     if disks.len() > usize::from(MAX_LOGGERS) {
         return None;
     }
-    let damage = first_damage(alloc, population, disks).ok()??;
+    match first_damage(alloc, population, disks) {
+        Ok(Some(damage)) => flawed(alloc, files, &damage),
+        _ => None,
+    }
+}
+
+/// The file of this damage. None for want of memory.
+fn flawed(alloc: Global, files: &LogFiles, damage: &Damage) -> Option<Cause>
+    ensures { IfSome result (λ cause. cause_view cause
+        ≡ Flawed (path_of files.now damage.now.logger) damage.now.flaw) }
+{
     let path = path(alloc, files, u32::from(damage.logger)).ok()?;
     Some(Cause::Flawed {
         path,
@@ -113,6 +123,8 @@ fn gap_in(alloc: Global, population: &Population, disks: &mut [FileDisk]) -> Opt
     ensures { IfSome result (λ cause. (files : LogFilesValue) → IsWhy files (initial population.now)
         (seed_of population.now) Gap (cause_view cause)) }
 {
-    let gap = first_gap(alloc, population, disks).ok()??;
-    Some(Cause::Amiss(gap))
+    match first_gap(alloc, population, disks) {
+        Ok(Some(gap)) => Some(Cause::Amiss(gap)),
+        _ => None,
+    }
 }

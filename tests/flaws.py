@@ -1,0 +1,91 @@
+"""Tests of the built program on log files that aren't those that it asks for: what is told of them."""
+
+from checks import SMALL, ends, shows
+from logs import LATER, LOGS, body, entry, log, on_logs
+
+# The same scale with other numbers, and what is then told of the first file.
+OTHER_NUMBERS = [
+    ("--warehouses 2", "--warehouses 1, and 2 were asked for"),
+    ("--districts 1", "--districts 2, and 1 was asked for"),
+    ("--customers 11", "--customers 10, and 11 were asked for"),
+    ("--items 21", "--items 20, and 21 were asked for"),
+    ("--orders 31", "--orders 30, and 31 were asked for"),
+    ("--commits 1", "--commits 1000, and 1 was asked for"),
+    ("--population 7", "--population 0, and 7 was asked for"),
+    # Of several, the first that stands in a header.
+    ("--population 7 --items 21", "--items 20, and 21 were asked for"),
+]
+
+
+def with_bytes(text, at, others):
+    """A text with other bytes from a place on."""
+    return text[:at] + others + text[at + len(others) :]
+
+
+FIRST = LOGS[0]
+
+# A body without entries takes 16 bytes, and its gate another.
+TWO_BODIES = log(0, 1, body(5), body(6))
+
+DAMAGED = [
+    ("no bytes", [b""], "log-0: it has 0 bytes, and a header has 48"),
+    ("47 bytes", [log(0, 1)[:47]], "log-0: it has 47 bytes, and a header has 48"),
+    ("another format", [with_bytes(TWO_BODIES, 0, b"T")], "log-0: bytes 0 to 47 are no header of a log file"),
+    ("another version", [with_bytes(TWO_BODIES, 8, b"\2")], "log-0: bytes 0 to 47 are no header of a log file"),
+    ("no warehouse", [with_bytes(TWO_BODIES, 16, b"\0")], "log-0: bytes 0 to 47 are no header of a log file"),
+    ("no gate", [log(0, 1)[:48]], "log-0: it ends at byte 48, where a gate is to stand"),
+    ("no last gate", [TWO_BODIES[:-1]], "log-0: it ends at byte 82, where a gate is to stand"),
+    ("an open gate and nothing behind", [log(0, 1)[:48] + b"\1"], "log-0: the body at byte 49 isn't one that may stand there"),
+    ("half a body", [TWO_BODIES[:75]], "log-0: the body at byte 66 isn't one that may stand there"),
+    ("a mark that falls", [log(0, 1, body(5), body(4))], "log-0: the body at byte 66 isn't one that may stand there"),
+    ("the other order", LOGS[::-1], "log-0: its header is of logger 1, and 0 was asked for"),
+    ("a file twice", [FIRST, FIRST], "log-1: its header is of logger 0, and 1 was asked for"),
+    ("a file of more loggers", [FIRST, log(1, 3)], "log-1: its header is of --loggers 3, and 2 were asked for"),
+    (
+        "another logger's terminal",
+        [log(0, 2, body(5, entry(1, 4, 1))), LATER],
+        "log-0: the body at byte 49 isn't one that may stand there",
+    ),
+    (
+        "a damaged second file",
+        [FIRST, log(1, 2, body(5), body(5, entry(2, 4, 1)), body(7))],
+        "log-1: the body at byte 66 isn't one that may stand there",
+    ),
+    # A file's header is told before its bodies are.
+    ("another header and no body", [log(1, 2)[:48], LATER], "log-0: its header is of logger 1, and 0 was asked for"),
+]
+
+
+@shows
+def the_first_flaw_of_log_files_is_told():
+    for subcommand in ("recover", "check"):
+        for what, files, text in DAMAGED:
+            err = f"10 Damaged\nDIR/{text}\n".encode()
+            ends(f"of {subcommand} on {what}", on_logs(subcommand, files), 1, err=err)
+        ran = on_logs(subcommand, LOGS, loggers=1)
+        err = b"10 Damaged\nDIR/log-0: its header is of --loggers 2, and 1 was asked for\n"
+        ends(f"of {subcommand} on one of two", ran, 1, err=err)
+        for words, text in OTHER_NUMBERS:
+            ran = on_logs(subcommand, LOGS, scale=[*SMALL[1:], *words.split()])
+            err = f"10 Damaged\nDIR/log-0: its header is of {text}\n".encode()
+            ends(f"of {subcommand} with {words}", ran, 1, err=err)
+
+
+# Files of two loggers, in which numbers are amiss that count up to epoch 5.
+GAPS = [
+    ("without commit 1", [log(0, 2, body(5)), LATER], "commit 1 is missing"),
+    ("without commit 2", [log(0, 2, body(5, entry(1, 4, 0), entry(3, 5, 0))), log(1, 2, body(5))], "commit 2 is missing"),
+    ("with commit 1 twice", [log(0, 2, body(5, entry(1, 4, 0))), log(1, 2, body(5, entry(1, 4, 1)))], "commit 1 stands twice"),
+    (
+        "with commit 2 twice and without 3",
+        [log(0, 2, body(5, entry(1, 4, 0), entry(2, 5, 0))), log(1, 2, body(5, entry(2, 4, 1), entry(4, 5, 1)))],
+        "commit 2 stands twice",
+    ),
+]
+
+
+@shows
+def the_first_gap_of_commits_is_told():
+    for subcommand in ("recover", "check"):
+        for what, files, text in GAPS:
+            ends(f"of {subcommand} {what}", on_logs(subcommand, files), 1, err=f"11 Gap\n{text}\n".encode())
