@@ -17,6 +17,12 @@ OTHER_NUMBERS = [
 ]
 
 
+def with_options(words, others):
+    """Words of options, each with a number behind it, with others in place of those of the same names or beside them."""
+    options = dict(zip(words[::2], words[1::2])) | dict(zip(others[::2], others[1::2]))
+    return [word for option in options.items() for word in option]
+
+
 def with_bytes(text, at, others):
     """A text with other bytes from a place on."""
     return text[:at] + others + text[at + len(others) :]
@@ -66,7 +72,7 @@ def the_first_flaw_of_log_files_is_told():
         err = b"10 Damaged\nDIR/log-0: its header is of --loggers 2, and 1 was asked for\n"
         ends(f"of {subcommand} on one of two", ran, 1, err=err)
         for words, text in OTHER_NUMBERS:
-            ran = on_logs(subcommand, LOGS, scale=[*SMALL[1:], *words.split()])
+            ran = on_logs(subcommand, LOGS, scale=with_options(SMALL[1:], words.split()))
             err = f"10 Damaged\nDIR/log-0: its header is of {text}\n".encode()
             ends(f"of {subcommand} with {words}", ran, 1, err=err)
 
