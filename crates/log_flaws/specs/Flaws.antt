@@ -1,10 +1,11 @@
 -- What keeps bytes from being the log file that was asked for.
-use Rattle.std.specs.Prelude.{◌≡◌, ◌≢◌, ℕ, ◌+◌, ◌<◌, Some, List, [], ◌∷◌, ◌++◌, length, map}
+use Rattle.std.specs.Prelude.{◌≡◌, ℕ, ◌+◌, ◌<◌, ◌≤◌, Some, List, [], ◌∷◌, ◌++◌, find, length, map}
 use Rattle.log_header.specs.Header.{HeaderView, IsHeader, header_text}
 use Rattle.log_text.specs.Bodies.{BodyView, bodies_after, body_of, start}
 use Rattle.log_text.specs.File.{IsBody, IsFile, opened}
 use Rattle.log_text.specs.declared.last.Last.{Last}
-use Rattle.log_flaws.specs.Fields.{number_in}
+use Rattle.log_flaws.specs.Fields.{differs, number_in}
+use Rattle.log_flaws.specs.declared.field.TheConstants.{FIELDS}
 use Rattle.log_flaws.specs.declared.field.HeaderField.{HeaderField}
 use Rattle.log_flaws.specs.declared.flaw.FileFlaw.{FileFlaw}
 use Rattle.log_flaws.specs.declared.flaw.FileFlaw.TheVariants.{TooShort, NoHeader, OtherHeader, NoGate, NoBody}
@@ -15,14 +16,14 @@ use Rattle.log_flaws.specs.declared.examining.Examined.TheVariants.{Whole, Flawe
 abbrev pub IsHeadless : List ℕ → Type 0
 IsHeadless file = (h : HeaderView) (rest : List ℕ) → IsHeader h → file ≡ header_text h ++ rest → ⊥
 
--- bytes begin with a header that has another number in this field
+-- bytes begin with a header that differs from the one asked for, first in this field, in which it has this number
 pub record HasOtherHeader (file : List ℕ) (asked : HeaderView) (field : HeaderField) (number : ℕ) : Type 0 where
   pub header : HeaderView
   pub rest : List ℕ
   pub lawful : IsHeader header
   pub text : file ≡ header_text header ++ rest
+  pub first : find (differs header asked) FIELDS ≡ Some field
   pub found : number ≡ number_in field header
-  pub other : number ≢ number_in field asked
 
 -- bytes are this header, bodies that may follow it, each behind an open gate, and then these bytes, from this place on,
 -- and behind those bodies the file stands here
@@ -44,7 +45,7 @@ pub record HasNoBody (file : List ℕ) (h : HeaderView) (at : ℕ) : Type 0 wher
 -- the bytes have this flaw, where a file with this header was asked for
 abbrev pub HasFlaw : List ℕ → HeaderView → FileFlaw → Type 0
 HasFlaw file asked (TooShort n) = (length file ≡ n) × (n < 48) × IsHeadless file
-HasFlaw file asked NoHeader = IsHeadless file
+HasFlaw file asked NoHeader = (48 ≤ length file) × IsHeadless file
 HasFlaw file asked (OtherHeader field found number) =
     HasOtherHeader file asked field found × (number ≡ number_in field asked)
 HasFlaw file asked (NoGate at) = (last : Last) × Reaches file asked at last []

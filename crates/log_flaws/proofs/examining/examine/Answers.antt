@@ -29,8 +29,8 @@ returns-in-Some-first_difference-clause-examined c =
           rest = c.in-Some.bytes.now;
           lawful = begins.0;
           text = begins.1;
+          first = found;
           found = number;
-          other = λ same. other (sym number ∙ same);
         },
         c.of-in-Some-first_difference.ensures,
       ),
