@@ -44,15 +44,14 @@ fn seen_of<K: Run, D: Disk + Drop>(
     })
 }
 
-/// Runs 500 inputs at each of four terminals. Answers what is seen of the run, what it comes to, and what W_YTD is to
-/// be, in cents: 200.00, as at the start, and all that was paid.
-fn run_of<K: Run + Send + Sync, D: Disk + Send + Drop, R: Threads + Wait + Sync>(
+/// Runs 500 inputs at each of four terminals.
+fn outcome_of<K: Run + Send + Sync, D: Disk + Send + Drop, R: Threads + Wait + Sync>(
     rt: &R,
     alloc: Global,
     parts: Parts,
     meeting: &Meeting,
     disks: (D, D),
-) -> Result<(Seen, Books, i64), Refusal>
+) -> Result<Outcome<K, D>, Refusal>
     requires fresh { IsFresh parts }
     requires run { IsRunOf parts K.first K.past K.cells K.board K.seed }
     requires ledger { (ledger_name parts ≡ K.name) × (ledger_parts parts ≡ K.parts) }
@@ -70,9 +69,35 @@ fn run_of<K: Run + Send + Sync, D: Disk + Send + Drop, R: Threads + Wait + Sync>
     let logs = logs(alloc, engine.population(), engine.board(), loggers, slots)?;
     let stations = stations(alloc, engine.population().scale(), meeting)?;
     let desks = Desks { clock, terminals };
-    let outcome = run(rt, alloc, engine, desks, logs, stations, 500)?;
+    run(rt, alloc, engine, desks, logs, stations, 500)
+}
+
+/// The same. Answers what is seen of the run, what it comes to, and what W_YTD is to be, in cents: 200.00, as at the
+/// start, and all that was paid.
+fn run_of<K: Run + Send + Sync, D: Disk + Send + Drop, R: Threads + Wait + Sync>(
+    rt: &R,
+    alloc: Global,
+    parts: Parts,
+    meeting: &Meeting,
+    disks: (D, D),
+) -> Result<(Seen, Books, i64), Refusal>
+    requires fresh { IsFresh parts }
+    requires run { IsRunOf parts K.first K.past K.cells K.board K.seed }
+    requires ledger { (ledger_name parts ≡ K.name) × (ledger_parts parts ≡ K.parts) }
+    requires loggers { (loggers_of parts ≡ 2) × (base_of parts ≡ 0) }
+    requires terminals { terminals_of parts ≡ 4 }
+    requires empty { D.is_modelled → (D.seen disks.0 ≡ []) × (D.seen disks.1 ≡ []) }
+{
+    let outcome = outcome_of::<K, D, R>(rt, alloc, parts, meeting, disks)?;
+    told_of(alloc, &outcome)
+}
+
+fn told_of<K: Run, D: Disk + Drop>(
+    alloc: Global,
+    outcome: &Outcome<K, D>,
+) -> Result<(Seen, Books, i64), Refusal> {
     let paid = paid(&outcome.closed).saturating_add(20_000);
-    Ok((seen_of(alloc, &outcome)?, Books::of_run(&outcome)?, paid))
+    Ok((seen_of(alloc, outcome)?, Books::of_run(outcome)?, paid))
 }
 
 #[test]

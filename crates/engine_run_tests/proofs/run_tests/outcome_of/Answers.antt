@@ -1,6 +1,6 @@
 use Rattle.std.proofs.Common.{◌∙◌, ap}
 use Rattle.tables.specs.Database.{Database}
-use Rattle.engine_run_tests.proofs.run_tests.run_of.Goals as goal
+use Rattle.engine_run_tests.proofs.run_tests.outcome_of.Goals as goal
 
 pub run-requires-clause-logs : goal.run-requires-clause-logs
 run-requires-clause-logs g c κs within = λ k d h. c.in_ok-logs.ensures k d h ∙ c.board.ensures
