@@ -1,9 +1,9 @@
 #!/usr/bin/env python3
 """Prints the rows of seeded populations and the first inputs of decks, from their definitions alone.
 
-    python3 tests/draws.py > crates/drawn/stdout
+    python3 tests/draws.py > crates/tests_drawn/stdout
 
-The program crates/drawn must print the same. This program shares nothing with it: the generator is PCG XSH RR 64/32
+The program crates/tests_drawn must print the same. This program shares nothing with it: the generator is PCG XSH RR 64/32
 (O'Neill 2014), and numbers of a range and shuffles are as the Rust crate rand 0.10 makes them. What isn't drawn is left
 out.
 """

@@ -14,7 +14,7 @@ use Rattle.board.specs.declared.rule.Role.TheVariants.{Terminal, Book, Clock, Lo
 use Rattle.board.specs.declared.rule.WordStep.{WordStep}
 use Rattle.board.specs.declared.rule.WordStep.TheVariants.{LoadEpoch, AddEpoch, CountCommit, StoreFloor, StoreMark, LoadMark, RaiseDurable, LoadDurable}
 use Rattle.board.specs.Words.{mark_in, floor_in, epoch_in, count_in, durable_in}
-use Rattle.board.specs.Steps.{known_epoch, counted, stored_mark, seen_durable, RespectsFloors, AllStand}
+use Rattle.board.specs.Steps.{known_epoch, counted_epochs, stored_mark, seen_durable, RespectsFloors, AllStand}
 use Rattle.board.specs.Rule.{role_number, KnowsOwn, IsLawfulBoard}
 use Rattle.board.specs.Plays.{with_step, IsUpToMarks}
 use Rattle.board.specs.Plays.{LoadsEpochOf, AddsEpochOf, CountsCommitOf, StoresFloorOf, StoresMarkOf, LoadsMarkOf, RaisesDurableOf, LoadsDurableOf}
@@ -156,7 +156,7 @@ adds_epoch plan slots seat me role room =
     ))
 
 count_moves : (plan : Plan) (words : List ℕ) (views : List View) (v : View) (epoch n : ℕ) → IsLawfulBoard plan words views → v.role ≡ Book
-    → n ≡ length (counted v.steps) + 1 → epoch ≡ known_epoch plan.base v.steps → AllStand words v.steps → KnowsOwn plan words Book v.steps
+    → n ≡ length (counted_epochs v.steps) + 1 → epoch ≡ known_epoch plan.base v.steps → AllStand words v.steps → KnowsOwn plan words Book v.steps
     → RespectsFloors v.steps → IsMove plan words (set words 17 n) v (CountCommit epoch)
 count_moves plan words views v epoch n lawful role next known stand own respects =
     let size = lawful.size in
@@ -177,14 +177,14 @@ count_moves plan words views v epoch n lawful role next known stand own respects
       stands = omega arith;
       respects = (floors_up_to epoch words v.steps (λ l low. let f = own.1 l low in omega arith) stand, respects);
       owns = subst (λ r. KnowsOwn plan (set words 17 n) r (CountCommit epoch ∷ v.steps)) (sym role) (
-        here ∙ (next ∙ add-one (length (counted v.steps))),
+        here ∙ (next ∙ add-one (length (counted_epochs v.steps))),
         λ l low. let f = get_or-set_other words 17 (8 + l) n 0 (λ e. omega arith) in let was = own.1 l low in omega arith,
       );
       others = others_still plan words 17 n (role_number v.role)
           (λ r other. beside_count plan few r (λ e. other (e ∙ sym (ap role_number role))));
     }
 
-pub counts_commit : (plan : Plan) (slots seat : ℕ) (me : Me (Unit {0}) View) → me.0.role ≡ Book → length (counted me.0.steps) < 2 ^ 64 - 1
+pub counts_commit : (plan : Plan) (slots seat : ℕ) (me : Me (Unit {0}) View) → me.0.role ≡ Book → length (counted_epochs me.0.steps) < 2 ^ 64 - 1
     → Allows (λ s. IsLawfulBoard plan s.words s.views) slots seat me 17 (λ n. (n + 1) % 2 ^ 64) (λ found after. CountsCommitOf me.0 after.0)
 counts_commit plan slots seat me role room =
     allows plan slots seat 17 me (λ n. (n + 1) % 2 ^ 64) (λ found after. CountsCommitOf me.0 after.0)
@@ -192,7 +192,7 @@ counts_commit plan slots seat me role room =
     let v = me.0 in
     let fits = lawful.seats seat v at in
     let own : KnowsOwn plan words Book v.steps = subst (λ r. KnowsOwn plan words r v.steps) role fits.owns in
-    let count : count_in words ≡ length (counted v.steps) = own.0 in
+    let count : count_in words ≡ length (counted_epochs v.steps) = own.0 in
     let epoch = known_epoch v.plan.base v.steps in
     let known : known_epoch v.plan.base v.steps ≡ known_epoch plan.base v.steps = ap (λ (p : Plan). known_epoch p.base v.steps) fits.planned in
     let whole : (count_in words + 1) % 2 ^ 64 ≡ count_in words + 1 = mod-eq_of_lt (omega arith) in (

@@ -10,7 +10,7 @@ use Rattle.board.specs.declared.rule.Role.{Role}
 use Rattle.board.specs.declared.rule.Role.TheVariants.{Terminal, Book, Clock, Logger}
 use Rattle.board.specs.declared.rule.WordStep.{WordStep}
 use Rattle.board.specs.Words.{mark_in, floor_in, epoch_in, count_in, durable_in, last_epoch}
-use Rattle.board.specs.Steps.{known_epoch, counted, stored_mark, RespectsFloors, AllStand}
+use Rattle.board.specs.Steps.{known_epoch, counted_epochs, stored_mark, RespectsFloors, AllStand}
 
 -- the number of a role. Terminals share theirs; each other role has one seat
 abbrev pub role_number : Role → ℕ
@@ -23,7 +23,7 @@ role_number (Logger logger) = logger + 3
 -- that it knows; the clock's E; a logger's its local mark, which is what it has noted as kept
 abbrev pub KnowsOwn : Plan → List ℕ → Role → List WordStep → Type 0
 KnowsOwn plan words Terminal steps = Unit {0}
-KnowsOwn plan words Book steps = (count_in words ≡ length (counted steps))
+KnowsOwn plan words Book steps = (count_in words ≡ length (counted_epochs steps))
     × ((l : ℕ) → l < MAX_LOGGERS → floor_in words l ≤ known_epoch plan.base steps)
 KnowsOwn plan words Clock steps = epoch_in words ≡ known_epoch plan.base steps
 KnowsOwn plan words (Logger logger) steps = (logger < plan.loggers)

@@ -14,10 +14,10 @@ known_epoch base (AddEpoch epoch ∷ steps) = epoch
 known_epoch base (_ ∷ steps) = known_epoch base steps
 
 -- the epochs of the commits that it counted, newest first
-abbrev pub counted : List WordStep → List ℕ
-counted [] = []
-counted (CountCommit epoch ∷ steps) = epoch ∷ counted steps
-counted (_ ∷ steps) = counted steps
+abbrev pub counted_epochs : List WordStep → List ℕ
+counted_epochs [] = []
+counted_epochs (CountCommit epoch ∷ steps) = epoch ∷ counted_epochs steps
+counted_epochs (_ ∷ steps) = counted_epochs steps
 
 -- the last local mark that it stored: up to this epoch the logger has noted its commits as kept
 abbrev pub stored_mark : ℕ → List WordStep → ℕ

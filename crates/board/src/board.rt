@@ -4,7 +4,7 @@ ghost use Rattle.board.specs.Words.{last_epoch};
 ghost use Rattle.money.specs.declared.refusal.Refusal.TheVariants.{EpochFull};
 ghost use Rattle.board.specs.declared.rule.WordStep.TheVariants.{LoadEpoch, AddEpoch, CountCommit, StoreFloor};
 ghost use Rattle.board.specs.declared.rule.WordStep.TheVariants.{StoreMark, LoadDurable};
-ghost use Rattle.board.specs.Steps.{known_epoch, counted, stored_mark, seen_durable, RespectsFloors};
+ghost use Rattle.board.specs.Steps.{known_epoch, counted_epochs, stored_mark, seen_durable, RespectsFloors};
 ghost use Rattle.board.specs.Seats.{noted, logger_number};
 ghost use Rattle.board.specs.Publishing.{IsLeastMark, Publishes, with_loads};
 ghost use Rattle.board.specs.Opening.{EndsWithDurable};
@@ -81,7 +81,7 @@ impl Board {
     pub fn commit_step(&self, seat: &mut BookSeat, epoch: u64)
         requires own { seat.old.board ≡ self.now }
         requires loaded { epoch ≡ known_epoch self.now.plan.base seat.old.steps }
-        requires room { length (counted seat.old.steps) < 2 ^ 64 - 1 }
+        requires room { length (counted_epochs seat.old.steps) < 2 ^ 64 - 1 }
         ensures { seat.new ≡ noted seat.old (CountCommit epoch) }
     {
         // The board counts commits alone; their epochs are noted in the seat.

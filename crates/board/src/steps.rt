@@ -6,7 +6,7 @@ ghost use Rattle.tables.specs.declared.limits.TheConstants.{MAX_LOGGERS};
 ghost use Rattle.board.specs.declared.rule.Role.TheVariants.{Book, Clock, Logger};
 ghost use Rattle.board.specs.declared.rule.WordStep.TheVariants.{AddEpoch, CountCommit, StoreFloor};
 ghost use Rattle.board.specs.declared.rule.WordStep.TheVariants.{StoreMark, LoadMark, RaiseDurable};
-ghost use Rattle.board.specs.Steps.{known_epoch, counted, stored_mark};
+ghost use Rattle.board.specs.Steps.{known_epoch, counted_epochs, stored_mark};
 ghost use Rattle.board.specs.Words.{last_epoch};
 ghost use Rattle.board.specs.Plays.{HasSeatAt, IsUpToMarks, with_step, LoadsEpochOf, LoadsDurableOf};
 
@@ -58,7 +58,7 @@ pub(crate) fn add_epoch(words: &Words, seat: &mut WordSeat) -> u64
 pub(crate) fn count_commit(words: &Words, seat: &mut WordSeat)
     requires own { HasSeatAt words.now.table_id seat.old }
     requires book { seat.old.me.0.role ≡ Book }
-    requires room { length (counted seat.old.me.0.steps) < 2 ^ 64 - 1 }
+    requires room { length (counted_epochs seat.old.me.0.steps) < 2 ^ 64 - 1 }
     ensures own { seat.new.table_id ≡ seat.old.table_id }
     ensures told { seat.new.me.0 ≡ with_step seat.old.me.0
         (CountCommit (known_epoch seat.old.me.0.plan.base seat.old.me.0.steps)) }

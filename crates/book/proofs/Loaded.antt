@@ -9,11 +9,11 @@ use Rattle.tables.specs.declared.limits.TheConstants.{MAX_COMMITS}
 use Rattle.tidword.specs.TidWord.{epoch_of}
 use Rattle.cells.specs.Versions.{last_tid}
 use Rattle.cells.specs.Records.{PenView, at}
-use Rattle.board.specs.Steps.{known_epoch, counted}
+use Rattle.board.specs.Steps.{known_epoch, counted_epochs}
 use Rattle.board.specs.Seats.{BoardView, SeatView, noted}
 use Rattle.board.specs.declared.rule.WordStep.TheVariants.{LoadEpoch, CountCommit}
 use Rattle.book.specs.Epochs.{HasCounted, found_epoch}
-use Rattle.book.specs.Ready.{IsPassed, IsReady, IsWithin}
+use Rattle.book.specs.Ready.{IsPassed, IsReady, IsTidWithin}
 use Rattle.book.specs.Stamps.{last_of}
 use Rattle.book.specs.declared.entry.Entry.{Entry}
 
@@ -37,7 +37,7 @@ ready_later past t0 run_cells old new written history t later r = record {
     up : (n : ℕ) → n ≤ old → n ≤ new
     up n h = omega (arith, h, later)
 
-    within : (tid : ℕ) → IsWithin old (length history) tid → IsWithin new (length history) tid
+    within : (tid : ℕ) → IsTidWithin old (length history) tid → IsTidWithin new (length history) tid
     within tid w = record { bits = w.bits; in_epoch = up (epoch_of tid) w.in_epoch; sequence = w.sequence }
 
 -- E as the book's seat, of this board, has just loaded it
@@ -55,14 +55,14 @@ ready_loaded seat {epoch = epoch} {past = past} {t0 = t0} {t = t} {run_cells = r
 -- a commit that is counted, with its epoch
 pub counts_on : (seat : SeatView) (history : List Entry) (epoch : ℕ) (entry : Entry) → HasCounted seat history → epoch_of entry.tid ≡ epoch
     → HasCounted (noted (noted seat (LoadEpoch epoch)) (CountCommit epoch)) (history ++ entry ∷ [])
-counts_on seat history epoch entry has is = reverse_onto (counted seat.steps) epoch []
+counts_on seat history epoch entry has is = reverse_onto (counted_epochs seat.steps) epoch []
     ∙ (λ i. has i ++ sym is i ∷ [])
     ∙ sym (map-append (λ (e : Entry). epoch_of e.tid) history (entry ∷ []))
 
 -- as many are counted as there are, so there is room for one more
 pub may_count : (seat : SeatView) (history : List Entry) (cap : ℕ) → HasCounted seat history → length history < cap → cap ≤ MAX_COMMITS
-    → length (counted seat.steps) < 2 ^ 64 - 1
+    → length (counted_epochs seat.steps) < 2 ^ 64 - 1
 may_count seat history cap has below few = omega (arith, as_many, below, few)
   where
-    as_many : length (counted seat.steps) ≡ length history
-    as_many = sym (length-reverse (counted seat.steps)) ∙ ap length has ∙ length-map history (λ (e : Entry). epoch_of e.tid)
+    as_many : length (counted_epochs seat.steps) ≡ length history
+    as_many = sym (length-reverse (counted_epochs seat.steps)) ∙ ap length has ∙ length-map history (λ (e : Entry). epoch_of e.tid)

@@ -9,7 +9,7 @@ use Rattle.tables.specs.Records.{record_count}
 use Rattle.tables.specs.WellFormed.{IsWellFormed}
 use Rattle.cells.specs.Records.{ReaderView}
 use Rattle.readset.specs.declared.work.Work.{Work}
-use Rattle.book.specs.Book.{IsWorkOf, AreInOrder, entry_of}
+use Rattle.book.specs.Book.{IsWorkOf, AreInRecordOrder, entry_of}
 use Rattle.book.specs.History.{replay, CommitsAt}
 use Rattle.book.specs.Loggable.{IsLoggable, AreLoggable}
 use Rattle.tables.specs.declared.limits.TheConstants.{MAX_TERMINALS}
@@ -26,7 +26,7 @@ first_loggable s terminals few = record {
 
 -- one entry more
 pub next_loggable : (t0 : Database) (terminals cells : ℕ) (history : List Entry) (reader : ReaderView) (work : Work) (number tid terminal : ℕ)
-    → AreLoggable t0.scale terminals history → IsWorkOf t0 cells reader work → cells ≡ record_count t0.scale → AreInOrder work.reads work.writes
+    → AreLoggable t0.scale terminals history → IsWorkOf t0 cells reader work → cells ≡ record_count t0.scale → AreInRecordOrder work.reads work.writes
     → CommitsAt (replay t0 history) work.input work.writes work.reply → IsWellFormed (after (replay t0 history) work.input) → terminal < terminals
     → AreLoggable t0.scale terminals (history ++ entry_of number tid terminal work ∷ [])
 next_loggable t0 terminals cells history reader work number tid terminal are is_work count ordered commits well_formed own =

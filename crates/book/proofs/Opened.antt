@@ -14,9 +14,9 @@ use Rattle.cells.specs.Versions.{tid, last_tid, value_in}
 use Rattle.cells.specs.Records.{PenView, at}
 use Rattle.cells.specs.declared.cells.Newest.{Newest}
 use Rattle.encoding.specs.Newest.{words_at, AreFirst}
-use Rattle.laws.proofs.NamesKept.{IsOf-itself}
+use Rattle.tables_laws.proofs.NamesKept.{IsOf-itself}
 use Rattle.book.specs.Book.{IsSound}
-use Rattle.book.specs.Ready.{IsWithin, IsPassed, IsFree, IsReady, AreLast, AreNewest}
+use Rattle.book.specs.Ready.{IsTidWithin, IsPassed, IsFree, IsReady, AreLast, AreNewest}
 use Rattle.encoding.proofs.Positions.{at_first}
 use Rattle.book.proofs.Sound.{last_one}
 
@@ -32,8 +32,8 @@ first_tid : (w : Option (List ℕ)) → tid (first_version w) ≡ 0
 first_tid (Some words) = omega arith
 first_tid None = omega arith
 
-within_first : (epoch tid : ℕ) → tid ≡ 0 → IsWithin epoch 0 tid
-within_first epoch tid none = subst (IsWithin epoch 0) (sym none) (record { bits = omega arith; in_epoch = omega arith; sequence = omega arith })
+within_first : (epoch tid : ℕ) → tid ≡ 0 → IsTidWithin epoch 0 tid
+within_first epoch tid none = subst (IsTidWithin epoch 0) (sym none) (record { bits = omega arith; in_epoch = omega arith; sequence = omega arith })
 
 -- no terminal has committed
 pub first_lasts : (terminals count : ℕ) (lasts : List ℕ) → lasts ≡ replicate count 0 → count ≡ terminals → AreLast terminals [] lasts

@@ -4,8 +4,8 @@ use Rattle.std.proofs.lemmas.List.{append-nil, append_assoc}
 use Rattle.tables.specs.Database.{Database}
 use Rattle.tables.specs.Apply.{after}
 use Rattle.tables.specs.Constant.{IsOf}
-use Rattle.laws.proofs.NamesKept.{IsOf-itself}
-use Rattle.laws.proofs.Kept.{after-IsOf}
+use Rattle.tables_laws.proofs.NamesKept.{IsOf-itself}
+use Rattle.tables_laws.proofs.Kept.{after-IsOf}
 use Rattle.readset.specs.Writes.{added}
 use Rattle.book.specs.History.{replay, rows_added, CommitsAt, Replays}
 use Rattle.book.specs.declared.entry.Entry.{Entry}

@@ -39,7 +39,7 @@ use Rattle.readset.specs.declared.work.Work.{Work}
 use Rattle.readset.proofs.Numbers.{same_test, other_test, same_number as same_key}
 use Rattle.book.specs.History.{committed_version, new_versions, later_versions}
 use Rattle.book.specs.Stamps.{last_of, greatest_tid, tid_for}
-use Rattle.book.specs.Book.{BookView, IsSound, IsWorkOf, AreInOrder, AreLatest, HasConflict}
+use Rattle.book.specs.Book.{BookView, IsSound, IsWorkOf, AreInRecordOrder, AreLatest, HasConflict}
 use Rattle.book.specs.Ready.{IsReady, IsFree}
 use Rattle.book.specs.Shows.{reads_of, Mirrors, IsCommitRun, IsFullRun, IsStaleRun}
 use Rattle.book.proofs.Sound.{value_in_version, last_one}
@@ -112,7 +112,7 @@ each_current m reads all n v e = All-contains (IsCurrent m) reads (n, v) (all_cu
 
 module _ (past : ℕ) (t0 : Database) (run_cells : List TableId) (epoch : ℕ) (k : BookView) (t : Database)
     (sound : IsSound past t0 k.written k.history t) (ready : IsReady past t0 run_cells epoch k.written k.history t)
-    (reader : ReaderView) (work : Work) (is_work : IsWorkOf t0 (length run_cells) reader work) (order : AreInOrder work.reads work.writes)
+    (reader : ReaderView) (work : Work) (is_work : IsWorkOf t0 (length run_cells) reader work) (order : AreInRecordOrder work.reads work.writes)
     (terminal w : ℕ) (m : Machine) (shows : Mirrors k terminal epoch work.reads m w) where
   abbrev reads : Reads
   reads = reads_of work.reads

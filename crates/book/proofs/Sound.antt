@@ -13,7 +13,7 @@ use Rattle.tables.specs.Records.{record_count}
 use Rattle.tables.specs.Rows.{rows}
 use Rattle.tables.specs.WellFormed.{HasRoom}
 use Rattle.tables.specs.declared.limits.TheConstants.{MAX_COMMITS}
-use Rattle.laws.proofs.Kept.{after-IsWellFormed, after-HasRoom, after-IsConsistent, after-IsOf}
+use Rattle.tables_laws.proofs.Kept.{after-IsWellFormed, after-HasRoom, after-IsConsistent, after-IsOf}
 use Rattle.std.proofs.lemmas.Bool.{cases_eq, eq-eqb, ne_eqb}
 use Rattle.tidword.proofs.Words.{installed-tid, installed-present, installed-absent}
 use Rattle.cells.specs.First.{first_version}
@@ -27,7 +27,7 @@ use Rattle.readset.specs.declared.work.Work.{Work}
 use Rattle.book.specs.History.{replay, CommitsAt, IsLegal, committed_version, new_versions, entry_versions, later_versions}
 use Rattle.book.specs.Book.{IsSound, IsWorkOf, IsRead, AreLatest, entry_of}
 use Rattle.book.specs.Stamps.{last_of}
-use Rattle.book.specs.Ready.{IsReady, IsWithin, IsFree}
+use Rattle.book.specs.Ready.{IsReady, IsTidWithin, IsFree}
 use Rattle.book.proofs.Stamped.{all_stamped, all_passed, last_here, last_there, within_more}
 use Rattle.book.specs.declared.entry.Entry.{Entry}
 use Rattle.book.proofs.Executed.{explains_where_consistent}
@@ -95,15 +95,15 @@ module _ (past : ℕ) (t0 : Database) (run_cells : List TableId) (epoch : ℕ) (
   done_there = subst (λ s. CommitsAt s work.input work.writes work.reply) (sym sound.legal.end) (record { input = input_of; commit = commits_there })
 
   -- a TID that a version read has is its record's last
-  pub read_within : (seen : ℕ) → IsRead work.reads seen → IsWithin epoch (length history) seen
-  read_within seen (inl none) = subst (IsWithin epoch (length history)) (sym none)
+  pub read_within : (seen : ℕ) → IsRead work.reads seen → IsTidWithin epoch (length history) seen
+  read_within seen (inl none) = subst (IsTidWithin epoch (length history)) (sym none)
       (record { bits = omega arith; in_epoch = omega arith; sequence = omega arith })
   read_within seen (inr read) =
-      subst (IsWithin epoch (length history)) (last_tid-last (at written.all read.0) (words_of read.1) (latest read.0 read.1 read.2) ∙ sym read.3)
+      subst (IsTidWithin epoch (length history)) (last_tid-last (at written.all read.0) (words_of read.1) (latest read.0 read.1 read.2) ∙ sym read.3)
       (ready.records read.0 (is_work.read.within read.0 read.1 read.2))
 
   module _ (terminal tid_is : ℕ) (new : PenView) (below_cap : past + length history < t0.scale.commits) (cells : new.cells ≡ written.cells)
-      (within : IsWithin epoch (length history + 1) tid_is) (in_epoch : tid_is / 2 ^ 32 ≡ epoch)
+      (within : IsTidWithin epoch (length history + 1) tid_is) (in_epoch : tid_is / 2 ^ 32 ≡ epoch)
       (above_last : last_of terminal history < tid_is)
       (above : (n : ℕ) (value : Option (List ℕ)) → value_for work.writes n ≡ Some value → last_tid (at written.all n) < tid_is)
       (stores : (n : ℕ) → at new.all n ≡ at written.all n ++ new_versions tid_is work.writes.values n) where
@@ -208,10 +208,10 @@ module _ (past : ℕ) (t0 : Database) (run_cells : List TableId) (epoch : ℕ) (
       latest = last_value;
     }
 
-    terminals_within : (one : ℕ) → IsWithin epoch (length history + 1) (last_of one (history ++ entry ∷ []))
+    terminals_within : (one : ℕ) → IsTidWithin epoch (length history + 1) (last_of one (history ++ entry ∷ []))
     terminals_within one = ⊎_elim
-        (λ (same : terminal ≡ one). subst (IsWithin epoch (length history + 1)) (sym (last_here history entry one same)) within)
-        (λ (other : terminal ≢ one). subst (IsWithin epoch (length history + 1)) (sym (last_there history entry one other))
+        (λ (same : terminal ≡ one). subst (IsTidWithin epoch (length history + 1)) (sym (last_here history entry one same)) within)
+        (λ (other : terminal ≢ one). subst (IsTidWithin epoch (length history + 1)) (sym (last_there history entry one other))
         (within_more epoch (length history) _ (ready.terminals one)))
         (cases_eq terminal one)
 
@@ -222,9 +222,9 @@ module _ (past : ℕ) (t0 : Database) (run_cells : List TableId) (epoch : ℕ) (
       count = ready.count;
       passed = all_passed epoch written new history (history ++ entry ∷ []) entry refl from_epoch above_last above_records written_records grows
           within.in_epoch ready.passed;
-      records = λ n h. subst (λ m. IsWithin epoch m (last_tid (at new.all n))) (sym longer)
-          (by_record (IsWithin epoch (length history + 1)) n (λ _. within_more epoch (length history) _ (ready.records n h)) (λ _ _. within));
-      terminals = λ one. subst (λ m. IsWithin epoch m (last_of one (history ++ entry ∷ []))) (sym longer) (terminals_within one);
+      records = λ n h. subst (λ m. IsTidWithin epoch m (last_tid (at new.all n))) (sym longer)
+          (by_record (IsTidWithin epoch (length history + 1)) n (λ _. within_more epoch (length history) _ (ready.records n h)) (λ _ _. within));
+      terminals = λ one. subst (λ m. IsTidWithin epoch m (last_of one (history ++ entry ∷ []))) (sym longer) (terminals_within one);
       free = last_free;
       cap = subst (λ n. past + n ≤ t0.scale.commits) (sym longer) (omega (arith, below_cap));
       few = ready.few;

@@ -16,7 +16,7 @@ use Rattle.cells.specs.declared.cells.Version.{Version}
 use Rattle.readset.specs.Reads.{ReadSetView}
 use Rattle.readset.specs.Writes.{value_for}
 use Rattle.book.specs.Stamps.{Follows, AreStamped, last_from, last_of, greatest_tid}
-use Rattle.book.specs.Ready.{IsWithin, IsPassed, AreLast}
+use Rattle.book.specs.Ready.{IsTidWithin, IsPassed, AreLast}
 use Rattle.book.specs.declared.entry.Entry.{Entry}
 
 -- one entry more is its terminal's last, and changes no other's
@@ -59,7 +59,7 @@ pub all_below : (reads : ReadSetView) → All (λ (e : ℕ × Version). tid_of e
 all_below reads = below reads (greatest_tid reads) (omega arith)
 
 -- a TID within limits is within the next ones
-pub within_more : (epoch count tid : ℕ) → IsWithin epoch count tid → IsWithin epoch (count + 1) tid
+pub within_more : (epoch count tid : ℕ) → IsTidWithin epoch count tid → IsTidWithin epoch (count + 1) tid
 within_more epoch count tid w = record { bits = w.bits; in_epoch = w.in_epoch; sequence = more (tid / 8 % 2 ^ 29) w.sequence }
   where
     more : (n : ℕ) → n ≤ count → n ≤ count + 1
@@ -68,8 +68,8 @@ within_more epoch count tid w = record { bits = w.bits; in_epoch = w.in_epoch; s
 whole : (n : ℕ) → n % 8 ≡ 0 → tid_of n ≡ n
 whole n even = omega (arith, even)
 
-pub next_within : (epoch count seen last tid : ℕ) → IsWithin epoch count seen → IsWithin epoch count last → IsLawful seen last epoch tid
-    → next seen last epoch ≡ Some tid → IsWithin epoch (count + 1) tid
+pub next_within : (epoch count seen last tid : ℕ) → IsTidWithin epoch count seen → IsTidWithin epoch count last → IsLawful seen last epoch tid
+    → next seen last epoch ≡ Some tid → IsTidWithin epoch (count + 1) tid
 next_within epoch count seen last tid s l lawful is = record {
   bits = lawful.bits;
   in_epoch = same (tid / 2 ^ 32) lawful.in_epoch;

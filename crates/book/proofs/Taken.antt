@@ -22,7 +22,7 @@ use Rattle.readset.proofs.Numbers.{same_number}
 use Rattle.book.specs.History.{new_versions}
 use Rattle.book.specs.Stamps.{last_of, greatest_tid, tid_for}
 use Rattle.book.specs.Book.{IsSound, IsWorkOf, IsRead, AreLatest, entry_of}
-use Rattle.book.specs.Ready.{IsReady, IsWithin}
+use Rattle.book.specs.Ready.{IsReady, IsTidWithin}
 use Rattle.book.specs.declared.entry.Entry.{Entry}
 use Rattle.book.proofs.Stamped.{all_below, next_within}
 use Rattle.book.proofs.Sound.{read_within, next_sound, next_ready}
@@ -34,11 +34,11 @@ module _ (past : ℕ) (t0 : Database) (run_cells : List TableId) (epoch : ℕ) (
     (sound : IsSound past t0 written history t) (ready : IsReady past t0 run_cells epoch written history t)
     (reader : ReaderView) (work : Work) (is_work : IsWorkOf t0 (length run_cells) reader work) (latest : AreLatest written.all work.reads)
     (terminal seen last : ℕ) (is_read : IsRead work.reads seen) (greatest : seen ≡ greatest_tid work.reads) (last_is : last ≡ last_of terminal history) where
-  seen_within : IsWithin epoch (length history) seen
+  seen_within : IsTidWithin epoch (length history) seen
   seen_within = read_within past t0 run_cells epoch written history t sound ready reader work is_work latest seen is_read
 
-  last_within : IsWithin epoch (length history) last
-  last_within = subst (IsWithin epoch (length history)) (sym last_is) (ready.terminals terminal)
+  last_within : IsTidWithin epoch (length history) last
+  last_within = subst (IsTidWithin epoch (length history)) (sym last_is) (ready.terminals terminal)
 
   -- what is asked of the words that the commit has is what its definition says
   pub same_next : next (tid_of seen) (tid_of last) epoch ≡ tid_for history terminal epoch work.reads
@@ -54,7 +54,7 @@ module _ (past : ℕ) (t0 : Database) (run_cells : List TableId) (epoch : ℕ) (
       few k n cap p q = omega (arith, p, q)
 
   module _ (tid : ℕ) (lawful : IsLawful seen last epoch tid) (is : next (tid_of seen) (tid_of last) epoch ≡ Some tid) where
-    taken_within : IsWithin epoch (length history + 1) tid
+    taken_within : IsTidWithin epoch (length history + 1) tid
     taken_within = next_within epoch (length history) seen last tid seen_within last_within lawful
         ((λ i. next (sym (whole seen seen_within.bits) i) (sym (whole last last_within.bits) i) epoch) ∙ is)
 

@@ -14,15 +14,15 @@ use Rattle.cells.specs.Records.{PenView, ReaderView}
 use Rattle.cells.specs.Versions.{value_in}
 use Rattle.cells.specs.declared.cells.Newest.{Newest}
 use Rattle.encoding.specs.Newest.{words_at, AreFirst}
-use Rattle.laws.proofs.Kept.{after-scale, after-IsWellFormed}
+use Rattle.tables_laws.proofs.Kept.{after-scale, after-IsWellFormed}
 use Rattle.readset.specs.Writes.{WriteSetView}
 use Rattle.readset.specs.declared.work.Work.{Work}
-use Rattle.bounds.specs.Bounds.{AreBounds}
-use Rattle.bounds.specs.Written.{HasOrdersWithin}
+use Rattle.totals_bounds.specs.Bounds.{AreBounds}
+use Rattle.totals_bounds.specs.Written.{HasOrdersWithin}
 use Rattle.totals.specs.Totals.{TotalsView, AreSums, AreTotals}
 use Rattle.totals.specs.Written.{AreWrites}
 use Rattle.totals.specs.Counts.{AreHeld, AreRecords, MayFollow}
-use Rattle.book.specs.Book.{IsSound, IsWorkOf, AreInOrder, AreLatest}
+use Rattle.book.specs.Book.{IsSound, IsWorkOf, AreInRecordOrder, AreLatest}
 use Rattle.book.specs.History.{CommitsAt}
 use Rattle.book.specs.Ready.{AreNewest, IsReady}
 use Rattle.book.specs.declared.entry.Entry.{Entry}
@@ -56,7 +56,7 @@ first_records t0 newest are well_formed consistent = record {
 
 -- a work's writes
 pub writes_there : (t0 t : Database) (cells : ℕ) (reader : ReaderView) (work : Work) → IsWorkOf t0 cells reader work → cells ≡ record_count t0.scale
-    → t.scale ≡ t0.scale → AreInOrder work.reads work.writes → AreWrites t.scale work.writes
+    → t.scale ≡ t0.scale → AreInRecordOrder work.reads work.writes → AreWrites t.scale work.writes
 writes_there t0 t cells reader work is_work count scale ordered = record {
   ascend = ordered.writes_ascend;
   found = ordered.writes_found;
@@ -85,7 +85,7 @@ module _ (past : ℕ) (t0 : Database) (run_cells : List TableId) (epoch : ℕ) (
   rest n cap h few = omega (arith, h, few)
 
   pub may_follow : (newest : List Newest) → AreNewest written newest → (v : TotalsView) → AreTotals t v → (reader : ReaderView) (work : Work)
-      → IsWorkOf t0 (length run_cells) reader work → AreLatest written.all work.reads → AreInOrder work.reads work.writes
+      → IsWorkOf t0 (length run_cells) reader work → AreLatest written.all work.reads → AreInRecordOrder work.reads work.writes
       → past + length history < t0.scale.commits → MayFollow t work.input work.reply v newest work.writes
   may_follow newest are v totals reader work is_work latest ordered below =
       let done : CommitsAt t work.input work.writes work.reply = subst (λ s. CommitsAt s work.input work.writes work.reply) sound.legal.end

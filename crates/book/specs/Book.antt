@@ -61,7 +61,7 @@ pub record IsReadBy (cells : ℕ) (reader : ReaderView) (reads : ReadSetView) : 
   pub seen : (n : ℕ) (v : Version) → held reads n ≡ Some v → Has (at reader.seen n) (words_of v)
 
 -- what was read and what is to be written stand in the order of their records, and a look-up finds each
-pub record AreInOrder (reads : ReadSetView) (writes : WriteSetView) : Type 0 where
+pub record AreInRecordOrder (reads : ReadSetView) (writes : WriteSetView) : Type 0 where
   pub reads_ascend : IsStrictlySortedBy nat_cmp (keys_of reads)
   pub reads_found : All (λ read. held reads read.0 ≡ Some read.1) reads
   pub writes_ascend : IsStrictlySortedBy nat_cmp (keys_of writes.values)

@@ -1,7 +1,7 @@
 -- What the book knows of the epoch, by its seat of the board (Silo, section 4.1).
 use Rattle.std.specs.Prelude.{◌≡◌, ℕ, ◌≤◌, List, map, reverse}
 use Rattle.tidword.specs.TidWord.{epoch_of}
-use Rattle.board.specs.Steps.{known_epoch, counted}
+use Rattle.board.specs.Steps.{known_epoch, counted_epochs}
 use Rattle.board.specs.Seats.{SeatView, noted}
 use Rattle.board.specs.declared.rule.WordStep.TheVariants.{LoadEpoch, CountCommit}
 use Rattle.book.specs.declared.entry.Entry.{Entry}
@@ -24,4 +24,4 @@ pub record CountsCommit (old new : SeatView) : Type 0 where
 
 -- a seat has counted each commit of the history, with its epoch
 abbrev pub HasCounted : SeatView → List Entry → Type 0
-HasCounted seat history = reverse (counted seat.steps) ≡ map (λ e. epoch_of e.tid) history
+HasCounted seat history = reverse (counted_epochs seat.steps) ≡ map (λ e. epoch_of e.tid) history

@@ -16,7 +16,7 @@ use Rattle.book.specs.declared.entry.Entry.{Entry}
 use Rattle.tables.specs.declared.limits.TheConstants.{MAX_TERMINALS}
 
 -- the entry is done at some tables of this scale, which leaves well-formed ones
-pub record IsDone (s : Sizes) (e : Entry) : Type 0 where
+pub record IsDoneAtTables (s : Sizes) (e : Entry) : Type 0 where
   pub tables : Database
   pub scale : tables.scale ≡ s
   pub well_formed : IsWellFormed (after tables e.input)
@@ -27,7 +27,7 @@ pub record IsLoggable (s : Sizes) (e : Entry) : Type 0 where
   pub ordered : IsStrictlySortedBy nat_cmp (keys_of e.writes.values)
   pub records : (n : ℕ) (value : Option (List ℕ)) → value_for e.writes n ≡ Some value → n < record_count s
   pub limit : length e.writes.values ≤ MAX_WRITES
-  pub done : ∥ IsDone s e ∥₁
+  pub done : ∥ IsDoneAtTables s e ∥₁
 
 -- all of a history may be written so, and its terminals are among these, which are few
 pub record AreLoggable (s : Sizes) (terminals : ℕ) (history : List Entry) : Type 0 where

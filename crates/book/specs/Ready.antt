@@ -17,7 +17,7 @@ use Rattle.book.specs.Stamps.{last_of}
 use Rattle.book.specs.declared.entry.Entry.{Entry}
 
 -- a TID without status bits, of an epoch up to this one, whose sequence is at most this count
-pub record IsWithin (epoch count tid : ℕ) : Type 0 where
+pub record IsTidWithin (epoch count tid : ℕ) : Type 0 where
   pub bits : tid % 8 ≡ 0
   pub in_epoch : epoch_of tid ≤ epoch
   pub sequence : tid / 8 % 2 ^ 29 ≤ count
@@ -44,8 +44,8 @@ pub record IsReady (past : ℕ) (t0 : Database) (run_cells : List TableId) (epoc
   -- the next commit's TID is to be larger than those before it
   pub passed : All (IsPassed epoch written history) history
   -- there is one: no sequence is larger than the number of commits
-  pub records : (n : ℕ) → n < length run_cells → IsWithin epoch (length history) (last_tid (at written.all n))
-  pub terminals : (terminal : ℕ) → IsWithin epoch (length history) (last_of terminal history)
+  pub records : (n : ℕ) → n < length run_cells → IsTidWithin epoch (length history) (last_tid (at written.all n))
+  pub terminals : (terminal : ℕ) → IsTidWithin epoch (length history) (last_of terminal history)
   -- each record's newest version says that it is the latest, and unlocked
   pub free : (n : ℕ) → n < length run_cells → (v : List ℕ) → EndsWith (at written.all n) v → IsFree (word_in v)
   -- the commit cap isn't passed, and there is room for the commits that are left

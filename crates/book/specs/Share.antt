@@ -11,5 +11,5 @@ pub record ShareView : Type 0 where
 abbrev pub parts_of : ShareView → ℕ
 parts_of share = share.parts
 
-abbrev pub commits_of : ShareView → ℕ
-commits_of share = share.commits
+abbrev pub share_commits : ShareView → ℕ
+share_commits share = share.commits

@@ -6,7 +6,7 @@ use Rattle.tidword.specs.TidWord.{tid_of}
 use Rattle.commit.specs.Machine.{Machine, note_at, cell, worker}
 use Rattle.commit.specs.Events.{AreEnabled, after_all}
 use Rattle.commit.specs.declared.event.Event.{Event}
-use Rattle.commit.specs.Sections.{Reads, Writes, section, full_section, stale_section, IsStale, HasCommitted, HasFailed}
+use Rattle.commit.specs.Sections.{Reads, Writes, section, full_section, stale_section, IsStale, WorkerHasCommitted, WorkerHasFailed}
 use Rattle.commit.specs.Weaving.{MayBeWoven}
 use Rattle.commit.specs.declared.worker.Cell.{Cell}
 use Rattle.commit.specs.declared.worker.Phase.TheVariants.{Begun}
@@ -51,16 +51,16 @@ pub record IsRunTo (m : Machine) (w : ℕ) (events : List Event) (End : Machine 
 -- a commit with this TID is such a run, after which the machine has the newest versions again
 abbrev pub IsCommitRun : Machine → ℕ → Reads → Writes → ℕ → PenView → Type 0
 IsCommitRun m w reads writes tid pen =
-    IsRunTo m w (section w reads writes) (λ end. HasCommitted m end w writes tid × HasNewest end pen)
+    IsRunTo m w (section w reads writes) (λ end. WorkerHasCommitted m end w writes tid × HasNewest end pen)
 
 -- one that finds no TID is a run too, in which the worker fails
 abbrev pub IsFullRun : Machine → ℕ → Reads → Writes → Type 0
-IsFullRun m w reads writes = IsRunTo m w (full_section w reads writes) (λ end. HasFailed m end w)
+IsFullRun m w reads writes = IsRunTo m w (full_section w reads writes) (λ end. WorkerHasFailed m end w)
 
 -- and so is one that isn't current, which fails at the first read that isn't
 abbrev pub IsStaleRun : Machine → ℕ → Reads → Writes → Type 0
 IsStaleRun m w reads writes = (first : IsStale m reads)
-    × IsRunTo m w (stale_section w first.passed first.at writes) (λ end. HasFailed m end w)
+    × IsRunTo m w (stale_section w first.passed first.at writes) (λ end. WorkerHasFailed m end w)
 
 -- the refusals that are runs of the machine, which has no event for the others
 pub record IsFailedRun (m : Machine) (w : ℕ) (reads : Reads) (writes : Writes) (refusal : Refusal) : Type 0 where

@@ -11,13 +11,13 @@ use conditions::Report;
 use encoding::tables_of;
 use money::{Payload, Refusal};
 use population::Population;
-use reports::report_of;
 use std::alloc::Global;
 use std::marker::Model;
 use std::sync::{Arc, ledger};
 use tables::{DistrictKey, Tables};
 use tidword::TidWord;
 use totals::{DistrictTotals, Totals};
+use totals_report::report_of;
 
 /// The committed state, which stands under the engine's lock: the newest version of each record, by record number,
 /// and what has committed. The committed tables are what these tell, and are kept nowhere. Its type keeps `IsSound` of

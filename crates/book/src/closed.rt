@@ -9,7 +9,7 @@ ghost use Rattle.tables.specs.WellFormed.{IsWellFormed};
 ghost use Rattle.tables.specs.declared.limits.TheConstants.{MAX_COMMITS};
 ghost use Rattle.conditions.specs.Report.{IsReportOf, IsGood};
 ghost use Rattle.book.specs.History.{IsLegal, replay};
-ghost use Rattle.book.specs.Share.{parts_of, commits_of};
+ghost use Rattle.book.specs.Share.{parts_of, share_commits};
 ghost use Rattle.book.specs.Stamps.{AreStamped};
 
 use crate::book::Book;
@@ -88,7 +88,7 @@ impl<K: Run> Engine<K> {
     /// a share; takes no memory.
     pub fn close(self, shares: Vec<Share<K>>) -> Closed<K>
         requires all { sum_by parts_of shares.items ≡ K.parts }
-        ensures { length result ≡ sum_by commits_of shares.items }
+        ensures { length result ≡ sum_by share_commits shares.items }
     {
         let Engine {
             population: _,
@@ -108,7 +108,7 @@ impl<K: Run> Engine<K> {
 /// One share with the parts and commits of all of these. None exactly where there is none.
 fn joined<K: Run>(shares: Vec<Share<K>>) -> Option<Share<K>>
     ensures some { IfSome result (λ whole. (whole.parts ≡ sum_by parts_of shares.items)
-        × (whole.commits ≡ sum_by commits_of shares.items)) }
+        × (whole.commits ≡ sum_by share_commits shares.items)) }
     ensures none { IfNone result (length shares.items ≡ 0) }
 {
     let mut shares = shares;

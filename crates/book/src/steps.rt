@@ -7,7 +7,7 @@ ghost use Rattle.readset.specs.Writes.{value_for};
 ghost use Rattle.readset.specs.Explains.{WritesAreRead};
 ghost use Rattle.book.specs.History.{committed_version, new_versions};
 ghost use Rattle.book.specs.Stamps.{greatest_tid};
-ghost use Rattle.book.specs.Book.{AreInOrder, AreLatest, HasConflict, HasSeen, IsRead, IsReadBy};
+ghost use Rattle.book.specs.Book.{AreInRecordOrder, AreLatest, HasConflict, HasSeen, IsRead, IsReadBy};
 ghost use Rattle.book.specs.Ready.{AreNewest};
 
 use crate::entry::Entry;
@@ -19,7 +19,7 @@ use tidword::TidWord;
 
 /// For proofs: what was read and what is to be written stand in the order of their records. Changes nothing.
 pub(crate) fn in_order(reads: &ReadSet, writes: &WriteSet)
-    ensures { AreInOrder reads.now writes.now }
+    ensures { AreInRecordOrder reads.now writes.now }
 {
     reads.len();
     writes.len();

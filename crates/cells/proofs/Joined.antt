@@ -8,11 +8,11 @@ use Rattle.std.proofs.lemmas.List.{length-replicate, get_or-set_same}
 use Rattle.std.proofs.lemmas.List.Elements.{All-get_or, All-weaker}
 use Rattle.std.proofs.lemmas.Option.{slice_get_within, get_or_from_slice_get}
 use Rattle.atomic_table.specs.Seated.{TableId}
-use Rattle.pages.specs.declared.rule.View.{View}
-use Rattle.pages.specs.Versions.{StartsWith, EndsWith, IsRising}
+use Rattle.cells_pages.specs.declared.rule.View.{View}
+use Rattle.cells_pages.specs.Versions.{StartsWith, EndsWith, IsRising}
 use Rattle.cells.specs.Records.{PenView, at, StoresVersion, LoadsRecord, LearnsRecord}
-use Rattle.pages.specs.Plays.{IsLoaded}
-use Rattle.pages.specs.Seats.{PageSeat, IsOf}
+use Rattle.cells_pages.specs.Plays.{IsLoaded}
+use Rattle.cells_pages.specs.Seats.{PageSeat, IsSeatOf}
 use Rattle.cells.specs.Pages.{size_of, ids_of, IsPaged, written_of, sights_of}
 use Rattle.cells.proofs.Paged.{paged_as, same_length, found, set_in, set_same, ids_paged, has_page, page_stands, page_is}
 
@@ -59,7 +59,7 @@ module _ (n : ℕ) (some : 0 < n) (seats : List PageSeat) (paged : IsPaged (map 
     pub inside : number % 4096 < length p.me.0.seen
     inside = subst (λ k. number % 4096 < k) (sym (size p wide_here)) stand
 
-    pub is_of : n ≤ 4096 → IsOf n page p (number % 4096)
+    pub is_of : n ≤ 4096 → IsSeatOf n page p (number % 4096)
     is_of narrow = record {
       own = own;
       wide = ap (λ (t : TableId). t.words) (sym own) ∙ wide_here;

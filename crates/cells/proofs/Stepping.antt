@@ -3,12 +3,12 @@ use Rattle.std.proofs.Common.{◌≡◌, ℕ, ◌+◌, ◌*◌, ◌/◌, ◌%◌
 use Rattle.std.specs.Prelude.{All, slice_get, slice_index}
 use Rattle.std.proofs.lemmas.List.Elements.{All-set, All-get_or, All-weaker}
 use Rattle.atomic_table.specs.Seated.{TableId}
-use Rattle.pages.specs.declared.rule.View.{View}
-use Rattle.pages.specs.Versions.{StartsWith, IsSound, IsRising}
+use Rattle.cells_pages.specs.declared.rule.View.{View}
+use Rattle.cells_pages.specs.Versions.{StartsWith, AreVersions, IsRising}
 use Rattle.cells.specs.Records.{PenView, at, StoresVersion, LoadsRecord, LearnsRecord}
-use Rattle.pages.specs.Views.{pen_view, sight, IsPen}
-use Rattle.pages.specs.Plays.{IsLoaded}
-use Rattle.pages.specs.Seats.{PageSeat, IsOf}
+use Rattle.cells_pages.specs.Views.{pen_view, sight, IsPen}
+use Rattle.cells_pages.specs.Plays.{IsLoaded}
+use Rattle.cells_pages.specs.Seats.{PageSeat, IsSeatOf}
 use Rattle.cells.specs.Pages.{IsRecordSize, IsPenSeat, IsReaderSeat, ArePenSeats, AreReaderSeats, written_of, sights_of}
 use Rattle.cells.proofs.Joined.{IsWide, has_seat, wide_here, is_of, versions_here, paged_after, written_same, written_writes, sights_read, sights_learn}
 
@@ -25,7 +25,7 @@ module _ (n : ℕ) (right_size : IsRecordSize n) (seats : List PageSeat) (are : 
     pub pen_knows_seat : IsPen p.me.0
     pen_knows_seat = subst (λ (s : PageSeat). IsPen s.me.0) (sym is) (All-get_or (IsPenSeat n) seats (number / 4096) p pen_seat are.0).0
 
-    pub pen_is_of : IsOf n page p (number % 4096)
+    pub pen_is_of : IsSeatOf n page p (number % 4096)
     pen_is_of = is_of n right_size.0 seats are.1 wide number page has p is right_size.1
 
     pub pen_versions : at (written_of n seats).all number ≡ at p.me.0.seen (number % 4096)
@@ -68,7 +68,7 @@ module _ (n : ℕ) (right_size : IsRecordSize n) (seats : List PageSeat) (are : 
     wide' : All (IsWide n) seats
     wide' = All-weaker (IsReaderSeat n) (IsWide n) (λ s h. h.1) seats are.0
 
-    pub reader_is_of : IsOf n page p (number % 4096)
+    pub reader_is_of : IsSeatOf n page p (number % 4096)
     reader_is_of = is_of n right_size.0 seats are.1 wide' number page has p is right_size.1
 
     mine : IsReaderSeat n p
@@ -103,7 +103,7 @@ module _ (n : ℕ) (right_size : IsRecordSize n) (seats : List PageSeat) (are : 
         pub met_seats : AreReaderSeats n (set seats (number / 4096) q)
         met_seats = reader_after versions p.me.0.loads refl e
 
-        pub learns_record : (w : PenView) → versions ≡ at w.all number → StartsWith versions (at p.me.0.seen (number % 4096)) → IsSound n versions
+        pub learns_record : (w : PenView) → versions ≡ at w.all number → StartsWith versions (at p.me.0.seen (number % 4096)) → AreVersions n versions
             → LearnsRecord w (sights_of n seats) (sights_of n (set seats (number / 4096) q)) number
         learns_record w all starts sound = sights_learn n right_size.0 seats are.1 wide' number page has p is q same w
             (ap (λ (v : View). v.seen) e ∙ ap (set p.me.0.seen (number % 4096)) all)

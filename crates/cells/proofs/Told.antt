@@ -4,15 +4,15 @@ use Rattle.std.specs.Prelude.{All}
 use Rattle.std.proofs.lemmas.List.{map-append, length-replicate}
 use Rattle.std.proofs.lemmas.List.Elements.{All-map, All-weaker}
 use Rattle.atomic_table.specs.Seated.{TableId}
-use Rattle.pages.specs.declared.rule.View.{View}
+use Rattle.cells_pages.specs.declared.rule.View.{View}
 use Rattle.cells.specs.Records.{PenView, ReaderView}
-use Rattle.pages.specs.Views.{pen_view}
-use Rattle.pages.specs.Rule.{first_versions}
-use Rattle.pages.specs.Plays.{starting}
-use Rattle.pages.specs.Seats.{PageSeat}
+use Rattle.cells_pages.specs.Views.{pen_view}
+use Rattle.cells_pages.specs.Rule.{first_versions}
+use Rattle.cells_pages.specs.Plays.{starting}
+use Rattle.cells_pages.specs.Seats.{PageSeat}
 use Rattle.cells.specs.Pages.{IsRecordSize, IsPenSeat, size_of, ids_of, written_and, sights_and}
 use Rattle.cells.specs.Opening.{seen_all, sights_with, AreFull, IsNext}
-use Rattle.pages.proofs.Starting.{length_first}
+use Rattle.cells_pages.proofs.Starting.{length_first}
 
 pub sights_started : (n : ℕ) (s : ReaderView) (seat : PageSeat) (page : TableId) (v : View) → seat.table_id ≡ page → seat.me.0 ≡ starting v
     → sights_and n s seat ≡ sights_with s (ids_of n page) v.seen

@@ -1,7 +1,7 @@
 -- The versions that cells begin with.
 use Rattle.std.specs.Prelude.{ℕ, true, false, Option, Some, None, List, [], ◌∷◌, map}
 use Rattle.money.specs.Payload.{no_payload}
-use Rattle.pages.specs.Versions.{AllVersions}
+use Rattle.cells_pages.specs.Versions.{AllVersions}
 use Rattle.cells.specs.Records.{newest_words}
 use Rattle.tidword.specs.TidWord.{tid_word}
 use Rattle.cells.specs.declared.cells.Newest.{Newest}

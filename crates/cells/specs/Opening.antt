@@ -1,7 +1,7 @@
 -- While cells are made, page by page.
 use Rattle.std.specs.Prelude.{◌≡◌, ℕ, ◌%◌, ◌<◌, ◌≤◌, List, [], ◌++◌, map, length}
 use Rattle.atomic_table.specs.Seated.{TableId}
-use Rattle.pages.specs.Versions.{AllVersions}
+use Rattle.cells_pages.specs.Versions.{AllVersions}
 use Rattle.cells.specs.Records.{PenView, ReaderView}
 use Rattle.cells.specs.Pages.{size_of}
 
@@ -15,8 +15,8 @@ abbrev pub seen_all : PenView → ReaderView
 seen_all w = record { cells = w.cells; seen = w.all; loads = map (λ _. 0) w.all }
 
 -- no record yet
-abbrev pub opened : ℕ → Opened
-opened readers = record { written = record { cells = []; all = [] }; readers = readers }
+abbrev pub without_records : ℕ → Opened
+without_records readers = record { written = record { cells = []; all = [] }; readers = readers }
 
 -- the records of one more page, with their cells and versions
 abbrev pub written_with : PenView → List TableId → AllVersions → PenView

@@ -2,8 +2,8 @@
 use Rattle.std.specs.Prelude.{◌≡◌, ℕ, ◌*◌, ◌/◌, ◌<◌, ◌≤◌, All, List, [], ◌∷◌, ◌++◌, map, length, replicate}
 use Rattle.std.specs.List.{flat_map}
 use Rattle.atomic_table.specs.Seated.{TableId}
-use Rattle.pages.specs.Seats.{PageSeat}
-use Rattle.pages.specs.Views.{IsPen, IsReader}
+use Rattle.cells_pages.specs.Seats.{PageSeat}
+use Rattle.cells_pages.specs.Views.{IsPen, IsReader}
 use Rattle.cells.specs.Records.{PenView, ReaderView}
 
 -- how many words a record may have

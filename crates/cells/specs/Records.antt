@@ -3,7 +3,7 @@ use Rattle.std.specs.Prelude.{◌≡◌, ℕ, ◌+◌, List, [], ◌∷◌, ◌+
 use Rattle.atomic_table.specs.Seated.{TableId}
 use Rattle.cells.specs.declared.cells.Version.{Version}
 use Rattle.cells.specs.declared.cells.Newest.{Newest}
-pub use Rattle.pages.specs.Versions.{at}
+pub use Rattle.cells_pages.specs.Versions.{at}
 use Rattle.cells.specs.Versions.{AllVersions, StartsWith, EndsWith, IsRising}
 
 -- the pen's: which cell a record has, and all its versions

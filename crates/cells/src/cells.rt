@@ -10,8 +10,8 @@ ghost use Rattle.cells.specs.Pages.{ids_of};
 ghost use Rattle.cells.specs.Opening.{AreFull, IsNext};
 
 use crate::holders::{PenOf, ReaderOf};
+use cells_pages::{PAGE_RECORDS, Page, PageWords};
 use money::{PAYLOAD_WORDS, Payload, Refusal};
-use pages::{PAGE_RECORDS, Page, PageWords};
 use std::alloc::Global;
 use std::marker::Model;
 use std::sync::Wait;

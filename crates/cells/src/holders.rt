@@ -1,13 +1,13 @@
 //! The pen and the readers of all records: one seat a page, in the order of pages. A seat has no bytes.
 ghost use Rattle.std.specs.Prelude.{◌≡◌, ◌≢◌, ◌<◌, ◌≤◌, Some, [], slice_get, OnOk, OnErr, IfErr};
-ghost use Rattle.pages.specs.Versions.{IsSound, last_tid, newest, tid, word_in};
+ghost use Rattle.cells_pages.specs.Versions.{AreVersions, last_tid, newest, tid, word_in};
 ghost use Rattle.cells.specs.Records.{at, StoresVersion, LoadsRecord, LearnsRecord};
 ghost use Rattle.cells.specs.Pages.{IsRecordSize, IsPenSeat, IsReaderSeat, written_and, sights_and};
 ghost use Rattle.cells.specs.Opening.{AreFull, IsNext};
 ghost use Rattle.money.specs.declared.refusal.Refusal.TheVariants.{OutOfMemory};
 
+use cells_pages::{PAGE_RECORDS, PageSeat, PageWords, meet, read, store};
 use money::Refusal;
-use pages::{PAGE_RECORDS, PageSeat, PageWords, meet, read, store};
 use std::alloc::Global;
 use std::marker::Model;
 use std::sync::Wait;

@@ -3,14 +3,14 @@ ghost use Rattle.std.specs.Prelude.{◌≡◌, ℕ, ◌*◌, ◌<◌, ◌≤◌,
 ghost use Rattle.money.specs.declared.refusal.Refusal.TheVariants.{OutOfMemory};
 ghost use Rattle.atomic_table.specs.Seated.{TableId};
 ghost use Rattle.cells.specs.Records.{ReaderView};
-ghost use Rattle.pages.specs.Rule.{first_versions};
+ghost use Rattle.cells_pages.specs.Rule.{first_versions};
 ghost use Rattle.cells.specs.Pages.{IsRecordSize, IsPenSeat, ids_of};
-ghost use Rattle.cells.specs.Opening.{seen_all, opened, opened_with, sights_with, AreFull, IsNext};
+ghost use Rattle.cells.specs.Opening.{seen_all, without_records, opened_with, sights_with, AreFull, IsNext};
 
 use crate::cells::PageList;
 use crate::holders::{PenOf, ReaderOf};
+use cells_pages::{PageSeat, PageWords, open, start};
 use money::Refusal;
-use pages::{PageSeat, PageWords, open, start};
 use std::alloc::Global;
 use std::marker::Model;
 
@@ -36,7 +36,7 @@ impl<const N: usize> Model for OpeningOf<N> {
 impl<const N: usize> OpeningOf<N> {
     // No record yet, and this many readers.
     pub(crate) fn new(alloc: Global, readers: usize) -> Result<OpeningOf<N>, Refusal>
-        ensures ok { IfOk result (λ o. o ≡ opened readers) }
+        ensures ok { IfOk result (λ o. o ≡ without_records readers) }
         ensures memory { IfErr result (λ e. e ≡ OutOfMemory) }
     {
         let mut list = Vec::new(alloc);

@@ -1,14 +1,14 @@
 //! The cells that a run begins with.
 ghost use Rattle.std.specs.Prelude.{◌≡◌, ◌*◌, ◌≤◌, All, length, OnOk, IfOk, IfErr};
 ghost use Rattle.money.specs.declared.refusal.Refusal.TheVariants.{OutOfMemory};
-ghost use Rattle.pages.specs.Rule.{first_versions};
+ghost use Rattle.cells_pages.specs.Rule.{first_versions};
 ghost use Rattle.cells.specs.Opening.{seen_all};
 ghost use Rattle.cells.specs.First.{firsts};
 
 use crate::cells::{CELL_WORDS, Cells, Newest, Pen, Reader, words};
 use crate::opening::OpeningOf;
+use cells_pages::PAGE_RECORDS;
 use money::Refusal;
-use pages::PAGE_RECORDS;
 use std::alloc::Global;
 use std::sync::Wait;
 

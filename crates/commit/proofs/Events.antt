@@ -7,7 +7,7 @@ use Rattle.tidword.specs.TidWord.{tid_of, is_locked, is_latest}
 use Rattle.tidword.specs.Lawful.{IsLawful, next}
 use Rattle.tidword.proofs.Taken.{next-lawful}
 use Rattle.commit.specs.Machine.{Machine, Worker, IsIdle, idle_worker, no_cell, note_at, without, cell, worker, version_of}
-use Rattle.commit.specs.Events.{IsEnabled, with_worker, with_cell, still_holds, checked, validated_by, greatest_read, greatest_locked, seen_by, chosen}
+use Rattle.commit.specs.Events.{IsEnabled, with_worker, with_cell, still_holds, checked, validated_by, greatest_read, greatest_locked, seen_by, after_choice}
 use Rattle.commit.specs.Events.{locked_cell, unlocked_cell, written_cell, after_event}
 use Rattle.commit.specs.Turns.{Place, decided, settle, turns_after}
 use Rattle.commit.specs.Turns.Place.{Waiting}
@@ -276,7 +276,7 @@ module _ (first : ℕ → Version) (m : Machine) (turns : List Place) (h : Holds
 
     -- it takes a TID
     takes : (tid : ℕ) → next (tid_of (seen_by m (worker m w))) (tid_of (worker m w).last) (worker m w).epoch ≡ Some tid
-        → SettlesAs (chosen (worker m w) (Some tid))
+        → SettlesAs (after_choice (worker m w) (Some tid))
     takes tid e = record {
       locks = locks_kept (worker m) ws' (cell m) (cell m) w x change h.locks (λ r value e. e) (λ k r value e q. q) (λ r v e. absurd (never_both refl e))
           (λ r v q. q);
@@ -288,7 +288,7 @@ module _ (first : ℕ → Version) (m : Machine) (turns : List Place) (h : Holds
     }
       where
         x : Worker
-        x = chosen (worker m w) (Some tid)
+        x = after_choice (worker m w) (Some tid)
 
         ws' : ℕ → Worker
         ws' = worker (with_worker m w x)
@@ -317,12 +317,12 @@ module _ (first : ℕ → Version) (m : Machine) (turns : List Place) (h : Holds
             (seen_read (worker m w).validated r v note) is_taken.above_seen is_taken.bits
 
     pub choose_tid : Holds first (after_event m (ChooseTid w)) (turns_after m (ChooseTid w) turns)
-    choose_tid = as_after (chosen (worker m w) tid) (by_answer tid refl)
+    choose_tid = as_after (after_choice (worker m w) tid) (by_answer tid refl)
       where
         tid : Option ℕ
         tid = next (tid_of (seen_by m (worker m w))) (tid_of (worker m w).last) (worker m w).epoch
 
-        by_answer : (o : Option ℕ) → tid ≡ o → SettlesAs (chosen (worker m w) o)
+        by_answer : (o : Option ℕ) → tid ≡ o → SettlesAs (after_choice (worker m w) o)
         by_answer None e = fails phase
         by_answer (Some n) e = takes n e
 

@@ -8,10 +8,10 @@ use Rattle.std.specs.List.{AllByRecursion}
 use Rattle.tidword.specs.TidWord.{tid_of, is_locked, is_latest}
 use Rattle.tidword.specs.Lawful.{next}
 use Rattle.commit.specs.Machine.{Machine, Worker, no_cell, note_at, cell, worker}
-use Rattle.commit.specs.Events.{IsEnabled, after_event, after_all, still_holds, checked, validated_by, chosen, greatest_read, greatest_locked, seen_by}
+use Rattle.commit.specs.Events.{IsEnabled, after_event, after_all, still_holds, checked, validated_by, after_choice, greatest_read, greatest_locked, seen_by}
 use Rattle.commit.specs.Events.{finished_by, written_cell}
 use Rattle.commit.specs.Sections.{Reads, Writes, locks_of, validations_of, installs_of, unlocks_of, beginning, section, full_section, stale_section, MayLock}
-use Rattle.commit.specs.Sections.{HasRead, AreCurrent, IsStale, next_for, KeepsOthers, HasCommitted, HasFailed, AreSections}
+use Rattle.commit.specs.Sections.{HasRead, AreCurrent, IsStale, next_for, KeepsOthers, WorkerHasCommitted, WorkerHasFailed, AreSections}
 use Rattle.commit.specs.declared.worker.Phase.TheVariants.{Entered, Failed}
 use Rattle.commit.specs.declared.worker.Cell.{Cell}
 use Rattle.commit.specs.declared.worker.Version.{Version}
@@ -104,17 +104,17 @@ module _ (m : Machine) (w : ℕ) (writes : Writes) (may : MayLock m w writes) wh
 
   -- what the worker chooses, of what it has validated and locked
   chooses : (reads : Reads) (n : Machine) → Entering m w writes reads [] n → (o : Option ℕ) → next_for m w reads writes ≡ o
-      → Leaves w m (after_event n (ChooseTid w)) (chosen (entered m w writes reads []) o) (λ r. locked_for (note_at writes r))
-      (finished_by m.finished (chosen (entered m w writes reads []) o))
+      → Leaves w m (after_event n (ChooseTid w)) (after_choice (entered m w writes reads []) o) (λ r. locked_for (note_at writes r))
+      (finished_by m.finished (after_choice (entered m w writes reads []) o))
   chooses reads n left o is =
       let e : Machine = after_event n (ChooseTid w) in
       let x : Worker = entered m w writes reads [] in
       let greatest : greatest_locked n writes ≡ greatest_locked m writes =
       same_greatest m n (λ r. ap (λ (c : Cell). tid_of c.word) (left.cells r) ∙ same_tid (note_at writes r) (cell m r) (unlocked r)) writes in
-      let picks : chosen (worker n w) (next (tid_of (seen_by n (worker n w))) (tid_of (worker n w).last) (worker n w).epoch) ≡ chosen x o =
-      ap (λ (q : Worker). chosen q (next (tid_of (seen_by n q)) (tid_of q.last) q.epoch)) left.own
-      ∙ ap (λ k. chosen x (next (tid_of (max (greatest_read reads) k)) (tid_of x.last) x.epoch)) greatest
-      ∙ ap (chosen x) is in
+      let picks : after_choice (worker n w) (next (tid_of (seen_by n (worker n w))) (tid_of (worker n w).last) (worker n w).epoch) ≡ after_choice x o =
+      ap (λ (q : Worker). after_choice q (next (tid_of (seen_by n q)) (tid_of q.last) q.epoch)) left.own
+      ∙ ap (λ k. after_choice x (next (tid_of (max (greatest_read reads) k)) (tid_of x.last) x.epoch)) greatest
+      ∙ ap (after_choice x) is in
       record {
         own = becomes w n e _ refl (present n left.rest) ∙ picks;
         cells = left.cells;
@@ -128,7 +128,7 @@ module _ (m : Machine) (w : ℕ) (writes : Writes) (may : MayLock m w writes) wh
   -- a worker that has failed lets its locks go, and every record has its value and its word again
   gives_up : (e : Machine) (x : Worker) → Leaves w m e x (λ r. locked_for (note_at writes r)) m.finished → x.phase ≡ Failed → x.locks ≡ writes
       → x.last ≡ (worker m w).last
-      → Runs e (unlocks_of w writes) (λ q. HasFailed m q w)
+      → Runs e (unlocks_of w writes) (λ q. WorkerHasFailed m q w)
   gives_up e x left failed locks last =
       let later : Runs e (unlocks_of w writes) (λ q. Leaves w e q (record x { locks = [] }) (λ r. unlocked_for (note_at writes r)) e.finished) =
       unlock_all w writes e x left.own failed (present e left.rest) locks rises (within e left.rest) in (
@@ -152,13 +152,13 @@ module _ (m : Machine) (w : ℕ) (writes : Writes) (may : MayLock m w writes) wh
       subst (λ l. Runs m (beginning w reads writes) (Entering m w writes reads l)) left (begins reads [] all_read current)
 
   commits : (reads : Reads) (tid : ℕ) → HasRead m w reads → AreCurrent m reads → next_for m w reads writes ≡ Some tid
-      → Runs m (section w reads writes) (λ n. HasCommitted m n w writes tid)
+      → Runs m (section w reads writes) (λ n. WorkerHasCommitted m n w writes tid)
   commits reads tid read current is =
-      runs_join m (beginning w reads writes) (ChooseTid w ∷ installs_of w writes) (Entering m w writes reads []) (λ n. HasCommitted m n w writes tid)
+      runs_join m (beginning w reads writes) (ChooseTid w ∷ installs_of w writes) (Entering m w writes reads []) (λ n. WorkerHasCommitted m n w writes tid)
       (begins_all reads read current)
       (λ n before.
       let e : Machine = after_event n (ChooseTid w) in
-      let x : Worker = chosen (entered m w writes reads []) (Some tid) in
+      let x : Worker = after_choice (entered m w writes reads []) (Some tid) in
       let left : Leaves w m e x (λ r. locked_for (note_at writes r)) (finished_by m.finished x) = chooses reads n before (Some tid) is in
       let later : Runs e (installs_of w writes)
       (λ q. Leaves w e q (record x { locks = [] }) (λ r c. written_cell c tid (note_at writes r)) (finished_by m.finished (record x { locks = [] }))) =
@@ -175,13 +175,13 @@ module _ (m : Machine) (w : ℕ) (writes : Writes) (may : MayLock m w writes) wh
       ))
 
   finds_none : (reads : Reads) → HasRead m w reads → AreCurrent m reads → next_for m w reads writes ≡ None
-      → Runs m (full_section w reads writes) (λ n. HasFailed m n w)
+      → Runs m (full_section w reads writes) (λ n. WorkerHasFailed m n w)
   finds_none reads read current is =
-      runs_join m (beginning w reads writes) (ChooseTid w ∷ unlocks_of w writes) (Entering m w writes reads []) (λ n. HasFailed m n w)
+      runs_join m (beginning w reads writes) (ChooseTid w ∷ unlocks_of w writes) (Entering m w writes reads []) (λ n. WorkerHasFailed m n w)
       (begins_all reads read current)
       (λ n before.
-      let later : Runs (after_event n (ChooseTid w)) (unlocks_of w writes) (λ q. HasFailed m q w) =
-      gives_up (after_event n (ChooseTid w)) (chosen (entered m w writes reads []) None) (chooses reads n before None is) refl refl refl in
+      let later : Runs (after_event n (ChooseTid w)) (unlocks_of w writes) (λ q. WorkerHasFailed m q w) =
+      gives_up (after_event n (ChooseTid w)) (after_choice (entered m w writes reads []) None) (chooses reads n before None is) refl refl refl in
       ((may_choose reads n before, later.0), later.1))
 
   -- the validation of a read that isn't current
@@ -203,7 +203,7 @@ module _ (m : Machine) (w : ℕ) (writes : Writes) (may : MayLock m w writes) wh
         rest = keeps_more m n e w left.rest (keeps w n e _ refl refl refl);
       }
 
-  fails : (reads : Reads) → HasRead m w reads → (first : IsStale m reads) → Runs m (stale_section w first.passed first.at writes) (λ n. HasFailed m n w)
+  fails : (reads : Reads) → HasRead m w reads → (first : IsStale m reads) → Runs m (stale_section w first.passed first.at writes) (λ n. WorkerHasFailed m n w)
   fails reads all first =
       let passed : Reads = first.passed in
       let r : ℕ = first.at in
@@ -213,11 +213,11 @@ module _ (m : Machine) (w : ℕ) (writes : Writes) (may : MayLock m w writes) wh
       let remaining : Reads = left_by m w passed in
       let is_held : note_at remaining r ≡ Some v = same_rest passed (worker m w).reads others read.all (ascend (passed ++ others) read.ascending) r
       ∙ held_first r v first.rest in
-      runs_join m (beginning w passed writes) (Validate w r ∷ unlocks_of w writes) (Entering m w writes passed remaining) (λ n. HasFailed m n w)
+      runs_join m (beginning w passed writes) (Validate w r ∷ unlocks_of w writes) (Entering m w writes passed remaining) (λ n. WorkerHasFailed m n w)
       (begins passed others read first.current)
       (λ n before.
       let has : IsSome (note_at (worker n w).reads r) = ap (λ (q : Worker). is_some (note_at q.reads r)) before.own ∙ ap is_some is_held in
-      let later : Runs (after_event n (Validate w r)) (unlocks_of w writes) (λ q. HasFailed m q w) =
+      let later : Runs (after_event n (Validate w r)) (unlocks_of w writes) (λ q. WorkerHasFailed m q w) =
       gives_up (after_event n (Validate w r)) (checked (entered m w writes passed remaining) r v false)
       (refuses passed remaining r v n is_held before first.stale) refl refl refl in
       (((present n before.rest, ap (λ (q : Worker). q.phase) before.own, has), later.0), later.1))

@@ -3,7 +3,7 @@ use Rattle.std.proofs.Common.{◌≤◌, ◌≡◌, ◌≢◌, ℕ, ◌/◌, ◌
 use Rattle.std.proofs.Common.{subst, inl, inr, ⊎_elim, le_refl}
 use Rattle.tidword.specs.TidWord.{tid_of}
 use Rattle.commit.specs.Machine.{Worker, IsIdle, note_at}
-use Rattle.commit.specs.Events.{checked, chosen}
+use Rattle.commit.specs.Events.{checked, after_choice}
 use Rattle.commit.specs.Turns.{IsWaiting, Place, transaction_of, decided, decide, give_up}
 use Rattle.commit.specs.Turns.Place.{Waiting}
 use Rattle.commit.specs.Serial.{now}
@@ -83,7 +83,7 @@ module _ (first : ℕ → Version) (ws ws' : ℕ → Worker) (w n : ℕ) (v : Ve
   }
 
 -- worker w has taken a TID
-module _ (first : ℕ → Version) (ws ws' : ℕ → Worker) (w tid : ℕ) (change : Changes ws ws' w (chosen (ws w) (Some tid))) (epoch : ℕ) (turns : List Place)
+module _ (first : ℕ → Version) (ws ws' : ℕ → Worker) (w tid : ℕ) (change : Changes ws ws' w (after_choice (ws w) (Some tid))) (epoch : ℕ) (turns : List Place)
     (h : AreOrdered first ws epoch turns) where
   pub order_decided : ((k r : ℕ) (value other : Option (List ℕ)) → note_at (ws w).locks r ≡ Some value → note_at (ws k).locks r ≡ Some other → w ≡ k)
       → ((k r : ℕ) (value : Option (List ℕ)) (v : Version) → (ws k).phase ≡ Entered → note_at (ws w).locks r ≡ Some value → note_at (ws k).reads r ≡ Some v
@@ -91,9 +91,9 @@ module _ (first : ℕ → Version) (ws ws' : ℕ → Worker) (w tid : ℕ) (chan
       → ((r : ℕ) (v : Version) → note_at (ws w).validated r ≡ Some v → v.tid < tid)
       → tid / 2 ^ 32 ≡ (ws w).epoch → tid % 8 ≡ 0 → tid_of (ws w).last < tid
       → ((r : ℕ) (value : Option (List ℕ)) → note_at (ws w).locks r ≡ Some value → (now first (decided turns) r).tid < tid)
-      → AreOrdered first ws' epoch (decide w (transaction_of w (chosen (ws w) (Some tid))) turns)
+      → AreOrdered first ws' epoch (decide w (transaction_of w (after_choice (ws w) (Some tid))) turns)
   order_decided single above above_read in_epoch bits above_last larger = record {
-    places = spread (λ k (x : Worker). x.phase ≡ Entered → IsWaiting k (decide w (transaction_of w (chosen (ws w) (Some tid))) turns)) change
+    places = spread (λ k (x : Worker). x.phase ≡ Entered → IsWaiting k (decide w (transaction_of w (after_choice (ws w) (Some tid))) turns)) change
         (λ e. absurd (chose Chosen refl e))
         (λ k apart e. waits_on first ws ws' w tid change k turns apart (h.places k e));
     good = good_decided first ws ws' w tid change single above above_read in_epoch bits above_last turns h.good (λ r value lock _. larger r value lock);

@@ -6,7 +6,7 @@ use Rattle.commit.specs.Machine.{Machine, Worker, IsOpening, IsIdle, idle_worker
 use Rattle.commit.specs.Events.{AreEnabled, after_event}
 use Rattle.commit.specs.Turns.{Place, Run, decided, turns_after, run, run_on}
 use Rattle.commit.specs.Turns.Place.{Waiting, Decided}
-use Rattle.commit.specs.Serial.{IsSerial, HaveLawfulTids, NeverFall, first_versions, IsSerialRun}
+use Rattle.commit.specs.Serial.{IsSerial, HaveLawfulTids, NeverFall, opening_versions, IsSerialRun}
 use Rattle.commit.specs.declared.worker.Version.{Version}
 use Rattle.commit.specs.declared.event.Event.{Event}
 use Rattle.commit.proofs.Held.{never_both}
@@ -22,7 +22,7 @@ opens_idle opening opens w = ⊎_elim
     (λ (past : length opening.workers ≤ w). subst (λ (x : Worker). IsIdle x) (sym (get_or_past opening.workers w idle_worker past)) (refl, inl refl))
     (cases_lt w (length opening.workers))
 
-opens_sound : (opening : Machine) → IsOpening opening → Holds (first_versions opening) opening []
+opens_sound : (opening : Machine) → IsOpening opening → Holds (opening_versions opening) opening []
 opens_sound opening opens = record {
   locks = record {
     locked = λ w r value e. absurd (no_lock w r value e);
@@ -62,10 +62,10 @@ never_fall [] e f le h = tt
 never_fall (Waiting w g ∷ turns) e f le h = never_fall turns g f (le_trans h.0 le) h.1
 never_fall (Decided t ∷ turns) e f le h = (le_trans h.0 le, never_fall turns t.epoch t.epoch (le_refl t.epoch) h.1)
 
-serial_run : (opening : Machine) (end : Run) → Holds (first_versions opening) end.machine end.turns → IsSerialRun opening end
+serial_run : (opening : Machine) (end : Run) → Holds (opening_versions opening) end.machine end.turns → IsSerialRun opening end
 serial_run opening end h = record {
-  serial = are_serial (first_versions opening) (worker end.machine) end.turns h.order.good;
-  stamped = are_stamped (first_versions opening) (worker end.machine) end.turns h.order.good;
+  serial = are_serial (opening_versions opening) (worker end.machine) end.turns h.order.good;
+  stamped = are_stamped (opening_versions opening) (worker end.machine) end.turns h.order.good;
   epochs = never_fall end.turns end.machine.epoch end.machine.epoch (le_refl end.machine.epoch) h.order.epochs;
   waiting = h.order.places;
   settled = λ r. record { installed = h.stores.settled r; to_come = λ w value e. (h.stores.to_come w r value e).0 };
@@ -74,4 +74,4 @@ serial_run opening end h = record {
 pub every_run : (opening : Machine) (events : List Event) → IsOpening opening → AreEnabled opening events → IsSerialRun opening (run opening events)
 every_run opening events opens enabled =
     serial_run opening (run opening events)
-    (sound_on (first_versions opening) (record { machine = opening; turns = [] }) events (opens_sound opening opens) enabled)
+    (sound_on (opening_versions opening) (record { machine = opening; turns = [] }) events (opens_sound opening opens) enabled)

@@ -5,7 +5,7 @@ use Rattle.std.proofs.lemmas.Bool.{cases_eq}
 use Rattle.tidword.specs.TidWord.{is_locked}
 use Rattle.tidword.proofs.Words.{installed-tid}
 use Rattle.commit.specs.Machine.{Worker, IsIdle, note_at, without, version_of}
-use Rattle.commit.specs.Events.{chosen, locked_cell, written_cell}
+use Rattle.commit.specs.Events.{after_choice, locked_cell, written_cell}
 use Rattle.commit.specs.Turns.{IsWaiting, Transaction, Place, transaction_of, decided, decide}
 use Rattle.commit.specs.Serial.{now, pending, to_install}
 use Rattle.commit.specs.declared.worker.Phase.{Phase}
@@ -131,11 +131,11 @@ module _ (first : ℕ → Version) (ws ws' : ℕ → Worker) (cs cs' : ℕ → C
   }
 
 -- worker w has taken a TID
-module _ (first : ℕ → Version) (ws ws' : ℕ → Worker) (cs : ℕ → Cell) (w tid : ℕ) (change : Changes ws ws' w (chosen (ws w) (Some tid))) where
+module _ (first : ℕ → Version) (ws ws' : ℕ → Worker) (cs : ℕ → Cell) (w tid : ℕ) (change : Changes ws ws' w (after_choice (ws w) (Some tid))) where
   pub choice : (turns : List Place) → AreStored first ws cs (decided turns) → HaveLocks ws cs → AreGood first ws turns → IsWaiting w turns
       → (ws w).phase ≡ Entered → tid % 8 ≡ 0
       → ((r : ℕ) (value : Option (List ℕ)) → note_at (ws w).locks r ≡ Some value → (version_of (cs r)).tid < tid)
-      → AreStored first ws' cs (decided (decide w (transaction_of w (chosen (ws w) (Some tid))) turns))
+      → AreStored first ws' cs (decided (decide w (transaction_of w (after_choice (ws w) (Some tid))) turns))
   choice turns h locks good waits entered bits above = record {
     to_come = λ k r value. spread
         (λ k (x : Worker). to_install x r ≡ Some value → (now first later r ≡ record { tid = x.last; value = value }) × ((version_of (cs r)).tid < x.last)
@@ -150,11 +150,11 @@ module _ (first : ℕ → Version) (ws ws' : ℕ → Worker) (cs : ℕ → Cell)
         (now_same first ws ws' w tid change turns r (λ _. none) ∙ old.0, old.1, old.2))
         k;
     settled = λ r all. now_same first ws ws' w tid change turns r (λ _. sym (ap (λ (x : Worker). to_install x r) change.here) ∙ all w)
-        ∙ h.settled r (nothing_before first ws ws' cs cs w (chosen (ws w) (Some tid)) change r (nothing_entered (ws w) r entered) all);
+        ∙ h.settled r (nothing_before first ws ws' cs cs w (after_choice (ws w) (Some tid)) change r (nothing_entered (ws w) r entered) all);
   }
     where
       later : List Transaction
-      later = decided (decide w (transaction_of w (chosen (ws w) (Some tid))) turns)
+      later = decided (decide w (transaction_of w (after_choice (ws w) (Some tid))) turns)
 
 -- worker w installs record n
 module _ (first : ℕ → Version) (ws ws' : ℕ → Worker) (cs cs' : ℕ → Cell) (w n : ℕ) (installed : Option (List ℕ))

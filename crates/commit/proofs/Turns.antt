@@ -6,7 +6,7 @@ use Rattle.std.proofs.lemmas.List.Elements.{All-nil, All-cons, All-head, All-tai
 use Rattle.std.specs.List.{All}
 use Rattle.tidword.specs.TidWord.{tid_of}
 use Rattle.commit.specs.Machine.{Worker, note_at}
-use Rattle.commit.specs.Events.{checked, chosen}
+use Rattle.commit.specs.Events.{checked, after_choice}
 use Rattle.commit.specs.Turns.{IsWaiting, Transaction, Place, transaction_of, decided, decide, give_up}
 use Rattle.commit.specs.Turns.Place.{Waiting, Decided}
 use Rattle.commit.specs.Serial.{now, overwritten}
@@ -210,10 +210,10 @@ module _ (first : ℕ → Version) (ws ws' : ℕ → Worker) (w n : ℕ) (v : Ve
           (cases_held (note_at t.writes n))
 
 -- worker w has taken a TID
-module _ (first : ℕ → Version) (ws ws' : ℕ → Worker) (w tid : ℕ) (change : Changes ws ws' w (chosen (ws w) (Some tid))) where
+module _ (first : ℕ → Version) (ws ws' : ℕ → Worker) (w tid : ℕ) (change : Changes ws ws' w (after_choice (ws w) (Some tid))) where
   -- its transaction
   abbrev own : Transaction
-  own = transaction_of w (chosen (ws w) (Some tid))
+  own = transaction_of w (after_choice (ws w) (Some tid))
 
   pub waited : (k : ℕ) (turns : List Place) → IsWaiting k (decide w own turns) → IsWaiting k turns
   waited k [] h = absurd h
@@ -312,7 +312,7 @@ module _ (first : ℕ → Version) (ws ws' : ℕ → Worker) (w tid : ℕ) (chan
         → ((r : ℕ) (value : Option (List ℕ)) → note_at (ws w).locks r ≡ Some value → (now first (decided turns) r).tid < tid) → Fits first ws' own turns
     fits_own e turns waits good larger = record {
       reads = subst (λ (l : List Place). AreFound first ws' (ws w).validated l) (nothing_given_up w turns waits.once)
-          (found_goes first ws ws' w turns (give_up w turns) (goes_given_up first ws ws' w (chosen (ws w) (Some tid)) change no_smaller turns) (ws w).validated
+          (found_goes first ws ws' w turns (give_up w turns) (goes_given_up first ws ws' w (after_choice (ws w) (Some tid)) change no_smaller turns) (ws w).validated
           waits.validated);
       stamp = record { bits = bits; in_epoch = in_epoch; above_read = above_read; above_replaced = larger; above_own = rises turns good };
       apart = λ k r value q lock.
@@ -333,7 +333,7 @@ module _ (first : ℕ → Version) (ws ws' : ℕ → Worker) (w tid : ℕ) (chan
         (λ same.
         let waits : Waits first ws w e turns = subst (λ k. Waits first ws k e turns) same h.0 in (
           fits_own e turns waits h.1 (λ r value lock. larger r value lock (inl same)),
-          good_aside first ws ws' w (chosen (ws w) (Some tid)) change no_smaller
+          good_aside first ws ws' w (after_choice (ws w) (Some tid)) change no_smaller
               turns waits.once h.1,
         ))
         (λ other. (

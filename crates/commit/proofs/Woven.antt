@@ -6,7 +6,7 @@ use Rattle.std.proofs.lemmas.List.Elements.{All-head, All-tail}
 use Rattle.tidword.specs.TidWord.{tid_of, is_locked}
 use Rattle.tidword.specs.Lawful.{next}
 use Rattle.commit.specs.Machine.{Machine, Worker, IsIdle, idle_worker, no_cell, note_at, without, worker, version_of}
-use Rattle.commit.specs.Events.{IsEnabled, AreEnabled, after_event, after_all, validated_by, chosen, greatest_read, greatest_locked, seen_by, locked_cell}
+use Rattle.commit.specs.Events.{IsEnabled, AreEnabled, after_event, after_all, validated_by, after_choice, greatest_read, greatest_locked, seen_by, locked_cell}
 use Rattle.commit.specs.Events.{unlocked_cell, written_cell}
 use Rattle.commit.specs.Weaving.{actor, AreOwn, IsOfOthers, ReadsEpoch, LooksSame, IsWoven, over, mine, between, MayBeWoven}
 use Rattle.commit.specs.declared.worker.Phase.TheVariants.{Begun, Entered, Chosen, Failed}
@@ -101,7 +101,7 @@ step (Validate k r) w a b is same h e = follow k w a b (Validate k r) is same (�
 step (ChooseTid k) w a b is same h e = follow k w a b (ChooseTid k) is same (λ s. (
   ready_too k a b s (ChooseTid k) h,
   moves k a b s _ _ (after_event a (ChooseTid k)) (after_event b (ChooseTid k)) h.0 refl refl
-      (λ i. chosen (s.own i) (next (tid_of (same_seen k a b s i)) (tid_of (s.own i).last) (s.own i).epoch)) s.records,
+      (λ i. after_choice (s.own i) (next (tid_of (same_seen k a b s i)) (tid_of (s.own i).last) (s.own i).epoch)) s.records,
 ))
 step (Install k r) w a b is same h e = follow k w a b (Install k r) is same (λ s. (
   ready_too k a b s (Install k r) h,

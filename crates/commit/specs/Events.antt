@@ -65,9 +65,9 @@ abbrev pub seen_by : Machine → Worker → ℕ
 seen_by m x = max (greatest_read x.validated) (greatest_locked m x.locks)
 
 -- a worker that has taken its TID, and one for which there is none
-abbrev pub chosen : Worker → Option ℕ → Worker
-chosen x (Some tid) = record x { phase = Chosen; last = tid }
-chosen x None = record x { phase = Failed }
+abbrev pub after_choice : Worker → Option ℕ → Worker
+after_choice x (Some tid) = record x { phase = Chosen; last = tid }
+after_choice x None = record x { phase = Failed }
 
 -- the count of the workers' finishes, which stays at its greatest number, once worker x stands so: it has finished
 -- where it has chosen and holds no lock
@@ -104,7 +104,7 @@ after_event m (Lock w r value) =
 after_event m (ReadEpoch w) = with_worker m w (record (worker m w) { phase = Entered; epoch = m.epoch; validated = [] })
 after_event m (Validate w r) = with_worker m w (validated_by (worker m w) r (cell m r) (note_at (worker m w).reads r))
 after_event m (ChooseTid w) =
-    settled_with m w (chosen (worker m w)
+    settled_with m w (after_choice (worker m w)
     (next (tid_of (seen_by m (worker m w))) (tid_of (worker m w).last) (worker m w).epoch))
 after_event m (Install w r) =
     with_cell (settled_with m w (record (worker m w) { locks = without (worker m w).locks r })) r

@@ -98,7 +98,7 @@ pub record KeepsOthers (before after : Machine) (w : ℕ) : Type 0 where
 
 -- worker w has committed these writes with this TID: each record written has its new value and its new word, unlocked,
 -- and no other record differs
-pub record HasCommitted (before after : Machine) (w : ℕ) (writes : Writes) (tid : ℕ) : Type 0 where
+pub record WorkerHasCommitted (before after : Machine) (w : ℕ) (writes : Writes) (tid : ℕ) : Type 0 where
   pub cells : (r : ℕ) → cell after r ≡ written_cell (cell before r) tid (note_at writes r)
   pub chosen : (worker after w).phase ≡ Chosen
   pub lockless : (worker after w).locks ≡ []
@@ -107,7 +107,7 @@ pub record HasCommitted (before after : Machine) (w : ℕ) (writes : Writes) (ti
   pub rest : KeepsOthers before after w
 
 -- worker w has failed and holds no lock, and every record is as before
-pub record HasFailed (before after : Machine) (w : ℕ) : Type 0 where
+pub record WorkerHasFailed (before after : Machine) (w : ℕ) : Type 0 where
   pub cells : (r : ℕ) → cell after r ≡ cell before r
   pub failed : (worker after w).phase ≡ Failed
   pub lockless : (worker after w).locks ≡ []
@@ -119,9 +119,9 @@ pub record HasFailed (before after : Machine) (w : ℕ) : Type 0 where
 -- fail, where there is none, or at the first read that isn't current
 pub record AreSections (m : Machine) (w : ℕ) (writes : Writes) : Type 0 where
   pub ok : (reads : Reads) (tid : ℕ) → HasRead m w reads → AreCurrent m reads → next_for m w reads writes ≡ Some tid
-      → AreEnabled m (section w reads writes) × HasCommitted m (after_all m (section w reads writes)) w writes tid
+      → AreEnabled m (section w reads writes) × WorkerHasCommitted m (after_all m (section w reads writes)) w writes tid
   pub full : (reads : Reads) → HasRead m w reads → AreCurrent m reads → next_for m w reads writes ≡ None
-      → AreEnabled m (full_section w reads writes) × HasFailed m (after_all m (full_section w reads writes)) w
+      → AreEnabled m (full_section w reads writes) × WorkerHasFailed m (after_all m (full_section w reads writes)) w
   pub stale : (reads : Reads) → HasRead m w reads → (first : IsStale m reads)
       → AreEnabled m (stale_section w first.passed first.at writes)
-      × HasFailed m (after_all m (stale_section w first.passed first.at writes)) w
+      × WorkerHasFailed m (after_all m (stale_section w first.passed first.at writes)) w

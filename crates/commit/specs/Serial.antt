@@ -52,21 +52,21 @@ to_install x r = pending x.phase (note_at x.locks r)
 
 -- the last version v of record r is the record's, where no worker is still to install one; and it is what such a worker
 -- installs
-pub record IsSettled (m : Machine) (r : ℕ) (v : Version) : Type 0 where
+pub record IsSettledRecord (m : Machine) (r : ℕ) (v : Version) : Type 0 where
   pub installed : ((w : ℕ) → to_install (worker m w) r ≡ None) → v ≡ version_of (cell m r)
   pub to_come : (w : ℕ) (value : Option (List ℕ)) → to_install (worker m w) r ≡ Some value
       → v ≡ record { tid = (worker m w).last; value = value }
 
 -- the versions with which a run opens
-abbrev pub first_versions : Machine → ℕ → Version
-first_versions opening r = version_of (cell opening r)
+abbrev pub opening_versions : Machine → ℕ → Version
+opening_versions opening r = version_of (cell opening r)
 
 -- where a run ends: its transactions are serial in the order of their turns, with lawful TIDs and epochs that never
 -- fall; whoever has read its epoch and hasn't decided has a turn, so that no transaction is left out; and the records
 -- are as the transactions leave them
 pub record IsSerialRun (opening : Machine) (end : Run) : Type 0 where
-  pub serial : IsSerial (first_versions opening) (decided end.turns)
-  pub stamped : HaveLawfulTids (first_versions opening) (decided end.turns)
+  pub serial : IsSerial (opening_versions opening) (decided end.turns)
+  pub stamped : HaveLawfulTids (opening_versions opening) (decided end.turns)
   pub epochs : NeverFall end.machine.epoch (decided end.turns)
   pub waiting : (w : ℕ) → (worker end.machine w).phase ≡ Entered → IsWaiting w end.turns
-  pub settled : (r : ℕ) → IsSettled end.machine r (now (first_versions opening) (decided end.turns) r)
+  pub settled : (r : ℕ) → IsSettledRecord end.machine r (now (opening_versions opening) (decided end.turns) r)

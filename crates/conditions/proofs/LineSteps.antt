@@ -16,14 +16,14 @@ use Rattle.tables.specs.declared.rows.Order.{Order}
 use Rattle.tables.specs.declared.rows.OrderLine.{OrderLine}
 use Rattle.tables.proofs.Orders.{exact_line}
 use Rattle.tables.proofs.Totals.{total-view}
-use Rattle.walks.specs.Amounts.{share}
-use Rattle.walks.specs.Running.{running_at}
-use Rattle.conditions.specs.Lines.{AreWithin, IsLineAdded, AreClosed}
+use Rattle.conditions_walks.specs.Amounts.{share}
+use Rattle.conditions_walks.specs.Running.{running_at}
+use Rattle.conditions.specs.Lines.{AreLinesWithin, IsLineAdded, AreClosed}
 use Rattle.conditions.specs.Sums.{AreLineSumsOf}
 use Rattle.conditions.specs.declared.lines.LinesUnderWay.{LinesUnderWay}
 use Rattle.conditions.specs.declared.lines.LineSums.{LineSums}
 use Rattle.conditions.specs.declared.shares.Delivered.{Delivered}
-use Rattle.walks.proofs.Added.{within_weaker}
+use Rattle.conditions_walks.proofs.Added.{within_weaker}
 use Rattle.conditions.proofs.SumSteps.{sum_entries_none, sum_entries_more, sum_entries_all, none_passed}
 
 -- what a line adds to the sum of a district, of an order, and of a customer
@@ -48,12 +48,12 @@ pub record AreUnderWay (rows : List (OrderKey × Order)) (all left : List (LineK
       ≡ sum_entries (to_customer rows k) all
   pub customers : s.customers.orders ≡ rows
   pub among : length left ≤ length all
-  pub within : AreWithin s (length all - length left)
+  pub within : AreLinesWithin s (length all - length left)
 
 pub under_way_all : (orders : List (OrderKey × Order)) (all : List (LineKey × OrderLine)) (s : LinesUnderWay)
     → ((k : DistrictKey) → running_at district_cmp s.districts k ≡ pos 0)
     → ((k : OrderKey) → running_at order_cmp s.orders k ≡ pos 0)
-    → ((k : CustomerKey) → running_at customer_cmp s.delivered k ≡ pos 0) → s.customers.orders ≡ orders → AreWithin s 0
+    → ((k : CustomerKey) → running_at customer_cmp s.delivered k ≡ pos 0) → s.customers.orders ≡ orders → AreLinesWithin s 0
     → AreUnderWay orders all all s
 under_way_all orders all s districts of_orders delivered customers within = record {
   districts = λ k. sum_entries_none _ (sum_entries (to_district k) all) (districts k);
@@ -61,10 +61,10 @@ under_way_all orders all s districts of_orders delivered customers within = reco
   delivered = λ k. sum_entries_none _ (sum_entries (to_customer orders k) all) (delivered k);
   customers = customers;
   among = omega arith;
-  within = subst (AreWithin s) (none_passed (length all)) within;
+  within = subst (AreLinesWithin s) (none_passed (length all)) within;
 }
 
-pub lines_within : (s : LinesUnderWay) (n m : ℕ) → n ≤ m → AreWithin s n → AreWithin s m
+pub lines_within : (s : LinesUnderWay) (n m : ℕ) → n ≤ m → AreLinesWithin s n → AreLinesWithin s m
 lines_within s n m le h = record {
   districts = within_weaker district_cmp s.districts n m le h.districts;
   orders = within_weaker order_cmp s.orders n m le h.orders;
@@ -75,7 +75,7 @@ lines_within s n m le h = record {
 pub under_way_more : (orders : List (OrderKey × Order)) (all left rest : List (LineKey × OrderLine)) (j : LineKey)
     (line : OrderLine) (s s' : LinesUnderWay)
     → left ≡ (j, line) ∷ rest → AreUnderWay orders all left s → IsLineAdded s s' j line
-    → ((n : ℕ) → AreWithin s n → AreWithin s' (n + 1))
+    → ((n : ℕ) → AreLinesWithin s n → AreLinesWithin s' (n + 1))
     → AreUnderWay orders all rest s'
 under_way_more orders all left rest j line s s' next before added within = record {
   districts = λ k. sum_entries_more (to_district k) all left rest j line _ _ _ next (before.districts k) refl
@@ -85,7 +85,7 @@ under_way_more orders all left rest j line s s' next before added within = recor
       (before.delivered k) (ap (λ os. to_customer os k j line) before.customers) (added.delivered k);
   customers = ap (λ (by : Delivered). by.orders) added.customers ∙ before.customers;
   among = omega (arith, fewer, before.among);
-  within = subst (AreWithin s') (more (length all) (length left) (length rest) fewer before.among) (within _ before.within);
+  within = subst (AreLinesWithin s') (more (length all) (length left) (length rest) fewer before.among) (within _ before.within);
 }
   where
     fewer : length left ≡ length rest + 1

@@ -7,7 +7,7 @@ use Rattle.std.specs.FinMap.{find, get, get-from_entries, from_entries}
 use Rattle.std.specs.declared.cmp.Ordering.{Ordering}
 use Rattle.tables.proofs.Orders.{IsExact}
 use Rattle.tables.proofs.Views.{get-view}
-use Rattle.walks.specs.Amounts.{amount_at}
+use Rattle.conditions_walks.specs.Amounts.{amount_at}
 
 -- any function of what was found, or of nothing
 pub told : {K X A : Type 0} {R : K → K → Ordering} (o : IsExact R) (f : Option X → A) (m : BTreeMap K X) (k : K) (r : Option X) → r ≡ tree.get R m k

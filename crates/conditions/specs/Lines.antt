@@ -8,13 +8,13 @@ use Rattle.tables.specs.declared.keys.CustomerKey.{CustomerKey}
 use Rattle.tables.specs.declared.keys.OrderKey.{OrderKey}
 use Rattle.tables.specs.declared.keys.LineKey.{LineKey}
 use Rattle.tables.specs.declared.rows.OrderLine.{OrderLine}
-use Rattle.walks.specs.Amounts.{amount_at, AreBounded, share}
-use Rattle.walks.specs.Running.{running_at, IsWithin}
+use Rattle.conditions_walks.specs.Amounts.{amount_at, AreBounded, share}
+use Rattle.conditions_walks.specs.Running.{running_at, IsWithin}
 use Rattle.conditions.specs.declared.lines.LinesUnderWay.{LinesUnderWay}
 use Rattle.conditions.specs.declared.lines.LineSums.{LineSums}
 
 -- none is further from 0 than n amounts of 64 bits
-pub record AreWithin (s : LinesUnderWay) (n : ℕ) : Type 0 where
+pub record AreLinesWithin (s : LinesUnderWay) (n : ℕ) : Type 0 where
   pub districts : IsWithin district_cmp s.districts n
   pub orders : IsWithin order_cmp s.orders n
   pub delivered : IsWithin customer_cmp s.delivered n

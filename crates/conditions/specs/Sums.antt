@@ -10,7 +10,7 @@ use Rattle.tables.specs.Conditions.{paid_by_customer}
 use Rattle.tables.specs.declared.keys.DistrictKey.{DistrictKey}
 use Rattle.tables.specs.declared.keys.CustomerKey.{CustomerKey}
 use Rattle.tables.specs.declared.keys.OrderKey.{OrderKey}
-use Rattle.walks.specs.Amounts.{amount_at, AreBounded, share}
+use Rattle.conditions_walks.specs.Amounts.{amount_at, AreBounded, share}
 use Rattle.conditions.specs.Numbers.{numbers_at, AreNumbersOf}
 use Rattle.conditions.specs.declared.lines.LineSums.{LineSums}
 use Rattle.conditions.specs.declared.sums.HistorySums.{HistorySums}

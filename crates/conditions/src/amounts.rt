@@ -7,13 +7,13 @@ ghost use Rattle.std.specs.BTreeMap.{IsOrdered, is_at};
 ghost use Rattle.std.specs.Map.{lookup};
 ghost use Rattle.tables.specs.Maps.{sum_entries, sum_of};
 ghost use Rattle.tables.specs.Database.{database};
-ghost use Rattle.walks.specs.Amounts.{amount_at, AreBounded, share};
-ghost use Rattle.walks.specs.Running.{running_at, IsWithin};
+ghost use Rattle.conditions_walks.specs.Amounts.{amount_at, AreBounded, share};
+ghost use Rattle.conditions_walks.specs.Running.{running_at, IsWithin};
 
+use conditions_walks::{Running, Walk};
 use std::alloc::{AllocError, Global};
 use std::collections::BTreeMap;
 use tables::{History, Tables};
-use walks::{Running, Walk};
 
 /// What each row of a table adds, and to the sum of which group.
 pub trait Share<K, X> {

@@ -9,9 +9,9 @@ ghost use Rattle.tables.specs.Maps.{column};
 ghost use Rattle.tables.specs.Database.{database};
 ghost use Rattle.tables.specs.OrderNumbers.{next_order as next_order_at};
 
+use conditions_walks::Walk;
 use money::Cents;
 use tables::{Customer, CustomerKey, DistrictKey, Order, OrderKey, Tables};
-use walks::Walk;
 
 /// W_YTD, or 0 where the row is missing.
 pub fn warehouse_year_to_date(tables: &Tables, warehouse: &u32) -> Cents

@@ -3,8 +3,8 @@
 ghost use Rattle.conditions.specs.CustomerWalks.{AreWalksOf};
 
 use crate::sums::Sums;
+use conditions_walks::Walk;
 use tables::{Customer, CustomerKey, Tables};
-use walks::Walk;
 
 /// A walk along CUSTOMER and along each sum by customer, for the customers in order.
 #[derive(Drop)]

@@ -2,15 +2,15 @@
 
 ghost use Rattle.std.specs.Prelude.{IfOk, OnOk, ◌+◌, ◌-◌, ◌^◌, ℕ};
 ghost use Rattle.tables.specs.Database.{database};
-ghost use Rattle.conditions.specs.Lines.{AreWithin, IsLineAdded, AreClosed};
+ghost use Rattle.conditions.specs.Lines.{AreLinesWithin, IsLineAdded, AreClosed};
 ghost use Rattle.conditions.specs.Sums.{AreLineSumsOf};
 
 use crate::amounts::add_row;
 use crate::shares::{Delivered, DistrictLines, OrderLines};
+use conditions_walks::{Running, Walk};
 use std::alloc::{AllocError, Global};
 use std::collections::BTreeMap;
 use tables::{CustomerKey, DistrictKey, LineKey, OrderKey, OrderLine, Tables};
-use walks::{Running, Walk};
 
 /// Sums over the rows of ORDER-LINE.
 #[derive(Drop)]
@@ -55,9 +55,9 @@ impl LineSums {
 
 /// Adds what a line adds to each.
 fn add_line(sums: &mut LinesUnderWay<'_>, key: &LineKey, row: &OrderLine) -> Result<(), AllocError>
-    requires { AreWithin sums.old (2 ^ 63) }
+    requires { AreLinesWithin sums.old (2 ^ 63) }
     ensures added { OnOk result (IsLineAdded sums.old sums.new key.now row.now) }
-    ensures within { OnOk result ((n : ℕ) → AreWithin sums.old n → AreWithin sums.new (n + 1)) }
+    ensures within { OnOk result ((n : ℕ) → AreLinesWithin sums.old n → AreLinesWithin sums.new (n + 1)) }
 {
     add_row::<LineKey, OrderLine, DistrictLines>(
         &mut sums.districts,
@@ -71,7 +71,7 @@ fn add_line(sums: &mut LinesUnderWay<'_>, key: &LineKey, row: &OrderLine) -> Res
 
 /// All of the sums.
 fn close(sums: LinesUnderWay<'_>) -> Result<LineSums, AllocError>
-    requires { AreWithin sums (2 ^ 63 - 1) }
+    requires { AreLinesWithin sums (2 ^ 63 - 1) }
     ensures { IfOk result (AreClosed sums.entry) }
 {
     let LinesUnderWay {

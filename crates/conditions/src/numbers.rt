@@ -10,10 +10,10 @@ ghost use Rattle.tables.specs.declared.keys.DistrictKey.{DistrictKey as KeyOfDis
 ghost use Rattle.conditions.specs.Numbers.{no_numbers, with_number, numbers_at, gathered_at, AreNumbersOf};
 ghost use Rattle.conditions.specs.declared.numbers.Numbers.{Numbers as KeptNumbers};
 
+use conditions_walks::is_group;
 use std::alloc::{AllocError, Global};
 use std::collections::BTreeMap;
 use tables::{DistrictKey, OrderKey};
-use walks::is_group;
 
 /// How many order numbers there are, the least (0 where there is none) and the greatest (likewise).
 #[derive(Clone, Copy, PartialEq, Eq)]

@@ -15,8 +15,8 @@ use crate::amounts::{amount_along, equal};
 use crate::columns::is_without_carrier;
 use crate::lines::LineSums;
 use crate::search::least_row;
+use conditions_walks::Walk;
 use tables::{LineKey, NewOrder, Order, OrderKey, OrderLine, Tables};
-use walks::Walk;
 
 /// A condition that is asked of each row of a table, with its key, in the order of the keys. Its value is what it looks
 /// into.

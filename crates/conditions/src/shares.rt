@@ -8,8 +8,8 @@ ghost use Rattle.tables.specs.Conditions.{is_line_of};
 ghost use Rattle.tables.specs.declared.keys.CustomerKey.{CustomerKey as KeyOfCustomer};
 
 use crate::amounts::Share;
+use conditions_walks::Walk;
 use tables::{CustomerKey, District, DistrictKey, History, LineKey, Order, OrderKey, OrderLine};
-use walks::Walk;
 
 /// D_YTD, by warehouse.
 #[derive(Drop)]

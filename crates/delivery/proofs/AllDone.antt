@@ -11,7 +11,7 @@ use Rattle.tables.specs.WellFormed.{IsWellFormed}
 use Rattle.tables.specs.declared.keys.DistrictKey.{DistrictKey}
 use Rattle.tables.specs.declared.keys.OrderKey.{OrderKey}
 use Rattle.tables.specs.declared.delivery.DeliveryInput.{DeliveryInput}
-use Rattle.laws.proofs.RisingNumbers.{least_row}
+use Rattle.tables_laws.proofs.RisingNumbers.{least_row}
 use Rattle.delivery.specs.Steps.{taken_by, after_districts}
 
 module _ (t : Database) (x : DeliveryInput) (wf : IsWellFormed t) where

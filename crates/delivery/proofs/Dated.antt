@@ -16,11 +16,11 @@ use Rattle.tables.specs.declared.delivery.DeliveryInput.{DeliveryInput}
 use Rattle.tables.specs.declared.records.RecordKey.{RecordKey}
 use Rattle.tables.specs.declared.records.RecordKey.TheVariants as key
 use Rattle.tables.proofs.Orders.{exact_line}
-use Rattle.laws.proofs.Touched.{self}
-use Rattle.laws.proofs.Updates.{get-map_rows}
-use Rattle.laws.proofs.OrderAmount.{order_named}
+use Rattle.tables_laws.proofs.Touched.{self}
+use Rattle.tables_laws.proofs.Updates.{get-map_rows}
+use Rattle.tables_laws.proofs.OrderAmount.{order_named}
 use Rattle.readset.specs.Changes.{Changes, Says, Apart}
-use Rattle.delivery.specs.Steps.{next_key, is_among, with_dates, is_taken_by, after_districts}
+use Rattle.delivery.specs.Steps.{next_key, is_early_line, with_dates, is_taken_by, after_districts}
 use Rattle.delivery.proofs.Taking.{is_taken_before, up_to_next}
 
 module _ (t : Database) (x : DeliveryInput) (n o : ℕ) where
@@ -28,18 +28,18 @@ module _ (t : Database) (x : DeliveryInput) (n o : ℕ) where
   k = next_key x n o
 
   abbrev test : ℕ → LineKey → Bool
-  test m j = is_taken_by t x n (order_of j) || is_among k m j
+  test m j = is_taken_by t x n (order_of j) || is_early_line k m j
 
   line_at : (m : ℕ) (j : LineKey) → get (with_dates t x n k m).lines j ≡ option_map (λ l. cond (test m j) (dated x l) l) (get t.lines j)
   line_at m j = get-map_rows exact_line (λ q l. cond (test m q) (dated x l) l) t.lines j
 
-  same_lines : (a b : ℕ) (j : LineKey) → is_among k a j ≡ is_among k b j → row_at (with_dates t x n k a) (key.OrderLine j) ≡ row_at (with_dates t x n k b)
+  same_lines : (a b : ℕ) (j : LineKey) → is_early_line k a j ≡ is_early_line k b j → row_at (with_dates t x n k a) (key.OrderLine j) ≡ row_at (with_dates t x n k b)
       (key.OrderLine j)
   same_lines a b j same = ap (option_map line_words)
       (line_at a j ∙ ap (λ c. option_map (λ l. cond (is_taken_by t x n (order_of j) || c) (dated x l) l) (get t.lines j)) same ∙ sym (line_at b j))
 
   -- before the first line
-  none_among : (j : LineKey) → 1 ≤ j.line → is_among k 0 j ≡ false
+  none_among : (j : LineKey) → 1 ≤ j.line → is_early_line k 0 j ≡ false
   none_among j first =
       let zero_not : nat_le j.line 0 ≡ false = grind (arith, nat_tests, first) in
       elim (is_order k.warehouse k.district k.order (order_of j)) as (λ b. (b && nat_le j.line 0) ≡ false) [ true ↦ zero_not | false ↦ refl ]
@@ -57,7 +57,7 @@ module _ (t : Database) (x : DeliveryInput) (n o : ℕ) where
   begun (key.OrderLine j) is =
       ap (option_map line_words)
       (line_at 0 j ∙ ap (λ b. option_map (λ l. cond b (dated x l) l) (get t.lines j))
-      (or_none (is_taken_by t x n (order_of j)) (is_among k 0 j) (none_among j is.3.0))
+      (or_none (is_taken_by t x n (order_of j)) (is_early_line k 0 j) (none_among j is.3.0))
       ∙ sym (get-map_rows exact_line (λ q l. cond (is_taken_by t x n (order_of q)) (dated x l) l) t.lines j))
   begun (key.Stock h) is = refl
   begun (key.Oldest h) is = refl
@@ -68,7 +68,7 @@ module _ (t : Database) (x : DeliveryInput) (n o : ℕ) where
   dating m r = (key.OrderLine (line_key k (m + 1)), Some (line_words (dated x r))) ∷ []
 
   module _ (m : ℕ) where
-    last_among : is_among k (m + 1) (line_key k (m + 1)) ≡ true
+    last_among : is_early_line k (m + 1) (line_key k (m + 1)) ≡ true
     last_among =
         let up_to : nat_le (m + 1) (m + 1) ≡ true = grind (arith, nat_tests) in
         λ i. ((self x.warehouse i && self (n + 1) i) && self o i) && up_to i
@@ -81,7 +81,7 @@ module _ (t : Database) (x : DeliveryInput) (n o : ℕ) where
       tt,
     )
 
-    other_line : (j : LineKey) → j ≢ line_key k (m + 1) → is_among k (m + 1) j ≡ is_among k m j
+    other_line : (j : LineKey) → j ≢ line_key k (m + 1) → is_early_line k (m + 1) j ≡ is_early_line k m j
     other_line j apart = elim (is_order k.warehouse k.district k.order (order_of j)) as
         (λ b. is_order k.warehouse k.district k.order (order_of j) ≡ b → (b && nat_le j.line (m + 1)) ≡ (b && nat_le j.line m)) [
           | true ↦ λ e.

@@ -23,13 +23,13 @@ use Rattle.tables.specs.declared.delivery.DeliveryInput.{DeliveryInput}
 use Rattle.tables.specs.declared.records.RecordKey.{RecordKey}
 use Rattle.tables.specs.declared.records.RecordKey.TheVariants as key
 use Rattle.tables.proofs.Orders.{exact_line}
-use Rattle.laws.proofs.Touched.{self, both}
-use Rattle.laws.proofs.Updates.{get-map_rows}
-use Rattle.laws.proofs.NumbersLeft.{IsGapless, left_of}
-use Rattle.laws.proofs.OrderAmount.{order_named}
-use Rattle.laws.proofs.RisingNumbers.{numbers_rise}
+use Rattle.tables_laws.proofs.Touched.{self, both}
+use Rattle.tables_laws.proofs.Updates.{get-map_rows}
+use Rattle.tables_laws.proofs.NumbersLeft.{IsGapless, left_of}
+use Rattle.tables_laws.proofs.OrderAmount.{order_named}
+use Rattle.tables_laws.proofs.RisingNumbers.{numbers_rise}
 use Rattle.readset.specs.Changes.{Changes, Says, Apart}
-use Rattle.delivery.specs.Steps.{next_home, next_key, is_among, with_dates, taken_by, is_taken_by, after_districts}
+use Rattle.delivery.specs.Steps.{next_home, next_key, is_early_line, with_dates, taken_by, is_taken_by, after_districts}
 use Rattle.delivery.proofs.Taking.{taken_other, taken_before, taken_now, is_taken_before, is_taken_now}
 use Rattle.delivery.proofs.Rows.{customer_home, order_home, customer_row, new_order_row, order_row, line_row_after, oldest_left, same_customer, same_new_order}
 use Rattle.delivery.proofs.Rows.{same_order, same_line, same_oldest}
@@ -112,11 +112,11 @@ module _ (t : Database) (x : DeliveryInput) (n o : ℕ) (waits : waiting t (next
     -- and nothing else, after its lines: each has its date, since their numbers are at most their count
     module _ (wf : IsWellFormed t) where
       same_test : (j : LineKey) (l : OrderLine) → get t.lines j ≡ Some l
-          → is_taken_by t x (n + 1) (order_of j) ≡ (is_taken_by t x n (order_of j) || is_among k r.line_count j)
+          → is_taken_by t x (n + 1) (order_of j) ≡ (is_taken_by t x n (order_of j) || is_early_line k r.line_count j)
       same_test j l is = either_home x n (order_home (order_of j)) _ refl
-          (is_taken_by t x (n + 1) (order_of j) ≡ (is_taken_by t x n (order_of j) || is_among k r.line_count j)) here other
+          (is_taken_by t x (n + 1) (order_of j) ≡ (is_taken_by t x n (order_of j) || is_early_line k r.line_count j)) here other
         where
-          here : order_home (order_of j) ≡ next_home x n → is_taken_by t x (n + 1) (order_of j) ≡ (is_taken_by t x n (order_of j) || is_among k r.line_count j)
+          here : order_home (order_of j) ≡ next_home x n → is_taken_by t x (n + 1) (order_of j) ≡ (is_taken_by t x n (order_of j) || is_early_line k r.line_count j)
           here home =
               let at : order_of j ≡ next_key x n j.order = λ i. record { warehouse = (home i).warehouse; district = (home i).district; order = j.order } in
               let before : is_taken_by t x n (order_of j) ≡ false = ap (is_taken_by t x n) at ∙ is_taken_before t x n j.order in
@@ -124,7 +124,7 @@ module _ (t : Database) (x : DeliveryInput) (n o : ℕ) (waits : waiting t (next
               let test : is_order x.warehouse (n + 1) o (order_of j) ≡ (o == j.order) = ap (is_order x.warehouse (n + 1) o) at
               ∙ (λ i. (self x.warehouse i && self (n + 1) i) && (o == j.order)) in
               elim (o == j.order) as (λ b. (o == j.order) ≡ b
-              → is_taken_by t x (n + 1) (order_of j) ≡ (is_taken_by t x n (order_of j) || is_among k r.line_count j)) [
+              → is_taken_by t x (n + 1) (order_of j) ≡ (is_taken_by t x n (order_of j) || is_early_line k r.line_count j)) [
                 | true ↦ λ e.
                     let order = wf.line_orders j l is in
                     let named : order_of j ≡ k = at ∙ ap (next_key x n) (sym (eqb-true o j.order e)) in
@@ -135,7 +135,7 @@ module _ (t : Database) (x : DeliveryInput) (n o : ℕ) (waits : waiting t (next
                 | false ↦ λ e. after ∙ e ∙ sym (λ i. before i || ((test ∙ e) i && nat_le j.line r.line_count))
               ] refl
 
-          other : order_home (order_of j) ≢ next_home x n → is_taken_by t x (n + 1) (order_of j) ≡ (is_taken_by t x n (order_of j) || is_among k r.line_count j)
+          other : order_home (order_of j) ≢ next_home x n → is_taken_by t x (n + 1) (order_of j) ≡ (is_taken_by t x n (order_of j) || is_early_line k r.line_count j)
           other away =
               let test : is_order x.warehouse (n + 1) o (order_of j) ≡ false = elim (is_order x.warehouse (n + 1) o (order_of j)) as
               (λ b. is_order x.warehouse (n + 1) o (order_of j) ≡ b → b ≡ false) [
@@ -148,10 +148,10 @@ module _ (t : Database) (x : DeliveryInput) (n o : ℕ) (waits : waiting t (next
       lines_same : (j : LineKey) → row_at (after_districts t x (n + 1)) (key.OrderLine j) ≡ row_at (with_dates t x n k r.line_count) (key.OrderLine j)
       lines_same j =
           ap (option_map line_words) (line_row_after t x (n + 1) j ∙ go (get t.lines j) refl
-          ∙ sym (get-map_rows exact_line (λ q l. cond (is_taken_by t x n (order_of q) || is_among k r.line_count q) (dated x l) l) t.lines j))
+          ∙ sym (get-map_rows exact_line (λ q l. cond (is_taken_by t x n (order_of q) || is_early_line k r.line_count q) (dated x l) l) t.lines j))
         where
           go : (w : Option OrderLine) → get t.lines j ≡ w → option_map (λ l. cond (is_taken_by t x (n + 1) (order_of j)) (dated x l) l) w
-              ≡ option_map (λ l. cond (is_taken_by t x n (order_of j) || is_among k r.line_count j) (dated x l) l) w
+              ≡ option_map (λ l. cond (is_taken_by t x n (order_of j) || is_early_line k r.line_count j) (dated x l) l) w
           go None is = refl
           go (Some l) is = ap (λ b. Some (cond b (dated x l) l)) (same_test j l is)
 

@@ -14,9 +14,9 @@ use Rattle.tables.specs.declared.keys.DistrictKey.{DistrictKey}
 use Rattle.tables.specs.declared.keys.OrderKey.{OrderKey}
 use Rattle.tables.specs.declared.delivery.DeliveryInput.{DeliveryInput}
 use Rattle.tables.specs.declared.records.RecordKey.TheVariants as key
-use Rattle.laws.proofs.OrderAmount.{amount_to, order_amount-counted}
-use Rattle.laws.proofs.NumbersLeft.{IsGapless}
-use Rattle.laws.proofs.RisingNumbers.{least_row}
+use Rattle.tables_laws.proofs.OrderAmount.{amount_to, order_amount-counted}
+use Rattle.tables_laws.proofs.NumbersLeft.{IsGapless}
+use Rattle.tables_laws.proofs.RisingNumbers.{least_row}
 use Rattle.readset.specs.Reads.{ReadSetView}
 use Rattle.readset.specs.Writes.{WriteSetView, puts}
 use Rattle.readset.specs.Changes.{Holds, puts_all}

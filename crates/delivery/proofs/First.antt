@@ -14,7 +14,7 @@ use Rattle.tables.specs.declared.keys.OrderKey.{OrderKey}
 use Rattle.tables.specs.declared.delivery.DeliveryInput.{DeliveryInput}
 use Rattle.tables.specs.declared.records.RecordKey.{RecordKey}
 use Rattle.tables.specs.declared.records.RecordKey.TheVariants as key
-use Rattle.laws.proofs.NumbersLeft.{left_of, all_left}
+use Rattle.tables_laws.proofs.NumbersLeft.{left_of, all_left}
 use Rattle.readset.specs.Reads.{ReadSetView}
 use Rattle.readset.specs.Writes.{no_writes}
 use Rattle.readset.proofs.HoldsChanges.{holds-changes, holds_first}

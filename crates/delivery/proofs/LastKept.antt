@@ -12,7 +12,7 @@ use Rattle.tables.specs.declared.keys.CustomerKey.{CustomerKey}
 use Rattle.tables.specs.declared.keys.OrderKey.{OrderKey}
 use Rattle.tables.specs.declared.rows.Order.{Order}
 use Rattle.tables.specs.declared.delivery.DeliveryInput.{DeliveryInput}
-use Rattle.laws.proofs.Updates.{entries-map_rows}
+use Rattle.tables_laws.proofs.Updates.{entries-map_rows}
 
 -- the numbers of the orders that pass a test, where an update changes neither whether they pass nor, as ever, their keys
 module _ {X : Type 0} (p : OrderKey × X → Bool) (g : OrderKey → X → X) (same : (k : OrderKey) (r : X) → p (k, g k r) ≡ p (k, r)) where

@@ -8,8 +8,8 @@ use Rattle.tables.specs.Rows.{oldest}
 use Rattle.tables.specs.Conditions.{Condition2At}
 use Rattle.tables.specs.Delivery.{waiting}
 use Rattle.tables.specs.declared.keys.DistrictKey.{DistrictKey}
-use Rattle.laws.proofs.RisingNumbers.{Rises, least_first}
-use Rattle.laws.proofs.NumbersLeft.{IsGapless, left_of, rest_left, no_more}
+use Rattle.tables_laws.proofs.RisingNumbers.{Rises, least_first}
+use Rattle.tables_laws.proofs.NumbersLeft.{IsGapless, left_of, rest_left, no_more}
 
 next_of_rest : (next n : ℕ) (ns : List ℕ) → Rises (n ∷ ns) → IsGapless next (n ∷ ns) → unwrap_or (least ns) next ≡ n + 1
 next_of_rest next n [] rise gapless = let last : greatest (n ∷ []) + 1 ≡ next = gapless.0 n (least_first n [] rise) in omega arith

@@ -15,11 +15,11 @@ use Rattle.tables.specs.declared.keys.LineKey.{LineKey}
 use Rattle.tables.specs.declared.delivery.DeliveryInput.{DeliveryInput}
 use Rattle.tables.specs.declared.records.RecordKey.TheVariants as key
 use Rattle.tables.proofs.Orders.{exact_customer, exact_order, exact_line}
-use Rattle.laws.proofs.Updates.{get-map_rows}
-use Rattle.laws.proofs.Retained.{get-retained}
-use Rattle.laws.proofs.NumbersLeft.{is_left, left_of}
-use Rattle.laws.proofs.DistrictNumbers.{numbers-retained}
-use Rattle.laws.proofs.Touched.{district_named}
+use Rattle.tables_laws.proofs.Updates.{get-map_rows}
+use Rattle.tables_laws.proofs.Retained.{get-retained}
+use Rattle.tables_laws.proofs.NumbersLeft.{is_left, left_of}
+use Rattle.tables_laws.proofs.DistrictNumbers.{numbers-retained}
+use Rattle.tables_laws.proofs.Touched.{district_named}
 
 -- the district of a customer, of an order and of a line
 abbrev pub customer_home : CustomerKey → DistrictKey

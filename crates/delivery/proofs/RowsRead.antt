@@ -16,7 +16,7 @@ use Rattle.tables.specs.declared.rows.Order.{Order}
 use Rattle.tables.specs.declared.rows.Customer.{Customer}
 use Rattle.tables.specs.declared.delivery.DeliveryInput.{DeliveryInput}
 use Rattle.tables.specs.declared.records.RecordKey.TheVariants as key
-use Rattle.laws.proofs.Rows.{there}
+use Rattle.tables_laws.proofs.Rows.{there}
 use Rattle.readset.specs.Explains.{NoCandidate}
 use Rattle.readset.specs.Transaction.{TransactionView, AtAll}
 use Rattle.delivery.specs.Ending.{IsCarried, IsCredited}

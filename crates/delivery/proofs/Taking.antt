@@ -7,7 +7,7 @@ use Rattle.tables.specs.Database.{Database}
 use Rattle.tables.specs.Delivery.{waiting}
 use Rattle.tables.specs.declared.keys.DistrictKey.{DistrictKey}
 use Rattle.tables.specs.declared.delivery.DeliveryInput.{DeliveryInput}
-use Rattle.laws.proofs.Touched.{self}
+use Rattle.tables_laws.proofs.Touched.{self}
 use Rattle.delivery.specs.Steps.{next_home, next_key, taken_by, is_taken_by}
 
 -- a number that isn't the next is up to it where it is up to the one before

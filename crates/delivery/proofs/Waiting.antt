@@ -13,8 +13,8 @@ use Rattle.tables.specs.Delivery.{waiting}
 use Rattle.tables.specs.declared.keys.DistrictKey.{DistrictKey}
 use Rattle.tables.specs.declared.rows.District.{District}
 use Rattle.tables.specs.declared.records.RecordKey.TheVariants as key
-use Rattle.laws.proofs.Rows.{there}
-use Rattle.laws.proofs.RisingNumbers.{least_row}
+use Rattle.tables_laws.proofs.Rows.{there}
+use Rattle.tables_laws.proofs.RisingNumbers.{least_row}
 use Rattle.readset.specs.Reads.{held}
 use Rattle.readset.specs.Explains.{NoCandidate, HasOrderConditions}
 use Rattle.readset.specs.Transaction.{TransactionView, AtAll}

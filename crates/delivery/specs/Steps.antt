@@ -47,13 +47,13 @@ after_districts t x n = record t {
 }
 
 -- whether a line is one of the first m of an order
-abbrev pub is_among : OrderKey → ℕ → LineKey → Bool
-is_among k m j = is_order k.warehouse k.district k.order (order_of j) && nat_le j.line m
+abbrev pub is_early_line : OrderKey → ℕ → LineKey → Bool
+is_early_line k m j = is_order k.warehouse k.district k.order (order_of j) && nat_le j.line m
 
 -- the tables once the first n districts are done, and OL_DELIVERY_D of the first m lines of order k is set
 abbrev pub with_dates : Database → DeliveryInput → ℕ → OrderKey → ℕ → Database
 with_dates t x n k m = record (after_districts t x n)
-    { lines = update_where (λ j. is_taken_by t x n (order_of j) || is_among k m j) (dated x) t.lines }
+    { lines = update_where (λ j. is_taken_by t x n (order_of j) || is_early_line k m j) (dated x) t.lines }
 
 -- the sum of OL_AMOUNT over the first m lines of an order
 abbrev pub amount_up_to : Database → OrderKey → ℕ → ℤ

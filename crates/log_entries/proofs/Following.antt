@@ -21,8 +21,8 @@ use Rattle.tables.specs.WellFormed.{IsHistoryRow}
 use Rattle.tables.specs.declared.keys.OrderKey.{OrderKey}
 use Rattle.tables.specs.declared.records.RecordKey.TheVariants as key
 use Rattle.tables.specs.declared.rows.History.{History}
-use Rattle.laws.proofs.Kept.{after-IsOf}
-use Rattle.laws.proofs.NamesKept.{IsOf-itself}
+use Rattle.tables_laws.proofs.Kept.{after-IsOf}
+use Rattle.tables_laws.proofs.NamesKept.{IsOf-itself}
 use Rattle.readset.specs.Writes.{value_for, added}
 use Rattle.tidword.specs.TidWord.{epoch_of}
 use Rattle.log_header.specs.Header.{HeaderView}
@@ -31,11 +31,11 @@ use Rattle.log_text.specs.Bodies.{is_entry, entries_after, behind, marked, body_
 use Rattle.log_text.specs.declared.last.Last.{Last}
 use Rattle.tables.specs.declared.limits.TheConstants.{MAX_MARK, MAX_TERMINALS}
 use Rattle.book.specs.Batches.{BatchView, IsBatch}
-use Rattle.book.specs.Loggable.{IsDone, IsLoggable, NumbersRise}
+use Rattle.book.specs.Loggable.{IsDoneAtTables, IsLoggable, NumbersRise}
 use Rattle.book.specs.Stamps.{AreStamped, Follows}
 use Rattle.book.specs.Streams.{last_number}
 use Rattle.book.specs.declared.entry.Entry.{Entry}
-use Rattle.log_entries.specs.Logged.{writes_of, entry_of}
+use Rattle.log_entries.specs.Logged.{writes_of, logged_entry}
 use Rattle.log_entries.proofs.Lawful.{are_lawful}
 use Rattle.log_entries.specs.Following.{body_of_batch, last_epoch_of, behind_batch, Continues}
 
@@ -50,7 +50,7 @@ pub record IsFit (h : HeaderView) (least mark : ℕ) (e : Entry) : Type 0 where
 
 module _ (h : HeaderView) (mark : ℕ) where
   fits : (last : Last) (e : Entry) → last.number < e.number → last.epoch ≤ epoch_of e.tid → e.tid % 8 ≡ 0 → IsFit h last.mark mark e
-      → is_entry h mark last (entry_of h.scale e) ≡ true
+      → is_entry h mark last (logged_entry h.scale e) ≡ true
   fits last e rise epoch bits fit =
       and_from _ _
       (and_from _ _
@@ -64,14 +64,14 @@ module _ (h : HeaderView) (mark : ℕ) where
 
   entries_follow : (last : Last) (es : List Entry) → NumbersRise last.number es → AreStamped es → All (λ (e : Entry). last.epoch ≤ epoch_of e.tid) es
       → All (IsFit h last.mark mark) es
-      → entries_after h mark last (map (entry_of h.scale) es)
+      → entries_after h mark last (map (logged_entry h.scale) es)
       ≡ Some (record { mark = last.mark; number = last_number last.number es; epoch = last_epoch_of last.epoch es })
   entries_follow last [] rise stamped epochs fit = refl
   entries_follow last (e ∷ es) rise stamped epochs fit =
       let this = fits last e rise.0 (All-head (λ (d : Entry). last.epoch ≤ epoch_of d.tid) e es epochs) stamped.0 (All-head (IsFit h last.mark mark) e es fit) in
       let later = All-weaker (Follows e) (λ (d : Entry). epoch_of e.tid ≤ epoch_of d.tid) (λ d f. f.epochs) es stamped.1 in
-      ap (λ (b : Bool). if b then entries_after h mark (behind last (entry_of h.scale e)) (map (entry_of h.scale) es) else None) this
-      ∙ entries_follow (behind last (entry_of h.scale e)) es rise.1 stamped.2 later (All-tail (IsFit h last.mark mark) e es fit)
+      ap (λ (b : Bool). if b then entries_after h mark (behind last (logged_entry h.scale e)) (map (logged_entry h.scale) es) else None) this
+      ∙ entries_follow (behind last (logged_entry h.scale e)) es rise.1 stamped.2 later (All-tail (IsFit h last.mark mark) e es fit)
 
 -- what holds of all holds of the last ones
 all_behind : {X : Type 0} (P : X → Type 0) (xs ys : List X) → All P (xs ++ ys) → All P ys
@@ -79,7 +79,7 @@ all_behind P [] ys h = h
 all_behind P (x ∷ xs) ys h = all_behind P xs ys (All-tail P x (xs ++ ys) h)
 
 -- an entry that is done at some tables has writes that an entry of a log file may have
-done_writes : (s : Sizes) → IsScale s → (e : Entry) → IsLoggable s e → IsDone s e → are_writes s (writes_of s e.writes) ≡ true
+done_writes : (s : Sizes) → IsScale s → (e : Entry) → IsLoggable s e → IsDoneAtTables s e → are_writes s (writes_of s e.writes) ≡ true
 done_writes s scale e h d =
     let t : Database = after d.tables e.input in
     let same : t.scale ≡ s = (after-IsOf d.tables d.tables e.input (IsOf-itself d.tables)).scale ∙ d.scale in
@@ -116,8 +116,8 @@ batch_follows h count last b is at epoch scale =
     let epochs : All (λ (e : Entry). last.epoch ≤ epoch_of e.tid) b.entries
     = (λ k d lt. omega (arith, epoch, (is.epochs k d lt).0, at.mark_before)) in
     let entries = entries_follow h b.mark last b.entries rise is.stamped epochs fit in
-    ap (λ (t : Bool). if t then option_and_then (λ (l : Last). Some (marked b.mark l)) (entries_after h b.mark last (map (entry_of b.scale) b.entries)) else None) marks
-    ∙ ap (λ (s : Sizes). option_and_then (λ (l : Last). Some (marked b.mark l)) (entries_after h b.mark last (map (entry_of s) b.entries))) at.scale
+    ap (λ (t : Bool). if t then option_and_then (λ (l : Last). Some (marked b.mark l)) (entries_after h b.mark last (map (logged_entry b.scale) b.entries)) else None) marks
+    ∙ ap (λ (s : Sizes). option_and_then (λ (l : Last). Some (marked b.mark l)) (entries_after h b.mark last (map (logged_entry s) b.entries))) at.scale
     ∙ ap (option_and_then (λ (l : Last). Some (marked b.mark l))) entries
 
 -- behind it the epoch is at most one above the mark

@@ -31,7 +31,7 @@ use Rattle.tables.specs.declared.records.Table.TheVariants as table
 use Rattle.tables.specs.declared.records.RecordKey.TheVariants as key
 use Rattle.tables.proofs.Numbers.{numbered}
 use Rattle.tables.proofs.OrderNumbers.{greatest-within, least-within}
-use Rattle.log_text.specs.Columns.{span, money, ranges, is_within, are_within}
+use Rattle.log_text.specs.Columns.{span, money_range, ranges, is_within, are_within}
 use Rattle.log_entries.specs.Logged.{history_words}
 
 -- ---- a word in its range
@@ -68,7 +68,7 @@ zeros : (n : ℕ) → are_within (replicate n (span 0 0)) (replicate n 0) ≡ tr
 zeros zero = refl
 zeros (suc n) = with_word (is_number 0 0 0 (omega arith, omega arith) (omega arith)) (zeros n)
 
-is_money : (z : ℤ) → IsMoney z → is_within money (money_word z) ≡ true
+is_money : (z : ℤ) → IsMoney z → is_within money_range (money_word z) ≡ true
 is_money z h = is_amount (neg_ℤ MAX_MONEY) MAX_MONEY z h h.0 h.1
 
 -- a number that may be null, which is 0 then

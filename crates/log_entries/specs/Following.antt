@@ -7,11 +7,11 @@ use Rattle.log_text.specs.declared.last.Last.{Last}
 use Rattle.book.specs.Batches.{BatchView}
 use Rattle.book.specs.Streams.{last_number}
 use Rattle.book.specs.declared.entry.Entry.{Entry}
-use Rattle.log_entries.specs.Logged.{entry_of}
+use Rattle.log_entries.specs.Logged.{logged_entry}
 
 -- its mark, and its entries as a log file has them
 abbrev pub body_of_batch : BatchView → BodyView
-body_of_batch b = record { mark = b.mark; entries = map (entry_of b.scale) b.entries }
+body_of_batch b = record { mark = b.mark; entries = map (logged_entry b.scale) b.entries }
 
 -- the epoch of the last of these entries, and this one where there are none
 abbrev pub last_epoch_of : ℕ → List Entry → ℕ

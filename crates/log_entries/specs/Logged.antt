@@ -38,5 +38,5 @@ writes_of s writes = map (write_at s) (filter (is_before_history s) writes.value
     ++ map (write_at s) (filter (is_behind_history s) writes.values))
 
 -- its commit number, TID and terminal, and what it wrote
-abbrev pub entry_of : Sizes → Entry → EntryView
-entry_of s e = record { number = e.number; tid = e.tid; terminal = e.terminal; writes = writes_of s e.writes }
+abbrev pub logged_entry : Sizes → Entry → EntryView
+logged_entry s e = record { number = e.number; tid = e.tid; terminal = e.terminal; writes = writes_of s e.writes }

@@ -6,12 +6,12 @@ ghost use Rattle.log_text.specs.Bodies.{body_text};
 ghost use Rattle.log_text.specs.Entries.{entry_text};
 ghost use Rattle.book.specs.Loggable.{IsLoggable};
 ghost use Rattle.book.specs.Streams.{last_number};
-ghost use Rattle.log_entries.specs.Logged.{entry_of};
+ghost use Rattle.log_entries.specs.Logged.{logged_entry};
 ghost use Rattle.log_entries.specs.Following.{behind_batch, body_of_batch, last_epoch_of};
 
 use crate::writing::put_entry;
 use book::{Batch, Entry};
-use codec::{put_u8, put_u64};
+use log_codec::{put_u8, put_u64};
 use log_text::{Last, set_length};
 use std::alloc::{AllocError, Global};
 use std::sync::Arc;
@@ -64,7 +64,7 @@ fn put_entries(
 ) -> Result<Last, AllocError>
     requires { All (IsLoggable scale.now) (map arc_value entries.now) }
     ensures text { OnOk result (out.new.items ≡ out.old.items
-        ++ flat_map entry_text (map (entry_of scale.now) (map arc_value entries.now))) }
+        ++ flat_map entry_text (map (logged_entry scale.now) (map arc_value entries.now))) }
     ensures last { IfOk result (λ now. now ≡ record {
       mark = last.mark;
       number = last_number last.number (map arc_value entries.now);

@@ -7,7 +7,7 @@ ghost use Rattle.readset.specs.Writes.{added, value_for};
 ghost use Rattle.tables.specs.declared.limits.TheConstants.{MAX_WRITES};
 ghost use Rattle.log_text.specs.Writes.{write_text};
 ghost use Rattle.log_text.specs.Entries.{entry_text};
-ghost use Rattle.log_entries.specs.Logged.{entry_of, history_write, write_at, writes_of};
+ghost use Rattle.log_entries.specs.Logged.{logged_entry, history_write, write_at, writes_of};
 ghost use Rattle.log_entries.specs.Logged.{is_before_history, is_behind_history};
 
 use crate::rows::history_write;
@@ -27,7 +27,7 @@ pub fn put_entry(out: &mut Vec<u8>, scale: &Scale, entry: &Entry) -> Result<(), 
     requires count { length entry.now.writes.values ≤ MAX_WRITES }
     requires numbers { (n : ℕ) (value : Option (List ℕ)) → value_for entry.now.writes n ≡ Some value
         → n < record_count scale.now }
-    ensures { OnOk result (out.new.items ≡ out.old.items ++ entry_text (entry_of scale.now entry.now)) }
+    ensures { OnOk result (out.new.items ≡ out.old.items ++ entry_text (logged_entry scale.now entry.now)) }
 {
     put_front(
         out,

@@ -1,6 +1,6 @@
 -- A log file, seen from behind its header.
 use Rattle.std.proofs.Common.{◌≡◌, ℕ, ◌-◌, List, [], ◌∷◌, ◌++◌, Some, length, refl, sym, ap, ◌∙◌, arith, length-append}
-use Rattle.codec.proofs.Codecs.{one_value}
+use Rattle.log_codec.proofs.Codecs.{one_value}
 use Rattle.log_header.specs.Header.{HeaderView, IsHeader, header_text}
 use Rattle.log_header.proofs.Headers.{codec-header}
 use Rattle.log_text.specs.Bodies.{BodyView, bodies_after, start}

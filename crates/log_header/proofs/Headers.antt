@@ -4,10 +4,10 @@ use Rattle.std.specs.Prelude.{◌&&◌, ◌==◌, codes, if◌then◌else◌}
 use Rattle.std.specs.Bool.{Decides}
 use Rattle.std.proofs.lemmas.Bool.{leb-true, le-leb}
 use Rattle.std.proofs.lemmas.Bool.Decides.{Decides-and, Decides-like, Decides-ltb, Decides-eqb}
-use Rattle.codec.specs.Numbers.{number}
-use Rattle.codec.specs.Codec.{IsCodec}
-use Rattle.codec.proofs.NumberTexts.{codec-number}
-use Rattle.codec.proofs.Codecs.{codec-both, codec-chosen, codec-same}
+use Rattle.log_codec.specs.Numbers.{number}
+use Rattle.log_codec.specs.Codec.{IsCodec}
+use Rattle.log_codec.proofs.NumberTexts.{codec-number}
+use Rattle.log_codec.proofs.Codecs.{codec-both, codec-chosen, codec-same}
 use Rattle.tables.specs.Sizes.{Sizes, IsScale, IsBetween}
 use Rattle.tables.specs.declared.limits.TheConstants.{MAX_WAREHOUSES, MAX_DISTRICTS, MIN_CUSTOMERS, MAX_CUSTOMERS}
 use Rattle.tables.specs.declared.limits.TheConstants.{MIN_ITEMS, MAX_ITEMS, MAX_ORDERS, MAX_COMMITS, MAX_LOGGERS}

@@ -1,6 +1,6 @@
 -- The header of a log file, and the bytes in which it stands.
 use Rattle.std.specs.Prelude.{ℕ, ◌<◌, ◌^◌, List, ◌++◌, codes}
-use Rattle.codec.specs.Numbers.{number}
+use Rattle.log_codec.specs.Numbers.{number}
 use Rattle.tables.specs.Sizes.{Sizes, IsScale, IsBetween}
 use Rattle.tables.specs.declared.limits.TheConstants.{MAX_LOGGERS}
 

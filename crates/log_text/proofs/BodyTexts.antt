@@ -7,12 +7,12 @@ use Rattle.std.proofs.lemmas.List.{take-append-drop, length-take-le}
 use Rattle.std.proofs.Math.Seq.{take-append_seam, drop-append_seam}
 use Rattle.std.specs.Prelude.{slice_index, nat_le, if◌then◌else◌, flat_map}
 use Rattle.std.specs.Option.{option_map, option_and_then}
-use Rattle.codec.specs.Numbers.{IsBytes, number, number_at}
-use Rattle.codec.specs.Readers.{filled}
-use Rattle.codec.specs.Codec.{IsCodec}
-use Rattle.codec.proofs.NumberTexts.{codec-number, length-number, number_at-number}
-use Rattle.codec.proofs.Codecs.{and_then_some, map_some, taken}
-use Rattle.codec.proofs.Filled.{filled_takes, filled_again}
+use Rattle.log_codec.specs.Numbers.{IsBytes, number, number_at}
+use Rattle.log_codec.specs.Readers.{filled}
+use Rattle.log_codec.specs.Codec.{IsCodec}
+use Rattle.log_codec.proofs.NumberTexts.{codec-number, length-number, number_at-number}
+use Rattle.log_codec.proofs.Codecs.{and_then_some, map_some, taken}
+use Rattle.log_codec.proofs.Filled.{filled_takes, filled_again}
 use Rattle.log_text.specs.Entries.{EntryView, entry_text}
 use Rattle.log_text.specs.Bodies.{BodyView, content_text, body_text}
 use Rattle.log_header.specs.Header.{HeaderView, IsHeader}

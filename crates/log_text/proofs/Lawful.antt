@@ -5,7 +5,7 @@ use Rattle.std.specs.Prelude.{◌==◌, nat_le, nat_lt, if◌then◌else◌}
 use Rattle.std.specs.List.{AllByRecursion}
 use Rattle.std.specs.Option.{option_and_then}
 use Rattle.tidword.specs.TidWord.{epoch_of}
-use Rattle.codec.proofs.Codecs.{and_then_some}
+use Rattle.log_codec.proofs.Codecs.{and_then_some}
 use Rattle.log_header.specs.Header.{HeaderView, IsHeader}
 use Rattle.log_text.specs.Writes.{are_writes}
 use Rattle.log_text.specs.Entries.{EntryView}

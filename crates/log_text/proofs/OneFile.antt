@@ -2,9 +2,9 @@
 use Rattle.std.proofs.Common.{◌≡◌, ◌≢◌, ℕ, ◌+◌, ◌^◌, ◌<◌, Option, Some, None, IsSome, List, [], ◌∷◌, ◌++◌, length, refl, sym, ap, ◌∙◌, subst, arith}
 use Rattle.std.proofs.Common.{length-append, append_assoc, append-nil, true≢false}
 use Rattle.std.specs.Option.{option_and_then}
-use Rattle.codec.specs.Numbers.{number}
-use Rattle.codec.proofs.NumberTexts.{length-number}
-use Rattle.codec.proofs.Codecs.{one_value, and_then_some}
+use Rattle.log_codec.specs.Numbers.{number}
+use Rattle.log_codec.proofs.NumberTexts.{length-number}
+use Rattle.log_codec.proofs.Codecs.{one_value, and_then_some}
 use Rattle.log_header.specs.Header.{HeaderView, IsHeader, header_text}
 use Rattle.log_text.specs.Bodies.{BodyView, content_text, body_text, body_after, bodies_after, start}
 use Rattle.log_text.specs.File.{IsFile, IsBody, AreBodies, opened}

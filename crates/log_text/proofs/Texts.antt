@@ -12,11 +12,11 @@ use Rattle.tables.specs.Records.{table_number, tables}
 use Rattle.tables.specs.Rows.{payload_of}
 use Rattle.tables.specs.declared.records.Table.{Table}
 use Rattle.tables.specs.declared.records.Table.TheVariants as table
-use Rattle.codec.specs.Numbers.{IsBytes, number, number_at}
-use Rattle.codec.specs.Readers.{chosen}
-use Rattle.codec.specs.Codec.{IsCodec}
-use Rattle.codec.proofs.NumberTexts.{codec-number, length-number, bytes_behind}
-use Rattle.codec.proofs.Codecs.{codec-both, codec-chosen, codec-many, codec-same}
+use Rattle.log_codec.specs.Numbers.{IsBytes, number, number_at}
+use Rattle.log_codec.specs.Readers.{chosen}
+use Rattle.log_codec.specs.Codec.{IsCodec}
+use Rattle.log_codec.proofs.NumberTexts.{codec-number, length-number, bytes_behind}
+use Rattle.log_codec.proofs.Codecs.{codec-both, codec-chosen, codec-many, codec-same}
 use Rattle.log_text.specs.Columns.{width}
 use Rattle.log_text.specs.Writes.{value_text, write_text}
 use Rattle.log_text.specs.Entries.{EntryView, entry_text}

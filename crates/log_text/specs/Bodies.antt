@@ -2,7 +2,7 @@
 use Rattle.std.specs.Prelude.{ℕ, ◌+◌, ◌%◌, nat_lt, nat_le, ◌==◌, ◌&&◌, Bool, Option, Some, None, if◌then◌else◌}
 use Rattle.std.specs.Prelude.{List, [], ◌∷◌, ◌++◌, length, map, flat_map}
 use Rattle.std.specs.Option.{option_and_then}
-use Rattle.codec.specs.Numbers.{number}
+use Rattle.log_codec.specs.Numbers.{number}
 use Rattle.tidword.specs.TidWord.{epoch_of}
 use Rattle.log_text.specs.Entries.{EntryView, entry_text, logged}
 use Rattle.log_header.specs.Header.{HeaderView}

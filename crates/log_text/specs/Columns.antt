@@ -16,29 +16,29 @@ abbrev pub span : ℕ → ℕ → Range
 span low high = record { low = pos low; high = pos high }
 
 -- within 10,000,000,000,000 cents of zero
-abbrev pub money : Range
-money = record { low = neg_ℤ MAX_MONEY; high = MAX_MONEY }
+abbrev pub money_range : Range
+money_range = record { low = neg_ℤ MAX_MONEY; high = MAX_MONEY }
 
-abbrev pub count : Range
-count = span 0 MAX_COUNT
+abbrev pub count_range : Range
+count_range = span 0 MAX_COUNT
 
-abbrev pub date : Range
-date = span 1 MAX_DATE
+abbrev pub date_range : Range
+date_range = span 1 MAX_DATE
 
 -- the columns of each table, in their order. A null carrier or delivery date is 0, and O_ALL_LOCAL is 0 or 1
 abbrev pub columns : Sizes → Table → List Range
-columns s table.Warehouse = money ∷ []
-columns s table.District = money ∷ span 1 (s.orders + 1) ∷ []
-columns s table.Customer = money ∷ money ∷ count ∷ count ∷ []
+columns s table.Warehouse = money_range ∷ []
+columns s table.District = money_range ∷ span 1 (s.orders + 1) ∷ []
+columns s table.Customer = money_range ∷ money_range ∷ count_range ∷ count_range ∷ []
 columns s table.History = span 1 s.customers ∷ span 1 s.districts ∷ span 1 s.warehouses ∷ span 1 s.districts
-    ∷ span 1 s.warehouses ∷ date ∷ record { low = MIN_PAYMENT; high = MAX_PAYMENT } ∷ []
+    ∷ span 1 s.warehouses ∷ date_range ∷ record { low = MIN_PAYMENT; high = MAX_PAYMENT } ∷ []
 columns s table.NewOrder = []
-columns s table.Order = span 1 s.customers ∷ date ∷ span 0 MAX_CARRIER ∷ span MIN_ORDER_LINES MAX_ORDER_LINES
+columns s table.Order = span 1 s.customers ∷ date_range ∷ span 0 MAX_CARRIER ∷ span MIN_ORDER_LINES MAX_ORDER_LINES
     ∷ span 0 1 ∷ []
 columns s table.OrderLine = span 1 s.items ∷ span 1 s.warehouses ∷ span 0 MAX_DATE ∷ span 1 MAX_QUANTITY
     ∷ record { low = pos 0; high = MAX_LINE_AMOUNT } ∷ []
 columns s table.Item = []
-columns s table.Stock = span MIN_STOCK MAX_STOCK ∷ count ∷ count ∷ count ∷ []
+columns s table.Stock = span MIN_STOCK MAX_STOCK ∷ count_range ∷ count_range ∷ count_range ∷ []
 columns s table.Oldest = span 1 (s.orders + 1) ∷ []
 columns s table.Last = span 0 s.orders ∷ []
 

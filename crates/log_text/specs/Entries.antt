@@ -1,6 +1,6 @@
 -- An entry of a log file: what one transaction committed.
 use Rattle.std.specs.Prelude.{ℕ, List, ◌++◌, length, flat_map}
-use Rattle.codec.specs.Numbers.{number}
+use Rattle.log_codec.specs.Numbers.{number}
 use Rattle.log_text.specs.Writes.{write_text}
 use Rattle.log_text.specs.declared.write.Write.{Write}
 use Rattle.log_text.specs.declared.entry.LoggedEntry.{LoggedEntry}

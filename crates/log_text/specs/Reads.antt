@@ -2,8 +2,8 @@
 use Rattle.std.specs.Prelude.{◌≡◌, ◌≢◌, ℕ, ◌+◌, ◌-◌, nat_le, ◌==◌, ◌&&◌, Bool, true, false, Option, Some, None}
 use Rattle.std.specs.Prelude.{if◌then◌else◌, List, length, take, drop, find, Result, Ok, Err}
 use Rattle.std.specs.Option.{option_map, option_and_then}
-use Rattle.codec.specs.Numbers.{Reader, number_at}
-use Rattle.codec.specs.Readers.{both, chosen, many, filled}
+use Rattle.log_codec.specs.Numbers.{Reader, number_at}
+use Rattle.log_codec.specs.Readers.{both, chosen, many, filled}
 use Rattle.money.specs.declared.refusal.Refusal.{Refusal}
 use Rattle.money.specs.declared.refusal.Refusal.TheVariants.{OutOfMemory, Damaged}
 use Rattle.tables.specs.Records.{table_number, tables}

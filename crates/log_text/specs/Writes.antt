@@ -2,7 +2,7 @@
 use Rattle.std.specs.Prelude.{ℕ, ◌+◌, ◌*◌, ◌^◌, nat_lt, nat_le, ◌==◌, ◌&&◌, not, Bool, true, Option, Some, None}
 use Rattle.std.specs.Prelude.{List, [], ◌∷◌, ◌++◌, take, flat_map}
 use Rattle.std.specs.List.{list_all, count_by}
-use Rattle.codec.specs.Numbers.{number}
+use Rattle.log_codec.specs.Numbers.{number}
 use Rattle.tables.specs.Sizes.{Sizes}
 use Rattle.tables.specs.Records.{size, table_number}
 use Rattle.tables.specs.declared.records.Table.{Table}

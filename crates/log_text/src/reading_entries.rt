@@ -1,7 +1,7 @@
 //! Reading entries and bodies. Vectors grow by what is read, one after the other, so no count of a file takes memory
 //! that its bytes don't pay for.
 ghost use Rattle.std.specs.Prelude.{◌≡◌, ◌≤◌, ◌+◌, ◌-◌, length, map};
-ghost use Rattle.codec.specs.Readers.{many, filled};
+ghost use Rattle.log_codec.specs.Readers.{many, filled};
 ghost use Rattle.log_text.specs.Entries.{logged};
 ghost use Rattle.log_text.specs.Bodies.{body_of};
 ghost use Rattle.log_text.specs.Reads.{Gives, body_from, content_from, entries_from, entry_from, write_from};
@@ -10,7 +10,7 @@ use crate::body::Body;
 use crate::entry::LoggedEntry;
 use crate::reading::write_from;
 use crate::write::Write;
-use codec::{u16_at, u64_at};
+use log_codec::{u16_at, u64_at};
 use money::Refusal;
 use std::alloc::Global;
 use tables::limits::MAX_WRITES;
@@ -34,7 +34,7 @@ fn writes_from(alloc: Global, count: u16, bytes: &[u8]) -> Result<(Vec<Write>, &
 }
 
 /// The entry that the bytes begin with, and the bytes behind it. Its count of writes is tested before they are read.
-#[tactic(auto, unfolding(crate::specs::Reads::entry_from, codec::specs::Readers::both, codec::specs::Readers::chosen))]
+#[tactic(auto, unfolding(crate::specs::Reads::entry_from, log_codec::specs::Readers::both, log_codec::specs::Readers::chosen))]
 fn entry_from(alloc: Global, bytes: &[u8]) -> Result<(LoggedEntry, &[u8]), Refusal>
     ensures { Gives (λ x. (logged x.0, x.1.now)) result (entry_from bytes.now) }
 {

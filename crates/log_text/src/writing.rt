@@ -1,7 +1,7 @@
 //! Writing entries and bodies.
 ghost use Rattle.std.specs.Prelude.{◌≡◌, ◌++◌, ◌≤◌, ◌<◌, ◌^◌, ◌+◌, length, flat_map, ℕ, List, OnOk};
 ghost use Rattle.std.specs.List.{All};
-ghost use Rattle.codec.specs.Numbers.{number};
+ghost use Rattle.log_codec.specs.Numbers.{number};
 ghost use Rattle.log_text.specs.Columns.{width};
 ghost use Rattle.log_text.specs.Writes.{value_text, write_text};
 ghost use Rattle.log_text.specs.Entries.{entry_text, front_text, logged};
@@ -13,7 +13,7 @@ use crate::entry::LoggedEntry;
 use crate::write::Write;
 use crate::write_rules::table_number;
 use byteorder::{ByteOrder, LittleEndian};
-use codec::{put_u8, put_u16, put_u32, put_u64};
+use log_codec::{put_u8, put_u16, put_u32, put_u64};
 use money::Payload;
 use std::alloc::AllocError;
 use tables::Table;

@@ -5,8 +5,8 @@ use Rattle.std.proofs.Math.Logic.{∥∥₁_elim}
 use Rattle.std.specs.Coded.{le_prop}
 use Rattle.std.proofs.lemmas.Bool.{eqb-true, eqb-false}
 use Rattle.std.proofs.lemmas.List.{drop_all}
-use Rattle.disk.specs.Calls.{Call, Synced, written}
-use Rattle.disk.specs.Crashes.{MayLeave, LeavesOnly}
+use Rattle.log_disk.specs.Calls.{Call, Synced, written}
+use Rattle.log_disk.specs.Crashes.{MayLeave, LeavesOnly}
 use Rattle.log_header.specs.Header.{HeaderView, IsHeader, header_text}
 use Rattle.log_text.specs.Bodies.{BodyView, body_text, body_after, bodies_after, start}
 use Rattle.log_text.specs.File.{IsFile, opened}

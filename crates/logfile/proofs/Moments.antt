@@ -2,8 +2,8 @@
 use Rattle.std.proofs.Common.{◌≡◌, ℕ, List, [], ◌∷◌, ◌++◌, sym, ap, ◌∙◌, subst, append_assoc, ⊎_elim, true≢false}
 use Rattle.std.specs.Prelude.{Result, Ok, Err, IsErr}
 use Rattle.money.specs.declared.refusal.Refusal.{Refusal}
-use Rattle.disk.specs.Calls.{Call, Wrote, Synced, WriteLeft, SyncLeft}
-use Rattle.disk.specs.Crashes.{Torn, MayLeave, Leaves, LeavesThrough, LeavesOnly}
+use Rattle.log_disk.specs.Calls.{Call, Wrote, Synced, WriteLeft, SyncLeft}
+use Rattle.log_disk.specs.Crashes.{Torn, MayLeave, Leaves, LeavesThrough, LeavesOnly}
 use Rattle.logfile.specs.Staged.{IsSettled}
 use Rattle.logfile.proofs.Tearing.{torn_not}
 

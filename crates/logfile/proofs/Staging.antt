@@ -1,7 +1,7 @@
 -- A text, put behind a gate, and then the gate.
 use Rattle.std.proofs.Common.{◌≡◌, ℕ, ◌+◌, List, [], ◌∷◌, ◌++◌, length, drop, sym, ◌∙◌, subst}
-use Rattle.disk.specs.Calls.{Call, written}
-use Rattle.disk.specs.Crashes.{Torn, MayLeave, LeavesOnly}
+use Rattle.log_disk.specs.Calls.{Call, written}
+use Rattle.log_disk.specs.Crashes.{Torn, MayLeave, LeavesOnly}
 use Rattle.logfile.specs.Staged.{HasGate, IsStaged}
 use Rattle.logfile.proofs.Tearing.{text_staged, gate_staged, text_written, gate_written}
 use Rattle.logfile.proofs.Moments.{only_wider, only_joined}

@@ -2,8 +2,8 @@
 use Rattle.std.proofs.Common.{◌≡◌, ℕ, zero, suc, ◌+◌, ◌<◌, ◌≤◌, List, [], ◌∷◌, ◌++◌, length, take, drop, refl, ap, ◌∙◌, subst, arith, inl, inr}
 use Rattle.std.proofs.Math.Nat.{le_refl, not-suc-le-zero, le_of_suc-le-suc, suc-le-suc_iff, zero-lt-suc}
 use Rattle.std.specs.Prelude.{slice_index}
-use Rattle.disk.specs.Calls.{written}
-use Rattle.disk.specs.Crashes.{Torn}
+use Rattle.log_disk.specs.Calls.{written}
+use Rattle.log_disk.specs.Crashes.{Torn}
 use Rattle.logfile.specs.Staged.{IsStaged}
 
 -- nothing torn

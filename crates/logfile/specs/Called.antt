@@ -1,7 +1,7 @@
 -- The calls of the device that put a text behind a gate, and what a read gives after them.
 use Rattle.std.specs.Prelude.{◌≡◌, ◌⊎◌, ℕ, ◌+◌, List, [], ◌∷◌, length, Result, Ok, Err}
 use Rattle.money.specs.declared.refusal.Refusal.{Refusal}
-use Rattle.disk.specs.Calls.{Call, Wrote, Synced, written}
+use Rattle.log_disk.specs.Calls.{Call, Wrote, Synced, written}
 
 -- a write and a sync, with what a read gives and the calls before them and after. One that fails is the last: a write
 -- was begun or not, and a sync counts for nothing

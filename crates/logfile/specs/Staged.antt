@@ -1,7 +1,7 @@
 -- What a crash may leave while a text is put behind a gate.
 use Rattle.std.specs.Prelude.{◌≡◌, ◌⊎◌, ℕ, List, ◌∷◌, ◌++◌, length}
-use Rattle.disk.specs.Calls.{Call}
-use Rattle.disk.specs.Crashes.{Leaves}
+use Rattle.log_disk.specs.Calls.{Call}
+use Rattle.log_disk.specs.Crashes.{Leaves}
 
 -- whatever a crash leaves after these calls, it is what a read gives
 abbrev pub IsSettled : List ℕ → List Call → Type 0

@@ -1,7 +1,7 @@
 -- A log file on its disk: what stands there, and what no crash can take.
 use Rattle.std.specs.Prelude.{◌≡◌, ◌⊎◌, ℕ, ◌<◌, Bool, Some, List, [], ◌∷◌, ◌++◌, length}
-use Rattle.disk.specs.Calls.{Call}
-use Rattle.disk.specs.Crashes.{MayLeave}
+use Rattle.log_disk.specs.Calls.{Call}
+use Rattle.log_disk.specs.Crashes.{MayLeave}
 use Rattle.log_header.specs.Header.{HeaderView, header_text}
 use Rattle.log_text.specs.Bodies.{BodyView, bodies_after, start}
 use Rattle.log_text.specs.File.{IsFile, opened}

@@ -5,7 +5,7 @@ ghost use Rattle.log_header.specs.Header.{HeaderView};
 ghost use Rattle.log_text.specs.Bodies.{BodyView, body_of};
 ghost use Rattle.log_text.specs.File.{IsFile};
 
-use disk::Disk;
+use log_disk::Disk;
 use log_header::Header;
 use log_text::{Body, read_file};
 use money::Refusal;

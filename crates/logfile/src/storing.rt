@@ -1,11 +1,11 @@
 //! Bytes, put on a disk so that a crash leaves them whole or not at all.
 ghost use Rattle.std.specs.Prelude.{◌≡◌, ℕ, ◌+◌, ◌^◌, ◌<◌, ◌≤◌, List, ◌∷◌, ◌++◌, length, drop, IsErr, OnOk};
-ghost use Rattle.disk.specs.Calls.{written, Counts};
-ghost use Rattle.disk.specs.Crashes.{Torn, MayLeave, LeavesOnly};
+ghost use Rattle.log_disk.specs.Calls.{written, Counts};
+ghost use Rattle.log_disk.specs.Crashes.{Torn, MayLeave, LeavesOnly};
 ghost use Rattle.logfile.specs.Called.{PutLeft, StoreLeft};
 ghost use Rattle.logfile.specs.Staged.{IsSettled, HasGate, IsStaged};
 
-use disk::Disk;
+use log_disk::Disk;
 use money::Refusal;
 
 // The gate in front of bytes that count.

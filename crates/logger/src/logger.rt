@@ -2,7 +2,7 @@
 ghost use Rattle.std.specs.Prelude.{◌≡◌, ◌≢◌, ◌+◌, ◌-◌, ◌^◌, ◌≤◌, ◌↔◌, false, true, List, [], ◌∷◌, ◌++◌};
 ghost use Rattle.std.specs.Prelude.{length, min, IsTrue, IfOk, IfErr, OnOk, OnErr, IsErrOf};
 ghost use Rattle.money.specs.declared.refusal.Refusal.TheVariants.{OutOfMemory, Device};
-ghost use Rattle.disk.specs.Crashes.{LeavesOnly};
+ghost use Rattle.log_disk.specs.Crashes.{LeavesOnly};
 ghost use Rattle.log_text.specs.Bodies.{BodyView, body_text};
 ghost use Rattle.log_entries.specs.Following.{Continues, behind_batch, body_of_batch};
 ghost use Rattle.logfile.specs.Called.{StoreLeft};
@@ -11,7 +11,7 @@ ghost use Rattle.logger.specs.Logger.{IsLoggerOf, MarksAndPublishes, local_mark}
 
 use board::{Board, Keeper, LoggerSeat};
 use book::Batch;
-use disk::Disk;
+use log_disk::Disk;
 use logfile::LogFile;
 use money::Refusal;
 use std::marker::Model;

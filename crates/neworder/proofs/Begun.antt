@@ -17,7 +17,7 @@ use Rattle.tables.specs.declared.keys.OrderKey.{OrderKey}
 use Rattle.tables.specs.declared.rows.District.{District}
 use Rattle.tables.specs.declared.new_order.NewOrderInput.{NewOrderInput}
 use Rattle.tables.specs.declared.records.RecordKey.TheVariants as key
-use Rattle.laws.proofs.Rows.{there}
+use Rattle.tables_laws.proofs.Rows.{there}
 use Rattle.readset.specs.Reads.{held, Keeps}
 use Rattle.readset.specs.Writes.{WriteSetView, no_writes}
 use Rattle.readset.specs.Changes.{Holds, puts_all}
@@ -25,7 +25,7 @@ use Rattle.readset.specs.Explains.{IsCandidate, NoCandidate}
 use Rattle.readset.specs.Transaction.{TransactionView, AtAll}
 use Rattle.readset.proofs.HoldsChanges.{holds_first}
 use Rattle.readset.proofs.MoreReads.{candidate_before}
-use Rattle.neworder.specs.Steps.{after_lines, opening, AreTaken}
+use Rattle.neworder.specs.Steps.{after_lines, opening_changes, AreTaken}
 use Rattle.neworder.specs.Opening.{IsTakenOf, IsHomeTaken}
 use Rattle.neworder.specs.declared.opening.Taken.{Taken}
 use Rattle.neworder.proofs.HoldsSteps.{holds_opened}
@@ -94,7 +94,7 @@ module _ (t0 : Database) (x : NewOrderInput) (taken : Taken) (valid : IsNewOrder
     named : (t : Database) → IsCandidate t0 first.reads t → new_key t x ≡ k
     named t h = let home = homes t h in let e = home.next ∙ sym home.number in λ i. record { warehouse = x.warehouse; district = x.district; order = e i }
 
-    held_rows : (t : Database) → IsCandidate t0 first.reads t → Holds t (puts_all t0.scale no_writes (opening x k taken.district)) (row_at (after_lines t x []))
+    held_rows : (t : Database) → IsCandidate t0 first.reads t → Holds t (puts_all t0.scale no_writes (opening_changes x k taken.district)) (row_at (after_lines t x []))
     held_rows t h =
         let s : t.scale ≡ t0.scale = h.of_population.scale in
         let v : IsNewOrder t.scale x = subst (λ (q : Sizes). IsNewOrder q x) (sym s) valid in
@@ -103,11 +103,11 @@ module _ (t0 : Database) (x : NewOrderInput) (taken : Taken) (valid : IsNewOrder
         let number : HasNumber t x = subst (λ (q : ℕ × Sizes). q.0 ≤ q.1.orders) (λ i. (sym (r.next ∙ sym r.number) i, sym s i)) within.1 in
         let w : district_words (numbered_district r.row) ≡ taken.district = sym r.district in
         subst (λ (writes : WriteSetView). Holds t writes (row_at (after_lines t x [])))
-        (λ i. puts_all (s i) no_writes (opening x (e i) (w i)))
+        (λ i. puts_all (s i) no_writes (opening_changes x (e i) (w i)))
         (holds_opened t x no_writes r.row h.well_formed r.condition_2 number (v.warehouse, v.district) (v.warehouse, v.district, v.customer) r.at
         (holds_first t))
 
-    pub opened_taken : (last : TransactionView) → Keeps first.reads last.reads → last.writes ≡ puts_all t0.scale no_writes (opening x k taken.district)
+    pub opened_taken : (last : TransactionView) → Keeps first.reads last.reads → last.writes ≡ puts_all t0.scale no_writes (opening_changes x k taken.district)
         → AreTaken t0 x k [] last []
     opened_taken last keeps written = record {
       requested = All-nil (IsRequestedLine t0.scale);

@@ -17,7 +17,7 @@ use Rattle.tables.specs.declared.new_order.NewOrderInput.{NewOrderInput}
 use Rattle.readset.specs.Writes.{WriteSetView}
 use Rattle.readset.specs.Changes.{Holds, puts_all}
 use Rattle.readset.proofs.HoldsChanges.{holds-changes, not_taken}
-use Rattle.neworder.specs.Steps.{after_lines, opening, lining}
+use Rattle.neworder.specs.Steps.{after_lines, opening_changes, lining}
 use Rattle.neworder.proofs.Opened.{opened, opened_others}
 use Rattle.neworder.proofs.Lined.{lined, lined_others}
 
@@ -32,10 +32,10 @@ module _ (t : Database) (x : NewOrderInput) where
   pub holds_opened : (writes : WriteSetView) (r : District) → IsWellFormed t → Condition2At t (home x) → HasNumber t x → IsDistrictKey t.scale (home x)
       → IsCustomerKey t.scale (buyer x)
       → get t.districts (home x) ≡ Some r → Holds t writes (row_at t)
-      → Holds t (puts_all t.scale writes (opening x (new_key t x) (district_words (numbered_district r)))) (row_at (after_lines t x []))
+      → Holds t (puts_all t.scale writes (opening_changes x (new_key t x) (district_words (numbered_district r)))) (row_at (after_lines t x []))
   holds_opened writes r wf second number at_home at_buyer found h =
       let at_key : IsOrderKey t.scale (new_key t x) = new_key_there at_home second number in
-      holds-changes t (opening x (new_key t x) (district_words (numbered_district r))) writes (row_at t) (row_at (after_lines t x [])) h
+      holds-changes t (opening_changes x (new_key t x) (district_words (numbered_district r))) writes (row_at t) (row_at (after_lines t x [])) h
       (at_home, (at_key, (at_key, (at_buyer, tt))))
       (not_taken _ _, (not_taken _ _, (not_taken _ _, (not_taken _ _, tt))))
       (opened t x wf second r found)

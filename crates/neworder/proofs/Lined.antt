@@ -17,7 +17,7 @@ use Rattle.tables.specs.declared.records.RecordKey.TheVariants as key
 use Rattle.tables.proofs.Orders.{exact_line, exact_stock}
 use Rattle.readset.specs.Changes.{Says, Apart}
 use Rattle.neworder.specs.Steps.{after_lines, lining}
-use Rattle.laws.proofs.Touched.{self, stock_named, inserted, not_inserted, untouched, touched}
+use Rattle.tables_laws.proofs.Touched.{self, stock_named, inserted, not_inserted, untouched, touched}
 
 -- ORDER-LINE with one line more
 with_lines-push : (t : Database) (k : OrderKey) (n : ℕ) (ls : List RequestedLine) (l : RequestedLine) (m : FinMap line_cmp OrderLine)

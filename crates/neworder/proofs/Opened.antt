@@ -21,12 +21,12 @@ use Rattle.tables.specs.declared.records.RecordKey.{RecordKey}
 use Rattle.tables.specs.declared.records.RecordKey.TheVariants as key
 use Rattle.tables.proofs.Orders.{exact_district, exact_order}
 use Rattle.tables.proofs.OrderNumbers.{greatest-each, greatest-within}
-use Rattle.laws.proofs.NewKey.{no_order, no_new_order}
-use Rattle.laws.proofs.OrderNumbers.{with_greater, with_lesser, greatest-insert, least-insert}
-use Rattle.laws.proofs.Updates.{kept-update_where}
+use Rattle.tables_laws.proofs.NewKey.{no_order, no_new_order}
+use Rattle.tables_laws.proofs.OrderNumbers.{with_greater, with_lesser, greatest-insert, least-insert}
+use Rattle.tables_laws.proofs.Updates.{kept-update_where}
 use Rattle.readset.specs.Changes.{Says, Apart}
-use Rattle.neworder.specs.Steps.{after_lines, opening}
-use Rattle.laws.proofs.Touched.{both, self, district_named, inserted, not_inserted, untouched, touched}
+use Rattle.neworder.specs.Steps.{after_lines, opening_changes}
+use Rattle.tables_laws.proofs.Touched.{both, self, district_named, inserted, not_inserted, untouched, touched}
 
 -- the least of numbers of which none is above n stays so with n
 least_up_to : (ns : List ℕ) (n : ℕ) → ForSome (least ns) (λ _. greatest ns + 1 ≡ n) → unwrap_or (with_lesser true n (least ns)) n ≡ unwrap_or (least ns) n
@@ -104,7 +104,7 @@ module _ (t : Database) (x : NewOrderInput) where
 
     -- the records that it changes
     pub opened : (r : District) → get t.districts (home x) ≡ Some r
-        → Says (row_at (after_lines t x [])) (opening x (new_key t x) (district_words (numbered_district r)))
+        → Says (row_at (after_lines t x [])) (opening_changes x (new_key t x) (district_words (numbered_district r)))
     opened r found = (
       touched exact_district district_words t.districts (is_district x.warehouse x.district) numbered_district (home x)
           (λ i. self x.warehouse i && self x.district i)
@@ -132,6 +132,6 @@ module _ (t : Database) (x : NewOrderInput) where
     others (key.Oldest k) a b c d = ap (λ n. Some (number_words n)) (oldest_kept k)
     others (key.Last k) a b c d = ap (λ n. Some (number_words n)) (last_other k (λ e. d (ap key.Last e)))
 
-    pub opened_others : (r : District) (j : RecordKey) → Apart j (opening x (new_key t x) (district_words (numbered_district r)))
+    pub opened_others : (r : District) (j : RecordKey) → Apart j (opening_changes x (new_key t x) (district_words (numbered_district r)))
         → row_at (after_lines t x []) j ≡ row_at t j
     opened_others r j apart = others j apart.0 apart.1.0 apart.1.1.0 apart.1.1.1.0

@@ -14,8 +14,8 @@ use Rattle.tables.specs.declared.rows.Stock.{Stock}
 use Rattle.tables.specs.declared.new_order.RequestedLine.{RequestedLine}
 use Rattle.tables.specs.declared.new_order.NewOrderInput.{NewOrderInput}
 use Rattle.tables.proofs.Orders.{exact_stock}
-use Rattle.laws.proofs.Rows.{there, each_updated}
-use Rattle.laws.proofs.Draws.{left_in_range, draws_rows}
+use Rattle.tables_laws.proofs.Rows.{there, each_updated}
+use Rattle.tables_laws.proofs.Draws.{left_in_range, draws_rows}
 use Rattle.neworder.specs.Steps.{after_lines}
 use Rattle.neworder.specs.Drawn.{IsStockUpTo}
 

@@ -9,8 +9,8 @@ use Rattle.tables.specs.declared.rows.Stock.{Stock}
 use Rattle.tables.specs.declared.new_order.RequestedLine.{RequestedLine}
 use Rattle.tables.specs.declared.new_order.SuppliedLine.{SuppliedLine}
 use Rattle.tables.proofs.Orders.{exact_stock}
-use Rattle.laws.proofs.Updates.{get-map_rows}
-use Rattle.laws.proofs.Touched.{self}
+use Rattle.tables_laws.proofs.Updates.{get-map_rows}
+use Rattle.tables_laws.proofs.Touched.{self}
 
 pub supplied-push : (t : Database) (w : ℕ) (m : FinMap stock_cmp Stock) (ls : List RequestedLine) (l : RequestedLine)
     → supplied_lines t w m (ls ++ l ∷ []) ≡ supplied_lines t w m ls ++ supplied_line t (draw w (after_draws w ls m) l) l ∷ []

@@ -28,8 +28,8 @@ after_lines t x ls = record t {
 }
 
 -- what opening an order of this key changes: its district's words, its own two rows, and its buyer's last order
-abbrev pub opening : NewOrderInput → OrderKey → List ℕ → Changes
-opening x k district = (key.District (home x), Some district)
+abbrev pub opening_changes : NewOrderInput → OrderKey → List ℕ → Changes
+opening_changes x k district = (key.District (home x), Some district)
     ∷ (key.NewOrder k, Some (new_order_words (record {})))
     ∷ (key.Order k, Some (order_words (order_row x)))
     ∷ (key.Last (buyer x), Some (number_words k.order)) ∷ []

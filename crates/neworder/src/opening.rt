@@ -12,7 +12,7 @@ ghost use Rattle.readset.specs.Reads.{held};
 ghost use Rattle.readset.specs.Writes.{no_writes};
 ghost use Rattle.readset.specs.Changes.{puts_all};
 ghost use Rattle.readset.specs.Transaction.{ReadsMore, GoesOn, AtAll};
-ghost use Rattle.neworder.specs.Steps.{AreTaken, opening};
+ghost use Rattle.neworder.specs.Steps.{AreTaken, opening_changes};
 ghost use Rattle.neworder.specs.Opening.{IsTakenOf, IsNumberTaken, IsHomeTaken, IsWithinCap, IsOrderRefusal};
 
 use crate::rows::order_words;
@@ -154,7 +154,7 @@ fn write_rows<K: Start>(
     requires holds_last { IsSome (held transaction.old.reads
         (number_of_key K.tables.scale (key_variants.Last (buyer order.now)))) }
     ensures written { OnOk result (transaction.new.writes
-        ≡ puts_all K.tables.scale transaction.old.writes (opening order.now key district)) }
+        ≡ puts_all K.tables.scale transaction.old.writes (opening_changes order.now key district)) }
     ensures reads { transaction.new.reads ≡ transaction.old.reads }
     ensures goes_on { GoesOn 0 4 transaction.old transaction.new }
     ensures only_memory { IfErr result (λ refusal. refusal ≡ OutOfMemory) }

@@ -70,7 +70,7 @@ fn price_line(population: &Population, line: &RequestedLine) -> Option<Cents>
 }
 
 /// So many items at this price.
-#[tactic(auto, using(laws::proofs::LineAmount::amount_in_range))]
+#[tactic(auto, using(tables_laws::proofs::LineAmount::amount_in_range))]
 fn times(quantity: u32, price: Cents) -> Cents
     requires quantity { quantity ≤ MAX_QUANTITY }
     requires low { pos 0 ≤ℤ price }

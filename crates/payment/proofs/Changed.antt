@@ -10,8 +10,8 @@ use Rattle.tables.specs.Payment.{payer, after_payment_of, raised_warehouse, rais
 use Rattle.tables.specs.OrderNumbers.{least, numbers_in}
 use Rattle.tables.specs.Rows.{row_at, number_words, warehouse_words, district_words, customer_words}
 use Rattle.tables.proofs.Orders.{IsExact, exact_number, exact_district, exact_customer}
-use Rattle.laws.proofs.Updates.{column-update_where, kept-update_where}
-use Rattle.laws.proofs.Touched.{self, district_named, customer_named, untouched, touched}
+use Rattle.tables_laws.proofs.Updates.{column-update_where, kept-update_where}
+use Rattle.tables_laws.proofs.Touched.{self, district_named, customer_named, untouched, touched}
 use Rattle.tables.specs.declared.records.RecordKey.{RecordKey}
 use Rattle.tables.specs.declared.records.RecordKey.TheVariants as key
 use Rattle.tables.specs.declared.rows.Warehouse.{Warehouse}

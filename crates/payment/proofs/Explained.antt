@@ -13,14 +13,14 @@ use Rattle.tables.specs.declared.rows.Customer.{Customer}
 use Rattle.tables.specs.declared.payment.PaymentInput.{PaymentInput}
 use Rattle.tables.specs.declared.input.Input.TheVariants as input
 use Rattle.tables.specs.declared.reply.Reply.TheVariants as reply
-use Rattle.laws.proofs.NamesKept.{same_number}
+use Rattle.tables_laws.proofs.NamesKept.{same_number}
 use Rattle.readset.specs.Reads.{ReadSetView}
 use Rattle.readset.specs.Writes.{WriteSetView, no_writes, value_for, rows_with}
 use Rattle.readset.specs.Commit.{IsCommitOf}
 use Rattle.readset.specs.Explains.{IsCandidate}
 use Rattle.readset.specs.Changes.{Holds, puts_all}
 use Rattle.readset.proofs.HoldsChanges.{holds-changes, holds_first, not_taken}
-use Rattle.payment.specs.Steps.{keys_at, AreFound, AreRows, AreNewValues, changes_of, reply_of}
+use Rattle.payment.specs.Steps.{keys_at, AreFound, AreFoundRows, AreNewValues, changes_of, reply_of}
 use Rattle.payment.specs.declared.transaction.Keys.{Keys}
 use Rattle.payment.specs.declared.transaction.Found.{Found}
 use Rattle.payment.specs.declared.transaction.NewValues.{NewValues}
@@ -52,7 +52,7 @@ module _ (t0 : Database) (x : PaymentInput) (id : ℕ) (reads : ReadSetView) (fo
       pub at_w : get t.warehouses x.warehouse ≡ Some w
       pub at_d : get t.districts (record { warehouse = x.warehouse; district = x.district }) ≡ Some d
       pub at_c : get t.customers (payer x id) ≡ Some c
-      pub are : AreRows found w d c
+      pub are : AreFoundRows found w d c
 
     pub rows_of : (t : Database) → IsCandidate t0 reads t → Rows t
     rows_of t h =
@@ -83,7 +83,7 @@ module _ (t0 : Database) (x : PaymentInput) (id : ℕ) (reads : ReadSetView) (fo
         }
 
     -- the writes and the reply, where they are made of these rows
-    module _ (at_id : id ≡ payer_number t0 x) (values : NewValues) (made : (w : Warehouse) (d : District) (c : Customer) → AreRows found w d c
+    module _ (at_id : id ≡ payer_number t0 x) (values : NewValues) (made : (w : Warehouse) (d : District) (c : Customer) → AreFoundRows found w d c
         → AreNewValues x.amount w d c values) where
       replies : (t : Database) → IsCandidate t0 reads t → payment_reply_of t x id ≡ reply_of values x id
       replies t h =

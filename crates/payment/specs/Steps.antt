@@ -30,7 +30,7 @@ pub record AreFound (keys : Keys) (found : Found) (t : Database) : Type 0 where
   pub customer : row_at t keys.customer ≡ found.customer
 
 -- these rows, within their ranges
-pub record AreRows (found : Found) (w : Warehouse) (d : District) (c : Customer) : Type 0 where
+pub record AreFoundRows (found : Found) (w : Warehouse) (d : District) (c : Customer) : Type 0 where
   pub warehouse : found.warehouse ≡ Some (warehouse_words w)
   pub district : found.district ≡ Some (district_words d)
   pub customer : found.customer ≡ Some (customer_words c)

@@ -16,7 +16,7 @@ ghost use Rattle.readset.specs.Changes.{puts_all};
 ghost use Rattle.readset.specs.Commit.{IsCommitOf};
 ghost use Rattle.readset.specs.Transaction.{Finds, ReadsMore, IsExecuted};
 ghost use Rattle.payment.specs.declared.transaction.NewValues.{NewValues as Values};
-ghost use Rattle.payment.specs.Steps.{keys_at, AreFound, AreRows, AreNewValues, changes_of, reply_of};
+ghost use Rattle.payment.specs.Steps.{keys_at, AreFound, AreFoundRows, AreNewValues, changes_of, reply_of};
 
 use crate::change::{Charged, charge_customer, raise_district, raise_warehouse};
 use cells::Reader;
@@ -166,7 +166,7 @@ fn read<R: Wait, K: Start>(
 fn new_values(found: &Found, amount: Cents) -> Option<NewValues>
     requires low { pos 0 ≤ℤ amount }
     requires high { amount ≤ℤ MAX_PAYMENT }
-    ensures { (w : Warehouse) (d : District) (c : Customer) → AreRows found.now w d c
+    ensures { (w : Warehouse) (d : District) (c : Customer) → AreFoundRows found.now w d c
         → (values : Values) × (result ≡ Some values) × AreNewValues amount w d c values }
 {
     Some(NewValues {

@@ -4,5 +4,5 @@
 mod name_index;
 mod population;
 
-pub use draws::nurand;
 pub use population::Population;
+pub use population_draws::nurand;

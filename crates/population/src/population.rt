@@ -10,8 +10,8 @@ ghost use Rattle.tables.specs.WellFormed.{IsWellFormed, HasRoom};
 ghost use Rattle.tables.specs.declared.limits.TheConstants.{MAX_COMMITS};
 
 use crate::name_index::NameIndex;
-use first_tables::{plain_tables, seeded_tables};
 use money::Refusal;
+use population_tables::{plain_tables, seeded_tables};
 use std::alloc::{AllocError, Global};
 use tables::{DistrictKey, Scale, Tables, Who};
 
@@ -31,8 +31,8 @@ pub struct Population {
 impl Population {
     ghost use Rattle.std.specs.Prelude.{◌≤◌, IfOk, IfErr};
     ghost use Rattle.money.specs.declared.refusal.Refusal.TheVariants.{OutOfMemory};
-    ghost use Rattle.first_tables.specs.Plain.{IsPlain};
-    ghost use Rattle.first_tables.specs.First.{IsSeeded};
+    ghost use Rattle.population_tables.specs.Plain.{IsPlain};
+    ghost use Rattle.population_tables.specs.First.{IsSeeded};
     ghost use Rattle.population.specs.Initial.{initial, seed_of};
     ghost use Rattle.tables.specs.Customer.{IsWho, customer_number};
 

@@ -5,10 +5,10 @@ use Rattle.money.specs.declared.refusal.Refusal.{Refusal}
 use Rattle.money.specs.declared.refusal.Refusal.TheVariants.{Device, Damaged, Gap, BadScale}
 use Rattle.tables.specs.Sizes.{Sizes}
 use Rattle.log_flaws.specs.Texts.{flaw_text}
-use Rattle.recovery.specs.Flaws.{misnumbered_text}
-use Rattle.program.specs.Detail.{CauseView, Unusable, Flawed, Amiss, IsCauseLine, IsDetail, IsTold, reason_of, scale_line, trouble_of}
+use Rattle.program_recovery.specs.Flaws.{misnumbered_text}
+use Rattle.program.specs.Detail.{CauseView, Unusable, Flawed, Amiss, IsCauseLine, IsDetail, IsReasonTold, reason_of, scale_line, trouble_of}
 
-some_line : (what : List ℕ) (reason : Option Error) → (line : List ℕ) × IsTold what reason line
+some_line : (what : List ℕ) (reason : Option Error) → (line : List ℕ) × IsReasonTold what reason line
 some_line what (Some error) = (what ++ (codes ": " ++ ([] ++ codes "\n")), ([], refl))
 some_line what None = (what ++ codes "\n", refl)
 

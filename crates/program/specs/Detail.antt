@@ -10,8 +10,8 @@ use Rattle.tables.specs.declared.limits.TheConstants.{MIN_ITEMS, MAX_ITEMS, MAX_
 use Rattle.tables.specs.Sizes.{Sizes}
 use Rattle.log_flaws.specs.Texts.{flaw_text}
 use Rattle.log_flaws.specs.declared.flaw.FileFlaw.{FileFlaw}
-use Rattle.recovery.specs.Flaws.{misnumbered_text}
-use Rattle.recovery.specs.declared.gap.Misnumbered.{Misnumbered}
+use Rattle.program_recovery.specs.Flaws.{misnumbered_text}
+use Rattle.program_recovery.specs.declared.gap.Misnumbered.{Misnumbered}
 use Rattle.program.specs.declared.fault.Cause.{Cause}
 use Rattle.program.specs.declared.fault.Cause.TheVariants as cause
 use Rattle.program.specs.declared.fault.Fault.{Fault}
@@ -27,13 +27,13 @@ limit_line option number low note high =
     ++ (decimal low ++ (note ++ (codes " to " ++ (decimal high ++ codes "\n"))))))))
 
 -- a number is within its limits
-abbrev pub is_within : ℕ → ℕ → ℕ → Bool
-is_within low high n = nat_le low n && nat_le n high
+abbrev pub is_in_limits : ℕ → ℕ → ℕ → Bool
+is_in_limits low high n = nat_le low n && nat_le n high
 
 -- the line on a number that is outside its limits, or else what comes later
 abbrev pub limited : List ℕ → ℕ → ℕ → List ℕ → ℕ → List ℕ → List ℕ
 limited option number low note high later =
-    if is_within low high number then later else limit_line option number low note high
+    if is_in_limits low high number then later else limit_line option number low note high
 
 -- the line on the first number of a scale that is outside its limits; none is of a lawful scale
 abbrev pub scale_line : Sizes → List ℕ
@@ -46,9 +46,9 @@ scale_line s =
     (limited (codes "commits") s.commits 1 [] MAX_COMMITS [])))))
 
 -- what couldn't be done, and why, where that is the system's to say
-abbrev pub IsTold : List ℕ → Option Error → List ℕ → Type 0
-IsTold what (Some error) line = (reason : List ℕ) × (line ≡ what ++ (codes ": " ++ (reason ++ codes "\n")))
-IsTold what None line = line ≡ what ++ codes "\n"
+abbrev pub IsReasonTold : List ℕ → Option Error → List ℕ → Type 0
+IsReasonTold what (Some error) line = (reason : List ℕ) × (line ≡ what ++ (codes ": " ++ (reason ++ codes "\n")))
+IsReasonTold what None line = line ≡ what ++ codes "\n"
 
 -- what it is called that a file can't be used so
 abbrev pub trouble_of : Trouble → List ℕ
@@ -90,7 +90,7 @@ cause_of fault = option_map cause_view fault.cause
 
 -- the line on it, if it is known
 abbrev pub IsCauseLine : Option CauseView → List ℕ → Type 0
-IsCauseLine (Some (Unusable path trouble)) line = IsTold (path ++ (codes ": " ++ trouble_of trouble)) (reason_of trouble) line
+IsCauseLine (Some (Unusable path trouble)) line = IsReasonTold (path ++ (codes ": " ++ trouble_of trouble)) (reason_of trouble) line
 IsCauseLine (Some (Flawed path flaw)) line = line ≡ path ++ (codes ": " ++ (flaw_text flaw ++ codes "\n"))
 IsCauseLine (Some (Amiss gap)) line = line ≡ misnumbered_text gap ++ codes "\n"
 IsCauseLine None line = line ≡ []
@@ -98,8 +98,8 @@ IsCauseLine None line = line ≡ []
 -- the line on the stream on which the last call failed, by the errors of the last calls on the input and on the output,
 -- or else on what is known
 abbrev pub IsDeviceLine : Option CauseView → Option Error → Option Error → List ℕ → Type 0
-IsDeviceLine _ (Some error) _ line = IsTold (codes "standard input") (Some error) line
-IsDeviceLine _ None (Some error) line = IsTold (codes "standard output") (Some error) line
+IsDeviceLine _ (Some error) _ line = IsReasonTold (codes "standard input") (Some error) line
+IsDeviceLine _ None (Some error) line = IsReasonTold (codes "standard output") (Some error) line
 IsDeviceLine known None None line = IsCauseLine known line
 
 -- what is told behind a refusal's line, over this scale

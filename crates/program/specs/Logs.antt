@@ -10,13 +10,13 @@ use Rattle.tables.specs.Database.{Database, database}
 use Rattle.conditions.specs.Report.{IsReportOf}
 use Rattle.conditions.specs.declared.report.Report.{Report}
 use Rattle.recover.specs.declared.recovering.Recovered.{Recovered}
-use Rattle.recovery.specs.Told.{IsShown, IsChecked, IsRefused}
-use Rattle.recovery.specs.Flaws.{IsDamage, IsFirstGap}
-use Rattle.recovery.specs.declared.damage.Damage.{Damage}
-use Rattle.recovery.specs.declared.gap.Misnumbered.{Misnumbered}
-use Rattle.driver.specs.Told.{IsRan, IsBroken}
-use Rattle.command_line.specs.declared.asked.LogFiles.{LogFiles}
-use Rattle.command_line.specs.declared.asked.RunOptions.{RunOptions}
+use Rattle.program_recovery.specs.Told.{IsShown, IsChecked, IsRefused}
+use Rattle.program_recovery.specs.Flaws.{IsDamage, IsFirstGap}
+use Rattle.program_recovery.specs.declared.damage.Damage.{Damage}
+use Rattle.program_recovery.specs.declared.gap.Misnumbered.{Misnumbered}
+use Rattle.program_run.specs.Told.{IsRan, IsBroken}
+use Rattle.program_options.specs.declared.asked.LogFiles.{LogFiles}
+use Rattle.program_options.specs.declared.asked.RunOptions.{RunOptions}
 use Rattle.program.specs.Detail.{CauseView, Unusable, Flawed, Amiss}
 use Rattle.program.specs.declared.fault.Purpose.{Purpose}
 use Rattle.program.specs.declared.fault.Purpose.TheVariants.{Read, Create}
@@ -95,10 +95,10 @@ pub data IsRefusedWith (files : LogFiles) (Tells : Recovered → List ℕ → Ty
 
 -- a run was refused: its files couldn't be made; it was broken off for want of memory, or a device failed; or it was told
 -- whole, and a logger had stopped. A file that couldn't be written is told, where memory is there for that
-pub data IsFailedRun (r : RunOptions) (t0 : Database) (old new : Option (List ℕ)) (refusal : Refusal)
+pub data IsUnfinishedRun (r : RunOptions) (t0 : Database) (old new : Option (List ℕ)) (refusal : Refusal)
     (known : Option CauseView) : Type 0 where
-  unmade : AreUnready Create r.files refusal known → Appends old new [] → IsFailedRun r t0 old new refusal known
+  unmade : AreUnready Create r.files refusal known → Appends old new [] → IsUnfinishedRun r t0 old new refusal known
   broken : IsBroken t0 r.terminals r.count old new refusal → IfSome known (HasBroken Create r.files refusal)
-      → IsFailedRun r t0 old new refusal known
+      → IsUnfinishedRun r t0 old new refusal known
   stopped : (report : Report) → IsRan t0 r.terminals r.count old new report → refusal ≡ Device
-      → IfSome known (HasBroken Create r.files refusal) → IsFailedRun r t0 old new refusal known
+      → IfSome known (HasBroken Create r.files refusal) → IsUnfinishedRun r t0 old new refusal known

@@ -7,21 +7,21 @@ use Rattle.money.specs.declared.refusal.Refusal.{Refusal}
 use Rattle.money.specs.declared.refusal.Refusal.TheVariants.{OutOfMemory, BadInput, Device, BadScale}
 use Rattle.tables.specs.Sizes.{Sizes, IsScale, sizes}
 use Rattle.tables.specs.Database.{Database}
-use Rattle.first_tables.specs.Plain.{IsPlain}
-use Rattle.first_tables.specs.First.{IsSeeded}
+use Rattle.population_tables.specs.Plain.{IsPlain}
+use Rattle.population_tables.specs.First.{IsSeeded}
 use Rattle.conditions.specs.Report.{IsGood}
 use Rattle.conditions.specs.declared.report.Report.{Report}
 use Rattle.book.specs.Done.{Done}
-use Rattle.script.specs.Written.{HasTooManyLines, IsWhole, IsBeginning}
-use Rattle.command_line.specs.CommandLine.{IsAskedBy, IsOptionsRefusal}
-use Rattle.command_line.specs.declared.asked.Options.{Options}
-use Rattle.command_line.specs.declared.asked.Subcommand.{Subcommand}
-use Rattle.command_line.specs.declared.asked.Subcommand.TheVariants.{Script, Run, Recover, Check}
-use Rattle.driver.specs.Told.{IsRan}
-use Rattle.recovery.specs.Told.{Shows, Reports}
+use Rattle.program_script.specs.Written.{HasTooManyLines, IsWhole, IsBeginning}
+use Rattle.program_options.specs.CommandLine.{IsAskedBy, IsOptionsRefusal}
+use Rattle.program_options.specs.declared.asked.Options.{Options}
+use Rattle.program_options.specs.declared.asked.Subcommand.{Subcommand}
+use Rattle.program_options.specs.declared.asked.Subcommand.TheVariants.{Script, Run, Recover, Check}
+use Rattle.program_run.specs.Told.{IsRan}
+use Rattle.program_recovery.specs.Told.{Shows, Reports}
 use Rattle.program.specs.Status.{IsRefusedStatus, refusal_line, WritesBeginning}
 use Rattle.program.specs.Detail.{CauseView, IsDetail}
-use Rattle.program.specs.Logs.{IsShownWith, IsCheckedWith, IsRefusedWith, IsFailedRun}
+use Rattle.program.specs.Logs.{IsShownWith, IsCheckedWith, IsRefusedWith, IsUnfinishedRun}
 
 -- the scale that options ask for
 abbrev pub scale_of : Options → Sizes
@@ -58,7 +58,7 @@ IsDone t0 seed (Check files) bytes old new report = IsCheckedWith t0 seed old ne
 abbrev pub IsFailed : Database → ℕ → Subcommand → List ℕ → Option (List ℕ) → Option (List ℕ) → Refusal
     → Option CauseView → Type 0
 IsFailed t0 seed Script bytes old new refusal known = IsBrokenOff t0 bytes old new refusal × (known ≡ None)
-IsFailed t0 seed (Run r) bytes old new refusal known = IsFailedRun r t0 old new refusal known
+IsFailed t0 seed (Run r) bytes old new refusal known = IsUnfinishedRun r t0 old new refusal known
 IsFailed t0 seed (Recover files) bytes old new refusal known =
     IsRefusedWith files Shows t0 seed old new refusal known
 IsFailed t0 seed (Check files) bytes old new refusal known =

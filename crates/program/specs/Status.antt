@@ -23,9 +23,9 @@ abbrev pub refusal_line : Refusal → List ℕ
 refusal_line refusal = refusal_text refusal ++ codes "\n"
 
 -- what is to be told of an outcome: a refusal's line, and else nothing
-abbrev pub line_of : Result (Bor Report) Refusal → List ℕ
-line_of (Ok report) = []
-line_of (Err refusal) = refusal_line refusal
+abbrev pub outcome_line : Result (Bor Report) Refusal → List ℕ
+outcome_line (Ok report) = []
+outcome_line (Err refusal) = refusal_line refusal
 
 -- a writer got a beginning of the text, and nothing else
 abbrev pub WritesBeginning : List ℕ → Option (List ℕ) → Option (List ℕ) → Type 0

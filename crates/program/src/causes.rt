@@ -2,17 +2,17 @@
 ghost use Rattle.std.specs.Prelude.{◌≡◌, ◌≤◌, length, IfSome};
 ghost use Rattle.money.specs.declared.refusal.Refusal.TheVariants.{Damaged, Device, Gap};
 ghost use Rattle.population.specs.Initial.{initial, seed_of};
-ghost use Rattle.command_line.specs.declared.asked.LogFiles.{LogFiles as LogFilesValue};
+ghost use Rattle.program_options.specs.declared.asked.LogFiles.{LogFiles as LogFilesValue};
 ghost use Rattle.program.specs.Detail.{Flawed, cause_of, cause_view};
 ghost use Rattle.program.specs.Logs.{HasBroken, IsWhy, path_of};
 
 use crate::fault::{Cause, Fault, Purpose};
 use crate::logs::path;
-use command_line::LogFiles;
-use disk::FileDisk;
+use log_disk::FileDisk;
 use money::Refusal;
 use population::Population;
-use recovery::{Damage, first_damage, first_gap};
+use program_options::LogFiles;
+use program_recovery::{Damage, first_damage, first_gap};
 use std::alloc::Global;
 use tables::limits::MAX_LOGGERS;
 

@@ -2,14 +2,14 @@
 
 ghost use Rattle.std.specs.Prelude.{◌≡◌, ◌++◌, IfOk, codes, string_bytes};
 ghost use Rattle.std.specs.Option.{option_map};
-ghost use Rattle.program.specs.Detail.{IsCauseLine, IsDetail, IsDeviceLine, IsTold, cause_of, cause_view};
+ghost use Rattle.program.specs.Detail.{IsCauseLine, IsDetail, IsDeviceLine, IsReasonTold, cause_of, cause_view};
 ghost use Rattle.program.specs.Detail.{limit_line, reason_of, scale_line, trouble_of};
 ghost use Rattle.program.specs.Run.{scale_of};
 
 use crate::fault::{Cause, Fault, Trouble};
 use crate::watched::Watched;
-use command_line::Options;
 use money::Refusal;
+use program_options::Options;
 use std::alloc::{AllocError, Global};
 use std::io::Error;
 use tables::is_between;
@@ -72,7 +72,7 @@ fn cause_detail(alloc: Global, cause: &Option<Cause>) -> Result<String, AllocErr
 
 /// The line on a file that couldn't be used.
 fn file_detail(alloc: Global, path: &str, trouble: &Trouble) -> Result<String, AllocError>
-    ensures { IfOk result (λ line. IsTold (path.now ++ (codes ": " ++ trouble_of trouble.now)) (reason_of trouble.now)
+    ensures { IfOk result (λ line. IsReasonTold (path.now ++ (codes ": " ++ trouble_of trouble.now)) (reason_of trouble.now)
         (string_bytes line)) }
 {
     let name = trouble.name();
@@ -135,7 +135,7 @@ fn limit_detail(
 
 /// The line on what couldn't be done, and why, where that is the system's to say.
 fn told(alloc: Global, what: &str, reason: Option<Error>) -> Result<String, AllocError>
-    ensures { IfOk result (λ line. IsTold what.now reason (string_bytes line)) }
+    ensures { IfOk result (λ line. IsReasonTold what.now reason (string_bytes line)) }
 {
     match reason {
         Some(error) => {

@@ -2,12 +2,12 @@
 
 ghost use Rattle.std.specs.Prelude.{◌++◌, OnOk, IsErr};
 ghost use Rattle.std.specs.Io.KnownBytes.{Appends};
-ghost use Rattle.program.specs.Status.{IsRefusedStatus, IsStatusOf, line_of, refusal_line, WritesBeginning};
+ghost use Rattle.program.specs.Status.{IsRefusedStatus, IsStatusOf, outcome_line, refusal_line, WritesBeginning};
 
 use conditions::Report;
 use itoa::Buffer;
 use money::Refusal;
-use script::write_text;
+use program_script::write_text;
 use std::io::Write;
 
 /// The exit status of a good end.
@@ -24,7 +24,7 @@ pub const USAGE_FAULT: u8 = 2;
 /// a beginning of the line is written then. Takes no memory.
 pub fn finish<E: Write>(outcome: Result<&Report, Refusal>, errors: &mut E) -> u8
     ensures status { IsStatusOf outcome.entry result }
-    ensures line { WritesBeginning (line_of outcome.entry) (E.contents errors.old) (E.contents errors.new) }
+    ensures line { WritesBeginning (outcome_line outcome.entry) (E.contents errors.old) (E.contents errors.new) }
 {
     match outcome {
         Ok(report) if report.is_good() => GOOD,

@@ -3,7 +3,7 @@ ghost use Rattle.std.specs.Prelude.{◌≡◌, None};
 
 use log_flaws::FileFlaw;
 use money::Refusal;
-use recovery::Misnumbered;
+use program_recovery::Misnumbered;
 use std::alloc::{AllocError, AllocFailed};
 use std::io::Error;
 

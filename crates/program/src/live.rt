@@ -1,19 +1,19 @@
 //! The subcommand `run`: terminals and loggers in threads, with a new log file a logger.
 ghost use Rattle.std.specs.Prelude.{◌≡◌, length, IfOk, IfErr};
 ghost use Rattle.population.specs.Initial.{initial};
-ghost use Rattle.driver.specs.Told.{IsRan};
+ghost use Rattle.program_run.specs.Told.{IsRan};
 ghost use Rattle.program.specs.Detail.{cause_of};
-ghost use Rattle.program.specs.Logs.{IsFailedRun};
+ghost use Rattle.program.specs.Logs.{IsUnfinishedRun};
 
 use crate::causes::broken_off;
 use crate::fault::{Fault, Purpose};
 use crate::logs::disks;
-use command_line::RunOptions;
 use conditions::Report;
-use disk::FileDisk;
-use driver::{Beat, Plan, Screen, Slot, Stopwatch, Waits, drive};
+use log_disk::FileDisk;
 use money::Refusal;
 use population::Population;
+use program_options::RunOptions;
+use program_run::{Beat, Plan, Screen, Slot, Stopwatch, Waits, drive};
 use std::alloc::{AllocError, Global};
 use std::fs::File;
 use std::io::Write;
@@ -42,7 +42,7 @@ pub(crate) fn live<
 ) -> Result<Report, Fault>
     ensures ran { IfOk result (IsRan (initial population) options.now.terminals options.now.count
         (W.contents output.old) (W.contents output.new)) }
-    ensures failed { IfErr result (λ fault. IsFailedRun options.now (initial population)
+    ensures failed { IfErr result (λ fault. IsUnfinishedRun options.now (initial population)
         (W.contents output.old) (W.contents output.new) fault.refusal (cause_of fault)) }
 {
     let mut disks = match disks(rt, alloc, &options.files, Purpose::Create) {

@@ -1,7 +1,7 @@
 //! Log files: opening those that a command line names, and telling what they recover to.
 ghost use Rattle.std.specs.Prelude.{◌≡◌, ◌<◌, ℕ, List, true, length, map, IfOk, IfErr, string_bytes};
 ghost use Rattle.population.specs.Initial.{initial, seed_of};
-ghost use Rattle.recovery.specs.Told.{IsRefused, Shows, Reports};
+ghost use Rattle.program_recovery.specs.Told.{IsRefused, Shows, Reports};
 ghost use Rattle.program.specs.Detail.{cause_of};
 ghost use Rattle.program.specs.Logs.{AreUnready, IsShownWith, IsCheckedWith, IsRefusedWith};
 ghost use Rattle.program.specs.Logs.{folder_of, may_stop, path_of};
@@ -10,12 +10,12 @@ ghost use Rattle.program.specs.declared.fault.Purpose.TheVariants.{Create};
 
 use crate::causes::unrecovered;
 use crate::fault::{Cause, Fault, Purpose, Trouble};
-use command_line::LogFiles;
 use conditions::{Report, check};
-use disk::{Disk, FileDisk, sync_folder};
+use log_disk::{Disk, FileDisk, sync_folder};
 use money::Refusal;
 use population::Population;
-use recovery::{checked, recovered};
+use program_options::LogFiles;
+use program_recovery::{checked, recovered};
 use std::alloc::{AllocError, Global};
 use std::fs::{File, TryLockError};
 use std::io::{Error, ErrorKind, Write};

@@ -15,11 +15,11 @@ use crate::live::live;
 use crate::logs::{report, show};
 use crate::watched::Watched;
 use clap::Error;
-use command_line::{Options, Subcommand, options};
 use conditions::Report;
 use money::Refusal;
 use population::Population;
-use script::{script, write_text};
+use program_options::{Options, Subcommand, options};
+use program_script::{script, write_text};
 use std::alloc::Global;
 use std::fs::File;
 use std::io::{Read, Write};
@@ -32,7 +32,7 @@ use tables::Scale;
 /// Does what the words of a command line ask for, the first of which is the program's own name, from `input` to
 /// `output`, and answers the exit status. A fault of the words, or the help that they ask for, goes to `errors`, and
 /// so does a refusal's line, with one more on what was wrong, where that is known. How far a run of terminals is goes
-/// to `screen`, if there is one, and nothing else does. May wait, as `script` and `engine_run::run` do.
+/// to `screen`, if there is one, and nothing else does. May wait, as `script` and `run_threads::run` do.
 pub fn run<
     T: Wait + Threads + Clock + Files<File = File> + Sync,
     R: Read,

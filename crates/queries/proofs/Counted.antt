@@ -11,7 +11,7 @@ use Rattle.std.proofs.lemmas.Grind.{get_or_default_zero}
 use Rattle.std.proofs.lemmas.Map.Keys.{below_from_sorted, sorted_from_strictly_increasing}
 use Rattle.std.specs.List.{list_any, range_with_len}
 use Rattle.std.specs.List.Sorted.{IsStrictlyIncreasing}
-use Rattle.laws.proofs.Touched.{self}
+use Rattle.tables_laws.proofs.Touched.{self}
 
 length_next : (b : Bool) (a : ℕ) (ns : List ℕ) → length (cond b (a ∷ ns) ns) ≡ cond b 1 0 + length ns
 length_next true a ns = omega arith

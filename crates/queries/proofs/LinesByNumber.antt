@@ -23,8 +23,8 @@ use Rattle.tables.specs.declared.rows.Order.{Order}
 use Rattle.tables.specs.declared.rows.OrderLine.{OrderLine}
 use Rattle.tables.proofs.Orders.{exact_number, exact_line}
 use Rattle.tables.proofs.Entries.{first, second, tied, found_first, found_after}
-use Rattle.laws.proofs.Touched.{self}
-use Rattle.laws.proofs.OrderAmount.{order_named, order_itself}
+use Rattle.tables_laws.proofs.Touched.{self}
+use Rattle.tables_laws.proofs.OrderAmount.{order_named, order_itself}
 use Rattle.queries.specs.Lines.{rows_to, lines_up_to}
 
 -- ---- rows by their numbers

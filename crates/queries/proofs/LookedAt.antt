@@ -21,11 +21,11 @@ use Rattle.tables.specs.declared.rows.Order.{Order}
 use Rattle.tables.specs.declared.rows.OrderLine.{OrderLine}
 use Rattle.tables.proofs.Orders.{exact_line}
 use Rattle.tables.proofs.KeyTests.{eqb-nat_cmp}
-use Rattle.laws.proofs.Touched.{district_named}
+use Rattle.tables_laws.proofs.Touched.{district_named}
 use Rattle.readset.specs.Reads.{ReadSetView, Keeps}
 use Rattle.readset.specs.Explains.{IsCandidate}
 use Rattle.readset.proofs.MoreReads.{candidate_before}
-use Rattle.queries.specs.SoldItems.{is_looked_at, line_count, AreItems}
+use Rattle.queries.specs.SoldItems.{is_looked_at, order_line_count, AreItems}
 use Rattle.queries.proofs.AnyRow.{any_alike, any_more}
 
 -- ---- the lines looked at
@@ -145,16 +145,16 @@ module _ (t0 : Database) (d : DistrictKey) (first : ℕ) where
 
   -- an order's last line, whose number is at most its O_OL_CNT
   pub next_first : (o m : ℕ) (reads : ReadSetView) (items : List ℕ) → first ≤ o
-      → ((t : Database) → IsCandidate t0 reads t → line_count t (record { warehouse = d.warehouse; district = d.district; order = o }) ≡ m)
+      → ((t : Database) → IsCandidate t0 reads t → order_line_count t (record { warehouse = d.warehouse; district = d.district; order = o }) ≡ m)
       → AreItems t0 d first o m reads items → AreItems t0 d first (o + 1) 0 reads items
   next_first o m reads items low count so_far t h i =
       any_alike exact_line (λ (e : LineKey × OrderLine). is_looked_at d first (o + 1) 0 e.0 && (e.1.item == i))
       (λ (e : LineKey × OrderLine). is_looked_at d first o m e.0 && (e.1.item == i)) t.lines
       (λ k r found.
       let order = h.well_formed.line_orders k r found in
-      let counted : line_count t (order_of k) ≡ order.0.line_count = ap (λ (w : Option Order). option_map_or (λ r. r.line_count) w 0) order.1 in
+      let counted : order_line_count t (order_of k) ≡ order.0.line_count = ap (λ (w : Option Order). option_map_or (λ r. r.line_count) w 0) order.1 in
       let all : order_of k ≡ record { warehouse = d.warehouse; district = d.district; order = o } → k.line ≤ m =
-      λ same. subst (λ n. k.line ≤ n) (sym counted ∙ ap (line_count t) same ∙ count t h) order.2 in
+      λ same. subst (λ n. k.line ≤ n) (sym counted ∙ ap (order_line_count t) same ∙ count t h) order.2 in
       ap (λ b. b && (r.item == i)) (sym (order_more d first o m k low (h.well_formed.lines k (ap is_some found)).3.0 all)))
       ∙ so_far t h i
 

@@ -16,7 +16,7 @@ use Rattle.tables.specs.declared.rows.District.{District}
 use Rattle.tables.specs.declared.rows.OrderLine.{OrderLine}
 use Rattle.tables.specs.declared.rows.Stock.{Stock}
 use Rattle.tables.specs.declared.records.RecordKey.TheVariants as key
-use Rattle.laws.proofs.Rows.{there}
+use Rattle.tables_laws.proofs.Rows.{there}
 use Rattle.readset.specs.Reads.{ReadSetView}
 use Rattle.readset.specs.Explains.{IsCandidate, NoCandidate}
 

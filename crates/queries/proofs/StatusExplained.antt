@@ -15,7 +15,7 @@ use Rattle.tables.specs.declared.order_status.OrderStatusInput.{OrderStatusInput
 use Rattle.tables.specs.declared.order_status.OrderStatusReply.{OrderStatusReply}
 use Rattle.tables.specs.declared.input.Input.TheVariants as input
 use Rattle.tables.specs.declared.reply.Reply.TheVariants as reply
-use Rattle.laws.proofs.NamesKept.{same_number}
+use Rattle.tables_laws.proofs.NamesKept.{same_number}
 use Rattle.readset.specs.Reads.{ReadSetView}
 use Rattle.readset.specs.Writes.{no_writes}
 use Rattle.readset.specs.Explains.{IsCandidate, Explains}

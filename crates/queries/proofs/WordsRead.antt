@@ -12,7 +12,7 @@ use Rattle.tables.specs.Rows.{money_of, money_word, row_at, customer_words, last
 use Rattle.tables.specs.declared.keys.CustomerKey.{CustomerKey}
 use Rattle.tables.specs.declared.records.RecordKey.TheVariants as key
 use Rattle.tables.proofs.OrderNumbers.{greatest-within}
-use Rattle.laws.proofs.Rows.{there}
+use Rattle.tables_laws.proofs.Rows.{there}
 
 money_back : (z : ℤ) → IsMoney z → money_of (money_word z) ≡ z
 money_back z h = omega (arith, ints)

@@ -17,8 +17,8 @@ abbrev pub home_of : OrderKey → DistrictKey
 home_of k = record { warehouse = k.warehouse; district = k.district }
 
 -- O_OL_CNT of an order, or 0 where there is no such order
-abbrev pub line_count : Database → OrderKey → ℕ
-line_count t k = option_map_or (λ r. r.line_count) (get t.orders k) 0
+abbrev pub order_line_count : Database → OrderKey → ℕ
+order_line_count t k = option_map_or (λ r. r.line_count) (get t.orders k) 0
 
 -- whether a line is of a district's orders from the first on and before order o, or one of the first m of order o
 abbrev pub is_looked_at : DistrictKey → ℕ → ℕ → ℕ → LineKey → Bool

@@ -15,7 +15,7 @@ ghost use Rattle.tables.specs.Rows.{district_words, line_words};
 ghost use Rattle.tables.specs.declared.limits.TheConstants.{MAX_ORDER_LINES, RECENT_ORDERS};
 ghost use Rattle.money.specs.declared.refusal.Refusal.TheVariants.{OutOfMemory};
 ghost use Rattle.readset.specs.Transaction.{Finds, IsStepRefusal, ReadsMore};
-ghost use Rattle.queries.specs.SoldItems.{home_of, line_count, AreItems};
+ghost use Rattle.queries.specs.SoldItems.{home_of, order_line_count, AreItems};
 
 use crate::last_order::read_columns;
 use money::{Payload, Refusal};
@@ -154,7 +154,7 @@ fn read_line_count<R: Wait, K: Start>(
     order: OrderKey,
 ) -> Result<u32, Refusal>
     requires { IsOrderKey K.tables.scale order }
-    ensures lines { Finds K.tables transaction.new result (λ count t. line_count t order ≡ count) }
+    ensures lines { Finds K.tables transaction.new result (λ count t. order_line_count t order ≡ count) }
     ensures range { IfOk result (λ count. count ≤ MAX_ORDER_LINES) }
     ensures reads { ReadsMore 1 transaction.old transaction.new }
 {

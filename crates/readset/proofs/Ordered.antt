@@ -10,7 +10,7 @@ use Rattle.std.proofs.lemmas.List.{get_or-map, get_or_default, get_or_append_lef
 use Rattle.std.proofs.lemmas.List.Edits.{insert_end}
 use Rattle.std.proofs.lemmas.List.Elements.{All-nil, All-cons, All-head, All-tail}
 use Rattle.readset.specs.Places.{place, one_further}
-use Rattle.readset.specs.Arrivals.{AreArrivals, in_order, all_taken, taken}
+use Rattle.readset.specs.Arrivals.{AreArrivals, in_order, all_taken, entry_at_place}
 use Rattle.readset.proofs.Entries.{none_ordered}
 use Rattle.readset.proofs.Placed.{Stands, Goes, stands, goes, ordered_put}
 
@@ -50,11 +50,11 @@ all_put P n p (o ∷ order) here all =
 
 module _ {X : Type 0} where
   -- a list of places has the entries' numbers
-  keys_taken : (es : List (ℕ × X)) (d : ℕ × X) (order : List (ℕ × ℕ)) → keys_of (map (taken es d) order) ≡ keys_of order
+  keys_taken : (es : List (ℕ × X)) (d : ℕ × X) (order : List (ℕ × ℕ)) → keys_of (map (entry_at_place es d) order) ≡ keys_of order
   keys_taken es d [] = refl
   keys_taken es d (o ∷ order) = ap (λ ks. o.0 ∷ ks) (keys_taken es d order)
 
-  place_taken : (es : List (ℕ × X)) (d : ℕ × X) (order : List (ℕ × ℕ)) (n : ℕ) → place (map (taken es d) order) n ≡ place order n
+  place_taken : (es : List (ℕ × X)) (d : ℕ × X) (order : List (ℕ × ℕ)) (n : ℕ) → place (map (entry_at_place es d) order) n ≡ place order n
   place_taken es d [] n = refl
   place_taken es d (o ∷ order) n = ap (λ r. match_ordering (nat_cmp n o.0) (Err 0) (Ok 0) (one_further r)) (place_taken es d order n)
 
@@ -72,24 +72,24 @@ module _ {X : Type 0} where
   pub ordered_length : (es : List (ℕ × X)) (order : List (ℕ × ℕ)) → 0 < length order → AreArrivals es order → length order ≡ length (in_order es order)
   ordered_length es [] some h = absurd (omega (arith, some))
   ordered_length [] (o ∷ order) some h = absurd (no_place (o ∷ order) some h.places)
-  ordered_length (e ∷ es) (o ∷ order) some h = sym (length-map (o ∷ order) (taken (e ∷ es) e))
+  ordered_length (e ∷ es) (o ∷ order) some h = sym (length-map (o ∷ order) (entry_at_place (e ∷ es) e))
 
   -- one entry more, which leaves those at the places before it
   more_taken : (es : List (ℕ × X)) (x d : ℕ × X) (order : List (ℕ × ℕ)) → All (λ o. o.1 < length es) order
-      → map (taken (es ++ x ∷ []) d) order ≡ map (taken es d) order
+      → map (entry_at_place (es ++ x ∷ []) d) order ≡ map (entry_at_place es d) order
   more_taken es x d [] all = refl
   more_taken es x d (o ∷ order) all =
       let here : get_or (es ++ x ∷ []) o.1 d ≡ get_or es o.1 d = get_or_append_left es (x ∷ []) d o.1 (All-head (λ (o : ℕ × ℕ). o.1 < length es) o order all) in
       ap (λ (p : X × List (ℕ × X)). (o.0, p.0) ∷ p.1) (λ i. ((here i).1, more_taken es x d order (All-tail (λ (o : ℕ × ℕ). o.1 < length es) o order all) i))
 
   put_taken : (es : List (ℕ × X)) (n : ℕ) (v : X) (d : ℕ × X) (order : List (ℕ × ℕ)) → All (λ o. o.1 < length es) order
-      → map (taken (es ++ (n, v) ∷ []) d) (insert_entry nat_cmp order n (length es)) ≡ insert_entry nat_cmp (map (taken es d) order) n v
+      → map (entry_at_place (es ++ (n, v) ∷ []) d) (insert_entry nat_cmp order n (length es)) ≡ insert_entry nat_cmp (map (entry_at_place es d) order) n v
   put_taken es n v d [] all = ap (λ (e : ℕ × X). (n, e.1) ∷ []) (get_or_push es (n, v) d (length es) refl)
   put_taken es n v d (o ∷ order) all =
       let new : (get_or (es ++ (n, v) ∷ []) (length es) d).1 ≡ v = ap (λ (e : ℕ × X). e.1) (get_or_push es (n, v) d (length es) refl) in
       let rest = All-tail (λ (o : ℕ × ℕ). o.1 < length es) o order all in
-      elim (nat_cmp n o.0) as (λ c. map (taken (es ++ (n, v) ∷ []) d) (match_ordering c ((n, length es) ∷ o ∷ order) ((o.0, length es) ∷ order) (o ∷ insert_entry nat_cmp order n (length es)))
-      ≡ match_ordering c ((n, v) ∷ map (taken es d) (o ∷ order)) ((o.0, v) ∷ map (taken es d) order) (taken es d o ∷ insert_entry nat_cmp (map (taken es d) order) n v)) [
+      elim (nat_cmp n o.0) as (λ c. map (entry_at_place (es ++ (n, v) ∷ []) d) (match_ordering c ((n, length es) ∷ o ∷ order) ((o.0, length es) ∷ order) (o ∷ insert_entry nat_cmp order n (length es)))
+      ≡ match_ordering c ((n, v) ∷ map (entry_at_place es d) (o ∷ order)) ((o.0, v) ∷ map (entry_at_place es d) order) (entry_at_place es d o ∷ insert_entry nat_cmp (map (entry_at_place es d) order) n v)) [
         | Less ↦ ap (λ (p : X × List (ℕ × X)). (n, p.0) ∷ p.1) (λ i. (new i, more_taken es (n, v) d (o ∷ order) all i))
         | Equal ↦ ap (λ (p : X × List (ℕ × X)). (o.0, p.0) ∷ p.1) (λ i. (new i, more_taken es (n, v) d order rest i))
         | Greater ↦
@@ -146,9 +146,9 @@ module _ {X : Type 0} where
   all_listed es [] h = refl
   all_listed [] (o ∷ order) h = absurd (omega (arith, h.count))
   all_listed (e ∷ es) (o ∷ order) h =
-      ext_get_or e (map (taken (e ∷ es) e) (o ∷ order)) (e ∷ es) (length-map (o ∷ order) (taken (e ∷ es) e) ∙ h.count)
-      (λ k lt. let inside : k < length (o ∷ order) = subst (λ n. k < n) (length-map (o ∷ order) (taken (e ∷ es) e)) lt in
-      get_or-map (taken (e ∷ es) e) (o ∷ order) k o e inside ∙ ap (taken (e ∷ es) e) (h.each k o e (omega (arith, inside, h.count))))
+      ext_get_or e (map (entry_at_place (e ∷ es) e) (o ∷ order)) (e ∷ es) (length-map (o ∷ order) (entry_at_place (e ∷ es) e) ∙ h.count)
+      (λ k lt. let inside : k < length (o ∷ order) = subst (λ n. k < n) (length-map (o ∷ order) (entry_at_place (e ∷ es) e)) lt in
+      get_or-map (entry_at_place (e ∷ es) e) (o ∷ order) k o e inside ∙ ap (entry_at_place (e ∷ es) e) (h.each k o e (omega (arith, inside, h.count))))
 
   pub listed_arrivals : (es : List (ℕ × X)) (order : List (ℕ × ℕ)) → AreListed es order (length es) → AreArrivals es [] → AreArrivals es order
   listed_arrivals es order h before = record {

@@ -5,12 +5,12 @@ use Rattle.std.specs.Map.{keys_of}
 use Rattle.std.specs.List.Sorted.{IsStrictlySortedBy}
 
 -- a number, with the value of the entry at this place
-abbrev pub taken : {X : Type 0} → List (ℕ × X) → ℕ × X → ℕ × ℕ → ℕ × X
-taken es d o = (o.0, (get_or es o.1 d).1)
+abbrev pub entry_at_place : {X : Type 0} → List (ℕ × X) → ℕ × X → ℕ × ℕ → ℕ × X
+entry_at_place es d o = (o.0, (get_or es o.1 d).1)
 
 abbrev pub all_taken : {X : Type 0} → List (ℕ × X) → List (ℕ × ℕ) → List (ℕ × X)
 all_taken [] order = []
-all_taken (e ∷ es) order = map (taken (e ∷ es) e) order
+all_taken (e ∷ es) order = map (entry_at_place (e ∷ es) e) order
 
 -- the entries in the order of their numbers: those at the places that this list has by number, or as they came where it
 -- has none

@@ -9,11 +9,11 @@ use Rattle.log_text.specs.File.{IsFile}
 use Rattle.log_text.proofs.OneFile.{one_file}
 use Rattle.book.specs.History.{IsLegal, replay}
 use Rattle.book.specs.declared.entry.Entry.{Entry}
-use Rattle.crashes.specs.World.{Life, World, header_of}
-use Rattle.crashes.specs.Recovering.{cut}
-use Rattle.rebuilt.specs.Found.{durable_of, found}
-use Rattle.rebuilt.specs.Rebuilt.{HaveNoGap, IsRebuilt}
-use Rattle.rebuilt.specs.Recovered.{GiveTheReplay, LeavesTheReplay}
+use Rattle.recover_crashes.specs.World.{Life, World, header_of}
+use Rattle.recover_crashes.specs.Recovering.{cut}
+use Rattle.recover_laws.specs.Found.{durable_of, found}
+use Rattle.recover_laws.specs.Rebuilt.{HaveNoGap, IsRebuilt}
+use Rattle.recover_laws.specs.Recovered.{GiveTheReplay, LeavesTheReplay}
 use Rattle.recover.specs.Files.{AreFiles, AreShort}
 use Rattle.recover.specs.Recovered.{AreInTurn, IsRecovery, HasGap, IsReplayOf, IsBeginningOf}
 use Rattle.recover.specs.declared.recovering.Recovered.{Recovered}

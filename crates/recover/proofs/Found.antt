@@ -8,9 +8,9 @@ use Rattle.log_header.specs.Header.{header_view}
 use Rattle.log_text.specs.Bodies.{BodyView}
 use Rattle.log_text.specs.Entries.{EntryView}
 use Rattle.log_text.specs.Writes.{are_writes}
-use Rattle.crashes.specs.Recovering.{counts, counted, entries_of}
-use Rattle.rebuilt.specs.Found.{durable_of, found, kept}
-use Rattle.rebuilt.proofs.Elements.{has_to}
+use Rattle.recover_crashes.specs.Recovering.{counts, counted, entries_of}
+use Rattle.recover_laws.specs.Found.{durable_of, found, kept}
+use Rattle.recover_laws.proofs.Elements.{has_to}
 use Rattle.recover.specs.Files.{AreFiles}
 use Rattle.recover.specs.Parts.{HaveLawfulWrites}
 use Rattle.recover.proofs.LawfulEntries.{IsPositive, lawful_entries, positive_entries}

@@ -12,11 +12,11 @@ use Rattle.log_text.specs.Columns.{ranges, are_within}
 use Rattle.log_text.specs.Writes.{places, is_value, is_write}
 use Rattle.log_text.specs.declared.write.Write.{Write}
 use Rattle.log_text.proofs.Fitting.{and_split}
-use Rattle.rebuilt.specs.Rebuilt.{history_of}
+use Rattle.recover_laws.specs.Rebuilt.{history_of_words}
 use Rattle.recover.proofs.Ranges.{IsIn, each_in, as_many, between}
 
 module _ (s : Sizes) (words : List ℕ) (e : are_within (ranges s table.History) words ≡ true) where
-  row_in_ranges : IsHistoryRow s (history_of words)
+  row_in_ranges : IsHistoryRow s (history_of_words words)
   row_in_ranges =
       let each = each_in (ranges s table.History) words e in
       let amount : IsIn MIN_PAYMENT MAX_PAYMENT (slice_index words 6) = each 6 (lit< tt) in
@@ -56,7 +56,7 @@ module _ (s : Sizes) (w : Write) (lawful : is_write s w ≡ true) (of : w.table 
     history_long = as_many (ranges s table.History) words history_within
 
     -- their row is within its ranges
-    pub history_row : IsHistoryRow s (history_of words)
+    pub history_row : IsHistoryRow s (history_of_words words)
     history_row = row_in_ranges s words history_within
 
     -- and all but the amount are of 32 bits

@@ -7,11 +7,11 @@ use Rattle.tables.specs.Sizes.{Sizes}
 use Rattle.log_text.specs.Entries.{EntryView}
 use Rattle.log_text.specs.Writes.{is_history}
 use Rattle.log_text.specs.declared.write.Write.{Write}
-use Rattle.rebuilt.specs.Rebuilt.{number_of, IsUpTo, IsUnwritten}
-use Rattle.rebuilt.proofs.Elements.{Has, has_from, has_to, has_left, has_right, has_either}
-use Rattle.restoring.specs.Latest.{is_older, newer, joined}
+use Rattle.recover_laws.specs.Rebuilt.{number_of, IsUpTo, IsUnwritten}
+use Rattle.recover_laws.proofs.Elements.{Has, has_from, has_to, has_left, has_right, has_either}
+use Rattle.recover_newest.specs.Latest.{is_older, newer, joined}
 use Rattle.recover.specs.Parts.{IsLatest, IsKnown, raised_by}
-use Rattle.restoring.specs.declared.latest.Latest.{Latest}
+use Rattle.recover_newest.specs.declared.latest.Latest.{Latest}
 
 either_of : (es fs : List EntryView) (d : EntryView) → Contains (es ++ fs) d → Contains es d ⊎ Contains fs d
 either_of es fs d h = ⊎_elim (λ k. inl (has_to es d k)) (λ k. inr (has_to fs d k)) (has_either es fs d (has_from (es ++ fs) d h))

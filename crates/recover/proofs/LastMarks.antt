@@ -5,8 +5,8 @@ use Rattle.std.specs.Option.{option_map_or}
 use Rattle.std.proofs.lemmas.List.{at_drop_more, at_drop_all}
 use Rattle.tables.specs.OrderNumbers.{least}
 use Rattle.log_text.specs.declared.body.Body.{Body}
-use Rattle.crashes.specs.Recovering.{last_mark}
-use Rattle.rebuilt.specs.Found.{durable_of}
+use Rattle.recover_crashes.specs.Recovering.{last_mark}
+use Rattle.recover_laws.specs.Found.{durable_of}
 use Rattle.recover.specs.Files.{bodies_in}
 
 -- the body at the last place has the last mark

@@ -16,7 +16,7 @@ use Rattle.tables.specs.declared.limits.TheConstants.{MAX_MARK}
 use Rattle.log_text.specs.declared.last.Last.{Last}
 use Rattle.log_text.proofs.Fitting.{and_split}
 use Rattle.log_text.proofs.Lawful.{through}
-use Rattle.crashes.specs.Recovering.{entries_of}
+use Rattle.recover_crashes.specs.Recovering.{entries_of}
 
 -- what comes of a value was made of one
 made_of : {A B : Type 0} (f : A → Option B) (o : Option A) (y : B) → option_and_then f o ≡ Some y → (x : A) × (o ≡ Some x)

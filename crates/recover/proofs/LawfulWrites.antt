@@ -25,7 +25,7 @@ use Rattle.log_text.specs.Writes.{places, is_history, is_value, is_write, rise_f
 use Rattle.tables.specs.declared.limits.TheConstants.{MAX_WRITES}
 use Rattle.log_text.specs.declared.write.Write.{Write}
 use Rattle.log_text.proofs.Fitting.{and_split}
-use Rattle.rebuilt.specs.Rebuilt.{number_of, Leaves}
+use Rattle.recover_laws.specs.Rebuilt.{number_of, LeavesInRecord}
 use Rattle.recover.proofs.RowsOfWords.{there, warehouse_row, district_row, customer_row, new_order_row, order_row, line_row, stock_row}
 
 -- each of lawful writes is lawful
@@ -129,7 +129,7 @@ module _ (s : Sizes) where
 
   module _ (e : EntryView) (lawful : are_writes s e.writes ≡ true) (n : ℕ) where
     -- what an entry leaves in a record is what it may hold
-    pub left_may_hold : (value : Option (List ℕ)) → Leaves s e n value → (n < record_count s) × MayHold s (key_of s n) value
+    pub left_may_hold : (value : Option (List ℕ)) → LeavesInRecord s e n value → (n < record_count s) × MayHold s (key_of s n) value
     left_may_hold value left =
         let is = each_lawful s e.writes lawful left.write left.among in (
           subst (λ m. m < record_count s) left.number (written_below left.write is left.of_record),
@@ -138,7 +138,7 @@ module _ (s : Sizes) where
         )
 
     -- and where that is nothing the record is one of NEW-ORDER
-    pub left_none : Leaves s e n None → (k : OrderKey) × (key_of s n ≡ key.NewOrder k)
+    pub left_none : LeavesInRecord s e n None → (k : OrderKey) × (key_of s n ≡ key.NewOrder k)
     left_none left =
         let w = left.write in
         let is = each_lawful s e.writes lawful w left.among in

@@ -5,7 +5,7 @@ use Rattle.std.specs.Prelude.{flat_map}
 use Rattle.std.specs.List.{filter, All, AllByRecursion}
 use Rattle.std.proofs.lemmas.List.Concat.{flat_map-cons}
 use Rattle.std.proofs.lemmas.List.Elements.{filter-append, All-append, All-contains, All-from_recursion, All-head, All-tail}
-use Rattle.rebuilt.proofs.Elements.{Has, has_to, has_left, has_right, passed}
+use Rattle.recover_laws.proofs.Elements.{Has, has_to, has_left, has_right, passed}
 
 module _ {X : Type 0} (p : X → Bool) where
   pub counted_more : (front : List X) (x : X) (rest all : List X) → p x ≡ true → front ++ filter p (x ∷ rest) ≡ all → (front ++ x ∷ []) ++ filter p rest ≡ all

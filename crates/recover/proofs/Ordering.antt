@@ -9,9 +9,9 @@ use Rattle.std.proofs.lemmas.List.Sorted.{sum_by-IsPermutation}
 use Rattle.std.proofs.lemmas.List.{length-map, get_or-map}
 use Rattle.log_text.specs.Entries.{EntryView, logged}
 use Rattle.log_text.specs.declared.entry.LoggedEntry.{LoggedEntry}
-use Rattle.rebuilt.specs.Rebuilt.{AreNumbered, HaveNoGap}
-use Rattle.rebuilt.proofs.Elements.{Has}
-use Rattle.rebuilt.proofs.Numbered.{from_number}
+use Rattle.recover_laws.specs.Rebuilt.{AreNumbered, HaveNoGap}
+use Rattle.recover_laws.proofs.Elements.{Has}
+use Rattle.recover_laws.proofs.Numbered.{from_number}
 
 -- one where the entry's number is up to a bound
 abbrev counts_to : ℕ → EntryView → ℕ

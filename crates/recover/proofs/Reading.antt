@@ -3,12 +3,12 @@ use Rattle.std.proofs.Common.{◌≡◌, ℕ, ◌+◌, ◌-◌, ◌<◌, ◌≤�
 use Rattle.std.proofs.lemmas.List.{get_or-map, get_or-set_same, set-get_or, length-set, length-map, length_push, get_or_append_left, get_or_push, take_more, take_all, map_push}
 use Rattle.std.proofs.Math.Seq.{map-set_same}
 use Rattle.tables.specs.Sizes.{Sizes}
-use Rattle.disk.specs.Calls.{Call}
+use Rattle.log_disk.specs.Calls.{Call}
 use Rattle.log_header.specs.Header.{HeaderView, header_view}
 use Rattle.log_text.specs.Bodies.{BodyView}
 use Rattle.log_text.specs.File.{IsFile}
 use Rattle.log_text.specs.declared.body.Body.{Body}
-use Rattle.recover.specs.Files.{AreFiles, AreDamaged, AreShort, bodies_in, HasFailed}
+use Rattle.recover.specs.Files.{AreFiles, AreDamaged, AreShort, bodies_in, DeviceHasFailed}
 
 abbrev pub bodies_of_file : Vec Body Global → List BodyView
 bodies_of_file bodies = bodies_in bodies.items
@@ -160,7 +160,7 @@ module _ {X : Type 0} {modelled : Type 0} {seen : X → List ℕ} {story : X →
 
       -- a disk whose call fails
       pub fails : failed now ≡ min (failed (get_or disks i past) + 1) (2 ^ 64 - 1)
-          → HasFailed (map failed first) (map failed (set disks i now))
+          → DeviceHasFailed (map failed first) (map failed (set disks i now))
       fails e = record {
         device = i;
         among = among failed;

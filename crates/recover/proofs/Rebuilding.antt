@@ -15,9 +15,9 @@ use Rattle.encoding.specs.Held.{row_count, by_key, AreTables}
 use Rattle.log_text.specs.Entries.{EntryView, logged}
 use Rattle.log_text.specs.Writes.{are_writes}
 use Rattle.log_text.specs.declared.entry.LoggedEntry.{LoggedEntry}
-use Rattle.rebuilt.specs.Rebuilt.{Leaves, IsNewest, AreLeft, AreNumbered, IsRebuilt, added_by}
-use Rattle.restoring.specs.Putting.{MayPut, left_in}
-use Rattle.restoring.specs.declared.latest.Latest.{Latest}
+use Rattle.recover_laws.specs.Rebuilt.{LeavesInRecord, IsNewest, AreLeft, AreNumbered, IsRebuilt, added_by}
+use Rattle.recover_newest.specs.Putting.{MayPut, left_in}
+use Rattle.recover_newest.specs.declared.latest.Latest.{Latest}
 use Rattle.recover.specs.Parts.{IsLatest, IsKnown, IsPart, HaveLawfulWrites, looked_at}
 use Rattle.recover.specs.declared.part.Part.{Part}
 use Rattle.recover.proofs.LawfulWrites.{left_may_hold, left_none}
@@ -33,7 +33,7 @@ may_put s p part lawful n w is =
     record {
       number = held.0;
       may_hold = held.1;
-      taken_out = λ none. left_none s e writes n (subst (Leaves s e n) none known.newest.leaves);
+      taken_out = λ none. left_none s e writes n (subst (LeavesInRecord s e n) none known.newest.leaves);
     }
 
 -- and what tables hold that it was put into is what the entries leave

@@ -25,7 +25,7 @@ abbrev pub AreShort : List (List ℕ) → Type 0
 AreShort strings = (l : ℕ) → l < length strings → length (slice_index_or strings l []) < 2 ^ 64
 
 -- a call of one of the devices has failed
-pub record HasFailed (old new : List ℕ) : Type 0 where
+pub record DeviceHasFailed (old new : List ℕ) : Type 0 where
   pub device : ℕ
   pub among : device < length old
   pub failed : slice_index_or new device 0 ≡ min (slice_index_or old device 0 + 1) (2 ^ 64 - 1)

@@ -7,9 +7,9 @@ use Rattle.tables.specs.Sizes.{Sizes}
 use Rattle.log_text.specs.Entries.{EntryView, logged}
 use Rattle.log_text.specs.Writes.{is_history, are_writes}
 use Rattle.log_text.specs.declared.write.Write.{Write}
-use Rattle.rebuilt.specs.Rebuilt.{number_of, IsNewest, IsUnwritten}
-use Rattle.restoring.specs.Latest.{newer}
-use Rattle.restoring.specs.declared.latest.Latest.{Latest}
+use Rattle.recover_laws.specs.Rebuilt.{number_of, IsNewest, IsUnwritten}
+use Rattle.recover_newest.specs.Latest.{newer}
+use Rattle.recover_newest.specs.declared.latest.Latest.{Latest}
 use Rattle.recover.specs.declared.part.Part.{Part}
 
 -- the newest of the entries that write a record, and what it leaves there

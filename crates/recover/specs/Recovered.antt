@@ -6,10 +6,10 @@ use Rattle.tables.specs.Database.{Database, database}
 use Rattle.log_text.specs.Bodies.{BodyView}
 use Rattle.book.specs.History.{IsLegal, replay}
 use Rattle.book.specs.declared.entry.Entry.{Entry}
-use Rattle.crashes.specs.Recovering.{cut}
-use Rattle.crashes.specs.World.{Life, World}
-use Rattle.rebuilt.specs.Found.{found, durable_of}
-use Rattle.rebuilt.specs.Rebuilt.{HaveNoGap, IsRebuilt}
+use Rattle.recover_crashes.specs.Recovering.{cut}
+use Rattle.recover_crashes.specs.World.{Life, World}
+use Rattle.recover_laws.specs.Found.{found, durable_of}
+use Rattle.recover_laws.specs.Rebuilt.{HaveNoGap, IsRebuilt}
 use Rattle.recover.specs.Files.{AreFiles, AreShort}
 use Rattle.recover.specs.declared.recovering.Recovered.{Recovered}
 

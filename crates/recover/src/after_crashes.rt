@@ -4,15 +4,17 @@ ghost use Rattle.tables.specs.Database.{Database};
 ghost use Rattle.log_text.specs.Bodies.{BodyView};
 ghost use Rattle.book.specs.declared.entry.Entry.{Entry as CommittedEntry};
 ghost use Rattle.logfile.specs.Standing.{LogFileView};
-ghost use Rattle.crashes.specs.World.{Life, DiskView, IsFirst, opening};
-ghost use Rattle.crashes.specs.Events.{Event, AreEnabled, after_all};
-ghost use Rattle.crashes.specs.Recovering.{Crashes, HoldTheHistory};
-ghost use Rattle.rebuilt.specs.Recovered.{IsHistoryOf, IsFirstLife};
+ghost use Rattle.recover_crashes.specs.World.{Life, DiskView, IsFirst, opening};
+ghost use Rattle.recover_crashes.specs.Events.{Event, MayHappenInTurn, world_after_all};
+ghost use Rattle.recover_crashes.specs.Recovering.{Crashes, HoldTheHistory};
+ghost use Rattle.recover_laws.specs.Recovered.{IsHistoryOf, IsFirstLife};
 ghost use Rattle.recover.specs.Files.{AreFiles};
 ghost use Rattle.recover.specs.Recovered.{AreInTurn, IsRecovery, HasGap, IsReplayOf, IsBeginningOf};
 ghost use Rattle.recover.specs.declared.recovering.Recovered.{Recovered as RecoveredValue};
 
-use rebuilt::{every_crash_leaves_the_replay, files_hold_the_cut, rebuilt_tables_are_the_replay};
+use recover_laws::{
+    every_crash_leaves_the_replay, files_hold_the_cut, rebuilt_tables_are_the_replay,
+};
 
 /// Where strings are log files that hold a history, `recover` doesn't refuse them by `Gap`, and what it gives is the
 /// history's replay up to the durable epoch. The function does nothing: its contract is the law.
@@ -36,21 +38,21 @@ pub fn recovery_is_the_replay()
 /// than the board's D, with each commit whose reply was released (Silo, section 4.10). The function does nothing: its contract is the law.
 pub fn every_crash_is_recovered()
     ensures files { (life : Life) (files : ℕ → LogFileView DiskView) (events : List Event) (by_logger : ℕ → List ℕ)
-        → IsFirstLife life → IsFirst life files → AreEnabled life (opening life.plan files) events
-        → Crashes life (after_all (opening life.plan files) events) by_logger
+        → IsFirstLife life → IsFirst life files → MayHappenInTurn life (opening life.plan files) events
+        → Crashes life (world_after_all (opening life.plan files) events) by_logger
         → (strings : List (List ℕ)) → AreInTurn life.plan.loggers by_logger strings
         → (left : List (List BodyView)) × AreFiles life.first.scale life.seed strings left }
     ensures no_gap { (life : Life) (files : ℕ → LogFileView DiskView) (events : List Event) (by_logger : ℕ → List ℕ)
-        → IsFirstLife life → IsFirst life files → AreEnabled life (opening life.plan files) events
-        → Crashes life (after_all (opening life.plan files) events) by_logger
+        → IsFirstLife life → IsFirst life files → MayHappenInTurn life (opening life.plan files) events
+        → Crashes life (world_after_all (opening life.plan files) events) by_logger
         → (strings : List (List ℕ)) → AreInTurn life.plan.loggers by_logger strings
         → HasGap life.first.scale life.seed strings → ⊥ }
     ensures recovered { (life : Life) (files : ℕ → LogFileView DiskView) (events : List Event) (by_logger : ℕ → List ℕ)
-        → IsFirstLife life → IsFirst life files → AreEnabled life (opening life.plan files) events
-        → Crashes life (after_all (opening life.plan files) events) by_logger
+        → IsFirstLife life → IsFirst life files → MayHappenInTurn life (opening life.plan files) events
+        → Crashes life (world_after_all (opening life.plan files) events) by_logger
         → (strings : List (List ℕ)) → AreInTurn life.plan.loggers by_logger strings
         → (r : RecoveredValue) → IsRecovery life.first life.seed strings r
-        → IsBeginningOf life (after_all (opening life.plan files) events) r }
+        → IsBeginningOf life (world_after_all (opening life.plan files) events) r }
 {
     every_crash_leaves_the_replay();
 }

@@ -5,14 +5,14 @@ ghost use Rattle.money.specs.declared.refusal.Refusal.TheVariants.{OutOfMemory, 
 ghost use Rattle.log_text.specs.Bodies.{BodyView};
 ghost use Rattle.log_text.specs.Entries.{logged};
 ghost use Rattle.population.specs.Initial.{initial, seed_of};
-ghost use Rattle.rebuilt.specs.Found.{found};
+ghost use Rattle.recover_laws.specs.Found.{found};
 ghost use Rattle.recover.specs.Files.{AreFiles};
 
 use crate::durable::durable_of;
 use crate::files::read_all;
 use crate::numbering::sort;
 use crate::recovering::merged;
-use disk::Disk;
+use log_disk::Disk;
 use log_text::LoggedEntry;
 use money::Refusal;
 use population::Population;

@@ -1,7 +1,7 @@
 //! How far all log files are whole.
 ghost use Rattle.std.specs.Prelude.{◌≡◌, map};
-ghost use Rattle.crashes.specs.Recovering.{last_mark as last_mark_from};
-ghost use Rattle.rebuilt.specs.Found.{durable_of as durable_epoch};
+ghost use Rattle.recover_crashes.specs.Recovering.{last_mark as last_mark_from};
+ghost use Rattle.recover_laws.specs.Found.{durable_of as durable_epoch};
 ghost use Rattle.recover.specs.Files.{bodies_in};
 
 use log_text::Body;

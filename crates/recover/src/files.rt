@@ -6,9 +6,9 @@ ghost use Rattle.log_header.specs.Header.{header_view};
 ghost use Rattle.log_text.specs.Bodies.{BodyView};
 ghost use Rattle.log_text.specs.File.{IsFile};
 ghost use Rattle.population.specs.Initial.{initial, seed_of};
-ghost use Rattle.recover.specs.Files.{AreFiles, AreDamaged, AreShort, bodies_in, HasFailed};
+ghost use Rattle.recover.specs.Files.{AreFiles, AreDamaged, AreShort, bodies_in, DeviceHasFailed};
 
-use disk::Disk;
+use log_disk::Disk;
 use log_header::Header;
 use log_text::Body;
 use logfile::scan;
@@ -28,7 +28,7 @@ pub fn read_all<D: Disk>(
     ensures damaged { IsErrOf result Damaged → (strings : List (List ℕ))
         × (D.is_modelled → strings ≡ map D.seen disks.old)
         × AreDamaged (initial population.now).scale (seed_of population.now) strings }
-    ensures failed { IsErrOf result Device → HasFailed (map D.failed disks.old) (map D.failed disks.new) }
+    ensures failed { IsErrOf result Device → DeviceHasFailed (map D.failed disks.old) (map D.failed disks.new) }
     ensures not_failed { (IsErrOf result Device → ⊥) → map D.failed disks.new ≡ map D.failed disks.old }
     ensures others { IfErr result (λ refusal. (refusal ≢ OutOfMemory) → (refusal ≢ Device) → refusal ≡ Damaged) }
     ensures seen { D.is_modelled → map D.seen disks.new ≡ map D.seen disks.old }

@@ -5,7 +5,7 @@ ghost use Rattle.tables.specs.Sizes.{IsScale};
 ghost use Rattle.encoding.specs.Words.{FitsColumn};
 ghost use Rattle.log_text.specs.Entries.{logged};
 ghost use Rattle.log_text.specs.Writes.{are_writes};
-ghost use Rattle.rebuilt.specs.Rebuilt.{history_of as row_of, added_by, rows_in};
+ghost use Rattle.recover_laws.specs.Rebuilt.{history_of_words as row_of, added_by, rows_in};
 ghost use Rattle.recover.specs.Parts.{HaveLawfulWrites};
 
 use log_text::{LoggedEntry, Write};

@@ -2,7 +2,7 @@
 ghost use Rattle.std.specs.Prelude.{◌≡◌, ◌↔◌, map, IsTrue};
 ghost use Rattle.std.specs.List.Sorted.{IsPermutation, IsNonDecreasingBy};
 ghost use Rattle.log_text.specs.Entries.{logged};
-ghost use Rattle.rebuilt.specs.Rebuilt.{AreNumbered};
+ghost use Rattle.recover_laws.specs.Rebuilt.{AreNumbered};
 
 use log_text::LoggedEntry;
 

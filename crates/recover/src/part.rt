@@ -6,11 +6,11 @@ ghost use Rattle.tables.specs.Sizes.{Sizes};
 ghost use Rattle.log_text.specs.Bodies.{BodyView, body_of};
 ghost use Rattle.log_text.specs.Entries.{EntryView, logged};
 ghost use Rattle.log_text.specs.Writes.{are_writes};
-ghost use Rattle.crashes.specs.Recovering.{counts, counted, entries_of};
+ghost use Rattle.recover_crashes.specs.Recovering.{counts, counted, entries_of};
 ghost use Rattle.recover.specs.Parts.{IsPart, HaveLawfulWrites, looked_at, raised_by};
 
 use log_text::{Body, LoggedEntry};
-use restoring::{Latest, merge, raise};
+use recover_newest::{Latest, merge, raise};
 use std::alloc::{AllocError, Global};
 use std::collections::BTreeMap;
 use tables::{Scale, Table, rec};

@@ -4,9 +4,9 @@ ghost use Rattle.std.specs.List.{All};
 ghost use Rattle.money.specs.declared.refusal.Refusal.TheVariants.{OutOfMemory, Damaged, Device, Gap};
 ghost use Rattle.tables.specs.Database.{database};
 ghost use Rattle.population.specs.Initial.{initial, seed_of};
-ghost use Rattle.crashes.specs.Recovering.{counted, entries_of};
-ghost use Rattle.rebuilt.specs.Rebuilt.{HaveNoGap, IsRebuilt};
-ghost use Rattle.recover.specs.Files.{AreDamaged, bodies_in, HasFailed};
+ghost use Rattle.recover_crashes.specs.Recovering.{counted, entries_of};
+ghost use Rattle.recover_laws.specs.Rebuilt.{HaveNoGap, IsRebuilt};
+ghost use Rattle.recover.specs.Files.{AreDamaged, bodies_in, DeviceHasFailed};
 ghost use Rattle.recover.specs.Parts.{IsPart, HaveLawfulWrites, looked_at};
 ghost use Rattle.recover.specs.Recovered.{IsRecovery, HasGap};
 
@@ -15,12 +15,12 @@ use crate::files::read_all;
 use crate::history::add_history;
 use crate::numbering::{are_numbered, sort};
 use crate::part::Part;
-use disk::Disk;
 use encoding::{values_are_held, values_determine_tables};
+use log_disk::Disk;
 use log_text::Body;
 use money::Refusal;
 use population::Population;
-use restoring::{copied, put_all};
+use recover_newest::{copied, put_all};
 use std::alloc::{AllocError, Global};
 use tables::{Scale, Tables};
 
@@ -61,7 +61,7 @@ pub fn recover<D: Disk>(
     ensures damaged { IsErrOf result Damaged → (strings : List (List ℕ))
         × (D.is_modelled → strings ≡ map D.seen disks.old)
         × AreDamaged (initial population.now).scale (seed_of population.now) strings }
-    ensures failed { IsErrOf result Device → HasFailed (map D.failed disks.old) (map D.failed disks.new) }
+    ensures failed { IsErrOf result Device → DeviceHasFailed (map D.failed disks.old) (map D.failed disks.new) }
     ensures not_failed { (IsErrOf result Device → ⊥) → map D.failed disks.new ≡ map D.failed disks.old }
     ensures others { IfErr result (λ refusal. (refusal ≢ OutOfMemory) → (refusal ≢ Device) → (refusal ≢ Damaged)
         → refusal ≡ Gap) }

@@ -1,14 +1,14 @@
 -- The calls of a gate at several tries.
 use Rattle.std.proofs.Common.{◌≡◌, ℕ, ◌+◌, Result, Ok, Err, ◌∙◌, ap, refl, arith}
 use Rattle.money.specs.declared.refusal.Refusal.{Refusal}
-use Rattle.terminals.specs.Calls.{AreCalls, counted}
+use Rattle.terminals.specs.Calls.{AreCalls, capped_count}
 use Rattle.terminals.specs.Tries.{IsAgain}
 use Rattle.terminals.specs.declared.gate.Calls.{Calls}
 
-counted_none : (n : ℕ) → n ≡ counted 0 n
+counted_none : (n : ℕ) → n ≡ capped_count 0 n
 counted_none n = omega arith
 
-counted_more : (n m before : ℕ) → counted m (counted n before) ≡ counted (n + m) before
+counted_more : (n m before : ℕ) → capped_count m (capped_count n before) ≡ capped_count (n + m) before
 counted_more n m before = omega arith
 
 -- at none, and at one more
@@ -22,21 +22,21 @@ calls_none refusal calls = record {
 pub calls_more : (tries : ℕ) (refusal : Refusal) (result : Result ℕ Refusal) (old between new : Calls)
     → AreCalls tries (Err refusal) old between → AreCalls 1 result between new → AreCalls (tries + 1) result old new
 calls_more tries refusal (Ok number) old between new before last = record {
-  executes = last.executes ∙ ap (counted 1) before.executes ∙ counted_more tries 1 old.executes;
+  executes = last.executes ∙ ap (capped_count 1) before.executes ∙ counted_more tries 1 old.executes;
   commits = (
     before.commits.0 + last.commits.0,
     omega (arith, before.commits.1, last.commits.1),
-    last.commits.2 ∙ ap (counted last.commits.0) before.commits.2 ∙ counted_more before.commits.0 last.commits.0 old.commits,
+    last.commits.2 ∙ ap (capped_count last.commits.0) before.commits.2 ∙ counted_more before.commits.0 last.commits.0 old.commits,
     omega (arith, last.commits.3),
   );
-  committed = last.committed ∙ ap (counted 1) before.committed;
+  committed = last.committed ∙ ap (capped_count 1) before.committed;
 }
 calls_more tries refusal (Err other) old between new before last = record {
-  executes = last.executes ∙ ap (counted 1) before.executes ∙ counted_more tries 1 old.executes;
+  executes = last.executes ∙ ap (capped_count 1) before.executes ∙ counted_more tries 1 old.executes;
   commits = (
     before.commits.0 + last.commits.0,
     omega (arith, before.commits.1, last.commits.1),
-    last.commits.2 ∙ ap (counted last.commits.0) before.commits.2 ∙ counted_more before.commits.0 last.commits.0 old.commits,
+    last.commits.2 ∙ ap (capped_count last.commits.0) before.commits.2 ∙ counted_more before.commits.0 last.commits.0 old.commits,
     tt,
   );
   committed = last.committed ∙ before.committed;

@@ -4,7 +4,7 @@ use Rattle.tables.specs.Database.{Database}
 use Rattle.tables.specs.declared.input.Input.{Input}
 use Rattle.tables.specs.declared.limits.TheConstants.{MAX_DATE}
 use Rattle.cells.specs.Records.{ReaderView}
-use Rattle.deck.specs.Deck.{DeckView}
+use Rattle.terminals_deck.specs.Deck.{DeckView}
 use Rattle.book.specs.Book.{BookView}
 use Rattle.book.specs.Done.{Done}
 use Rattle.book.specs.Next.{IsNextCommit}

@@ -1,6 +1,6 @@
 //! Where a terminal can be watched, and held, on its way through an input.
 ghost use Rattle.std.specs.Prelude.{◌≡◌};
-ghost use Rattle.terminals.specs.Calls.{executed, committing, committed};
+ghost use Rattle.terminals.specs.Calls.{one_more_execute, one_more_commit, one_more_committed};
 
 use book::Done;
 
@@ -18,7 +18,7 @@ pub struct Calls {
 /// What a terminal calls on its way through an input, outside the book's lock. A gate may wait, so that a test can
 /// hold a terminal there. Contracts see how many calls it has had.
 pub trait Gate {
-    ghost use Rattle.terminals.specs.Calls.{executed, committing, committed};
+    ghost use Rattle.terminals.specs.Calls.{one_more_execute, one_more_commit, one_more_committed};
     ghost use Rattle.terminals.specs.declared.gate.Calls.{Calls};
 
     /// The calls that the gate has had.
@@ -26,15 +26,15 @@ pub trait Gate {
 
     /// Before a transaction is executed: once a try.
     fn before_execute(&mut self)
-        ensures { calls self.new ≡ executed (calls self.old) };
+        ensures { calls self.new ≡ one_more_execute (calls self.old) };
 
     /// Before it is committed.
     fn before_commit(&mut self)
-        ensures { calls self.new ≡ committing (calls self.old) };
+        ensures { calls self.new ≡ one_more_commit (calls self.old) };
 
     /// After a commit.
     fn after_commit(&mut self)
-        ensures { calls self.new ≡ committed (calls self.old) };
+        ensures { calls self.new ≡ one_more_committed (calls self.old) };
 
     /// After these replies were released, which is told by whoever has the terminal acknowledge: those that it released
     /// then, the oldest first.

@@ -12,12 +12,12 @@ use crate::steps::{commit_at, execute_at};
 use board::Board;
 use book::{Done, Engine, Run, Share};
 use cells::Reader;
-use deck::Deck;
 use money::Refusal;
 use std::alloc::Global;
 use std::marker::Model;
 use std::sync::Wait;
 use tables::Input;
+use terminals_deck::Deck;
 
 /// How often an input is tried before its terminal gives up.
 pub const TRIES: u32 = 64;

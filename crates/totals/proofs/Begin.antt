@@ -15,7 +15,7 @@ use Rattle.tables.specs.declared.keys.OrderKey.{OrderKey}
 use Rattle.tables.specs.declared.records.RecordKey.TheVariants as key
 use Rattle.tables.proofs.Numbers.{one_to_one, warehouse_there, district_there, customer_there, order_there}
 use Rattle.tables.proofs.Orders.{exact_district, exact_order, exact_line}
-use Rattle.totals.specs.Totals.{SumsView, AreSums, amount_at}
+use Rattle.totals.specs.Totals.{SumsView, AreSums, amount_in}
 use Rattle.totals.specs.Worth.{year_to_date_of, line_count_in, line_in, line_of, one_in, delivered_to}
 use Rattle.totals.specs.Moves.{IsMoved, order_before}
 use Rattle.totals.specs.Opening.{SumsOpen}
@@ -34,9 +34,9 @@ none_fits_small : FitsSigned w8 (pos 0)
 none_fits_small = fits_signed_from_abs w8 (pos 0) (omega arith)
 
 -- an amount that began with nothing
-begun : (w : Width) → FitsSigned w (pos 0) → (n p : ℕ) (b z y : ℤ) → p < n → IsMoved w (amount_at (replicate n (pos 0)) p) b z → y ≡ z → FitsSigned w y → b ≡ y
+begun : (w : Width) → FitsSigned w (pos 0) → (n p : ℕ) (b z y : ℤ) → p < n → IsMoved w (amount_in (replicate n (pos 0)) p) b z → y ≡ z → FitsSigned w y → b ≡ y
 begun w fits_none n p b z y inside moves is fits =
-    exact w (amount_at (replicate n (pos 0)) p) b z (pos 0) y (get_or-replicate n p (pos 0) (pos 0) inside) moves (is ∙ none_before z) fits_none fits
+    exact w (amount_in (replicate n (pos 0)) p) b z (pos 0) y (get_or-replicate n p (pos 0) (pos 0) inside) moves (is ∙ none_before z) fits_none fits
   where
     none_before : (a : ℤ) → a ≡ pos 0 +ℤ a
     none_before a = omega (arith, ints)

@@ -10,7 +10,7 @@ use Rattle.tables.specs.declared.records.Table.TheVariants as table
 use Rattle.tables.specs.declared.records.RecordKey.{RecordKey}
 use Rattle.tables.specs.declared.records.RecordKey.TheVariants as key
 use Rattle.tables.proofs.Numbers.{one_to_one}
-use Rattle.bounds.proofs.KeysAt.{district_same, order_same, line_same, district_is, order_is, line_is}
+use Rattle.totals_bounds.proofs.KeysAt.{district_same, order_same, line_same, district_is, order_is, line_is}
 use Rattle.totals.specs.Totals.{SumsView}
 use Rattle.totals.specs.Moves.{order_before}
 use Rattle.totals.specs.Steps.{moved_at, one_of, delivered_in, buyer_place, counted_step, district_line_step, order_line_step, deliver_step, line_step}

@@ -25,9 +25,9 @@ use Rattle.tables.proofs.KeyTests.{is_order-key}
 use Rattle.tables.proofs.Entries.{first, second, tied, found_first, found_after}
 use Rattle.tables.proofs.Totals.{total-zero}
 use Rattle.tables.proofs.OrderNumbers.{greatest-within}
-use Rattle.laws.proofs.Rows.{there}
-use Rattle.laws.proofs.RisingNumbers.{Rises, numbers_rise}
-use Rattle.laws.proofs.NumbersLeft.{no_more}
+use Rattle.tables_laws.proofs.Rows.{there}
+use Rattle.tables_laws.proofs.RisingNumbers.{Rises, numbers_rise}
+use Rattle.tables_laws.proofs.NumbersLeft.{no_more}
 use Rattle.totals.specs.Small.{SumsFit}
 
 money_fits : (z : ℤ) → IsMoney z → FitsSigned w64 z

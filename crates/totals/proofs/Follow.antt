@@ -23,7 +23,7 @@ use Rattle.tables.specs.declared.input.Input.{Input}
 use Rattle.tables.specs.declared.reply.Reply.{Reply}
 use Rattle.tables.specs.declared.records.RecordKey.TheVariants as key
 use Rattle.tables.proofs.Numbers.{one_to_one}
-use Rattle.laws.proofs.Kept.{after-IsConsistent, after-scale}
+use Rattle.tables_laws.proofs.Kept.{after-IsConsistent, after-scale}
 use Rattle.readset.specs.Writes.{WriteSetView, added}
 use Rattle.readset.specs.Commit.{IsCommitOf}
 use Rattle.totals.specs.Totals.{SumsView, AreSums}

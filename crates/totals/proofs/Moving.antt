@@ -23,11 +23,11 @@ use Rattle.tables.proofs.Numbers.{warehouse_there, district_there, customer_ther
 use Rattle.tables.proofs.Orders.{exact_order}
 use Rattle.tables.proofs.Entries.{tied}
 use Rattle.tables.proofs.KeyTests.{is_order-key}
-use Rattle.laws.proofs.Touched.{self, district_named, customer_named}
-use Rattle.totals.specs.Totals.{SumsView, amount_at}
+use Rattle.tables_laws.proofs.Touched.{self, district_named, customer_named}
+use Rattle.totals.specs.Totals.{SumsView, amount_in}
 use Rattle.totals.specs.Worth.{Worth, year_to_date_of, line_count_in, line_in, line_of, one_in, is_bought, delivered_to}
 use Rattle.totals.specs.Moves.{worth_of, step, IsMoved, MovesSums, row_moves, no_history, no_record}
-use Rattle.totals.specs.Steps.{HasPlaces, moved_at, district_step, order_step, new_order_step, counted_step, FollowsLine, history_step, signed_in, one_of, delivered_in, buyer_of}
+use Rattle.totals.specs.Steps.{HasPlaces, moved_at, district_step, order_step, new_order_step, counted_step, FollowsLine, history_step, signed_in, one_of, delivered_in, line_buyer}
 
 -- ---- one amount
 zero_more : (a : ℤ) → a +ℤ pos 0 ≡ a
@@ -50,12 +50,12 @@ goes_on w a b c z y first then fits =
 -- the amount at one place, where that at another has moved
 moves_at : (w : Width) (xs : List ℤ) (place p : ℕ) (z y : ℤ) (here : Bool) → place < length xs → (here ≡ true → p ≡ place) → (here ≡ false → p ≢ place)
     → y ≡ cond here z (pos 0)
-    → IsMoved w (amount_at xs p) (amount_at (moved_at w xs place z) p) y
+    → IsMoved w (amount_in xs p) (amount_in (moved_at w xs place z) p) y
 moves_at w xs place p z y true inside same other is fits =
-    ap (λ q. slice_index_or (moved_at w xs place z) q (pos 0)) (same refl) ∙ get_or-set_same xs place (int_wrap w (amount_at xs place +ℤ z)) (pos 0) inside
-    ∙ ap (int_wrap w) (λ i. amount_at xs (sym (same refl) i) +ℤ sym is i)
+    ap (λ q. slice_index_or (moved_at w xs place z) q (pos 0)) (same refl) ∙ get_or-set_same xs place (int_wrap w (amount_in xs place +ℤ z)) (pos 0) inside
+    ∙ ap (int_wrap w) (λ i. amount_in xs (sym (same refl) i) +ℤ sym is i)
 moves_at w xs place p z y false inside same other is fits =
-    get_or-set_other xs place p (int_wrap w (amount_at xs place +ℤ z)) (pos 0) (other refl) ∙ stays w (amount_at xs p) y is fits
+    get_or-set_other xs place p (int_wrap w (amount_in xs place +ℤ z)) (pos 0) (other refl) ∙ stays w (amount_in xs p) y is fits
 
 -- ---- what a record is worth
 worth_none : (f : Worth) (k : RecordKey) → ((words : List ℕ) → f k words ≡ pos 0) → (v : Option (List ℕ)) → worth_of f k v ≡ pos 0
@@ -132,8 +132,8 @@ order_other s j k at_j at_k h e =
 module _ (order : OrderKey → Option (List ℕ)) (v : SumsView) (places : HasPlaces v) (old new : Option (List ℕ)) where
   by_district : (xs : List ℤ) → length xs ≡ v.scale.warehouses * v.scale.districts → (j k : DistrictKey) → IsDistrictKey v.scale j → IsDistrictKey v.scale k
       → (z y : ℤ) → y ≡ cond (is_district j.warehouse j.district k) z (pos 0)
-      → IsMoved w64 (amount_at xs (district_place v.scale k.warehouse k.district))
-      (amount_at (moved_at w64 xs (district_place v.scale j.warehouse j.district) z) (district_place v.scale k.warehouse k.district)) y
+      → IsMoved w64 (amount_in xs (district_place v.scale k.warehouse k.district))
+      (amount_in (moved_at w64 xs (district_place v.scale j.warehouse j.district) z) (district_place v.scale k.warehouse k.district)) y
   by_district xs size j k at_j at_k z y is =
       moves_at w64 xs (district_place v.scale j.warehouse j.district) (district_place v.scale k.warehouse k.district) z y (is_district j.warehouse j.district k)
       (subst (λ n. district_place v.scale j.warehouse j.district < n) (sym size) (district_there v.scale j at_j).0)
@@ -191,8 +191,8 @@ module _ (order : OrderKey → Option (List ℕ)) (v : SumsView) (places : HasPl
   delivered_moves : (j : LineKey) → IsLineKey v.scale j → (w : Option (List ℕ)) → order (order_of j) ≡ w
       → ((words : List ℕ) → w ≡ Some words → IsNumber v.scale.customers (slice_index words 0))
       → (k : CustomerKey) → IsCustomerKey v.scale k
-      → IsMoved w64 (amount_at v.delivered (customer_place v.scale k))
-      (amount_at (option_map_or (λ words. moved_at w64 v.delivered (customer_place v.scale (buyer_of j words)) (delivered_in new -ℤ delivered_in old)) w v.delivered)
+      → IsMoved w64 (amount_in v.delivered (customer_place v.scale k))
+      (amount_in (option_map_or (λ words. moved_at w64 v.delivered (customer_place v.scale (line_buyer j words)) (delivered_in new -ℤ delivered_in old)) w v.delivered)
       (customer_place v.scale k))
       (step (key.OrderLine j) old new (delivered_to order k))
   delivered_moves j at None ordered named k is = quiet w64 _ (delivered_to order k) (key.OrderLine j) old new
@@ -204,11 +204,11 @@ module _ (order : OrderKey → Option (List ℕ)) (v : SumsView) (places : HasPl
       and_false true = refl
       and_false false = refl
   delivered_moves j at (Some o) ordered named k is =
-      let buyer : IsCustomerKey v.scale (buyer_of j o) = (at.0, at.1, named o refl) in
-      moves_at w64 v.delivered (customer_place v.scale (buyer_of j o)) (customer_place v.scale k) (delivered_in new -ℤ delivered_in old) _
+      let buyer : IsCustomerKey v.scale (line_buyer j o) = (at.0, at.1, named o refl) in
+      moves_at w64 v.delivered (customer_place v.scale (line_buyer j o)) (customer_place v.scale k) (delivered_in new -ℤ delivered_in old) _
       (is_customer j.warehouse j.district (slice_index o 0) k)
-      (subst (λ n. customer_place v.scale (buyer_of j o) < n) (sym places.delivered) (customer_there v.scale (buyer_of j o) buyer).0)
-      (customer_same v.scale (buyer_of j o) k) (customer_other v.scale (buyer_of j o) k buyer is)
+      (subst (λ n. customer_place v.scale (line_buyer j o) < n) (sym places.delivered) (customer_there v.scale (line_buyer j o) buyer).0)
+      (customer_same v.scale (line_buyer j o) k) (customer_other v.scale (line_buyer j o) k buyer is)
       (tested (delivered_to order k) (key.OrderLine j) (is_customer j.warehouse j.district (slice_index o 0) k)
       (λ words. cond (nat_lt 0 (slice_index words 2)) (money_of (slice_index words 4)) (pos 0))
       (λ words. ap (λ w. cond (nat_lt 0 (slice_index words 2) && option_map_or (λ b. is_customer j.warehouse j.district (slice_index b 0) k) w false)
@@ -217,8 +217,8 @@ module _ (order : OrderKey → Option (List ℕ)) (v : SumsView) (places : HasPl
 
   -- a line is counted, and of these amounts is what is delivered of it
   counted_moves : (j : LineKey) → IsLineKey v.scale j → (delivered : List ℤ)
-      → ((k : CustomerKey) → IsCustomerKey v.scale k → IsMoved w64 (amount_at v.delivered (customer_place v.scale k))
-      (amount_at delivered (customer_place v.scale k)) (step (key.OrderLine j) old new (delivered_to order k)))
+      → ((k : CustomerKey) → IsCustomerKey v.scale k → IsMoved w64 (amount_in v.delivered (customer_place v.scale k))
+      (amount_in delivered (customer_place v.scale k)) (step (key.OrderLine j) old new (delivered_to order k)))
       → MovesSums v.scale order (step (key.OrderLine j) old new) no_history v (record (counted_step v j old new) { delivered = delivered })
   counted_moves j at delivered moves = record {
     year_to_date = λ w is. quiet w64 _ (year_to_date_of w) (key.OrderLine j) old new (λ words. refl);

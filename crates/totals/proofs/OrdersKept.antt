@@ -17,9 +17,9 @@ use Rattle.tables.specs.declared.rows.Order.{Order}
 use Rattle.tables.specs.declared.input.Input.{Input}
 use Rattle.tables.specs.declared.input.Input.TheVariants.{Payment, NewOrder, Delivery, OrderStatus, StockLevel}
 use Rattle.tables.proofs.Orders.{exact_order}
-use Rattle.laws.proofs.NewKey.{other_order}
-use Rattle.laws.proofs.Rows.{get-insert_other}
-use Rattle.laws.proofs.Updates.{get-map_rows}
+use Rattle.tables_laws.proofs.NewKey.{other_order}
+use Rattle.tables_laws.proofs.Rows.{get-insert_other}
+use Rattle.tables_laws.proofs.Updates.{get-map_rows}
 use Rattle.totals.specs.Written.{OrdersKeepCustomers, NewOrdersWait}
 
 pub orders_keep_customers : (t : Database) (x : Input) → IsInput t.scale x → IsWellFormed t → IsConsistent t → OrdersKeepCustomers t (after t x)

@@ -5,7 +5,7 @@ use Rattle.tables.specs.Records.{number_of_key, key_of, record_count, IsRecordKe
 use Rattle.tables.specs.declared.records.RecordKey.{RecordKey}
 use Rattle.tables.specs.declared.records.RecordKey.TheVariants as key
 use Rattle.tables.proofs.Numbers.{one_to_one, district_there, order_there, line_there}
-use Rattle.totals.specs.Counted.{counted_in, IsPast}
+use Rattle.totals.specs.Counted.{counted_in, IsOfAnotherTable}
 use Rattle.totals.proofs.Moving.{IsOther}
 
 -- a number of a counted table isn't past
@@ -20,11 +20,11 @@ not_past a b c d n (inr h) e f g (inr (inr p)) = omega (arith, h.1, p)
 
 module _ (s : Sizes) (n : ℕ) where
   counted : ((counted_in s).first_district ≤ n) × (n < (counted_in s).end_districts) ⊎ (((counted_in s).first_new_order ≤ n) × (n < (counted_in s).end_lines))
-      → IsPast (counted_in s) n → ⊥
+      → IsOfAnotherTable (counted_in s) n → ⊥
   counted among past = not_past (counted_in s).first_district (counted_in s).end_districts (counted_in s).first_new_order (counted_in s).end_lines n among
       (omega arith) (omega arith) (omega arith) past
 
-  of_kind : IsPast (counted_in s) n → (k : RecordKey) → IsRecordKey s k → number_of_key s k ≡ n → IsOther k
+  of_kind : IsOfAnotherTable (counted_in s) n → (k : RecordKey) → IsRecordKey s k → number_of_key s k ≡ n → IsOther k
   of_kind past (key.Warehouse w) is same = λ order words. ((λ w. refl), (λ w. refl), (λ w. refl), (λ w. refl), (λ w. refl), (λ w. refl))
   of_kind past (key.District k) is same = let h = (district_there s k is).0 in
       absurd (counted (inl (omega (arith, same), omega (arith, same, h))) past)
@@ -39,5 +39,5 @@ module _ (s : Sizes) (n : ℕ) where
   of_kind past (key.Oldest k) is same = λ order words. ((λ w. refl), (λ w. refl), (λ w. refl), (λ w. refl), (λ w. refl), (λ w. refl))
   of_kind past (key.Last k) is same = λ order words. ((λ w. refl), (λ w. refl), (λ w. refl), (λ w. refl), (λ w. refl), (λ w. refl))
 
-  pub other_there : n < record_count s → IsPast (counted_in s) n → IsOther (key_of s n)
+  pub other_there : n < record_count s → IsOfAnotherTable (counted_in s) n → IsOther (key_of s n)
   other_there below past = let back = (one_to_one s).1 n below in of_kind past (key_of s n) back.0 back.1

@@ -17,5 +17,5 @@ counted_in s = record {
 }
 
 -- a record of another table
-abbrev pub IsPast : Counted → ℕ → Type 0
-IsPast c n = (n < c.first_district) ⊎ (((c.end_districts ≤ n) × (n < c.first_new_order)) ⊎ (c.end_lines ≤ n))
+abbrev pub IsOfAnotherTable : Counted → ℕ → Type 0
+IsOfAnotherTable c n = (n < c.first_district) ⊎ (((c.end_districts ≤ n) × (n < c.first_new_order)) ⊎ (c.end_lines ≤ n))

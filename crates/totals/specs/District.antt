@@ -7,15 +7,15 @@ use Rattle.tables.specs.Records.{district_place}
 use Rattle.tables.specs.Conditions.{line_counts, paid_at_district}
 use Rattle.tables.specs.Database.{Database}
 use Rattle.tables.specs.declared.keys.DistrictKey.{DistrictKey}
-use Rattle.totals.specs.Totals.{TotalsView, amount_at}
+use Rattle.totals.specs.Totals.{TotalsView, amount_in}
 use Rattle.totals.specs.declared.district.DistrictTotals.{DistrictTotals}
 
 -- they are those of its place
 pub record AreOfDistrict (v : TotalsView) (k : DistrictKey) (r : DistrictTotals) : Type 0 where
-  pub paid : r.paid ≡ amount_at v.sums.paid_at_district (district_place v.sums.scale k.warehouse k.district)
-  pub line_counts : r.line_counts ≡ amount_at v.sums.line_counts (district_place v.sums.scale k.warehouse k.district)
-  pub lines : r.lines ≡ amount_at v.sums.district_lines (district_place v.sums.scale k.warehouse k.district)
-  pub waiting : r.waiting ≡ amount_at v.sums.waiting (district_place v.sums.scale k.warehouse k.district)
+  pub paid : r.paid ≡ amount_in v.sums.paid_at_district (district_place v.sums.scale k.warehouse k.district)
+  pub line_counts : r.line_counts ≡ amount_in v.sums.line_counts (district_place v.sums.scale k.warehouse k.district)
+  pub lines : r.lines ≡ amount_in v.sums.district_lines (district_place v.sums.scale k.warehouse k.district)
+  pub waiting : r.waiting ≡ amount_in v.sums.waiting (district_place v.sums.scale k.warehouse k.district)
   pub greatest_order : r.greatest_order
       ≡ slice_index v.bounds.greatest_order (district_place v.bounds.scale k.warehouse k.district)
   pub least_waiting : r.least_waiting

@@ -14,8 +14,8 @@ use Rattle.tables.specs.declared.rows.History.{History}
 use Rattle.tables.specs.declared.records.RecordKey.{RecordKey}
 use Rattle.tables.specs.declared.records.RecordKey.TheVariants as key
 use Rattle.readset.specs.Writes.{WriteSetView}
-pub use Rattle.bounds.specs.Written.{held_in}
-use Rattle.totals.specs.Totals.{SumsView, amount_at}
+pub use Rattle.totals_bounds.specs.Written.{held_in}
+use Rattle.totals.specs.Totals.{SumsView, amount_in}
 use Rattle.totals.specs.Worth.{Worth, year_to_date_of, line_count_in, line_in, line_of, one_in, delivered_to}
 
 -- what a record is worth, and nothing where it is absent
@@ -60,31 +60,31 @@ IsMoved w before after z = FitsSigned w before → after ≡ int_wrap w (before 
 -- each sum of a scale has moved by what records and HISTORY are worth to it, where orders have these words
 pub record MovesSums (s : Sizes) (order : OrderKey → Option (List ℕ)) (records : Worth → ℤ) (history : (History → ℤ) → ℤ)
     (v v' : SumsView) : Type 0 where
-  pub year_to_date : (w : ℕ) → IsWarehouseKey s w → IsMoved w64 (amount_at v.year_to_date (w - 1))
-      (amount_at v'.year_to_date (w - 1)) (records (year_to_date_of w))
-  pub paid_at_warehouse : (w : ℕ) → IsWarehouseKey s w → IsMoved w64 (amount_at v.paid_at_warehouse (w - 1))
-      (amount_at v'.paid_at_warehouse (w - 1)) (history (amount_at_warehouse w))
+  pub year_to_date : (w : ℕ) → IsWarehouseKey s w → IsMoved w64 (amount_in v.year_to_date (w - 1))
+      (amount_in v'.year_to_date (w - 1)) (records (year_to_date_of w))
+  pub paid_at_warehouse : (w : ℕ) → IsWarehouseKey s w → IsMoved w64 (amount_in v.paid_at_warehouse (w - 1))
+      (amount_in v'.paid_at_warehouse (w - 1)) (history (amount_at_warehouse w))
   pub paid_at_district : (k : DistrictKey) → IsDistrictKey s k
-      → IsMoved w64 (amount_at v.paid_at_district (district_place s k.warehouse k.district))
-      (amount_at v'.paid_at_district (district_place s k.warehouse k.district)) (history (amount_at_district k))
+      → IsMoved w64 (amount_in v.paid_at_district (district_place s k.warehouse k.district))
+      (amount_in v'.paid_at_district (district_place s k.warehouse k.district)) (history (amount_at_district k))
   pub paid_by_customer : (k : CustomerKey) → IsCustomerKey s k
-      → IsMoved w64 (amount_at v.paid_by_customer (customer_place s k))
-      (amount_at v'.paid_by_customer (customer_place s k)) (history (amount_by_customer k))
+      → IsMoved w64 (amount_in v.paid_by_customer (customer_place s k))
+      (amount_in v'.paid_by_customer (customer_place s k)) (history (amount_by_customer k))
   pub delivered : (k : CustomerKey) → IsCustomerKey s k
-      → IsMoved w64 (amount_at v.delivered (customer_place s k))
-      (amount_at v'.delivered (customer_place s k)) (records (delivered_to order k))
+      → IsMoved w64 (amount_in v.delivered (customer_place s k))
+      (amount_in v'.delivered (customer_place s k)) (records (delivered_to order k))
   pub line_counts : (k : DistrictKey) → IsDistrictKey s k
-      → IsMoved w64 (amount_at v.line_counts (district_place s k.warehouse k.district))
-      (amount_at v'.line_counts (district_place s k.warehouse k.district)) (records (line_count_in k))
+      → IsMoved w64 (amount_in v.line_counts (district_place s k.warehouse k.district))
+      (amount_in v'.line_counts (district_place s k.warehouse k.district)) (records (line_count_in k))
   pub district_lines : (k : DistrictKey) → IsDistrictKey s k
-      → IsMoved w64 (amount_at v.district_lines (district_place s k.warehouse k.district))
-      (amount_at v'.district_lines (district_place s k.warehouse k.district)) (records (line_in k))
+      → IsMoved w64 (amount_in v.district_lines (district_place s k.warehouse k.district))
+      (amount_in v'.district_lines (district_place s k.warehouse k.district)) (records (line_in k))
   pub order_lines : (k : OrderKey) → IsOrderKey s k
-      → IsMoved w8 (amount_at v.order_lines (order_place s k))
-      (amount_at v'.order_lines (order_place s k)) (records (line_of k))
+      → IsMoved w8 (amount_in v.order_lines (order_place s k))
+      (amount_in v'.order_lines (order_place s k)) (records (line_of k))
   pub waiting : (k : DistrictKey) → IsDistrictKey s k
-      → IsMoved w64 (amount_at v.waiting (district_place s k.warehouse k.district))
-      (amount_at v'.waiting (district_place s k.warehouse k.district)) (records (one_in k))
+      → IsMoved w64 (amount_in v.waiting (district_place s k.warehouse k.district))
+      (amount_in v'.waiting (district_place s k.warehouse k.district)) (records (one_in k))
 
 -- the words of an order before a commit, where the records hold these: it is as yet nobody's where it isn't there
 abbrev pub order_before : Sizes → (ℕ → Option (List ℕ)) → OrderKey → Option (List ℕ)

@@ -12,7 +12,7 @@ use Rattle.tables.specs.declared.keys.CustomerKey.{CustomerKey}
 use Rattle.tables.specs.declared.keys.OrderKey.{OrderKey}
 use Rattle.tables.specs.declared.keys.LineKey.{LineKey}
 use Rattle.tables.specs.declared.rows.History.{History}
-use Rattle.totals.specs.Totals.{SumsView, amount_at}
+use Rattle.totals.specs.Totals.{SumsView, amount_in}
 
 -- there is a place for each key of the scale
 pub record HasPlaces (v : SumsView) : Type 0 where
@@ -28,7 +28,7 @@ pub record HasPlaces (v : SumsView) : Type 0 where
 
 -- the amount at a place moved by z, in so many bits
 abbrev pub moved_at : Width → List ℤ → ℕ → ℤ → List ℤ
-moved_at w amounts place z = slice_set amounts place (int_wrap w (amount_at amounts place +ℤ z))
+moved_at w amounts place z = slice_set amounts place (int_wrap w (amount_in amounts place +ℤ z))
 
 -- a word of a record as a number with a sign, and 0 where the record is absent
 abbrev pub signed_in : ℕ → Option (List ℕ) → ℤ
@@ -44,8 +44,8 @@ delivered_in value =
     option_map_or (λ words. cond (nat_lt 0 (slice_index words 2)) (money_of (slice_index words 4)) (pos 0)) value (pos 0)
 
 -- the customer of a line, by the words of its order
-abbrev pub buyer_of : LineKey → List ℕ → CustomerKey
-buyer_of k words = record { warehouse = k.warehouse; district = k.district; customer = slice_index words 0 }
+abbrev pub line_buyer : LineKey → List ℕ → CustomerKey
+line_buyer k words = record { warehouse = k.warehouse; district = k.district; customer = slice_index words 0 }
 
 -- the sums after one record came to hold other words
 abbrev pub district_step : SumsView → DistrictKey → Option (List ℕ) → Option (List ℕ) → SumsView
@@ -102,7 +102,7 @@ counted_step v k old new = record v {
 -- and what is delivered of it goes to the customer of its order
 abbrev pub line_step : SumsView → Option (List ℕ) → LineKey → Option (List ℕ) → Option (List ℕ) → SumsView
 line_step v order k old new = record (counted_step v k old new) {
-  delivered = option_map_or (λ words. moved_at w64 v.delivered (customer_place v.scale (buyer_of k words))
+  delivered = option_map_or (λ words. moved_at w64 v.delivered (customer_place v.scale (line_buyer k words))
       (delivered_in new -ℤ delivered_in old)) order v.delivered;
 }
 
@@ -112,8 +112,8 @@ FollowsLine v v' order k old new = (v' ≡ line_step v order k old new)
     ⊎ ((v' ≡ counted_step v k old new) × (delivered_in old ≡ delivered_in new))
 
 -- and after a HISTORY row
-abbrev pub payer : History → CustomerKey
-payer h = record { warehouse = h.customer_warehouse; district = h.customer_district; customer = h.customer }
+abbrev pub history_payer : History → CustomerKey
+history_payer h = record { warehouse = h.customer_warehouse; district = h.customer_district; customer = h.customer }
 
 abbrev pub warehouse_paid_step : SumsView → History → SumsView
 warehouse_paid_step v h = record v {
@@ -128,7 +128,7 @@ district_paid_step v h = record v {
 
 abbrev pub customer_paid_step : SumsView → History → SumsView
 customer_paid_step v h = record v {
-  paid_by_customer = moved_at w64 v.paid_by_customer (customer_place v.scale (payer h)) (h.amount -ℤ pos 0);
+  paid_by_customer = moved_at w64 v.paid_by_customer (customer_place v.scale (history_payer h)) (h.amount -ℤ pos 0);
 }
 
 abbrev pub history_step : SumsView → History → SumsView

@@ -11,7 +11,7 @@ use Rattle.tables.specs.Conditions.{paid_by_customer}
 use Rattle.tables.specs.declared.keys.DistrictKey.{DistrictKey}
 use Rattle.tables.specs.declared.keys.CustomerKey.{CustomerKey}
 use Rattle.tables.specs.declared.keys.OrderKey.{OrderKey}
-use Rattle.bounds.specs.Bounds.{BoundsView, AreBounds}
+use Rattle.totals_bounds.specs.Bounds.{BoundsView, AreBounds}
 
 -- the totals that are sums and counts, each a list by place of its key, and the scale that says which places there
 -- are: by warehouse, by district, by customer, by order
@@ -33,36 +33,36 @@ pub record TotalsView : Type 0 where
   pub bounds : BoundsView
 
 -- the amount at a place
-abbrev pub amount_at : List ℤ → ℕ → ℤ
-amount_at amounts place = slice_index_or amounts place (pos 0)
+abbrev pub amount_in : List ℤ → ℕ → ℤ
+amount_in amounts place = slice_index_or amounts place (pos 0)
 
 -- each of those sums is what its conditions speak of
 pub record AreSums (s : Sizes) (t : Database) (v : SumsView) : Type 0 where
   -- 3.3.2.1: D_YTD by warehouse
-  pub year_to_date : (w : ℕ) → IsWarehouseKey s w → amount_at v.year_to_date (w - 1)
+  pub year_to_date : (w : ℕ) → IsWarehouseKey s w → amount_in v.year_to_date (w - 1)
       ≡ sum_where (λ k r. k.warehouse == w) (λ r. r.year_to_date) t.districts
   -- 3.3.2.8, 3.3.2.9, 3.3.2.10: H_AMOUNT by warehouse, by district and by customer
   pub paid_at_warehouse : (w : ℕ) → IsWarehouseKey s w
-      → amount_at v.paid_at_warehouse (w - 1) ≡ paid_at_warehouse t w
+      → amount_in v.paid_at_warehouse (w - 1) ≡ paid_at_warehouse t w
   pub paid_at_district : (k : DistrictKey) → IsDistrictKey s k
-      → amount_at v.paid_at_district (district_place s k.warehouse k.district) ≡ paid_at_district t k
+      → amount_in v.paid_at_district (district_place s k.warehouse k.district) ≡ paid_at_district t k
   pub paid_by_customer : (k : CustomerKey) → IsCustomerKey s k
-      → amount_at v.paid_by_customer (customer_place s k) ≡ paid_by_customer t k
+      → amount_in v.paid_by_customer (customer_place s k) ≡ paid_by_customer t k
   -- 3.3.2.10, 3.3.2.12: OL_AMOUNT of delivered lines by customer
   pub delivered : (k : CustomerKey) → IsCustomerKey s k
-      → amount_at v.delivered (customer_place s k) ≡ delivered_amount t k
+      → amount_in v.delivered (customer_place s k) ≡ delivered_amount t k
   -- 3.3.2.4: O_OL_CNT and the number of lines, by district
   pub line_counts : (k : DistrictKey) → IsDistrictKey s k
-      → amount_at v.line_counts (district_place s k.warehouse k.district) ≡ line_counts t k
+      → amount_in v.line_counts (district_place s k.warehouse k.district) ≡ line_counts t k
   pub district_lines : (k : DistrictKey) → IsDistrictKey s k
-      → amount_at v.district_lines (district_place s k.warehouse k.district)
+      → amount_in v.district_lines (district_place s k.warehouse k.district)
       ≡ count (λ j line. is_district j.warehouse j.district k) t.lines
   -- 3.3.2.6: the number of lines by order
-  pub order_lines : (k : OrderKey) → IsOrderKey s k → amount_at v.order_lines (order_place s k)
+  pub order_lines : (k : OrderKey) → IsOrderKey s k → amount_in v.order_lines (order_place s k)
       ≡ count (λ j line. is_order j.warehouse j.district j.order k) t.lines
   -- 3.3.2.3: the number of NEW-ORDER rows by district
   pub waiting : (k : DistrictKey) → IsDistrictKey s k
-      → amount_at v.waiting (district_place s k.warehouse k.district)
+      → amount_in v.waiting (district_place s k.warehouse k.district)
       ≡ pos (length (numbers_in k t.new_orders))
 
 -- each total is its number over the tables

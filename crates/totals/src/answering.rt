@@ -3,7 +3,7 @@
 ghost use Rattle.std.specs.Prelude.{◌≡◌, ◌-◌};
 ghost use Rattle.tables.specs.Keys.{IsWarehouseKey, IsDistrictKey, IsCustomerKey, IsOrderKey};
 ghost use Rattle.tables.specs.Records.{district_place, customer_place, order_place};
-ghost use Rattle.totals.specs.Totals.{amount_at};
+ghost use Rattle.totals.specs.Totals.{amount_in};
 
 use crate::places::{place_of_customer, place_of_district, place_of_order};
 use crate::running::RunningSums;
@@ -20,7 +20,7 @@ impl RunningSums {
     /// The sum of a warehouse's D_YTD.
     pub fn year_to_date(&self, warehouse: u32) -> i64
         requires { IsWarehouseKey self.now.scale warehouse }
-        ensures { result ≡ amount_at self.now.year_to_date (warehouse - 1) }
+        ensures { result ≡ amount_in self.now.year_to_date (warehouse - 1) }
     {
         let place = warehouse - 1;
         self.year_to_date[place as usize]
@@ -29,7 +29,7 @@ impl RunningSums {
     /// The sum of H_AMOUNT by H_W_ID.
     pub fn paid_at_warehouse(&self, warehouse: u32) -> i64
         requires { IsWarehouseKey self.now.scale warehouse }
-        ensures { result ≡ amount_at self.now.paid_at_warehouse (warehouse - 1) }
+        ensures { result ≡ amount_in self.now.paid_at_warehouse (warehouse - 1) }
     {
         let place = warehouse - 1;
         self.paid_at_warehouse[place as usize]
@@ -38,7 +38,7 @@ impl RunningSums {
     /// The sum of H_AMOUNT by H_W_ID and H_D_ID.
     pub fn paid_at_district(&self, key: DistrictKey) -> i64
         requires { IsDistrictKey self.now.scale key }
-        ensures { result ≡ amount_at self.now.paid_at_district
+        ensures { result ≡ amount_in self.now.paid_at_district
             (district_place self.now.scale key.warehouse key.district) }
     {
         let place = place_of_district(&self.scale, key);
@@ -48,7 +48,7 @@ impl RunningSums {
     /// The sum of O_OL_CNT over a district's orders.
     pub fn line_counts(&self, key: DistrictKey) -> i64
         requires { IsDistrictKey self.now.scale key }
-        ensures { result ≡ amount_at self.now.line_counts (district_place self.now.scale key.warehouse key.district) }
+        ensures { result ≡ amount_in self.now.line_counts (district_place self.now.scale key.warehouse key.district) }
     {
         let place = place_of_district(&self.scale, key);
         self.line_counts[place as usize]
@@ -57,7 +57,7 @@ impl RunningSums {
     /// The number of a district's ORDER-LINE rows.
     pub fn district_lines(&self, key: DistrictKey) -> i64
         requires { IsDistrictKey self.now.scale key }
-        ensures { result ≡ amount_at self.now.district_lines
+        ensures { result ≡ amount_in self.now.district_lines
             (district_place self.now.scale key.warehouse key.district) }
     {
         let place = place_of_district(&self.scale, key);
@@ -67,7 +67,7 @@ impl RunningSums {
     /// The number of a district's NEW-ORDER rows.
     pub fn waiting(&self, key: DistrictKey) -> i64
         requires { IsDistrictKey self.now.scale key }
-        ensures { result ≡ amount_at self.now.waiting (district_place self.now.scale key.warehouse key.district) }
+        ensures { result ≡ amount_in self.now.waiting (district_place self.now.scale key.warehouse key.district) }
     {
         let place = place_of_district(&self.scale, key);
         self.waiting[place as usize]
@@ -76,7 +76,7 @@ impl RunningSums {
     /// The sum of H_AMOUNT by H_C_W_ID, H_C_D_ID and H_C_ID.
     pub fn paid_by_customer(&self, key: CustomerKey) -> i64
         requires { IsCustomerKey self.now.scale key }
-        ensures { result ≡ amount_at self.now.paid_by_customer (customer_place self.now.scale key) }
+        ensures { result ≡ amount_in self.now.paid_by_customer (customer_place self.now.scale key) }
     {
         let place = place_of_customer(&self.scale, key);
         self.paid_by_customer[place as usize]
@@ -85,7 +85,7 @@ impl RunningSums {
     /// The sum of OL_AMOUNT over a customer's delivered lines.
     pub fn delivered(&self, key: CustomerKey) -> i64
         requires { IsCustomerKey self.now.scale key }
-        ensures { result ≡ amount_at self.now.delivered (customer_place self.now.scale key) }
+        ensures { result ≡ amount_in self.now.delivered (customer_place self.now.scale key) }
     {
         let place = place_of_customer(&self.scale, key);
         self.delivered[place as usize]
@@ -94,7 +94,7 @@ impl RunningSums {
     /// The number of an order's ORDER-LINE rows.
     pub fn order_lines(&self, key: OrderKey) -> i64
         requires { IsOrderKey self.now.scale key }
-        ensures { result ≡ amount_at self.now.order_lines (order_place self.now.scale key) }
+        ensures { result ≡ amount_in self.now.order_lines (order_place self.now.scale key) }
     {
         let place = place_of_order(&self.scale, key);
         i64::from(self.order_lines[place as usize])

@@ -5,7 +5,7 @@ ghost use Rattle.tables.specs.Sizes.{IsNumber};
 ghost use Rattle.tables.specs.Keys.{IsDistrictKey, IsCustomerKey, IsOrderKey};
 ghost use Rattle.tables.specs.Records.{size, district_place, customer_place, order_place};
 ghost use Rattle.tables.specs.declared.records.Table.TheVariants as table;
-ghost use Rattle.totals.specs.Counted.{counted_in, IsPast};
+ghost use Rattle.totals.specs.Counted.{counted_in, IsOfAnotherTable};
 
 use tables::{CustomerKey, DistrictKey, OrderKey, Scale, Table};
 
@@ -119,7 +119,7 @@ pub fn counted_records(scale: &Scale) -> Counted
 
 /// Whether a record isn't among them.
 pub fn is_past(counted: &Counted, number: u32) -> bool
-    ensures past { IsTrue result → IsPast counted.now number }
+    ensures past { IsTrue result → IsOfAnotherTable counted.now number }
     ensures first { IsFalse result → counted.now.first_district ≤ number }
     ensures between { IsFalse result → counted.now.end_districts ≤ number → counted.now.first_new_order ≤ number }
     ensures end { IsFalse result → number < counted.now.end_lines }

@@ -9,20 +9,20 @@ ghost use Rattle.tables.specs.WellFormed.{IsHistoryRow};
 ghost use Rattle.tables.specs.Database.{Database};
 ghost use Rattle.tables.specs.declared.input.Input.{Input as InputOf};
 ghost use Rattle.tables.specs.declared.reply.Reply.{Reply as ReplyOf};
-ghost use Rattle.bounds.specs.Bounds.{AreBounds};
-ghost use Rattle.bounds.specs.Written.{HasOrdersWithin, IsWith};
+ghost use Rattle.totals_bounds.specs.Bounds.{AreBounds};
+ghost use Rattle.totals_bounds.specs.Written.{HasOrdersWithin, IsWith};
 ghost use Rattle.totals.specs.Totals.{AreSums, AreTotals};
 ghost use Rattle.totals.specs.Moves.{HasBuyers, held_in};
 ghost use Rattle.totals.specs.Counts.{AreHeld, AreRecords, MayFollow};
 
 use crate::follows::{sums_begin_with_tables, sums_follow_commits};
 use crate::running::RunningSums;
-use bounds::OrderBounds;
 use cells::Newest;
 use readset::WriteList;
 use std::alloc::{AllocError, Global};
 use std::marker::Model;
 use tables::{History, Scale};
+use totals_bounds::OrderBounds;
 
 /// The totals over a database's tables that its consistency conditions speak of (TPC-C 3.3.2): its sums and counts, and
 /// the least and greatest order numbers of its districts.

@@ -3,7 +3,7 @@ ghost use Rattle.std.specs.Prelude.{◌≡◌, max, [], ◌∷◌, ◌++◌, Mat
 ghost use Rattle.money.specs.declared.refusal.Refusal.TheVariants.{OutOfMemory};
 ghost use Rattle.commit.specs.declared.worker.Phase.TheVariants.{Begun, Entered};
 ghost use Rattle.commit.specs.Machine.{without};
-ghost use Rattle.commit.specs.Events.{greatest_read, still_holds, checked, chosen, finished_by};
+ghost use Rattle.commit.specs.Events.{greatest_read, still_holds, checked, after_choice, finished_by};
 
 use crate::notes::{forget, held};
 use crate::tid::Tid;
@@ -92,7 +92,7 @@ impl Worker {
 
     /// It has taken this TID, or failed where there is none.
     pub(crate) fn choose(&mut self, tid: Option<Tid>)
-        ensures { self.new ≡ chosen self.old tid }
+        ensures { self.new ≡ after_choice self.old tid }
     {
         match tid {
             Some(tid) => {

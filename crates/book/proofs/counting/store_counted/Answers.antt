@@ -1,7 +1,7 @@
 use Rattle.std.proofs.Common.{◌≡◌, sym, ap, ◌∙◌, subst}
 use Rattle.tables.specs.Apply.{after}
-use Rattle.laws.proofs.Kept.{after-scale}
-use Rattle.bounds.specs.Bounds.{BoundsView, AreBounds}
+use Rattle.tables_laws.proofs.Kept.{after-scale}
+use Rattle.totals_bounds.specs.Bounds.{BoundsView, AreBounds}
 use Rattle.totals.specs.Totals.{SumsView, AreSums}
 use Rattle.book.proofs.TotalsKept.{totals_after, within}
 use Rattle.book.proofs.counting.store_counted.Goals as goal

@@ -1,8 +1,8 @@
 use Rattle.std.proofs.Common.{set, sym, ap, ◌∙◌, arith}
 use Rattle.std.proofs.lemmas.List.Edits.{map_over_more}
-use Rattle.pages.specs.declared.rule.View.{View}
+use Rattle.cells_pages.specs.declared.rule.View.{View}
 use Rattle.cells.specs.Records.{ReaderView}
-use Rattle.pages.specs.Plays.{starting}
+use Rattle.cells_pages.specs.Plays.{starting}
 use Rattle.cells.specs.Pages.{ids_of, sights_and}
 use Rattle.cells.specs.Opening.{sights_with}
 use Rattle.cells.proofs.Told.{sights_started}

@@ -3,8 +3,8 @@ use Rattle.std.proofs.lemmas.List.{map_more}
 use Rattle.cells.specs.declared.cells.Newest.{Newest}
 use Rattle.cells.specs.Records.{newest_words}
 use Rattle.cells.specs.First.{firsts}
-use Rattle.pages.specs.Rule.{cut}
-use Rattle.pages.proofs.Starting.{cut_push}
+use Rattle.cells_pages.specs.Rule.{versions_from}
+use Rattle.cells_pages.proofs.Starting.{cut_push}
 use Rattle.cells.proofs.populate.lay.Goals as goal
 
 pub loop-newest-preserved : goal.loop-newest-preserved
@@ -20,7 +20,7 @@ loop-newest-preserved c =
     record {
       wide = ap length items ∙ (let sum : length (laid ++ c.words.result) ≡ (i + 1) * 8 = omega arith in sum);
       versions =
-          ap (cut 8 (i + 1)) items ∙ ap (λ k. cut 8 k (laid ++ c.words.result)) (add-one i)
+          ap (versions_from 8 (i + 1)) items ∙ ap (λ k. versions_from 8 k (laid ++ c.words.result)) (add-one i)
           ∙ cut_push 8 i laid c.words.result was.wide wide
           ∙ (λ h. was.versions h ++ (newest h ∷ []) ∷ [])
           ∙ ap (λ (v : Newest). firsts (take i c.args.block.now) ++ (newest_words v ∷ []) ∷ []) c.newest-item.is

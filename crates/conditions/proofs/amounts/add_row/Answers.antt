@@ -1,5 +1,5 @@
 use Rattle.std.proofs.Common.{arith}
-use Rattle.walks.proofs.Added.{within_weaker}
+use Rattle.conditions_walks.proofs.Added.{within_weaker}
 use Rattle.conditions.proofs.amounts.add_row.Goals as goal
 
 pub returns-in_default-clause-within : goal.returns-in_default-clause-within

@@ -1,8 +1,8 @@
 use Rattle.std.proofs.Common.{◌∙◌, ap, refl, arith}
 use Rattle.std.proofs.lemmas.Result.{IfOk-weaker}
 use Rattle.tables.specs.declared.rows.History.{History}
-use Rattle.walks.specs.Amounts.{share}
-use Rattle.walks.proofs.Added.{within_weaker}
+use Rattle.conditions_walks.specs.Amounts.{share}
+use Rattle.conditions_walks.proofs.Added.{within_weaker}
 use Rattle.conditions.proofs.SumSteps.{sum_of_more, sum_of_all}
 use Rattle.conditions.proofs.amounts.history_by.Goals as goal
 

@@ -1,8 +1,8 @@
 use Rattle.std.proofs.Common.{◌≡◌, take}
 use Rattle.tables.specs.Maps.{sum_of}
 use Rattle.tables.specs.declared.rows.History.{History}
-use Rattle.walks.specs.Amounts.{share}
-use Rattle.walks.specs.Running.{running_at, IsWithin}
+use Rattle.conditions_walks.specs.Amounts.{share}
+use Rattle.conditions_walks.specs.Running.{running_at, IsWithin}
 use Rattle.conditions.proofs.amounts.history_by.Given as goal
 
 abbrev pub invariant-loop-row : goal.invariant-loop-row

@@ -1,9 +1,9 @@
 use Rattle.std.proofs.Common.{◌≡◌, ◌+◌, ◌-◌, ◌∙◌, ap, length, refl, subst, arith}
 use Rattle.std.proofs.lemmas.Result.{IfOk-weaker}
 use Rattle.std.specs.BTreeMap.{btree_map_len}
-use Rattle.walks.specs.Amounts.{share}
-use Rattle.walks.specs.Running.{IsWithin}
-use Rattle.walks.proofs.Added.{within_weaker}
+use Rattle.conditions_walks.specs.Amounts.{share}
+use Rattle.conditions_walks.specs.Running.{IsWithin}
+use Rattle.conditions_walks.proofs.Added.{within_weaker}
 use Rattle.conditions.proofs.SumSteps.{sum_entries_none, sum_entries_more, sum_entries_all, none_passed}
 use Rattle.conditions.proofs.amounts.sums_by.Goals as goal
 

@@ -1,8 +1,8 @@
 use Rattle.std.proofs.Common.{◌≡◌, ◌-◌, ◌≤◌, ◌+ℤ◌, length}
 use Rattle.std.specs.BTreeMap.{btree_map_len}
 use Rattle.tables.specs.Maps.{sum_entries}
-use Rattle.walks.specs.Amounts.{share}
-use Rattle.walks.specs.Running.{running_at, IsWithin}
+use Rattle.conditions_walks.specs.Amounts.{share}
+use Rattle.conditions_walks.specs.Running.{running_at, IsWithin}
 use Rattle.conditions.proofs.amounts.sums_by.Given as goal
 
 abbrev pub invariant-loop-key : goal.invariant-loop-key

@@ -3,7 +3,7 @@ use Rattle.std.proofs.lemmas.Int.{ints}
 use Rattle.tables.specs.Keys.{customer_cmp}
 use Rattle.tables.specs.Database.{database}
 use Rattle.tables.specs.Conditions.{delivered_amount, paid_by_customer}
-use Rattle.walks.specs.Amounts.{amount_at}
+use Rattle.conditions_walks.specs.Amounts.{amount_at}
 use Rattle.conditions.proofs.Told.{walked_amount}
 use Rattle.conditions.proofs.customer_conditions.owed.Goals as goal
 

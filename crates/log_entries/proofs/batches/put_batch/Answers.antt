@@ -1,5 +1,5 @@
 use Rattle.std.proofs.Common.{◌≡◌, [], ◌∷◌, ◌++◌, refl, ◌∙◌, append_assoc}
-use Rattle.codec.specs.Numbers.{number}
+use Rattle.log_codec.specs.Numbers.{number}
 use Rattle.log_text.specs.Bodies.{body_text}
 use Rattle.log_entries.specs.Following.{body_of_batch}
 use Rattle.log_entries.proofs.batches.put_batch.Goals as goal

@@ -8,7 +8,7 @@ use Rattle.log_text.specs.Entries.{entry_text}
 use Rattle.log_text.specs.declared.last.Last.{Last}
 use Rattle.book.specs.Streams.{last_number}
 use Rattle.book.specs.declared.entry.Entry.{Entry}
-use Rattle.log_entries.specs.Logged.{entry_of}
+use Rattle.log_entries.specs.Logged.{logged_entry}
 use Rattle.log_entries.specs.Following.{last_epoch_of}
 use Rattle.log_entries.proofs.Following.{loggable_at}
 use Rattle.log_entries.proofs.batches.put_entries.Goals as goal
@@ -35,12 +35,12 @@ loop-entry-preserved c =
     let whole = c.loop-entry.invariant in
     let cut : drop i xs ≡ c.entry-item.result ∷ drop (i + 1) xs = split xs i c.entry-item.result c.loop-entry-test.true c.entry-item.is in
     let left : List Entry = map arc_value (drop (i + 1) xs) in
-    let rest : List ℕ = flat_map entry_text (map (entry_of c.args.scale.now) left) in
-    let text : c.put_entry.new.out.items ≡ c.loop-entry.out.items ++ entry_text (entry_of c.args.scale.now (arc_value c.entry-item.result))
-    = c.in_ok-put_entry.ensures ∙ ap (λ (e : Entry). c.loop-entry.out.items ++ entry_text (entry_of c.args.scale.now e)) c.deref.ensures in (
+    let rest : List ℕ = flat_map entry_text (map (logged_entry c.args.scale.now) left) in
+    let text : c.put_entry.new.out.items ≡ c.loop-entry.out.items ++ entry_text (logged_entry c.args.scale.now (arc_value c.entry-item.result))
+    = c.in_ok-put_entry.ensures ∙ ap (λ (e : Entry). c.loop-entry.out.items ++ entry_text (logged_entry c.args.scale.now e)) c.deref.ensures in (
       ap (λ (l : List ℕ). l ++ rest) text
-          ∙ append_assoc c.loop-entry.out.items (entry_text (entry_of c.args.scale.now (arc_value c.entry-item.result))) rest
-          ∙ ap (λ (l : List (Arc Entry Global)). c.loop-entry.out.items ++ flat_map entry_text (map (entry_of c.args.scale.now) (map arc_value l))) (sym cut)
+          ∙ append_assoc c.loop-entry.out.items (entry_text (logged_entry c.args.scale.now (arc_value c.entry-item.result))) rest
+          ∙ ap (λ (l : List (Arc Entry Global)). c.loop-entry.out.items ++ flat_map entry_text (map (logged_entry c.args.scale.now) (map arc_value l))) (sym cut)
           ∙ whole.0,
       whole.1,
       ap (λ (n : ℕ). last_number n left) (c.from.ensures ∙ ap (λ (e : Entry). e.number) c.deref-in-loop-entry.ensures)
@@ -53,7 +53,7 @@ pub returns-clause-text : goal.returns-clause-text
 returns-clause-text c =
     let none : drop c.loop-entry.entry-index c.args.entries.now ≡ [] = drop_all c.loop-entry.entry-index c.args.entries.now (omega (arith, c.loop-entry-test.false)) in
     sym (append-nil c.loop-entry.out.items)
-    ∙ ap (λ (l : List (Arc Entry Global)). c.loop-entry.out.items ++ flat_map entry_text (map (entry_of c.args.scale.now) (map arc_value l))) (sym none)
+    ∙ ap (λ (l : List (Arc Entry Global)). c.loop-entry.out.items ++ flat_map entry_text (map (logged_entry c.args.scale.now) (map arc_value l))) (sym none)
     ∙ c.loop-entry.invariant.0
 
 pub returns-clause-last : goal.returns-clause-last

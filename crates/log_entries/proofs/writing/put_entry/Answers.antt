@@ -2,10 +2,10 @@ use Rattle.std.proofs.Common.{◌≡◌, ℕ, List, ◌++◌, length, sym, ap, �
 use Rattle.std.specs.Prelude.{flat_map}
 use Rattle.std.proofs.lemmas.List.{append_assoc}
 use Rattle.std.proofs.lemmas.Result.{on_ok_weaker}
-use Rattle.codec.specs.Numbers.{number}
+use Rattle.log_codec.specs.Numbers.{number}
 use Rattle.log_text.specs.Writes.{write_text}
 use Rattle.log_text.specs.Entries.{EntryView, entry_text, front_text}
-use Rattle.log_entries.specs.Logged.{entry_of}
+use Rattle.log_entries.specs.Logged.{logged_entry}
 use Rattle.log_entries.proofs.Lawful.{length_writes}
 use Rattle.log_entries.proofs.writing.put_entry.Goals as goal
 
@@ -22,7 +22,7 @@ joined out front after e count many in_front all =
 
 pub returns : goal.returns
 returns c = on_ok_weaker c.put_writes.result
-    (joined c.args.out.now.items c.put_front.new.out.items c.put_writes.new.out.items (entry_of c.args.scale.now c.args.entry.now) c.count.result
+    (joined c.args.out.now.items c.put_front.new.out.items c.put_writes.new.out.items (logged_entry c.args.scale.now c.args.entry.now) c.count.result
     (c.count.ensures ∙ sym (length_writes c.args.scale.now c.args.entry.now.writes))
     (c.in_ok-put_front.ensures
     ∙ (λ i. c.args.out.now.items ++ front_text (c.from.ensures i) (c.word.ensures i) c.args.entry.now.terminal c.count.result)))

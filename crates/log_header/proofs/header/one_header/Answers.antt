@@ -1,4 +1,4 @@
-use Rattle.codec.proofs.Codecs.{one_value}
+use Rattle.log_codec.proofs.Codecs.{one_value}
 use Rattle.log_header.proofs.Headers.{codec-header}
 use Rattle.log_header.proofs.header.one_header.Goals as goal
 

@@ -2,7 +2,7 @@ use Rattle.std.proofs.Common.{◌≡◌, List, ℕ, Option, Some, None, ◌++◌
 use Rattle.std.proofs.Math.Facts.{Fits-lt-pow}
 use Rattle.std.specs.Prelude.{IfSome, IfNone}
 use Rattle.std.specs.Option.{option_map}
-use Rattle.codec.specs.Numbers.{IsBytes}
+use Rattle.log_codec.specs.Numbers.{IsBytes}
 use Rattle.log_header.specs.Header.{HeaderView, IsHeader, header_text}
 use Rattle.log_header.specs.HeaderReading.{header_from}
 use Rattle.log_header.proofs.Headers.{codec-header}

@@ -1,5 +1,5 @@
 use Rattle.std.proofs.Common.{◌++◌, ◌∷◌, sym, ◌∙◌, subst, rules}
-use Rattle.codec.proofs.Codecs.{one_value}
+use Rattle.log_codec.proofs.Codecs.{one_value}
 use Rattle.log_header.specs.Header.{HeaderView}
 use Rattle.log_text.specs.File.{AreBodies, opened}
 use Rattle.log_header.proofs.Headers.{codec-header}

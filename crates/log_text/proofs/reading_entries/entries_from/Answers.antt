@@ -1,7 +1,7 @@
 use Rattle.std.proofs.Common.{◌≡◌, ◌+◌, ◌-◌, ◌≤◌, suc, ℕ, List, ◌∷◌, [], ◌++◌, length, map, refl, sym, ap, ◌∙◌, arith, rules, ◌≢◌, None}
 use Rattle.money.specs.declared.refusal.Refusal.TheVariants.{OutOfMemory, Damaged}
 use Rattle.std.proofs.lemmas.List.{map-append, length-append}
-use Rattle.codec.specs.Readers.{filled}
+use Rattle.log_codec.specs.Readers.{filled}
 use Rattle.log_text.specs.Entries.{logged}
 use Rattle.log_text.specs.Loops.{filled_after}
 use Rattle.log_text.specs.Reads.{entry_from, entries_from}

@@ -1,6 +1,6 @@
 use Rattle.std.proofs.Common.{◌≡◌, ◌≤◌, ◌-◌, ◌+◌, length, map}
-use Rattle.codec.specs.Numbers.{IsBytes}
-use Rattle.codec.specs.Readers.{filled}
+use Rattle.log_codec.specs.Numbers.{IsBytes}
+use Rattle.log_codec.specs.Readers.{filled}
 use Rattle.log_text.specs.Entries.{logged}
 use Rattle.log_text.specs.Loops.{filled_after}
 use Rattle.log_text.specs.Reads.{entry_from, entries_from}

@@ -1,5 +1,5 @@
 use Rattle.std.proofs.Common.{◌≡◌, ◌+◌, ◌-◌, suc, ℕ, List, refl, sym, ap, ◌∙◌, arith, rules}
-use Rattle.codec.specs.Readers.{many}
+use Rattle.log_codec.specs.Readers.{many}
 use Rattle.log_text.specs.Loops.{many_after}
 use Rattle.log_text.specs.Reads.{write_from}
 use Rattle.log_text.specs.declared.write.Write.{Write}

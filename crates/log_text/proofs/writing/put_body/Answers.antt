@@ -1,6 +1,6 @@
 use Rattle.std.proofs.Common.{ap, arith, length, length-append}
-use Rattle.codec.specs.Numbers.{number}
-use Rattle.codec.proofs.NumberTexts.{length-number}
+use Rattle.log_codec.specs.Numbers.{number}
+use Rattle.log_codec.proofs.NumberTexts.{length-number}
 use Rattle.log_text.specs.Bodies.{body_of, content_text}
 use Rattle.log_text.proofs.writing.put_body.Goals as goal
 

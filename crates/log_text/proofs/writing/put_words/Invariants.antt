@@ -1,6 +1,6 @@
 use Rattle.std.proofs.Common.{◌≡◌, ◌++◌, drop}
 use Rattle.std.specs.Prelude.{flat_map}
-use Rattle.codec.specs.Numbers.{number}
+use Rattle.log_codec.specs.Numbers.{number}
 use Rattle.log_text.proofs.writing.put_words.Given as goal
 
 abbrev pub invariant-loop-word : goal.invariant-loop-word

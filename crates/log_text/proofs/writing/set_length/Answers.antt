@@ -1,7 +1,7 @@
 use Rattle.std.proofs.Common.{◌≡◌, ◌++◌, ◌+◌, ◌-◌, length, take, drop, ℕ, List, sym, ap, ◌∙◌, arith, length-append}
 use Rattle.std.proofs.Math.Seq.{take-append_seam, drop-append_seam}
-use Rattle.codec.specs.Numbers.{number}
-use Rattle.codec.proofs.NumberTexts.{length-number}
+use Rattle.log_codec.specs.Numbers.{number}
+use Rattle.log_codec.proofs.NumberTexts.{length-number}
 use Rattle.log_text.proofs.writing.set_length.Goals as goal
 
 pub returns-clause-set : goal.returns-clause-set

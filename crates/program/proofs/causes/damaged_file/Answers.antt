@@ -2,7 +2,7 @@ use Rattle.std.proofs.Common.{◌≡◌, ℕ, List, [], map, length, Option, Som
 use Rattle.std.specs.Prelude.{slice_index_or}
 use Rattle.money.specs.declared.refusal.Refusal.TheVariants.{Damaged}
 use Rattle.population.specs.Initial.{initial, seed_of}
-use Rattle.recovery.specs.Flaws.{IsDamage}
+use Rattle.program_recovery.specs.Flaws.{IsDamage}
 use Rattle.program.specs.Detail.{CauseView, Flawed, cause_view}
 use Rattle.program.specs.Logs.{IsWhy, damaged, path_of}
 use Rattle.program.specs.declared.fault.Cause.{Cause}

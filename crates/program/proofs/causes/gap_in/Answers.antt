@@ -1,7 +1,7 @@
 use Rattle.std.proofs.Common.{Option, refl, subst}
 use Rattle.population.specs.Initial.{initial, seed_of}
-use Rattle.recovery.specs.Flaws.{IsFirstGap}
-use Rattle.recovery.specs.declared.gap.Misnumbered.{Misnumbered}
+use Rattle.program_recovery.specs.Flaws.{IsFirstGap}
+use Rattle.program_recovery.specs.declared.gap.Misnumbered.{Misnumbered}
 use Rattle.program.specs.Logs.{gap}
 use Rattle.program.proofs.causes.gap_in.Goals as goal
 

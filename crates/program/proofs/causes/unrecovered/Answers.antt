@@ -4,7 +4,7 @@ use Rattle.money.specs.declared.refusal.Refusal.{Refusal}
 use Rattle.money.specs.declared.refusal.Refusal.TheVariants.{Gap}
 use Rattle.tables.specs.Database.{Database}
 use Rattle.population.specs.Initial.{initial, seed_of}
-use Rattle.command_line.specs.declared.asked.LogFiles.{LogFiles}
+use Rattle.program_options.specs.declared.asked.LogFiles.{LogFiles}
 use Rattle.program.specs.Detail.{cause_view}
 use Rattle.program.specs.Logs.{IsWhy}
 use Rattle.program.specs.declared.fault.Cause.{Cause}

@@ -3,7 +3,7 @@ use Rattle.std.proofs.KnownBytes.{Appends-nil}
 use Rattle.money.specs.declared.refusal.Refusal.{Refusal}
 use Rattle.population.specs.Initial.{initial}
 use Rattle.program.specs.Detail.{cause_of}
-use Rattle.program.specs.Logs.{IsFailedRun, broken, stopped, unmade}
+use Rattle.program.specs.Logs.{IsUnfinishedRun, broken, stopped, unmade}
 use Rattle.program.proofs.live.live.Goals as goal
 
 pub returns-in-Err-clause-failed : goal.returns-in-Err-clause-failed
@@ -11,12 +11,12 @@ returns-in-Err-clause-failed g c = unmade c.in-Err.ensures.unready (Appends-nil 
 
 pub returns-in-Ok-drive-clause-failed : goal.returns-in-Ok-drive-clause-failed
 returns-in-Ok-drive-clause-failed g c =
-    subst (λ (refusal : Refusal). IsFailedRun c.args.options.now (initial c.args.population) (g.W.Write.contents c.args.output.now)
+    subst (λ (refusal : Refusal). IsUnfinishedRun c.args.options.now (initial c.args.population) (g.W.Write.contents c.args.output.now)
     (g.W.Write.contents c.drive.new.writer) refusal (cause_of c.broken_off.result)) (sym c.broken_off.ensures.refusal)
     (stopped c.in-Ok-drive.driven.report c.in-Ok-drive.ensures.ran refl c.broken_off.ensures.cause)
 
 pub returns-clause-failed : goal.returns-clause-failed
 returns-clause-failed g c =
-    subst (λ (refusal : Refusal). IsFailedRun c.args.options.now (initial c.args.population) (g.W.Write.contents c.args.output.now)
+    subst (λ (refusal : Refusal). IsUnfinishedRun c.args.options.now (initial c.args.population) (g.W.Write.contents c.args.output.now)
     (g.W.Write.contents c.drive.new.writer) refusal (cause_of c.broken_off-in-Err-drive.result)) (sym c.broken_off-in-Err-drive.ensures.refusal)
     (broken c.in-Err-drive.ensures.broken c.broken_off-in-Err-drive.ensures.cause)

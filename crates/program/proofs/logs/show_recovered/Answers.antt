@@ -1,7 +1,7 @@
 use Rattle.std.proofs.Common.{[], append-nil, inl}
 use Rattle.std.proofs.lemmas.Result.{IfOk-weaker, IfErr-weaker}
-use Rattle.recovery.specs.Text.{recovery_text}
-use Rattle.recovery.specs.Told.{begun}
+use Rattle.program_recovery.specs.Text.{recovery_text}
+use Rattle.program_recovery.specs.Told.{begun}
 use Rattle.program.proofs.logs.show_recovered.Goals as goal
 
 pub returns-clause-shown : goal.returns-clause-shown

@@ -1,7 +1,7 @@
 use Rattle.std.proofs.Common.{sym, subst}
 use Rattle.tables.specs.Sizes.{IsNumber}
 use Rattle.population.specs.Initial.{initial}
-use Rattle.laws.proofs.NamesKept.{is_number_of}
+use Rattle.tables_laws.proofs.NamesKept.{is_number_of}
 use Rattle.queries.proofs.status.asked_for.Goals as goal
 
 pub returns-clause-key : goal.returns-clause-key

@@ -1,5 +1,5 @@
 use Rattle.std.proofs.Common.{◌≡◌, sym, ap, ◌∙◌}
-use Rattle.crashes.specs.Recovering.{last_mark}
+use Rattle.recover_crashes.specs.Recovering.{last_mark}
 use Rattle.recover.specs.Files.{bodies_in}
 use Rattle.recover.proofs.LastMarks.{lowered, stays, replaced, begins, goes_on, ends}
 use Rattle.recover.proofs.durable.durable_of.Goals as goal

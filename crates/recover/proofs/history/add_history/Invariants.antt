@@ -2,7 +2,7 @@ use Rattle.std.proofs.Common.{◌≡◌, ◌++◌, drop, map}
 use Rattle.std.specs.Prelude.{flat_map}
 use Rattle.tables.specs.Database.{database}
 use Rattle.log_text.specs.Entries.{logged}
-use Rattle.rebuilt.specs.Rebuilt.{added_by}
+use Rattle.recover_laws.specs.Rebuilt.{added_by}
 use Rattle.recover.proofs.history.add_history.Given as goal
 
 -- HISTORY, with the rows of what is left, is the first with all rows; nothing else changes

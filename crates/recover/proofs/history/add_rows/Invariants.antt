@@ -1,7 +1,7 @@
 use Rattle.std.proofs.Common.{◌≡◌, ◌++◌, drop}
 use Rattle.std.specs.Prelude.{flat_map}
 use Rattle.tables.specs.Database.{database}
-use Rattle.rebuilt.specs.Rebuilt.{rows_in}
+use Rattle.recover_laws.specs.Rebuilt.{rows_in}
 use Rattle.recover.proofs.history.add_rows.Given as goal
 
 -- HISTORY, with the rows of what is left, is the first with all rows; nothing else changes

@@ -1,6 +1,6 @@
 use Rattle.std.proofs.Common.{◌≡◌, ◌+◌, drop, map}
 use Rattle.log_text.specs.Entries.{logged}
-use Rattle.rebuilt.specs.Rebuilt.{AreNumbered}
+use Rattle.recover_laws.specs.Rebuilt.{AreNumbered}
 use Rattle.recover.proofs.numbering.are_numbered.Given as goal
 
 -- all are numbered where what is left is

@@ -5,7 +5,7 @@ use Rattle.std.proofs.lemmas.List.Elements.{All-head, All-tail}
 use Rattle.log_text.specs.Bodies.{BodyView}
 use Rattle.log_text.specs.Entries.{EntryView}
 use Rattle.log_text.specs.declared.body.Body.{Body}
-use Rattle.crashes.specs.Recovering.{counted, entries_of}
+use Rattle.recover_crashes.specs.Recovering.{counted, entries_of}
 use Rattle.recover.specs.Files.{bodies_in}
 use Rattle.recover.specs.Parts.{HaveLawfulWrites, looked_at}
 use Rattle.recover.proofs.Looking.{next_of}

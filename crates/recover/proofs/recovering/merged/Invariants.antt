@@ -2,7 +2,7 @@ use Rattle.std.specs.Vec.Iter.{into_iter_items}
 use Rattle.std.proofs.Common.{◌≡◌, ◌++◌, map}
 use Rattle.std.specs.Prelude.{flat_map}
 use Rattle.std.specs.List.{All}
-use Rattle.crashes.specs.Recovering.{counted, entries_of}
+use Rattle.recover_crashes.specs.Recovering.{counted, entries_of}
 use Rattle.recover.specs.Files.{bodies_in}
 use Rattle.recover.specs.Parts.{IsPart, HaveLawfulWrites, looked_at}
 use Rattle.recover.proofs.recovering.merged.Given as goal

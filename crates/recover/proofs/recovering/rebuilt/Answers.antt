@@ -4,13 +4,13 @@ use Rattle.tables.specs.Sizes.{Sizes}
 use Rattle.tables.specs.Database.{Database, database}
 use Rattle.tables.specs.Rows.{rows}
 use Rattle.tables.specs.WellFormed.{IsWellFormed}
-use Rattle.laws.proofs.NamesKept.{IsOf-itself}
+use Rattle.tables_laws.proofs.NamesKept.{IsOf-itself}
 use Rattle.encoding.specs.Held.{by_key, AreTables}
 use Rattle.log_text.specs.Entries.{EntryView, logged}
 use Rattle.log_text.specs.Writes.{are_writes}
 use Rattle.log_text.specs.declared.entry.LoggedEntry.{LoggedEntry}
-use Rattle.rebuilt.specs.Rebuilt.{AreNumbered, IsRebuilt}
-use Rattle.restoring.specs.Putting.{MayPut}
+use Rattle.recover_laws.specs.Rebuilt.{AreNumbered, IsRebuilt}
+use Rattle.recover_newest.specs.Putting.{MayPut}
 use Rattle.recover.specs.Parts.{IsPart, HaveLawfulWrites, looked_at}
 use Rattle.recover.proofs.Ordering.{sorted_numbered, views_rise}
 use Rattle.recover.proofs.Rebuilding.{may_put, rebuilt_of}
@@ -53,7 +53,7 @@ returns-clause-rebuilt c =
     let p = c.args.part in
     let sorted : List LoggedEntry = c.sort.new.entries.items in
     let part : IsPart t1.scale p = subst (λ (d : Database). IsPart d.scale p) (sym c.tables-first.ensures) c.requires.part in
-    let new = subst (λ (es : List LoggedEntry). u ≡ record t { history = Rattle.std.proofs.Common.◌++◌ t.history (Rattle.std.specs.List.flat_map Rattle.rebuilt.specs.Rebuilt.added_by (map logged es)) }) c.deref-2.ensures.value c.in_ok-add_history.ensures in
+    let new = subst (λ (es : List LoggedEntry). u ≡ record t { history = Rattle.std.proofs.Common.◌++◌ t.history (Rattle.std.specs.List.flat_map Rattle.recover_laws.specs.Rebuilt.added_by (map logged es)) }) c.deref-2.ensures.value c.in_ok-add_history.ensures in
     let numbers = subst (λ (es : List LoggedEntry). AreNumbered 1 (map logged es)) c.deref.ensures.value (c.are_numbered.ensures.0 c.if-not-are_numbered.false) in
     subst (λ (d : Database). IsRebuilt d (looked_at p) u) c.tables-first.ensures
     (rebuilt_of t1 p t u sorted part c.in_ok-put_all.ensures.tables (c.in_ok-put_all.ensures.history ∙ ap (λ (d : Database). d.history) c.in_ok-tables.ensures) new c.sort.ensures.permutation numbers

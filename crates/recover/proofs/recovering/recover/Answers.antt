@@ -7,9 +7,9 @@ use Rattle.log_text.specs.Bodies.{BodyView}
 use Rattle.log_text.specs.Entries.{EntryView, logged}
 use Rattle.log_text.specs.declared.body.Body.{Body}
 use Rattle.population.specs.Initial.{initial, seed_of}
-use Rattle.crashes.specs.Recovering.{entries_of}
-use Rattle.rebuilt.specs.Found.{durable_of, found}
-use Rattle.rebuilt.specs.Rebuilt.{HaveNoGap, IsRebuilt}
+use Rattle.recover_crashes.specs.Recovering.{entries_of}
+use Rattle.recover_laws.specs.Found.{durable_of, found}
+use Rattle.recover_laws.specs.Rebuilt.{HaveNoGap, IsRebuilt}
 use Rattle.recover.specs.Files.{bodies_in}
 use Rattle.recover.specs.Parts.{HaveLawfulWrites, looked_at}
 use Rattle.recover.proofs.Found.{files_lawful, counted_lawful, counted_found}

@@ -17,7 +17,7 @@ use Rattle.std.specs.Arc.{arc_value}
 use Rattle.readset.specs.Writes.{WriteSetView, value_for}
 use Rattle.cells.proofs.Grown.{grown_twice}
 use Rattle.book.specs.Book.{BookView, AreLatest, IsSound, IsReadBy, Commits, HasSeen, entry_of}
-use Rattle.board.specs.Steps.{counted}
+use Rattle.board.specs.Steps.{counted_epochs}
 use Rattle.board.specs.declared.rule.Plan.{Plan}
 use Rattle.board.specs.Seats.{BoardView, SeatView, noted}
 use Rattle.board.specs.declared.rule.WordStep.TheVariants.{LoadEpoch, CountCommit}
@@ -494,7 +494,7 @@ pub commit_step-requires-clause-room : goal.commit_step-requires-clause-room
 commit_step-requires-clause-room g c =
     let items : List Entry = map arc_value c.self.inside.history.items in
     let cap = capped g.K.Run.first c.commits.ensures.value c.scale.ensures c.deref.ensures c.self.invariant.3 in
-    subst (λ (s : SeatView). length (counted s.steps) < 2 ^ 64 - 1) (sym c.epoch-epoch.ensures.step)
+    subst (λ (s : SeatView). length (counted_epochs s.steps) < 2 ^ 64 - 1) (sym c.epoch-epoch.ensures.step)
     (may_count c.self.inside.seat items g.K.Run.first.scale.commits c.self.invariant.7
     (within g.K.Run.past (length items) g.K.Run.first.scale.commits (subst (λ (q : ℕ × ℕ). q.0 < q.1)
     (λ i. (c.self.invariant.9 i + sym (length-map c.self.inside.history.items arc_value) i, cap i)) c.in-Ok.ensures.below)) c.self.invariant.1.few)

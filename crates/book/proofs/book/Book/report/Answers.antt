@@ -2,11 +2,11 @@ use Rattle.std.proofs.Common.{◌≡◌, List, length, map, sym, ap, ◌∙◌, 
 use Rattle.std.specs.Arc.{arc_value}
 use Rattle.tables.specs.Database.{Database}
 use Rattle.cells.specs.declared.cells.Newest.{Newest}
-use Rattle.bounds.specs.Bounds.{BoundsView}
+use Rattle.totals_bounds.specs.Bounds.{BoundsView}
 use Rattle.tables.specs.WellFormed.{IsWellFormed}
 use Rattle.totals.specs.Totals.{SumsView, TotalsView, AreTotals}
 use Rattle.totals.specs.Counts.{AreHeld}
-use Rattle.reports.specs.Told.{HasTotals}
+use Rattle.totals_report.specs.Told.{HasTotals}
 use Rattle.conditions.specs.Report.{IsReportOf}
 use Rattle.book.specs.Book.{BookView}
 use Rattle.book.specs.History.{replay}

@@ -5,7 +5,7 @@ use Rattle.tables.specs.Keys.{IsDistrictKey}
 use Rattle.tables.specs.Database.{Database}
 use Rattle.tables.specs.declared.keys.DistrictKey.{DistrictKey}
 use Rattle.tables.specs.Records.{district_place}
-use Rattle.totals.specs.Totals.{TotalsView, AreTotals, amount_at}
+use Rattle.totals.specs.Totals.{TotalsView, AreTotals, amount_in}
 use Rattle.totals.specs.District.{AreOfDistrict, AreDistrictTotals}
 use Rattle.totals.specs.declared.district.DistrictTotals.{DistrictTotals}
 use Rattle.book.specs.Book.{BookView}
@@ -15,10 +15,10 @@ use Rattle.book.proofs.book.Book.totals.Goals as goal
 of_tables : (t : Database) (v : TotalsView) (k : DistrictKey) (r : DistrictTotals) → AreTotals t v → IsDistrictKey t.scale k → AreOfDistrict v k r
     → AreDistrictTotals t k r
 of_tables t v k r are is of = record {
-  paid = of.paid ∙ ap (λ (s : Sizes). amount_at v.sums.paid_at_district (district_place s k.warehouse k.district)) are.sums_scale ∙ are.sums.paid_at_district k is;
-  line_counts = of.line_counts ∙ ap (λ (s : Sizes). amount_at v.sums.line_counts (district_place s k.warehouse k.district)) are.sums_scale ∙ are.sums.line_counts k is;
-  lines = of.lines ∙ ap (λ (s : Sizes). amount_at v.sums.district_lines (district_place s k.warehouse k.district)) are.sums_scale ∙ are.sums.district_lines k is;
-  waiting = of.waiting ∙ ap (λ (s : Sizes). amount_at v.sums.waiting (district_place s k.warehouse k.district)) are.sums_scale ∙ are.sums.waiting k is;
+  paid = of.paid ∙ ap (λ (s : Sizes). amount_in v.sums.paid_at_district (district_place s k.warehouse k.district)) are.sums_scale ∙ are.sums.paid_at_district k is;
+  line_counts = of.line_counts ∙ ap (λ (s : Sizes). amount_in v.sums.line_counts (district_place s k.warehouse k.district)) are.sums_scale ∙ are.sums.line_counts k is;
+  lines = of.lines ∙ ap (λ (s : Sizes). amount_in v.sums.district_lines (district_place s k.warehouse k.district)) are.sums_scale ∙ are.sums.district_lines k is;
+  waiting = of.waiting ∙ ap (λ (s : Sizes). amount_in v.sums.waiting (district_place s k.warehouse k.district)) are.sums_scale ∙ are.sums.waiting k is;
   greatest_order = of.greatest_order ∙ ap (λ (s : Sizes). slice_index v.bounds.greatest_order (district_place s k.warehouse k.district)) are.bounds_scale
       ∙ are.bounds.greatest_order k is;
   least_waiting = of.least_waiting ∙ ap (λ (s : Sizes). slice_index v.bounds.least_waiting (district_place s k.warehouse k.district)) are.bounds_scale

@@ -1,9 +1,9 @@
 use Rattle.std.proofs.Common.{◌≡◌, ap, ◌∙◌}
 use lib.Dec.{eqb}
 use Rattle.tidword.specs.TidWord.{tid_of}
-use Rattle.pages.specs.Versions.{newest, word_in}
+use Rattle.cells_pages.specs.Versions.{newest, word_in}
 use Rattle.cells.specs.Records.{at}
-use Rattle.pages.proofs.Lists.{ends_newest}
+use Rattle.cells_pages.proofs.Lists.{ends_newest}
 use Rattle.cells.proofs.Rising.{is_last_by_tid}
 use Rattle.cells.proofs.cells.Cells.meet.Goals as goal
 

@@ -1,9 +1,9 @@
 use Rattle.std.proofs.Common.{ℕ, List, ◌<◌, ◌/◌, rules, sym, ap, ◌∙◌, subst, set}
 use Rattle.std.specs.Prelude.{slice_get}
-use Rattle.pages.specs.Versions.{newest, word_in}
+use Rattle.cells_pages.specs.Versions.{newest, word_in}
 use Rattle.cells.specs.Records.{PenView, ReaderView, LearnsRecord, at}
 use Rattle.cells.specs.Pages.{sights_of}
-use Rattle.pages.proofs.Lists.{sound_some}
+use Rattle.cells_pages.proofs.Lists.{sound_some}
 use Rattle.cells.proofs.Stepping.{pen_seat, pen_is_of, pen_knows_seat, pen_versions, kept_seats, kept_view, reader_seat, reader_is_of, met_seats, learns_record}
 use Rattle.cells.proofs.holders.PenOf.meet.Goals as goal
 

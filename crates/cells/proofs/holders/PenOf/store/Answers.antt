@@ -1,6 +1,6 @@
 use Rattle.std.proofs.Common.{ℕ, List, ◌<◌, ◌/◌, rules, sym, ap, ◌∙◌, subst, set}
 use Rattle.std.specs.Prelude.{slice_get}
-use Rattle.pages.specs.Versions.{last_tid, tid}
+use Rattle.cells_pages.specs.Versions.{last_tid, tid}
 use Rattle.cells.specs.Records.{PenView, StoresVersion, at}
 use Rattle.cells.specs.Pages.{written_of}
 use Rattle.cells.proofs.Stepping.{pen_seat, pen_is_of, pen_knows_seat, pen_versions, stored_seats, stores_version}

@@ -1,7 +1,7 @@
 use Rattle.std.proofs.Common.{◌%◌, length, sym, ap, ◌∙◌, subst}
 use Rattle.std.proofs.lemmas.List.Elements.{All-push}
 use Rattle.cells.specs.Records.{ReaderView}
-use Rattle.pages.specs.Seats.{PageSeat}
+use Rattle.cells_pages.specs.Seats.{PageSeat}
 use Rattle.cells.specs.Pages.{IsReaderSeat, AreReaderSeats}
 use Rattle.cells.proofs.Paged.{pages_push}
 use Rattle.cells.proofs.holders.ReaderOf.push.Goals as goal

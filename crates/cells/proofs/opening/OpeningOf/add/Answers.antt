@@ -1,9 +1,9 @@
 use Rattle.std.proofs.Common.{◌≡◌, List, ◌++◌, length, map, rules, sym, ap, ◌∙◌, subst}
 use Rattle.std.specs.Prelude.{All}
 use Rattle.std.proofs.lemmas.List.{length-map, with_items_is}
-use Rattle.pages.specs.declared.rule.View.{View}
+use Rattle.cells_pages.specs.declared.rule.View.{View}
 use Rattle.cells.specs.Records.{ReaderView, PenView}
-use Rattle.pages.specs.Rule.{first_versions}
+use Rattle.cells_pages.specs.Rule.{first_versions}
 use Rattle.cells.specs.Pages.{ids_of}
 use Rattle.cells.specs.Opening.{Opened, seen_all, opened_with, sights_with, AreFull, IsNext}
 use Rattle.cells.proofs.Told.{all_seen, all_full, new_words, new_next, new_ids, new_seat}

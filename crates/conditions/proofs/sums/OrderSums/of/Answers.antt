@@ -2,7 +2,7 @@ use Rattle.std.proofs.Common.{◌∙◌, pos, sym}
 use Rattle.tables.specs.Keys.{is_district}
 use Rattle.tables.proofs.Orders.{exact_order}
 use Rattle.tables.proofs.Totals.{total-view}
-use Rattle.walks.specs.Amounts.{share}
+use Rattle.conditions_walks.specs.Amounts.{share}
 use Rattle.conditions.proofs.sums.OrderSums.of.Goals as goal
 
 pub returns : goal.returns

@@ -1,7 +1,7 @@
 use Rattle.std.proofs.Common.{◌==◌, ◌∙◌, sym}
 use Rattle.tables.proofs.Orders.{exact_district}
 use Rattle.tables.proofs.Totals.{total-view}
-use Rattle.walks.specs.Amounts.{share}
+use Rattle.conditions_walks.specs.Amounts.{share}
 use Rattle.conditions.proofs.sums.Sums.of.Goals as goal
 
 pub returns : goal.returns

@@ -1,7 +1,7 @@
 use Rattle.std.proofs.Common.{◌≡◌, ◌++◌, ◌∷◌, [], Some, false, List, ◌+◌, ◌≤◌, sym, subst, refl, true≢false, length, arith}
 use Rattle.std.proofs.Math.Logic.{∥∥₁_map}
 use Rattle.log_text.specs.Bodies.{BodyView, body_text, body_after}
-use Rattle.disk.specs.Crashes.{LeavesOnly}
+use Rattle.log_disk.specs.Crashes.{LeavesOnly}
 use Rattle.logfile.specs.Standing.{LogFileView, Stands, IsWithOrWithout}
 use Rattle.logfile.proofs.Appending.{add_moments, add_stands, add_keeps, all_kept, is_open}
 use Rattle.logfile.proofs.log_file.LogFile.add.Goals as goal

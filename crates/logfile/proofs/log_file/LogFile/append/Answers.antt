@@ -1,7 +1,7 @@
 use Rattle.std.proofs.Common.{◌≡◌, ℕ, List, [], ◌∷◌, ◌++◌, length, Vec, Global, OnOk, sym, ap, ◌∙◌, subst}
 use Rattle.std.proofs.lemmas.List.{length-map}
 use Rattle.std.specs.Arc.{arc_value}
-use Rattle.disk.specs.Crashes.{LeavesOnly}
+use Rattle.log_disk.specs.Crashes.{LeavesOnly}
 use Rattle.log_text.specs.Bodies.{BodyView, body_text}
 use Rattle.log_entries.specs.Following.{Continues, body_of_batch}
 use Rattle.logfile.specs.Standing.{LogFileView, Stands, IsWithOrWithout}

@@ -1,5 +1,5 @@
 use Rattle.std.proofs.Common.{◌≡◌, ◌+◌, ◌-◌, List, [], ◌∷◌, ◌++◌, length, sym, ap, ◌∙◌, subst, arith, length-append}
-use Rattle.disk.specs.Calls.{Call, Wrote, Synced}
+use Rattle.log_disk.specs.Calls.{Call, Wrote, Synced}
 use Rattle.log_header.specs.Header.{IsHeader, header_text}
 use Rattle.log_text.specs.declared.last.Last.{Last}
 use Rattle.logfile.specs.Standing.{Stands}

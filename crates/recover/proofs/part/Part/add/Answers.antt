@@ -3,7 +3,7 @@ use Rattle.std.proofs.lemmas.List.{map-append}
 use Rattle.std.specs.BTreeMap.{get}
 use Rattle.std.specs.Ordering.{nat_cmp}
 use Rattle.log_text.specs.Entries.{EntryView, logged}
-use Rattle.restoring.specs.declared.latest.Latest.{Latest}
+use Rattle.recover_newest.specs.declared.latest.Latest.{Latest}
 use Rattle.recover.specs.Parts.{looked_at, IsKnown}
 use Rattle.recover.proofs.Knowing.{known_more}
 use Rattle.recover.proofs.part.Part.add.Goals as goal

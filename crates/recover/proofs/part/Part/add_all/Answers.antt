@@ -5,7 +5,7 @@ use Rattle.std.proofs.lemmas.List.Elements.{All-head, All-tail}
 use Rattle.log_text.specs.Entries.{EntryView, logged}
 use Rattle.log_text.specs.Writes.{are_writes}
 use Rattle.log_text.specs.declared.entry.LoggedEntry.{LoggedEntry}
-use Rattle.crashes.specs.Recovering.{counts}
+use Rattle.recover_crashes.specs.Recovering.{counts}
 use Rattle.recover.specs.Parts.{HaveLawfulWrites, looked_at}
 use Rattle.recover.proofs.Looking.{counted_more, counted_less}
 use Rattle.recover.proofs.part.Part.add_all.Goals as goal

@@ -2,7 +2,7 @@ use Rattle.std.specs.Vec.Iter.{into_iter_items}
 use Rattle.std.proofs.Common.{◌≡◌, ◌++◌, map}
 use Rattle.std.specs.Prelude.{filter}
 use Rattle.log_text.specs.Entries.{logged}
-use Rattle.crashes.specs.Recovering.{counts}
+use Rattle.recover_crashes.specs.Recovering.{counts}
 use Rattle.recover.specs.Parts.{IsPart, HaveLawfulWrites, looked_at}
 use Rattle.recover.proofs.part.Part.add_all.Given as goal
 

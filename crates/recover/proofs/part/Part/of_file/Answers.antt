@@ -5,7 +5,7 @@ use Rattle.log_text.specs.Bodies.{BodyView, body_of, entries_in}
 use Rattle.log_text.specs.Entries.{EntryView}
 use Rattle.log_text.specs.Writes.{are_writes}
 use Rattle.log_text.specs.declared.body.Body.{Body}
-use Rattle.crashes.specs.Recovering.{counts, counted, entries_of}
+use Rattle.recover_crashes.specs.Recovering.{counts, counted, entries_of}
 use Rattle.recover.specs.Parts.{HaveLawfulWrites, looked_at}
 use Rattle.recover.proofs.Looking.{next_passed, all_right}
 use Rattle.recover.proofs.part.Part.of_file.Goals as goal

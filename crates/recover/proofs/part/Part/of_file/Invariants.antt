@@ -1,7 +1,7 @@
 use Rattle.std.specs.Vec.Iter.{into_iter_items}
 use Rattle.std.proofs.Common.{◌≡◌, ◌++◌, map}
 use Rattle.log_text.specs.Bodies.{body_of}
-use Rattle.crashes.specs.Recovering.{counted, entries_of}
+use Rattle.recover_crashes.specs.Recovering.{counted, entries_of}
 use Rattle.recover.specs.Parts.{IsPart, HaveLawfulWrites, looked_at}
 use Rattle.recover.proofs.part.Part.of_file.Given as goal
 

@@ -1,7 +1,7 @@
 use Rattle.std.proofs.Common.{rules, ℕ, ◌*◌, ◌/◌, ◌<◌, FitsSigned, option_copied, length, sym, ap, ◌∙◌, subst}
 use Rattle.std.specs.Int.{w64}
 use Rattle.tables.specs.Records.{district_at}
-use Rattle.bounds.proofs.KeysAt.{down, row_below}
+use Rattle.totals_bounds.proofs.KeysAt.{down, row_below}
 use Rattle.totals.specs.Totals.{SumsView}
 use Rattle.totals.specs.Steps.{district_step}
 use Rattle.totals.specs.contracts.running.RunningSums.{the_view}

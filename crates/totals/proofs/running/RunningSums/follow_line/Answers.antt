@@ -5,7 +5,7 @@ use Rattle.tables.specs.Sizes.{Sizes, IsNumber}
 use Rattle.tables.specs.Keys.{order_of}
 use Rattle.tables.specs.Records.{line_at}
 use Rattle.tables.specs.declared.limits.TheConstants.{MAX_ORDER_LINES}
-use Rattle.bounds.proofs.KeysAt.{line_is}
+use Rattle.totals_bounds.proofs.KeysAt.{line_is}
 use Rattle.totals.specs.Totals.{SumsView}
 use Rattle.totals.specs.Moves.{held_in, order_before}
 use Rattle.totals.specs.Steps.{deliver_step, order_line_step, delivered_in}

@@ -1,7 +1,7 @@
 use Rattle.std.proofs.Common.{rules, ◌/◌, FitsSigned, option_copied, sym, ap, ◌∙◌}
 use Rattle.std.specs.Int.{w64}
 use Rattle.tables.specs.Records.{order_at}
-use Rattle.bounds.proofs.KeysAt.{district_same}
+use Rattle.totals_bounds.proofs.KeysAt.{district_same}
 use Rattle.totals.specs.Totals.{SumsView}
 use Rattle.totals.specs.Steps.{new_order_step}
 use Rattle.totals.specs.contracts.running.RunningSums.{the_view}

@@ -2,7 +2,7 @@ use Rattle.std.proofs.Common.{◌≡◌, ◌+◌, ◌-◌, ◌<◌, ◌≤◌, o
 use Rattle.tables.specs.Keys.{order_of}
 use Rattle.tables.specs.Records.{size, first_number, district_at, order_at, line_at}
 use Rattle.tables.specs.declared.records.Table.TheVariants as table
-use Rattle.bounds.proofs.KeysAt.{district_is, order_is, line_is}
+use Rattle.totals_bounds.proofs.KeysAt.{district_is, order_is, line_is}
 use Rattle.totals.specs.declared.places.Counted.{Counted}
 use Rattle.totals.specs.Moves.{MovesSums, held_in, order_before, step, no_history}
 use Rattle.totals.specs.Steps.{HasPlaces}

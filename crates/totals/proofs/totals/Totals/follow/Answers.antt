@@ -4,7 +4,7 @@ use Rattle.tables.specs.Sizes.{Sizes, IsScale}
 use Rattle.tables.specs.Apply.{after}
 use Rattle.tables.specs.Records.{record_count}
 use Rattle.tables.specs.WellFormed.{IsHistoryRow}
-use Rattle.laws.proofs.Kept.{after-scale}
+use Rattle.tables_laws.proofs.Kept.{after-scale}
 use Rattle.totals.specs.Totals.{TotalsView, SumsView}
 use Rattle.totals.specs.Moves.{HasBuyers, SumsFollow, held_in}
 use Rattle.totals.proofs.Recorded.{buyers_named, row_added}

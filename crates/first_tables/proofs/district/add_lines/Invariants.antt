@@ -1,7 +1,0 @@
-use Rattle.std.specs.FinMap.{from_entries}
-use Rattle.first_tables.specs.Adds.{is_in, is_order_at, line_in, AddsLines}
-use Rattle.first_tables.proofs.district.add_lines.Given as goal
-
-abbrev pub invariant-loop-line : goal.invariant-loop-line
-invariant-loop-line g l = AddsLines g.S.Source.kind l.fn.scale (is_order_at l.fn.of) (line_in (is_in 1 l.line)) (from_entries l.fn.table.entries)
-    (from_entries l.table.entries)

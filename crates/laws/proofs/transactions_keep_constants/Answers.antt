@@ -1,5 +1,0 @@
-use Rattle.laws.proofs.Kept.{after-IsOf}
-use Rattle.laws.proofs.transactions_keep_constants.Goals as goal
-
-pub returns : goal.returns
-returns c = after-IsOf

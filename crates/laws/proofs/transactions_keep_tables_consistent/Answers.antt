@@ -1,5 +1,0 @@
-use Rattle.laws.proofs.Kept.{after-IsConsistent}
-use Rattle.laws.proofs.transactions_keep_tables_consistent.Goals as goal
-
-pub returns : goal.returns
-returns c = after-IsConsistent

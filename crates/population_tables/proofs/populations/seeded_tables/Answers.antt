@@ -1,0 +1,12 @@
+use Rattle.population_tables.proofs.Sound.{has_room, is_well_formed}
+use Rattle.population_tables.proofs.Consistent.{is_consistent}
+use Rattle.population_tables.proofs.populations.seeded_tables.Goals as goal
+
+pub returns-clause-well_formed : goal.returns-clause-well_formed
+returns-clause-well_formed c = is_well_formed c.args.scale _ c.first_tables.ensures.fit c.in_ok-tables.ensures.rows
+
+pub returns-clause-consistent : goal.returns-clause-consistent
+returns-clause-consistent c = is_consistent c.args.scale _ c.first_tables.ensures.fit c.in_ok-tables.ensures.rows
+
+pub returns-clause-room : goal.returns-clause-room
+returns-clause-room c = has_room c.args.scale _ c.first_tables.ensures.fit c.in_ok-tables.ensures.rows

@@ -1,0 +1,94 @@
+//! The options of `run`.
+ghost use Rattle.std.specs.Prelude.{◌≡◌, ◌≤◌, ◌∷◌, IfErr, IfOk, [], codes, false};
+ghost use Rattle.clap.specs.Words.{app_of, found_of, one_of, rows_of, rule_of};
+ghost use Rattle.clap.specs.Kinds.{HasKind};
+ghost use Rattle.clap.specs.declared.error.kind.ErrorKind.TheVariants.{InvalidValue};
+ghost use Rattle.tables.specs.declared.limits.TheConstants.{MAX_TERMINALS};
+ghost use Rattle.program_options.specs.declared.asked.TheConstants.{MAX_INPUTS};
+ghost use Rattle.program_options.specs.CommandLine.{AreRunOptions, HasApp, IsLocal, WritesWithin, limited_option};
+ghost use Rattle.program_options.specs.CommandLine.{text_in, with_run as with_run_options};
+
+use crate::asked::{LogFiles, MAX_INPUTS, RunOptions};
+use crate::words::{folder, folder_given, loggers, refusal, seed, value_of};
+use clap::{Arg, ArgMatches, Command, Error, value_parser};
+use std::alloc::{AllocError, Global};
+use tables::limits::{MAX_LOGGERS, MAX_TERMINALS};
+
+/// A subcommand with the options of a run: where its log files are made, how many loggers and terminals it has, and
+/// what inputs these do.
+pub(crate) fn with_run<'a>(alloc: Global, command: Command<'a>) -> Result<Command<'a>, AllocError>
+    requires local { IsLocal command }
+    ensures app { IfOk result (HasApp (with_run_options (app_of command.entry))) }
+{
+    command
+        .arg(folder(alloc))?
+        .arg(loggers(alloc, "The number of loggers, 1 to 8").default_value("2"))?
+        .arg(terminals(alloc).default_value("4"))?
+        .arg(count(alloc).default_value("100"))?
+        .arg(seed(
+            alloc,
+            "seed",
+            "1",
+            "The seed that the inputs are drawn from",
+        ))
+}
+
+/// The option `--terminals`.
+fn terminals<'a>(alloc: Global) -> Arg<'a>
+    ensures rule { rule_of result ≡ limited_option (codes "terminals") 1 MAX_TERMINALS }
+    ensures local { result.global ≡ false }
+{
+    Arg::new(alloc, "terminals")
+        .long("terminals")
+        .value_name("N")
+        .value_parser(value_parser!(u32).range(1..=MAX_TERMINALS as i64))
+        .help("The number of terminals, 1 to 16")
+}
+
+/// The option `--count`.
+fn count<'a>(alloc: Global) -> Arg<'a>
+    ensures rule { rule_of result ≡ limited_option (codes "count") 0 MAX_INPUTS }
+    ensures local { result.global ≡ false }
+{
+    Arg::new(alloc, "count")
+        .long("count")
+        .value_name("N")
+        .value_parser(value_parser!(u32).range(0..=MAX_INPUTS as i64))
+        .help("Inputs of each terminal, 0 to 1000000")
+}
+
+/// What the matches give for a run.
+pub(crate) fn run_options(alloc: Global, given: &ArgMatches<'_>) -> Result<RunOptions, Error>
+    ensures written { IfOk result (AreRunOptions (text_in (rows_of (found_of given.now)))
+        (rows_of (found_of given.now))) }
+    ensures unread { IfErr result (HasKind (InvalidValue ∷ [])) }
+{
+    Ok(RunOptions {
+        files: LogFiles {
+            folder: folder_given(alloc, given)?,
+            loggers: number_within(alloc, given, "loggers", (1, MAX_LOGGERS as u32))?,
+        },
+        terminals: number_within(alloc, given, "terminals", (1, MAX_TERMINALS as u32))?,
+        count: number_within(alloc, given, "count", (0, MAX_INPUTS))?,
+        seed: value_of::<u64>(alloc, given, "seed")?,
+    })
+}
+
+/// The number that the matches give for an option whose parser lets no other through than those from the first of these
+/// limits to the second.
+fn number_within(
+    alloc: Global,
+    given: &ArgMatches<'_>,
+    name: &str,
+    limits: (u32, u32),
+) -> Result<u32, Error>
+    ensures written { IfOk result (WritesWithin limits.0 limits.1 (one_of name.now (rows_of (found_of given.now)))) }
+    ensures unread { IfErr result (HasKind (InvalidValue ∷ [])) }
+{
+    let number = value_of::<u32>(alloc, given, name)?;
+    if limits.0 <= number && number <= limits.1 {
+        return Ok(number);
+    }
+    let text = format!(in alloc; "the value of '--{name}' is outside its limits")?;
+    Err(refusal(alloc, text.as_str())?)
+}

@@ -1,0 +1,25 @@
+use Rattle.std.proofs.Common.{◌≡◌, ◌<◌, ℕ, List, Option, length, refl, arith, rules, subst}
+use Rattle.std.specs.Prelude.{MatchOption}
+use Rattle.log_text.specs.Bodies.{BodyView}
+use Rattle.log_text.specs.File.{IsFile}
+use Rattle.log_flaws.specs.Flaws.{HasFlaw}
+use Rattle.log_flaws.specs.declared.flaw.FileFlaw.{FileFlaw}
+use Rattle.population.specs.Initial.{initial, seed_of}
+use Rattle.program_recovery.proofs.Walking.{goes_on, whole_file}
+use Rattle.program_recovery.proofs.damage.first_damage.Goals as goal
+
+pub loop-logger-preserved : goal.loop-logger-preserved
+loop-logger-preserved g c =
+    let population = c.args.population.now in
+    let asked = c.new-asked.result in
+    let known = c.in_ok-flaw.ensures.flaw in
+    let whole : (bodies : List BodyView) × IsFile known.0 asked bodies =
+    subst (λ (flaw : Option FileFlaw). MatchOption flaw ((bodies : List BodyView) × IsFile known.0 asked bodies) (HasFlaw known.0 asked)) c.in_default.is known.2 in
+    let from : c.from.result ≡ c.loop-logger.logger = search rules in
+    record {
+      loggers = refl;
+      walked = goes_on c.from.result c.index-disks-from.result c.flaw_on.new.disk c.loop-logger.invariant.walked from (omega arith)
+          c.in_ok-flaw.ensures.seen c.in_ok-flaw.ensures.story
+          (λ given. whole_file (initial population).scale c.scale.result (seed_of population) c.seed.result c.loop-logger.logger (length c.args.disks.now)
+          (length c.args.disks.now) asked c.new-asked.ensures.value c.scale.ensures c.seed.ensures refl known.0 _ (known.1 given) whole);
+    }

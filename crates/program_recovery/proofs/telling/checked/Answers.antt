@@ -1,0 +1,47 @@
+use Rattle.std.proofs.Common.{map, refl, rules}
+use Rattle.population.specs.Initial.{initial, seed_of}
+use Rattle.program_script_text.specs.Report.{report_text}
+use Rattle.program_recovery.specs.Told.{IsRefused, Reports}
+use Rattle.program_recovery.proofs.Refusing.{SomeStrings, unrecovered, untold}
+use Rattle.program_recovery.proofs.telling.checked.Goals as goal
+
+pub returns-in_err-recovered-clause-refused : goal.returns-in_err-recovered-clause-refused
+returns-in_err-recovered-clause-refused g c =
+    let e = c.in_err-recovered.field-0.0 in
+    let w = g.W.Write.contents c.args.writer.now in
+    let seed = seed_of c.args.population.now in
+    let before = map g.D.Disk.failed c.args.disks.now in
+    let now = map g.D.Disk.failed c.recover.new.disks in
+    let refused : SomeStrings g.D.Disk.is_modelled (map g.D.Disk.seen c.args.disks.now)
+    (λ strings. IsRefused (initial c.args.population.now) seed strings Reports before now w w e) =
+    unrecovered g.D.Disk.is_modelled (map g.D.Disk.seen c.args.disks.now) (initial c.args.population.now) seed Reports before now w e c.in_err-recovered.ensures.failed
+    c.in_err-recovered.ensures.not_failed c.in_err-recovered.ensures.damaged c.in_err-recovered.ensures.gap c.in_err-recovered.ensures.others in
+    search rules
+
+pub returns-in_err-report_on-clause-refused : goal.returns-in_err-report_on-clause-refused
+returns-in_err-report_on-clause-refused g c =
+    let e = c.in_err-report_on.field-0.0 in
+    let r = c.in_ok-recovered.recovered in
+    let report = c.in_ok-report.report in
+    let seed = seed_of c.args.population.now in
+    let before = map g.D.Disk.failed c.args.disks.now in
+    let now = map g.D.Disk.failed c.recover.new.disks in
+    let refused : SomeStrings g.D.Disk.is_modelled (map g.D.Disk.seen c.args.disks.now)
+    (λ strings. IsRefused (initial c.args.population.now) seed strings Reports before now
+    (g.W.Write.contents c.args.writer.now) (g.W.Write.contents c.report_on.new.writer) e) =
+    untold (map g.D.Disk.seen c.args.disks.now) (initial c.args.population.now) seed Reports (report_text r.commits report) r before now _ _ e
+    c.in_ok-recovered.ensures.recovered (report, c.in_ok-report.ensures.ok, refl) (c.in_ok-recovered.ensures.not_failed (search rules)) c.in_err-report_on.ensures.beginning in
+    search rules
+
+pub returns-clause-checked : goal.returns-clause-checked
+returns-clause-checked g c =
+    let known = c.in_ok-recovered.ensures.recovered in (
+      known.0,
+      known.1,
+      record {
+        recovered = c.in_ok-recovered.recovered;
+        recovery = known.2;
+        exact = c.in_ok-report.ensures.ok;
+        wrote = c.in_ok-report_on.ensures.whole;
+      },
+    )

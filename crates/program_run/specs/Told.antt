@@ -1,0 +1,77 @@
+-- What is told of a run.
+use Rattle.std.specs.Prelude.{◌≡◌, ◌≢◌, ◌⊎◌, ◌++◌, ℕ, List, [], Option, codes, length}
+use Rattle.std.specs.Fmt.{decimal}
+use Rattle.std.specs.Io.KnownBytes.{Appends}
+use Rattle.money.specs.declared.refusal.Refusal.{Refusal}
+use Rattle.money.specs.declared.refusal.Refusal.TheVariants.{OutOfMemory, Device}
+use Rattle.tables.specs.Database.{Database}
+use Rattle.conditions.specs.Report.{IsReportOf, IsGood}
+use Rattle.conditions.specs.declared.report.Report.{Report}
+use Rattle.program_script_text.specs.Report.{verdicts}
+use Rattle.book.specs.History.{replay}
+use Rattle.book.specs.declared.entry.Entry.{Entry}
+use Rattle.run_threads.specs.History.{IsMadeBy}
+use Rattle.run_threads.specs.Tally.{IsCounted}
+use Rattle.run_threads.specs.declared.tally.Tally.{Tally}
+use Rattle.program_run.specs.declared.counts.Counts.{Counts}
+
+-- the counts with these numbers
+abbrev pub counts_with : ℕ → ℕ → ℕ → ℕ → ℕ → ℕ → Counts
+counts_with commits rollbacks gave_up refused durable acknowledged = record {
+  commits = commits;
+  rollbacks = rollbacks;
+  gave_up = gave_up;
+  refused = refused;
+  durable = durable;
+  acknowledged = acknowledged;
+}
+
+-- the lines of what came of the inputs
+abbrev pub inputs_lines : Counts → List ℕ
+inputs_lines c = codes "commits " ++ (decimal c.commits ++ (codes "\nrollbacks " ++ (decimal c.rollbacks
+    ++ (codes "\ngaveup " ++ (decimal c.gave_up ++ (codes "\nrefused " ++ (decimal c.refused ++ codes "\n")))))))
+
+-- the lines of what is durable, and of the replies that were released for that
+abbrev pub replies_lines : Counts → List ℕ
+replies_lines c = codes "durable " ++ (decimal c.durable ++ (codes "\nacknowledged " ++ (decimal c.acknowledged
+    ++ codes "\n")))
+
+-- the text of a run: those lines, and the condition lines of a report
+abbrev pub run_text : Counts → Report → List ℕ
+run_text c report = (inputs_lines c ++ replies_lines c) ++ verdicts report
+
+-- this is the report of these committed tables, all conditions hold, and the text with these counts was written
+pub record IsTold (committed : Database) (c : Counts) (old new : Option (List ℕ)) (report : Report) : Type 0 where
+  pub exact : IsReportOf committed report
+  pub good : IsGood report
+  pub wrote : Appends old new (run_text c report)
+
+-- nothing was written for want of memory, or a beginning of such a text
+pub data IsCutShort (committed : Database) (c : Counts) (old new : Option (List ℕ)) (refusal : Refusal) : Type 0 where
+  unreported : refusal ≡ OutOfMemory → Appends old new [] → IsCutShort committed c old new refusal
+  begun : (report : Report) (front rest : List ℕ) → IsReportOf committed report → front ++ rest ≡ run_text c report
+      → Appends old new front → (refusal ≡ OutOfMemory) ⊎ (refusal ≡ Device) → IsCutShort committed c old new refusal
+
+-- of so many inputs at each of so many terminals, so much came of each terminal's, and these are the counts of that and
+-- of the history that they have made from these tables on
+pub record AreCounts (t0 : Database) (terminals inputs : ℕ) (history : List Entry) (tallies : List Tally) (c : Counts)
+    : Type 0 where
+  pub made : IsMadeBy terminals 0 t0 history
+  pub commits : c.commits ≡ length history
+  pub counted : IsCounted terminals inputs tallies c.commits c.rollbacks c.gave_up c.refused
+
+-- so many inputs ran at each of so many terminals from these tables on, and what came of them was told
+pub record IsRan (t0 : Database) (terminals inputs : ℕ) (old new : Option (List ℕ)) (report : Report) : Type 0 where
+  pub history : List Entry
+  pub tallies : List Tally
+  pub counts : Counts
+  pub counted : AreCounts t0 terminals inputs history tallies counts_with
+  pub told : IsTold (replay t0 history) counts_with old new report
+
+-- it was refused: no input ran, for want of memory or since a device failed, and nothing was written; or all did, and a
+-- beginning of the text was written
+pub data IsBroken (t0 : Database) (terminals inputs : ℕ) (old new : Option (List ℕ)) (refusal : Refusal) : Type 0 where
+  unrun : ((refusal ≢ OutOfMemory) → refusal ≡ Device) → Appends old new []
+      → IsBroken t0 terminals inputs old new refusal
+  untold : (history : List Entry) (tallies : List Tally) (c : Counts) → AreCounts t0 terminals inputs history tallies c
+      → IsCutShort (replay t0 history) c old new refusal → IsBroken t0 terminals inputs old new refusal

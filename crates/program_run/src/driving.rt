@@ -1,0 +1,175 @@
+//! A run from a population to its report.
+ghost use Rattle.std.specs.Prelude.{◌≡◌, ◌≢◌, ◌<◌, ◌≤◌, [], length, All, IfOk, IfErr};
+ghost use Rattle.money.specs.declared.refusal.Refusal.TheVariants.{OutOfMemory, Device};
+ghost use Rattle.tables.specs.declared.limits.TheConstants.{MAX_LOGGERS, MAX_TERMINALS};
+ghost use Rattle.population.specs.Initial.{initial};
+ghost use Rattle.book.specs.Parts.{IsFresh, IsRunOf, base_of, past_of, ledger_name, ledger_parts, loggers_of, terminals_of};
+ghost use Rattle.program_run.specs.Told.{AreCounts, IsBroken, IsRan, counts_with};
+
+use crate::outfit::{Slot, logs, stations};
+use crate::telling::ran;
+use book::{Engine, Parts, Run, Seats};
+use conditions::Report;
+use log_disk::Disk;
+use money::Refusal;
+use population::Population;
+use run_threads::{Desks, Outcome, Pace, Written, run};
+use std::alloc::Global;
+use std::io::Write;
+use std::marker::Brand;
+use std::sync::Wait;
+use std::thread::Threads;
+use terminals::Gate;
+
+/// What terminals there are, and what they do.
+#[derive(Clone, Copy, Debug, PartialEq, Eq)]
+pub struct Plan {
+    /// How many terminals, 1 to 16.
+    pub terminals: u16,
+    /// How many inputs each has.
+    pub inputs: u32,
+    /// What the inputs are drawn from.
+    pub seed: u64,
+}
+
+/// A run that was told.
+#[derive(Debug, Drop)]
+pub struct Driven {
+    /// The report of the committed tables.
+    pub report: Report,
+    /// The first logger that stopped before the end, since its device failed, if one did.
+    pub stopped: Option<u16>,
+}
+
+/// Runs an engine over the population, with new log files on the disks, one for each logger, and a gate for each
+/// terminal, and writes what came of it, as `ran` does. May wait, as `run_threads::run` does.
+///
+/// # Errors
+///
+/// `OutOfMemory`, `Device` where a header can't be written: then no input runs, and nothing is written. Both also as
+/// `ran`. A disk that fails later stops its logger.
+pub fn drive<
+    D: Disk + Send + Drop,
+    P: Pace + Send + Drop,
+    G: Gate + Send + Drop,
+    W: Write,
+    R: Threads + Wait + Sync,
+>(
+    rt: &R,
+    alloc: Global,
+    population: Population,
+    slots: Vec<Slot<D, P>>,
+    gates: Vec<G>,
+    plan: &Plan,
+    writer: &mut W,
+) -> Result<Driven, Refusal>
+    requires loggers { (0 < length slots.items) × (length slots.items ≤ MAX_LOGGERS) }
+    requires terminals { (0 < plan.now.terminals) × (plan.now.terminals ≤ MAX_TERMINALS) }
+    requires gates { length gates.items ≡ plan.now.terminals }
+    requires empty { D.is_modelled → All (λ slot. D.seen slot.disk ≡ []) slots.items }
+    ensures ran { IfOk result (λ driven. IsRan (initial population) plan.now.terminals plan.now.inputs
+        (W.contents writer.old) (W.contents writer.new) driven.report) }
+    ensures broken { IfErr result (IsBroken (initial population) plan.now.terminals plan.now.inputs
+        (W.contents writer.old) (W.contents writer.new)) }
+{
+    let parts = Parts::new(rt, alloc, population, slots.len() as u16, plan.terminals)?;
+    drive_parts::<Brand, D, P, G, W, R>(rt, alloc, parts, slots, gates, plan, writer)
+}
+
+/// Runs an engine of these parts, and writes what came of it.
+fn drive_parts<
+    K: Run + Send + Sync,
+    D: Disk + Send + Drop,
+    P: Pace + Send + Drop,
+    G: Gate + Send + Drop,
+    W: Write,
+    R: Threads + Wait + Sync,
+>(
+    rt: &R,
+    alloc: Global,
+    parts: Parts,
+    slots: Vec<Slot<D, P>>,
+    gates: Vec<G>,
+    plan: &Plan,
+    writer: &mut W,
+) -> Result<Driven, Refusal>
+    requires fresh { IsFresh parts }
+    requires run { IsRunOf parts K.first K.past K.cells K.board K.seed }
+    requires ledger { (ledger_name parts ≡ K.name) × (ledger_parts parts ≡ K.parts) }
+    requires loggers { (loggers_of parts ≡ length slots.items) × (length slots.items ≤ MAX_LOGGERS) }
+    requires begins { (base_of parts ≡ 0) × (past_of parts ≡ 0) }
+    requires terminals { (terminals_of parts ≡ plan.now.terminals) × (plan.now.terminals ≤ MAX_TERMINALS) }
+    requires gates { length gates.items ≡ plan.now.terminals }
+    requires empty { D.is_modelled → All (λ slot. D.seen slot.disk ≡ []) slots.items }
+    ensures ran { IfOk result (λ driven. IsRan K.first plan.now.terminals plan.now.inputs
+        (W.contents writer.old) (W.contents writer.new) driven.report) }
+    ensures broken { IfErr result (IsBroken K.first plan.now.terminals plan.now.inputs
+        (W.contents writer.old) (W.contents writer.new)) }
+{
+    let outcome = match outcome_of::<K, D, P, G, R>(rt, alloc, parts, slots, gates, plan) {
+        Ok(outcome) => outcome,
+        Err(refusal) => return Err(refusal),
+    };
+    let report = match ran(alloc, &outcome, writer) {
+        Ok(report) => report,
+        Err(refusal) => return Err(refusal),
+    };
+    Ok(Driven {
+        report,
+        stopped: first_stopped(&outcome.files),
+    })
+}
+
+/// Runs an engine of these parts. `OutOfMemory` is a refusal, and so is `Device`, where a disk fails at the start.
+fn outcome_of<
+    K: Run + Send + Sync,
+    D: Disk + Send + Drop,
+    P: Pace + Send + Drop,
+    G: Gate + Send + Drop,
+    R: Threads + Wait + Sync,
+>(
+    rt: &R,
+    alloc: Global,
+    parts: Parts,
+    slots: Vec<Slot<D, P>>,
+    gates: Vec<G>,
+    plan: &Plan,
+) -> Result<Outcome<K, D>, Refusal>
+    requires fresh { IsFresh parts }
+    requires run { IsRunOf parts K.first K.past K.cells K.board K.seed }
+    requires ledger { (ledger_name parts ≡ K.name) × (ledger_parts parts ≡ K.parts) }
+    requires loggers { (loggers_of parts ≡ length slots.items) × (length slots.items ≤ MAX_LOGGERS) }
+    requires begins { (base_of parts ≡ 0) × (past_of parts ≡ 0) }
+    requires terminals { (terminals_of parts ≡ plan.now.terminals) × (plan.now.terminals ≤ MAX_TERMINALS) }
+    requires gates { length gates.items ≡ plan.now.terminals }
+    requires empty { D.is_modelled → All (λ slot. D.seen slot.disk ≡ []) slots.items }
+    ensures counted { IfOk result (λ outcome. AreCounts K.first plan.now.terminals plan.now.inputs outcome.closed
+        outcome.tallies.items (counts_with outcome.commits outcome.rollbacks outcome.gave_up outcome.refused outcome.durable
+        outcome.acknowledged)) }
+    ensures cause { IfErr result (λ refusal. (refusal ≢ OutOfMemory) → refusal ≡ Device) }
+{
+    let (engine, seats) = Engine::<K>::open(parts);
+    let Seats {
+        clock,
+        loggers,
+        terminals,
+    } = seats;
+    let desks = Desks { clock, terminals };
+    let logs = logs(alloc, engine.population(), engine.board(), loggers, slots)?;
+    let stations = stations(
+        alloc,
+        engine.population().scale(),
+        gates,
+        plan.terminals,
+        plan.seed,
+    )?;
+    run::<K, G, D, P, R>(rt, alloc, engine, desks, logs, stations, plan.inputs)
+}
+
+/// The number of the first logger that stopped, if one did.
+fn first_stopped<D: Disk>(files: &[Written<D>]) -> Option<u16> {
+    files
+        .iter()
+        .find(|file| file.has_stopped)
+        .map(|file| file.logger.file().header().logger)
+}

@@ -1,0 +1,361 @@
+//! Running a script from its bytes to its replies.
+
+ghost use Rattle.std.specs.Prelude.{◌≡◌, ◌⊎◌, ◌≤◌, ◌<◌, ◌+◌, ℕ, Some, List, [], ◌++◌, length, take, codes};
+ghost use Rattle.std.specs.Prelude.{string_bytes, IfErr, IfOk, OnOk, OnErr, IsErrOf};
+ghost use Rattle.std.specs.Io.KnownBytes.{Appends, Consumes, IsAtEnd};
+ghost use Rattle.money.specs.declared.refusal.Refusal.TheVariants.{OutOfMemory, BadInput, Device};
+ghost use Rattle.population.specs.Initial.{initial};
+ghost use Rattle.program_script_text.specs.Lines.{buffered};
+ghost use Rattle.program_script_text.specs.Output.{answer_text};
+ghost use Rattle.book.specs.Parts.{IsFresh, IsRunOf, past_of, ledger_name, ledger_parts, terminals_of};
+ghost use Rattle.program_script.specs.Turns.{Turn, IsLineTurn};
+ghost use Rattle.program_script.specs.Written.{HasTooManyLines, IsWhole, IsBeginning};
+ghost use Rattle.program_script.specs.Answered.{state_of, standing_of, HasAnswered, HasAnsweredAll, HasTooMany};
+
+use crate::answering::answer_line;
+use book::{Done, Engine, Parts, Run, Seat};
+use book_session::Session;
+use conditions::Report;
+use money::Refusal;
+use population::Population;
+use program_script_text::{LineBuffer, print_report};
+use std::alloc::Global;
+use std::io::{ErrorKind, Read, Write};
+use std::marker::Brand;
+use std::sync::Wait;
+
+/// The most bytes that are read at once.
+const PIECE: usize = 65_536;
+
+/// The most lines that a script may have.
+pub const MAX_LINES: u32 = 4_000_000_000;
+
+/// Answers the lines that a reader gives, in order, and then reports on the committed tables. The date of a
+/// line is its number, from 1. A line in none of the forms, or of more than 1,024 bytes, is answered by
+/// `14 line N`.
+///
+/// Runs over the one terminal of an engine that it opens, and has its book until the end. May wait, at the
+/// book's lock and at record cells, and executes a transaction again after `Stale` or `Conflict`: what is promised
+/// holds if it returns.
+///
+/// What is written is the text of a whole script of the bytes that the reader has, in whatever pieces they
+/// come, and what is returned is that script's report and its commits in order (`specs/Written.antt`).
+///
+/// What was answered is written before each read, so it is out before a read can wait. Memory beside the population is
+/// the engine's (a cell and a newest version a record, the running totals, and for each commit an entry with its writes
+/// and its places in history and stream), one piece and its answers, and a [`Done`] for each commit.
+///
+/// Refuses by `Device` where the reader or the writer fails, or comes to no end in 2^64 - 1 calls, by `BadInput`
+/// only where there are more than 4,000,000,000 lines, and else for memory. What was written by then is a
+/// beginning of that text.
+pub fn script<R: Read, W: Write, T: Wait>(
+    rt: &T,
+    alloc: Global,
+    population: Population,
+    reader: &mut R,
+    writer: &mut W,
+) -> Result<(Report, Vec<Done>), Refusal>
+    ensures whole { IfOk result (λ closed. (bytes : List ℕ) → R.remaining reader.old ≡ Some bytes
+        → (text : List ℕ)
+        × Appends (W.contents writer.old) (W.contents writer.new) text
+        × IsWhole (initial population) bytes text closed.0 closed.1.items) }
+    ensures beginning { OnErr result ((bytes : List ℕ) → R.remaining reader.old ≡ Some bytes
+        → (front : List ℕ)
+        × Appends (W.contents writer.old) (W.contents writer.new) front
+        × IsBeginning (initial population) bytes front) }
+    ensures too_many { IsErrOf result BadInput → (bytes : List ℕ)
+        → R.remaining reader.old ≡ Some bytes → HasTooManyLines bytes }
+    ensures refusals { IfErr result (λ refusal. (refusal ≡ OutOfMemory) ⊎ (refusal ≡ BadInput)
+        ⊎ (refusal ≡ Device)) }
+{
+    let parts = Parts::new(rt, alloc, population, 1, 1)?;
+    run::<Brand, R, W, T>(rt, alloc, parts, reader, writer)
+}
+
+/// Answers the lines, over the one terminal of an engine of these parts, and then reports.
+fn run<K: Run, R: Read, W: Write, T: Wait>(
+    rt: &T,
+    alloc: Global,
+    parts: Parts,
+    reader: &mut R,
+    writer: &mut W,
+) -> Result<(Report, Vec<Done>), Refusal>
+    requires fresh { IsFresh parts }
+    requires one { terminals_of parts ≡ 1 }
+    requires run { IsRunOf parts K.first K.past K.cells K.board K.seed }
+    requires begins { past_of parts ≡ 0 }
+    requires ledger { (ledger_name parts ≡ K.name) × (ledger_parts parts ≡ K.parts) }
+    ensures whole { IfOk result (λ closed. (bytes : List ℕ) → R.remaining reader.old ≡ Some bytes
+        → (text : List ℕ)
+        × Appends (W.contents writer.old) (W.contents writer.new) text
+        × IsWhole K.first bytes text closed.0 closed.1.items) }
+    ensures beginning { OnErr result ((bytes : List ℕ) → R.remaining reader.old ≡ Some bytes
+        → (front : List ℕ)
+        × Appends (W.contents writer.old) (W.contents writer.new) front
+        × IsBeginning K.first bytes front) }
+    ensures too_many { IsErrOf result BadInput → (bytes : List ℕ)
+        → R.remaining reader.old ≡ Some bytes → HasTooManyLines bytes }
+    ensures refusals { IfErr result (λ refusal. (refusal ≡ OutOfMemory) ⊎ (refusal ≡ BadInput)
+        ⊎ (refusal ≡ Device)) }
+{
+    let (engine, mut seats) = Engine::<K>::open(parts);
+    let Some(seat) = seats.terminals.next() else {
+        unreachable!();
+    };
+    let desk = Desk::new(rt, alloc, &engine, seat)?;
+    desk.run(rt, alloc, reader, writer)
+}
+
+/// A session with the line that is coming in and the answers that aren't written yet.
+#[derive(Drop)]
+struct Desk<'e, K: Run> {
+    alloc: Global,
+    session: Session<'e, K>,
+    line: LineBuffer,
+    /// How many lines were answered.
+    answered: u32,
+    output: String,
+}
+
+impl<'e, K: Run> Desk<'e, K> {
+    fn new<T: Wait>(
+        rt: &T,
+        alloc: Global,
+        engine: &'e Engine<K>,
+        seat: Seat<K>,
+    ) -> Result<Desk<'e, K>, Refusal>
+        requires reader { seat.reader.cells ≡ K.cells }
+        requires only { seat.share.parts ≡ K.parts }
+        requires none { seat.share.commits ≡ 0 }
+        requires begins { K.past ≡ 0 }
+        ensures start { IfOk result (λ desk. HasAnswered K.first [] [] (standing_of desk)) }
+        ensures memory { IfErr result (λ refusal. refusal ≡ OutOfMemory) }
+    {
+        Ok(Desk {
+            alloc,
+            session: Session::open(rt, alloc, engine, seat),
+            line: LineBuffer::new(alloc)?,
+            answered: 0,
+            output: String::new(alloc),
+        })
+    }
+
+    /// Answers all lines that a reader gives, and writes the report behind the last answer.
+    fn run<R: Read, W: Write, T: Wait>(
+        self,
+        rt: &T,
+        alloc: Global,
+        reader: &mut R,
+        writer: &mut W,
+    ) -> Result<(Report, Vec<Done>), Refusal>
+        requires start { HasAnswered K.first [] [] (standing_of self) }
+        ensures whole { IfOk result (λ closed. (bytes : List ℕ)
+            → R.remaining reader.old ≡ Some bytes → (text : List ℕ)
+            × Appends (W.contents writer.old) (W.contents writer.new) text
+            × IsWhole K.first bytes text closed.0 closed.1.items) }
+        ensures beginning { OnErr result ((bytes : List ℕ) → R.remaining reader.old ≡ Some bytes
+            → (front : List ℕ)
+            × Appends (W.contents writer.old) (W.contents writer.new) front
+            × IsBeginning K.first bytes front) }
+        ensures too_many { IsErrOf result BadInput → (bytes : List ℕ)
+            → R.remaining reader.old ≡ Some bytes → HasTooManyLines bytes }
+        ensures refusals { IfErr result (λ refusal. (refusal ≡ OutOfMemory) ⊎ (refusal ≡ BadInput)
+            ⊎ (refusal ≡ Device)) }
+    {
+        let mut desk = self;
+        let mut piece = vec![in alloc; 0u8; PIECE]?;
+        desk.answer_all(rt, &mut piece, reader, writer)?;
+        desk.close(writer)
+    }
+
+    /// Answers all lines that a reader gives, which come through `piece`. The answers to the last ones aren't
+    /// written yet.
+    fn answer_all<R: Read, W: Write, T: Wait>(
+        &mut self,
+        rt: &T,
+        piece: &mut [u8],
+        reader: &mut R,
+        writer: &mut W,
+    ) -> Result<(), Refusal>
+        requires { 0 < length piece.old }
+        ensures all { OnOk result ((bytes : List ℕ) → R.remaining reader.old ≡ Some bytes
+            → HasAnswered K.first [] [] (standing_of self.old) → (written : List ℕ)
+            × Appends (W.contents writer.old) (W.contents writer.new) written
+            × HasAnsweredAll K.first bytes written (standing_of self.new)) }
+        ensures beginning { OnErr result ((bytes : List ℕ) → R.remaining reader.old ≡ Some bytes
+            → HasAnswered K.first [] [] (standing_of self.old) → (front : List ℕ)
+            × Appends (W.contents writer.old) (W.contents writer.new) front
+            × IsBeginning K.first bytes front) }
+        ensures too_many { IsErrOf result BadInput → (bytes : List ℕ)
+            → R.remaining reader.old ≡ Some bytes
+            → HasAnswered K.first [] [] (standing_of self.old) → HasTooManyLines bytes }
+        ensures refusals { IfErr result (λ refusal. (refusal ≡ OutOfMemory) ⊎ (refusal ≡ BadInput)
+            ⊎ (refusal ≡ Device)) }
+    {
+        for _ in 0..u64::MAX {
+            self.write(writer)?;
+            let count = read_piece(reader, piece)?;
+            if count == 0 {
+                self.answer_last(rt)?;
+                return Ok(());
+            }
+            self.answer_lines(rt, &piece[..count])?;
+        }
+        Err(Refusal::Device)
+    }
+
+    /// Answers the lines that a piece of the input ends.
+    fn answer_lines<T: Wait>(&mut self, rt: &T, piece: &[u8]) -> Result<(), Refusal>
+        ensures ok { OnOk result ((text written : List ℕ)
+            → HasAnswered K.first text written (standing_of self.old)
+            → HasAnswered K.first (text ++ piece.now) written (standing_of self.new)) }
+        ensures too_many { IsErrOf result BadInput → (text written : List ℕ)
+            → HasAnswered K.first text written (standing_of self.old)
+            → HasTooMany (text ++ piece.now) }
+        ensures refusals { IfErr result (λ refusal. (refusal ≡ OutOfMemory)
+            ⊎ (refusal ≡ BadInput)) }
+    {
+        let mut rest = piece;
+        while let Some(after) = self.line.take_line(rest) {
+            rest = after;
+            self.answer_held(rt)?;
+        }
+        Ok(())
+    }
+
+    /// Answers a last line that no line feed ends.
+    fn answer_last<T: Wait>(&mut self, rt: &T) -> Result<(), Refusal>
+        ensures ok { OnOk result ((text written : List ℕ)
+            → HasAnswered K.first text written (standing_of self.old)
+            → HasAnsweredAll K.first text written (standing_of self.new)) }
+        ensures too_many { IsErrOf result BadInput → (text written : List ℕ)
+            → HasAnswered K.first text written (standing_of self.old) → HasTooManyLines text }
+        ensures refusals { IfErr result (λ refusal. (refusal ≡ OutOfMemory)
+            ⊎ (refusal ≡ BadInput)) }
+    {
+        if self.line.is_empty() {
+            return Ok(());
+        }
+        self.answer_held(rt)?;
+        Ok(())
+    }
+
+    /// Answers the line that is held.
+    fn answer_held<T: Wait>(&mut self, rt: &T) -> Result<(), Refusal>
+        ensures turn { OnOk result ((bytes : List ℕ) → self.old.line ≡ buffered bytes → (turn : Turn)
+            × IsLineTurn (state_of K.first self.old.session) (self.old.answered + 1) bytes turn
+            × (state_of K.first self.new.session ≡ turn.state)
+            × (string_bytes self.new.output
+            ≡ string_bytes self.old.output ++ (answer_text turn.answer ++ codes "\n"))) }
+        ensures count { OnOk result (self.new.answered ≡ self.old.answered + 1) }
+        ensures line { OnOk result (self.new.line ≡ Some []) }
+        ensures refusals { IfErr result (λ refusal. (refusal ≡ OutOfMemory)
+            ⊎ ((refusal ≡ BadInput) × (MAX_LINES ≤ self.old.answered))) }
+    {
+        if self.answered >= MAX_LINES {
+            return Err(Refusal::BadInput);
+        }
+        self.answered += 1;
+        let (alloc, line) = (self.alloc, self.line.line());
+        let (session, output) = (&mut self.session, &mut self.output);
+        answer_line(rt, alloc, session, line, self.answered, output)?;
+        self.line.clear();
+        Ok(())
+    }
+
+    /// Writes the answers that aren't written yet.
+    fn write<W: Write>(&mut self, writer: &mut W) -> Result<(), Refusal>
+        ensures ok { OnOk result ((text written : List ℕ)
+            → HasAnswered K.first text written (standing_of self.old)
+            → (more : List ℕ) × Appends (W.contents writer.old) (W.contents writer.new) more
+            × HasAnswered K.first text (written ++ more) (standing_of self.new)) }
+        ensures err { OnErr result ((front rest : List ℕ)
+            × (string_bytes self.old.output ≡ front ++ rest)
+            × Appends (W.contents writer.old) (W.contents writer.new) front) }
+        ensures device { IfErr result (λ refusal. refusal ≡ Device) }
+    {
+        if self.output.is_empty() {
+            return Ok(());
+        }
+        write_text(writer, self.output.as_bytes())?;
+        self.output.clear();
+        Ok(())
+    }
+
+    /// Writes the report behind the last answers.
+    fn close<W: Write>(self, writer: &mut W) -> Result<(Report, Vec<Done>), Refusal>
+        ensures whole { IfOk result (λ closed. (bytes written : List ℕ)
+            → HasAnsweredAll K.first bytes written (standing_of self.entry) → (more : List ℕ)
+            × Appends (W.contents writer.old) (W.contents writer.new) more
+            × IsWhole K.first bytes (written ++ more) closed.0 closed.1.items) }
+        ensures beginning { OnErr result ((bytes written : List ℕ)
+            → HasAnsweredAll K.first bytes written (standing_of self.entry) → (more : List ℕ)
+            × Appends (W.contents writer.old) (W.contents writer.new) more
+            × IsBeginning K.first bytes (written ++ more)) }
+        ensures refusals { IfErr result (λ refusal. (refusal ≡ OutOfMemory) ⊎ (refusal ≡ Device)) }
+    {
+        let Desk {
+            alloc: _,
+            session,
+            line: _,
+            answered: _,
+            mut output,
+        } = self;
+        let (report, dones) = session.close()?;
+        print_report(dones.len() as u64, &report, &mut output)?;
+        write_text(writer, output.as_bytes())?;
+        Ok((report, dones))
+    }
+}
+
+/// Reads what comes next. A read that was interrupted has taken nothing, and is tried again.
+fn read_piece<R: Read>(reader: &mut R, piece: &mut [u8]) -> Result<usize, Refusal>
+    ensures within { IfOk result (λ count. count ≤ length piece.new) }
+    ensures bytes { IfOk result
+        (λ count. Consumes (R.remaining reader.old) (R.remaining reader.new) (take count piece.new)) }
+    ensures end { IfOk result (λ count. count ≡ 0 → 0 < length piece.new
+        → IsAtEnd (R.remaining reader.new)) }
+    ensures device { IfErr result (λ refusal. refusal ≡ Device) }
+{
+    for _ in 0..u64::MAX {
+        match reader.read(piece) {
+            Ok(count) => return Ok(count),
+            Err(error) if error.kind() == ErrorKind::Interrupted => continue,
+            Err(_) => return Err(Refusal::Device),
+        }
+    }
+    Err(Refusal::Device)
+}
+
+/// Writes a text and flushes it. Where that fails, a beginning of it may be written.
+pub fn write_text<W: Write>(writer: &mut W, text: &[u8]) -> Result<(), Refusal>
+    ensures ok { OnOk result (Appends (W.contents writer.old) (W.contents writer.new) text.now) }
+    ensures err { OnErr result ((front rest : List ℕ) × (text.now ≡ front ++ rest)
+        × Appends (W.contents writer.old) (W.contents writer.new) front) }
+    ensures device { IfErr result (λ refusal. refusal ≡ Device) }
+{
+    write_whole(writer, text)?;
+    writer.flush().map_err(|_| Refusal::Device)
+}
+
+/// Writes a text piece by piece, so that where a write fails it is known what the writer has taken.
+fn write_whole<W: Write>(writer: &mut W, text: &[u8]) -> Result<(), Refusal>
+    ensures ok { OnOk result (Appends (W.contents writer.old) (W.contents writer.new) text.now) }
+    ensures err { OnErr result ((front rest : List ℕ) × (text.now ≡ front ++ rest)
+        × Appends (W.contents writer.old) (W.contents writer.new) front) }
+    ensures device { IfErr result (λ refusal. refusal ≡ Device) }
+{
+    let mut rest = text;
+    for _ in 0..u64::MAX {
+        if rest.is_empty() {
+            return Ok(());
+        }
+        match writer.write(rest) {
+            Ok(0) => return Err(Refusal::Device),
+            Ok(count) => rest = &rest[count..],
+            Err(error) if error.kind() == ErrorKind::Interrupted => continue,
+            Err(_) => return Err(Refusal::Device),
+        }
+    }
+    Err(Refusal::Device)
+}

@@ -1,0 +1,120 @@
+//! The parts of an answer, appended to a text that has room for them, so that none of it takes memory.
+ghost use Rattle.std.specs.Prelude.{◌≡◌, ◌≤◌, ◌<◌, ◌+◌, ℕ, Option, ◌∷◌, [], ◌++◌, length, codes, string_bytes};
+ghost use Rattle.std.specs.String.{string_len, string_capacity};
+ghost use Rattle.std.specs.Fmt.{decimal};
+ghost use Rattle.money.specs.Money.{money_text, unsigned_money_text};
+ghost use Rattle.program_script_text.specs.Output.{nullable_word};
+
+use itoa::Buffer;
+use money::Cents;
+
+/// The most bytes of a number.
+pub(crate) const NUMBER_ROOM: usize = 10;
+
+/// The most bytes of an amount.
+pub(crate) const AMOUNT_ROOM: usize = 24;
+
+/// Appends what stands before a number, and the number.
+#[inline(always)]
+pub(crate) fn push_field(out: &mut String, before: &str, number: u32)
+    requires { string_len out.old + (length before.now + NUMBER_ROOM) ≤ string_capacity out.old }
+    ensures text { string_bytes out.new ≡ string_bytes out.old ++ (before.now ++ decimal number) }
+    ensures len { string_len out.new ≤ string_len out.old + (length before.now + NUMBER_ROOM) }
+    ensures capacity { string_capacity out.old ≤ string_capacity out.new }
+{
+    push_text(out, before);
+    push_number(out, number);
+}
+
+/// Appends what stands before a column that may be null, and the column.
+#[inline(always)]
+pub(crate) fn push_nullable(out: &mut String, before: &str, column: Option<u32>)
+    requires { string_len out.old + (length before.now + NUMBER_ROOM) ≤ string_capacity out.old }
+    ensures text { string_bytes out.new ≡ string_bytes out.old ++ (before.now ++ nullable_word column) }
+    ensures len { string_len out.new ≤ string_len out.old + (length before.now + NUMBER_ROOM) }
+    ensures capacity { string_capacity out.old ≤ string_capacity out.new }
+{
+    push_text(out, before);
+    match column {
+        Some(number) => push_number(out, number),
+        None => push_text(out, "-"),
+    }
+}
+
+/// Appends what stands before an amount, and the amount.
+#[inline(always)]
+pub(crate) fn push_amount(out: &mut String, before: &str, amount: Cents)
+    requires { string_len out.old + (length before.now + AMOUNT_ROOM) ≤ string_capacity out.old }
+    ensures text { string_bytes out.new ≡ string_bytes out.old ++ (before.now ++ money_text amount) }
+    ensures len { string_len out.new ≤ string_len out.old + (length before.now + AMOUNT_ROOM) }
+    ensures capacity { string_capacity out.old ≤ string_capacity out.new }
+{
+    push_text(out, before);
+    push_cents(out, amount);
+}
+
+/// Appends a text.
+#[inline(always)]
+pub(crate) fn push_text(out: &mut String, text: &str)
+    requires { string_len out.old + length text.now ≤ string_capacity out.old }
+    ensures text { string_bytes out.new ≡ string_bytes out.old ++ text.now }
+    ensures len { string_len out.new ≡ string_len out.old + length text.now }
+    ensures capacity { string_capacity out.old ≤ string_capacity out.new }
+{
+    out.push_str(text).unwrap();
+}
+
+/// Appends a number. Most numbers of an answer have one digit.
+#[tactic(auto, using(std::proofs::lemmas::Fmt::decimal_digit))]
+fn push_number(out: &mut String, number: u32)
+    requires { string_len out.old + NUMBER_ROOM ≤ string_capacity out.old }
+    ensures text { string_bytes out.new ≡ string_bytes out.old ++ decimal number }
+    ensures len { string_len out.new ≤ string_len out.old + NUMBER_ROOM }
+    ensures capacity { string_capacity out.old ≤ string_capacity out.new }
+{
+    if number < 10 {
+        push_digit(out, number as u8);
+    } else {
+        push_text(out, Buffer::new().format(number));
+    }
+}
+
+/// Appends an amount.
+fn push_cents(out: &mut String, amount: Cents)
+    requires { string_len out.old + AMOUNT_ROOM ≤ string_capacity out.old }
+    ensures text { string_bytes out.new ≡ string_bytes out.old ++ money_text amount }
+    ensures len { string_len out.new ≤ string_len out.old + AMOUNT_ROOM }
+    ensures capacity { string_capacity out.old ≤ string_capacity out.new }
+{
+    let cents = amount.amount();
+    if cents < 0 {
+        push_text(out, "-");
+    }
+    push_unsigned(out, cents.unsigned_abs());
+}
+
+/// Appends an amount from zero on.
+fn push_unsigned(out: &mut String, cents: u64)
+    requires { string_len out.old + 23 ≤ string_capacity out.old }
+    ensures text { string_bytes out.new ≡ string_bytes out.old ++ unsigned_money_text cents }
+    ensures len { string_len out.new ≤ string_len out.old + 23 }
+    ensures capacity { string_capacity out.old ≤ string_capacity out.new }
+{
+    let (units, hundredths) = (cents / 100, (cents % 100) as u8);
+    push_text(out, Buffer::new().format(units));
+    push_text(out, ".");
+    push_digit(out, hundredths / 10);
+    push_digit(out, hundredths % 10);
+}
+
+/// Appends a digit.
+#[inline(always)]
+fn push_digit(out: &mut String, digit: u8)
+    requires digit { digit < 10 }
+    requires room { string_len out.old + 1 ≤ string_capacity out.old }
+    ensures text { string_bytes out.new ≡ string_bytes out.old ++ (48 + digit) ∷ [] }
+    ensures len { string_len out.new ≡ string_len out.old + 1 }
+    ensures capacity { string_capacity out.old ≤ string_capacity out.new }
+{
+    out.push(char::from(b'0' + digit)).unwrap();
+}

@@ -1,0 +1,155 @@
+-- A logger's disk while a batch is appended: what stands there at each stage, and what a crash may leave.
+use Rattle.std.proofs.Common.{◌≡◌, ◌≢◌, ℕ, ◌+◌, Some, List, [], ◌∷◌, ◌++◌, length, drop, Result, Ok, Err, true, sym, ◌∙◌, subst, inl, inr}
+use Rattle.money.specs.declared.refusal.Refusal.{Refusal}
+use Rattle.log_disk.specs.Calls.{Call, Synced}
+use Rattle.log_disk.specs.Crashes.{MayLeave, Leaves}
+use Rattle.log_header.specs.Header.{HeaderView, IsHeader, header_text}
+use Rattle.log_text.specs.Bodies.{BodyView, body_after, bodies_after, start}
+use Rattle.log_text.specs.File.{opened}
+use Rattle.log_text.specs.declared.last.Last.{Last}
+use Rattle.book.specs.Batches.{BatchView}
+use Rattle.log_entries.specs.Following.{body_of_batch}
+use Rattle.logfile.specs.Staged.{IsSettled, HasGate, IsStaged}
+use Rattle.logfile.specs.Standing.{LogFileView, Stands, IsWithOrWithout}
+use Rattle.logfile.proofs.Moments.{wrote_left, synced_left, only_last}
+use Rattle.logfile.proofs.Staging.{text_seen, gate_seen, text_moments, gate_moments}
+use Rattle.logfile.proofs.Appending.{at_gate, staged_is, stands}
+use Rattle.recover_crashes.specs.World.{DiskView, Stage, BatchTaken, TextWritten, TextSynced, GateOpened, DeviceFailed, Flight, Idle, Flying}
+use Rattle.recover_crashes.specs.Events.{IsCalled, text_of, on_disk}
+
+-- what stands in front of the gate that ends a file's text
+abbrev pub front_of : HeaderView → List BodyView → List ℕ
+front_of h bodies = header_text h ++ opened bodies
+
+-- the file stands behind these bodies, and the gate that ends its text has its place
+pub record IsPlaced (h : HeaderView) (bodies : List BodyView) (file : LogFileView DiskView) : Type 0 where
+  pub header : IsHeader h
+  pub lawful : bodies_after h start bodies ≡ Some file.last
+  pub place : length (front_of h bodies) ≡ file.end
+
+-- what a read gives at each stage, and whether a crash leaves just that
+abbrev pub IsReady : Stage → ℕ → List ℕ → ℕ → List ℕ → DiskView → Type 0
+IsReady BatchTaken end front gate text d = IsSettled d.seen d.story × ((rest : List ℕ) × HasGate end front gate rest d.seen)
+IsReady TextWritten end front gate text d = (rest : List ℕ) × HasGate end front gate (text ++ rest) d.seen
+IsReady TextSynced end front gate text d = IsSettled d.seen d.story × ((rest : List ℕ) × HasGate end front gate (text ++ rest) d.seen)
+IsReady GateOpened end front gate text d = (rest : List ℕ) × (d.seen ≡ front ++ 1 ∷ (text ++ rest))
+IsReady DeviceFailed end front gate text d = Unit {0}
+
+-- a batch is on its way into the file
+pub record IsFlying (h : HeaderView) (bodies : List BodyView) (stage : Stage) (batch : BatchView) (file : LogFileView DiskView) : Type 0 where
+  pub placed : IsPlaced h bodies file
+  pub gate : ℕ
+  pub closed : gate ≢ 1
+  pub leaves : Leaves (IsStaged (front_of h bodies) gate (text_of batch)) file.disk.story
+  pub ready : IsReady stage file.end (front_of h bodies) gate (text_of batch) file.disk
+
+abbrev pub FitsDisk : HeaderView → List BodyView → Flight → LogFileView DiskView → Type 0
+FitsDisk h bodies Idle file = Stands h bodies file.end file.last file.disk.seen file.disk.story
+FitsDisk h bodies (Flying stage batch) file = IsFlying h bodies stage batch file
+
+pub placed_there : (h : HeaderView) (bodies : List BodyView) (file : LogFileView DiskView)
+    → Stands h bodies file.end file.last file.disk.seen file.disk.story → IsPlaced h bodies file
+placed_there h bodies file s = record { header = s.file.header; lawful = s.lawful; place = s.place }
+
+pub takes : (h : HeaderView) (bodies : List BodyView) (batch : BatchView) (file : LogFileView DiskView)
+    → Stands h bodies file.end file.last file.disk.seen file.disk.story → IsFlying h bodies BatchTaken batch file
+takes h bodies batch file s =
+    let has = at_gate h bodies file.end file.last file.disk.seen file.disk.story s in
+    record {
+      placed = placed_there h bodies file s;
+      gate = s.file.gate;
+      closed = s.file.is_closed;
+      leaves = λ bytes may. inl (s.file.rest, s.settled bytes may ∙ has.text);
+      ready = (s.settled, (s.file.rest, has));
+    }
+
+-- a sync that was done settles the disk
+settled_by : (old new : DiskView) → new.seen ≡ old.seen → new.story ≡ Synced old.seen ∷ old.story → IsSettled new.seen new.story
+settled_by old new seen story = λ bytes may. subst (λ (s : List Call). MayLeave s bytes) story may ∙ sym seen
+
+module _ (h : HeaderView) (bodies : List BodyView) (batch : BatchView) (file : LogFileView DiskView) (disk : DiskView) where
+  abbrev front : List ℕ
+  front = front_of h bodies
+
+  abbrev text : List ℕ
+  text = text_of batch
+
+  -- whatever the next call's result is, a crash leaves the file with the batch or without it
+  pub leaves_after : (stage : Stage) (result : Result (Unit {0}) Refusal) → (f : IsFlying h bodies stage batch file)
+      → IsCalled stage batch file result disk → Leaves (IsStaged front f.gate text) disk.story
+  leaves_after BatchTaken result f call =
+      only_last (IsStaged front f.gate text) file.disk.story disk.story
+      (text_moments file.end front f.gate f.ready.1.0 file.disk.seen text (length text) file.disk.story disk.story f.ready.1.1
+      (wrote_left result (file.end + 1) (length text) file.disk.seen file.disk.story disk.story f.ready.0 call.story))
+  leaves_after TextWritten result f call =
+      only_last (IsStaged front f.gate text) file.disk.story disk.story
+      (synced_left (IsStaged front f.gate text) result file.disk.seen file.disk.story disk.story f.leaves
+      (inl (text ++ f.ready.0, f.ready.1.text)) call.story)
+  leaves_after TextSynced result f call =
+      only_last (IsStaged front f.gate text) file.disk.story disk.story
+      (gate_moments file.end front f.gate f.ready.1.0 file.disk.seen text file.disk.story disk.story f.ready.1.1
+      (wrote_left result file.end 1 file.disk.seen file.disk.story disk.story f.ready.0 call.story))
+  leaves_after GateOpened result f call =
+      only_last (IsStaged front f.gate text) file.disk.story disk.story
+      (synced_left (IsStaged front f.gate text) result file.disk.seen file.disk.story disk.story f.leaves
+      (inr (1, f.ready.0, f.ready.1)) call.story)
+  leaves_after DeviceFailed result f call = absurd call
+
+  -- the call that comes next is done
+  pub text_is_written : (x : Unit {0}) → IsFlying h bodies BatchTaken batch file → IsCalled BatchTaken batch file (Ok x) disk
+      → IsFlying h bodies TextWritten batch (on_disk file disk)
+  text_is_written x f call = record {
+    placed = record { header = f.placed.header; lawful = f.placed.lawful; place = f.placed.place };
+    gate = f.gate;
+    closed = f.closed;
+    leaves = leaves_after BatchTaken (Ok x) f call;
+    ready = (drop (length text) f.ready.1.0, text_seen file.end front f.gate f.ready.1.0 file.disk.seen text disk.seen f.ready.1.1 call.seen);
+  }
+
+  pub text_is_synced : (x : Unit {0}) → IsFlying h bodies TextWritten batch file → IsCalled TextWritten batch file (Ok x) disk
+      → IsFlying h bodies TextSynced batch (on_disk file disk)
+  text_is_synced x f call = record {
+    placed = record { header = f.placed.header; lawful = f.placed.lawful; place = f.placed.place };
+    gate = f.gate;
+    closed = f.closed;
+    leaves = leaves_after TextWritten (Ok x) f call;
+    ready = (
+      settled_by file.disk disk call.seen call.story,
+      (f.ready.0, record { place = f.ready.1.place; text = call.seen ∙ f.ready.1.text }),
+    );
+  }
+
+  pub gate_is_opened : (x : Unit {0}) → IsFlying h bodies TextSynced batch file → IsCalled TextSynced batch file (Ok x) disk
+      → IsFlying h bodies GateOpened batch (on_disk file disk)
+  gate_is_opened x f call = record {
+    placed = record { header = f.placed.header; lawful = f.placed.lawful; place = f.placed.place };
+    gate = f.gate;
+    closed = f.closed;
+    leaves = leaves_after TextSynced (Ok x) f call;
+    ready = (f.ready.1.0, gate_seen file.end front f.gate 1 (text ++ f.ready.1.0) file.disk.seen disk.seen f.ready.1.1 call.seen);
+  }
+
+  pub batch_is_there : (x : Unit {0}) (now : Last) → (f : IsFlying h bodies GateOpened batch file) → IsCalled GateOpened batch file (Ok x) disk
+      → body_after h file.last (body_of_batch batch) ≡ Some now
+      → Stands h (bodies ++ body_of_batch batch ∷ []) (file.end + length text) now disk.seen disk.story
+  batch_is_there x now f call after =
+      stands h f.placed.header bodies (body_of_batch batch) file.last now f.placed.lawful after file.end f.ready.0 disk.seen disk.story f.placed.place
+      (call.seen ∙ f.ready.1) (settled_by file.disk disk call.seen call.story)
+
+  -- or it fails
+  pub has_failed : (stage : Stage) (refusal : Refusal) → IsFlying h bodies stage batch file → IsCalled stage batch file (Err refusal) disk
+      → IsFlying h bodies DeviceFailed batch (record (on_disk file disk) { failed = true })
+  has_failed stage refusal f call = record {
+    placed = record { header = f.placed.header; lawful = f.placed.lawful; place = f.placed.place };
+    gate = f.gate;
+    closed = f.closed;
+    leaves = leaves_after stage (Err refusal) f call;
+    ready = tt;
+  }
+
+-- what a crash leaves of a batch on its way
+pub with_or_without : (h : HeaderView) (bodies : List BodyView) (stage : Stage) (batch : BatchView) (file : LogFileView DiskView) (now : Last)
+    → IsFlying h bodies stage batch file → body_after h file.last (body_of_batch batch) ≡ Some now
+    → (bytes : List ℕ) → MayLeave file.disk.story bytes → IsWithOrWithout h bodies (body_of_batch batch) bytes
+with_or_without h bodies stage batch file now f after bytes may =
+    staged_is h f.placed.header bodies (body_of_batch batch) file.last now f.placed.lawful after f.gate bytes f.closed (f.leaves bytes may)

@@ -1,0 +1,87 @@
+//! Tables from the newest writes of their records.
+ghost use Rattle.std.specs.Prelude.{◌≡◌, ℕ, Some, IfOk, OnOk};
+ghost use Rattle.std.specs.BTreeMap.{get};
+ghost use Rattle.std.specs.Ordering.{nat_cmp};
+ghost use Rattle.tables.specs.Database.{Database, database};
+ghost use Rattle.tables.specs.Records.{key_of as key_of_number};
+ghost use Rattle.tables.specs.Rows.{rows};
+ghost use Rattle.tables.specs.Sizes.{IsScale};
+ghost use Rattle.tables.specs.WellFormed.{IsWellFormed};
+ghost use Rattle.encoding.specs.Held.{by_key, AreTables};
+ghost use Rattle.encoding.specs.Puts.{Puts};
+ghost use Rattle.recover_newest.specs.Putting.{MayPut, left_in};
+ghost use Rattle.recover_newest.specs.declared.latest.Latest.{Latest};
+
+use crate::latest::Latest;
+use encoding::{put, take_out};
+use money::Payload;
+use std::alloc::{AllocError, Global};
+use std::collections::BTreeMap;
+use tables::{RecordKey, Tables, key_of};
+
+/// A copy of tables. Costs their memory, and a pass over their rows.
+pub fn copied(alloc: Global, tables: &Tables) -> Result<Tables, AllocError>
+    ensures { IfOk result (λ copy. database copy ≡ database tables.now) }
+{
+    let mut history = Vec::new(alloc);
+    history.extend_from_slice(&tables.history)?;
+    Ok(Tables {
+        scale: tables.scale,
+        warehouses: tables.warehouses.clone()?,
+        districts: tables.districts.clone()?,
+        customers: tables.customers.clone()?,
+        history,
+        new_orders: tables.new_orders.clone()?,
+        orders: tables.orders.clone()?,
+        lines: tables.lines.clone()?,
+        items: tables.items.clone()?,
+        stock: tables.stock.clone()?,
+    })
+}
+
+/// Puts what records were left with into the tables that a population's have become. A look-up and an insert a record.
+pub fn put_all(
+    tables: &mut Tables,
+    population: &Tables,
+    latest: &BTreeMap<u32, Latest>,
+) -> Result<(), AllocError>
+    requires population { IsWellFormed (database population.now) }
+    requires lawful { IsScale (database population.now).scale }
+    requires writes { (n : ℕ) (w : Latest) → get nat_cmp latest.now n ≡ Some w
+        → MayPut (database population.now).scale n w.words }
+    requires tables { AreTables (database population.now) (by_key (database population.now).scale
+        (rows (database population.now))) (database tables.old) }
+    ensures tables { OnOk result (AreTables (database population.now) (by_key (database population.now).scale
+        (λ n. left_in (get nat_cmp latest.now n) (rows (database population.now) n))) (database tables.new)) }
+    ensures history { OnOk result ((database tables.new).history ≡ (database tables.old).history) }
+{
+    for (number, write) in latest.iter() {
+        put_one(tables, population, *number, &write.words)?;
+    }
+    Ok(())
+}
+
+/// Puts what a record was left with, which only a NEW-ORDER row may lack.
+fn put_one(
+    tables: &mut Tables,
+    population: &Tables,
+    number: u32,
+    words: &Option<Payload>,
+) -> Result<(), AllocError>
+    requires population { IsWellFormed (database population.now) }
+    requires lawful { IsScale (database population.now).scale }
+    requires value { MayPut (database population.now).scale number words.now }
+    ensures { OnOk result (Puts (database population.now)
+        (key_of_number (database population.now).scale number) words.now (database tables.old) (database tables.new)) }
+{
+    let key = key_of(&population.scale, number);
+    match words {
+        Some(words) => put(tables, population, key, words)?,
+        None => {
+            if let RecordKey::NewOrder(order) = key {
+                take_out(tables, order);
+            }
+        }
+    }
+    Ok(())
+}

@@ -1,9 +1,0 @@
-use Rattle.std.proofs.Common.{◌≡◌, All, [], length}
-use Rattle.disk.specs.Memory.{replay}
-use Rattle.run_bench.proofs.memories.Given as goal
-
--- each logger so far has a slot, whose disk is empty
-abbrev pub invariant-loop-logger : goal.invariant-loop-logger
-invariant-loop-logger g l =
-    (length l.slots.items ≡ l.logger)
-    × All (λ slot. (replay slot.disk.calls).bytes ≡ []) l.slots.items

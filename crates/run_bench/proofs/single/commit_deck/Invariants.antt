@@ -1,6 +1,0 @@
-use Rattle.std.proofs.Common.{◌≡◌}
-use Rattle.run_bench.proofs.single.commit_deck.Given as goal
-
--- the deck's inputs are of the tables' scale
-abbrev pub invariant-loop : goal.invariant-loop
-invariant-loop g l = l.deck.scale ≡ g.K.Run.first.scale

@@ -1,0 +1,11 @@
+use Rattle.std.proofs.Common.{◌∙◌}
+use Rattle.run_threads.specs.declared.worker.Worker.{Worker}
+use Rattle.run_threads.proofs.Counted.{counted_of}
+use Rattle.run_threads.proofs.threads.run_crew.Goals as goal
+
+pub returns-clause-counted : goal.returns-clause-counted
+returns-clause-counted g c =
+    let o = c.settled.result in
+    counted_of (λ (worker : Worker g.row.K.Denot g.row.G.Denot g.K.Run g.G.Gate). worker.tally) c.in_threads-workers.result.0.items o.tallies.items
+    g.K.Ledger.parts c.args.inputs o.commits o.rollbacks o.gave_up o.refused c.settled.ensures.tallies
+    (c.in_threads-workers.ensures.workers ∙ c.requires.count) c.in_threads-workers.ensures.all c.settled.ensures.sums

@@ -1,0 +1,42 @@
+use Rattle.std.proofs.Common.{◌≡◌, All, Option, IfSome, ap, rules, subst, sym}
+use Rattle.std.proofs.lemmas.List.Elements.{All-pop, All-push}
+use Rattle.board.specs.Seats.{SeatView}
+use Rattle.book.specs.Share.{share_commits, parts_of}
+use Rattle.run_threads.specs.Tally.{inputs_in}
+use Rattle.run_threads.specs.declared.worker.Station.{Station}
+use Rattle.run_threads.specs.declared.worker.Worker.{Worker}
+use Rattle.run_threads.proofs.threads.staffed.Goals as goal
+
+pub loop-station-preserved : goal.loop-station-preserved
+loop-station-preserved g c =
+    let i = c.loop-station.invariant in
+    let decks = All-pop (λ (station : Station g.row.G.Denot). station.deck.scale ≡ g.K.Run.first.scale)
+    c.loop-station.stations.items c.pop.new.self.items c.pop.result c.pop.ensures.items i.0 in
+    let idle = All-push (λ (worker : Worker g.row.K.Denot g.row.G.Denot g.K.Run g.G.Gate). inputs_in worker.tally ≡ 0)
+    c.loop-station.workers.items c.in_ok-new.field-0 i.3 c.in_ok-new.ensures.idle in (
+      decks.0,
+      search rules,
+      search rules,
+      subst (All (λ (worker : Worker g.row.K.Denot g.row.G.Denot g.K.Run g.G.Gate). inputs_in worker.tally ≡ 0)) (sym c.in_ok-push.ensures.items) idle,
+    )
+
+pub new-requires-clause-reader : goal.new-requires-clause-reader
+new-requires-clause-reader g c = c.in-Some-next.ensures.seat.0
+
+pub new-requires-clause-board : goal.new-requires-clause-board
+new-requires-clause-board g c = ap (λ (seat : SeatView). seat.board) c.in-Some-next.ensures.seat.1
+
+pub new-requires-clause-parts : goal.new-requires-clause-parts
+new-requires-clause-parts g c = ap parts_of c.in-Some-next.ensures.seat.2
+
+pub new-requires-clause-commits : goal.new-requires-clause-commits
+new-requires-clause-commits g c = ap share_commits c.in-Some-next.ensures.seat.2
+
+pub new-requires-clause-deck : goal.new-requires-clause-deck
+new-requires-clause-deck g c =
+    let decks = All-pop (λ (station : Station g.row.G.Denot). station.deck.scale ≡ g.K.Run.first.scale)
+    c.loop-station.stations.items c.pop.new.self.items c.pop.result c.pop.ensures.items c.loop-station.invariant.0 in
+    subst (λ (r : Option (Station g.row.G.Denot)). IfSome r (λ (station : Station g.row.G.Denot). station.deck.scale ≡ g.K.Run.first.scale)) c.in-Some.is decks.1
+
+pub returns-clause-idle : goal.returns-clause-idle
+returns-clause-idle g c = c.loop-station.invariant.3

@@ -1,0 +1,50 @@
+-- What a logger does with the batches that it takes (Silo, section 4.10).
+use Rattle.std.specs.Prelude.{◌≡◌, ◌+◌, ◌⊎◌, Bool, true, false, Option, Some, None, MatchOption, length}
+use Rattle.book.specs.Batches.{BatchView}
+use Rattle.log_entries.specs.Following.{Continues, behind_batch}
+use Rattle.logfile.specs.Standing.{LogFileView}
+use Rattle.logger.specs.Logger.{LoggerView}
+
+-- what contracts see of a logger at work: the batch that waits, if memory was wanting for it, and whether it has stopped
+pub record AppenderView (D : Type 0) : Type 0 where
+  pub logger : LoggerView D
+  pub waiting : Option BatchView
+  pub has_stopped : Bool
+
+-- it may take: nothing waits, and it hasn't stopped
+pub record IsAppenderIdle {D : Type 0} (a : AppenderView D) : Type 0 where
+  pub nothing_waits : a.waiting ≡ None
+  pub runs : a.has_stopped ≡ false
+
+-- the file has this batch behind what it had, and its device hasn't failed
+pub record HasAppended {D : Type 0} (batch : BatchView) (old new : LogFileView D) : Type 0 where
+  pub last : new.last ≡ behind_batch old.last batch
+  pub count : new.count ≡ old.count + length batch.entries
+  pub runs : new.failed ≡ false
+
+-- the file stands where it stood, and its device has failed, or the batch doesn't begin there
+pub record AppendHasFailed {D : Type 0} (batch : BatchView) (old new : LogFileView D) : Type 0 where
+  pub last : new.last ≡ old.last
+  pub count : new.count ≡ old.count
+  pub cause : (new.failed ≡ true) ⊎ ¬ Continues old.header old.count old.last batch
+
+-- what comes of a batch: it is appended; or it waits, for want of memory, and the file is as it was; or the logger has
+-- stopped
+pub data ComesOf {D : Type 0} (batch : BatchView) (old new : AppenderView D) : Type 0 where
+  appended : HasAppended batch old.logger.file new.logger.file → IsAppenderIdle new → ComesOf batch old new
+  waits : new ≡ record { logger = old.logger; waiting = Some batch; has_stopped = false }
+      → new.logger.file.failed ≡ false → ComesOf batch old new
+  stopped : AppendHasFailed batch old.logger.file new.logger.file → new.waiting ≡ None → new.has_stopped ≡ true
+      → ComesOf batch old new
+
+-- what waits is tried again
+abbrev pub Retries : {D : Type 0} → AppenderView D → AppenderView D → Type 0
+Retries old new = MatchOption old.waiting (new ≡ old) (λ batch. ComesOf batch old new)
+
+-- a batch is taken where one may be, and else nothing is done
+abbrev pub Takes : {D : Type 0} → AppenderView D → AppenderView D → Type 0
+Takes old new = (IsAppenderIdle old × ((batch : BatchView) × ComesOf batch old new)) ⊎ ((¬ IsAppenderIdle old) × (new ≡ old))
+
+-- a turn: what waits is tried again first, and then a batch is taken where one may be
+abbrev pub Turns : {D : Type 0} → AppenderView D → AppenderView D → Type 0
+Turns {D} old new = (between : AppenderView D) × Retries old between × Takes between new

@@ -1,0 +1,85 @@
+//! A logger at work.
+ghost use Rattle.std.specs.Prelude.{◌≡◌, IfSome};
+ghost use Rattle.std.specs.Option.{ForSome};
+
+use crate::appender::Appender;
+use crate::outcome::Written;
+use crate::pace::Pace;
+use crate::progress::Progress;
+use board::ClockSeat;
+use book::{Engine, Run};
+use log_disk::Disk;
+use logger::Logger;
+use std::sync::Wait;
+
+/// A logger, with how it waits between its turns, and the clock, if it has that.
+#[derive(Drop)]
+pub(crate) struct Writer<K: Run, D: Disk, P: Pace> {
+    pub(crate) appender: Appender<K, D>,
+    pub(crate) clock: Option<ClockSeat>,
+    pub(crate) pace: P,
+    ghost clocked: { ForSome clock (λ seat. seat.board ≡ K.board) },
+}
+
+impl<K: Run, D: Disk, P: Pace + Drop> Writer<K, D, P> {
+    ghost use Rattle.std.specs.Prelude.{◌≡◌, false, IfSome};
+
+    /// A logger that has taken nothing yet.
+    pub(crate) fn new(logger: Logger<D>, pace: P, clock: Option<ClockSeat>) -> Writer<K, D, P>
+        requires logger { logger.seat.board ≡ K.board }
+        requires clock { IfSome clock (λ seat. seat.board ≡ K.board) }
+        ensures logger { result.appender.logger ≡ logger }
+        ensures clock { result.clock ≡ clock }
+    {
+        Writer {
+            appender: Appender::new(logger),
+            clock,
+            pace,
+        }
+    }
+
+    /// Takes turns until the terminals have ended.
+    pub(crate) fn serve<R: Wait>(&mut self, rt: &R, engine: &Engine<K>, progress: &Progress) {
+        for _ in rt.forever() {
+            if progress.has_ended() {
+                break;
+            }
+            self.turn(rt, engine, progress);
+            self.pace.pause(progress);
+        }
+    }
+
+    /// One turn: the clock's advances E first, so that the mark of the take is the epoch before.
+    fn turn<R: Wait>(&mut self, rt: &R, engine: &Engine<K>, progress: &Progress)
+        ensures { self.new.appender.has_stopped ≡ false → self.new.appender.logger.file.failed ≡ false }
+    {
+        self.advance(engine, progress);
+        self.appender.turn(rt, engine, progress);
+    }
+
+    /// Advances E, if this logger has the clock. In the last epoch E stays.
+    fn advance(&mut self, engine: &Engine<K>, progress: &Progress) {
+        if let Some(clock) = &mut self.clock {
+            if let Ok(epoch) = engine.board().advance(clock) {
+                progress.note_epoch(epoch);
+            }
+        }
+    }
+
+    /// Takes the last turn, and ends the logger. Its pace ends once the terminals have acknowledged what is durable then.
+    pub(crate) fn last_turn<R: Wait>(
+        self,
+        rt: &R,
+        engine: &Engine<K>,
+        progress: &Progress,
+    ) -> (Written<D>, P) {
+        let mut writer = self;
+        writer.turn(rt, engine, progress);
+        let Writer {
+            appender,
+            clock: _,
+            pace,
+        } = writer;
+        (appender.end(), pace)
+    }
+}

@@ -1,5 +1,0 @@
-use Rattle.script.proofs.OneText.{one_text}
-use Rattle.script.proofs.turns.bytes_determine_text.Goals as goal
-
-pub returns : goal.returns
-returns c = one_text

@@ -1,5 +1,0 @@
-use Rattle.script_text.proofs.Amounts.{amount_is_money}
-use Rattle.script_text.proofs.amount.amounts_read_as_printed.Goals as goal
-
-pub returns : goal.returns
-returns c = amount_is_money

@@ -1,5 +1,0 @@
-use Rattle.script_text.proofs.OneText.{one_line_one_request}
-use Rattle.script_text.proofs.read.one_line_one_request.Goals as goal
-
-pub returns : goal.returns
-returns c = one_line_one_request

@@ -1,0 +1,37 @@
+//! A drawn input, before memory is taken for it.
+
+ghost use Rattle.std.specs.Prelude.{◌≡◌, IfOk, IfErr};
+ghost use Rattle.money.specs.declared.refusal.Refusal.TheVariants.{OutOfMemory};
+ghost use Rattle.terminals_deck.specs.Drawn.{HasLineRoom, input_of};
+
+use crate::order::DrawnOrder;
+use money::Refusal;
+use std::alloc::Global;
+use tables::{DeliveryInput, Input, OrderStatusInput, PaymentInput, StockLevelInput};
+
+/// An input that was drawn, of one of the five kinds.
+#[derive(Clone, Copy)]
+pub enum Drawn {
+    NewOrder(DrawnOrder),
+    Payment(PaymentInput),
+    OrderStatus(OrderStatusInput),
+    Delivery(DeliveryInput),
+    StockLevel(StockLevelInput),
+}
+
+impl Drawn {
+    /// The input. Takes memory for the lines of a New-Order.
+    pub fn into_input(self, alloc: Global) -> Result<Input, Refusal>
+        requires { HasLineRoom self }
+        ensures input { IfOk result (λ input. input ≡ input_of self) }
+        ensures only_memory { IfErr result (λ refusal. refusal ≡ OutOfMemory) }
+    {
+        match self {
+            Drawn::NewOrder(order) => order.into_input(alloc),
+            Drawn::Payment(payment) => Ok(Input::Payment(payment)),
+            Drawn::OrderStatus(query) => Ok(Input::OrderStatus(query)),
+            Drawn::Delivery(delivery) => Ok(Input::Delivery(delivery)),
+            Drawn::StockLevel(query) => Ok(Input::StockLevel(query)),
+        }
+    }
+}

@@ -1,0 +1,15 @@
+use Rattle.book.specs.Parts.{first_of, past_of, cells_of, board_of, population_seed, ledger_name, ledger_parts}
+use Rattle.tests_append.proofs.filled.filled.Given as goal
+
+abbrev pub ghosts-fill-K-Run : goal.ghosts-fill-K-Run
+ghosts-fill-K-Run g a = record {
+  first = first_of a.parts;
+  past = past_of a.parts;
+  cells = cells_of a.parts;
+  board = board_of a.parts;
+  seed =
+      population_seed a.parts;
+}
+
+abbrev pub ghosts-fill-K-Ledger : goal.ghosts-fill-K-Ledger
+ghosts-fill-K-Ledger g a = record { name = ledger_name a.parts; parts = ledger_parts a.parts }

@@ -1,0 +1,88 @@
+//! A log file that is filled with the batches of a run.
+ghost use Rattle.std.specs.Prelude.{◌≡◌, [], IfOk};
+ghost use Rattle.book.specs.Parts.{IsFresh, IsRunOf, ledger_name, ledger_parts, loggers_of};
+
+use board::Keeper;
+use book::{Parts, Run};
+use log_disk::Disk;
+use money::Refusal;
+use std::alloc::Global;
+use std::marker::Brand;
+use std::sync::Wait;
+use tables::Scale;
+use tests_one_logger::{Stage, parts};
+
+/// Where an open file stands.
+#[derive(Clone, Copy, Debug, PartialEq, Eq)]
+pub(crate) struct Standing {
+    pub(crate) count: u64,
+    pub(crate) last: u64,
+    pub(crate) mark: u64,
+    pub(crate) kept: u64,
+}
+
+pub(crate) fn where_stands<K: Run, D: Disk + Drop>(stage: &Stage<K, D>) -> Standing {
+    let file = stage.file();
+    Standing {
+        count: file.count(),
+        last: file.last(),
+        mark: file.mark(),
+        kept: file.kept(),
+    }
+}
+
+/// The parts of an engine over one warehouse, two districts and ten customers a district.
+pub(crate) fn small<R: Wait>(rt: &R, alloc: Global) -> Result<Parts, Refusal>
+    ensures fresh { IfOk result IsFresh }
+    ensures loggers { IfOk result (λ parts. loggers_of parts ≡ 1) }
+{
+    parts(rt, alloc, Scale::new(1, 2, 10, 20, 30, 1_000)?)
+}
+
+/// Commits Payments of customer 3, and appends them as a batch in the next epoch.
+pub(crate) fn append_payments<K: Run, D: Disk + Drop, R: Wait>(
+    rt: &R,
+    alloc: Global,
+    stage: &mut Stage<K, D>,
+    payments: &[i64],
+) -> Result<(), Refusal> {
+    for cents in payments {
+        stage.pay(rt, alloc, 3, *cents)?;
+    }
+    stage.advance()?;
+    let batch = stage.take(rt);
+    stage.append(&batch)
+}
+
+fn fill<K: Run, D: Disk + Drop, R: Wait>(
+    rt: &R,
+    alloc: Global,
+    parts: Parts,
+    disk: D,
+    batches: &[&[i64]],
+) -> Result<Standing, Refusal>
+    requires fresh { IsFresh parts }
+    requires run { IsRunOf parts K.first K.past K.cells K.board K.seed }
+    requires ledger { (ledger_name parts ≡ K.name) × (ledger_parts parts ≡ K.parts) }
+    requires loggers { loggers_of parts ≡ 1 }
+    requires empty { D.is_modelled → D.seen disk ≡ [] }
+{
+    let mut stage = Stage::<K, D>::open(alloc, parts, disk)?;
+    for payments in batches {
+        append_payments(rt, alloc, &mut stage, payments)?;
+    }
+    Ok(where_stands(&stage))
+}
+
+/// A new file on this disk, to which batches of these Payments are appended, from epoch 1 on.
+pub(crate) fn filled<D: Disk + Drop, R: Wait>(
+    rt: &R,
+    alloc: Global,
+    disk: D,
+    batches: &[&[i64]],
+) -> Result<Standing, Refusal>
+    requires { D.is_modelled → D.seen disk ≡ [] }
+{
+    let parts = small(rt, alloc)?;
+    fill::<Brand, D, R>(rt, alloc, parts, disk, batches)
+}

@@ -1,0 +1,157 @@
+//! The engine, and its file.
+ghost use Rattle.std.specs.Prelude.{◌≡◌, [], IfOk};
+ghost use Rattle.tables.specs.Inputs.{IsInput};
+ghost use Rattle.book.specs.Parts.{IsFresh, IsRunOf, ledger_name, ledger_parts, loggers_of};
+
+use board::ClockSeat;
+use book::{Batch, Engine, Parts, Run, Seat, Seats, TerminalSeats};
+use log_disk::Disk;
+use log_header::Header;
+use logfile::LogFile;
+use money::{Cents, Refusal};
+use population::Population;
+use std::alloc::Global;
+use std::marker::Model;
+use std::sync::Wait;
+use tables::{Input, PaymentInput, Scale, Who};
+use transactions::execute;
+
+/// The parts of an engine over the plain population of this scale, for one logger and one terminal.
+pub fn parts<R: Wait>(rt: &R, alloc: Global, scale: Scale) -> Result<Parts, Refusal>
+    ensures fresh { IfOk result IsFresh }
+    ensures loggers { IfOk result (λ parts. loggers_of parts ≡ 1) }
+{
+    Parts::new(rt, alloc, Population::plain(alloc, scale)?, 1, 1)
+}
+
+/// An engine with its clock, its terminal, and its logger's file.
+#[derive(Drop)]
+pub struct Stage<K: Run, D: Disk + Drop> {
+    engine: Engine<K>,
+    clock: ClockSeat,
+    terminal: Seat<K>,
+    file: LogFile<D>,
+}
+
+impl<K: Run, D: Disk + Drop> Model for Stage<K, D> {
+    ghost use Rattle.std.specs.Prelude.{◌≡◌};
+
+    ghost Value = { Unit {0} };
+
+    ghost view = { λ s. tt };
+
+    ghost invariant = { λ s. (s.clock.board ≡ K.board) × (s.terminal.reader.cells ≡ K.cells)
+        × (K.board.plan.loggers ≡ 1) };
+}
+
+impl<K: Run, D: Disk + Drop> Stage<K, D> {
+    /// An engine in epoch 1 in which nothing has committed, and a new file on an empty disk. Refuses as
+    /// `LogFile::create` does.
+    pub fn open(alloc: Global, parts: Parts, disk: D) -> Result<Stage<K, D>, Refusal>
+        requires fresh { IsFresh parts }
+        requires run { IsRunOf parts K.first K.past K.cells K.board K.seed }
+        requires ledger { (ledger_name parts ≡ K.name) × (ledger_parts parts ≡ K.parts) }
+        requires loggers { loggers_of parts ≡ 1 }
+        requires empty { D.is_modelled → D.seen disk ≡ [] }
+    {
+        let (engine, seats) = Engine::<K>::open(parts);
+        let Seats {
+            clock,
+            loggers: _,
+            terminals,
+        } = seats;
+        let header = Header::new(engine.population().scale(), 0, 0, 1);
+        Ok(Stage {
+            engine,
+            clock,
+            terminal: first_of(terminals)?,
+            file: LogFile::create(alloc, disk, header)?,
+        })
+    }
+
+    /// Advances the epoch.
+    pub fn advance(&mut self) -> Result<u64, Refusal> {
+        self.engine.board().advance(&mut self.clock)
+    }
+
+    /// A Payment of so many cents by a customer of district 1 to that district, with date 1. Answers its commit number.
+    pub fn pay<R: Wait>(
+        &mut self,
+        rt: &R,
+        alloc: Global,
+        customer: u32,
+        cents: i64,
+    ) -> Result<u32, Refusal> {
+        let input = payment_of(&self.engine, customer, cents)?;
+        commit(rt, alloc, &self.engine, &mut self.terminal, &input)
+    }
+
+    /// Takes what has committed since the last take.
+    pub fn take<R: Wait>(&self, rt: &R) -> Batch {
+        self.engine.lock(rt).take(self.engine.board(), 0)
+    }
+
+    /// Appends a batch to the file. Refuses as `LogFile::append` does, and by `BadInput` a batch that doesn't begin
+    /// where the file ends.
+    pub fn append(&mut self, batch: &Batch) -> Result<(), Refusal> {
+        if !self.file.is_continued_by(batch) {
+            return Err(Refusal::BadInput);
+        }
+        self.file.append(batch)
+    }
+
+    /// The logger's file.
+    pub fn file(&self) -> &LogFile<D> {
+        &self.file
+    }
+}
+
+/// The seat of the first terminal.
+fn first_of<K: Run>(terminals: TerminalSeats<K>) -> Result<Seat<K>, Refusal>
+    ensures { IfOk result (λ seat. seat.reader.cells ≡ K.cells) }
+{
+    let mut terminals = terminals;
+    terminals.next().ok_or(Refusal::OutOfMemory)
+}
+
+fn payment_of<K: Run>(engine: &Engine<K>, customer: u32, cents: i64) -> Result<Input, Refusal>
+    ensures { IfOk result (λ input. IsInput K.first.scale input) }
+{
+    let payment = PaymentInput {
+        date: 1,
+        warehouse: 1,
+        district: 1,
+        customer_warehouse: 1,
+        customer_district: 1,
+        who: Who::Id(customer),
+        amount: Cents::new(cents),
+    };
+    Input::payment(&engine.population().scale(), payment)
+}
+
+/// Executes an input, and commits it.
+fn commit<K: Run, R: Wait>(
+    rt: &R,
+    alloc: Global,
+    engine: &Engine<K>,
+    terminal: &mut Seat<K>,
+    input: &Input,
+) -> Result<u32, Refusal>
+    requires reader { terminal.old.reader.cells ≡ K.cells }
+    requires input { IsInput K.first.scale input.now }
+    ensures reader { terminal.new.reader.cells ≡ K.cells }
+{
+    let (board, cells, population) = (engine.board(), engine.cells(), engine.population());
+    let work = execute(rt, alloc, cells, &mut terminal.reader, population, input)?;
+    engine
+        .lock(rt)
+        .commit(
+            rt,
+            board,
+            cells,
+            &mut terminal.reader,
+            &mut terminal.share,
+            work,
+        )
+        .map(|done| done.number())
+}

@@ -1,0 +1,112 @@
+//! Command lines, and what is made of them.
+
+use clap::error::ErrorKind;
+use program_options::{Options, Subcommand, options};
+use std::alloc::{AllocError, Global};
+use std::test::Fail;
+
+/// The words of a command line without quotes.
+fn words(alloc: Global, line: &str) -> Result<Vec<String>, AllocError> {
+    let mut words = Vec::new(alloc);
+    for word in line.split(' ') {
+        words.push(String::from_str(alloc, word)?)?;
+    }
+    Ok(words)
+}
+
+#[test]
+fn without_options_the_defaults_stand(rt: HostRuntime) -> Result<(), Fail> {
+    let words = words(rt.alloc(), "tpcc script")?;
+    let expected = Options {
+        subcommand: Subcommand::Script,
+        warehouses: 1,
+        districts: 10,
+        customers: 100,
+        items: 1000,
+        orders: 3000,
+        commits: 100_000,
+        population: 0,
+    };
+    assert_eq!(rt; options(rt.alloc(), words.as_slice())?, expected);
+    Ok(())
+}
+
+#[test]
+fn each_option_is_read(rt: HostRuntime) -> Result<(), Fail> {
+    let expected = Options {
+        subcommand: Subcommand::Script,
+        warehouses: 2,
+        districts: 3,
+        customers: 40,
+        items: 50,
+        orders: 60,
+        commits: 70,
+        population: 18_446_744_073_709_551_615,
+    };
+    let lines = [
+        "tpcc script --warehouses 2 --districts 3 --customers 40 --items 50 --orders 60 --commits 70 \
+            --population 18446744073709551615",
+        "tpcc script --population=18446744073709551615 --commits=70 --orders=60 --items=50 \
+            --customers=40 --districts=3 --warehouses=2",
+    ];
+    for line in lines {
+        let words = words(rt.alloc(), line)?;
+        assert_eq!(rt; options(rt.alloc(), words.as_slice())?, expected);
+    }
+    Ok(())
+}
+
+#[test]
+fn an_error_names_what_is_wrong(rt: HostRuntime) -> Result<(), Fail> {
+    let lines = [
+        ("tpcc script --stock 5", "'--stock'"),
+        ("tpcc script --items many", "'many' for '--items <N>'"),
+        (
+            "tpcc script --items 4294967296",
+            "'4294967296' for '--items <N>'",
+        ),
+        ("tpcc script --orders", "'--orders <N>'"),
+        ("tpcc script --items 20 --items 30", "'--items <N>'"),
+        (
+            "tpcc script --population 18446744073709551616",
+            "'18446744073709551616' for '--population <SEED>'",
+        ),
+        ("tpcc report", "'report'"),
+        ("tpcc", "Usage: tpcc <COMMAND>"),
+        ("tpcc --help", "Usage: tpcc <COMMAND>"),
+        ("tpcc script --help", "--warehouses <N>"),
+        ("tpcc recover --loggers 2", "--logs <DIR>"),
+        ("tpcc check --logs a", "--loggers <N>"),
+        (
+            "tpcc recover --logs a --loggers 9",
+            "'9' for '--loggers <N>'",
+        ),
+        (
+            "tpcc recover --logs a --loggers 0",
+            "'0' for '--loggers <N>'",
+        ),
+        ("tpcc script --logs a", "'--logs'"),
+    ];
+    for (line, named) in lines {
+        let words = words(rt.alloc(), line)?;
+        match options(rt.alloc(), words.as_slice()) {
+            Ok(_) => assert!(rt; false, "{line}"),
+            Err(error) => {
+                let text = format!(in rt.alloc(); "{error}")?;
+                assert!(rt; text.as_str().contains(named), "{line}: {text}");
+            }
+        }
+    }
+    Ok(())
+}
+
+#[test]
+fn the_scale_is_that_of_the_options(rt: HostRuntime) -> Result<(), Fail> {
+    let lawful = words(rt.alloc(), "tpcc script --items 20")?;
+    let asked = options(rt.alloc(), lawful.as_slice())?;
+    assert_eq!(rt; asked.scale().is_ok(), true);
+    let unlawful = words(rt.alloc(), "tpcc script --items 19")?;
+    let asked = options(rt.alloc(), unlawful.as_slice())?;
+    assert_eq!(rt; asked.scale(), Err(money::Refusal::BadScale));
+    Ok(())
+}
