@@ -24,13 +24,13 @@ def tpcc():
 
 
 def write_load(kind, count, path):
-    """Writes the script of so many lines that `load_script` gives."""
-    program = TOP / "crates" / "load_script" / "out" / "load_script"
+    """Writes the script of so many lines that `bench_script` gives."""
+    program = TOP / "crates" / "bench_script" / "out" / "bench_script"
     if not program.exists():
-        print("proving and building load_script", file=sys.stderr)
+        print("proving and building bench_script", file=sys.stderr)
         subprocess.run(["rt", "run"], cwd=program.parent.parent, stdout=subprocess.DEVNULL, check=True)
     with open(path, "wb") as file:
         subprocess.run([program, kind, str(count)], stdout=file, check=True)
     with open(path, "rb") as file:
         if sum(1 for _ in file) != count:
-            sys.exit(f"load_script didn't write {count} lines of {kind}")
+            sys.exit(f"bench_script didn't write {count} lines of {kind}")

@@ -12,7 +12,8 @@ ghost use Rattle.book.specs.Next.{IsRefusedAt};
 use crate::book::Book;
 use crate::run::Run;
 use money::Refusal;
-use tables::{DistrictKey, Input, NewOrderInput, RecordKey, Scale, number_of_key};
+use rows::column::D_NEXT_O_ID;
+use tables::{Input, NewOrderInput, RecordKey, Scale, number_of_key};
 
 impl<K: Run> Book<K> {
     /// A refusal of an execution as it is at the committed tables. That no order number is left may have been read at
@@ -69,12 +70,8 @@ fn has_number<K: Run>(book: &Book<K>, scale: &Scale, order: &NewOrderInput) -> b
         (HasNumber (replay K.first book.now.history) order.now)
         (¬ HasNumber (replay K.first book.now.history) order.now) }
 {
-    let home = DistrictKey {
-        warehouse: order.warehouse,
-        district: order.district,
-    };
-    match book.record(number_of_key(scale, RecordKey::District(home))) {
-        Some(words) => words[1] <= u64::from(scale.orders()),
+    match book.record(number_of_key(scale, RecordKey::District(order.home()))) {
+        Some(words) => words[D_NEXT_O_ID] <= u64::from(scale.orders()),
         None => true,
     }
 }

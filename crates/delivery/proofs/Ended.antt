@@ -25,8 +25,11 @@ use Rattle.readset.proofs.HoldsChanges.{holds-changes, not_taken}
 use Rattle.readset.specs.Transaction.{TransactionView, AtAll, ReadsMore}
 use Rattle.readset.proofs.UnderWay.{candidate_still}
 use Rattle.delivery.specs.Steps.{next_home, next_key, with_dates, amount_up_to, AreDone, AreDated, after_districts}
-use Rattle.delivery.specs.Ending.{Waits, IsCarried, IsCredited, buyer_of, ending_changes}
-use Rattle.delivery.specs.declared.change.Carried.{Carried}
+use Rattle.delivery.specs.Ending.{Waits, IsCredited, buyer_of, credited_columns, ending_changes}
+use Rattle.rows.specs.Columns.{customer_columns, customer_columns_words}
+use Rattle.rows.specs.declared.columns.CustomerColumns.{CustomerColumns}
+use Rattle.rows.proofs.Found.{found_row}
+use Rattle.tables.specs.declared.rows.Order.{Order}
 use Rattle.delivery.proofs.Dated.{begun}
 use Rattle.delivery.proofs.Done.{ending, ended, ended_others, none_changed}
 
@@ -58,58 +61,55 @@ same_amount t k (suc m) = ap (λ a. a +ℤ Rattle.tables.specs.Maps.column (λ r
     (same_amount t k m)
 
 -- once an order's lines all have their dates, its customer is credited and the next order waits
-module _ (t0 : Database) (x : DeliveryInput) (n : ℕ) (k : OrderKey) (named : k ≡ next_key x n k.order) (old new : TransactionView) (sum : ℤ) (order : Carried)
-    (words : List ℕ)
+module _ (t0 : Database) (x : DeliveryInput) (n : ℕ) (k : OrderKey) (named : k ≡ next_key x n k.order) (old new : TransactionView) (sum : ℤ) (order : Order)
+    (columns : CustomerColumns)
     (dated : AreDated t0 x n k.order order.line_count old sum) (more : ReadsMore 1 old new) (is_key : IsOrderKey t0.scale k)
-    (carried_at : AtAll t0 old (IsCarried x k order)) (buyer_key : IsCustomerKey t0.scale (buyer_of k order))
-    (credited_at : AtAll t0 new (IsCredited (buyer_of k order) sum words))
+    (order_at : AtAll t0 old (λ t. get t.orders k ≡ Some order)) (buyer_key : IsCustomerKey t0.scale (buyer_of k order))
+    (credited_at : AtAll t0 new (IsCredited (buyer_of k order) sum columns))
     (waits : AtAll t0 old (λ t. Waits t x n k.order))
   where
     abbrev o : ℕ
     o = k.order
 
-    held_rows : (t : Database) → IsCandidate t0 new.reads t → Holds t (puts_all t0.scale new.writes (ending_changes (next_key x n o) order words))
+    held_rows : (t : Database) → IsCandidate t0 new.reads t → Holds t (puts_all t0.scale new.writes (ending_changes x (next_key x n o) order columns))
         (row_at (after_districts t x (n + 1)))
     held_rows t h =
         let before : IsCandidate t0 old.reads t = candidate_still t0 old new 1 more t h in
         let s : t.scale ≡ t0.scale = h.of_population.scale in
         let w = waits t before in
         let j = next_key x n o in
-        let r = subst (λ (q : OrderKey). IsCarried x q order t) named (carried_at t before) in
-        let c = subst (λ (q : OrderKey). IsCredited (buyer_of q order) sum words t) named (credited_at t h) in
-        let customer : order.customer ≡ r.0.customer = ap (λ (q : Carried). q.customer) r.2 in
-        let count : order.line_count ≡ r.0.line_count = ap (λ (q : Carried). q.line_count) r.2 in
-        let his : get t.customers (record { warehouse = x.warehouse; district = n + 1; customer = r.0.customer }) ≡ Some c.0 =
-        ap (λ m. get t.customers (record { warehouse = x.warehouse; district = n + 1; customer = m })) (sym customer) ∙ c.1 in
+        let found : get t.orders j ≡ Some order = subst (λ (q : OrderKey). get t.orders q ≡ Some order) named (order_at t before) in
+        let c = subst (λ (q : OrderKey). IsCredited (buyer_of q order) sum columns t) named (credited_at t h) in
+        let his = found_row customer_columns (get t.customers (buyer_of j order)) c.0 c.1 in
         let gapless : IsGapless (next_order t (next_home x n)) (numbers_in (next_home x n) t.new_orders) = (w.condition_2.1, w.condition_3) in
         let key_there : IsOrderKey t.scale j = subst (λ (q : Sizes × OrderKey). IsOrderKey q.0 q.1) (λ i. (sym s i, named i)) is_key in
-        let buyer_there : IsCustomerKey t.scale (record { warehouse = x.warehouse; district = n + 1; customer = r.0.customer }) =
-        subst (λ (q : Sizes × OrderKey × ℕ). IsCustomerKey q.0 (record { warehouse = q.1.warehouse; district = q.1.district; customer = q.2 }))
-        (λ i. (sym s i, named i, customer i)) buyer_key in
+        let buyer_there : IsCustomerKey t.scale (buyer_of j order) =
+        subst (λ (q : Sizes × OrderKey). IsCustomerKey q.0 (buyer_of q.1 order)) (λ i. (sym s i, named i)) buyer_key in
         let so_far = subst (λ (q : WriteSetView). Holds t q (row_at (with_dates t x n j order.line_count))) (sym more.writes) (dated.holds t before) in
-        let rows : Holds t (puts_all t.scale new.writes (ending t x n o w.first r.0 c.0)) (row_at (after_districts t x (n + 1))) =
-        holds-changes t (ending t x n o w.first r.0 c.0) new.writes (row_at (with_dates t x n j r.0.line_count)) (row_at (after_districts t x (n + 1)))
-        (subst (λ m. Holds t new.writes (row_at (with_dates t x n j m))) count so_far)
+        let rows : Holds t (puts_all t.scale new.writes (ending t x n o w.first order his.0)) (row_at (after_districts t x (n + 1))) =
+        holds-changes t (ending t x n o w.first order his.0) new.writes (row_at (with_dates t x n j order.line_count)) (row_at (after_districts t x (n + 1)))
+        so_far
         (key_there, (key_there, (buyer_there, ((key_there.0, key_there.1), tt))))
         ((λ _. (j, refl)), (not_taken _ _, (not_taken _ _, (not_taken _ _, tt))))
-        (ended t x n o w.first r.0 c.0 r.1 his gapless)
-        (λ i _ apart. ended_others t x n o w.first r.0 c.0 r.1 his gapless h.well_formed i apart) in
-        let amount : order_amount t j ≡ sum = order_amount-counted t h.well_formed j r.0 r.1 ∙ sym (same_amount t j r.0.line_count)
-        ∙ ap (amount_up_to t j) (sym count) ∙ dated.sum_is t before in
-        let order_is : order_words (carried x r.0) ≡ order.words = ap (λ (q : Carried). q.words) (sym r.2) in
-        let buyer_is : customer_words (credited t j c.0) ≡ words =
-        ap (λ a. customer_words (record c.0 { balance = c.0.balance +ℤ a; deliveries = c.0.deliveries + 1 })) amount ∙ sym c.2 in
+        (ended t x n o w.first order his.0 found his.1 gapless)
+        (λ i _ apart. ended_others t x n o w.first order his.0 found his.1 gapless h.well_formed i apart) in
+        let amount : order_amount t j ≡ sum = order_amount-counted t h.well_formed j order found ∙ sym (same_amount t j order.line_count)
+        ∙ dated.sum_is t before in
+        let buyer_is : customer_words (credited t j his.0) ≡ customer_columns_words columns =
+        ap (λ a. customer_words (record his.0 { balance = his.0.balance +ℤ a; deliveries = his.0.deliveries + 1 })) amount
+        ∙ ap (λ (q : CustomerColumns). customer_columns_words (credited_columns sum q)) his.2 ∙ ap customer_columns_words (sym c.2) in
         subst (λ (q : WriteSetView). Holds t q (row_at (after_districts t x (n + 1))))
-        (λ i. puts (puts (puts (puts new.writes (number_of_key (s i) (key.NewOrder j)) None) (number_of_key (s i) (key.Order j)) (Some (order_is i)))
-        (number_of_key (s i) (key.Customer (record { warehouse = x.warehouse; district = n + 1; customer = sym customer i }))) (Some (buyer_is i)))
+        (λ i. puts (puts (puts (puts new.writes (number_of_key (s i) (key.NewOrder j)) None) (number_of_key (s i) (key.Order j))
+        (Some (order_words (carried x order))))
+        (number_of_key (s i) (key.Customer (buyer_of j order))) (Some (buyer_is i)))
         (number_of_key (s i) (key.Oldest (next_home x n))) (Some (number_words (o + 1))))
         rows
 
-    pub done_next : (last : TransactionView) → last.reads ≡ new.reads → last.writes ≡ puts_all t0.scale new.writes (ending_changes k order words)
+    pub done_next : (last : TransactionView) → last.reads ≡ new.reads → last.writes ≡ puts_all t0.scale new.writes (ending_changes x k order columns)
         → AreDone t0 x (n + 1) last
     done_next last same written t h =
         subst (λ (w : WriteSetView). Holds t w (row_at (after_districts t x (n + 1))))
-        (ap (λ (j : OrderKey). puts_all t0.scale new.writes (ending_changes j order words)) (sym named) ∙ sym written)
+        (ap (λ (j : OrderKey). puts_all t0.scale new.writes (ending_changes x j order columns)) (sym named) ∙ sym written)
         (held_rows t (subst (λ (r : ReadSetView). IsCandidate t0 r t) same h))
 
 -- the order that waits has its row

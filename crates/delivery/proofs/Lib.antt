@@ -4,9 +4,7 @@ mod NextOldest
 mod LastKept
 mod Done
 mod Dated
-mod LineWords
 mod DatedLine
-mod RowsRead
 mod Ended
 mod Waiting
 mod First

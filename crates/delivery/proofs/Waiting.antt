@@ -2,31 +2,27 @@
 use Rattle.std.proofs.Common.{◌≡◌, ℕ, ◌<◌, ◌≤◌, nat_le, true, false, List, Option, Some, None, IsSome, refl, sym, ap, ◌∙◌, subst, arith}
 use Rattle.std.proofs.lemmas.Bool.Decides.{nat_tests}
 use Rattle.std.proofs.lemmas.Option.{same_Some}
-use Rattle.std.specs.Option.{option_map, option_map_or}
 use Rattle.tables.specs.Sizes.{Sizes, IsNumber}
 use Rattle.tables.specs.Keys.{IsDistrictKey}
 use Rattle.tables.specs.OrderNumbers.{next_order}
 use Rattle.tables.specs.Database.{Database}
 use Rattle.tables.specs.Records.{number_of_key}
-use Rattle.tables.specs.Rows.{row_at, district_words, number_words, oldest}
+use Rattle.tables.specs.Rows.{row_at, number_words, oldest}
 use Rattle.tables.specs.Delivery.{waiting}
 use Rattle.tables.specs.declared.keys.DistrictKey.{DistrictKey}
-use Rattle.tables.specs.declared.rows.District.{District}
 use Rattle.tables.specs.declared.records.RecordKey.TheVariants as key
-use Rattle.tables_laws.proofs.Rows.{there}
 use Rattle.tables_laws.proofs.RisingNumbers.{least_row}
 use Rattle.readset.specs.Reads.{held}
 use Rattle.readset.specs.Explains.{NoCandidate, HasOrderConditions}
 use Rattle.readset.specs.Transaction.{TransactionView, AtAll}
 use Rattle.delivery.proofs.NextOldest.{one_waits, none_waits}
 
-module _ (t0 : Database) (home : DistrictKey) (under_way : TransactionView) (first own : Option (List ℕ)) (is_home : IsDistrictKey t0.scale home)
+module _ (t0 : Database) (home : DistrictKey) (under_way : TransactionView) (first : Option (List ℕ)) (next : ℕ) (is_home : IsDistrictKey t0.scale home)
     (own_held : IsSome (held under_way.reads (number_of_key t0.scale (key.District home))))
-    (first_read : AtAll t0 under_way (λ t. row_at t (key.Oldest home) ≡ first)) (own_read : AtAll t0 under_way (λ t. row_at t (key.District home) ≡ own))
+    (first_read : AtAll t0 under_way (λ t. row_at t (key.Oldest home) ≡ first)) (own_read : AtAll t0 under_way (λ t. next_order t home ≡ next))
     (result : Option (Option ℕ))
-    (waits : (o : ℕ) (r : District) → first ≡ Some (number_words o) → own ≡ Some (district_words r) → o < r.next_order → IsNumber t0.scale.orders o
-    → result ≡ Some (Some o))
-    (none : (o : ℕ) (r : District) → first ≡ Some (number_words o) → own ≡ Some (district_words r) → r.next_order ≤ o → result ≡ Some None)
+    (waits : (o : ℕ) → first ≡ Some (number_words o) → o < next → IsNumber t0.scale.orders o → result ≡ Some (Some o))
+    (none : (o : ℕ) → first ≡ Some (number_words o) → next ≤ o → result ≡ Some None)
   where
     home_at : (t : Database) → t.scale ≡ t0.scale → IsDistrictKey t.scale home
     home_at t s = subst (λ (q : Sizes). IsDistrictKey q home) (sym s) is_home
@@ -39,19 +35,17 @@ module _ (t0 : Database) (home : DistrictKey) (under_way : TransactionView) (fir
     waiting_at : AtAll t0 under_way (λ t. result ≡ Some (waiting t home))
     waiting_at t h =
         let s : t.scale ≡ t0.scale = h.of_population.scale in
-        let r = there (IsDistrictKey t.scale) t.districts h.well_formed.districts home (home_at t s) in
         let first_is : first ≡ Some (number_words (oldest t home)) = sym (first_read t h) in
-        let own_is : own ≡ Some (district_words r.0) = sym (own_read t h) ∙ ap (option_map district_words) r.1 in
-        let next : next_order t home ≡ r.0.next_order = ap (λ (o : Option District). option_map_or (λ r. r.next_order) o 0) r.1 in
+        let next_is : next_order t home ≡ next = own_read t h in
         elim (nat_le (next_order t home) (oldest t home)) as (λ b. nat_le (next_order t home) (oldest t home) ≡ b → result ≡ Some (waiting t home)) [
           | true ↦ λ e.
               let above : next_order t home ≤ oldest t home = grind (arith, nat_tests) in
-              none (oldest t home) r.0 first_is own_is (omega (arith, above, next)) ∙ ap Some (sym (none_waits t home (numbered_at t h).condition_2 above))
+              none (oldest t home) first_is (omega (arith, above, next_is)) ∙ ap Some (sym (none_waits t home (numbered_at t h).condition_2 above))
           | false ↦ λ e.
               let below : oldest t home < next_order t home = grind (arith, nat_tests) in
               let waiting_is = one_waits t home below in
               let row = h.well_formed.new_orders _ (least_row home t.new_orders (oldest t home) waiting_is) in
-              waits (oldest t home) r.0 first_is own_is (omega (arith, below, next)) (subst (λ (q : Sizes). IsNumber q.orders (oldest t home)) s row.2)
+              waits (oldest t home) first_is (omega (arith, below, next_is)) (subst (λ (q : Sizes). IsNumber q.orders (oldest t home)) s row.2)
               ∙ ap Some (sym waiting_is)
         ] refl
 

@@ -4,9 +4,8 @@ ghost use Rattle.std.specs.Option.{ForSome};
 ghost use Rattle.tables.specs.Sizes.{IsNumber};
 ghost use Rattle.tables.specs.Keys.{IsDistrictKey};
 ghost use Rattle.tables.specs.Records.{number_of_key};
-ghost use Rattle.tables.specs.Rows.{district_words, number_words};
+ghost use Rattle.tables.specs.Rows.{number_words};
 ghost use Rattle.tables.specs.Delivery.{IsDelivery, waiting};
-ghost use Rattle.tables.specs.declared.rows.District.{District};
 ghost use Rattle.tables.specs.declared.limits.TheConstants.{MAX_DISTRICTS};
 ghost use Rattle.tables.specs.declared.records.RecordKey.TheVariants as key_variants;
 ghost use Rattle.readset.specs.Reads.{held};
@@ -16,7 +15,9 @@ ghost use Rattle.delivery.specs.Steps.{AreDone, AreTold};
 
 use crate::order::deliver_order;
 use money::{Payload, Refusal};
-use readset::{Start, Transaction};
+use readset::{Start, Transaction, read_present};
+use rows::DistrictColumns;
+use rows::column::NUMBER;
 use std::alloc::Global;
 use std::sync::Wait;
 use tables::{DeliveredOrder, DeliveryInput, DistrictKey, OrderKey, RecordKey};
@@ -106,29 +107,22 @@ fn read_waiting<R: Wait, K: Start>(
     ensures reads { ReadsMore 2 transaction.old transaction.new }
 {
     let oldest = transaction.read(rt, RecordKey::Oldest(home))?;
-    let district = transaction.read(rt, RecordKey::District(home))?;
-    match first_waiting(oldest, district, transaction.scale().orders()) {
+    let district: DistrictColumns = read_present(rt, transaction, home)?;
+    match first_waiting(oldest, district.next_order, transaction.scale().orders()) {
         Some(order) => Ok(order),
         None => Err(Refusal::Stale),
     }
 }
 
-/// The order that waits longest, by what OLDEST and the district's record hold: OLDEST where it is below D_NEXT_O_ID,
-/// and else none. None only where no well-formed tables with this order cap, and condition 2, have these.
-fn first_waiting(
-    oldest: Option<Payload>,
-    district: Option<Payload>,
-    cap: u32,
-) -> Option<Option<u32>>
-    ensures waits { (o : ℕ) (r : District) → oldest ≡ Some (number_words o)
-        → district ≡ Some (district_words r) → o < r.next_order → IsNumber cap o → result ≡ Some (Some o) }
-    ensures none { (o : ℕ) (r : District) → oldest ≡ Some (number_words o)
-        → district ≡ Some (district_words r) → r.next_order ≤ o → result ≡ Some None }
+/// The order that waits longest, by what OLDEST holds and D_NEXT_O_ID: OLDEST where it is below that, and else none. None
+/// only where no well-formed tables with this order cap, and condition 2, have these.
+fn first_waiting(oldest: Option<Payload>, next: u32, cap: u32) -> Option<Option<u32>>
+    ensures waits { (o : ℕ) → oldest ≡ Some (number_words o) → o < next → IsNumber cap o → result ≡ Some (Some o) }
+    ensures none { (o : ℕ) → oldest ≡ Some (number_words o) → next ≤ o → result ≡ Some None }
     ensures number { IfSome result (λ w. ForSome w (λ o. IsNumber cap o)) }
 {
-    let oldest = oldest?[0];
-    let next = district?[1];
-    if oldest >= next {
+    let oldest = oldest?[NUMBER];
+    if oldest >= u64::from(next) {
         return Some(None);
     }
     if oldest == 0 || oldest > u64::from(cap) {

@@ -1,7 +1,6 @@
 //! A Delivery on record cells (TPC-C 2.7.4.2), not yet committed.
 #![tactic(auto)]
 
-mod change;
 mod districts;
 mod lines;
 mod order;

@@ -6,11 +6,10 @@ ghost use Rattle.tables.specs.declared.limits.TheConstants.{MAX_LINE_AMOUNT, MAX
 ghost use Rattle.readset.specs.Transaction.{GoesOn, IsStepRefusal};
 ghost use Rattle.delivery.specs.Steps.{AreDated};
 
-use crate::change::date;
 use money::{Cents, Refusal};
-use readset::{Start, Transaction};
+use readset::{Start, Transaction, put_row, read_row};
 use std::sync::Wait;
-use tables::{DeliveryInput, LineKey, OrderKey, RecordKey};
+use tables::{DeliveryInput, LineKey, OrderKey, OrderLine};
 
 /// Sets OL_DELIVERY_D of an order's lines from the first to this one, and gives the sum of OL_AMOUNT. Costs a load and
 /// a few look-ups a line.
@@ -63,18 +62,20 @@ fn date_line<R: Wait, K: Start>(
     ensures refused { IfErr result (IsStepRefusal K.tables transaction.new) }
     ensures goes_on { GoesOn 1 1 transaction.old transaction.new }
 {
-    let key = RecordKey::OrderLine(LineKey {
+    let key = LineKey {
         warehouse: order.warehouse,
         district: order.district,
         order: order.order,
         line: number,
-    });
-    let Some(words) = transaction.read(rt, key)? else {
+    };
+    let line: Option<OrderLine> = read_row(rt, transaction, key)?;
+    let Some(line) = line else {
         return Ok(Cents::new(0));
     };
-    let Some(dated) = date(&words, delivery.date) else {
-        return Err(Refusal::Stale);
+    let dated = OrderLine {
+        delivery_date: Some(delivery.date),
+        ..line
     };
-    transaction.put(key, Some(dated.words))?;
-    Ok(dated.amount)
+    put_row(transaction, key, &dated)?;
+    Ok(line.amount)
 }

@@ -12,14 +12,15 @@ ghost use Rattle.readset.specs.Reads.{held};
 ghost use Rattle.readset.specs.Changes.{puts_all};
 ghost use Rattle.readset.specs.Transaction.{AtAll, Finds, GoesOn, IsStepRefusal, ReadsMore};
 ghost use Rattle.delivery.specs.Steps.{AreDone};
-ghost use Rattle.delivery.specs.Ending.{Waits, IsCarried, IsCredited, buyer_of, ending_changes};
+ghost use Rattle.rows.specs.Columns.{AreCustomerColumns};
+ghost use Rattle.delivery.specs.Ending.{Waits, IsCredited, buyer_of, credited_columns, ending_changes};
 
-use crate::change::{Carried, carry, credit};
 use crate::lines::date_lines;
-use money::{Cents, Payload, Refusal};
-use readset::{Start, Transaction};
+use money::{Cents, Refusal};
+use readset::{Start, Transaction, put_row, read_present, read_row};
+use rows::CustomerColumns;
 use std::sync::Wait;
-use tables::{CustomerKey, DeliveryInput, DistrictKey, OrderKey, RecordKey};
+use tables::{CustomerKey, DeliveryInput, DistrictKey, Order, OrderKey, RecordKey};
 
 /// Takes the order of this key, which waits longest in its district: reads its two records, its lines and its
 /// customer's, and says what these and OLDEST are to hold. Costs at most eighteen loads and some forty look-ups.
@@ -45,29 +46,28 @@ pub(crate) fn deliver_order<R: Wait, K: Start>(
     ensures refused { IfErr result (IsStepRefusal K.tables transaction.new) }
     ensures goes_on { GoesOn 18 19 transaction.old transaction.new }
 {
-    let order = read_order(rt, transaction, delivery, key)?;
+    let order = read_order(rt, transaction, key)?;
     let sum = date_lines(rt, transaction, delivery, key, order.line_count)?;
     let buyer = CustomerKey {
         warehouse: key.warehouse,
         district: key.district,
         customer: order.customer,
     };
-    let credited = credit_buyer(rt, transaction, buyer, sum)?;
-    end_order(transaction, key, &order, credited)
+    let customer = credit_buyer(rt, transaction, buyer, sum)?;
+    end_order(transaction, delivery, key, &order, &customer)
 }
 
-/// Reads the order's two records, of which the NEW-ORDER one has no words, and gives the order with its carrier.
+/// Reads the order's two records, of which the NEW-ORDER one has no words, and gives the order's row.
 fn read_order<R: Wait, K: Start>(
     rt: &R,
     transaction: &mut Transaction<'_, K>,
-    delivery: &DeliveryInput,
     key: OrderKey,
-) -> Result<Carried, Refusal>
+) -> Result<Order, Refusal>
     requires key { IsOrderKey K.tables.scale key }
     requires there { AtAll K.tables transaction.old (λ t. IsSome (get t.orders key)) }
-    ensures carried { Finds K.tables transaction.new result (IsCarried delivery.now key) }
-    ensures range { IfOk result (λ c. IsNumber K.tables.scale.customers c.customer
-        × (c.line_count ≤ MAX_ORDER_LINES)) }
+    ensures order { Finds K.tables transaction.new result (λ order t. get t.orders key ≡ Some order) }
+    ensures range { IfOk result (λ order. IsNumber K.tables.scale.customers order.customer
+        × (order.line_count ≤ MAX_ORDER_LINES)) }
     ensures holds_new_order { OnOk result
         (IsSome (held transaction.new.reads (number_of_key K.tables.scale (key_variants.NewOrder key)))) }
     ensures holds_order { OnOk result
@@ -75,22 +75,20 @@ fn read_order<R: Wait, K: Start>(
     ensures reads { ReadsMore 2 transaction.old transaction.new }
 {
     transaction.read(rt, RecordKey::NewOrder(key))?;
-    let Some(words) = transaction.read(rt, RecordKey::Order(key))? else {
-        return Err(Refusal::Stale);
-    };
-    match carry(&words, delivery.carrier, transaction.scale().customers()) {
+    let order: Option<Order> = read_row(rt, transaction, key)?;
+    match order {
         Some(order) => Ok(order),
         None => Err(Refusal::Stale),
     }
 }
 
-/// Reads the customer's record, and gives its words with C_BALANCE raised by this sum and C_DELIVERY_CNT by 1.
+/// Reads the customer's row, and gives it with C_BALANCE raised by this sum and C_DELIVERY_CNT by 1.
 fn credit_buyer<R: Wait, K: Start>(
     rt: &R,
     transaction: &mut Transaction<'_, K>,
     buyer: CustomerKey,
     sum: Cents,
-) -> Result<Payload, Refusal>
+) -> Result<CustomerColumns, Refusal>
     requires buyer { IsCustomerKey K.tables.scale buyer }
     requires low { pos 0 ≤ℤ sum }
     requires high { sum ≤ℤ pos MAX_MONEY_STEP }
@@ -99,22 +97,32 @@ fn credit_buyer<R: Wait, K: Start>(
         (IsSome (held transaction.new.reads (number_of_key K.tables.scale (key_variants.Customer buyer)))) }
     ensures reads { ReadsMore 1 transaction.old transaction.new }
 {
-    let Some(words) = transaction.read(rt, RecordKey::Customer(buyer))? else {
-        return Err(Refusal::Stale);
-    };
-    match credit(&words, sum) {
-        Some(words) => Ok(words),
-        None => Err(Refusal::Stale),
+    let customer = read_present(rt, transaction, buyer)?;
+    Ok(credited(&customer, sum))
+}
+
+/// C_BALANCE raised by an order's sum, and C_DELIVERY_CNT by 1.
+fn credited(customer: &CustomerColumns, sum: Cents) -> CustomerColumns
+    requires range { AreCustomerColumns customer.now }
+    requires low { pos 0 ≤ℤ sum }
+    requires high { sum ≤ℤ pos MAX_MONEY_STEP }
+    ensures { result ≡ credited_columns sum customer.now }
+{
+    CustomerColumns {
+        balance: customer.balance + sum,
+        deliveries: customer.deliveries + 1,
+        ..*customer
     }
 }
 
-/// Says what the records at a district's end are to hold: no NEW-ORDER row, the order's and the customer's words, and
-/// the next number in OLDEST.
+/// Says what the records at a district's end are to hold: no NEW-ORDER row, the order with its carrier, the customer's
+/// row, and the next number in OLDEST.
 fn end_order<K: Start>(
     transaction: &mut Transaction<'_, K>,
+    delivery: &DeliveryInput,
     key: OrderKey,
-    order: &Carried,
-    credited: Payload,
+    order: &Order,
+    customer: &CustomerColumns,
 ) -> Result<(), Refusal>
     requires key { IsOrderKey K.tables.scale key }
     requires customer { IsNumber K.tables.scale.customers order.now.customer }
@@ -126,7 +134,7 @@ fn end_order<K: Start>(
     requires holds_oldest { IsSome (held transaction.old.reads (number_of_key K.tables.scale
         (key_variants.Oldest (record { warehouse = key.warehouse; district = key.district })))) }
     ensures written { OnOk result (transaction.new.writes
-        ≡ puts_all K.tables.scale transaction.old.writes (ending_changes key order.now credited)) }
+        ≡ puts_all K.tables.scale transaction.old.writes (ending_changes delivery.now key order.now customer.now)) }
     ensures reads { transaction.new.reads ≡ transaction.old.reads }
     ensures goes_on { GoesOn 0 4 transaction.old transaction.new }
     ensures only_memory { IfErr result (λ refusal. refusal ≡ OutOfMemory) }
@@ -140,9 +148,13 @@ fn end_order<K: Start>(
         district: key.district,
         customer: order.customer,
     };
+    let carried = Order {
+        carrier: Some(delivery.carrier),
+        ..*order
+    };
     let next = u64::from(key.order) + 1;
     transaction.put(RecordKey::NewOrder(key), None)?;
-    transaction.put(RecordKey::Order(key), Some(order.words))?;
-    transaction.put(RecordKey::Customer(buyer), Some(credited))?;
+    put_row(transaction, key, &carried)?;
+    put_row(transaction, buyer, customer)?;
     transaction.put(RecordKey::Oldest(home), Some([next, 0, 0, 0, 0, 0, 0]))
 }

@@ -5,8 +5,6 @@ use Rattle.tables.specs.Database.{Database}
 use Rattle.tables.specs.Records.{IsRecordKey, number_of_key, record_count}
 use Rattle.tables.specs.Rows.{row_at}
 use Rattle.cells.specs.First.{populated_word, first_version}
-use Rattle.tables.specs.declared.keys.DistrictKey.{DistrictKey}
-use Rattle.tables.specs.declared.keys.OrderKey.{OrderKey}
 use Rattle.tables.specs.declared.records.RecordKey.{RecordKey}
 use Rattle.tables.specs.declared.records.RecordKey.TheVariants as key
 use Rattle.cells.specs.declared.cells.Newest.{Newest}
@@ -33,7 +31,3 @@ abbrev pub begun_by : {K X : Type 0} → Sizes → (K → X → RecordKey) → (
     → List ℕ
 begun_by s record_of words_of n version e = cond (n == number_of_key s (record_of e.0 e.1))
     (populated_word ∷ words_of (data_of version) e.0 e.1) version
-
--- the district of an order
-abbrev pub district_of_order : OrderKey → DistrictKey
-district_of_order k = record { warehouse = k.warehouse; district = k.district }

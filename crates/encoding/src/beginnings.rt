@@ -5,7 +5,7 @@ ghost use Rattle.tables.specs.Rows.{warehouse_words, district_words, customer_wo
 ghost use Rattle.tables.specs.Rows.{line_words, stock_words, number_words};
 ghost use Rattle.tables.specs.declared.records.RecordKey.TheVariants as record_key;
 ghost use Rattle.tables.specs.WellFormed.{orderer};
-ghost use Rattle.encoding.specs.Begun.{district_of_order};
+ghost use Rattle.tables.specs.Keys.{district_of_order};
 
 use crate::first::Begins;
 use money::{NO_PAYLOAD, Payload};

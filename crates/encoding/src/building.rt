@@ -93,11 +93,5 @@ pub fn row_count(scale: &Scale) -> u32
     ensures value { result ≡ row_count scale.now }
     ensures limit { result ≤ record_count scale.now }
 {
-    Table::Warehouse.size(scale)
-        + Table::District.size(scale)
-        + Table::Customer.size(scale)
-        + Table::NewOrder.size(scale)
-        + Table::Order.size(scale)
-        + Table::OrderLine.size(scale)
-        + Table::Stock.size(scale)
+    Table::Oldest.first(scale)
 }

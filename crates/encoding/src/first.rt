@@ -25,7 +25,7 @@ use money::{NO_PAYLOAD, Payload, Refusal};
 use population::Population;
 use std::alloc::{AllocError, Global};
 use std::collections::BTreeMap;
-use tables::{RecordKey, Scale, Table, Tables, number_of_key};
+use tables::{RecordKey, Scale, Table, Tables, number_of_key, record_count};
 use tidword::TidWord;
 
 /// How a row of a table gives a record its first words.
@@ -72,20 +72,6 @@ fn none_of(alloc: Global, scale: &Scale) -> Result<Vec<Newest>, AllocError>
     let mut newest = Vec::new(alloc);
     newest.resize(record_count(scale) as usize, absent)?;
     Ok(newest)
-}
-
-/// How many records a scale has. Constant time.
-pub fn record_count(scale: &Scale) -> u32
-    ensures { result ≡ record_count scale.now }
-{
-    let customers = Table::Warehouse.size(scale)
-        + Table::District.size(scale)
-        + Table::Customer.size(scale);
-    let orders = Table::NewOrder.size(scale)
-        + Table::Order.size(scale)
-        + Table::OrderLine.size(scale);
-    let indexes = Table::Oldest.size(scale) + Table::Last.size(scale);
-    customers + orders + Table::Stock.size(scale) + indexes
 }
 
 /// Gives the records of rows their words.

@@ -33,7 +33,7 @@ mod putting;
 
 pub use building::{row_count, tables_of};
 pub use decode::{customer_of, district_of, line_of, order_of, stock_of, warehouse_of};
-pub use first::{newest_of, record_count};
+pub use first::newest_of;
 pub use putting::{put, take_out};
 
 /// Two well-formed tables that a population's may become are the same where the records of rows hold the same

@@ -57,17 +57,11 @@ fn put_writes(out: &mut Vec<u8>, scale: &Scale, writes: &WriteList) -> Result<()
     ensures { OnOk result (out.new.items ≡ out.old.items ++ flat_map write_text (writes_of scale.now writes.now)) }
 {
     let values = writes.values();
-    let behind = behind_history(scale);
+    // HISTORY has no records, so NEW-ORDER's first stands right behind its place.
+    let behind = Table::NewOrder.first(scale);
     put_before(out, scale, behind, values)?;
     put_row(out, writes.history_row())?;
     put_behind(out, scale, behind, values)
-}
-
-/// The number of the first record behind HISTORY's place.
-fn behind_history(scale: &Scale) -> u32
-    ensures { result ≡ first_number scale.now table.NewOrder }
-{
-    Table::Warehouse.size(scale) + Table::District.size(scale) + Table::Customer.size(scale)
 }
 
 /// Appends the row that HISTORY got, if there is one.

@@ -8,7 +8,7 @@ use Rattle.std.specs.Prelude.{flat_map, find, ◌==◌, nat_le, cond, if◌then�
 use Rattle.std.specs.List.{AllByRecursion}
 use Rattle.std.specs.Option.{is_some}
 use Rattle.money.specs.declared.payload.TheConstants.{PAYLOAD_WORDS}
-use Rattle.tables.specs.Records.{table_number, tables}
+use Rattle.tables.specs.Records.{table_number, table_numbered, tables}
 use Rattle.tables.specs.Rows.{payload_of}
 use Rattle.tables.specs.declared.records.Table.{Table}
 use Rattle.tables.specs.declared.records.Table.TheVariants as table
@@ -20,7 +20,7 @@ use Rattle.log_codec.proofs.Codecs.{codec-both, codec-chosen, codec-many, codec-
 use Rattle.log_text.specs.Columns.{width}
 use Rattle.log_text.specs.Writes.{value_text, write_text}
 use Rattle.log_text.specs.Entries.{EntryView, entry_text}
-use Rattle.log_text.specs.Reads.{table_numbered, table_from, words_from, kind_numbered, words_if, value_from, write_from, count_numbered, entry_from}
+use Rattle.log_text.specs.Reads.{table_from, words_from, kind_numbered, words_if, value_from, write_from, count_numbered, entry_from}
 use Rattle.tables.specs.declared.limits.TheConstants.{MAX_WRITES}
 use Rattle.log_text.specs.declared.write.Write.{Write}
 

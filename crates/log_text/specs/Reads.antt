@@ -1,12 +1,12 @@
 -- How bytes are read as writes, entries and bodies, before their rules are asked.
 use Rattle.std.specs.Prelude.{◌≡◌, ◌≢◌, ℕ, ◌+◌, ◌-◌, nat_le, ◌==◌, ◌&&◌, Bool, true, false, Option, Some, None}
-use Rattle.std.specs.Prelude.{if◌then◌else◌, List, length, take, drop, find, Result, Ok, Err}
+use Rattle.std.specs.Prelude.{if◌then◌else◌, List, length, take, drop, Result, Ok, Err}
 use Rattle.std.specs.Option.{option_map, option_and_then}
 use Rattle.log_codec.specs.Numbers.{Reader, number_at}
 use Rattle.log_codec.specs.Readers.{both, chosen, many, filled}
 use Rattle.money.specs.declared.refusal.Refusal.{Refusal}
 use Rattle.money.specs.declared.refusal.Refusal.TheVariants.{OutOfMemory, Damaged}
-use Rattle.tables.specs.Records.{table_number, tables}
+use Rattle.tables.specs.Records.{table_numbered}
 use Rattle.tables.specs.Rows.{payload_of}
 use Rattle.tables.specs.declared.records.Table.{Table}
 use Rattle.log_text.specs.Columns.{width}
@@ -14,10 +14,6 @@ use Rattle.log_text.specs.Entries.{EntryView}
 use Rattle.log_text.specs.Bodies.{BodyView}
 use Rattle.tables.specs.declared.limits.TheConstants.{MAX_WRITES}
 use Rattle.log_text.specs.declared.write.Write.{Write}
-
--- the table of a number
-abbrev pub table_numbered : ℕ → Option Table
-table_numbered n = find (λ t. table_number t == n) tables
 
 unfoldable pub table_from : Reader Table
 table_from bytes = chosen table_numbered (number_at 1) bytes

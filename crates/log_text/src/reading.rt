@@ -16,20 +16,7 @@ fn table_from(bytes: &[u8]) -> Option<(Table, &[u8])>
     ensures { option_map (λ x. (x.0, x.1.now)) result ≡ table_from bytes.now }
 {
     let (number, rest) = u8_at(bytes)?;
-    let table = match number {
-        1 => Table::Warehouse,
-        2 => Table::District,
-        3 => Table::Customer,
-        4 => Table::History,
-        5 => Table::NewOrder,
-        6 => Table::Order,
-        7 => Table::OrderLine,
-        8 => Table::Item,
-        9 => Table::Stock,
-        10 => Table::Oldest,
-        11 => Table::Last,
-        _ => return None,
-    };
+    let table = Table::of_number(number)?;
     Some((table, rest))
 }
 

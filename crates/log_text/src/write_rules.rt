@@ -10,26 +10,6 @@ use money::Payload;
 use tables::limits::MAX_WRITES;
 use tables::{Scale, Table};
 
-/// A table's number in the file, from 1 to 11.
-pub(crate) fn table_number(table: Table) -> u8
-    ensures number { result ≡ table_number table }
-    ensures limit { result ≤ 11 }
-{
-    match table {
-        Table::Warehouse => 1,
-        Table::District => 2,
-        Table::Customer => 3,
-        Table::History => 4,
-        Table::NewOrder => 5,
-        Table::Order => 6,
-        Table::OrderLine => 7,
-        Table::Item => 8,
-        Table::Stock => 9,
-        Table::Oldest => 10,
-        Table::Last => 11,
-    }
-}
-
 fn places(scale: &Scale, table: Table) -> u32
     ensures { result ≡ places scale.now table }
 {
@@ -44,7 +24,7 @@ fn is_value(scale: &Scale, table: Table, words: &Option<Payload>) -> bool
 {
     match words {
         Some(words) => are_columns(scale, table, words),
-        None => table_number(table) == 5,
+        None => matches!(table, Table::NewOrder),
     }
 }
 
@@ -70,7 +50,7 @@ fn rank(table: Table, place: u32) -> u64
     ensures rank { result ≡ table_number table * 2 ^ 32 + place }
     ensures limit { result < 2 ^ 36 }
 {
-    u64::from(table_number(table)) * (1 << 32) + u64::from(place)
+    u64::from(table.number()) * (1 << 32) + u64::from(place)
 }
 
 fn do_rise(writes: &[Write]) -> bool
@@ -93,7 +73,7 @@ fn records(writes: &[Write]) -> usize
 {
     let mut records = 0;
     for write in writes {
-        if table_number(write.table) != 4 {
+        if !matches!(write.table, Table::History) {
             records += 1;
         }
     }

@@ -11,7 +11,6 @@ use crate::body::Body;
 use crate::columns::width;
 use crate::entry::LoggedEntry;
 use crate::write::Write;
-use crate::write_rules::table_number;
 use byteorder::{ByteOrder, LittleEndian};
 use log_codec::{put_u8, put_u16, put_u32, put_u64};
 use money::Payload;
@@ -44,7 +43,7 @@ fn put_value(out: &mut Vec<u8>, table: Table, words: &Option<Payload>) -> Result
 pub fn put_write(out: &mut Vec<u8>, write: &Write) -> Result<(), AllocError>
     ensures { OnOk result (out.new.items ≡ out.old.items ++ write_text write.now) }
 {
-    put_u8(out, table_number(write.table))?;
+    put_u8(out, write.table.number())?;
     put_u32(out, write.place)?;
     put_value(out, write.table, &write.words)
 }

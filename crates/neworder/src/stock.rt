@@ -8,8 +8,8 @@ ghost use Rattle.tables.specs.declared.limits.TheConstants.{MAX_COUNT, MAX_COUNT
 ghost use Rattle.tables.specs.declared.limits.TheConstants.{MIN_STOCK, RESTOCK};
 ghost use Rattle.neworder.specs.Drawn.{IsStockUpTo};
 
-use columns::count_raised;
 use money::Payload;
+use rows::count_raised;
 use tables::RequestedLine;
 use tables::limits::{MAX_STOCK, MIN_STOCK, RESTOCK};
 

@@ -12,6 +12,7 @@ use Rattle.tables.specs.Rows.{row_at, number_words, warehouse_words, district_wo
 use Rattle.tables.proofs.Orders.{IsExact, exact_number, exact_district, exact_customer}
 use Rattle.tables_laws.proofs.Updates.{column-update_where, kept-update_where}
 use Rattle.tables_laws.proofs.Touched.{self, district_named, customer_named, untouched, touched}
+use Rattle.payment.specs.Steps.{paying}
 use Rattle.tables.specs.declared.records.RecordKey.{RecordKey}
 use Rattle.tables.specs.declared.records.RecordKey.TheVariants as key
 use Rattle.tables.specs.declared.rows.Warehouse.{Warehouse}
@@ -27,7 +28,7 @@ changed o p g words m k r h found = touched o words m p g k h ∙ ap (option_map
 
 module _ (t : Database) (x : PaymentInput) (id : ℕ) where
   -- the records of all keys but three are as before
-  pub others : (k : RecordKey) → k ≢ key.Warehouse x.warehouse → k ≢ key.District (record { warehouse = x.warehouse; district = x.district })
+  pub others : (k : RecordKey) → k ≢ key.Warehouse x.warehouse → k ≢ key.District (paying x)
       → k ≢ key.Customer (payer x id)
       → row_at (after_payment_of t x id) k ≡ row_at t k
   others (key.Warehouse w) a b c = untouched exact_number warehouse_words t.warehouses (λ w. x.warehouse == w) (raised_warehouse x.amount) w
@@ -51,11 +52,11 @@ module _ (t : Database) (x : PaymentInput) (id : ℕ) where
   warehouse_changed r found = changed exact_number (λ w. x.warehouse == w) (raised_warehouse x.amount) warehouse_words t.warehouses x.warehouse r
       (self x.warehouse) found
 
-  pub district_changed : (r : District) → get t.districts (record { warehouse = x.warehouse; district = x.district }) ≡ Some r
-      → row_at (after_payment_of t x id) (key.District (record { warehouse = x.warehouse; district = x.district })) ≡ Some
+  pub district_changed : (r : District) → get t.districts (paying x) ≡ Some r
+      → row_at (after_payment_of t x id) (key.District (paying x)) ≡ Some
       (district_words (raised_district x.amount r))
   district_changed r found = changed exact_district (is_district x.warehouse x.district) (raised_district x.amount) district_words t.districts
-      (record { warehouse = x.warehouse; district = x.district }) r (λ i. self x.warehouse i && self x.district i) found
+      (paying x) r (λ i. self x.warehouse i && self x.district i) found
 
   pub customer_changed : (r : Customer) → get t.customers (payer x id) ≡ Some r → row_at (after_payment_of t x id) (key.Customer (payer x id)) ≡ Some
       (customer_words (charged_customer x.amount r))

@@ -1,62 +1,65 @@
--- The steps of a Payment (TPC-C 2.5.2.2): its three records, their new values and its reply.
-use Rattle.std.specs.Prelude.{◌≡◌, ℕ, ℤ, ◌-ℤ◌, Some, [], ◌∷◌}
+-- The steps of a Payment (TPC-C 2.5.2.2): the rows of its three records, what they become, and its reply.
+use Rattle.std.specs.Prelude.{◌≡◌, ℕ, ◌+◌, ℤ, ◌+ℤ◌, ◌-ℤ◌, Some, [], ◌∷◌}
+use Rattle.std.specs.Option.{option_map}
+use Rattle.std.specs.FinMap.{get}
+use Rattle.tables.specs.Sizes.{Sizes}
 use Rattle.tables.specs.Database.{Database}
-use Rattle.tables.specs.Payment.{payer, raised_warehouse, raised_district, charged_customer}
-use Rattle.tables.specs.Rows.{row_at, warehouse_words, district_words, customer_words}
-use Rattle.tables.specs.WellFormed.{IsMoney, IsCustomerRow}
+use Rattle.tables.specs.Payment.{payer}
 use Rattle.tables.specs.declared.records.RecordKey.TheVariants as key
-use Rattle.tables.specs.declared.rows.Warehouse.{Warehouse}
-use Rattle.tables.specs.declared.rows.District.{District}
-use Rattle.tables.specs.declared.rows.Customer.{Customer}
+use Rattle.tables.specs.declared.keys.DistrictKey.{DistrictKey}
 use Rattle.tables.specs.declared.payment.PaymentInput.{PaymentInput}
 use Rattle.tables.specs.declared.payment.PaymentReply.{PaymentReply}
+use Rattle.rows.specs.Columns.{warehouse_columns, district_columns, customer_columns}
+use Rattle.rows.specs.Columns.{warehouse_columns_words, district_columns_words, customer_columns_words}
+use Rattle.rows.specs.Columns.{AreWarehouseColumns, AreDistrictColumns, AreCustomerColumns}
 use Rattle.readset.specs.Changes.{Changes}
-use Rattle.payment.specs.declared.transaction.Keys.{Keys}
-use Rattle.payment.specs.declared.transaction.Found.{Found}
-use Rattle.payment.specs.declared.transaction.NewValues.{NewValues}
+use Rattle.payment.specs.declared.transaction.Rows.{Rows}
 
--- the records of the paying warehouse, of the paying district, and of the customer with this C_ID
-abbrev pub keys_at : PaymentInput → ℕ → Keys
-keys_at x id = record {
-  warehouse = key.Warehouse x.warehouse;
-  district = key.District (record { warehouse = x.warehouse; district = x.district });
-  customer = key.Customer (payer x id);
+-- the paying district
+abbrev pub paying : PaymentInput → DistrictKey
+paying x = record { warehouse = x.warehouse; district = x.district }
+
+-- the rows of these tables that a Payment by customer c changes
+pub record ArePaymentRows (x : PaymentInput) (c : ℕ) (rows : Rows) (t : Database) : Type 0 where
+  pub warehouse : option_map warehouse_columns (get t.warehouses x.warehouse) ≡ Some rows.warehouse
+  pub district : option_map district_columns (get t.districts (paying x)) ≡ Some rows.district
+  pub customer : option_map customer_columns (get t.customers (payer x c)) ≡ Some rows.customer
+
+-- within their ranges
+pub record AreInRange (s : Sizes) (rows : Rows) : Type 0 where
+  pub warehouse : AreWarehouseColumns rows.warehouse
+  pub district : AreDistrictColumns s rows.district
+  pub customer : AreCustomerColumns rows.customer
+
+-- what a payment makes of them
+abbrev pub paid : ℤ → Rows → Rows
+paid amount rows = record {
+  warehouse = record { year_to_date = rows.warehouse.year_to_date +ℤ amount };
+  district = record {
+    year_to_date = rows.district.year_to_date +ℤ amount;
+    next_order = rows.district.next_order;
+  };
+  customer = record {
+    balance = rows.customer.balance -ℤ amount;
+    paid = rows.customer.paid +ℤ amount;
+    payments = rows.customer.payments + 1;
+    deliveries = rows.customer.deliveries;
+  };
 }
 
--- what they hold
-pub record AreFound (keys : Keys) (found : Found) (t : Database) : Type 0 where
-  pub warehouse : row_at t keys.warehouse ≡ found.warehouse
-  pub district : row_at t keys.district ≡ found.district
-  pub customer : row_at t keys.customer ≡ found.customer
+-- what changes, and the reply, of rows after the payment
+abbrev pub changes_of : PaymentInput → ℕ → Rows → Changes
+changes_of x c rows =
+    (key.Warehouse x.warehouse, Some (warehouse_columns_words rows.warehouse))
+    ∷ (key.District (paying x), Some (district_columns_words rows.district))
+    ∷ (key.Customer (payer x c), Some (customer_columns_words rows.customer)) ∷ []
 
--- these rows, within their ranges
-pub record AreFoundRows (found : Found) (w : Warehouse) (d : District) (c : Customer) : Type 0 where
-  pub warehouse : found.warehouse ≡ Some (warehouse_words w)
-  pub district : found.district ≡ Some (district_words d)
-  pub customer : found.customer ≡ Some (customer_words c)
-  pub warehouse_range : IsMoney w.year_to_date
-  pub district_range : IsMoney d.year_to_date
-  pub customer_range : IsCustomerRow c
-
--- what these rows become
-pub record AreNewValues (amount : ℤ) (w : Warehouse) (d : District) (c : Customer) (values : NewValues) : Type 0 where
-  pub warehouse : values.warehouse ≡ warehouse_words (raised_warehouse amount w)
-  pub district : values.district ≡ district_words (raised_district amount d)
-  pub customer : values.customer.words ≡ customer_words (charged_customer amount c)
-  pub balance : values.customer.balance ≡ c.balance -ℤ amount
-
--- what changes, and the reply
-abbrev pub changes_of : Keys → NewValues → Changes
-changes_of keys values =
-    (keys.warehouse, Some values.warehouse) ∷ (keys.district, Some values.district)
-    ∷ (keys.customer, Some values.customer.words) ∷ []
-
-abbrev pub reply_of : NewValues → PaymentInput → ℕ → PaymentReply
-reply_of values x id = record {
+abbrev pub reply_of : Rows → PaymentInput → ℕ → PaymentReply
+reply_of rows x c = record {
   warehouse = x.warehouse;
   district = x.district;
   customer_warehouse = x.customer_warehouse;
   customer_district = x.customer_district;
-  customer = id;
-  balance = values.customer.balance;
+  customer = c;
+  balance = rows.customer.balance;
 }

@@ -2,7 +2,6 @@
 //! before the commit (Silo, SOSP 2013, section 4.4).
 #![tactic(auto)]
 
-mod change;
 mod transaction;
 
 pub use transaction::execute;

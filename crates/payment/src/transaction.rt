@@ -1,13 +1,11 @@
 //! A Payment on record cells.
-ghost use Rattle.std.specs.Prelude.{◌≡◌, ◌≤◌, ◌≤ℤ◌, pos, IsSome, [], length, Some, IfErr, OnOk};
-ghost use Rattle.tables.specs.Sizes.{IsNumber};
-ghost use Rattle.tables.specs.Payment.{IsPayment, payer_number, history_row};
+ghost use Rattle.std.specs.Prelude.{◌≡◌, ◌≤◌, ◌≤ℤ◌, pos, IsSome, [], length, Some, IfOk, IfErr, OnOk};
+ghost use Rattle.tables.specs.Sizes.{Sizes, IsNumber};
+ghost use Rattle.tables.specs.Payment.{IsPayment, payer, payer_number, history_row};
 ghost use Rattle.tables.specs.declared.limits.TheConstants.{MAX_PAYMENT};
 ghost use Rattle.tables.specs.declared.input.Input.TheVariants as input_variants;
-ghost use Rattle.tables.specs.declared.rows.Warehouse.{Warehouse};
-ghost use Rattle.tables.specs.declared.rows.District.{District};
-ghost use Rattle.tables.specs.declared.rows.Customer.{Customer};
-ghost use Rattle.money.specs.declared.refusal.Refusal.TheVariants.{OutOfMemory, Stale};
+ghost use Rattle.tables.specs.declared.records.RecordKey.TheVariants as record_key;
+ghost use Rattle.money.specs.declared.refusal.Refusal.TheVariants.{OutOfMemory};
 ghost use Rattle.tables.specs.Records.{number_of_key};
 ghost use Rattle.population.specs.Initial.{initial};
 ghost use Rattle.readset.specs.Reads.{held};
@@ -15,42 +13,22 @@ ghost use Rattle.readset.specs.Writes.{no_writes};
 ghost use Rattle.readset.specs.Changes.{puts_all};
 ghost use Rattle.readset.specs.Commit.{IsCommitOf};
 ghost use Rattle.readset.specs.Transaction.{Finds, ReadsMore, IsExecuted};
-ghost use Rattle.payment.specs.declared.transaction.NewValues.{NewValues as Values};
-ghost use Rattle.payment.specs.Steps.{keys_at, AreFound, AreFoundRows, AreNewValues, changes_of, reply_of};
+ghost use Rattle.payment.specs.Steps.{paying, ArePaymentRows, AreInRange, paid, changes_of, reply_of};
 
-use crate::change::{Charged, charge_customer, raise_district, raise_warehouse};
 use cells::Reader;
-use money::{Cents, Payload, Refusal};
+use money::{Cents, Refusal};
 use population::Population;
-use readset::{Start, Transaction, Work};
-use std::alloc::Global;
+use readset::{Start, Transaction, Work, put_row, read_present};
+use rows::{CustomerColumns, DistrictColumns, WarehouseColumns};
 use std::sync::Wait;
-use tables::{
-    CustomerKey, DistrictKey, History, Input, PaymentInput, PaymentReply, RecordKey, Reply,
-};
+use tables::{History, Input, PaymentInput, PaymentReply, Reply};
 
-/// The records that a Payment reads and writes.
+/// The rows that a Payment changes.
 #[derive(Clone, Copy)]
-struct Keys {
-    warehouse: RecordKey,
-    district: RecordKey,
-    customer: RecordKey,
-}
-
-/// What those records hold.
-#[derive(Clone, Copy)]
-struct Found {
-    warehouse: Option<Payload>,
-    district: Option<Payload>,
-    customer: Option<Payload>,
-}
-
-/// What they are to hold.
-#[derive(Clone, Copy)]
-struct NewValues {
-    warehouse: Payload,
-    district: Payload,
-    customer: Charged,
+struct Rows {
+    warehouse: WarehouseColumns,
+    district: DistrictColumns,
+    customer: CustomerColumns,
 }
 
 /// Executes a Payment (TPC-C 2.5.2.2) in a transaction that has read nothing: reads its records once each, and says
@@ -82,11 +60,7 @@ fn payer(population: &Population, payment: &PaymentInput) -> u32
     ensures payer { result ≡ payer_number (initial population.now) payment.now }
     ensures customer { IsNumber (initial population.now).scale.customers result }
 {
-    let home = DistrictKey {
-        warehouse: payment.customer_warehouse,
-        district: payment.customer_district,
-    };
-    population.customer(home, payment.who)
+    population.customer(payment.customer_home(), payment.who)
 }
 
 /// Reads the three records, says what they are to hold and which row HISTORY is to get, and replies.
@@ -105,75 +79,69 @@ fn pay<R: Wait, K: Start>(
     ensures reads { length transaction.new.reads ≤ 3 }
     ensures writes { length transaction.new.writes.values ≤ 3 }
 {
-    let keys = keys_of(payment, customer);
-    let found = read(rt, transaction, payment, customer, keys)?;
-    let Some(values) = new_values(&found, payment.amount) else {
-        return Err(Refusal::Stale);
-    };
-    write(transaction, payment, customer, keys, &values)?;
-    Ok(Reply::Payment(reply(payment, &values, customer)))
+    let rows = read(rt, transaction, payment, customer)?;
+    let rows = raised(&rows, payment.amount);
+    write(transaction, payment, customer, &rows)?;
+    Ok(Reply::Payment(reply(payment, &rows, customer)))
 }
 
-/// The records that a Payment reads and writes.
-fn keys_of(payment: &PaymentInput, customer: u32) -> Keys
-    ensures { result ≡ keys_at payment.now customer }
-{
-    let district = DistrictKey {
-        warehouse: payment.warehouse,
-        district: payment.district,
-    };
-    let payer = CustomerKey {
-        warehouse: payment.customer_warehouse,
-        district: payment.customer_district,
-        customer,
-    };
-    Keys {
-        warehouse: RecordKey::Warehouse(payment.warehouse),
-        district: RecordKey::District(district),
-        customer: RecordKey::Customer(payer),
-    }
-}
-
-/// Reads the three records, each once.
+/// Reads the three rows, each once.
 fn read<R: Wait, K: Start>(
     rt: &R,
     transaction: &mut Transaction<'_, K>,
     payment: &PaymentInput,
     customer: u32,
-    keys: Keys,
-) -> Result<Found, Refusal>
+) -> Result<Rows, Refusal>
     requires input { IsPayment K.tables.scale payment.now }
     requires customer { IsNumber K.tables.scale.customers customer }
-    requires keys { keys ≡ keys_at payment.now customer }
-    ensures found { Finds K.tables transaction.new result (AreFound keys) }
-    ensures warehouse { OnOk result
-        (IsSome (held transaction.new.reads (number_of_key K.tables.scale keys.warehouse))) }
-    ensures district { OnOk result (IsSome (held transaction.new.reads (number_of_key K.tables.scale keys.district))) }
-    ensures customer { OnOk result (IsSome (held transaction.new.reads (number_of_key K.tables.scale keys.customer))) }
+    ensures rows { Finds K.tables transaction.new result (ArePaymentRows payment.now customer) }
+    ensures range { IfOk result (AreInRange K.tables.scale) }
+    ensures warehouse { OnOk result (IsSome
+        (held transaction.new.reads (number_of_key K.tables.scale (record_key.Warehouse payment.now.warehouse)))) }
+    ensures district { OnOk result (IsSome
+        (held transaction.new.reads (number_of_key K.tables.scale (record_key.District (paying payment.now))))) }
+    ensures customer { OnOk result (IsSome
+        (held transaction.new.reads (number_of_key K.tables.scale (record_key.Customer (payer payment.now customer))))) }
     ensures reads { ReadsMore 3 transaction.old transaction.new }
 {
-    let warehouse = transaction.read(rt, keys.warehouse)?;
-    let district = transaction.read(rt, keys.district)?;
-    let customer = transaction.read(rt, keys.customer)?;
-    Ok(Found {
+    let warehouse = read_present(rt, transaction, payment.warehouse)?;
+    let district = read_present(rt, transaction, payment.home())?;
+    let customer = read_present(rt, transaction, payment.payer(customer))?;
+    Ok(Rows {
         warehouse,
         district,
         customer,
     })
 }
 
-/// What the three records are to hold. None only where no well-formed tables have what they hold.
-fn new_values(found: &Found, amount: Cents) -> Option<NewValues>
+/// What a payment of this amount makes of the rows: W_YTD and D_YTD raised, C_BALANCE lowered, C_YTD_PAYMENT raised,
+/// and one payment more.
+fn raised(rows: &Rows, amount: Cents) -> Rows
+    requires rows { (s : Sizes) × AreInRange s rows.now }
     requires low { pos 0 ≤ℤ amount }
     requires high { amount ≤ℤ MAX_PAYMENT }
-    ensures { (w : Warehouse) (d : District) (c : Customer) → AreFoundRows found.now w d c
-        → (values : Values) × (result ≡ Some values) × AreNewValues amount w d c values }
+    ensures { result ≡ paid amount rows.now }
 {
-    Some(NewValues {
-        warehouse: raise_warehouse(found.warehouse, amount)?,
-        district: raise_district(found.district, amount)?,
-        customer: charge_customer(found.customer, amount)?,
-    })
+    let Rows {
+        warehouse,
+        district,
+        customer,
+    } = *rows;
+    Rows {
+        warehouse: WarehouseColumns {
+            year_to_date: warehouse.year_to_date + amount,
+        },
+        district: DistrictColumns {
+            year_to_date: district.year_to_date + amount,
+            ..district
+        },
+        customer: CustomerColumns {
+            balance: customer.balance - amount,
+            paid: customer.paid + amount,
+            payments: customer.payments + 1,
+            ..customer
+        },
+    }
 }
 
 /// Says what the three records are to hold, and which row HISTORY is to get.
@@ -181,27 +149,28 @@ fn write<K: Start>(
     transaction: &mut Transaction<'_, K>,
     payment: &PaymentInput,
     customer: u32,
-    keys: Keys,
-    values: &NewValues,
+    rows: &Rows,
 ) -> Result<(), Refusal>
     requires input { IsPayment K.tables.scale payment.now }
     requires customer { IsNumber K.tables.scale.customers customer }
-    requires keys { keys ≡ keys_at payment.now customer }
-    requires warehouse { IsSome (held transaction.old.reads (number_of_key K.tables.scale keys.warehouse)) }
-    requires district { IsSome (held transaction.old.reads (number_of_key K.tables.scale keys.district)) }
-    requires payer { IsSome (held transaction.old.reads (number_of_key K.tables.scale keys.customer)) }
+    requires warehouse { IsSome
+        (held transaction.old.reads (number_of_key K.tables.scale (record_key.Warehouse payment.now.warehouse))) }
+    requires district { IsSome
+        (held transaction.old.reads (number_of_key K.tables.scale (record_key.District (paying payment.now)))) }
+    requires payer { IsSome
+        (held transaction.old.reads (number_of_key K.tables.scale (record_key.Customer (payer payment.now customer)))) }
     requires none { transaction.old.writes ≡ no_writes }
     ensures written { OnOk result (transaction.new.writes ≡ record {
-      values = (puts_all K.tables.scale no_writes (changes_of keys values.now)).values;
+      values = (puts_all K.tables.scale no_writes (changes_of payment.now customer rows.now)).values;
       history_row = Some (history_row payment.now customer);
     }) }
     ensures reads { transaction.new.reads ≡ transaction.old.reads }
     ensures few { length transaction.new.writes.values ≤ 3 }
     ensures only_memory { IfErr result (λ refusal. refusal ≡ OutOfMemory) }
 {
-    transaction.put(keys.warehouse, Some(values.warehouse))?;
-    transaction.put(keys.district, Some(values.district))?;
-    transaction.put(keys.customer, Some(values.customer.words))?;
+    put_row(transaction, payment.warehouse, &rows.warehouse)?;
+    put_row(transaction, payment.home(), &rows.district)?;
+    put_row(transaction, payment.payer(customer), &rows.customer)?;
     transaction.put_history_row(History {
         customer,
         customer_district: payment.customer_district,
@@ -214,9 +183,9 @@ fn write<K: Start>(
     Ok(())
 }
 
-/// The reply of a Payment (TPC-C 2.5.3.3).
-fn reply(payment: &PaymentInput, values: &NewValues, customer: u32) -> PaymentReply
-    ensures { result ≡ reply_of values.now payment.now customer }
+/// The reply of a Payment (TPC-C 2.5.3.3), by the rows after it.
+fn reply(payment: &PaymentInput, rows: &Rows, customer: u32) -> PaymentReply
+    ensures { result ≡ reply_of rows.now payment.now customer }
 {
     PaymentReply {
         warehouse: payment.warehouse,
@@ -224,6 +193,6 @@ fn reply(payment: &PaymentInput, values: &NewValues, customer: u32) -> PaymentRe
         customer_warehouse: payment.customer_warehouse,
         customer_district: payment.customer_district,
         customer,
-        balance: values.customer.balance,
+        balance: rows.customer.balance,
     }
 }

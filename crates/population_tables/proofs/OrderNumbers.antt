@@ -8,13 +8,12 @@ use Rattle.std.proofs.lemmas.Bool.Decides.{nat_tests}
 use Rattle.std.proofs.lemmas.Int.{ints}
 use Rattle.std.proofs.lemmas.Option.{same_Some}
 use Rattle.tables.specs.Sizes.{IsBetween}
-use Rattle.tables.specs.Keys.{order_cmp, is_district}
+use Rattle.tables.specs.Keys.{order_cmp, order_key, is_district}
 use Rattle.tables.specs.Maps.{sum_entries, total, count, EachRow}
 use Rattle.tables.specs.OrderNumbers.{least, greatest, numbers_in}
 use Rattle.tables.specs.declared.keys.DistrictKey.{DistrictKey}
 use Rattle.tables.specs.declared.keys.OrderKey.{OrderKey}
 use Rattle.tables.proofs.OrderNumbers.{greatest-each, greatest-within, least-each, least-within}
-use Rattle.population_tables.proofs.Parts.{order_key}
 
 itself : (i : ℕ) → (i == i) ≡ true
 itself i = grind (arith, nat_tests)

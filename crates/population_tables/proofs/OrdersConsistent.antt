@@ -7,7 +7,7 @@ use Rattle.std.specs.FinMap.{get}
 use Rattle.std.proofs.lemmas.Bool.Decides.{nat_tests}
 use Rattle.std.proofs.lemmas.Int.{ints}
 use Rattle.tables.specs.Sizes.{IsNumber}
-use Rattle.tables.specs.Keys.{IsDistrictKey, is_district, is_order, order_of}
+use Rattle.tables.specs.Keys.{order_key, IsDistrictKey, is_district, is_order, order_of}
 use Rattle.tables.specs.Maps.{sum_of, count, column}
 use Rattle.tables.specs.NewOrder.{line_key}
 use Rattle.tables.specs.OrderNumbers.{least, greatest, numbers_in, next_order}
@@ -26,7 +26,7 @@ use Rattle.population_tables.specs.First.{IsFit, IsSeeded, first_line_count}
 use Rattle.population_tables.proofs.PlainRows.{null_unless}
 use Rattle.population_tables.proofs.Sound.{fifteen}
 use Rattle.population_tables.proofs.TableRows.{found, each, missing, column_of}
-use Rattle.population_tables.proofs.Parts.{order_key, district_total, order_total, total_parts}
+use Rattle.population_tables.proofs.Parts.{district_total, order_total, total_parts}
 use Rattle.population_tables.proofs.OrderNumbers.{numbers_counted, greatest_number, least_number}
 use Rattle.population_tables.proofs.Sums.{sum_more, sum_same}
 

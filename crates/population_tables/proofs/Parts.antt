@@ -5,7 +5,7 @@ use Rattle.std.specs.FinMap.{FinMap}
 use Rattle.std.specs.declared.cmp.Ordering.{Ordering}
 use Rattle.std.proofs.lemmas.Bool.Decides.{nat_tests}
 use Rattle.tables.specs.Sizes.{IsNumber}
-use Rattle.tables.specs.Keys.{order_cmp, line_cmp, is_district, is_order}
+use Rattle.tables.specs.Keys.{order_cmp, line_cmp, is_district, is_order, order_key}
 use Rattle.tables.specs.Maps.{sum_of, total, column, EachRow}
 use Rattle.tables.specs.NewOrder.{line_key}
 use Rattle.tables.specs.declared.keys.DistrictKey.{DistrictKey}
@@ -16,10 +16,6 @@ use Rattle.tables.proofs.Totals.{total-alike}
 use Rattle.population_tables.specs.Plain.{numbers}
 use Rattle.population_tables.proofs.Added.{tied_four}
 use Rattle.population_tables.proofs.Sums.{sum_one, total_at, total_sums}
-
--- the order of a number in a district
-abbrev pub order_key : DistrictKey → ℕ → OrderKey
-order_key k o = record { warehouse = k.warehouse; district = k.district; order = o }
 
 module _ {K X : Type 0} {R : K → K → Ordering} where
   -- the sum over the rows that pass a test, by a part of their keys that is one of the numbers from 1 to n

@@ -1,4 +1,3 @@
-mod WordsRead
 mod LinesByNumber
 mod ToldOrder
 mod StatusExplained
@@ -9,4 +8,3 @@ mod LookedAt
 mod Pushed
 mod Counted
 mod LevelExplained
-mod OrderRead

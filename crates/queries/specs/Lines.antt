@@ -1,13 +1,11 @@
--- An order's lines by their numbers, and what an Order-Status takes of an order (TPC-C 2.6.2.2).
+-- An order's lines by their numbers (TPC-C 2.6.2.2).
 use Rattle.std.specs.Prelude.{ℕ, zero, suc, Option, List, [], ◌++◌}
 use Rattle.std.specs.Option.{option_to_list}
 use Rattle.std.specs.FinMap.{get}
 use Rattle.tables.specs.Database.{Database}
 use Rattle.tables.specs.NewOrder.{line_key}
 use Rattle.tables.specs.declared.keys.OrderKey.{OrderKey}
-use Rattle.tables.specs.declared.rows.Order.{Order}
 use Rattle.tables.specs.declared.rows.OrderLine.{OrderLine}
-use Rattle.queries.specs.declared.rows.OrderColumns.{OrderColumns}
 
 -- the rows that are there, at the numbers from 1 to n
 abbrev pub rows_to : {X : Type 0} → (ℕ → Option X) → ℕ → List X
@@ -17,7 +15,3 @@ rows_to f (suc n) = rows_to f n ++ option_to_list (f (suc n))
 -- an order's lines from 1 to n, in the order of their numbers
 abbrev pub lines_up_to : Database → OrderKey → ℕ → List OrderLine
 lines_up_to t k n = rows_to (λ i. get t.lines (line_key k i)) n
-
--- the columns of an order that are told
-abbrev pub columns_of : Order → OrderColumns
-columns_of r = record { entry_date = r.entry_date; carrier = r.carrier; line_count = r.line_count }

@@ -1,6 +1,6 @@
 //! A customer's balance and its last order, on record cells (TPC-C 2.6.2.2).
 ghost use Rattle.std.specs.Prelude.{◌≡◌, ◌≤◌, ◌++◌, IfOk, IfErr, OnOk};
-ghost use Rattle.std.specs.Option.{ForSome, option_map, option_to_list};
+ghost use Rattle.std.specs.Option.{option_map, option_to_list};
 ghost use Rattle.std.specs.FinMap.{get};
 ghost use Rattle.tables.specs.Sizes.{IsNumber};
 ghost use Rattle.tables.specs.Keys.{IsCustomerKey, IsOrderKey};
@@ -11,15 +11,15 @@ ghost use Rattle.tables.specs.OrderStatus.{told_of};
 ghost use Rattle.tables.specs.declared.limits.TheConstants.{MAX_ORDER_LINES};
 ghost use Rattle.money.specs.declared.refusal.Refusal.TheVariants.{OutOfMemory};
 ghost use Rattle.readset.specs.Transaction.{Finds, ReadsMore};
-ghost use Rattle.queries.specs.Lines.{lines_up_to, columns_of};
+ghost use Rattle.queries.specs.Lines.{lines_up_to};
 
-use crate::rows::{OrderColumns, line_row, order_columns};
-use columns::money_column;
 use money::{Cents, Refusal};
-use readset::{Start, Transaction};
+use readset::{Start, Transaction, read_present, read_row};
+use rows::CustomerColumns;
+use rows::column::NUMBER;
 use std::alloc::Global;
 use std::sync::Wait;
-use tables::{CustomerKey, LastOrder, LineKey, Lines, OrderKey, OrderLine, RecordKey};
+use tables::{CustomerKey, LastOrder, Lines, Order, OrderKey, OrderLine, RecordKey};
 
 /// Reads C_BALANCE of a customer. Costs a load.
 ///
@@ -36,13 +36,8 @@ pub(crate) fn read_balance<R: Wait, K: Start>(
         (λ balance t. column (λ r. r.balance) t.customers asked ≡ balance) }
     ensures reads { ReadsMore 1 transaction.old transaction.new }
 {
-    let Some(words) = transaction.read(rt, RecordKey::Customer(asked))? else {
-        return Err(Refusal::Stale);
-    };
-    match money_column(words[0]) {
-        Some(balance) => Ok(balance),
-        None => Err(Refusal::Stale),
-    }
+    let customer: CustomerColumns = read_present(rt, transaction, asked)?;
+    Ok(customer.balance)
 }
 
 /// Reads the number of a customer's last order, or 0 where it has none. Costs a load.
@@ -63,10 +58,10 @@ pub(crate) fn read_last<R: Wait, K: Start>(
     let Some(words) = transaction.read(rt, RecordKey::Last(asked))? else {
         return Err(Refusal::Stale);
     };
-    if words[0] > u64::from(transaction.scale().orders()) {
+    if words[NUMBER] > u64::from(transaction.scale().orders()) {
         return Err(Refusal::Stale);
     }
-    Ok(words[0] as u32)
+    Ok(words[NUMBER] as u32)
 }
 
 /// Reads an order and its lines, and gives what is told of it: nothing where there is no such order, as of number 0.
@@ -91,7 +86,8 @@ pub(crate) fn read_order<R: Wait, K: Start>(
     if key.order == 0 {
         return Ok(None);
     }
-    let Some(order) = read_columns(rt, transaction, key)? else {
+    let order: Option<Order> = read_row(rt, transaction, key)?;
+    let Some(order) = order else {
         return Ok(None);
     };
     let lines = read_lines(rt, alloc, transaction, key, order.line_count)?;
@@ -101,27 +97,6 @@ pub(crate) fn read_order<R: Wait, K: Start>(
         carrier: order.carrier,
         lines,
     }))
-}
-
-/// Reads O_ENTRY_D, O_CARRIER_ID and O_OL_CNT of an order, where there is one. Costs a load.
-pub(crate) fn read_columns<R: Wait, K: Start>(
-    rt: &R,
-    transaction: &mut Transaction<'_, K>,
-    key: OrderKey,
-) -> Result<Option<OrderColumns>, Refusal>
-    requires { IsOrderKey K.tables.scale key }
-    ensures columns { Finds K.tables transaction.new result
-        (λ order t. option_map columns_of (get t.orders key) ≡ order) }
-    ensures range { IfOk result (λ order. ForSome order (λ o. o.line_count ≤ MAX_ORDER_LINES)) }
-    ensures reads { ReadsMore 1 transaction.old transaction.new }
-{
-    let Some(words) = transaction.read(rt, RecordKey::Order(key))? else {
-        return Ok(None);
-    };
-    match order_columns(&words) {
-        Some(order) => Ok(Some(order)),
-        None => Err(Refusal::Stale),
-    }
 }
 
 /// Reads an order's lines from the first to this one, and gives those that are there. Costs a load a line, and memory
@@ -170,17 +145,5 @@ fn read_line<R: Wait, K: Start>(
         (λ line t. get t.lines (line_key key number) ≡ line) }
     ensures reads { ReadsMore 1 transaction.old transaction.new }
 {
-    let key = LineKey {
-        warehouse: key.warehouse,
-        district: key.district,
-        order: key.order,
-        line: number,
-    };
-    let Some(words) = transaction.read(rt, RecordKey::OrderLine(key))? else {
-        return Ok(None);
-    };
-    match line_row(&words, &transaction.scale()) {
-        Some(line) => Ok(Some(line)),
-        None => Err(Refusal::Stale),
-    }
+    read_row(rt, transaction, key.line_key(number))
 }

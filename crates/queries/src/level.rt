@@ -13,7 +13,7 @@ use money::Refusal;
 use readset::{Start, Transaction, Work};
 use std::alloc::Global;
 use std::sync::Wait;
-use tables::{DistrictKey, Input, Reply, StockLevelInput, StockLevelReply};
+use tables::{Input, Reply, StockLevelInput, StockLevelReply};
 
 /// Executes a Stock-Level (TPC-C 2.8.2.2) in a transaction that has read nothing: reads its district, the last 20
 /// orders with the lines that their O_OL_CNT says that they have, and the stock of each item in them once. No cell
@@ -52,10 +52,7 @@ fn read_reply<R: Wait, K: Start>(
         (λ reply t. IsCommitOf t (input_variants.StockLevel query.now) no_writes reply) }
     ensures reads { ReadsMore 621 transaction.old transaction.new }
 {
-    let home = DistrictKey {
-        warehouse: query.warehouse,
-        district: query.district,
-    };
+    let home = query.home();
     let next = read_next_order(rt, transaction, home)?;
     let items = sold_items(rt, alloc, transaction, home, next)?;
     let low = count_low(rt, transaction, query, items.as_slice())?;

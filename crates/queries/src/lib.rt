@@ -5,7 +5,6 @@
 mod last_order;
 mod level;
 mod low_stock;
-mod rows;
 mod sold_items;
 mod status;
 

@@ -7,9 +7,9 @@ ghost use Rattle.tables.specs.StockLevel.{IsStockLevel, is_low};
 ghost use Rattle.readset.specs.Transaction.{Finds, ReadsMore};
 
 use money::Refusal;
-use readset::{Start, Transaction};
+use readset::{Start, Transaction, read_present};
 use std::sync::Wait;
-use tables::{RecordKey, StockKey, StockLevelInput};
+use tables::{Stock, StockKey, StockLevelInput};
 
 /// How many of these items, which stand in the order of their numbers, have S_QUANTITY below the threshold in the
 /// warehouse. Costs a load an item at most.
@@ -53,14 +53,12 @@ fn count_item<R: Wait, K: Start>(
     ensures range { IfOk result (λ one. one ≤ 1) }
     ensures reads { ReadsMore 1 transaction.old transaction.new }
 {
-    let key = RecordKey::Stock(StockKey {
+    let key = StockKey {
         warehouse: query.warehouse,
         item,
-    });
-    let Some(words) = transaction.read(rt, key)? else {
-        return Err(Refusal::Stale);
     };
-    if words[0] < u64::from(query.threshold) {
+    let stock: Stock = read_present(rt, transaction, key)?;
+    if stock.quantity < query.threshold {
         Ok(1)
     } else {
         Ok(0)

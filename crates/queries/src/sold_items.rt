@@ -9,21 +9,18 @@ ghost use Rattle.tables.specs.Sizes.{Sizes, IsNumber};
 ghost use Rattle.tables.specs.Keys.{IsDistrictKey, IsOrderKey, IsLineKey, IsItemKey};
 ghost use Rattle.tables.specs.OrderNumbers.{next_order};
 ghost use Rattle.tables.specs.StockLevel.{is_sold};
-ghost use Rattle.tables.specs.declared.rows.District.{District};
-ghost use Rattle.tables.specs.declared.rows.OrderLine.{OrderLine as OrderLineValue};
-ghost use Rattle.tables.specs.Rows.{district_words, line_words};
 ghost use Rattle.tables.specs.declared.limits.TheConstants.{MAX_ORDER_LINES, RECENT_ORDERS};
 ghost use Rattle.money.specs.declared.refusal.Refusal.TheVariants.{OutOfMemory};
 ghost use Rattle.readset.specs.Transaction.{Finds, IsStepRefusal, ReadsMore};
 ghost use Rattle.queries.specs.SoldItems.{home_of, order_line_count, AreItems};
 
-use crate::last_order::read_columns;
-use money::{Payload, Refusal};
-use readset::{Start, Transaction};
+use money::Refusal;
+use readset::{Start, Transaction, read_present, read_row};
+use rows::DistrictColumns;
 use std::alloc::Global;
 use std::sync::Wait;
-use tables::limits::{MAX_ORDER_LINES, RECENT_ORDERS};
-use tables::{DistrictKey, LineKey, OrderKey, RecordKey, Scale};
+use tables::limits::RECENT_ORDERS;
+use tables::{DistrictKey, LineKey, Order, OrderKey, OrderLine};
 
 /// Reads D_NEXT_O_ID of a district. Costs a load.
 ///
@@ -40,25 +37,8 @@ pub(crate) fn read_next_order<R: Wait, K: Start>(
     ensures range { IfOk result (λ next. IsNumber (K.tables.scale.orders + 1) next) }
     ensures reads { ReadsMore 1 transaction.old transaction.new }
 {
-    let value = transaction.read(rt, RecordKey::District(home))?;
-    match next_number(value, &transaction.scale()) {
-        Some(next) => Ok(next),
-        None => Err(Refusal::Stale),
-    }
-}
-
-/// D_NEXT_O_ID, by what a district's record holds. None only where no district of well-formed tables of this scale
-/// holds it.
-fn next_number(value: Option<Payload>, scale: &Scale) -> Option<u32>
-    ensures next { (r : District) → value ≡ Some (district_words r)
-        → IsNumber (scale.now.orders + 1) r.next_order → result ≡ Some r.next_order }
-    ensures range { IfSome result (λ n. IsNumber (scale.now.orders + 1) n) }
-{
-    let next = value?[1];
-    if next == 0 || next > u64::from(scale.orders()) + 1 {
-        return None;
-    }
-    Some(next as u32)
+    let district: DistrictColumns = read_present(rt, transaction, home)?;
+    Ok(district.next_order)
 }
 
 /// The items of the lines of a district's last 20 orders, each once and in the order of their numbers. Reads each order
@@ -86,12 +66,7 @@ pub(crate) fn sold_items<R: Wait, K: Start>(
     let first = first_recent(next);
     let mut items = Vec::new(alloc);
     for order in first..next {
-        let key = OrderKey {
-            warehouse: home.warehouse,
-            district: home.district,
-            order,
-        };
-        order_items(rt, transaction, &mut items, key)?;
+        order_items(rt, transaction, &mut items, home.order_key(order))?;
     }
     keep_each_once(&mut items);
     Ok(items)
@@ -135,13 +110,7 @@ fn order_items<R: Wait, K: Start>(
 {
     let count = read_line_count(rt, transaction, order)?;
     for done in 0..count {
-        let key = LineKey {
-            warehouse: order.warehouse,
-            district: order.district,
-            order: order.order,
-            line: done + 1,
-        };
-        let item = read_item(rt, transaction, key)?;
+        let item = read_item(rt, transaction, order.line_key(done + 1))?;
         push_some(items, item)?;
     }
     Ok(())
@@ -158,8 +127,9 @@ fn read_line_count<R: Wait, K: Start>(
     ensures range { IfOk result (λ count. count ≤ MAX_ORDER_LINES) }
     ensures reads { ReadsMore 1 transaction.old transaction.new }
 {
-    match read_columns(rt, transaction, order)? {
-        Some(columns) => Ok(columns.line_count),
+    let order: Option<Order> = read_row(rt, transaction, order)?;
+    match order {
+        Some(order) => Ok(order.line_count),
         None => Ok(0),
     }
 }
@@ -187,25 +157,9 @@ fn read_item<R: Wait, K: Start>(
     ensures range { IfOk result (λ item. ForSome item (λ i. IsItemKey K.tables.scale i)) }
     ensures reads { ReadsMore 1 transaction.old transaction.new }
 {
-    let value = transaction.read(rt, RecordKey::OrderLine(key))?;
-    match line_item(value, &transaction.scale()) {
-        Some(item) => Ok(item),
-        None => Err(Refusal::Stale),
+    let line: Option<OrderLine> = read_row(rt, transaction, key)?;
+    match line {
+        Some(line) => Ok(Some(line.item)),
+        None => Ok(None),
     }
-}
-
-/// OL_I_ID, where there is a line. None only where no line of well-formed tables of this scale has these words.
-fn line_item(value: Option<Payload>, scale: &Scale) -> Option<Option<u32>>
-    ensures item { (w : Option OrderLineValue) → ForSome w (λ r. IsItemKey scale.now r.item)
-        → value ≡ option_map line_words w → result ≡ Some (option_map (λ r. r.item) w) }
-    ensures range { IfSome result (λ o. ForSome o (λ i. IsItemKey scale.now i)) }
-{
-    let Some(words) = value else {
-        return Some(None);
-    };
-    let item = words[0];
-    if item == 0 || item > u64::from(scale.items()) {
-        return None;
-    }
-    Some(Some(item as u32))
 }

@@ -15,9 +15,7 @@ use population::Population;
 use readset::{Start, Transaction, Work};
 use std::alloc::Global;
 use std::sync::Wait;
-use tables::{
-    CustomerKey, DistrictKey, Input, OrderKey, OrderStatusInput, OrderStatusReply, Reply,
-};
+use tables::{CustomerKey, Input, OrderStatusInput, OrderStatusReply, Reply};
 
 /// Executes an Order-Status (TPC-C 2.6.2.2) in a transaction that has read nothing: reads its customer, the number of
 /// the customer's last order, and that order with its lines. No cell changes, and it writes nothing. Gives back the
@@ -60,12 +58,7 @@ fn read_reply<R: Wait, K: Start>(
 {
     let balance = read_balance(rt, transaction, customer)?;
     let order = read_last(rt, transaction, customer)?;
-    let key = OrderKey {
-        warehouse: query.warehouse,
-        district: query.district,
-        order,
-    };
-    let order = read_order(rt, alloc, transaction, key)?;
+    let order = read_order(rt, alloc, transaction, query.home().order_key(order))?;
     Ok(Reply::OrderStatus(OrderStatusReply {
         warehouse: query.warehouse,
         district: query.district,
@@ -81,14 +74,6 @@ fn asked_for(population: &Population, query: &OrderStatusInput) -> CustomerKey
     ensures asked { result ≡ asked query.now (asked_number (initial population.now) query.now) }
     ensures key { IsCustomerKey (initial population.now).scale result }
 {
-    let home = DistrictKey {
-        warehouse: query.warehouse,
-        district: query.district,
-    };
-    let customer = population.customer(home, query.who);
-    CustomerKey {
-        warehouse: query.warehouse,
-        district: query.district,
-        customer,
-    }
+    let home = query.home();
+    home.customer_key(population.customer(home, query.who))
 }

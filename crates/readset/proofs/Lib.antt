@@ -10,3 +10,4 @@ mod Ordered
 pub mod Entries
 mod Loaded
 pub mod UnderWay
+mod RowRead

@@ -6,12 +6,14 @@ mod arrivals;
 mod list;
 mod places;
 mod reads;
+mod row_steps;
 mod transaction;
 mod work;
 mod writes;
 
 pub use list::WriteList;
 pub use reads::{ReadSet, value_of};
+pub use row_steps::{put_row, read_present, read_row};
 pub use transaction::{Start, Transaction};
 pub use work::Work;
 pub use writes::WriteSet;

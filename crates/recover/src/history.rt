@@ -10,6 +10,7 @@ ghost use Rattle.recover.specs.Parts.{HaveLawfulWrites};
 
 use log_text::{LoggedEntry, Write};
 use money::Payload;
+use rows::column::{H_AMOUNT, H_C_D_ID, H_C_ID, H_C_W_ID, H_D_ID, H_DATE, H_W_ID};
 use std::alloc::AllocError;
 use tables::{History, Table, Tables, money_from_word};
 
@@ -20,13 +21,13 @@ fn history_of(words: &Payload) -> History
     ensures { result ≡ row_of words.now }
 {
     History {
-        customer: words[0] as u32,
-        customer_district: words[1] as u32,
-        customer_warehouse: words[2] as u32,
-        district: words[3] as u32,
-        warehouse: words[4] as u32,
-        date: words[5] as u32,
-        amount: money_from_word(words[6]),
+        customer: words[H_C_ID] as u32,
+        customer_district: words[H_C_D_ID] as u32,
+        customer_warehouse: words[H_C_W_ID] as u32,
+        district: words[H_D_ID] as u32,
+        warehouse: words[H_W_ID] as u32,
+        date: words[H_DATE] as u32,
+        amount: money_from_word(words[H_AMOUNT]),
     }
 }
 

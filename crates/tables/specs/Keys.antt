@@ -66,6 +66,20 @@ is_order w d o k = (w == k.warehouse) && (d == k.district) && (o == k.order)
 abbrev pub is_stock : ℕ → ℕ → StockKey → Bool
 is_stock w i k = (w == k.warehouse) && (i == k.item)
 
+-- the district of a customer, and of an order
+abbrev pub district_of_customer : CustomerKey → DistrictKey
+district_of_customer k = record { warehouse = k.warehouse; district = k.district }
+
+abbrev pub district_of_order : OrderKey → DistrictKey
+district_of_order k = record { warehouse = k.warehouse; district = k.district }
+
+-- a customer and an order of a district
+abbrev pub customer_key : DistrictKey → ℕ → CustomerKey
+customer_key k c = record { warehouse = k.warehouse; district = k.district; customer = c }
+
+abbrev pub order_key : DistrictKey → ℕ → OrderKey
+order_key k o = record { warehouse = k.warehouse; district = k.district; order = o }
+
 -- the order that a line belongs to
 abbrev pub order_of : LineKey → OrderKey
 order_of k = record { warehouse = k.warehouse; district = k.district; order = k.order }

@@ -1,5 +1,5 @@
 -- The numbers of records. A record is named by its table and place, by its key, or by its number.
-use Rattle.std.specs.Prelude.{◌≡◌, ℕ, ◌+◌, ◌-◌, ◌*◌, ◌/◌, ◌%◌, ◌<◌, nat_lt, cond, List, [], ◌∷◌}
+use Rattle.std.specs.Prelude.{◌≡◌, ℕ, ◌+◌, ◌-◌, ◌*◌, ◌/◌, ◌%◌, ◌<◌, ◌==◌, nat_lt, cond, List, [], ◌∷◌, Option, find}
 use Rattle.std.specs.List.{filter, sum_by}
 use Rattle.tables.specs.Sizes.{Sizes}
 use Rattle.tables.specs.declared.limits.TheConstants.{MAX_ORDER_LINES}
@@ -30,6 +30,10 @@ table_number table.Item = 8
 table_number table.Stock = 9
 table_number table.Oldest = 10
 table_number table.Last = 11
+
+-- the table of a number, if it is one's
+abbrev pub table_numbered : ℕ → Option Table
+table_numbered n = find (λ t. table_number t == n) tables
 
 -- how many records a table has room for. Each key of the scale has its record, whether it has a row or not
 abbrev pub size : Sizes → Table → ℕ

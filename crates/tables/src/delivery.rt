@@ -2,6 +2,7 @@
 
 ghost use Rattle.std.specs.Prelude.{◌≡◌, ◌↔◌, IsTrue, IfOk};
 
+use crate::keys::DistrictKey;
 use crate::limits::{MAX_CARRIER, MAX_DATE};
 use crate::order_lines::Lines;
 use crate::scale::{Scale, is_between};
@@ -32,6 +33,16 @@ pub struct DeliveryReply {
 
 impl DeliveryInput {
     ghost use Rattle.tables.specs.Delivery.{IsDelivery};
+
+    /// A district of the warehouse.
+    pub fn district_key(&self, district: u32) -> DistrictKey
+        ensures { result ≡ record { warehouse = self.now.warehouse; district = district } }
+    {
+        DistrictKey {
+            warehouse: self.warehouse,
+            district,
+        }
+    }
 
     /// Whether each field is in its range: the date from 1 to 4,000,000,000, the warehouse within the scale, the
     /// carrier from 1 to 10.

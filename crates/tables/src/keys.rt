@@ -2,7 +2,8 @@
 //! of their columns as they stand here, and each prints as its numbers in that order, as `1 1 8 5`.
 
 ghost use Rattle.std.specs.Prelude.{◌≡◌};
-ghost use Rattle.tables.specs.Keys.{order_of};
+ghost use Rattle.tables.specs.Keys.{order_of, district_of_customer, district_of_order, customer_key, order_key};
+ghost use Rattle.tables.specs.NewOrder.{line_key};
 
 use std::fmt::{self, Display};
 
@@ -36,6 +37,66 @@ pub struct LineKey {
     pub district: u32,
     pub order: u32,
     pub line: u32,
+}
+
+impl DistrictKey {
+    /// The key of a customer of the district.
+    pub fn customer_key(&self, customer: u32) -> CustomerKey
+        ensures { result ≡ customer_key self.now customer }
+    {
+        CustomerKey {
+            warehouse: self.warehouse,
+            district: self.district,
+            customer,
+        }
+    }
+
+    /// The key of an order of the district.
+    pub fn order_key(&self, order: u32) -> OrderKey
+        ensures { result ≡ order_key self.now order }
+    {
+        OrderKey {
+            warehouse: self.warehouse,
+            district: self.district,
+            order,
+        }
+    }
+}
+
+impl CustomerKey {
+    /// The key of the customer's district.
+    pub fn district_key(&self) -> DistrictKey
+        ensures { result ≡ district_of_customer self.now }
+    {
+        DistrictKey {
+            warehouse: self.warehouse,
+            district: self.district,
+        }
+    }
+}
+
+impl OrderKey {
+    /// The key of the order's district.
+    pub fn district_key(&self) -> DistrictKey
+        ensures { result ≡ district_of_order self.now }
+    {
+        DistrictKey {
+            warehouse: self.warehouse,
+            district: self.district,
+        }
+    }
+
+    /// The key of a line of the order.
+    pub fn line_key(&self, line: u32) -> LineKey
+        ensures { result ≡ line_key self.now line }
+    {
+        LineKey {
+            warehouse: self.warehouse,
+            district: self.district,
+            order: self.order,
+            line,
+        }
+    }
 }
 
 impl LineKey {

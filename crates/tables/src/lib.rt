@@ -32,7 +32,10 @@ pub use new_order::{NewOrderInput, NewOrderReply, RequestedLine, SuppliedLine};
 pub use order_lines::Lines;
 pub use order_status::{LastOrder, OrderStatusInput, OrderStatusReply};
 pub use payment::{PaymentInput, PaymentReply};
-pub use records::{RecordKey, Table, number_of_key, rec, records_have_one_number_each};
+pub use records::{
+    RecordKey, Table, number_of_key, place_of_customer, place_of_district, place_of_order, rec,
+    record_count, records_have_one_number_each,
+};
 pub use reply::Reply;
 pub use rows::{
     Credit, Customer, District, History, Item, NewOrder, Order, OrderLine, Stock, Warehouse,

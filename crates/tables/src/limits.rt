@@ -57,6 +57,9 @@ pub const MIN_ORDER_LINES: u32 = 5;
 /// The most lines of an order (TPC-C 2.4.1.3).
 pub const MAX_ORDER_LINES: u32 = 15;
 
+/// The most records of a table: those of ORDER-LINE, at the largest scale.
+pub const MAX_TABLE_RECORDS: u32 = MAX_WAREHOUSES * MAX_DISTRICTS * MAX_ORDERS * MAX_ORDER_LINES;
+
 /// The largest item number that a terminal may send, at any scale. The largest item of any scale is less: the number
 /// past the last item is how a terminal asks for an order that is rolled back (TPC-C 2.4.1.5).
 pub const MAX_REQUESTED_ITEM: u32 = 100_001;

@@ -3,6 +3,7 @@
 ghost use Rattle.std.specs.Prelude.{◌≡◌, ◌↔◌, IsTrue, IfOk, All};
 ghost use Rattle.tables.specs.NewOrder.{IsRequestedLine};
 
+use crate::keys::{CustomerKey, DistrictKey};
 use crate::limits::{MAX_DATE, MAX_ORDER_LINES, MAX_QUANTITY, MAX_REQUESTED_ITEM, MIN_ORDER_LINES};
 use crate::order_lines::Lines;
 use crate::scale::{Scale, is_between};
@@ -73,7 +74,24 @@ fn are_in_range(scale: &Scale, lines: &[RequestedLine]) -> bool
 }
 
 impl NewOrderInput {
-    ghost use Rattle.tables.specs.NewOrder.{IsNewOrder};
+    ghost use Rattle.tables.specs.NewOrder.{IsNewOrder, home, buyer};
+
+    /// The district where the order is made.
+    pub fn home(&self) -> DistrictKey
+        ensures { result ≡ home self.now }
+    {
+        DistrictKey {
+            warehouse: self.warehouse,
+            district: self.district,
+        }
+    }
+
+    /// The customer who orders.
+    pub fn buyer(&self) -> CustomerKey
+        ensures { result ≡ buyer self.now }
+    {
+        self.home().customer_key(self.customer)
+    }
 
     /// Whether each field is in its range: warehouses, the district and the customer within the scale, the date from
     /// 1 to 4,000,000,000, 5 to 15 lines, each in its range.

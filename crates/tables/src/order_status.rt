@@ -3,6 +3,7 @@
 ghost use Rattle.std.specs.Prelude.{◌≡◌, ◌↔◌, IsTrue, IfOk};
 
 use crate::customer::Who;
+use crate::keys::DistrictKey;
 use crate::limits::MAX_DATE;
 use crate::order_lines::Lines;
 use crate::rows::OrderLine;
@@ -41,6 +42,16 @@ pub struct OrderStatusReply {
 
 impl OrderStatusInput {
     ghost use Rattle.tables.specs.OrderStatus.{IsOrderStatus};
+
+    /// The district of the customer who is asked for.
+    pub fn home(&self) -> DistrictKey
+        ensures { result ≡ record { warehouse = self.now.warehouse; district = self.now.district } }
+    {
+        DistrictKey {
+            warehouse: self.warehouse,
+            district: self.district,
+        }
+    }
 
     /// Whether each field is in its range: the date from 1 to 4,000,000,000, the district within the scale, the
     /// customer one who may be meant.

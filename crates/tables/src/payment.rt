@@ -3,6 +3,7 @@
 ghost use Rattle.std.specs.Prelude.{◌↔◌, IsTrue};
 
 use crate::customer::Who;
+use crate::keys::{CustomerKey, DistrictKey};
 use crate::limits::{MAX_DATE, MAX_PAYMENT, MIN_PAYMENT};
 use crate::scale::{Scale, is_between};
 use money::Cents;
@@ -32,7 +33,35 @@ pub struct PaymentReply {
 }
 
 impl PaymentInput {
-    ghost use Rattle.tables.specs.Payment.{IsPayment};
+    ghost use Rattle.std.specs.Prelude.{◌≡◌};
+    ghost use Rattle.tables.specs.Payment.{IsPayment, payer};
+
+    /// The district where the payment is made.
+    pub fn home(&self) -> DistrictKey
+        ensures { result ≡ record { warehouse = self.now.warehouse; district = self.now.district } }
+    {
+        DistrictKey {
+            warehouse: self.warehouse,
+            district: self.district,
+        }
+    }
+
+    /// The district of the customer who pays.
+    pub fn customer_home(&self) -> DistrictKey
+        ensures { result ≡ record { warehouse = self.now.customer_warehouse; district = self.now.customer_district } }
+    {
+        DistrictKey {
+            warehouse: self.customer_warehouse,
+            district: self.customer_district,
+        }
+    }
+
+    /// This customer, as the one who pays.
+    pub fn payer(&self, customer: u32) -> CustomerKey
+        ensures { result ≡ payer self.now customer }
+    {
+        self.customer_home().customer_key(customer)
+    }
 
     /// Whether each field is in its range: warehouses and districts within the scale, the customer one who may be
     /// meant, the date from 1 to 4,000,000,000, the amount from 1.00 to 5,000.00.

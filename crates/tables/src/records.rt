@@ -7,12 +7,12 @@ ghost use Rattle.tables.specs.Sizes.{Sizes};
 ghost use Rattle.tables.specs.Keys.{IsDistrictKey, IsCustomerKey, IsOrderKey, IsLineKey, IsStockKey};
 ghost use Rattle.tables.specs.Records.{size, first_number, record_number, record_count, IsRecordKey, number_of_key};
 ghost use Rattle.tables.specs.Records.{district_place, customer_place, order_place, place_of, NumbersNameKeys};
-ghost use Rattle.tables.specs.Records.{NumbersNamePlaces};
+ghost use Rattle.tables.specs.Records.{NumbersNamePlaces, table_number, table_numbered};
 ghost use Rattle.tables.specs.declared.records.Table.TheVariants as table;
 ghost use Rattle.tables.specs.declared.records.RecordKey.TheVariants as record_key;
 
 use crate::keys::{CustomerKey, DistrictKey, LineKey, OrderKey, StockKey};
-use crate::limits::MAX_ORDER_LINES;
+use crate::limits::{MAX_ORDER_LINES, MAX_TABLE_RECORDS};
 use crate::scale::Scale;
 
 /// The tables of records, in the order of their numbers, which begin at 1. HISTORY has no key and ITEM
@@ -49,10 +49,50 @@ pub enum RecordKey {
 }
 
 impl Table {
+    /// The table's number, from 1 to 11.
+    pub fn number(self) -> u8
+        ensures number { result ≡ table_number self }
+        ensures limit { result ≤ 11 }
+    {
+        match self {
+            Table::Warehouse => 1,
+            Table::District => 2,
+            Table::Customer => 3,
+            Table::History => 4,
+            Table::NewOrder => 5,
+            Table::Order => 6,
+            Table::OrderLine => 7,
+            Table::Item => 8,
+            Table::Stock => 9,
+            Table::Oldest => 10,
+            Table::Last => 11,
+        }
+    }
+
+    /// The table of a number, which is None but from 1 to 11.
+    pub fn of_number(number: u8) -> Option<Table>
+        ensures { result ≡ table_numbered number }
+    {
+        match number {
+            1 => Some(Table::Warehouse),
+            2 => Some(Table::District),
+            3 => Some(Table::Customer),
+            4 => Some(Table::History),
+            5 => Some(Table::NewOrder),
+            6 => Some(Table::Order),
+            7 => Some(Table::OrderLine),
+            8 => Some(Table::Item),
+            9 => Some(Table::Stock),
+            10 => Some(Table::Oldest),
+            11 => Some(Table::Last),
+            _ => None,
+        }
+    }
+
     /// How many records the table has room for.
     pub fn size(self, scale: &Scale) -> u32
         ensures value { result ≡ size scale.now self }
-        ensures limit { result ≤ 120000000 }
+        ensures limit { result ≤ MAX_TABLE_RECORDS }
     {
         let districts = scale.warehouses() * scale.districts();
         match self {
@@ -65,6 +105,46 @@ impl Table {
             Table::History | Table::Item => 0,
         }
     }
+
+    /// The number of the table's first record. Where it has none, that of the first one behind. Constant time.
+    pub fn first(self, scale: &Scale) -> u32
+        ensures value { result ≡ first_number scale.now self }
+        ensures limit { result + size scale.now self ≤ record_count scale.now }
+        ensures fits { record_count scale.now < 2 ^ 32 }
+    {
+        let districts = scale.warehouses() * scale.districts();
+        let customers = districts * scale.customers();
+        let orders = districts * scale.orders();
+        let before_orders = scale.warehouses() + districts + customers;
+        let before_stock = before_orders + orders * (2 + MAX_ORDER_LINES);
+        let before_oldest = before_stock + scale.warehouses() * scale.items();
+        match self {
+            Table::Warehouse => 0,
+            Table::District => scale.warehouses(),
+            Table::Customer => scale.warehouses() + districts,
+            Table::History | Table::NewOrder => before_orders,
+            Table::Order => before_orders + orders,
+            Table::OrderLine => before_orders + orders * 2,
+            Table::Item | Table::Stock => before_stock,
+            Table::Oldest => before_oldest,
+            Table::Last => before_oldest + districts,
+        }
+    }
+
+    /// The number of the first record behind the table's. Constant time.
+    pub fn end(self, scale: &Scale) -> u32
+        ensures value { result ≡ first_number scale.now self + size scale.now self }
+        ensures limit { result ≤ record_count scale.now }
+    {
+        self.first(scale) + self.size(scale)
+    }
+}
+
+/// How many records a scale has. Constant time.
+pub fn record_count(scale: &Scale) -> u32
+    ensures { result ≡ record_count scale.now }
+{
+    Table::Last.end(scale)
 }
 
 /// The number of a record: its place in its table, from 0, after the records of all tables with smaller
@@ -74,7 +154,7 @@ pub fn rec(scale: &Scale, table: Table, place: u32) -> u32
     ensures value { result ≡ record_number scale.now table place }
     ensures limit { result < record_count scale.now }
 {
-    start_of(scale, table) + place
+    table.first(scale) + place
 }
 
 /// The number of the record of a key. Constant time.
@@ -96,8 +176,9 @@ pub fn number_of_key(scale: &Scale, key: RecordKey) -> u32
     }
 }
 
+/// The place of a district in DISTRICT, and in OLDEST. Constant time.
 #[tactic(auto, using(crate::proofs::Numbers::district_there))]
-fn place_of_district(scale: &Scale, key: DistrictKey) -> u32
+pub fn place_of_district(scale: &Scale, key: DistrictKey) -> u32
     requires { IsDistrictKey scale.now key }
     ensures value { result ≡ district_place scale.now key.warehouse key.district }
     ensures limit { result < size scale.now table.District }
@@ -106,32 +187,26 @@ fn place_of_district(scale: &Scale, key: DistrictKey) -> u32
     place(size, key.warehouse - 1, scale.districts(), key.district)
 }
 
+/// The place of a customer in CUSTOMER, and in LAST. Constant time.
 #[tactic(auto, using(crate::proofs::Numbers::customer_there))]
-fn place_of_customer(scale: &Scale, key: CustomerKey) -> u32
+pub fn place_of_customer(scale: &Scale, key: CustomerKey) -> u32
     requires { IsCustomerKey scale.now key }
     ensures value { result ≡ customer_place scale.now key }
     ensures limit { result < size scale.now table.Customer }
 {
-    let district = DistrictKey {
-        warehouse: key.warehouse,
-        district: key.district,
-    };
-    let row = place_of_district(scale, district);
+    let row = place_of_district(scale, key.district_key());
     let size = Table::Customer.size(scale);
     place(size, row, scale.customers(), key.customer)
 }
 
+/// The place of an order in ORDER, and in NEW-ORDER. Constant time.
 #[tactic(auto, using(crate::proofs::Numbers::order_there))]
-fn place_of_order(scale: &Scale, key: OrderKey) -> u32
+pub fn place_of_order(scale: &Scale, key: OrderKey) -> u32
     requires { IsOrderKey scale.now key }
     ensures value { result ≡ order_place scale.now key }
     ensures limit { result < size scale.now table.Order }
 {
-    let district = DistrictKey {
-        warehouse: key.warehouse,
-        district: key.district,
-    };
-    let row = place_of_district(scale, district);
+    let row = place_of_district(scale, key.district_key());
     let size = Table::Order.size(scale);
     place(size, row, scale.orders(), key.order)
 }
@@ -167,31 +242,6 @@ fn place(size: u32, row: u32, width: u32, column: u32) -> u32
     // The table's size bounds the sum.
     prove!(place < size);
     place
-}
-
-/// The number of a table's first record.
-fn start_of(scale: &Scale, table: Table) -> u32
-    ensures value { result ≡ first_number scale.now table }
-    ensures limit { result + size scale.now table ≤ record_count scale.now }
-    ensures fits { record_count scale.now < 2 ^ 32 }
-{
-    let districts = scale.warehouses() * scale.districts();
-    let customers = districts * scale.customers();
-    let orders = districts * scale.orders();
-    let before_orders = scale.warehouses() + districts + customers;
-    let before_stock = before_orders + orders * 17;
-    let before_oldest = before_stock + scale.warehouses() * scale.items();
-    match table {
-        Table::Warehouse => 0,
-        Table::District => scale.warehouses(),
-        Table::Customer => scale.warehouses() + districts,
-        Table::History | Table::NewOrder => before_orders,
-        Table::Order => before_orders + orders,
-        Table::OrderLine => before_orders + orders * 2,
-        Table::Item | Table::Stock => before_stock,
-        Table::Oldest => before_oldest,
-        Table::Last => before_oldest + districts,
-    }
 }
 
 /// The keys of a scale and the numbers of its records are one to one, and so are the places of its tables

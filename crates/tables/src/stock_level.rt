@@ -2,6 +2,7 @@
 
 ghost use Rattle.std.specs.Prelude.{◌↔◌, IsTrue};
 
+use crate::keys::DistrictKey;
 use crate::limits::{MAX_DATE, MAX_THRESHOLD, MIN_THRESHOLD};
 use crate::scale::{Scale, is_between};
 
@@ -24,7 +25,18 @@ pub struct StockLevelReply {
 }
 
 impl StockLevelInput {
+    ghost use Rattle.std.specs.Prelude.{◌≡◌};
     ghost use Rattle.tables.specs.StockLevel.{IsStockLevel};
+
+    /// The district that is asked about.
+    pub fn home(&self) -> DistrictKey
+        ensures { result ≡ record { warehouse = self.now.warehouse; district = self.now.district } }
+    {
+        DistrictKey {
+            warehouse: self.warehouse,
+            district: self.district,
+        }
+    }
 
     /// Whether each field is in its range: the date from 1 to 4,000,000,000, the district within the scale, the
     /// threshold from 10 to 20.

@@ -5,9 +5,10 @@ ghost use Rattle.tables.specs.Keys.{IsWarehouseKey, IsDistrictKey, IsCustomerKey
 ghost use Rattle.tables.specs.Records.{district_place, customer_place, order_place};
 ghost use Rattle.totals.specs.Totals.{amount_in};
 
-use crate::places::{place_of_customer, place_of_district, place_of_order};
 use crate::running::RunningSums;
-use tables::{CustomerKey, DistrictKey, OrderKey, Scale};
+use tables::{
+    CustomerKey, DistrictKey, OrderKey, Scale, place_of_customer, place_of_district, place_of_order,
+};
 
 impl RunningSums {
     /// The scale.

@@ -11,9 +11,8 @@ ghost use Rattle.totals.specs.Opening.{no_sums, worth_from, SumsOpen};
 use crate::places::{Counted, counted_records, is_past};
 use crate::running::{RunningSums, held_there};
 use cells::Newest;
-use encoding::record_count;
 use std::alloc::{AllocError, Global};
-use tables::{History, Scale, Table};
+use tables::{History, Scale, Table, record_count};
 
 impl RunningSums {
     /// The sums of the tables whose records have these newest versions, and whose HISTORY has these rows. Costs a look

@@ -2,52 +2,11 @@
 
 ghost use Rattle.std.specs.Prelude.{◌≡◌, ◌+◌, ◌-◌, ◌*◌, ◌/◌, ◌<◌, ◌≤◌, IsTrue, IsFalse};
 ghost use Rattle.tables.specs.Sizes.{IsNumber};
-ghost use Rattle.tables.specs.Keys.{IsDistrictKey, IsCustomerKey, IsOrderKey};
-ghost use Rattle.tables.specs.Records.{size, district_place, customer_place, order_place};
+ghost use Rattle.tables.specs.Records.{size};
 ghost use Rattle.tables.specs.declared.records.Table.TheVariants as table;
 ghost use Rattle.totals.specs.Counted.{counted_in, IsOfAnotherTable};
 
-use tables::{CustomerKey, DistrictKey, OrderKey, Scale, Table};
-
-#[tactic(auto, using(tables::proofs::Numbers::district_there))]
-pub fn place_of_district(scale: &Scale, key: DistrictKey) -> u32
-    requires { IsDistrictKey scale.now key }
-    ensures value { result ≡ district_place scale.now key.warehouse key.district }
-    ensures limit { result < size scale.now table.District }
-{
-    let size = Table::District.size(scale);
-    place(size, key.warehouse - 1, scale.districts(), key.district)
-}
-
-#[tactic(auto, using(tables::proofs::Numbers::customer_there))]
-pub fn place_of_customer(scale: &Scale, key: CustomerKey) -> u32
-    requires { IsCustomerKey scale.now key }
-    ensures value { result ≡ customer_place scale.now key }
-    ensures limit { result < size scale.now table.Customer }
-{
-    let district = DistrictKey {
-        warehouse: key.warehouse,
-        district: key.district,
-    };
-    let row = place_of_district(scale, district);
-    let size = Table::Customer.size(scale);
-    place(size, row, scale.customers(), key.customer)
-}
-
-#[tactic(auto, using(tables::proofs::Numbers::order_there))]
-pub fn place_of_order(scale: &Scale, key: OrderKey) -> u32
-    requires { IsOrderKey scale.now key }
-    ensures value { result ≡ order_place scale.now key }
-    ensures limit { result < size scale.now table.Order }
-{
-    let district = DistrictKey {
-        warehouse: key.warehouse,
-        district: key.district,
-    };
-    let row = place_of_district(scale, district);
-    let size = Table::Order.size(scale);
-    place(size, row, scale.orders(), key.order)
-}
+use tables::{Scale, Table};
 
 /// The place of a column, counted from 1, of a row, counted from 0, where a row has that width.
 fn place(size: u32, row: u32, width: u32, column: u32) -> u32
@@ -103,17 +62,13 @@ pub struct Counted {
 pub fn counted_records(scale: &Scale) -> Counted
     ensures { result ≡ counted_in scale.now }
 {
-    let districts = scale.warehouses() * scale.districts();
-    let customers = districts * scale.customers();
-    let orders = districts * scale.orders();
-    let first_new_order = scale.warehouses() + districts + customers;
     Counted {
-        first_district: scale.warehouses(),
-        end_districts: scale.warehouses() + districts,
-        first_new_order,
-        first_order: first_new_order + orders,
-        first_line: first_new_order + orders * 2,
-        end_lines: first_new_order + orders * 17,
+        first_district: Table::District.first(scale),
+        end_districts: Table::District.end(scale),
+        first_new_order: Table::NewOrder.first(scale),
+        first_order: Table::Order.first(scale),
+        first_line: Table::OrderLine.first(scale),
+        end_lines: Table::OrderLine.end(scale),
     }
 }
 

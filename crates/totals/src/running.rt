@@ -14,17 +14,15 @@ ghost use Rattle.totals.specs.Steps.{order_line_step, delivered_step, deliver_st
 ghost use Rattle.totals.specs.Steps.{warehouse_paid_step, district_paid_step, customer_paid_step, history_step};
 
 use crate::amounts::{move_amount, move_small};
-use crate::places::{
-    Counted, counted_records, district_of_order, is_past, place_of_buyer, place_of_customer,
-    place_of_district,
-};
+use crate::places::{Counted, counted_records, district_of_order, is_past, place_of_buyer};
 use crate::worth::{delivered_amount, presence, signed_word, small_presence};
 use cells::Newest;
 use money::Payload;
 use readset::WriteList;
+use rows::column::{D_YTD, O_C_ID, O_OL_CNT};
 use std::marker::Model;
 use tables::limits::MAX_ORDER_LINES;
-use tables::{CustomerKey, DistrictKey, History, Scale};
+use tables::{CustomerKey, DistrictKey, History, Scale, place_of_customer, place_of_district};
 
 /// The sums over a database's tables that its consistency conditions speak of, each a list by place of its key: 8 bytes
 /// a warehouse, district or customer and sum, and 1 byte an order number of the scale.
@@ -62,8 +60,8 @@ impl RunningSums {
             (option_copied old.entry) (option_copied new.entry) }
     {
         let warehouse = place / self.scale.districts();
-        let before = signed_word(old, 0);
-        let after = signed_word(new, 0);
+        let before = signed_word(old, D_YTD);
+        let after = signed_word(new, D_YTD);
         move_amount(&mut self.year_to_date, warehouse, before, after);
     }
 
@@ -74,8 +72,8 @@ impl RunningSums {
             (option_copied old.entry) (option_copied new.entry) }
     {
         let district = district_of_order(&self.scale, place);
-        let before = signed_word(old, 3);
-        let after = signed_word(new, 3);
+        let before = signed_word(old, O_OL_CNT);
+        let after = signed_word(new, O_OL_CNT);
         move_amount(&mut self.line_counts, district, before, after);
     }
 
@@ -117,7 +115,7 @@ impl RunningSums {
         requires buyer { IsNumber self.old.scale.customers (slice_index order.now 0) }
         ensures { self.new ≡ delivered_step self.old district order.now before after }
     {
-        let place = place_of_buyer(&self.scale, district, order[0]);
+        let place = place_of_buyer(&self.scale, district, order[O_C_ID]);
         move_amount(&mut self.delivered, place, before, after);
     }
 

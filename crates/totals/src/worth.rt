@@ -5,6 +5,7 @@ ghost use Rattle.std.specs.Option.{option_copied};
 ghost use Rattle.totals.specs.Steps.{signed_in, one_of, delivered_in};
 
 use money::Payload;
+use rows::column::{OL_AMOUNT, OL_DELIVERY_D};
 
 /// A word of a record as a number with a sign, and 0 where the record is absent.
 pub fn signed_word(value: Option<&Payload>, place: usize) -> i64
@@ -42,7 +43,7 @@ pub fn delivered_amount(value: Option<&Payload>) -> i64
     ensures { result ≡ delivered_in (option_copied value.entry) }
 {
     match value {
-        Some(words) if words[2] > 0 => words[4].cast_signed(),
+        Some(words) if words[OL_DELIVERY_D] > 0 => words[OL_AMOUNT].cast_signed(),
         _ => 0,
     }
 }

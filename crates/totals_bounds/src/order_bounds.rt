@@ -14,7 +14,7 @@ use cells::Newest;
 use readset::WriteList;
 use std::alloc::{AllocError, Global};
 use std::marker::Model;
-use tables::{DistrictKey, RecordKey, Scale, number_of_key};
+use tables::{DistrictKey, RecordKey, Scale, Table, number_of_key};
 
 /// The least and the greatest order numbers of a database's districts, each a list by place of its district: 12 bytes
 /// a district.
@@ -196,11 +196,7 @@ fn order_records(scale: &Scale) -> (u32, u32)
     ensures end { result.1 ≡ first_number scale.now table.NewOrder
         + (size scale.now table.NewOrder + size scale.now table.Order) }
 {
-    let districts = scale.warehouses() * scale.districts();
-    let customers = districts * scale.customers();
-    let orders = districts * scale.orders();
-    let first = scale.warehouses() + districts + customers;
-    (first, first + orders * 2)
+    (Table::NewOrder.first(scale), Table::Order.end(scale))
 }
 
 /// The place of a district.

@@ -8,6 +8,9 @@ ghost use Rattle.totals.specs.Totals.{amount_in};
 ghost use Rattle.totals_report.specs.Words.{is_zero, has_none};
 
 use money::Payload;
+use rows::column::{
+    C_BALANCE, C_YTD_PAYMENT, D_NEXT_O_ID, D_YTD, O_CARRIER_ID, O_OL_CNT, OL_DELIVERY_D, W_YTD,
+};
 use tables::{CustomerKey, DistrictKey, OrderKey};
 use totals::RunningSums;
 use totals_bounds::OrderBounds;
@@ -16,18 +19,18 @@ use totals_bounds::OrderBounds;
 pub fn condition_1(sums: &RunningSums, warehouse: u32, words: &Payload) -> bool
     requires { IsWarehouseKey sums.now.scale warehouse }
     ensures { IsTrue result
-        ↔ (money_of (slice_index words.now 0) ≡ amount_in sums.now.year_to_date (warehouse - 1)) }
+        ↔ (money_of (slice_index words.now W_YTD) ≡ amount_in sums.now.year_to_date (warehouse - 1)) }
 {
-    words[0].cast_signed() == sums.year_to_date(warehouse)
+    words[W_YTD].cast_signed() == sums.year_to_date(warehouse)
 }
 
 /// W_YTD is the sum of H_AMOUNT (TPC-C 3.3.2.8).
 pub fn condition_8(sums: &RunningSums, warehouse: u32, words: &Payload) -> bool
     requires { IsWarehouseKey sums.now.scale warehouse }
     ensures { IsTrue result
-        ↔ (money_of (slice_index words.now 0) ≡ amount_in sums.now.paid_at_warehouse (warehouse - 1)) }
+        ↔ (money_of (slice_index words.now W_YTD) ≡ amount_in sums.now.paid_at_warehouse (warehouse - 1)) }
 {
-    words[0].cast_signed() == sums.paid_at_warehouse(warehouse)
+    words[W_YTD].cast_signed() == sums.paid_at_warehouse(warehouse)
 }
 
 /// D_NEXT_O_ID - 1 is the greatest O_ID, and the greatest NO_O_ID where there is one (TPC-C 3.3.2.2).
@@ -41,13 +44,13 @@ pub fn condition_2(
     requires bounds { IsDistrictKey bounds.now.scale key }
     ensures { IsTrue result
         ↔ (slice_index bounds.now.greatest_order (district_place bounds.now.scale key.warehouse key.district) + 1
-        ≡ slice_index words.now 1)
+        ≡ slice_index words.now D_NEXT_O_ID)
         × ((amount_in sums.now.waiting (district_place sums.now.scale key.warehouse key.district) ≡ pos 0)
         ⊎ (slice_index bounds.now.greatest_waiting (district_place bounds.now.scale key.warehouse key.district) + 1
-        ≡ slice_index words.now 1)) }
+        ≡ slice_index words.now D_NEXT_O_ID)) }
 {
-    is_after(bounds.greatest_order(key), words[1])
-        && (sums.waiting(key) == 0 || is_after(bounds.greatest_waiting(key), words[1]))
+    is_after(bounds.greatest_order(key), words[D_NEXT_O_ID])
+        && (sums.waiting(key) == 0 || is_after(bounds.greatest_waiting(key), words[D_NEXT_O_ID]))
 }
 
 /// Whether an order number is the next after another.
@@ -86,55 +89,59 @@ pub fn condition_4(sums: &RunningSums, key: DistrictKey) -> bool
 /// D_YTD is the sum of H_AMOUNT (TPC-C 3.3.2.9).
 pub fn condition_9(sums: &RunningSums, key: DistrictKey, words: &Payload) -> bool
     requires { IsDistrictKey sums.now.scale key }
-    ensures { IsTrue result ↔ (money_of (slice_index words.now 0)
+    ensures { IsTrue result ↔ (money_of (slice_index words.now D_YTD)
         ≡ amount_in sums.now.paid_at_district (district_place sums.now.scale key.warehouse key.district)) }
 {
-    words[0].cast_signed() == sums.paid_at_district(key)
+    words[D_YTD].cast_signed() == sums.paid_at_district(key)
 }
 
 /// C_BALANCE is what was delivered minus the sum of H_AMOUNT (TPC-C 3.3.2.10).
 pub fn condition_10(sums: &RunningSums, key: CustomerKey, words: &Payload) -> bool
     requires { IsCustomerKey sums.now.scale key }
-    ensures { IsTrue result ↔ (money_of (slice_index words.now 0)
+    ensures { IsTrue result ↔ (money_of (slice_index words.now C_BALANCE)
         ≡ amount_in sums.now.delivered (customer_place sums.now.scale key)
         -ℤ amount_in sums.now.paid_by_customer (customer_place sums.now.scale key)) }
 {
     let delivered = sums.delivered(key);
     let paid = sums.paid_by_customer(key);
-    is_difference(words[0].cast_signed(), delivered, paid)
+    is_difference(words[C_BALANCE].cast_signed(), delivered, paid)
 }
 
 /// C_BALANCE + C_YTD_PAYMENT is what was delivered (TPC-C 3.3.2.12).
 pub fn condition_12(sums: &RunningSums, key: CustomerKey, words: &Payload) -> bool
     requires { IsCustomerKey sums.now.scale key }
-    ensures { IsTrue result ↔ (money_of (slice_index words.now 0) +ℤ money_of (slice_index words.now 1)
+    ensures { IsTrue result ↔ (money_of (slice_index words.now C_BALANCE) +ℤ money_of (slice_index words.now C_YTD_PAYMENT)
         ≡ amount_in sums.now.delivered (customer_place sums.now.scale key)) }
 {
     let delivered = sums.delivered(key);
-    is_sum(delivered, words[0].cast_signed(), words[1].cast_signed())
+    is_sum(
+        delivered,
+        words[C_BALANCE].cast_signed(),
+        words[C_YTD_PAYMENT].cast_signed(),
+    )
 }
 
 /// O_CARRIER_ID is null exactly where the order has a NEW-ORDER row (TPC-C 3.3.2.5).
 pub fn condition_5(words: &Payload, new_order: &Option<Payload>) -> bool
-    ensures { IsTrue result ↔ (is_zero (slice_index words.now 2) ≡ is_some new_order.now) }
+    ensures { IsTrue result ↔ (is_zero (slice_index words.now O_CARRIER_ID) ≡ is_some new_order.now) }
 {
-    (words[2] == 0) == new_order.is_some()
+    (words[O_CARRIER_ID] == 0) == new_order.is_some()
 }
 
 /// O_OL_CNT is the number of the order's lines (TPC-C 3.3.2.6).
 pub fn condition_6(sums: &RunningSums, key: OrderKey, words: &Payload) -> bool
     requires { IsOrderKey sums.now.scale key }
-    ensures { IsTrue result ↔ (money_of (slice_index words.now 3)
+    ensures { IsTrue result ↔ (money_of (slice_index words.now O_OL_CNT)
         ≡ amount_in sums.now.order_lines (order_place sums.now.scale key)) }
 {
-    words[3].cast_signed() == sums.order_lines(key)
+    words[O_OL_CNT].cast_signed() == sums.order_lines(key)
 }
 
 /// OL_DELIVERY_D is null exactly where the order's O_CARRIER_ID is (TPC-C 3.3.2.7).
 pub fn condition_7(words: &Payload, order: &Option<Payload>) -> bool
-    ensures { IsTrue result ↔ (is_zero (slice_index words.now 2) ≡ has_none order.now) }
+    ensures { IsTrue result ↔ (is_zero (slice_index words.now OL_DELIVERY_D) ≡ has_none order.now) }
 {
-    (words[2] == 0) == is_without_carrier(order)
+    (words[OL_DELIVERY_D] == 0) == is_without_carrier(order)
 }
 
 /// Whether O_CARRIER_ID is null, as it counts where the row is missing.
@@ -142,7 +149,7 @@ fn is_without_carrier(order: &Option<Payload>) -> bool
     ensures { result ≡ has_none order.now }
 {
     match order {
-        Some(words) => words[2] == 0,
+        Some(words) => words[O_CARRIER_ID] == 0,
         None => true,
     }
 }

@@ -11,8 +11,7 @@ ghost use Rattle.totals_report.specs.Told.{HasTotals};
 use crate::asking::ask;
 use cells::Newest;
 use conditions::Report;
-use encoding::record_count;
-use tables::Scale;
+use tables::{Scale, record_count};
 use totals::RunningSums;
 use totals_bounds::OrderBounds;
 

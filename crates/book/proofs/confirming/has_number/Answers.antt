@@ -3,6 +3,7 @@ use Rattle.tables.specs.Sizes.{Sizes}
 use Rattle.tables.specs.NewOrder.{home}
 use Rattle.tables.specs.Records.{number_of_key}
 use Rattle.tables.specs.Rows.{rows}
+use Rattle.tables.specs.declared.keys.DistrictKey.{DistrictKey}
 use Rattle.tables.specs.declared.records.RecordKey.TheVariants as key
 use Rattle.book.specs.History.{replay}
 use Rattle.book.proofs.Replaying.{replay-scale}
@@ -13,7 +14,8 @@ pub returns-in-Some : goal.returns-in-Some
 returns-in-Some g c =
     let t0 = g.K.Run.first in
     let history = c.args.book.now.history in
-    let number = c.number_of_key.ensures.value ∙ ap (λ (s : Sizes). number_of_key s (key.District (home c.args.order.now))) c.requires.scale in
+    let number = c.number_of_key.ensures.value ∙ ap (λ (k : DistrictKey). number_of_key c.args.scale.now (key.District k)) c.home.ensures
+    ∙ ap (λ (s : Sizes). number_of_key s (key.District (home c.args.order.now))) c.requires.scale in
     number_by t0.scale (replay t0 history) c.args.order.now (replay-scale t0 history) c.requires.input c.in-Some.words c.from.result
     (sym c.in-Some.is ∙ c.record.ensures ∙ ap (rows (replay t0 history)) number)
     (c.from.ensures ∙ c.orders.ensures.value ∙ ap (λ (s : Sizes). s.orders) c.requires.scale)
@@ -22,6 +24,7 @@ pub returns-in-None : goal.returns-in-None
 returns-in-None g c =
     let t0 = g.K.Run.first in
     let history = c.args.book.now.history in
-    let number = c.number_of_key.ensures.value ∙ ap (λ (s : Sizes). number_of_key s (key.District (home c.args.order.now))) c.requires.scale in
+    let number = c.number_of_key.ensures.value ∙ ap (λ (k : DistrictKey). number_of_key c.args.scale.now (key.District k)) c.home.ensures
+    ∙ ap (λ (s : Sizes). number_of_key s (key.District (home c.args.order.now))) c.requires.scale in
     number_at_none t0.scale (replay t0 history) c.args.order.now (replay-scale t0 history) c.requires.input
     (sym c.in-None.is ∙ c.record.ensures ∙ ap (rows (replay t0 history)) number)

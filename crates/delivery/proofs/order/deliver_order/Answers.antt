@@ -24,8 +24,8 @@ returns-in_err-sum-clause-goes_on g c =
     (goes_on 2 0 c.args.transaction.now c.read_order.new.transaction c.read_order.ensures.reads) c.date_lines.ensures.goes_on
     (omega (arith, count)) (omega (arith, count))
 
-pub returns-in_err-credited-clause-goes_on : goal.returns-in_err-credited-clause-goes_on
-returns-in_err-credited-clause-goes_on g c =
+pub returns-in_err-customer-clause-goes_on : goal.returns-in_err-customer-clause-goes_on
+returns-in_err-customer-clause-goes_on g c =
     let count = c.in_ok-order.ensures.range.1 in
     goes_on_twice c.args.transaction.now c.date_lines.new.transaction c.credit_buyer.new.transaction 17 15 1 0 18 19
     (goes_on_twice c.args.transaction.now c.read_order.new.transaction c.date_lines.new.transaction 2 0 _ _ 17 15
@@ -49,7 +49,7 @@ pub returns-clause-done : goal.returns-clause-done
 returns-clause-done g c = on_ok c.end_order.result ended c.end_order.ensures.written
   where
     ended : c.end_order.new.transaction.writes ≡ puts_all g.K.Start.tables.scale c.credit_buyer.new.transaction.writes
-        (ending_changes c.args.key c.in_ok-order.order c.in_ok-credited.credited)
+        (ending_changes c.args.delivery.now c.args.key c.in_ok-order.order c.in_ok-customer.customer)
         → AreDone g.K.Start.tables c.args.delivery.now c.args.key.district c.end_order.new.transaction
     ended written =
         let x = c.args.delivery.now in
@@ -62,10 +62,10 @@ returns-clause-done g c = on_ok c.end_order.result ended c.end_order.ensures.wri
         let dated = c.date_lines.new.transaction in
         let last = c.credit_buyer.new.transaction in
         subst (λ m. AreDone t0 x m c.end_order.new.transaction) (sym next)
-        (done_next t0 x n k (next_is x k c.requires.home c.requires.key.1.0) dated last c.in_ok-sum.sum order c.in_ok-credited.credited
+        (done_next t0 x n k (next_is x k c.requires.home c.requires.key.1.0) dated last c.in_ok-sum.sum order c.in_ok-customer.customer
         c.in_ok-sum.ensures.dated c.credit_buyer.ensures.reads c.requires.key
-        (λ t h. c.in_ok-order.ensures.carried t (candidate_then t0 read dated _ _ c.date_lines.ensures.goes_on t h))
-        (c.requires.key.0, c.requires.key.1, c.in_ok-order.ensures.range.0) c.in_ok-credited.ensures.credited
+        (λ t h. c.in_ok-order.ensures.order t (candidate_then t0 read dated _ _ c.date_lines.ensures.goes_on t h))
+        (c.requires.key.0, c.requires.key.1, c.in_ok-order.ensures.range.0) c.in_ok-customer.ensures.credited
         (λ t h. c.requires.waits t
         (candidate_still t0 c.args.transaction.now read 2 c.read_order.ensures.reads t (candidate_then t0 read dated _ _ c.date_lines.ensures.goes_on t h)))
         c.end_order.new.transaction c.end_order.ensures.reads written)

@@ -2,12 +2,11 @@ use Rattle.std.proofs.Common.{min, max, Some, refl, sym, ap}
 use Rattle.std.specs.Prelude.{is_some}
 use Rattle.std.specs.FinMap.{get}
 use Rattle.tables.specs.Database.{database}
-use Rattle.tables.specs.Keys.{IsDistrictKey, IsCustomerKey, is_district, is_customer}
+use Rattle.tables.specs.Keys.{district_of_order, IsDistrictKey, IsCustomerKey, is_district, is_customer}
 use Rattle.tables.specs.OrderNumbers.{next_order, order_numbers}
 use Rattle.tables.specs.Rows.{row_at, number_words}
 use Rattle.tables.specs.WellFormed.{orderer}
 use Rattle.tables.proofs.KeyTests.{is_district-key, is_customer-key}
-use Rattle.encoding.specs.Begun.{district_of_order}
 use Rattle.encoding.proofs.BegunTables.{rows_begun, oldest_orders, last_orders}
 use Rattle.encoding.proofs.BegunRows.{keys_at}
 use Rattle.encoding.proofs.BegunNumbers.{orders_begun, before_orders, number_of_row, zero_of_row, oldest_is, last_is, all_numbers}

@@ -1,7 +1,7 @@
 use Rattle.std.proofs.Common.{◌≡◌, ◌≤◌, ap, ◌∙◌, subst, arith}
 use Rattle.tables.specs.Sizes.{Sizes}
 use Rattle.tables.specs.Rows.{last}
-use Rattle.queries.proofs.WordsRead.{last_read, last_within}
+use Rattle.queries.proofs.RowsRead.{last_read, last_within}
 use Rattle.queries.proofs.last_order.read_last.Goals as goal
 
 pub returns-then-words-from-clause-last : goal.returns-then-words-from-clause-last

@@ -1,4 +1,7 @@
-use Rattle.std.proofs.Common.{◌≡◌, ℕ, ◌+◌, List, length, All, sym, ap, subst, arith}
+use Rattle.std.proofs.Common.{◌≡◌, ◌∙◌, ℕ, ◌+◌, List, length, All, sym, ap, subst, arith}
+use Rattle.std.specs.Option.{option_map}
+use Rattle.std.specs.FinMap.{get}
+use Rattle.tables.specs.declared.keys.LineKey.{LineKey}
 use Rattle.tables.specs.Keys.{IsItemKey}
 use Rattle.readset.proofs.UnderWay.{reads_twice, candidate_still}
 use Rattle.queries.specs.SoldItems.{home_of, AreItems}
@@ -31,7 +34,8 @@ loop-done-preserved g c =
           pushed
           (next_line t0 (home_of c.args.order) first c.args.order.order c.loop-done.done c.loop-done.transaction.reads c.read_item.new.transaction.reads
           c.loop-done.items.items c.in_ok-item.item
-          (i.sold first low start) more.keeps c.in_ok-item.ensures.item);
+          (i.sold first low start) more.keeps
+          (λ t h. ap (λ (k : LineKey). option_map (λ r. r.item) (get t.lines k)) (sym c.line_key.ensures) ∙ c.in_ok-item.ensures.item t h));
       keys = λ before. subst (All (IsItemKey t0.scale)) pushed
           (all_with (IsItemKey t0.scale) c.loop-done.items.items c.in_ok-item.item (i.keys before) c.in_ok-item.ensures.range);
       counted = λ t h. i.counted t (candidate_still t0 c.loop-done.transaction c.read_item.new.transaction 1 more t h);

@@ -1,9 +1,10 @@
-use Rattle.std.proofs.Common.{◌≡◌, ℕ, ◌-◌, ◌*◌, ◌+◌, max, List, length, All, sym, ap, ◌∙◌, subst, arith}
+use Rattle.std.proofs.Common.{◌≡◌, ◌≤◌, ℕ, ◌-◌, ◌*◌, ◌+◌, max, List, length, All, sym, ap, ◌∙◌, subst, arith}
 use Rattle.std.proofs.lemmas.List.Elements.{All-nil}
 use Rattle.tables.specs.Keys.{IsItemKey}
 use Rattle.tables.specs.declared.limits.TheConstants.{MAX_ORDER_LINES, RECENT_ORDERS}
 use Rattle.readset.proofs.UnderWay.{reads_none, reads_twice}
-use Rattle.queries.specs.SoldItems.{AreItems}
+use Rattle.tables.specs.declared.keys.OrderKey.{OrderKey}
+use Rattle.queries.specs.SoldItems.{AreItems, home_of}
 use Rattle.queries.proofs.LookedAt.{none_before, all_sold}
 use Rattle.queries.proofs.sold_items.sold_items.Goals as goal
 
@@ -26,10 +27,14 @@ pub loop-order-preserved : goal.loop-order-preserved
 loop-order-preserved g c =
     let i = c.loop-order.invariant in
     let low = c.first_recent-first.result in
+    let t0 = g.K.Start.tables in
     record {
       low = omega (arith, i.low);
       high = omega (arith, c.loop-order-test.true);
-      sold = c.in_ok-order_items.ensures.sold low i.low i.sold;
+      sold = subst (λ (k : OrderKey). (first : ℕ) → first ≤ k.order
+          → AreItems t0 (home_of k) first k.order 0 c.loop-order.transaction.reads c.loop-order.items.items
+          → AreItems t0 (home_of k) first (k.order + 1) 0 c.order_items.new.transaction.reads c.order_items.new.items.items)
+          c.order_key.ensures c.in_ok-order_items.ensures.sold low i.low i.sold;
       keys = c.order_items.ensures.items i.keys;
       count = omega (arith, c.order_items.ensures.count, i.count, i.low);
       reads = reads_twice c.args.transaction.now c.loop-order.transaction c.order_items.new.transaction ((c.loop-order.order - low) * (MAX_ORDER_LINES + 1))

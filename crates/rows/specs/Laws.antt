@@ -1,0 +1,107 @@
+-- The laws of rows: what records hold are the words of tables' columns, which are within their ranges in well-formed
+-- tables; and some tables have a row at each key of the scale.
+use Rattle.std.specs.Prelude.{◌≡◌, ℕ, Option, Some, None, IsSome, refl}
+use Rattle.std.specs.Option.{option_map}
+use Rattle.std.specs.FinMap.{get}
+use Rattle.std.proofs.Common.{ap, sym, subst}
+use Rattle.std.proofs.lemmas.Option.{none-some, same_Some}
+use Rattle.tables.specs.Database.{Database}
+use Rattle.tables.specs.Records.{IsRecordKey}
+use Rattle.tables.specs.Rows.{row_at, warehouse_words, district_words, customer_words}
+use Rattle.tables.specs.WellFormed.{IsWellFormed, IsLineRow, IsStockRow, orderer}
+use Rattle.tables.specs.declared.keys.DistrictKey.{DistrictKey}
+use Rattle.tables.specs.declared.keys.CustomerKey.{CustomerKey}
+use Rattle.tables.specs.declared.keys.OrderKey.{OrderKey}
+use Rattle.tables.specs.declared.keys.LineKey.{LineKey}
+use Rattle.tables.specs.declared.keys.StockKey.{StockKey}
+use Rattle.tables.specs.declared.records.RecordKey.TheVariants as key
+use Rattle.tables.specs.declared.rows.Order.{Order}
+use Rattle.tables.specs.declared.rows.OrderLine.{OrderLine}
+use Rattle.tables.specs.declared.rows.Stock.{Stock}
+use Rattle.rows.specs.Columns.{warehouse_columns, warehouse_columns_words, AreWarehouseColumns}
+use Rattle.rows.specs.Columns.{district_columns, district_columns_words, AreDistrictColumns}
+use Rattle.rows.specs.Columns.{customer_columns, customer_columns_words, AreCustomerColumns, IsOrderOfScale}
+use Rattle.rows.specs.declared.columns.WarehouseColumns.{WarehouseColumns}
+use Rattle.rows.specs.declared.columns.DistrictColumns.{DistrictColumns}
+use Rattle.rows.specs.declared.columns.CustomerColumns.{CustomerColumns}
+
+in_two_steps : {A B C : Type 0} (f : A → B) (g : B → C) (h : A → C) → ((a : A) → h a ≡ g (f a)) → (o : Option A)
+    → option_map h o ≡ option_map g (option_map f o)
+in_two_steps f g h same None = refl
+in_two_steps f g h same (Some a) = ap Some (same a)
+
+found_of : {A B : Type 0} (f : A → B) (o : Option A) (b : B) → option_map f o ≡ Some b
+    → (a : A) × (o ≡ Some a) × (b ≡ f a)
+found_of f None b is = absurd (none-some b is)
+found_of f (Some a) b is = (a, refl, sym (same_Some (f a) b is))
+
+some_mapped : {A B : Type 0} (f : A → B) (o : Option A) → IsSome o → IsSome (option_map f o)
+some_mapped f None some = some
+some_mapped f (Some a) some = some
+
+pub warehouse_held : (t : Database) (k : ℕ)
+    → row_at t (key.Warehouse k) ≡ option_map warehouse_columns_words (option_map warehouse_columns (get t.warehouses k))
+warehouse_held t k =
+    in_two_steps warehouse_columns warehouse_columns_words warehouse_words (λ r. refl) (get t.warehouses k)
+
+pub district_held : (t : Database) (k : DistrictKey)
+    → row_at t (key.District k) ≡ option_map district_columns_words (option_map district_columns (get t.districts k))
+district_held t k =
+    in_two_steps district_columns district_columns_words district_words (λ r. refl) (get t.districts k)
+
+pub customer_held : (t : Database) (k : CustomerKey)
+    → row_at t (key.Customer k) ≡ option_map customer_columns_words (option_map customer_columns (get t.customers k))
+customer_held t k =
+    in_two_steps customer_columns customer_columns_words customer_words (λ r. refl) (get t.customers k)
+
+pub warehouse_within : (t : Database) (k : ℕ) (c : WarehouseColumns) → IsWellFormed t
+    → option_map warehouse_columns (get t.warehouses k) ≡ Some c → AreWarehouseColumns c
+warehouse_within t k c well is =
+    let found = found_of warehouse_columns (get t.warehouses k) c is in
+    subst AreWarehouseColumns (sym found.2) (well.warehouse_rows k found.0 found.1)
+
+pub district_within : (t : Database) (k : DistrictKey) (c : DistrictColumns) → IsWellFormed t
+    → option_map district_columns (get t.districts k) ≡ Some c → AreDistrictColumns t.scale c
+district_within t k c well is =
+    let found = found_of district_columns (get t.districts k) c is in
+    let row = well.district_rows k found.0 found.1 in
+    subst (AreDistrictColumns t.scale) (sym found.2)
+    (record { year_to_date = row.year_to_date; next_order = row.next_order })
+
+pub customer_within : (t : Database) (k : CustomerKey) (c : CustomerColumns) → IsWellFormed t
+    → option_map customer_columns (get t.customers k) ≡ Some c → AreCustomerColumns c
+customer_within t k c well is =
+    let found = found_of customer_columns (get t.customers k) c is in
+    let row = well.customer_rows k found.0 found.1 in
+    subst AreCustomerColumns (sym found.2)
+    (record { balance = row.balance; paid = row.paid; payments = row.payments; deliveries = row.deliveries })
+
+pub order_within : (t : Database) (k : OrderKey) (r : Order) → IsWellFormed t → get t.orders k ≡ Some r
+    → IsOrderOfScale t.scale r
+order_within t k r well is = record {
+  row = well.order_rows k r is;
+  customer = ((well.customers (orderer k r)).0 (well.order_customers k r is)).2;
+}
+
+pub line_within : (t : Database) (k : LineKey) (r : OrderLine) → IsWellFormed t → get t.lines k ≡ Some r
+    → IsLineRow t.scale r
+line_within t k r well is = well.line_rows k r is
+
+pub stock_within : (t : Database) (k : StockKey) (r : Stock) → IsWellFormed t → get t.stock k ≡ Some r → IsStockRow r
+stock_within t k r well is = well.stock_rows k r is
+
+pub warehouse_there : (t : Database) (k : ℕ) → IsWellFormed t → IsRecordKey t.scale (key.Warehouse k)
+    → IsSome (option_map warehouse_columns (get t.warehouses k))
+warehouse_there t k well is = some_mapped warehouse_columns (get t.warehouses k) ((well.warehouses k).1 is)
+
+pub district_there : (t : Database) (k : DistrictKey) → IsWellFormed t → IsRecordKey t.scale (key.District k)
+    → IsSome (option_map district_columns (get t.districts k))
+district_there t k well is = some_mapped district_columns (get t.districts k) ((well.districts k).1 is)
+
+pub customer_there : (t : Database) (k : CustomerKey) → IsWellFormed t → IsRecordKey t.scale (key.Customer k)
+    → IsSome (option_map customer_columns (get t.customers k))
+customer_there t k well is = some_mapped customer_columns (get t.customers k) ((well.customers k).1 is)
+
+pub stock_there : (t : Database) (k : StockKey) → IsWellFormed t → IsRecordKey t.scale (key.Stock k)
+    → IsSome (get t.stock k)
+stock_there t k well is = (well.stock k).1 is

@@ -1,0 +1,275 @@
+//! What the rows of all tables have in common.
+
+ghost use Rattle.std.specs.Prelude.{◌≡◌, ℕ, Option, Some, IsSome, List};
+ghost use Rattle.std.specs.Option.{option_map};
+ghost use Rattle.std.specs.FinMap.{get};
+ghost use Rattle.tables.specs.Sizes.{Sizes};
+ghost use Rattle.tables.specs.Database.{Database};
+ghost use Rattle.tables.specs.Records.{IsRecordKey};
+ghost use Rattle.tables.specs.Rows.{row_at, order_words, line_words, stock_words};
+ghost use Rattle.tables.specs.WellFormed.{IsWellFormed, IsLineRow, IsStockRow};
+ghost use Rattle.tables.specs.declared.records.RecordKey.{RecordKey as AnyKey};
+ghost use Rattle.tables.specs.declared.records.RecordKey.TheVariants as any_key;
+ghost use Rattle.rows.specs.Reading.{IsReading};
+ghost use Rattle.rows.specs.Columns.{warehouse_columns, warehouse_columns_words, AreWarehouseColumns};
+ghost use Rattle.rows.specs.Columns.{district_columns, district_columns_words, AreDistrictColumns};
+ghost use Rattle.rows.specs.Columns.{customer_columns, customer_columns_words, AreCustomerColumns};
+ghost use Rattle.rows.specs.Columns.{IsOrderOfScale};
+ghost use Rattle.rows.specs.Laws.{warehouse_held, district_held, customer_held};
+ghost use Rattle.rows.specs.Laws.{warehouse_within, district_within, customer_within, order_within};
+ghost use Rattle.rows.specs.Laws.{line_within, stock_within};
+ghost use Rattle.rows.specs.Laws.{warehouse_there, district_there, customer_there, stock_there};
+
+use crate::columns::{CustomerColumns, DistrictColumns, WarehouseColumns};
+use crate::order::order_of_words;
+use crate::order_line::line_of_words;
+use crate::stock::stock_of_words;
+use money::Payload;
+use tables::{
+    CustomerKey, DistrictKey, LineKey, Order, OrderKey, OrderLine, RecordKey, Scale, Stock,
+    StockKey,
+};
+
+/// The rows of a table, as its records hold them, each by its key.
+pub trait Keyed {
+    type Key: Copy;
+
+    /// The record of a key.
+    ghost key_of: { Self.Key → AnyKey };
+
+    /// The words of a row.
+    ghost words_of: { Self → List ℕ };
+
+    /// A row within its ranges.
+    ghost are: { Sizes → Self → Type 0 };
+
+    /// The row that tables have at a key.
+    ghost at: { Database → Self.Key → Option Self };
+
+    /// The record of a key.
+    fn key(key: Self::Key) -> RecordKey
+        ensures { result ≡ key_of key };
+
+    ghost held: { (t : Database) (k : Self.Key) → row_at t (key_of k) ≡ option_map words_of (at t k) };
+
+    ghost within: { (t : Database) (k : Self.Key) (r : Self) → IsWellFormed t → at t k ≡ Some r → are t.scale r };
+}
+
+/// Rows that a record of seven words holds.
+pub trait Row: Keyed + Copy {
+    /// The row of these words. None exactly where they are no row's of this scale.
+    fn read(scale: &Scale, words: &Payload) -> Option<Self>
+        ensures { IsReading (Self.are scale.now) Self.words_of words.now result };
+
+    /// Its words.
+    fn words(&self) -> Payload
+        ensures { result ≡ Self.words_of self.now };
+}
+
+/// Rows that well-formed tables have at each key of the scale.
+pub trait Present: Row {
+    ghost there: { (t : Database) (k : Self.Key) → IsWellFormed t → IsRecordKey t.scale (Self.key_of k)
+        → IsSome (Self.at t k) };
+}
+
+impl Keyed for WarehouseColumns {
+    type Key = u32;
+
+    ghost key_of = { λ k. any_key.Warehouse k };
+
+    ghost words_of = { warehouse_columns_words };
+
+    ghost are = { λ s c. AreWarehouseColumns c };
+
+    ghost at = { λ t k. option_map warehouse_columns (get t.warehouses k) };
+
+    ghost held = { warehouse_held };
+
+    ghost within = { warehouse_within };
+
+    fn key(key: u32) -> RecordKey {
+        RecordKey::Warehouse(key)
+    }
+}
+
+impl Row for WarehouseColumns {
+    fn read(_scale: &Scale, words: &Payload) -> Option<WarehouseColumns> {
+        WarehouseColumns::of_words(words)
+    }
+
+    fn words(&self) -> Payload {
+        self.to_words()
+    }
+}
+
+impl Present for WarehouseColumns {
+    ghost there = { warehouse_there };
+}
+
+impl Keyed for DistrictColumns {
+    type Key = DistrictKey;
+
+    ghost key_of = { λ k. any_key.District k };
+
+    ghost words_of = { district_columns_words };
+
+    ghost are = { AreDistrictColumns };
+
+    ghost at = { λ t k. option_map district_columns (get t.districts k) };
+
+    ghost held = { district_held };
+
+    ghost within = { district_within };
+
+    fn key(key: DistrictKey) -> RecordKey {
+        RecordKey::District(key)
+    }
+}
+
+impl Row for DistrictColumns {
+    fn read(scale: &Scale, words: &Payload) -> Option<DistrictColumns> {
+        DistrictColumns::of_words(scale, words)
+    }
+
+    fn words(&self) -> Payload {
+        self.to_words()
+    }
+}
+
+impl Present for DistrictColumns {
+    ghost there = { district_there };
+}
+
+impl Keyed for CustomerColumns {
+    type Key = CustomerKey;
+
+    ghost key_of = { λ k. any_key.Customer k };
+
+    ghost words_of = { customer_columns_words };
+
+    ghost are = { λ s c. AreCustomerColumns c };
+
+    ghost at = { λ t k. option_map customer_columns (get t.customers k) };
+
+    ghost held = { customer_held };
+
+    ghost within = { customer_within };
+
+    fn key(key: CustomerKey) -> RecordKey {
+        RecordKey::Customer(key)
+    }
+}
+
+impl Row for CustomerColumns {
+    fn read(_scale: &Scale, words: &Payload) -> Option<CustomerColumns> {
+        CustomerColumns::of_words(words)
+    }
+
+    fn words(&self) -> Payload {
+        self.to_words()
+    }
+}
+
+impl Present for CustomerColumns {
+    ghost there = { customer_there };
+}
+
+impl Keyed for Order {
+    type Key = OrderKey;
+
+    ghost use Rattle.std.specs.Prelude.{refl};
+
+    ghost key_of = { λ k. any_key.Order k };
+
+    ghost words_of = { order_words };
+
+    ghost are = { IsOrderOfScale };
+
+    ghost at = { λ t k. get t.orders k };
+
+    ghost held = { λ t k. refl };
+
+    ghost within = { order_within };
+
+    fn key(key: OrderKey) -> RecordKey {
+        RecordKey::Order(key)
+    }
+}
+
+impl Row for Order {
+    fn read(scale: &Scale, words: &Payload) -> Option<Order> {
+        order_of_words(scale, words)
+    }
+
+    fn words(&self) -> Payload {
+        (*self).words()
+    }
+}
+
+impl Keyed for OrderLine {
+    type Key = LineKey;
+
+    ghost use Rattle.std.specs.Prelude.{refl};
+
+    ghost key_of = { λ k. any_key.OrderLine k };
+
+    ghost words_of = { line_words };
+
+    ghost are = { IsLineRow };
+
+    ghost at = { λ t k. get t.lines k };
+
+    ghost held = { λ t k. refl };
+
+    ghost within = { line_within };
+
+    fn key(key: LineKey) -> RecordKey {
+        RecordKey::OrderLine(key)
+    }
+}
+
+impl Row for OrderLine {
+    fn read(scale: &Scale, words: &Payload) -> Option<OrderLine> {
+        line_of_words(scale, words)
+    }
+
+    fn words(&self) -> Payload {
+        (*self).words()
+    }
+}
+
+impl Keyed for Stock {
+    type Key = StockKey;
+
+    ghost use Rattle.std.specs.Prelude.{refl};
+
+    ghost key_of = { λ k. any_key.Stock k };
+
+    ghost words_of = { stock_words };
+
+    ghost are = { λ s r. IsStockRow r };
+
+    ghost at = { λ t k. get t.stock k };
+
+    ghost held = { λ t k. refl };
+
+    ghost within = { stock_within };
+
+    fn key(key: StockKey) -> RecordKey {
+        RecordKey::Stock(key)
+    }
+}
+
+impl Row for Stock {
+    fn read(_scale: &Scale, words: &Payload) -> Option<Stock> {
+        stock_of_words(words)
+    }
+
+    fn words(&self) -> Payload {
+        (*self).words()
+    }
+}
+
+impl Present for Stock {
+    ghost there = { stock_there };
+}
