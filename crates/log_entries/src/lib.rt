@@ -2,7 +2,7 @@
 #![tactic(auto)]
 
 mod batches;
-mod rows;
+mod history;
 mod writing;
 
 pub use batches::put_batch;

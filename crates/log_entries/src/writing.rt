@@ -10,7 +10,7 @@ ghost use Rattle.log_text.specs.Entries.{entry_text};
 ghost use Rattle.log_entries.specs.Logged.{logged_entry, history_write, write_at, writes_of};
 ghost use Rattle.log_entries.specs.Logged.{is_before_history, is_behind_history};
 
-use crate::rows::history_write;
+use crate::history::history_write;
 use book::Entry;
 use log_text::{Write, put_front, put_write};
 use money::Payload;

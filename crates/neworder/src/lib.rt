@@ -6,7 +6,7 @@ mod lines;
 mod opening;
 mod prices;
 mod reply;
-mod rows;
+mod row_words;
 mod stock;
 mod transaction;
 

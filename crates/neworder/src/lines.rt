@@ -8,7 +8,7 @@ ghost use Rattle.tables.specs.declared.limits.TheConstants.{MAX_ORDER_LINES};
 ghost use Rattle.readset.specs.Transaction.{GoesOn, IsStepRefusal};
 ghost use Rattle.neworder.specs.Steps.{AreTaken, IsLineTaken};
 
-use crate::rows::line_words;
+use crate::row_words::line_words;
 use crate::stock::drawn;
 use money::{Cents, Refusal};
 use readset::{Start, Transaction};

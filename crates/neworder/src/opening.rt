@@ -15,7 +15,7 @@ ghost use Rattle.readset.specs.Transaction.{ReadsMore, GoesOn, AtAll};
 ghost use Rattle.neworder.specs.Steps.{AreTaken, opening_changes};
 ghost use Rattle.neworder.specs.Opening.{IsTakenOf, IsNumberTaken, IsHomeTaken, IsWithinCap, IsOrderRefusal};
 
-use crate::rows::order_words;
+use crate::row_words::order_words;
 use money::{NO_PAYLOAD, Payload, Refusal};
 use readset::{Start, Transaction};
 use std::sync::Wait;
