@@ -65,8 +65,8 @@ pub record IsRan (t0 : Database) (terminals inputs : ℕ) (old new : Option (Lis
   pub history : List Entry
   pub tallies : List Tally
   pub counts : Counts
-  pub counted : AreCounts t0 terminals inputs history tallies counts_with
-  pub told : IsTold (replay t0 history) counts_with old new report
+  pub counted : AreCounts t0 terminals inputs history tallies counts
+  pub told : IsTold (replay t0 history) counts old new report
 
 -- it was refused: no input ran, for want of memory or since a device failed, and nothing was written; or all did, and a
 -- beginning of the text was written

@@ -52,9 +52,9 @@ fn write_run<W: Write>(
     writer: &mut W,
 ) -> Result<(), Refusal>
     ensures whole { OnOk result
-        (Appends (W.contents writer.old) (W.contents writer.new) (run_text counts_with.now report.now)) }
+        (Appends (W.contents writer.old) (W.contents writer.new) (run_text counts.now report.now)) }
     ensures beginning { IfErr result (λ refusal. (front rest : List ℕ)
-        × (front ++ rest ≡ run_text counts_with.now report.now)
+        × (front ++ rest ≡ run_text counts.now report.now)
         × Appends (W.contents writer.old) (W.contents writer.new) front
         × ((refusal ≡ OutOfMemory) ⊎ (refusal ≡ Device))) }
 {
@@ -65,7 +65,7 @@ fn write_run<W: Write>(
 
 /// The text of a run.
 fn text_of(alloc: Global, counts: &Counts, report: &Report) -> Result<String, AllocError>
-    ensures { IfOk result (λ text. string_bytes text ≡ run_text counts_with.now report.now) }
+    ensures { IfOk result (λ text. string_bytes text ≡ run_text counts.now report.now) }
 {
     let mut text = inputs_text(alloc, counts)?;
     print_replies(counts, &mut text)?;
@@ -75,7 +75,7 @@ fn text_of(alloc: Global, counts: &Counts, report: &Report) -> Result<String, Al
 
 /// The lines of what came of the inputs.
 fn inputs_text(alloc: Global, counts: &Counts) -> Result<String, AllocError>
-    ensures { IfOk result (λ text. string_bytes text ≡ inputs_lines counts_with.now) }
+    ensures { IfOk result (λ text. string_bytes text ≡ inputs_lines counts.now) }
 {
     let Counts {
         commits,
@@ -91,7 +91,7 @@ fn inputs_text(alloc: Global, counts: &Counts) -> Result<String, AllocError>
 
 /// Appends the lines of what is durable, and which replies were released for that.
 fn print_replies(counts: &Counts, out: &mut String) -> Result<(), AllocError>
-    ensures { OnOk result (string_bytes out.new ≡ string_bytes out.old ++ replies_lines counts_with.now) }
+    ensures { OnOk result (string_bytes out.new ≡ string_bytes out.old ++ replies_lines counts.now) }
 {
     let Counts {
         durable,
