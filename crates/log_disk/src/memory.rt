@@ -83,7 +83,8 @@ impl Disk for Memory {
     fn read_at(&mut self, at: u64, into: &mut [u8]) -> Result<(), Refusal>
         ensures size { length into.new ≡ length into.old }
         ensures within { OnOk result (at + length into.old ≤ length (replayed_calls self.old.calls).bytes) }
-        ensures bytes { OnOk result (into.new ≡ take (length into.old) (drop at (replayed_calls self.old.calls).bytes)) }
+        ensures bytes { OnOk result (into.new
+            ≡ take (length into.old) (drop at (replayed_calls self.old.calls).bytes)) }
         ensures calls { self.new.calls ≡ self.old.calls }
         ensures cause { Counts result self.old.failures self.new.failures }
         ensures succeeds { at + length into.old ≤ length (replayed_calls self.old.calls).bytes
@@ -99,7 +100,8 @@ impl Disk for Memory {
         ensures calls { Records result (IsWriteOf at bytes.now) self.old.calls self.new.calls }
         ensures bytes { OnOk result ((replayed_calls self.new.calls).bytes
             ≡ written (replayed_calls self.old.calls).bytes at bytes.now) }
-        ensures outside { Torn at (length bytes.now) (replayed_calls self.old.calls).bytes (replayed_calls self.new.calls).bytes }
+        ensures outside { Torn at (length bytes.now) (replayed_calls self.old.calls).bytes
+            (replayed_calls self.new.calls).bytes }
         ensures story { WriteLeft result at (length bytes.now) (replayed_calls self.old.calls).story
             (replayed_calls self.new.calls).story }
         ensures fits { OnOk result (at + length bytes.now < 2 ^ 63) }

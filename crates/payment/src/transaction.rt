@@ -100,8 +100,8 @@ fn read<R: Wait, K: Start>(
         (held transaction.new.reads (number_of_key K.tables.scale (record_key.Warehouse payment.now.warehouse)))) }
     ensures district { OnOk result (IsSome
         (held transaction.new.reads (number_of_key K.tables.scale (record_key.District (paying payment.now))))) }
-    ensures customer { OnOk result (IsSome
-        (held transaction.new.reads (number_of_key K.tables.scale (record_key.Customer (payer payment.now customer))))) }
+    ensures customer { OnOk result (IsSome (held transaction.new.reads
+        (number_of_key K.tables.scale (record_key.Customer (payer payment.now customer))))) }
     ensures reads { ReadsMore 3 transaction.old transaction.new }
 {
     let warehouse = read_present(rt, transaction, payment.warehouse)?;

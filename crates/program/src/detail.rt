@@ -72,8 +72,8 @@ fn cause_detail(alloc: Global, cause: &Option<Cause>) -> Result<String, AllocErr
 
 /// The line on a file that couldn't be used.
 fn file_detail(alloc: Global, path: &str, trouble: &Trouble) -> Result<String, AllocError>
-    ensures { IfOk result (λ line. IsReasonTold (path.now ++ (codes ": " ++ trouble_of trouble.now)) (reason_of trouble.now)
-        (string_bytes line)) }
+    ensures { IfOk result (λ line. IsReasonTold (path.now ++ (codes ": " ++ trouble_of trouble.now))
+        (reason_of trouble.now) (string_bytes line)) }
 {
     let name = trouble.name();
     let what = format!(in alloc; "{path}: {name}")?;

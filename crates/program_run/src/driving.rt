@@ -144,8 +144,8 @@ fn outcome_of<
     requires gates { length gates.items ≡ plan.now.terminals }
     requires empty { D.is_modelled → All (λ slot. D.seen slot.disk ≡ []) slots.items }
     ensures counted { IfOk result (λ outcome. AreCounts K.first plan.now.terminals plan.now.inputs outcome.closed
-        outcome.tallies.items (counts_with outcome.commits outcome.rollbacks outcome.gave_up outcome.refused outcome.durable
-        outcome.acknowledged)) }
+        outcome.tallies.items (counts_with outcome.commits outcome.rollbacks outcome.gave_up outcome.refused
+        outcome.durable outcome.acknowledged)) }
     ensures cause { IfErr result (λ refusal. (refusal ≢ OutOfMemory) → refusal ≡ Device) }
 {
     let (engine, seats) = Engine::<K>::open(parts);

@@ -110,7 +110,8 @@ pub fn condition_10(sums: &RunningSums, key: CustomerKey, words: &Payload) -> bo
 /// C_BALANCE + C_YTD_PAYMENT is what was delivered (TPC-C 3.3.2.12).
 pub fn condition_12(sums: &RunningSums, key: CustomerKey, words: &Payload) -> bool
     requires { IsCustomerKey sums.now.scale key }
-    ensures { IsTrue result ↔ (money_of (slice_index words.now C_BALANCE) +ℤ money_of (slice_index words.now C_YTD_PAYMENT)
+    ensures { IsTrue result ↔ (money_of (slice_index words.now C_BALANCE)
+        +ℤ money_of (slice_index words.now C_YTD_PAYMENT)
         ≡ amount_in sums.now.delivered (customer_place sums.now.scale key)) }
 {
     let delivered = sums.delivered(key);
