@@ -117,7 +117,8 @@ fn read_waiting<R: Wait, K: Start>(
 /// The order that waits longest, by what OLDEST holds and D_NEXT_O_ID: OLDEST where it is below that, and else none.
 /// None only where no well-formed tables with this order cap, and condition 2, have these.
 fn first_waiting(oldest: Option<Payload>, next: u32, cap: u32) -> Option<Option<u32>>
-    ensures waits { (o : ℕ) → oldest ≡ Some (number_words o) → o < next → IsNumber cap o → result ≡ Some (Some o) }
+    ensures waits { (o : ℕ) → oldest ≡ Some (number_words o) → o < next → IsNumber cap o
+        → result ≡ Some (Some o) }
     ensures none { (o : ℕ) → oldest ≡ Some (number_words o) → next ≤ o → result ≡ Some None }
     ensures number { IfSome result (λ w. ForSome w (λ o. IsNumber cap o)) }
 {

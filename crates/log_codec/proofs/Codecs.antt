@@ -4,7 +4,7 @@ use Rattle.std.specs.Prelude.{flat_map}
 use Rattle.std.specs.List.{AllByRecursion}
 use Rattle.std.specs.Option.{option_map, option_and_then}
 use Rattle.log_codec.specs.Numbers.{Reader, IsBytes}
-use Rattle.log_codec.specs.Readers.{both, chosen, many}
+use Rattle.log_codec.specs.Read.{both, chosen, many}
 use Rattle.log_codec.specs.Codec.{IsCodec}
 use Rattle.log_codec.proofs.NumberTexts.{bytes_behind}
 

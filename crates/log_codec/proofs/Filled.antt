@@ -5,7 +5,7 @@ use Rattle.std.specs.Prelude.{flat_map}
 use Rattle.std.specs.List.{AllByRecursion}
 use Rattle.std.specs.Option.{option_map, option_and_then}
 use Rattle.log_codec.specs.Numbers.{Reader, IsBytes}
-use Rattle.log_codec.specs.Readers.{filled}
+use Rattle.log_codec.specs.Read.{filled}
 use Rattle.log_codec.specs.Codec.{IsCodec}
 use Rattle.log_codec.proofs.Codecs.{and_then_some, map_some, taken}
 

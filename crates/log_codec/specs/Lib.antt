@@ -1,3 +1,3 @@
 pub mod Numbers
-pub mod Readers
+pub mod Read
 pub mod Codec

@@ -1,7 +1,7 @@
 -- The reader of a header: a step between its bytes and their value, which no public clause names.
 use Rattle.std.specs.Prelude.{ℕ, Bool, ◌&&◌, ◌==◌, nat_le, nat_lt, Option, Some, None, if◌then◌else◌}
 use Rattle.log_codec.specs.Numbers.{Reader, number_at}
-use Rattle.log_codec.specs.Readers.{both, chosen}
+use Rattle.log_codec.specs.Read.{both, chosen}
 use Rattle.tables.specs.Sizes.{Sizes, sizes}
 use Rattle.tables.specs.declared.limits.TheConstants.{MAX_WAREHOUSES, MAX_DISTRICTS, MIN_CUSTOMERS, MAX_CUSTOMERS}
 use Rattle.tables.specs.declared.limits.TheConstants.{MIN_ITEMS, MAX_ITEMS, MAX_ORDERS, MAX_COMMITS, MAX_LOGGERS}

@@ -2,7 +2,7 @@
 ghost use Rattle.std.specs.Prelude.{◌≡◌, ◌≤◌, ◌<◌, ◌++◌, ℕ, List, IfSome, IfNone, OnOk, OnErr};
 ghost use Rattle.std.specs.Prelude.{length, take};
 ghost use Rattle.std.specs.Option.{option_map};
-ghost use Rattle.log_codec.specs.Readers.{chosen};
+ghost use Rattle.log_codec.specs.Read.{chosen};
 ghost use Rattle.tables.specs.Sizes.{IsScale};
 ghost use Rattle.tables.specs.declared.limits.TheConstants.{MAX_LOGGERS};
 ghost use Rattle.log_header.specs.Header.{HeaderView, IsHeader, scale_text, header_text};
@@ -105,7 +105,7 @@ fn scale_keeps_limits(scale: &Scale)
 }
 
 /// The header in the first 48 bytes, with the bytes behind it.
-#[tactic(auto, unfolding(log_codec::specs::Readers::both, log_codec::specs::Readers::chosen))]
+#[tactic(auto, unfolding(log_codec::specs::Read::both, log_codec::specs::Read::chosen))]
 fn header_at(bytes: &[u8]) -> Option<(Header, &[u8])>
     ensures { option_map (λ x. (x.0, x.1.now)) result ≡ chosen header_if parts bytes.now }
 {
@@ -144,7 +144,7 @@ fn header_of(
 }
 
 /// The scale in the first 24 bytes, with the bytes behind it.
-#[tactic(auto, unfolding(log_codec::specs::Readers::both, log_codec::specs::Readers::chosen))]
+#[tactic(auto, unfolding(log_codec::specs::Read::both, log_codec::specs::Read::chosen))]
 fn scale_at(bytes: &[u8]) -> Option<(Scale, &[u8])>
     ensures { option_map (λ x. (x.0, x.1.now)) result ≡ scale_from bytes.now }
 {

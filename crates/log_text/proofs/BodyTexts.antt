@@ -8,7 +8,7 @@ use Rattle.std.proofs.Math.Seq.{take-append_seam, drop-append_seam}
 use Rattle.std.specs.Prelude.{slice_index, nat_le, if◌then◌else◌, flat_map}
 use Rattle.std.specs.Option.{option_map, option_and_then}
 use Rattle.log_codec.specs.Numbers.{IsBytes, number, number_at}
-use Rattle.log_codec.specs.Readers.{filled}
+use Rattle.log_codec.specs.Read.{filled}
 use Rattle.log_codec.specs.Codec.{IsCodec}
 use Rattle.log_codec.proofs.NumberTexts.{codec-number, length-number, number_at-number}
 use Rattle.log_codec.proofs.Codecs.{and_then_some, map_some, taken}
@@ -18,7 +18,7 @@ use Rattle.log_text.specs.Bodies.{BodyView, content_text, body_text}
 use Rattle.log_header.specs.Header.{HeaderView, IsHeader}
 use Rattle.log_text.specs.File.{IsBody}
 use Rattle.log_text.specs.declared.last.Last.{Last}
-use Rattle.log_text.specs.Reads.{entry_from, entries_from, content_from, body_from}
+use Rattle.log_text.specs.Read.{entry_from, entries_from, content_from, body_from}
 use Rattle.log_text.proofs.Texts.{codec-entry, has_bytes}
 use Rattle.log_text.proofs.Fitting.{and_split}
 use Rattle.log_text.proofs.Lawful.{FitsBody, through, body_fits}

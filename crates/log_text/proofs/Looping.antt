@@ -3,7 +3,7 @@ use Rattle.std.proofs.Common.{◌≡◌, ℕ, zero, suc, ◌<◌, List, [], ◌�
 use Rattle.std.proofs.lemmas.List.{append-nil, append_assoc}
 use Rattle.std.specs.Option.{option_map, option_and_then}
 use Rattle.log_codec.specs.Numbers.{Reader}
-use Rattle.log_codec.specs.Readers.{many, filled}
+use Rattle.log_codec.specs.Read.{many, filled}
 use Rattle.log_text.specs.Loops.{many_after, filled_after}
 
 abbrev in_front : {A : Type 0} → List A → List A × List ℕ → List A × List ℕ

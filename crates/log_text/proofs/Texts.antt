@@ -13,14 +13,14 @@ use Rattle.tables.specs.Rows.{payload_of}
 use Rattle.tables.specs.declared.records.Table.{Table}
 use Rattle.tables.specs.declared.records.Table.TheVariants as table
 use Rattle.log_codec.specs.Numbers.{IsBytes, number, number_at}
-use Rattle.log_codec.specs.Readers.{chosen}
+use Rattle.log_codec.specs.Read.{chosen}
 use Rattle.log_codec.specs.Codec.{IsCodec}
 use Rattle.log_codec.proofs.NumberTexts.{codec-number, length-number, bytes_behind}
 use Rattle.log_codec.proofs.Codecs.{codec-both, codec-chosen, codec-many, codec-same}
 use Rattle.log_text.specs.Columns.{width}
 use Rattle.log_text.specs.Writes.{value_text, write_text}
 use Rattle.log_text.specs.Entries.{EntryView, entry_text}
-use Rattle.log_text.specs.Reads.{table_from, words_from, kind_numbered, words_if, value_from, write_from, count_numbered, entry_from}
+use Rattle.log_text.specs.Read.{table_from, words_from, kind_numbered, words_if, value_from, write_from, count_numbered, entry_from}
 use Rattle.tables.specs.declared.limits.TheConstants.{MAX_WRITES}
 use Rattle.log_text.specs.declared.write.Write.{Write}
 

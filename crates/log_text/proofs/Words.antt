@@ -9,7 +9,7 @@ use Rattle.std.proofs.lemmas.Bool.{ltb-true, ltb-false, le-ltb, lt-ltb}
 use Rattle.byteorder.specs.Endian.{little_number, IsRead}
 use Rattle.byteorder.specs.Numbers.{little_from-append}
 use Rattle.log_codec.specs.Numbers.{number_at}
-use Rattle.log_codec.specs.Readers.{many}
+use Rattle.log_codec.specs.Read.{many}
 
 one_there : (bytes : List ℕ) → 8 ≤ length bytes → number_at 8 bytes ≡ Some (little_number 8 bytes, drop 8 bytes)
 unfolding number_at

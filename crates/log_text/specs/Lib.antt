@@ -3,5 +3,5 @@ pub mod Writes
 pub mod Entries
 pub mod Bodies
 pub mod File
-pub mod Reads
+pub mod Read
 pub mod Loops

@@ -2,7 +2,7 @@
 ghost use Rattle.std.specs.Prelude.{◌≡◌, ◌≤◌};
 ghost use Rattle.std.specs.Option.{option_map};
 ghost use Rattle.log_text.specs.Columns.{width};
-ghost use Rattle.log_text.specs.Reads.{table_from, value_from, words_from, write_from};
+ghost use Rattle.log_text.specs.Read.{table_from, value_from, words_from, write_from};
 
 use crate::columns::width;
 use crate::write::Write;
@@ -11,7 +11,7 @@ use log_codec::{u8_at, u32_at};
 use money::{PAYLOAD_WORDS, Payload};
 use tables::Table;
 
-#[tactic(auto, unfolding(crate::specs::Reads::table_from, log_codec::specs::Readers::chosen))]
+#[tactic(auto, unfolding(crate::specs::Read::table_from, log_codec::specs::Read::chosen))]
 fn table_from(bytes: &[u8]) -> Option<(Table, &[u8])>
     ensures { option_map (λ x. (x.0, x.1.now)) result ≡ table_from bytes.now }
 {
@@ -33,7 +33,7 @@ fn words_from(width: usize, bytes: &[u8]) -> Option<(Payload, &[u8])>
     Some((words, rest))
 }
 
-#[tactic(auto, unfolding(crate::specs::Reads::value_from, log_codec::specs::Readers::both, log_codec::specs::Readers::chosen))]
+#[tactic(auto, unfolding(crate::specs::Read::value_from, log_codec::specs::Read::both, log_codec::specs::Read::chosen))]
 fn value_from(table: Table, bytes: &[u8]) -> Option<(Option<Payload>, &[u8])>
     ensures { option_map (λ x. (x.0, x.1.now)) result ≡ value_from table bytes.now }
 {
@@ -49,7 +49,7 @@ fn value_from(table: Table, bytes: &[u8]) -> Option<(Option<Payload>, &[u8])>
 }
 
 /// The write that the bytes begin with, and the bytes behind it.
-#[tactic(auto, unfolding(crate::specs::Reads::write_from, log_codec::specs::Readers::both, log_codec::specs::Readers::chosen))]
+#[tactic(auto, unfolding(crate::specs::Read::write_from, log_codec::specs::Read::both, log_codec::specs::Read::chosen))]
 pub(crate) fn write_from(bytes: &[u8]) -> Option<(Write, &[u8])>
     ensures { option_map (λ x. (x.0, x.1.now)) result ≡ write_from bytes.now }
 {

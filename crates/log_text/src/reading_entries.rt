@@ -1,10 +1,10 @@
 //! Reading entries and bodies. Vectors grow by what is read, one after the other, so no count of a file takes memory
 //! that its bytes don't pay for.
 ghost use Rattle.std.specs.Prelude.{◌≡◌, ◌≤◌, ◌+◌, ◌-◌, length, map};
-ghost use Rattle.log_codec.specs.Readers.{many, filled};
+ghost use Rattle.log_codec.specs.Read.{many, filled};
 ghost use Rattle.log_text.specs.Entries.{logged};
 ghost use Rattle.log_text.specs.Bodies.{body_of};
-ghost use Rattle.log_text.specs.Reads.{Gives, body_from, content_from, entries_from, entry_from, write_from};
+ghost use Rattle.log_text.specs.Read.{Gives, body_from, content_from, entries_from, entry_from, write_from};
 
 use crate::body::Body;
 use crate::entry::LoggedEntry;
@@ -34,7 +34,7 @@ fn writes_from(alloc: Global, count: u16, bytes: &[u8]) -> Result<(Vec<Write>, &
 }
 
 /// The entry that the bytes begin with, and the bytes behind it. Its count of writes is tested before they are read.
-#[tactic(auto, unfolding(crate::specs::Reads::entry_from, log_codec::specs::Readers::both, log_codec::specs::Readers::chosen))]
+#[tactic(auto, unfolding(crate::specs::Read::entry_from, log_codec::specs::Read::both, log_codec::specs::Read::chosen))]
 fn entry_from(alloc: Global, bytes: &[u8]) -> Result<(LoggedEntry, &[u8]), Refusal>
     ensures { Gives (λ x. (logged x.0, x.1.now)) result (entry_from bytes.now) }
 {
@@ -71,7 +71,7 @@ fn entries_from(alloc: Global, bytes: &[u8]) -> Result<Vec<LoggedEntry>, Refusal
     Ok(entries)
 }
 
-#[tactic(auto, unfolding(crate::specs::Reads::content_from))]
+#[tactic(auto, unfolding(crate::specs::Read::content_from))]
 fn content_from(alloc: Global, bytes: &[u8]) -> Result<Body, Refusal>
     ensures { Gives body_of result (content_from bytes.now) }
 {
@@ -82,7 +82,7 @@ fn content_from(alloc: Global, bytes: &[u8]) -> Result<Body, Refusal>
 
 /// The body that the bytes begin with, before its rules are asked, and the bytes behind it, the first of which is to be
 /// the next gate.
-#[tactic(auto, unfolding(crate::specs::Reads::body_from))]
+#[tactic(auto, unfolding(crate::specs::Read::body_from))]
 pub(crate) fn body_from(alloc: Global, bytes: &[u8]) -> Result<(Body, &[u8]), Refusal>
     ensures { Gives (λ x. (body_of x.0, x.1.now)) result (body_from bytes.now) }
 {

@@ -26,8 +26,8 @@ pub struct Counts {
 impl Counts {
     /// The counts of an outcome.
     pub fn of<K: Run, D: Disk>(outcome: &Outcome<K, D>) -> Counts
-        ensures { result ≡ counts_with outcome.now.commits outcome.now.rollbacks outcome.now.gave_up outcome.now.refused
-            outcome.now.durable outcome.now.acknowledged }
+        ensures { result ≡ counts_with outcome.now.commits outcome.now.rollbacks outcome.now.gave_up
+            outcome.now.refused outcome.now.durable outcome.now.acknowledged }
     {
         Counts {
             commits: outcome.commits,

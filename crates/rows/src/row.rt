@@ -52,7 +52,8 @@ pub trait Keyed {
 
     ghost held: { (t : Database) (k : Self.Key) → row_at t (key_of k) ≡ option_map words_of (at t k) };
 
-    ghost within: { (t : Database) (k : Self.Key) (r : Self) → IsWellFormed t → at t k ≡ Some r → are t.scale r };
+    ghost within: { (t : Database) (k : Self.Key) (r : Self) → IsWellFormed t
+        → at t k ≡ Some r → are t.scale r };
 }
 
 /// Rows that a record of seven words holds.

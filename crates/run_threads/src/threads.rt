@@ -252,7 +252,8 @@ fn in_threads<
     { serve_all(rt, engine, writers, progress) };
     let work = move || -> Vec<Worker<K, G>>
         requires { All (λ worker. inputs_in worker.tally ≡ 0) workers.items }
-        ensures { (vec_len result ≡ vec_len workers) × All (λ worker. inputs_in worker.tally ≡ inputs) result.items }
+        ensures { (vec_len result ≡ vec_len workers)
+            × All (λ worker. inputs_in worker.tally ≡ inputs) result.items }
     { work_all(rt, alloc, engine, workers, inputs, progress) };
     // The first of the two gets a thread of its own, or runs last: terminals wait for no logger.
     let (writers, workers) = thread::join(rt, serve, work);

@@ -80,7 +80,8 @@ pub fn condition_3(sums: &RunningSums, bounds: &OrderBounds, key: DistrictKey) -
 /// The sum of O_OL_CNT is the number of ORDER-LINE rows (TPC-C 3.3.2.4).
 pub fn condition_4(sums: &RunningSums, key: DistrictKey) -> bool
     requires { IsDistrictKey sums.now.scale key }
-    ensures { IsTrue result ↔ (amount_in sums.now.line_counts (district_place sums.now.scale key.warehouse key.district)
+    ensures { IsTrue result ↔ (amount_in sums.now.line_counts
+        (district_place sums.now.scale key.warehouse key.district)
         ≡ amount_in sums.now.district_lines (district_place sums.now.scale key.warehouse key.district)) }
 {
     sums.line_counts(key) == sums.district_lines(key)

@@ -3,7 +3,7 @@ use Rattle.std.proofs.Math.Facts.{Fits-lt-pow}
 use Rattle.money.specs.declared.refusal.Refusal.TheVariants.{OutOfMemory}
 use Rattle.log_header.specs.Header.{IsHeader}
 use Rattle.log_text.specs.Bodies.{BodyView, body_of, body_after}
-use Rattle.log_text.specs.Reads.{body_from}
+use Rattle.log_text.specs.Read.{body_from}
 use Rattle.log_text.proofs.Texts.{pair_is}
 use Rattle.log_text.proofs.BodyTexts.{codec-body, is_read}
 use Rattle.log_text.proofs.bodies.read_body.Goals as goal

@@ -1,10 +1,10 @@
 use Rattle.std.proofs.Common.{◌≡◌, ◌++◌, ◌-◌, ◌*◌, length, drop, replicate, sym, ap, ◌∙◌, List, ℕ, Some, rules}
 use Rattle.std.proofs.lemmas.List.{take-append-drop}
 use Rattle.std.specs.Option.{option_and_then, option_map}
-use Rattle.log_codec.specs.Readers.{chosen, many}
+use Rattle.log_codec.specs.Read.{chosen, many}
 use Rattle.log_codec.specs.Numbers.{number_at}
 use Rattle.tables.specs.Rows.{payload_of}
-use Rattle.log_text.specs.Reads.{words_from}
+use Rattle.log_text.specs.Read.{words_from}
 use Rattle.log_text.proofs.Words.{too_few, read_in_front, drop-zeros}
 use Rattle.log_text.proofs.reading.words_from.Goals as goal
 

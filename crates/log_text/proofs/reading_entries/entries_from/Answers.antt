@@ -1,10 +1,10 @@
 use Rattle.std.proofs.Common.{◌≡◌, ◌+◌, ◌-◌, ◌≤◌, suc, ℕ, List, ◌∷◌, [], ◌++◌, length, map, refl, sym, ap, ◌∙◌, arith, rules, ◌≢◌, None}
 use Rattle.money.specs.declared.refusal.Refusal.TheVariants.{OutOfMemory, Damaged}
 use Rattle.std.proofs.lemmas.List.{map-append, length-append}
-use Rattle.log_codec.specs.Readers.{filled}
+use Rattle.log_codec.specs.Read.{filled}
 use Rattle.log_text.specs.Entries.{logged}
 use Rattle.log_text.specs.Loops.{filled_after}
-use Rattle.log_text.specs.Reads.{entry_from, entries_from}
+use Rattle.log_text.specs.Read.{entry_from, entries_from}
 use Rattle.log_text.specs.declared.entry.LoggedEntry.{LoggedEntry}
 use Rattle.log_text.proofs.Looping.{filled_begins, filled_goes_on, filled_ends, filled_done}
 use Rattle.log_text.proofs.Texts.{fewer}

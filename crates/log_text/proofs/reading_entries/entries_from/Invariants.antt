@@ -1,9 +1,9 @@
 use Rattle.std.proofs.Common.{◌≡◌, ◌≤◌, ◌-◌, ◌+◌, length, map}
 use Rattle.log_codec.specs.Numbers.{IsBytes}
-use Rattle.log_codec.specs.Readers.{filled}
+use Rattle.log_codec.specs.Read.{filled}
 use Rattle.log_text.specs.Entries.{logged}
 use Rattle.log_text.specs.Loops.{filled_after}
-use Rattle.log_text.specs.Reads.{entry_from, entries_from}
+use Rattle.log_text.specs.Read.{entry_from, entries_from}
 use Rattle.log_text.proofs.reading_entries.entries_from.Given as goal
 
 -- what is read and what is to come is the whole, and each entry has taken a byte

@@ -1,7 +1,7 @@
 use Rattle.std.proofs.Common.{◌≡◌, ◌+◌, ◌-◌, suc, ℕ, List, refl, sym, ap, ◌∙◌, arith, rules}
-use Rattle.log_codec.specs.Readers.{many}
+use Rattle.log_codec.specs.Read.{many}
 use Rattle.log_text.specs.Loops.{many_after}
-use Rattle.log_text.specs.Reads.{write_from}
+use Rattle.log_text.specs.Read.{write_from}
 use Rattle.log_text.specs.declared.write.Write.{Write}
 use Rattle.log_text.proofs.Looping.{many_begins, many_goes_on, many_ends, many_done}
 use Rattle.log_text.proofs.reading_entries.writes_from.Goals as goal

@@ -1,7 +1,7 @@
 use Rattle.std.proofs.Common.{◌≡◌, ◌≤◌, ◌-◌}
-use Rattle.log_codec.specs.Readers.{many}
+use Rattle.log_codec.specs.Read.{many}
 use Rattle.log_text.specs.Loops.{many_after}
-use Rattle.log_text.specs.Reads.{write_from}
+use Rattle.log_text.specs.Read.{write_from}
 use Rattle.log_text.proofs.reading_entries.writes_from.Given as goal
 
 -- what is read and what is to come is the whole

@@ -3,7 +3,7 @@ use Rattle.std.specs.Prelude.{◌≡◌, ◌≢◌, ℕ, ◌+◌, ◌-◌, nat_l
 use Rattle.std.specs.Prelude.{if◌then◌else◌, List, length, take, drop, Result, Ok, Err}
 use Rattle.std.specs.Option.{option_map, option_and_then}
 use Rattle.log_codec.specs.Numbers.{Reader, number_at}
-use Rattle.log_codec.specs.Readers.{both, chosen, many, filled}
+use Rattle.log_codec.specs.Read.{both, chosen, many, filled}
 use Rattle.money.specs.declared.refusal.Refusal.{Refusal}
 use Rattle.money.specs.declared.refusal.Refusal.TheVariants.{OutOfMemory, Damaged}
 use Rattle.tables.specs.Records.{table_numbered}
