@@ -19,6 +19,10 @@ held reads n = lookup (is_at (nat_cmp n)) reads
 abbrev pub value_of : Version → Option (List ℕ)
 value_of version = value_in (words_of version)
 
+-- the version that was read of this record has these words, or says that it is absent
+abbrev pub IsReadAs : ReadSetView → ℕ → Option (List ℕ) → Type 0
+IsReadAs reads n words = (v : Version) × (held reads n ≡ Some v) × (words ≡ value_of v)
+
 -- these reads, and perhaps more
 abbrev pub Keeps : ReadSetView → ReadSetView → Type 0
 Keeps reads more = (n : ℕ) (v : Version) → held reads n ≡ Some v → held more n ≡ Some v

@@ -1,5 +1,5 @@
 -- How the execution of a transaction is refused.
-use Rattle.std.specs.Prelude.{◌≡◌, ℕ, ◌<◌, ⊤, Some, List, slice_index}
+use Rattle.std.specs.Prelude.{◌≡◌, ◌<◌, ⊤, Some}
 use Rattle.money.specs.declared.refusal.Refusal.{Refusal}
 use Rattle.money.specs.declared.refusal.Refusal.TheVariants.{OutOfMemory, Stale, ItemNotValid, OrdersFull}
 use Rattle.tables.specs.Sizes.{Sizes}
@@ -12,8 +12,9 @@ use Rattle.tables.specs.declared.input.Input.{Input}
 use Rattle.tables.specs.declared.input.Input.TheVariants as input
 use Rattle.tables.specs.declared.records.RecordKey.TheVariants as key
 use Rattle.cells.specs.Records.{ReaderView}
-use Rattle.cells.specs.declared.cells.Version.{Version}
-use Rattle.readset.specs.Reads.{ReadSetView, AreRead, held, value_of}
+use Rattle.rows.specs.Columns.{AreDistrictColumns, district_columns_words}
+use Rattle.rows.specs.declared.columns.DistrictColumns.{DistrictColumns}
+use Rattle.readset.specs.Reads.{ReadSetView, AreRead, IsReadAs}
 use Rattle.readset.specs.Commit.{IsCommitted}
 use Rattle.readset.specs.Explains.{NoCandidate}
 
@@ -21,14 +22,11 @@ use Rattle.readset.specs.Explains.{NoCandidate}
 abbrev pub NoneMissing : Database → Input → Type 0
 NoneMissing t0 x = (t : Database) → IsOf t0 t → IsCommitted (apply t x)
 
--- a version of a district's record says that D_NEXT_O_ID, its second word, is above the cap
-abbrev pub SaysAbove : ℕ → Version → Type 0
-SaysAbove cap v = (words : List ℕ) × (value_of v ≡ Some words) × (cap < slice_index words 1)
-
--- an order's number as it was read is above the order cap; no other transaction has one
+-- a New-Order's district was read as a row of the scale whose D_NEXT_O_ID is above the order cap; no other transaction
+-- takes a number
 abbrev pub IsAboveCap : Sizes → Input → ReadSetView → Type 0
-IsAboveCap s (input.NewOrder x) reads =
-    (v : Version) × (held reads (number_of_key s (key.District (home x))) ≡ Some v) × SaysAbove s.orders v
+IsAboveCap s (input.NewOrder x) reads = (c : DistrictColumns) × AreDistrictColumns s c × (s.orders < c.next_order)
+    × IsReadAs reads (number_of_key s (key.District (home x))) (Some (district_columns_words c))
 IsAboveCap s _ reads = ⊥
 
 -- how an execution may be refused, whose reader goes from one of these states to the other: for an item that isn't in

@@ -1,12 +1,11 @@
 -- A transaction under way (Silo, section 4.4): what it has read and is to write so far, and what its steps say.
-use Rattle.std.specs.Prelude.{◌≡◌, ℕ, ◌+◌, ◌≤◌, ⊤, Option, Some, List, Result, Ok, Err, OnOk, IfOk, IfErr, length}
+use Rattle.std.specs.Prelude.{◌≡◌, ℕ, ◌+◌, ◌≤◌, ⊤, Result, Ok, Err, OnOk, IfOk, IfErr, length}
 use Rattle.money.specs.declared.refusal.Refusal.{Refusal}
 use Rattle.money.specs.declared.refusal.Refusal.TheVariants.{OutOfMemory, Stale}
 use Rattle.tables.specs.Database.{Database}
 use Rattle.tables.specs.declared.input.Input.{Input}
 use Rattle.cells.specs.Records.{ReaderView, HasGrown}
-use Rattle.cells.specs.declared.cells.Version.{Version}
-use Rattle.readset.specs.Reads.{ReadSetView, Keeps, AreWithin, AreRead, held, value_of}
+use Rattle.readset.specs.Reads.{ReadSetView, Keeps, AreWithin, AreRead}
 use Rattle.readset.specs.Writes.{WriteSetView}
 use Rattle.readset.specs.Explains.{IsCandidate, NoCandidate, Explains, WritesAreRead, IsWithinLimits}
 use Rattle.readset.specs.Refused.{NoneMissing, IsAboveCap, IsRefusal}
@@ -24,10 +23,6 @@ pub record IsUnderWay (start now : ReaderView) (x : TransactionView) : Type 0 wh
   pub grown : HasGrown start now
   pub within : AreWithin (length start.cells) x.reads
   pub writes_read : WritesAreRead x.writes x.reads
-
--- the version that was read of this record has these words, or says that it is absent
-abbrev pub IsReadAs : ReadSetView → ℕ → Option (List ℕ) → Type 0
-IsReadAs reads n words = (v : Version) × (held reads n ≡ Some v) × (words ≡ value_of v)
 
 -- a step that reads at most so many records more, and writes none
 pub record ReadsMore (most : ℕ) (old new : TransactionView) : Type 0 where

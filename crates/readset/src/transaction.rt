@@ -1,5 +1,5 @@
 //! A transaction under way, from its first read to its work.
-ghost use Rattle.std.specs.Prelude.{◌≡◌, ◌≢◌, ◌≤◌, ℕ, [], Some, IsSome, is_some, length, OnOk, OnErr, IfOk, IfErr};
+ghost use Rattle.std.specs.Prelude.{◌≡◌, ◌≢◌, ◌≤◌, ℕ, [], Some, Ok, IsSome, is_some, length, OnOk, OnErr, IfOk, IfErr};
 ghost use Rattle.money.specs.declared.refusal.Refusal.TheVariants.{OutOfMemory};
 ghost use Rattle.tables.specs.Database.{Database};
 ghost use Rattle.tables.specs.Records.{IsRecordKey, number_of_key, record_count};
@@ -7,11 +7,12 @@ ghost use Rattle.tables.specs.Rows.{row_at};
 ghost use Rattle.population.specs.Initial.{initial};
 ghost use Rattle.cells.specs.Records.{ReaderView};
 ghost use Rattle.tables.specs.declared.limits.TheConstants.{MAX_READS, MAX_WRITES};
-ghost use Rattle.readset.specs.Reads.{held};
+ghost use Rattle.cells.specs.declared.cells.Version.{Version};
+ghost use Rattle.readset.specs.Reads.{held, value_of, IsReadAs};
 ghost use Rattle.readset.specs.Writes.{no_writes, puts, left_at};
 ghost use Rattle.readset.specs.Commit.{IsCommitOf};
 ghost use Rattle.readset.specs.Refused.{NoneMissing, IsAboveCap};
-ghost use Rattle.readset.specs.Transaction.{IsReadAs, IsUnderWay, ReadsMore, GoesOn, Finds, IsExecuted};
+ghost use Rattle.readset.specs.Transaction.{IsUnderWay, ReadsMore, GoesOn, Finds, IsExecuted};
 
 use crate::reads::{ReadSet, value_of};
 use crate::work::Work;
@@ -127,15 +128,18 @@ impl<'a, K: Start> Transaction<'a, K> {
     ///
     /// # Errors
     ///
-    /// `OutOfMemory`, and no other. Nothing is read then.
+    /// `OutOfMemory`, and no other: nothing is read then. It isn't given of a record that was read before.
     pub fn read<R: Wait>(&mut self, rt: &R, key: RecordKey) -> Result<Option<Payload>, Refusal>
         requires { IsRecordKey K.tables.scale key }
         ensures words { Finds K.tables self.new result (λ words t. row_at t key ≡ words) }
         ensures holds { OnOk result (IsSome (held self.new.reads (number_of_key K.tables.scale key))) }
         ensures version { IfOk result (IsReadAs self.new.reads (number_of_key K.tables.scale key)) }
+        ensures again { (v : Version) → held self.old.reads (number_of_key K.tables.scale key) ≡ Some v
+            → (result ≡ Ok (value_of v)) × (self.new ≡ self.old) }
         ensures others { (n : ℕ) → n ≢ number_of_key K.tables.scale key
             → held self.new.reads n ≡ held self.old.reads n }
         ensures reads { ReadsMore 1 self.old self.new }
+        ensures kept { OnErr result (self.new ≡ self.old) }
         ensures only_memory { IfErr result (λ refusal. refusal ≡ OutOfMemory) }
     {
         let number = number_of_key(&self.population.tables().scale, key);

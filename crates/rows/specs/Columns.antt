@@ -1,17 +1,24 @@
 -- The columns that records hold: those of a row that change, with the words that they stand in and their ranges.
-use Rattle.std.specs.Prelude.{ℕ, ◌+◌, cond, List, [], ◌∷◌}
+use Rattle.std.specs.Prelude.{ℕ, ◌+◌, ◌≤◌, cond, Option, Some, List, [], ◌∷◌}
 use Rattle.std.specs.Option.{unwrap_or}
-use Rattle.tables.specs.Sizes.{Sizes, IsNumber}
-use Rattle.tables.specs.Rows.{money_word, payload_of}
+use Rattle.tables.specs.Sizes.{Sizes, IsBetween, IsNumber}
+use Rattle.tables.specs.Database.{Database}
+use Rattle.tables.specs.Rows.{money_word, payload_of, number_words, oldest, last}
 use Rattle.tables.specs.WellFormed.{IsMoney, IsCount, IsOrderRow}
+use Rattle.tables.specs.declared.limits.TheConstants.{MIN_STOCK, MAX_STOCK}
+use Rattle.tables.specs.declared.keys.DistrictKey.{DistrictKey}
+use Rattle.tables.specs.declared.keys.CustomerKey.{CustomerKey}
 use Rattle.tables.specs.declared.rows.Warehouse.{Warehouse}
 use Rattle.tables.specs.declared.rows.District.{District}
 use Rattle.tables.specs.declared.rows.Customer.{Customer}
 use Rattle.tables.specs.declared.rows.Order.{Order}
 use Rattle.tables.specs.declared.rows.OrderLine.{OrderLine}
+use Rattle.tables.specs.declared.rows.Stock.{Stock}
 use Rattle.rows.specs.declared.columns.WarehouseColumns.{WarehouseColumns}
 use Rattle.rows.specs.declared.columns.DistrictColumns.{DistrictColumns}
 use Rattle.rows.specs.declared.columns.CustomerColumns.{CustomerColumns}
+use Rattle.rows.specs.declared.index.Oldest.{Oldest}
+use Rattle.rows.specs.declared.index.Last.{Last}
 
 abbrev pub warehouse_columns : Warehouse → WarehouseColumns
 warehouse_columns r = record { year_to_date = r.year_to_date }
@@ -50,6 +57,33 @@ pub record AreCustomerColumns (c : CustomerColumns) : Type 0 where
 pub record IsOrderOfScale (s : Sizes) (r : Order) : Type 0 where
   pub row : IsOrderRow r
   pub customer : IsNumber s.customers r.customer
+
+-- a stock's columns within their ranges, but its counts up to `most`: lines of one New-Order that come before may have
+-- raised them over 1,000,000,000
+pub record IsStockUpTo (most : ℕ) (r : Stock) : Type 0 where
+  pub quantity : IsBetween MIN_STOCK MAX_STOCK r.quantity
+  pub year_to_date : r.year_to_date ≤ most
+  pub orders : r.orders ≤ most
+  pub remote_orders : r.remote_orders ≤ most
+
+-- the records of the indices: the number of an order or of the next one, and of an order or 0
+abbrev pub oldest_at : Database → DistrictKey → Option Oldest
+oldest_at t k = Some (record { order = oldest t k })
+
+abbrev pub oldest_words : Oldest → List ℕ
+oldest_words r = number_words r.order
+
+abbrev pub IsOldestOfScale : Sizes → Oldest → Type 0
+IsOldestOfScale s r = IsNumber (s.orders + 1) r.order
+
+abbrev pub last_at : Database → CustomerKey → Option Last
+last_at t k = Some (record { order = last t k })
+
+abbrev pub last_words : Last → List ℕ
+last_words r = number_words r.order
+
+abbrev pub IsLastOfScale : Sizes → Last → Type 0
+IsLastOfScale s r = r.order ≤ s.orders
 
 -- the words of the columns of an order and of a line, without what stands past them
 abbrev pub order_columns : Order → List ℕ

@@ -11,20 +11,21 @@ use money::{Cents, Payload};
 use tables::limits::MAX_COUNT;
 use tables::{Scale, money_to_word};
 
-/// W_YTD.
+/// W_YTD: within 10,000,000,000,000 cents of zero.
 #[derive(Clone, Copy, Debug, PartialEq, Eq)]
 pub struct WarehouseColumns {
     pub year_to_date: Cents,
 }
 
-/// D_YTD and D_NEXT_O_ID.
+/// D_YTD, within 10,000,000,000,000 cents of zero, and D_NEXT_O_ID, from 1 to the order cap and 1.
 #[derive(Clone, Copy, Debug, PartialEq, Eq)]
 pub struct DistrictColumns {
     pub year_to_date: Cents,
     pub next_order: u32,
 }
 
-/// C_BALANCE, C_YTD_PAYMENT, C_PAYMENT_CNT and C_DELIVERY_CNT.
+/// C_BALANCE and C_YTD_PAYMENT, within 10,000,000,000,000 cents of zero, C_PAYMENT_CNT and C_DELIVERY_CNT, from 0 to
+/// 1,000,000,000.
 #[derive(Clone, Copy, Debug, PartialEq, Eq)]
 pub struct CustomerColumns {
     pub balance: Cents,

@@ -1,9 +1,11 @@
-//! The rows that records hold, as types: the columns of each table that change, read from the words of its records and
-//! turned into words, exactly.
+//! The rows that records hold, as types, read from the words of their records and turned into words, exactly: the
+//! columns that change of WAREHOUSE, DISTRICT and CUSTOMER, whole rows of ORDER, ORDER-LINE and STOCK, and the numbers
+//! that OLDEST and LAST hold.
 #![tactic(auto)]
 
 pub mod column;
 mod columns;
+mod index;
 mod order;
 mod order_line;
 mod reading;
@@ -11,5 +13,6 @@ mod row;
 mod stock;
 
 pub use columns::{CustomerColumns, DistrictColumns, WarehouseColumns};
-pub use reading::count_raised;
+pub use index::{Last, Oldest};
 pub use row::{Keyed, Present, Row};
+pub use stock::stock_left;

@@ -1,6 +1,6 @@
 //! One column, read from its word.
 
-ghost use Rattle.std.specs.Prelude.{◌≡◌, ◌+◌, ◌≤◌, ⊤, cond, Some, IsSome};
+ghost use Rattle.std.specs.Prelude.{⊤, cond};
 ghost use Rattle.std.specs.Option.{ForSome, unwrap_or};
 ghost use Rattle.tables.specs.Rows.{money_word};
 ghost use Rattle.tables.specs.Sizes.{IsBetween, IsNumber};
@@ -8,7 +8,6 @@ ghost use Rattle.tables.specs.WellFormed.{IsMoney};
 ghost use Rattle.rows.specs.Reading.{IsReading};
 
 use money::{Cents, MAX_MONEY};
-use tables::limits::{MAX_COUNT, MAX_COUNT_STEP};
 use tables::money_from_word;
 
 /// A number from `low` to `high`.
@@ -52,18 +51,4 @@ pub(crate) fn money(word: u64) -> Option<Cents>
     } else {
         None
     }
-}
-
-/// A count column raised, by what one commit may raise it by at most: 0 to 150. None exactly where it is more than
-/// 1,000,000,150: a count of well-formed tables is at most 1,000,000,000, and what the same commit has raised before
-/// may come to it.
-pub fn count_raised(word: u64, by: u32) -> Option<u64>
-    requires { by ≤ MAX_COUNT_STEP }
-    ensures raised { word ≤ MAX_COUNT + MAX_COUNT_STEP → result ≡ Some (word + by) }
-    ensures none { IsSome result → word ≤ MAX_COUNT + MAX_COUNT_STEP }
-{
-    if word > u64::from(MAX_COUNT + MAX_COUNT_STEP) {
-        return None;
-    }
-    Some(word + u64::from(by))
 }

@@ -14,13 +14,16 @@ ghost use Rattle.rows.specs.Reading.{IsReading};
 ghost use Rattle.rows.specs.Columns.{warehouse_columns, warehouse_columns_words, AreWarehouseColumns};
 ghost use Rattle.rows.specs.Columns.{district_columns, district_columns_words, AreDistrictColumns};
 ghost use Rattle.rows.specs.Columns.{customer_columns, customer_columns_words, AreCustomerColumns};
-ghost use Rattle.rows.specs.Columns.{IsOrderOfScale};
+ghost use Rattle.rows.specs.Columns.{IsOrderOfScale, oldest_at, oldest_words, IsOldestOfScale};
+ghost use Rattle.rows.specs.Columns.{last_at, last_words, IsLastOfScale};
 ghost use Rattle.rows.specs.Laws.{warehouse_held, district_held, customer_held};
 ghost use Rattle.rows.specs.Laws.{warehouse_within, district_within, customer_within, order_within};
-ghost use Rattle.rows.specs.Laws.{line_within, stock_within};
+ghost use Rattle.rows.specs.Laws.{line_within, stock_within, oldest_within, last_within};
 ghost use Rattle.rows.specs.Laws.{warehouse_there, district_there, customer_there, stock_there};
+ghost use Rattle.rows.specs.Laws.{oldest_there, last_there};
 
 use crate::columns::{CustomerColumns, DistrictColumns, WarehouseColumns};
+use crate::index::{Last, Oldest};
 use crate::order::order_of_words;
 use crate::order_line::line_of_words;
 use crate::stock::stock_of_words;
@@ -31,11 +34,14 @@ use tables::{
 };
 
 /// The rows of a table, as its records hold them, each by its key.
+///
+/// Its laws: a record holds the words of its key's row, or nothing where there is none; and rows of well-formed tables
+/// are within their ranges.
 pub trait Keyed {
     type Key: Copy;
 
     /// The record of a key.
-    ghost key_of: { Self.Key → AnyKey };
+    ghost record_of: { Self.Key → AnyKey };
 
     /// The words of a row.
     ghost words_of: { Self → List ℕ };
@@ -48,35 +54,35 @@ pub trait Keyed {
 
     /// The record of a key.
     fn key(key: Self::Key) -> RecordKey
-        ensures { result ≡ key_of key };
+        ensures { result ≡ record_of key };
 
-    ghost held: { (t : Database) (k : Self.Key) → row_at t (key_of k) ≡ option_map words_of (at t k) };
+    ghost record_holds_row: { (t : Database) (k : Self.Key) → row_at t (record_of k) ≡ option_map words_of (at t k) };
 
     ghost within: { (t : Database) (k : Self.Key) (r : Self) → IsWellFormed t
-        → at t k ≡ Some r → are t.scale r };
+        → IsRecordKey t.scale (record_of k) → at t k ≡ Some r → are t.scale r };
 }
 
 /// Rows that a record of seven words holds.
 pub trait Row: Keyed + Copy {
-    /// The row of these words. None exactly where they are no row's of this scale.
+    /// The row of these words. None exactly where they are no row's of this scale. Tests each column.
     fn read(scale: &Scale, words: &Payload) -> Option<Self>
         ensures { IsReading (Self.are scale.now) Self.words_of words.now result };
 
-    /// Its words.
+    /// Its words, of which the last are 0.
     fn words(&self) -> Payload
         ensures { result ≡ Self.words_of self.now };
 }
 
 /// Rows that well-formed tables have at each key of the scale.
 pub trait Present: Row {
-    ghost there: { (t : Database) (k : Self.Key) → IsWellFormed t → IsRecordKey t.scale (Self.key_of k)
+    ghost there: { (t : Database) (k : Self.Key) → IsWellFormed t → IsRecordKey t.scale (Self.record_of k)
         → IsSome (Self.at t k) };
 }
 
 impl Keyed for WarehouseColumns {
     type Key = u32;
 
-    ghost key_of = { λ k. any_key.Warehouse k };
+    ghost record_of = { λ k. any_key.Warehouse k };
 
     ghost words_of = { warehouse_columns_words };
 
@@ -84,7 +90,7 @@ impl Keyed for WarehouseColumns {
 
     ghost at = { λ t k. option_map warehouse_columns (get t.warehouses k) };
 
-    ghost held = { warehouse_held };
+    ghost record_holds_row = { warehouse_held };
 
     ghost within = { warehouse_within };
 
@@ -110,7 +116,7 @@ impl Present for WarehouseColumns {
 impl Keyed for DistrictColumns {
     type Key = DistrictKey;
 
-    ghost key_of = { λ k. any_key.District k };
+    ghost record_of = { λ k. any_key.District k };
 
     ghost words_of = { district_columns_words };
 
@@ -118,7 +124,7 @@ impl Keyed for DistrictColumns {
 
     ghost at = { λ t k. option_map district_columns (get t.districts k) };
 
-    ghost held = { district_held };
+    ghost record_holds_row = { district_held };
 
     ghost within = { district_within };
 
@@ -144,7 +150,7 @@ impl Present for DistrictColumns {
 impl Keyed for CustomerColumns {
     type Key = CustomerKey;
 
-    ghost key_of = { λ k. any_key.Customer k };
+    ghost record_of = { λ k. any_key.Customer k };
 
     ghost words_of = { customer_columns_words };
 
@@ -152,7 +158,7 @@ impl Keyed for CustomerColumns {
 
     ghost at = { λ t k. option_map customer_columns (get t.customers k) };
 
-    ghost held = { customer_held };
+    ghost record_holds_row = { customer_held };
 
     ghost within = { customer_within };
 
@@ -180,7 +186,7 @@ impl Keyed for Order {
 
     ghost use Rattle.std.specs.Prelude.{refl};
 
-    ghost key_of = { λ k. any_key.Order k };
+    ghost record_of = { λ k. any_key.Order k };
 
     ghost words_of = { order_words };
 
@@ -188,7 +194,7 @@ impl Keyed for Order {
 
     ghost at = { λ t k. get t.orders k };
 
-    ghost held = { λ t k. refl };
+    ghost record_holds_row = { λ t k. refl };
 
     ghost within = { order_within };
 
@@ -212,7 +218,7 @@ impl Keyed for OrderLine {
 
     ghost use Rattle.std.specs.Prelude.{refl};
 
-    ghost key_of = { λ k. any_key.OrderLine k };
+    ghost record_of = { λ k. any_key.OrderLine k };
 
     ghost words_of = { line_words };
 
@@ -220,7 +226,7 @@ impl Keyed for OrderLine {
 
     ghost at = { λ t k. get t.lines k };
 
-    ghost held = { λ t k. refl };
+    ghost record_holds_row = { λ t k. refl };
 
     ghost within = { line_within };
 
@@ -244,7 +250,7 @@ impl Keyed for Stock {
 
     ghost use Rattle.std.specs.Prelude.{refl};
 
-    ghost key_of = { λ k. any_key.Stock k };
+    ghost record_of = { λ k. any_key.Stock k };
 
     ghost words_of = { stock_words };
 
@@ -252,7 +258,7 @@ impl Keyed for Stock {
 
     ghost at = { λ t k. get t.stock k };
 
-    ghost held = { λ t k. refl };
+    ghost record_holds_row = { λ t k. refl };
 
     ghost within = { stock_within };
 
@@ -273,4 +279,76 @@ impl Row for Stock {
 
 impl Present for Stock {
     ghost there = { stock_there };
+}
+
+impl Keyed for Oldest {
+    type Key = DistrictKey;
+
+    ghost use Rattle.std.specs.Prelude.{refl};
+
+    ghost record_of = { λ k. any_key.Oldest k };
+
+    ghost words_of = { oldest_words };
+
+    ghost are = { IsOldestOfScale };
+
+    ghost at = { oldest_at };
+
+    ghost record_holds_row = { λ t k. refl };
+
+    ghost within = { oldest_within };
+
+    fn key(key: DistrictKey) -> RecordKey {
+        RecordKey::Oldest(key)
+    }
+}
+
+impl Row for Oldest {
+    fn read(scale: &Scale, words: &Payload) -> Option<Oldest> {
+        Oldest::of_words(scale, words)
+    }
+
+    fn words(&self) -> Payload {
+        self.to_words()
+    }
+}
+
+impl Present for Oldest {
+    ghost there = { oldest_there };
+}
+
+impl Keyed for Last {
+    type Key = CustomerKey;
+
+    ghost use Rattle.std.specs.Prelude.{refl};
+
+    ghost record_of = { λ k. any_key.Last k };
+
+    ghost words_of = { last_words };
+
+    ghost are = { IsLastOfScale };
+
+    ghost at = { last_at };
+
+    ghost record_holds_row = { λ t k. refl };
+
+    ghost within = { last_within };
+
+    fn key(key: CustomerKey) -> RecordKey {
+        RecordKey::Last(key)
+    }
+}
+
+impl Row for Last {
+    fn read(scale: &Scale, words: &Payload) -> Option<Last> {
+        Last::of_words(scale, words)
+    }
+
+    fn words(&self) -> Payload {
+        self.to_words()
+    }
+}
+
+impl Present for Last {
+    ghost there = { last_there };
 }

@@ -6,5 +6,5 @@ use Rattle.readset.proofs.row_steps.read_present.Goals as goal
 pub returns-in-None-clause-row : goal.returns-in-None-clause-row
 returns-in-None-clause-row g c = λ t h.
     let there = g.met.T.Present.there t c.args.key h.well_formed
-    (subst (λ (q : Sizes). IsRecordKey q (g.T.Keyed.key_of c.args.key)) (sym h.of_population.scale) c.requires) in
+    (subst (λ (q : Sizes). IsRecordKey q (g.T.Keyed.record_of c.args.key)) (sym h.of_population.scale) c.requires) in
     true≢false (sym (subst (λ o. IsSome o) (c.in_ok-row.ensures.row t h ∙ c.in-None.is) there))

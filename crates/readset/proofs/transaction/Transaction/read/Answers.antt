@@ -1,8 +1,11 @@
-use Rattle.std.proofs.Common.{◌∙◌, ap, subst, length, IsSome}
+use Rattle.std.proofs.Common.{◌≡◌, ◌∙◌, ap, sym, subst, length, IsSome, Some, Ok, Result, Option, List, ℕ}
 use Rattle.tables.specs.Sizes.{Sizes}
 use Rattle.tables.specs.Database.{Database}
 use Rattle.tables.specs.Records.{number_of_key}
-use Rattle.readset.specs.Reads.{held}
+use Rattle.money.specs.declared.refusal.Refusal.{Refusal}
+use Rattle.cells.specs.declared.cells.Version.{Version}
+use Rattle.readset.specs.Reads.{held, value_of}
+use Rattle.readset.specs.Transaction.{TransactionView}
 use Rattle.readset.proofs.UnderWay.{loaded_under_way, row_told, some_is}
 use Rattle.readset.proofs.transaction.Transaction.read.Goals as goal
 
@@ -30,3 +33,24 @@ returns-clause-holds g c =
     let at = c.number_of_key-number.ensures.value
     ∙ ap (λ (q : Sizes). number_of_key q c.args.key) (ap (λ (t : Database). t.scale) (c.tables.ensures ∙ c.self.invariant.0)) in
     subst (λ n. IsSome (held c.get.new.self n)) at (some_is _ c.in_ok-version.version c.in_ok-version.ensures.holds)
+
+pub returns-in_err-version-clause-again : goal.returns-in_err-version-clause-again
+returns-in_err-version-clause-again g c = λ v is.
+    let at = c.number_of_key-number.ensures.value
+    ∙ ap (λ (q : Sizes). number_of_key q c.args.key) (ap (λ (t : Database). t.scale) (c.tables.ensures ∙ c.self.invariant.0)) in
+    let before : held c.self.inside.reads c.number_of_key-number.result ≡ Some v =
+    ap (held c.self.inside.reads) at ∙ ap (λ (x : TransactionView). held x.reads (number_of_key g.K.Start.tables.scale c.args.key)) c.self.view_is ∙ is in
+    let got = (c.get.ensures.held v before).0 in
+    absurd (let e = sym c.in_err-version.was ∙ got in cc)
+
+pub returns-clause-again : goal.returns-clause-again
+returns-clause-again g c = λ v is.
+    let at = c.number_of_key-number.ensures.value
+    ∙ ap (λ (q : Sizes). number_of_key q c.args.key) (ap (λ (t : Database). t.scale) (c.tables.ensures ∙ c.self.invariant.0)) in
+    let before : held c.self.inside.reads c.number_of_key-number.result ≡ Some v =
+    ap (held c.self.inside.reads) at ∙ ap (λ (x : TransactionView). held x.reads (number_of_key g.K.Start.tables.scale c.args.key)) c.self.view_is ∙ is in
+    let same = c.get.ensures.held v before in
+    let version : c.in_ok-version.version ≡ v = let e = sym c.in_ok-version.was ∙ same.0 in cc in (
+      ap Ok (c.value_of.ensures ∙ ap value_of version),
+      (λ i. record { reads = same.1 i; writes = c.self.inside.writes }) ∙ c.self.view_is,
+    )
