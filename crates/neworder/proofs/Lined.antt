@@ -62,7 +62,7 @@ module _ (t : Database) (x : NewOrderInput) where
 
     -- both, where a stock stands
     pub lined : (r : Stock) → get (after_lines t x ls).stock (stock_key l) ≡ Some r
-        → Says (row_at (after_lines t x (ls ++ l ∷ []))) (lining (new_key t x) (length ls + 1) l (line_row t l) (stock_words (drawn x.warehouse l r)))
+        → Says (row_at (after_lines t x (ls ++ l ∷ []))) (lining (new_key t x) (length ls + 1) l (line_row t l) (drawn x.warehouse l r))
     lined r found = (lined_line, (lined_stock ∙ ap (option_map (λ s. stock_words (drawn x.warehouse l s))) found, tt))
 
     -- and each other record
@@ -81,6 +81,6 @@ module _ (t : Database) (x : NewOrderInput) where
     others (key.Oldest k) a b = refl
     others (key.Last k) a b = refl
 
-    pub lined_others : (r : Stock) (j : RecordKey) → Apart j (lining (new_key t x) (length ls + 1) l (line_row t l) (stock_words (drawn x.warehouse l r)))
+    pub lined_others : (r : Stock) (j : RecordKey) → Apart j (lining (new_key t x) (length ls + 1) l (line_row t l) (drawn x.warehouse l r))
         → row_at (after_lines t x (ls ++ l ∷ [])) j ≡ row_at (after_lines t x ls) j
     lined_others r j apart = others j apart.0 apart.1.0

@@ -25,7 +25,8 @@ use Rattle.tables_laws.proofs.NewKey.{no_order, no_new_order}
 use Rattle.tables_laws.proofs.OrderNumbers.{with_greater, with_lesser, greatest-insert, least-insert}
 use Rattle.tables_laws.proofs.Updates.{kept-update_where}
 use Rattle.readset.specs.Changes.{Says, Apart}
-use Rattle.neworder.specs.Steps.{after_lines, opening_changes}
+use Rattle.rows.specs.Columns.{district_columns}
+use Rattle.neworder.specs.Steps.{after_lines, numbered_columns, opening_changes}
 use Rattle.tables_laws.proofs.Touched.{both, self, district_named, inserted, not_inserted, untouched, touched}
 
 -- the least of numbers of which none is above n stays so with n
@@ -104,7 +105,7 @@ module _ (t : Database) (x : NewOrderInput) where
 
     -- the records that it changes
     pub opened : (r : District) → get t.districts (home x) ≡ Some r
-        → Says (row_at (after_lines t x [])) (opening_changes x (new_key t x) (district_words (numbered_district r)))
+        → Says (row_at (after_lines t x [])) (opening_changes x (new_key t x) (numbered_columns (district_columns r)))
     opened r found = (
       touched exact_district district_words t.districts (is_district x.warehouse x.district) numbered_district (home x)
           (λ i. self x.warehouse i && self x.district i)
@@ -132,6 +133,6 @@ module _ (t : Database) (x : NewOrderInput) where
     others (key.Oldest k) a b c d = ap (λ n. Some (number_words n)) (oldest_kept k)
     others (key.Last k) a b c d = ap (λ n. Some (number_words n)) (last_other k (λ e. d (ap key.Last e)))
 
-    pub opened_others : (r : District) (j : RecordKey) → Apart j (opening_changes x (new_key t x) (district_words (numbered_district r)))
+    pub opened_others : (r : District) (j : RecordKey) → Apart j (opening_changes x (new_key t x) (numbered_columns (district_columns r)))
         → row_at (after_lines t x []) j ≡ row_at t j
     opened_others r j apart = others j apart.0 apart.1.0 apart.1.1.0 apart.1.1.1.0

@@ -1,5 +1,6 @@
 -- How an order is refused: by its items, and by what was read.
-use Rattle.std.proofs.Common.{◌≡◌, ℕ, Option, Some, None, List, Result, Ok, Err, OnOk, IfErr, refl, sym, ap, ◌∙◌, subst}
+use Rattle.std.proofs.Common.{◌≡◌, ℕ, Option, Some, None, List, refl, sym, ap, ◌∙◌, subst, slice_index, arith}
+use Rattle.std.proofs.lemmas.Option.{same_Some}
 use Rattle.money.specs.declared.refusal.Refusal.{Refusal}
 use Rattle.money.specs.declared.refusal.Refusal.TheVariants.{OutOfMemory, Stale, OrdersFull}
 use Rattle.tables.specs.Sizes.{Sizes}
@@ -12,13 +13,15 @@ use Rattle.tables.specs.declared.new_order.NewOrderInput.{NewOrderInput}
 use Rattle.tables.specs.declared.input.Input.TheVariants as input
 use Rattle.tables.specs.declared.records.RecordKey.TheVariants as key
 use Rattle.cells.specs.Records.{ReaderView}
-use Rattle.readset.specs.Reads.{ReadSetView, Keeps}
+use Rattle.rows.specs.Columns.{AreDistrictColumns, district_columns_words}
+use Rattle.rows.specs.declared.columns.DistrictColumns.{DistrictColumns}
+use Rattle.readset.specs.Reads.{ReadSetView, Keeps, IsReadAs}
 use Rattle.readset.specs.Commit.{IsCommitted}
 use Rattle.readset.specs.Explains.{NoCandidate}
-use Rattle.readset.specs.Refused.{NoneMissing, SaysAbove, IsAboveCap, IsRefusal}
-use Rattle.readset.specs.Transaction.{TransactionView, IsUnderWay, IsReadAs, IsStepRefusal}
-use Rattle.neworder.specs.Opening.{IsWithinCap, IsNumberTaken, IsOrderRefusal}
-use Rattle.neworder.specs.declared.opening.Taken.{Taken}
+use Rattle.readset.specs.Refused.{NoneMissing, IsAboveCap, IsRefusal}
+use Rattle.readset.specs.Transaction.{TransactionView, IsUnderWay, IsStepRefusal}
+use Rattle.readset.proofs.MoreReads.{read_once}
+use Rattle.neworder.specs.Opening.{IsWithinCap, IsOrderRefusal}
 use Rattle.neworder.proofs.Explained.{same_missing}
 
 -- a missing item is missing at all tables of the population
@@ -30,33 +33,29 @@ pub none_missing : (t0 : Database) (x : NewOrderInput) → first_missing t0 x.li
 none_missing t0 x none t o =
     subst (λ (m : Option ℕ). IsCommitted (order_unless m t x)) (sym (same_missing t0 t x.lines o.items ∙ none)) tt
 
--- a version that was read still was, after more reads
+-- a district that was read still was, after more reads
 pub still_within : (s : Sizes) (x : NewOrderInput) (reads more : ReadSetView) → Keeps reads more → IsWithinCap s x reads → IsWithinCap s x more
-still_within s x reads more keeps within = let was = within.1 in (within.0, (was.0, keeps _ was.0 was.1, was.2), within.2)
+still_within s x reads more keeps within =
+    let was = within.2 in
+    (within.0, within.1, (was.0, keeps _ was.0 was.1, was.2))
 
 -- a number that was read as within the cap isn't above it
 pub not_above : (s : Sizes) (x : NewOrderInput) (reads : ReadSetView) → IsWithinCap s x reads → ¬ IsAboveCap s (input.NewOrder x) reads
 not_above s x reads within above =
-    let was = within.1 in
-    let both : Some above.0 ≡ Some was.0 = sym above.1 ∙ was.1 in
-    let same : above.0 ≡ was.0 = cc in
-    let says : SaysAbove s.orders was.0 = subst (SaysAbove s.orders) same above.2 in
-    within.2 (says.0, was.2 ∙ says.1, says.2)
+    let words : district_columns_words within.0 ≡ district_columns_words above.0 = same_Some _ _ (read_once reads _ _ _ within.2 above.3) in
+    let same : within.0.next_order ≡ above.0.next_order = ap (λ (ws : List ℕ). slice_index ws 1) words in
+    let low = within.1 in
+    let high = above.2 in
+    omega arith
 
 -- why no number was taken
-pub number_refused : (t0 : Database) (x : NewOrderInput) (under_way : TransactionView) (words : Option (List ℕ)) (result : Result Taken Refusal)
-    → IsReadAs under_way.reads (number_of_key t0.scale (key.District (home x))) words → IsNumberTaken t0.scale.orders words result
-    → (result ≡ Err Stale → NoCandidate t0 under_way.reads) → IfErr result (IsOrderRefusal t0 x under_way)
-number_refused t0 x under_way words (Ok taken) read why none = tt
-number_refused t0 x under_way words (Err OutOfMemory) read why none = tt
-number_refused t0 x under_way words (Err OrdersFull) read why none = (read.0, read.1, (why.0, sym read.2 ∙ why.1, why.2))
-number_refused t0 x under_way words (Err Stale) read why none = (not_above t0.scale x under_way.reads (words, read, why), none refl)
-number_refused t0 x under_way words (Err _) read why none = absurd why
-
-pub number_within : (s : Sizes) (x : NewOrderInput) (reads : ReadSetView) (words : Option (List ℕ)) (result : Result Taken Refusal)
-    → IsReadAs reads (number_of_key s (key.District (home x))) words → IsNumberTaken s.orders words result → OnOk result (IsWithinCap s x reads)
-number_within s x reads words (Ok taken) read why = (words, read, why.1)
-number_within s x reads words (Err refusal) read why = tt
+pub none_taken : (t0 : Database) (x : NewOrderInput) (under_way : TransactionView) (refusal : Refusal) → IsStepRefusal t0 under_way refusal
+    → (refusal ≡ Stale → (c : DistrictColumns) → AreDistrictColumns t0.scale c
+    → ¬ IsReadAs under_way.reads (number_of_key t0.scale (key.District (home x))) (Some (district_columns_words c)))
+    → IsOrderRefusal t0 x under_way refusal
+none_taken t0 x under_way OutOfMemory why none = tt
+none_taken t0 x under_way Stale why none = ((λ above. none refl above.0 above.1 above.3), why)
+none_taken t0 x under_way _ why none = absurd why
 
 -- a step once the number was taken
 pub step_refused : (t0 : Database) (x : NewOrderInput) (under_way : TransactionView) (refusal : Refusal) → IsWithinCap t0.scale x under_way.reads

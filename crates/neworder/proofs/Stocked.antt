@@ -17,7 +17,7 @@ use Rattle.tables.proofs.Orders.{exact_stock}
 use Rattle.tables_laws.proofs.Rows.{there, each_updated}
 use Rattle.tables_laws.proofs.Draws.{left_in_range, draws_rows}
 use Rattle.neworder.specs.Steps.{after_lines}
-use Rattle.neworder.specs.Drawn.{IsStockUpTo}
+use Rattle.rows.specs.Columns.{IsStockUpTo}
 
 -- counts that are at most a are at most b
 up_to : (a b : ℕ) (r : Stock) → a ≤ b → IsStockUpTo a r → IsStockUpTo b r

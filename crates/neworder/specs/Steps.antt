@@ -1,19 +1,22 @@
 -- The steps of a New-Order (TPC-C 2.4.2.2): the tables when it has come so far, and the records that each step changes.
-use Rattle.std.specs.Prelude.{◌≡◌, ℕ, Some, List, [], ◌∷◌, ◌++◌, All, Result, Ok, Err}
+use Rattle.std.specs.Prelude.{◌≡◌, ℕ, ◌+◌, Some, List, [], ◌∷◌, ◌++◌, All, Result, Ok, Err}
 use Rattle.std.specs.FinMap.{insert}
 use Rattle.tables.specs.Keys.{is_district}
 use Rattle.tables.specs.Maps.{update_where}
 use Rattle.tables.specs.Database.{Database}
 use Rattle.tables.specs.NewOrder.{IsRequestedLine, home, buyer, new_key, numbered_district, order_row, line_key}
 use Rattle.tables.specs.NewOrder.{with_lines, stock_key, after_draws, supplied_lines}
-use Rattle.tables.specs.Rows.{new_order_words, order_words, line_words, number_words, row_at}
+use Rattle.tables.specs.Rows.{new_order_words, order_words, line_words, stock_words, number_words, row_at}
 use Rattle.tables.specs.declared.keys.OrderKey.{OrderKey}
 use Rattle.tables.specs.declared.rows.OrderLine.{OrderLine}
+use Rattle.tables.specs.declared.rows.Stock.{Stock}
 use Rattle.tables.specs.declared.new_order.RequestedLine.{RequestedLine}
 use Rattle.tables.specs.declared.new_order.NewOrderInput.{NewOrderInput}
 use Rattle.tables.specs.declared.new_order.SuppliedLine.{SuppliedLine}
 use Rattle.tables.specs.declared.records.RecordKey.TheVariants as key
 use Rattle.money.specs.declared.refusal.Refusal.{Refusal}
+use Rattle.rows.specs.Columns.{district_columns_words}
+use Rattle.rows.specs.declared.columns.DistrictColumns.{DistrictColumns}
 use Rattle.readset.specs.Changes.{Changes, Holds}
 use Rattle.readset.specs.Transaction.{TransactionView, AtAll, IsStepRefusal}
 
@@ -27,17 +30,21 @@ after_lines t x ls = record t {
   stock = after_draws x.warehouse ls t.stock;
 }
 
--- what opening an order of this key changes: its district's words, its own two rows, and its buyer's last order
-abbrev pub opening_changes : NewOrderInput → OrderKey → List ℕ → Changes
-opening_changes x k district = (key.District (home x), Some district)
+-- a district's columns, with D_NEXT_O_ID raised by 1
+abbrev pub numbered_columns : DistrictColumns → DistrictColumns
+numbered_columns c = record c { next_order = c.next_order + 1 }
+
+-- what opening an order of this key changes: its district's columns, its own two rows, and its buyer's last order
+abbrev pub opening_changes : NewOrderInput → OrderKey → DistrictColumns → Changes
+opening_changes x k district = (key.District (home x), Some (district_columns_words district))
     ∷ (key.NewOrder k, Some (new_order_words (record {})))
     ∷ (key.Order k, Some (order_words (order_row x)))
     ∷ (key.Last (buyer x), Some (number_words k.order)) ∷ []
 
--- what line n of an order changes: its own row, and the words of the stock that it draws from
-abbrev pub lining : OrderKey → ℕ → RequestedLine → OrderLine → List ℕ → Changes
+-- what line n of an order changes: its own row, and the stock that it draws from
+abbrev pub lining : OrderKey → ℕ → RequestedLine → OrderLine → Stock → Changes
 lining k n l row stock = (key.OrderLine (line_key k n), Some (line_words row))
-    ∷ (key.Stock (stock_key l), Some stock) ∷ []
+    ∷ (key.Stock (stock_key l), Some (stock_words stock)) ∷ []
 
 -- these lines of an order are taken: at all tables at which the transaction may have read, the order has this key, the
 -- writes put in make the rows of the tables when it has come so far, and these are the lines of its reply

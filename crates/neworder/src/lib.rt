@@ -3,10 +3,10 @@
 #![tactic(auto)]
 
 mod lines;
+mod new_rows;
 mod opening;
 mod prices;
 mod reply;
-mod row_words;
 mod stock;
 mod transaction;
 

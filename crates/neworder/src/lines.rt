@@ -1,20 +1,27 @@
 //! The lines of a New-Order on record cells (TPC-C 2.4.2.2).
-ghost use Rattle.std.specs.Prelude.{◌≡◌, ◌+◌, ◌*◌, ◌≤◌, List, [], ◌∷◌, ◌++◌, length, map, All, IfOk, IfErr};
+ghost use Rattle.std.specs.Prelude.{◌≡◌, ◌+◌, ◌*◌, ◌≤◌, List, [], ◌∷◌, ◌++◌, length, map, All, Some, IfOk, IfErr};
 ghost use Rattle.tables.specs.Sizes.{IsNumber};
-ghost use Rattle.tables.specs.Keys.{IsOrderKey, IsItemKey};
+ghost use Rattle.tables.specs.Keys.{IsOrderKey, IsItemKey, IsStockKey};
+ghost use Rattle.tables.specs.Records.{number_of_key};
+ghost use Rattle.tables.specs.Rows.{stock_words};
 ghost use Rattle.tables.specs.NewOrder.{IsRequestedLine, line_amount};
 ghost use Rattle.tables.specs.declared.new_order.SuppliedLine.{SuppliedLine};
-ghost use Rattle.tables.specs.declared.limits.TheConstants.{MAX_ORDER_LINES};
+ghost use Rattle.tables.specs.declared.limits.TheConstants.{MAX_COUNT, MAX_COUNT_STEP, MAX_ORDER_LINES};
+ghost use Rattle.tables.specs.declared.records.RecordKey.TheVariants as key_variants;
+ghost use Rattle.rows.specs.Reading.{IsReading};
+ghost use Rattle.rows.specs.Columns.{IsStockUpTo};
+ghost use Rattle.readset.specs.Writes.{left_at};
 ghost use Rattle.readset.specs.Transaction.{GoesOn, IsStepRefusal};
 ghost use Rattle.neworder.specs.Steps.{AreTaken, IsLineTaken};
 
-use crate::row_words::line_words;
+use crate::new_rows::line_row;
 use crate::stock::drawn;
 use money::{Cents, Refusal};
-use readset::{Start, Transaction};
+use readset::{Start, Transaction, put_row};
+use rows::stock_left;
 use std::alloc::Global;
 use std::sync::Wait;
-use tables::{LineKey, NewOrderInput, OrderKey, RecordKey, RequestedLine, StockKey, SuppliedLine};
+use tables::{NewOrderInput, OrderKey, RecordKey, RequestedLine, Stock, StockKey, SuppliedLine};
 
 /// All lines of an order, in their order, with their OL_AMOUNTs: an item that comes twice is drawn from what its first
 /// line left. Gives the lines of the reply. Costs two loads and a few look-ups a line, and memory for the reply.
@@ -73,27 +80,34 @@ fn take_line<R: Wait, K: Start>(
         → IsLineTaken K.tables order.now key (ls ++ line.now ∷ []) transaction.new told result }
     ensures goes_on { GoesOn 2 2 transaction.old transaction.new }
 {
-    let row = RecordKey::OrderLine(LineKey {
-        warehouse: key.warehouse,
-        district: key.district,
-        order: key.order,
-        line: number,
-    });
-    let stock = RecordKey::Stock(StockKey {
+    let own = key.line_key(number);
+    let supply = StockKey {
         warehouse: line.supply_warehouse,
         item: line.item,
-    });
-    transaction.read(rt, row)?;
-    transaction.read(rt, stock)?;
-    let Some(words) = drawn(transaction.left(stock), key.warehouse, line) else {
+    };
+    transaction.read(rt, RecordKey::OrderLine(own))?;
+    transaction.read(rt, RecordKey::Stock(supply))?;
+    let Some(stock) = stock_at(transaction, supply) else {
         return Err(Refusal::Stale);
     };
-    transaction.put(row, Some(line_words(line, amount)))?;
-    transaction.put(stock, Some(words))?;
+    let stock = drawn(&stock, key.warehouse, line);
+    put_row(transaction, own, &line_row(line, amount))?;
+    put_row(transaction, supply, &stock)?;
     Ok(SuppliedLine {
         item: line.item,
         supply_warehouse: line.supply_warehouse,
-        stock: words[0] as u32,
+        stock: stock.quantity,
         amount,
     })
+}
+
+/// The stock that the transaction leaves at a key, which lines of the same order may have drawn from. None exactly where
+/// it leaves no such stock.
+fn stock_at<K: Start>(transaction: &Transaction<'_, K>, key: StockKey) -> Option<Stock>
+    requires { IsStockKey K.tables.scale key }
+    ensures { IsReading (IsStockUpTo (MAX_COUNT + MAX_COUNT_STEP)) (λ r. Some (stock_words r))
+        (left_at transaction.now.writes transaction.now.reads
+        (number_of_key K.tables.scale (key_variants.Stock key))) result }
+{
+    stock_left(&transaction.left(RecordKey::Stock(key))?)
 }

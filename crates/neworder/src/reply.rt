@@ -7,9 +7,7 @@ ghost use Rattle.neworder.specs.Replied.{order_reply_of};
 
 use money::{Cents, Rate, total};
 use population::Population;
-use tables::{
-    CustomerKey, DistrictKey, Lines, NewOrderInput, NewOrderReply, OrderKey, SuppliedLine,
-};
+use tables::{Lines, NewOrderInput, NewOrderReply, OrderKey, SuppliedLine};
 
 /// The reply for an order of this key, with these lines, whose amounts have this sum. Its total takes the discount and
 /// the taxes, which never change, from the population. Costs three look-ups there.
@@ -42,12 +40,7 @@ pub(crate) fn reply_to(
 fn discount_of(population: &Population, order: &NewOrderInput) -> Rate
     ensures { result ≡ discount (initial population.now) (buyer order.now) }
 {
-    let buyer = CustomerKey {
-        warehouse: order.warehouse,
-        district: order.district,
-        customer: order.customer,
-    };
-    match population.tables().customers.get(&buyer) {
+    match population.tables().customers.get(&order.buyer()) {
         Some(row) => row.discount,
         None => no_rate(),
     }
@@ -67,11 +60,7 @@ fn warehouse_tax_of(population: &Population, warehouse: u32) -> Rate
 fn district_tax_of(population: &Population, order: &NewOrderInput) -> Rate
     ensures { result ≡ district_tax (initial population.now) (home order.now) }
 {
-    let home = DistrictKey {
-        warehouse: order.warehouse,
-        district: order.district,
-    };
-    match population.tables().districts.get(&home) {
+    match population.tables().districts.get(&order.home()) {
         Some(row) => row.tax,
         None => no_rate(),
     }

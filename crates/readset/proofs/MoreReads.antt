@@ -1,9 +1,11 @@
--- More reads: what is so at all tables that agree with some reads is so at all that agree with more.
-use Rattle.std.proofs.Common.{◌≡◌, ℕ, Some, None, Option, IsSome, is_some, true≢false, [], refl, sym, ap}
+-- More reads: what is so at all tables that agree with some reads is so at all that agree with more. A record is read
+-- once.
+use Rattle.std.proofs.Common.{◌≡◌, ℕ, Some, None, Option, IsSome, is_some, true≢false, List, [], refl, sym, ap, ◌∙◌}
+use Rattle.std.proofs.lemmas.Option.{same_Some}
 use Rattle.tables.specs.Database.{Database}
 use Rattle.cells.specs.Records.{ReaderView}
 use Rattle.cells.specs.declared.cells.Version.{Version}
-use Rattle.readset.specs.Reads.{ReadSetView, AreRead, Keeps, held}
+use Rattle.readset.specs.Reads.{ReadSetView, AreRead, Keeps, held, IsReadAs, value_of}
 use Rattle.readset.specs.Explains.{IsCandidate}
 
 none_some : (v : Version) → None ≡ Some v → ⊥
@@ -39,3 +41,9 @@ candidate_before t0 reads more t keeps h = record {
   numbered = λ k here read. h.numbered k here (still_read reads more _ keeps read);
   agrees = λ n v found. h.agrees n v (keeps n v found);
 }
+
+-- the version read of a record has one value
+pub read_once : (reads : ReadSetView) (n : ℕ) (a b : Option (List ℕ)) → IsReadAs reads n a → IsReadAs reads n b → a ≡ b
+read_once reads n a b first second =
+    let same : first.0 ≡ second.0 = same_Some _ _ (sym first.1 ∙ second.1) in
+    first.2 ∙ ap value_of same ∙ sym second.2

@@ -6,7 +6,8 @@ use Rattle.tables.specs.Records.{IsRecordKey, number_of_key}
 use Rattle.tables.specs.Rows.{row_at}
 use Rattle.tables.specs.declared.records.RecordKey.{RecordKey}
 use Rattle.readset.specs.Reads.{IsReadAs}
-use Rattle.readset.proofs.RowRead.{no_row, read_once}
+use Rattle.readset.proofs.MoreReads.{read_once}
+use Rattle.readset.proofs.RowRead.{no_row}
 use Rattle.readset.proofs.row_steps.read_row.Goals as goal
 
 pub returns-in_default-clause-others : goal.returns-in_default-clause-others
