@@ -1,10 +1,9 @@
 //! The districts of a Delivery, on record cells (TPC-C 2.7.4.2).
-ghost use Rattle.std.specs.Prelude.{◌≡◌, ◌-◌, ◌*◌, ◌<◌, ◌≤◌, ℕ, Some, None, IsSome, IfSome, IfOk, IfErr, OnOk};
+ghost use Rattle.std.specs.Prelude.{◌≡◌, ◌+◌, ◌-◌, ◌*◌, ◌^◌, ◌<◌, ◌≤◌, Some, None, IsSome, IfOk, IfErr, OnOk};
 ghost use Rattle.std.specs.Option.{ForSome};
 ghost use Rattle.tables.specs.Sizes.{IsNumber};
 ghost use Rattle.tables.specs.Keys.{IsDistrictKey};
 ghost use Rattle.tables.specs.Records.{number_of_key};
-ghost use Rattle.tables.specs.Rows.{number_words};
 ghost use Rattle.tables.specs.Delivery.{IsDelivery, waiting};
 ghost use Rattle.tables.specs.declared.limits.TheConstants.{MAX_DISTRICTS};
 ghost use Rattle.tables.specs.declared.records.RecordKey.TheVariants as key_variants;
@@ -14,13 +13,12 @@ ghost use Rattle.readset.specs.Transaction.{Finds, GoesOn, IsStepRefusal, ReadsM
 ghost use Rattle.delivery.specs.Steps.{AreDone, AreTold};
 
 use crate::order::deliver_order;
-use money::{Payload, Refusal};
+use money::Refusal;
 use readset::{Start, Transaction, read_present};
-use rows::DistrictColumns;
-use rows::column::NUMBER;
+use rows::{DistrictColumns, Oldest};
 use std::alloc::Global;
 use std::sync::Wait;
-use tables::{DeliveredOrder, DeliveryInput, DistrictKey, OrderKey, RecordKey};
+use tables::{DeliveredOrder, DeliveryInput, DistrictKey};
 
 /// Does all districts of the warehouse, from the first on, and gives the order taken in each. Costs what each costs,
 /// and memory for the orders.
@@ -70,22 +68,14 @@ fn deliver_district<R: Wait, K: Start>(
     }) }
     ensures goes_on { GoesOn 20 19 transaction.old transaction.new }
 {
-    let home = DistrictKey {
-        warehouse: delivery.warehouse,
-        district,
-    };
+    let home = delivery.district_key(district);
     let Some(number) = read_waiting(rt, transaction, home)? else {
         return Ok(DeliveredOrder {
             district,
             order: None,
         });
     };
-    let key = OrderKey {
-        warehouse: delivery.warehouse,
-        district,
-        order: number,
-    };
-    deliver_order(rt, transaction, delivery, key)?;
+    deliver_order(rt, transaction, delivery, home.order_key(number))?;
     Ok(DeliveredOrder {
         district,
         order: Some(number),
@@ -101,33 +91,22 @@ fn read_waiting<R: Wait, K: Start>(
     requires { IsDistrictKey K.tables.scale home }
     ensures waits { Finds K.tables transaction.new result
         (λ order t. (waiting t home ≡ order) × HasOrderConditions t home) }
-    ensures number { IfOk result (λ order. ForSome order (λ o. IsNumber K.tables.scale.orders o)) }
+    ensures number { IfOk result (λ order. ForSome order (λ o.
+        IsNumber K.tables.scale.orders o × (o + 1 < 2 ^ 32))) }
     ensures holds { OnOk result
         (IsSome (held transaction.new.reads (number_of_key K.tables.scale (key_variants.Oldest home)))) }
     ensures reads { ReadsMore 2 transaction.old transaction.new }
 {
-    let oldest = transaction.read(rt, RecordKey::Oldest(home))?;
+    let oldest: Oldest = read_present(rt, transaction, home)?;
     let district: DistrictColumns = read_present(rt, transaction, home)?;
-    match first_waiting(oldest, district.next_order, transaction.scale().orders()) {
-        Some(order) => Ok(order),
-        None => Err(Refusal::Stale),
-    }
+    Ok(first_waiting(oldest.order, district.next_order))
 }
 
-/// The order that waits longest, by what OLDEST holds and D_NEXT_O_ID: OLDEST where it is below that, and else none.
-/// None only where no well-formed tables with this order cap, and condition 2, have these.
-fn first_waiting(oldest: Option<Payload>, next: u32, cap: u32) -> Option<Option<u32>>
-    ensures waits { (o : ℕ) → oldest ≡ Some (number_words o) → o < next → IsNumber cap o
-        → result ≡ Some (Some o) }
-    ensures none { (o : ℕ) → oldest ≡ Some (number_words o) → next ≤ o → result ≡ Some None }
-    ensures number { IfSome result (λ w. ForSome w (λ o. IsNumber cap o)) }
+/// The order that waits longest, by OLDEST and D_NEXT_O_ID: OLDEST where it is below that, and else none.
+fn first_waiting(oldest: u32, next: u32) -> Option<u32>
+    ensures waits { oldest < next → result ≡ Some oldest }
+    ensures none { next ≤ oldest → result ≡ None }
+    ensures below { ForSome result (λ o. (o ≡ oldest) × (o < next)) }
 {
-    let oldest = oldest?[NUMBER];
-    if oldest >= u64::from(next) {
-        return Some(None);
-    }
-    if oldest == 0 || oldest > u64::from(cap) {
-        return None;
-    }
-    Some(Some(oldest as u32))
+    if oldest < next { Some(oldest) } else { None }
 }

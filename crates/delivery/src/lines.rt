@@ -9,7 +9,7 @@ ghost use Rattle.delivery.specs.Steps.{AreDated};
 use money::{Cents, Refusal};
 use readset::{Start, Transaction, put_row, read_row};
 use std::sync::Wait;
-use tables::{DeliveryInput, LineKey, OrderKey, OrderLine};
+use tables::{DeliveryInput, OrderKey, OrderLine};
 
 /// Sets OL_DELIVERY_D of an order's lines from the first to this one, and gives the sum of OL_AMOUNT. Costs a load and
 /// a few look-ups a line.
@@ -62,12 +62,7 @@ fn date_line<R: Wait, K: Start>(
     ensures refused { IfErr result (IsStepRefusal K.tables transaction.new) }
     ensures goes_on { GoesOn 1 1 transaction.old transaction.new }
 {
-    let key = LineKey {
-        warehouse: order.warehouse,
-        district: order.district,
-        order: order.order,
-        line: number,
-    };
+    let key = order.line_key(number);
     let line: Option<OrderLine> = read_row(rt, transaction, key)?;
     let Some(line) = line else {
         return Ok(Cents::new(0));

@@ -1,5 +1,5 @@
 //! The order that a Delivery takes in a district, on record cells (TPC-C 2.7.4.2).
-ghost use Rattle.std.specs.Prelude.{◌≡◌, ◌-◌, ◌≤◌, ◌≤ℤ◌, pos, IsSome, IfOk, IfErr, OnOk};
+ghost use Rattle.std.specs.Prelude.{◌≡◌, ◌+◌, ◌-◌, ◌^◌, ◌<◌, ◌≤◌, ◌≤ℤ◌, pos, IsSome, IfOk, IfErr, OnOk};
 ghost use Rattle.std.specs.FinMap.{get};
 ghost use Rattle.tables.specs.Sizes.{IsNumber};
 ghost use Rattle.tables.specs.Keys.{IsOrderKey, IsCustomerKey};
@@ -18,9 +18,9 @@ ghost use Rattle.delivery.specs.Ending.{Waits, IsCredited, buyer_of, credited_co
 use crate::lines::date_lines;
 use money::{Cents, Refusal};
 use readset::{Start, Transaction, put_row, read_present, read_row};
-use rows::CustomerColumns;
+use rows::{CustomerColumns, Oldest};
 use std::sync::Wait;
-use tables::{CustomerKey, DeliveryInput, DistrictKey, Order, OrderKey, RecordKey};
+use tables::{CustomerKey, DeliveryInput, Order, OrderKey, RecordKey};
 
 /// Takes the order of this key, which waits longest in its district: reads its two records, its lines and its
 /// customer's, and says what these and OLDEST are to hold. Costs at most eighteen loads and some forty look-ups.
@@ -36,6 +36,7 @@ pub(crate) fn deliver_order<R: Wait, K: Start>(
 ) -> Result<(), Refusal>
     requires input { IsDelivery K.tables.scale delivery.now }
     requires key { IsOrderKey K.tables.scale key }
+    requires next { key.order + 1 < 2 ^ 32 }
     requires home { key.warehouse ≡ delivery.now.warehouse }
     requires oldest { IsSome (held transaction.old.reads (number_of_key K.tables.scale
         (key_variants.Oldest (record { warehouse = key.warehouse; district = key.district })))) }
@@ -48,11 +49,7 @@ pub(crate) fn deliver_order<R: Wait, K: Start>(
 {
     let order = read_order(rt, transaction, key)?;
     let sum = date_lines(rt, transaction, delivery, key, order.line_count)?;
-    let buyer = CustomerKey {
-        warehouse: key.warehouse,
-        district: key.district,
-        customer: order.customer,
-    };
+    let buyer = key.district_key().customer_key(order.customer);
     let customer = credit_buyer(rt, transaction, buyer, sum)?;
     end_order(transaction, delivery, key, &order, &customer)
 }
@@ -125,6 +122,7 @@ fn end_order<K: Start>(
     customer: &CustomerColumns,
 ) -> Result<(), Refusal>
     requires key { IsOrderKey K.tables.scale key }
+    requires next { key.order + 1 < 2 ^ 32 }
     requires customer { IsNumber K.tables.scale.customers order.now.customer }
     requires holds_new_order { IsSome (held transaction.old.reads
         (number_of_key K.tables.scale (key_variants.NewOrder key))) }
@@ -139,22 +137,16 @@ fn end_order<K: Start>(
     ensures goes_on { GoesOn 0 4 transaction.old transaction.new }
     ensures only_memory { IfErr result (λ refusal. refusal ≡ OutOfMemory) }
 {
-    let home = DistrictKey {
-        warehouse: key.warehouse,
-        district: key.district,
-    };
-    let buyer = CustomerKey {
-        warehouse: key.warehouse,
-        district: key.district,
-        customer: order.customer,
-    };
+    let home = key.district_key();
     let carried = Order {
         carrier: Some(delivery.carrier),
         ..*order
     };
-    let next = u64::from(key.order) + 1;
+    let next = Oldest {
+        order: key.order + 1,
+    };
     transaction.put(RecordKey::NewOrder(key), None)?;
     put_row(transaction, key, &carried)?;
-    put_row(transaction, buyer, customer)?;
-    transaction.put(RecordKey::Oldest(home), Some([next, 0, 0, 0, 0, 0, 0]))
+    put_row(transaction, home.customer_key(order.customer), customer)?;
+    put_row(transaction, home, &next)
 }

@@ -1,7 +1,6 @@
 mod LinesByNumber
 mod ToldOrder
 mod StatusExplained
-mod RowsRead
 mod AnyRow
 mod EachOnce
 mod LookedAt

@@ -15,11 +15,10 @@ ghost use Rattle.queries.specs.Lines.{lines_up_to};
 
 use money::{Cents, Refusal};
 use readset::{Start, Transaction, read_present, read_row};
-use rows::CustomerColumns;
-use rows::column::NUMBER;
+use rows::{CustomerColumns, Last};
 use std::alloc::Global;
 use std::sync::Wait;
-use tables::{CustomerKey, LastOrder, Lines, Order, OrderKey, OrderLine, RecordKey};
+use tables::{CustomerKey, LastOrder, Lines, Order, OrderKey, OrderLine};
 
 /// Reads C_BALANCE of a customer. Costs a load.
 ///
@@ -55,13 +54,8 @@ pub(crate) fn read_last<R: Wait, K: Start>(
     ensures range { IfOk result (λ number. number ≤ K.tables.scale.orders) }
     ensures reads { ReadsMore 1 transaction.old transaction.new }
 {
-    let Some(words) = transaction.read(rt, RecordKey::Last(asked))? else {
-        return Err(Refusal::Stale);
-    };
-    if words[NUMBER] > u64::from(transaction.scale().orders()) {
-        return Err(Refusal::Stale);
-    }
-    Ok(words[NUMBER] as u32)
+    let last: Last = read_present(rt, transaction, asked)?;
+    Ok(last.order)
 }
 
 /// Reads an order and its lines, and gives what is told of it: nothing where there is no such order, as of number 0.

@@ -5,6 +5,7 @@ use Rattle.tables.specs.Records.{number_of_key}
 use Rattle.tables.specs.Rows.{line_words}
 use Rattle.tables.specs.NewOrder.{line_key}
 use Rattle.tables.specs.Delivery.{dated}
+use Rattle.tables.specs.declared.keys.LineKey.{LineKey}
 use Rattle.tables.specs.declared.records.RecordKey.TheVariants as key
 use Rattle.readset.specs.Writes.{WriteSetView, puts}
 use Rattle.readset.specs.Transaction.{AtAll}
@@ -26,7 +27,7 @@ returns-in_default-clause-dated g c = λ sum so_far.
     (none_there t0 x k (c.args.number - 1) more n c.args.transaction.now sum
     (subst (λ m. IsLineKey t0.scale (line_key k m)) next (c.requires.order.0, c.requires.order.1, c.requires.order.2, c.requires.number))
     (next_is x k c.requires.home c.requires.order.1.0) so_far c.read_row.ensures.reads
-    (subst (λ m. AtAll t0 more (λ t. get t.lines (line_key k m) ≡ None)) next (λ t h. c.in_ok-line.ensures.row t h ∙ c.in_default.is)))
+    (subst (λ m. AtAll t0 more (λ t. get t.lines (line_key k m) ≡ None)) next (λ t h. ap (get t.lines) (sym c.line_key-key.ensures) ∙ c.in_ok-line.ensures.row t h ∙ c.in_default.is)))
 
 pub returns-in_err-put_row-clause-goes_on : goal.returns-in_err-put_row-clause-goes_on
 returns-in_err-put_row-clause-goes_on g c =
@@ -55,5 +56,7 @@ returns-clause-dated g c = λ sum so_far.
     (one_more t0 x k (c.args.number - 1) more n c.args.transaction.now sum
     (subst (λ m. IsLineKey t0.scale (line_key k m)) next (c.requires.order.0, c.requires.order.1, c.requires.order.2, c.requires.number))
     (next_is x k c.requires.home c.requires.order.1.0) so_far c.read_row.ensures.reads line
-    (subst (λ m. AtAll t0 more (λ t. get t.lines (line_key k m) ≡ Some line)) next (λ t h. c.in_ok-line.ensures.row t h ∙ c.in-Some.is))
-    c.put_row.new.transaction c.put_row.ensures.reads (c.in_ok-put_row.ensures.puts ∙ ap written next))
+    (subst (λ m. AtAll t0 more (λ t. get t.lines (line_key k m) ≡ Some line)) next (λ t h. ap (get t.lines) (sym c.line_key-key.ensures) ∙ c.in_ok-line.ensures.row t h ∙ c.in-Some.is))
+    c.put_row.new.transaction c.put_row.ensures.reads (c.in_ok-put_row.ensures.puts
+    ∙ ap (λ (j : LineKey). puts more.writes (number_of_key t0.scale (key.OrderLine j)) (Some (line_words (dated x line)))) c.line_key-key.ensures
+    ∙ ap written next))

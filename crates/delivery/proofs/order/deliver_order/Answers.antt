@@ -1,9 +1,13 @@
-use Rattle.std.proofs.Common.{◌≡◌, ◌+◌, ◌-◌, sym, subst, arith}
+use Rattle.std.proofs.Common.{◌≡◌, ◌+◌, ◌-◌, sym, ap, ◌∙◌, subst, arith}
 use Rattle.readset.proofs.MoreReads.{still_read, keeps_twice}
 use Rattle.readset.proofs.UnderWay.{goes_on, goes_on_twice, candidate_still, candidate_then}
 use Rattle.readset.specs.Changes.{puts_all}
+use Rattle.readset.specs.Transaction.{AtAll}
+use Rattle.tables.specs.Keys.{customer_key}
+use Rattle.tables.specs.declared.keys.DistrictKey.{DistrictKey}
+use Rattle.tables.specs.declared.keys.CustomerKey.{CustomerKey}
 use Rattle.delivery.specs.Steps.{AreDone}
-use Rattle.delivery.specs.Ending.{ending_changes}
+use Rattle.delivery.specs.Ending.{IsCredited, ending_changes}
 use Rattle.delivery.proofs.Ended.{none_dated_yet, done_next, order_waits, next_is, on_ok}
 use Rattle.delivery.proofs.order.deliver_order.Goals as goal
 
@@ -65,7 +69,9 @@ returns-clause-done g c = on_ok c.end_order.result ended c.end_order.ensures.wri
         (done_next t0 x n k (next_is x k c.requires.home c.requires.key.1.0) dated last c.in_ok-sum.sum order c.in_ok-customer.customer
         c.in_ok-sum.ensures.dated c.credit_buyer.ensures.reads c.requires.key
         (λ t h. c.in_ok-order.ensures.order t (candidate_then t0 read dated _ _ c.date_lines.ensures.goes_on t h))
-        (c.requires.key.0, c.requires.key.1, c.in_ok-order.ensures.range.0) c.in_ok-customer.ensures.credited
+        (c.requires.key.0, c.requires.key.1, c.in_ok-order.ensures.range.0) (subst (λ (b : CustomerKey). AtAll t0 last (IsCredited b c.in_ok-sum.sum c.in_ok-customer.customer))
+        (c.customer_key-buyer.ensures ∙ ap (λ (h : DistrictKey). customer_key h order.customer) c.district_key.ensures)
+        c.in_ok-customer.ensures.credited)
         (λ t h. c.requires.waits t
         (candidate_still t0 c.args.transaction.now read 2 c.read_order.ensures.reads t (candidate_then t0 read dated _ _ c.date_lines.ensures.goes_on t h)))
         c.end_order.new.transaction c.end_order.ensures.reads written)
