@@ -70,8 +70,8 @@ pub record IsStockUpTo (most : ℕ) (r : Stock) : Type 0 where
 abbrev pub oldest_at : Database → DistrictKey → Option Oldest
 oldest_at t k = Some (record { order = oldest t k })
 
-abbrev pub oldest_words : Oldest → List ℕ
-oldest_words r = number_words r.order
+abbrev pub words_of_oldest : Oldest → List ℕ
+words_of_oldest r = number_words r.order
 
 abbrev pub IsOldestOfScale : Sizes → Oldest → Type 0
 IsOldestOfScale s r = IsNumber (s.orders + 1) r.order
@@ -79,8 +79,8 @@ IsOldestOfScale s r = IsNumber (s.orders + 1) r.order
 abbrev pub last_at : Database → CustomerKey → Option Last
 last_at t k = Some (record { order = last t k })
 
-abbrev pub last_words : Last → List ℕ
-last_words r = number_words r.order
+abbrev pub words_of_last : Last → List ℕ
+words_of_last r = number_words r.order
 
 abbrev pub IsLastOfScale : Sizes → Last → Type 0
 IsLastOfScale s r = r.order ≤ s.orders

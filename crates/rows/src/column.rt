@@ -7,7 +7,7 @@ ghost use Rattle.tables.specs.Rows.{money_word, order_words, line_words};
 ghost use Rattle.tables.specs.declared.rows.Order.{Order};
 ghost use Rattle.tables.specs.declared.rows.OrderLine.{OrderLine};
 ghost use Rattle.rows.specs.Columns.{warehouse_columns_words, district_columns_words, customer_columns_words};
-ghost use Rattle.rows.specs.Columns.{oldest_words, last_words};
+ghost use Rattle.rows.specs.Columns.{words_of_oldest, words_of_last};
 ghost use Rattle.rows.specs.declared.columns.WarehouseColumns.{WarehouseColumns};
 ghost use Rattle.rows.specs.declared.columns.DistrictColumns.{DistrictColumns};
 ghost use Rattle.rows.specs.declared.columns.CustomerColumns.{CustomerColumns};
@@ -88,6 +88,6 @@ pub fn columns_stand_there()
     ensures line { (r : OrderLine)
         → (slice_index (line_words r) OL_DELIVERY_D ≡ unwrap_or r.delivery_date 0)
         × (slice_index (line_words r) OL_AMOUNT ≡ money_word r.amount) }
-    ensures oldest { (r : Oldest) → slice_index (oldest_words r) NUMBER ≡ r.order }
-    ensures last { (r : Last) → slice_index (last_words r) NUMBER ≡ r.order }
+    ensures oldest { (r : Oldest) → slice_index (words_of_oldest r) NUMBER ≡ r.order }
+    ensures last { (r : Last) → slice_index (words_of_last r) NUMBER ≡ r.order }
 {}

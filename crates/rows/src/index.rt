@@ -2,7 +2,7 @@
 
 ghost use Rattle.std.specs.Prelude.{◌≡◌};
 ghost use Rattle.rows.specs.Reading.{IsReading};
-ghost use Rattle.rows.specs.Columns.{oldest_words, IsOldestOfScale, last_words, IsLastOfScale};
+ghost use Rattle.rows.specs.Columns.{words_of_oldest, IsOldestOfScale, words_of_last, IsLastOfScale};
 
 use crate::reading::number;
 use money::Payload;
@@ -23,7 +23,7 @@ pub struct Last {
 impl Oldest {
     /// What these words say, or None where the number is no order's of this scale, nor a next one's.
     pub(crate) fn of_words(scale: &Scale, words: &Payload) -> Option<Oldest>
-        ensures { IsReading (IsOldestOfScale scale.now) oldest_words words.now result }
+        ensures { IsReading (IsOldestOfScale scale.now) words_of_oldest words.now result }
     {
         let [order, 0, 0, 0, 0, 0, 0] = *words else {
             return None;
@@ -35,7 +35,7 @@ impl Oldest {
 
     /// Its words.
     pub(crate) fn to_words(self) -> Payload
-        ensures { result ≡ oldest_words self }
+        ensures { result ≡ words_of_oldest self }
     {
         [u64::from(self.order), 0, 0, 0, 0, 0, 0]
     }
@@ -44,7 +44,7 @@ impl Oldest {
 impl Last {
     /// What these words say, or None where the number is above the order cap.
     pub(crate) fn of_words(scale: &Scale, words: &Payload) -> Option<Last>
-        ensures { IsReading (IsLastOfScale scale.now) last_words words.now result }
+        ensures { IsReading (IsLastOfScale scale.now) words_of_last words.now result }
     {
         let [order, 0, 0, 0, 0, 0, 0] = *words else {
             return None;
@@ -56,7 +56,7 @@ impl Last {
 
     /// Its words.
     pub(crate) fn to_words(self) -> Payload
-        ensures { result ≡ last_words self }
+        ensures { result ≡ words_of_last self }
     {
         [u64::from(self.order), 0, 0, 0, 0, 0, 0]
     }

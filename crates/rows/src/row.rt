@@ -14,8 +14,8 @@ ghost use Rattle.rows.specs.Reading.{IsReading};
 ghost use Rattle.rows.specs.Columns.{warehouse_columns, warehouse_columns_words, AreWarehouseColumns};
 ghost use Rattle.rows.specs.Columns.{district_columns, district_columns_words, AreDistrictColumns};
 ghost use Rattle.rows.specs.Columns.{customer_columns, customer_columns_words, AreCustomerColumns};
-ghost use Rattle.rows.specs.Columns.{IsOrderOfScale, oldest_at, oldest_words, IsOldestOfScale};
-ghost use Rattle.rows.specs.Columns.{last_at, last_words, IsLastOfScale};
+ghost use Rattle.rows.specs.Columns.{IsOrderOfScale, oldest_at, words_of_oldest, IsOldestOfScale};
+ghost use Rattle.rows.specs.Columns.{last_at, words_of_last, IsLastOfScale};
 ghost use Rattle.rows.specs.Laws.{warehouse_held, district_held, customer_held};
 ghost use Rattle.rows.specs.Laws.{warehouse_within, district_within, customer_within, order_within};
 ghost use Rattle.rows.specs.Laws.{line_within, stock_within, oldest_within, last_within};
@@ -288,7 +288,7 @@ impl Keyed for Oldest {
 
     ghost record_of = { λ k. any_key.Oldest k };
 
-    ghost words_of = { oldest_words };
+    ghost words_of = { words_of_oldest };
 
     ghost are = { IsOldestOfScale };
 
@@ -324,7 +324,7 @@ impl Keyed for Last {
 
     ghost record_of = { λ k. any_key.Last k };
 
-    ghost words_of = { last_words };
+    ghost words_of = { words_of_last };
 
     ghost are = { IsLastOfScale };
 
