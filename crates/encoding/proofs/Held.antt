@@ -65,7 +65,7 @@ module _ (t0 t : Database) (of : IsOf t0 t) (wf : IsWellFormed t) (values : ℕ 
     };
     orders = record {
       within = λ k some. subst (λ s. IsOrderKey s k) of.scale (wf.orders k some);
-      each = λ k r e. record { range = wf.order_rows k r e; customer = ordered k r e };
+      each = λ k r e. record { row = wf.order_rows k r e; customer = ordered k r e };
       rows = λ k is. held (key.Order k) is tt;
     };
     lines = record {

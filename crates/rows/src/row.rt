@@ -19,6 +19,8 @@ ghost use Rattle.rows.specs.Laws.{warehouse_held, district_held, customer_held};
 ghost use Rattle.rows.specs.Laws.{warehouse_within, district_within, customer_within, order_within};
 ghost use Rattle.rows.specs.Laws.{line_within, stock_within};
 ghost use Rattle.rows.specs.Laws.{warehouse_there, district_there, customer_there, stock_there};
+ghost use Rattle.rows.specs.Determined.{warehouse_determined, district_determined, customer_determined};
+ghost use Rattle.rows.specs.Determined.{order_determined, line_determined, stock_determined};
 
 use crate::columns::{CustomerColumns, DistrictColumns, WarehouseColumns};
 use crate::order::order_of_words;
@@ -54,6 +56,8 @@ pub trait Keyed {
 
     ghost within: { (t : Database) (k : Self.Key) (r : Self) → IsWellFormed t
         → at t k ≡ Some r → are t.scale r };
+
+    ghost determined: { (s : Sizes) (a b : Self) → are s a → are s b → words_of a ≡ words_of b → a ≡ b };
 }
 
 /// Rows that a record of seven words holds.
@@ -87,6 +91,8 @@ impl Keyed for WarehouseColumns {
     ghost held = { warehouse_held };
 
     ghost within = { warehouse_within };
+
+    ghost determined = { λ s. warehouse_determined };
 
     fn key(key: u32) -> RecordKey {
         RecordKey::Warehouse(key)
@@ -122,6 +128,8 @@ impl Keyed for DistrictColumns {
 
     ghost within = { district_within };
 
+    ghost determined = { district_determined };
+
     fn key(key: DistrictKey) -> RecordKey {
         RecordKey::District(key)
     }
@@ -155,6 +163,8 @@ impl Keyed for CustomerColumns {
     ghost held = { customer_held };
 
     ghost within = { customer_within };
+
+    ghost determined = { λ s. customer_determined };
 
     fn key(key: CustomerKey) -> RecordKey {
         RecordKey::Customer(key)
@@ -192,6 +202,8 @@ impl Keyed for Order {
 
     ghost within = { order_within };
 
+    ghost determined = { order_determined };
+
     fn key(key: OrderKey) -> RecordKey {
         RecordKey::Order(key)
     }
@@ -224,6 +236,8 @@ impl Keyed for OrderLine {
 
     ghost within = { line_within };
 
+    ghost determined = { line_determined };
+
     fn key(key: LineKey) -> RecordKey {
         RecordKey::OrderLine(key)
     }
@@ -255,6 +269,8 @@ impl Keyed for Stock {
     ghost held = { λ t k. refl };
 
     ghost within = { stock_within };
+
+    ghost determined = { λ s a b in_a in_b. stock_determined a b };
 
     fn key(key: StockKey) -> RecordKey {
         RecordKey::Stock(key)
