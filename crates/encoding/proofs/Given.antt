@@ -24,7 +24,5 @@ module _ {K X : Type 0} {R : K → K → Ordering} (o : IsExact R) (m : BTreeMap
   is_there None e some = absurd (true≢false (sym (subst IsSome (get-view o m k ∙ sym e) some)))
   is_there (Some b) e some = refl
 
-  -- a column of it
-  pub first_column : {Y : Type 0} (f : X → Y) (row : Option (Bor X)) (b : Bor X) → option_copied row ≡ tree.get R m k → row ≡ Some b
-      → option_map f (get (from_entries {R = R} m.entries) k) ≡ Some (f b.now)
-  first_column f row b e is = ap (option_map f) (get-view o m k ∙ (sym e ∙ ap option_copied is))
+  pub row_there : (row : Option (Bor X)) (b : Bor X) → option_copied row ≡ tree.get R m k → row ≡ Some b → get (from_entries {R = R} m.entries) k ≡ Some b.now
+  row_there row b e is = get-view o m k ∙ (sym e ∙ ap option_copied is)

@@ -2,8 +2,7 @@ pub mod Numbered
 mod Determined
 mod Held
 pub mod Values
-pub mod FromWords
-mod Given
+pub mod Given
 mod Puts
 mod Below
 pub mod Positions
