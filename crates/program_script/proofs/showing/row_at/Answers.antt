@@ -13,6 +13,7 @@ pub returns-in_err-words-clause-row : goal.returns-in_err-words-clause-row
 returns-in_err-words-clause-row g c =
     let t = replay g.K.Run.first c.args.session.now.history in
     no_row g.T.Keyed.words_of (g.T.Keyed.at t c.args.key) (c.in_err-words.ensures.words ∙ (ap (row_at t) c.key.ensures ∙ g.met.T.Keyed.held t c.args.key))
+    ∙ sym c.from_residual.ensures
 
 pub returns-clause-row : goal.returns-clause-row
 returns-clause-row g c =
