@@ -29,6 +29,9 @@ fn a_line_that_is_delivered(rt: HostRuntime) -> Result<(), Fail> {
         amount: Cents::new(1_000),
     };
     let scale = Scale::new(2, 2, 10, 20, 30, 1_000)?;
-    assert_eq!(rt; OrderLine::read(&scale, &[7, 2, 9, 10, 1_000, 0, 0]), Some(line));
+    assert_eq!(rt;
+        OrderLine::read(&scale, &[7, 2, 9, 10, 1_000, 0, 0]),
+        Some(line)
+    );
     Ok(())
 }
