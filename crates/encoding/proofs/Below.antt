@@ -18,7 +18,8 @@ use Rattle.tables.specs.declared.rows.History.{History}
 use Rattle.tables.specs.declared.records.RecordKey.{RecordKey}
 use Rattle.tables.specs.declared.records.RecordKey.TheVariants as key
 use Rattle.tables.proofs.Numbers.{named, numbered}
-use Rattle.encoding.specs.Held.{row_count, by_key, IsTableOf, IsWarehouseOf, IsDistrictOf, IsCustomerOf, IsOrderIn, AreTables}
+use Rattle.rows.specs.Columns.{IsOrderOfScale}
+use Rattle.encoding.specs.Held.{row_count, by_key, IsTableOf, IsWarehouseOf, IsDistrictOf, IsCustomerOf, AreTables}
 use Rattle.cells.specs.Versions.{value_in}
 use Rattle.cells.specs.Records.{newest_words}
 use Rattle.cells.specs.declared.cells.Newest.{Newest}
@@ -54,7 +55,7 @@ agreeing t0 t values more same a = let s = t0.scale in record {
   districts = same_values (IsDistrictKey s) (IsDistrictOf t0) district_words _ _ t.districts (λ k is. same (key.District k) is tt) a.districts;
   customers = same_values (IsCustomerKey s) (IsCustomerOf t0) customer_words _ _ t.customers (λ k is. same (key.Customer k) is tt) a.customers;
   new_orders = same_values (IsOrderKey s) (λ k r. Unit {0}) new_order_words _ _ t.new_orders (λ k is. same (key.NewOrder k) is tt) a.new_orders;
-  orders = same_values (IsOrderKey s) (λ k r. IsOrderIn s r) order_words _ _ t.orders (λ k is. same (key.Order k) is tt) a.orders;
+  orders = same_values (IsOrderKey s) (λ k r. IsOrderOfScale s r) order_words _ _ t.orders (λ k is. same (key.Order k) is tt) a.orders;
   lines = same_values (IsLineKey s) (λ k r. IsLineRow s r) line_words _ _ t.lines (λ k is. same (key.OrderLine k) is tt) a.lines;
   stock = same_values (IsStockKey s) (λ k r. IsStockRow r) stock_words _ _ t.stock (λ k is. same (key.Stock k) is tt) a.stock;
 }
@@ -82,7 +83,7 @@ no_records t0 added = let s = t0.scale in record {
   districts = no_rows district_cmp (IsDistrictKey s) (IsDistrictOf t0) district_words;
   customers = no_rows customer_cmp (IsCustomerKey s) (IsCustomerOf t0) customer_words;
   new_orders = no_rows order_cmp (IsOrderKey s) (λ k r. Unit {0}) new_order_words;
-  orders = no_rows order_cmp (IsOrderKey s) (λ k r. IsOrderIn s r) order_words;
+  orders = no_rows order_cmp (IsOrderKey s) (λ k r. IsOrderOfScale s r) order_words;
   lines = no_rows line_cmp (IsLineKey s) (λ k r. IsLineRow s r) line_words;
   stock = no_rows stock_cmp (IsStockKey s) (λ k r. IsStockRow r) stock_words;
 }

@@ -6,7 +6,6 @@ use Rattle.std.specs.declared.cmp.Ordering.{Ordering}
 use Rattle.std.proofs.lemmas.Option.{none-some, same_Some}
 use Rattle.tables.specs.Database.{Database}
 use Rattle.tables.specs.WellFormed.{IsLineRow, IsStockRow}
-use Rattle.tables.specs.Sizes.{Sizes}
 use Rattle.tables.specs.Keys.{IsWarehouseKey, IsDistrictKey, IsCustomerKey, IsOrderKey, IsLineKey, IsStockKey}
 use Rattle.tables.specs.Rows.{warehouse_words, district_words, customer_words, new_order_words, order_words, line_words, stock_words}
 use Rattle.tables.specs.declared.keys.DistrictKey.{DistrictKey}
@@ -14,14 +13,12 @@ use Rattle.tables.specs.declared.keys.CustomerKey.{CustomerKey}
 use Rattle.tables.specs.declared.rows.Warehouse.{Warehouse}
 use Rattle.tables.specs.declared.rows.District.{District}
 use Rattle.tables.specs.declared.rows.Customer.{Customer}
-use Rattle.tables.specs.declared.rows.Order.{Order}
-use Rattle.tables.specs.declared.rows.OrderLine.{OrderLine}
-use Rattle.tables.specs.declared.rows.Stock.{Stock}
 use Rattle.tables.specs.declared.records.RecordKey.{RecordKey}
 use Rattle.tables.proofs.Orders.{IsExact, exact_number, exact_district, exact_customer, exact_order, exact_line, exact_stock}
-use Rattle.encoding.specs.Words.{warehouse_of, district_of, customer_of, order_of_words, line_of_words, stock_of_words}
-use Rattle.encoding.specs.Held.{IsTableOf, IsWarehouseOf, IsDistrictOf, IsCustomerOf, IsOrderIn, AreTables}
-use Rattle.encoding.proofs.Backs.{warehouse_back, district_back, customer_back, order_back, line_back, stock_back}
+use Rattle.rows.specs.Columns.{warehouse_columns, district_columns, customer_columns, IsOrderOfScale}
+use Rattle.rows.specs.Laws.{district_range, customer_range}
+use Rattle.rows.specs.Determined.{warehouse_determined, district_determined, customer_determined, order_determined, line_determined, stock_determined}
+use Rattle.encoding.specs.Held.{IsTableOf, IsWarehouseOf, IsDistrictOf, IsCustomerOf, AreTables}
 
 -- two values that one option has
 same_column : {X : Type 0} (o : Option X) (x y : X) → o ≡ Some x → o ≡ Some y → x ≡ y
@@ -29,27 +26,29 @@ same_column o x y e f = same_Some x y (sym e ∙ f)
 
 -- two rows of one key that have the same words are the same
 same_warehouse : (t0 : Database) (w : ℕ) (r q : Warehouse) → IsWarehouseOf t0 w r → IsWarehouseOf t0 w q → warehouse_words r ≡ warehouse_words q → r ≡ q
-same_warehouse t0 w r q a b e = sym (warehouse_back r r refl a.range) ∙ (ap (warehouse_of r) e ∙ warehouse_back r q (same_column _ _ _ a.tax b.tax) b.range)
+same_warehouse t0 w r q a b e =
+    let columns = warehouse_determined (warehouse_columns r) (warehouse_columns q) a.range b.range e in
+    λ i. record { tax = same_column _ _ _ a.tax b.tax i; year_to_date = (columns i).year_to_date }
 
 same_district : (t0 : Database) (k : DistrictKey) (r q : District) → IsDistrictOf t0 k r → IsDistrictOf t0 k q → district_words r ≡ district_words q → r ≡ q
-same_district t0 k r q a b e = sym (district_back t0.scale r r refl a.range)
-    ∙ (ap (district_of r) e ∙ district_back t0.scale r q (same_column _ _ _ a.tax b.tax) b.range)
+same_district t0 k r q a b e =
+    let s = t0.scale in
+    let columns = district_determined s (district_columns r) (district_columns q) (district_range s r a.range) (district_range s q b.range) e in
+    λ i. record { tax = same_column _ _ _ a.tax b.tax i; year_to_date = (columns i).year_to_date; next_order = (columns i).next_order }
 
 same_customer : (t0 : Database) (k : CustomerKey) (r q : Customer) → IsCustomerOf t0 k r → IsCustomerOf t0 k q → customer_words r ≡ customer_words q → r ≡ q
 same_customer t0 k r q a b e =
-    sym (customer_back r r refl refl refl refl a.range)
-    ∙ (ap (customer_of r) e
-    ∙ customer_back r q (same_column _ _ _ a.first_name b.first_name) (same_column _ _ _ a.last_name b.last_name) (same_column _ _ _ a.credit b.credit)
-    (same_column _ _ _ a.discount b.discount) b.range)
-
-same_order : (s : Sizes) (r q : Order) → IsOrderIn s r → IsOrderIn s q → order_words r ≡ order_words q → r ≡ q
-same_order s r q a b e = sym (order_back r a.range) ∙ (ap order_of_words e ∙ order_back q b.range)
-
-same_line : (s : Sizes) (r q : OrderLine) → IsLineRow s r → IsLineRow s q → line_words r ≡ line_words q → r ≡ q
-same_line s r q a b e = sym (line_back s r a) ∙ (ap line_of_words e ∙ line_back s q b)
-
-same_stock : (r q : Stock) → stock_words r ≡ stock_words q → r ≡ q
-same_stock r q e = sym (stock_back r) ∙ (ap stock_of_words e ∙ stock_back q)
+    let columns = customer_determined (customer_columns r) (customer_columns q) (customer_range r a.range) (customer_range q b.range) e in
+    λ i. record {
+      first_name = same_column _ _ _ a.first_name b.first_name i;
+      last_name = same_column _ _ _ a.last_name b.last_name i;
+      credit = same_column _ _ _ a.credit b.credit i;
+      discount = same_column _ _ _ a.discount b.discount i;
+      balance = (columns i).balance;
+      paid = (columns i).paid;
+      payments = (columns i).payments;
+      deliveries = (columns i).deliveries;
+    }
 
 module _ {K X : Type 0} {R : K → K → Ordering} (IsKey : K → Type 0) (IsIn : K → X → Type 0) (words : X → List ℕ) (value : K → Option (List ℕ))
     (m n : FinMap R X) where
@@ -91,9 +90,9 @@ determined t0 values t u a b history =
     b.customers in
     let new_orders = same_table exact_order (IsOrderKey s) (λ k r. Unit {0}) new_order_words _ t.new_orders u.new_orders (λ k r q _ _ _. refl) a.new_orders
     b.new_orders in
-    let orders = same_table exact_order (IsOrderKey s) (λ k r. IsOrderIn s r) order_words _ t.orders u.orders (λ k. same_order s) a.orders b.orders in
-    let lines = same_table exact_line (IsLineKey s) (λ k r. IsLineRow s r) line_words _ t.lines u.lines (λ k. same_line s) a.lines b.lines in
-    let stock = same_table exact_stock (IsStockKey s) (λ k r. IsStockRow r) stock_words _ t.stock u.stock (λ k r q _ _. same_stock r q) a.stock b.stock in
+    let orders = same_table exact_order (IsOrderKey s) (λ k r. IsOrderOfScale s r) order_words _ t.orders u.orders (λ k. order_determined s) a.orders b.orders in
+    let lines = same_table exact_line (IsLineKey s) (λ k r. IsLineRow s r) line_words _ t.lines u.lines (λ k. line_determined s) a.lines b.lines in
+    let stock = same_table exact_stock (IsStockKey s) (λ k r. IsStockRow r) stock_words _ t.stock u.stock (λ k r q _ _. stock_determined r q) a.stock b.stock in
     λ i. record {
       scale = scale i;
       warehouses = warehouses i;

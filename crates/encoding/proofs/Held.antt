@@ -7,24 +7,21 @@ use Rattle.tables.specs.Keys.{IsWarehouseKey, IsDistrictKey, IsCustomerKey, IsOr
 use Rattle.tables.specs.WellFormed.{IsWellFormed, IsDistrictRow, IsLineRow, orderer}
 use Rattle.tables.specs.Constant.{IsOf}
 use Rattle.tables.specs.Database.{Database}
-use Rattle.tables.specs.Records.{number_of_key, key_of, IsRecordKey, IsRowKey}
+use Rattle.tables.specs.Records.{number_of_key, IsRecordKey, IsRowKey}
 use Rattle.tables.specs.Rows.{row_at, rows}
 use Rattle.tables.specs.declared.keys.OrderKey.{OrderKey}
 use Rattle.tables.specs.declared.rows.Order.{Order}
 use Rattle.tables.specs.declared.records.RecordKey.{RecordKey}
 use Rattle.tables.specs.declared.records.RecordKey.TheVariants as key
-use Rattle.tables.proofs.Numbers.{named}
 use Rattle.encoding.specs.Held.{row_count, by_key, AreTables}
-use Rattle.encoding.proofs.Numbered.{row_below}
+use Rattle.encoding.proofs.Numbered.{row_below, record_at}
 use Rattle.encoding.proofs.Determined.{determined}
 
 module _ (t0 t : Database) (of : IsOf t0 t) (wf : IsWellFormed t) (values : ℕ → Option (List ℕ))
     (agree : (n : ℕ) → n < row_count t0.scale → rows t n ≡ values n) where
   -- what the record of a row's key holds
   held : (k : RecordKey) → IsRecordKey t0.scale k → IsRowKey k → row_at t k ≡ by_key t0.scale values k
-  held k is row =
-      let n = number_of_key t0.scale k in
-      sym (ap (λ s. row_at t (key_of s n)) of.scale ∙ ap (row_at t) (named t0.scale k is).1) ∙ agree n (row_below t0.scale k is row)
+  held k is row = sym (record_at t0 t of k is) ∙ agree (number_of_key t0.scale k) (row_below t0.scale k is row)
 
   -- an order's customer
   ordered : (k : OrderKey) (r : Order) → get t.orders k ≡ Some r → IsNumber t0.scale.customers r.customer
@@ -65,7 +62,7 @@ module _ (t0 t : Database) (of : IsOf t0 t) (wf : IsWellFormed t) (values : ℕ 
     };
     orders = record {
       within = λ k some. subst (λ s. IsOrderKey s k) of.scale (wf.orders k some);
-      each = λ k r e. record { range = wf.order_rows k r e; customer = ordered k r e };
+      each = λ k r e. record { row = wf.order_rows k r e; customer = ordered k r e };
       rows = λ k is. held (key.Order k) is tt;
     };
     lines = record {

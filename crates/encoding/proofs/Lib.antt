@@ -1,10 +1,8 @@
-mod Backs
 pub mod Numbered
 mod Determined
 mod Held
 pub mod Values
-pub mod FromWords
-mod Decoded
+pub mod Given
 mod Puts
 mod Below
 pub mod Positions

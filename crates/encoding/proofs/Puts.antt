@@ -31,7 +31,8 @@ use Rattle.tables.specs.declared.records.RecordKey.TheVariants as key
 use Rattle.tables.proofs.Entries.{tied}
 use Rattle.tables.proofs.Orders.{IsExact, exact_number, exact_district, exact_customer, exact_order, exact_line, exact_stock}
 use Rattle.tables.proofs.Views.{get-view}
-use Rattle.encoding.specs.Held.{IsTableOf, IsWarehouseOf, IsDistrictOf, IsCustomerOf, IsOrderIn, AreTables}
+use Rattle.rows.specs.Columns.{IsOrderOfScale}
+use Rattle.encoding.specs.Held.{IsTableOf, IsWarehouseOf, IsDistrictOf, IsCustomerOf, AreTables}
 use Rattle.encoding.specs.Puts.{Puts}
 
 module _ {K X : Type 0} {R : K → K → Ordering} (o : IsExact R) (m : FinMap R X) (k : K) where
@@ -101,9 +102,9 @@ module _ (t0 t : Database) (values more : RecordKey → Option (List ℕ)) (k : 
   kept_new_orders apart = same_values (IsOrderKey t0.scale) (λ k r. Unit {0}) new_order_words _ _ t.new_orders (λ q is. others (key.NewOrder q) is (apart q))
       a.new_orders
 
-  kept_orders : ((q : OrderKey) → key.Order q ≢ k) → IsTableOf (IsOrderKey t0.scale) (λ k r. IsOrderIn t0.scale r) order_words (λ q. more (key.Order q))
+  kept_orders : ((q : OrderKey) → key.Order q ≢ k) → IsTableOf (IsOrderKey t0.scale) (λ k r. IsOrderOfScale t0.scale r) order_words (λ q. more (key.Order q))
       t.orders
-  kept_orders apart = same_values (IsOrderKey t0.scale) (λ k r. IsOrderIn t0.scale r) order_words _ _ t.orders (λ q is. others (key.Order q) is (apart q))
+  kept_orders apart = same_values (IsOrderKey t0.scale) (λ k r. IsOrderOfScale t0.scale r) order_words _ _ t.orders (λ q is. others (key.Order q) is (apart q))
       a.orders
 
   kept_lines : ((q : LineKey) → key.OrderLine q ≢ k) → IsTableOf (IsLineKey t0.scale) (λ k r. IsLineRow t0.scale r) line_words (λ q. more (key.OrderLine q))
@@ -191,7 +192,7 @@ module _ (t0 : Database) (ws : List ℕ) (t : Database) where
     };
   }
 
-  pub puts_order : (k : OrderKey) (r : Order) (rows : FinMap order_cmp Order) → rows ≡ insert t.orders k r → IsOrderKey t0.scale k → IsOrderIn t0.scale r
+  pub puts_order : (k : OrderKey) (r : Order) (rows : FinMap order_cmp Order) → rows ≡ insert t.orders k r → IsOrderKey t0.scale k → IsOrderOfScale t0.scale r
       → ws ≡ order_words r → Puts t0 (key.Order k) (Some ws) t (record t { orders = rows })
   puts_order k r rows e is is_in same = record {
     history = refl;
@@ -202,8 +203,8 @@ module _ (t0 : Database) (ws : List ℕ) (t : Database) where
       districts = kept_districts t0 t values more (key.Order k) others a (λ q p. cc);
       customers = kept_customers t0 t values more (key.Order k) others a (λ q p. cc);
       new_orders = kept_new_orders t0 t values more (key.Order k) others a (λ q p. cc);
-      orders = subst (IsTableOf (IsOrderKey t0.scale) (λ k r. IsOrderIn t0.scale r) order_words (λ q. more (key.Order q))) (sym e)
-          (same_insert exact_order t.orders k r (IsOrderKey t0.scale) (λ k r. IsOrderIn t0.scale r) order_words _ _ is is_in (here ∙ ap Some same)
+      orders = subst (IsTableOf (IsOrderKey t0.scale) (λ k r. IsOrderOfScale t0.scale r) order_words (λ q. more (key.Order q))) (sym e)
+          (same_insert exact_order t.orders k r (IsOrderKey t0.scale) (λ k r. IsOrderOfScale t0.scale r) order_words _ _ is is_in (here ∙ ap Some same)
           (λ q at other. others (key.Order q) at (λ (p : key.Order q ≡ key.Order k). other cc)) a.orders);
       lines = kept_lines t0 t values more (key.Order k) others a (λ q p. cc);
       stock = kept_stock t0 t values more (key.Order k) others a (λ q p. cc);

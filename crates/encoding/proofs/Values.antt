@@ -7,7 +7,7 @@ use Rattle.std.proofs.lemmas.Option.{none-some}
 use Rattle.tables.specs.Maps.{RowsAt}
 use Rattle.tables.specs.Sizes.{Sizes}
 use Rattle.tables.specs.Keys.{IsWarehouseKey, IsDistrictKey, IsCustomerKey, IsStockKey}
-use Rattle.tables.specs.WellFormed.{IsWellFormed, IsMoney, IsDistrictRow, IsCustomerRow, IsStockRow, orderer}
+use Rattle.tables.specs.WellFormed.{IsWellFormed, IsMoney, IsDistrictRow, IsCustomerRow, IsStockRow}
 use Rattle.tables.specs.Constant.{IsOf}
 use Rattle.tables.specs.Database.{Database}
 use Rattle.tables.specs.Records.{record_count, key_of, IsRecordKey, IsRowKey}
@@ -15,6 +15,7 @@ use Rattle.tables.specs.Rows.{row_at, rows, warehouse_words, district_words, cus
 use Rattle.tables.specs.declared.records.RecordKey.{RecordKey}
 use Rattle.tables.specs.declared.records.RecordKey.TheVariants as key
 use Rattle.tables.proofs.Numbers.{numbered, row_numbered}
+use Rattle.rows.specs.Laws.{order_within}
 use Rattle.encoding.specs.Held.{row_count, by_key, IsTableOf, AreTables}
 use Rattle.encoding.specs.Newest.{AreLawful}
 use Rattle.encoding.specs.Puts.{IsRow, MayHold}
@@ -36,7 +37,7 @@ lawful_rows t wf (key.District k) is = row_there (IsDistrictKey t.scale) (IsDist
 lawful_rows t wf (key.Customer k) is = row_there (IsCustomerKey t.scale) IsCustomerRow customer_words t.customers k wf.customers (wf.customer_rows k) is
 lawful_rows t wf (key.NewOrder k) is = (get t.new_orders k, refl, λ r e. tt)
 lawful_rows t wf (key.Order k) is =
-    (get t.orders k, refl, λ r e. record { range = wf.order_rows k r e; customer = ((wf.customers (orderer k r)).0 (wf.order_customers k r e)).2 })
+    (get t.orders k, refl, λ r. order_within t k r wf)
 lawful_rows t wf (key.OrderLine k) is = (get t.lines k, refl, wf.line_rows k)
 lawful_rows t wf (key.Stock k) is = row_there (IsStockKey t.scale) IsStockRow stock_words t.stock k wf.stock (wf.stock_rows k) is
 lawful_rows t wf (key.Oldest k) is = tt

@@ -4,10 +4,10 @@ use Rattle.std.specs.Prelude.{◌≡◌, ℕ, Option, Some, List}
 use Rattle.std.specs.Option.{option_map}
 use Rattle.std.specs.FinMap.{FinMap, get}
 use Rattle.std.specs.declared.cmp.Ordering.{Ordering}
-use Rattle.tables.specs.Sizes.{Sizes, IsNumber}
+use Rattle.tables.specs.Sizes.{Sizes}
 use Rattle.tables.specs.Keys.{IsWarehouseKey, IsDistrictKey, IsCustomerKey, IsOrderKey, IsLineKey, IsStockKey}
 use Rattle.tables.specs.Maps.{RowsWithin, EachRow}
-use Rattle.tables.specs.WellFormed.{IsMoney, IsDistrictRow, IsCustomerRow, IsOrderRow, IsLineRow, IsStockRow}
+use Rattle.tables.specs.WellFormed.{IsMoney, IsDistrictRow, IsCustomerRow, IsLineRow, IsStockRow}
 use Rattle.tables.specs.Database.{Database}
 use Rattle.tables.specs.Records.{first_number, number_of_key}
 use Rattle.tables.specs.Rows.{warehouse_words, district_words, customer_words, new_order_words, order_words, line_words}
@@ -17,10 +17,10 @@ use Rattle.tables.specs.declared.keys.CustomerKey.{CustomerKey}
 use Rattle.tables.specs.declared.rows.Warehouse.{Warehouse}
 use Rattle.tables.specs.declared.rows.District.{District}
 use Rattle.tables.specs.declared.rows.Customer.{Customer}
-use Rattle.tables.specs.declared.rows.Order.{Order}
 use Rattle.tables.specs.declared.records.Table.TheVariants as table
 use Rattle.tables.specs.declared.records.RecordKey.{RecordKey}
 use Rattle.tables.specs.declared.records.RecordKey.TheVariants as key
+use Rattle.rows.specs.Columns.{IsOrderOfScale}
 
 -- how many records have rows: the index records come after them
 abbrev pub row_count : Sizes → ℕ
@@ -54,10 +54,6 @@ pub record IsCustomerOf (t0 : Database) (k : CustomerKey) (r : Customer) : Type 
   pub credit : option_map (λ r. r.credit) (get t0.customers k) ≡ Some r.credit
   pub discount : option_map (λ r. r.discount) (get t0.customers k) ≡ Some r.discount
 
-pub record IsOrderIn (s : Sizes) (r : Order) : Type 0 where
-  pub range : IsOrderRow r
-  pub customer : IsNumber s.customers r.customer
-
 -- tables of this population whose records hold these values. HISTORY, which has no records, may be any
 pub record AreTables (t0 : Database) (values : RecordKey → Option (List ℕ)) (t : Database) : Type 0 where
   pub scale : t.scale ≡ t0.scale
@@ -70,7 +66,7 @@ pub record AreTables (t0 : Database) (values : RecordKey → Option (List ℕ)) 
       t.customers
   pub new_orders : IsTableOf (IsOrderKey t0.scale) (λ k r. Unit {0}) new_order_words (λ k. values (key.NewOrder k))
       t.new_orders
-  pub orders : IsTableOf (IsOrderKey t0.scale) (λ k r. IsOrderIn t0.scale r) order_words (λ k. values (key.Order k))
+  pub orders : IsTableOf (IsOrderKey t0.scale) (λ k r. IsOrderOfScale t0.scale r) order_words (λ k. values (key.Order k))
       t.orders
   pub lines : IsTableOf (IsLineKey t0.scale) (λ k r. IsLineRow t0.scale r) line_words (λ k. values (key.OrderLine k))
       t.lines

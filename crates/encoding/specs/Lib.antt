@@ -1,4 +1,3 @@
-pub mod Words
 pub mod Held
 pub mod Puts
 pub mod Newest

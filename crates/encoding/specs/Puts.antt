@@ -9,7 +9,8 @@ use Rattle.tables.specs.Rows.{warehouse_words, district_words, customer_words, n
 use Rattle.tables.specs.Rows.{stock_words}
 use Rattle.tables.specs.declared.records.RecordKey.{RecordKey}
 use Rattle.tables.specs.declared.records.RecordKey.TheVariants as key
-use Rattle.encoding.specs.Held.{IsOrderIn, AreTables}
+use Rattle.rows.specs.Columns.{IsOrderOfScale}
+use Rattle.encoding.specs.Held.{AreTables}
 
 -- the words of a row, within its ranges
 abbrev pub IsRow : {X : Type 0} → (X → List ℕ) → (X → Type 0) → Option (List ℕ) → Type 0
@@ -26,7 +27,7 @@ MayHold s (key.Warehouse k) = IsRow warehouse_words (λ r. IsMoney r.year_to_dat
 MayHold s (key.District k) = IsRow district_words (IsDistrictRow s)
 MayHold s (key.Customer k) = IsRow customer_words IsCustomerRow
 MayHold s (key.NewOrder k) = MayBeRow new_order_words (λ r. Unit {0})
-MayHold s (key.Order k) = MayBeRow order_words (IsOrderIn s)
+MayHold s (key.Order k) = MayBeRow order_words (IsOrderOfScale s)
 MayHold s (key.OrderLine k) = MayBeRow line_words (IsLineRow s)
 MayHold s (key.Stock k) = IsRow stock_words IsStockRow
 MayHold s (key.Oldest k) = λ value. Unit {0}

@@ -6,12 +6,15 @@ ghost use Rattle.tables.specs.Records.{IsRecordKey};
 ghost use Rattle.tables.specs.Sizes.{IsScale};
 ghost use Rattle.tables.specs.WellFormed.{IsWellFormed};
 ghost use Rattle.tables.specs.declared.records.RecordKey.TheVariants as record_key;
-ghost use Rattle.encoding.specs.Puts.{MayHold, Puts};
+ghost use Rattle.encoding.specs.Puts.{IsRow, MayHold, Puts};
 
-use crate::decode::{customer_of, district_of, line_of, order_of, stock_of, warehouse_of};
 use money::Payload;
+use rows::{CustomerColumns, DistrictColumns, Row, WarehouseColumns};
 use std::alloc::AllocError;
-use tables::{CustomerKey, DistrictKey, LineKey, NewOrder, OrderKey, RecordKey, StockKey, Tables};
+use tables::{
+    Customer, CustomerKey, District, DistrictKey, LineKey, NewOrder, Order, OrderKey, OrderLine,
+    RecordKey, Scale, Stock, StockKey, Tables, Warehouse,
+};
 
 /// Puts the words of a record into tables: its row then has these words, and the columns that never change from
 /// the population's row. One look-up and one insert. The words of an index record change nothing, since it has
@@ -67,7 +70,12 @@ fn put_warehouse(
         (database tables.old) (database tables.new)) }
 {
     let first = population.warehouses.get(&key).unwrap();
-    tables.warehouses.insert(key, warehouse_of(first, words))?;
+    let columns: WarehouseColumns = row_of(&population.scale, words);
+    let row = Warehouse {
+        year_to_date: columns.year_to_date,
+        ..*first
+    };
+    tables.warehouses.insert(key, row)?;
     Ok(())
 }
 
@@ -85,7 +93,13 @@ fn put_district(
         (database tables.old) (database tables.new)) }
 {
     let first = population.districts.get(&key).unwrap();
-    tables.districts.insert(key, district_of(first, words))?;
+    let columns: DistrictColumns = row_of(&population.scale, words);
+    let row = District {
+        year_to_date: columns.year_to_date,
+        next_order: columns.next_order,
+        ..*first
+    };
+    tables.districts.insert(key, row)?;
     Ok(())
 }
 
@@ -103,7 +117,15 @@ fn put_customer(
         (database tables.old) (database tables.new)) }
 {
     let first = population.customers.get(&key).unwrap();
-    tables.customers.insert(key, customer_of(first, words))?;
+    let columns: CustomerColumns = row_of(&population.scale, words);
+    let row = Customer {
+        balance: columns.balance,
+        paid: columns.paid,
+        payments: columns.payments,
+        deliveries: columns.deliveries,
+        ..*first
+    };
+    tables.customers.insert(key, row)?;
     Ok(())
 }
 
@@ -137,7 +159,8 @@ fn put_order(
     ensures { OnOk result (Puts (database population.now) (record_key.Order key) (Some words.now)
         (database tables.old) (database tables.new)) }
 {
-    tables.orders.insert(key, order_of(words))?;
+    let row: Order = row_of(&population.scale, words);
+    tables.orders.insert(key, row)?;
     Ok(())
 }
 
@@ -154,7 +177,8 @@ fn put_line(
     ensures { OnOk result (Puts (database population.now) (record_key.OrderLine key) (Some words.now)
         (database tables.old) (database tables.new)) }
 {
-    tables.lines.insert(key, line_of(words))?;
+    let row: OrderLine = row_of(&population.scale, words);
+    tables.lines.insert(key, row)?;
     Ok(())
 }
 
@@ -171,6 +195,16 @@ fn put_stock(
     ensures { OnOk result (Puts (database population.now) (record_key.Stock key) (Some words.now)
         (database tables.old) (database tables.new)) }
 {
-    tables.stock.insert(key, stock_of(words))?;
+    let row: Stock = row_of(&population.scale, words);
+    tables.stock.insert(key, row)?;
     Ok(())
+}
+
+/// The row of words that are some row's, within its ranges.
+fn row_of<T: Row>(scale: &Scale, words: &Payload) -> T
+    requires { IsRow T.words_of (T.are scale.now) (Some words.now) }
+    ensures range { T.are scale.now result }
+    ensures words { words.now ≡ T.words_of result }
+{
+    T::read(scale, words).unwrap()
 }

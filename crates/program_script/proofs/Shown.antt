@@ -1,84 +1,65 @@
--- A row of a key of the scale, among the tables that a run began with and in its record.
-use Rattle.std.proofs.Common.{◌≡◌, ◌≢◌, ℕ, true, Option, Some, None, List, is_some, true≢false, refl, sym, ap, ◌∙◌, subst}
-use Rattle.std.specs.BTreeMap as tree
-use Rattle.std.specs.BTreeMap.{BTreeMap}
+-- A row that is shown: what its record says, and what the population's row has of it.
+use Rattle.std.proofs.Common.{◌≡◌, ℕ, Option, Some, None, List, refl, sym, ap, ◌∙◌}
 use Rattle.std.specs.Option.{option_map}
-use Rattle.std.proofs.lemmas.Option.{none-some}
-use Rattle.std.specs.FinMap.{FinMap, get, from_entries}
-use Rattle.std.specs.Ordering.{nat_cmp}
-use Rattle.std.specs.declared.cmp.Ordering.{Ordering}
-use Rattle.tables.specs.Sizes.{Sizes}
-use Rattle.tables.specs.Maps.{RowsAt}
-use Rattle.tables.specs.Keys.{IsWarehouseKey, IsDistrictKey, IsCustomerKey, district_cmp, customer_cmp}
-use Rattle.tables.specs.Database.{Database, database}
-use Rattle.tables.specs.WellFormed.{IsWellFormed}
-use Rattle.tables.specs.declared.Tables.{Tables}
+use Rattle.std.specs.FinMap.{get}
+use Rattle.std.proofs.lemmas.Option.{none-some, same_Some}
+use Rattle.tables.specs.Constant.{IsOf}
+use Rattle.tables.specs.Database.{Database}
+use Rattle.tables.specs.declared.keys.DistrictKey.{DistrictKey}
+use Rattle.tables.specs.declared.keys.CustomerKey.{CustomerKey}
 use Rattle.tables.specs.declared.rows.Warehouse.{Warehouse}
 use Rattle.tables.specs.declared.rows.District.{District}
 use Rattle.tables.specs.declared.rows.Customer.{Customer}
-use Rattle.tables.proofs.Orders.{IsExact, exact_number, exact_district, exact_customer}
-use Rattle.tables.proofs.Views.{get-view}
-use Rattle.tables.proofs.LookUps.{found}
-use Rattle.book.specs.History.{replay}
-use Rattle.book.specs.declared.entry.Entry.{Entry}
-use Rattle.book.proofs.Replaying.{replay-scale}
+use Rattle.rows.specs.Columns.{warehouse_columns, district_columns, customer_columns}
+use Rattle.rows.specs.declared.columns.WarehouseColumns.{WarehouseColumns}
+use Rattle.rows.specs.declared.columns.DistrictColumns.{DistrictColumns}
+use Rattle.rows.specs.declared.columns.CustomerColumns.{CustomerColumns}
+use Rattle.rows.proofs.Found.{found_row}
 
--- a table that has a row for each key of the scale
-pub record Shown {K : Type 0} (X : Type 0) (R : K → K → Ordering) : Type 1 where
-  pub exact : IsExact R
-  pub IsKey : Sizes → K → Type 0
-  pub tree_of : Tables → BTreeMap K X
-  pub rows : Database → FinMap R X
-  pub same : (x : Tables) → from_entries (tree_of x).entries ≡ rows (database x)
-  pub at : (t : Database) → IsWellFormed t → RowsAt (IsKey t.scale) (rows t)
+-- no row, where its record holds nothing
+pub no_row : {X : Type 0} (words_of : X → List ℕ) (row : Option X) → None ≡ option_map words_of row → row ≡ None
+no_row words_of None is = refl
+no_row words_of (Some r) is = absurd (none-some (words_of r) is)
 
-abbrev pub warehouses : Shown Warehouse nat_cmp
-warehouses = record {
-  exact = exact_number;
-  IsKey = IsWarehouseKey;
-  tree_of = λ x. x.warehouses;
-  rows = λ t. t.warehouses;
-  same = λ x. refl;
-  at = λ t wf. wf.warehouses;
-}
+-- a column that never changes, of a row and of the population's row
+same_column : {X Y : Type 0} (f : X → Y) (a b : Option X) (first r : X) → option_map f a ≡ option_map f b → b ≡ Some first → a ≡ Some r → f first ≡ f r
+same_column f a b first r same found is = same_Some (f first) (f r) (sym (ap (option_map f) found) ∙ (sym same ∙ ap (option_map f) is))
 
-abbrev pub districts : Shown District district_cmp
-districts = record {
-  exact = exact_district;
-  IsKey = IsDistrictKey;
-  tree_of = λ x. x.districts;
-  rows = λ t. t.districts;
-  same = λ x. refl;
-  at = λ t wf. wf.districts;
-}
+-- the row of these columns, where each row of them is this one
+one_row : {X C : Type 0} (f : X → C) (made : X) (c : C) (o : Option X) → option_map f o ≡ Some c → ((r : X) → o ≡ Some r → f r ≡ c → made ≡ r) → o ≡ Some made
+one_row f made c o held same =
+    let row = found_row f o c held in
+    row.1 ∙ ap Some (sym (same row.0 row.1 row.2))
 
-abbrev pub customers : Shown Customer customer_cmp
-customers = record {
-  exact = exact_customer;
-  IsKey = IsCustomerKey;
-  tree_of = λ x. x.customers;
-  rows = λ t. t.customers;
-  same = λ x. refl;
-  at = λ t wf. wf.customers;
-}
+module _ (t0 t : Database) (of : IsOf t0 t) where
+  pub warehouse_from : (k : ℕ) (first : Warehouse) (c : WarehouseColumns) → get t0.warehouses k ≡ Some first
+      → option_map warehouse_columns (get t.warehouses k) ≡ Some c → get t.warehouses k ≡ Some (record first { year_to_date = c.year_to_date })
+  warehouse_from k first c found held = one_row warehouse_columns _ c (get t.warehouses k) held (λ r is same.
+      let tax = same_column (λ r. r.tax) _ _ first r (of.warehouse_taxes k) found is in
+      λ i. record { tax = tax i; year_to_date = (sym same i).year_to_date })
 
-module _ {K X : Type 0} {R : K → K → Ordering} (shown : Shown X R) (t0 : Database) (x : Tables) (is : database x ≡ t0) (wf : IsWellFormed t0) (k : K) where
-  same_rows : shown.rows t0 ≡ from_entries (shown.tree_of x).entries
-  same_rows = sym (shown.same x ∙ ap shown.rows is)
+  pub district_from : (k : DistrictKey) (first : District) (c : DistrictColumns) → get t0.districts k ≡ Some first
+      → option_map district_columns (get t.districts k) ≡ Some c
+      → get t.districts k ≡ Some (record first { year_to_date = c.year_to_date; next_order = c.next_order })
+  district_from k first c found held = one_row district_columns _ c (get t.districts k) held (λ r is same.
+      let tax = same_column (λ r. r.tax) _ _ first r (of.district_taxes k) found is in
+      λ i. record { tax = tax i; year_to_date = (sym same i).year_to_date; next_order = (sym same i).next_order })
 
-  pub first_row : (r : X) → Some r ≡ tree.get R (shown.tree_of x) k → get (shown.rows t0) k ≡ Some r
-  first_row r e = ap (λ m. get m k) same_rows ∙ found shown.exact (shown.tree_of x) k r e
-
-  pub is_there : shown.IsKey t0.scale k → None ≢ tree.get R (shown.tree_of x) k
-  is_there key e =
-      let none : get (shown.rows t0) k ≡ None = ap (λ m. get m k) same_rows ∙ (get-view shown.exact (shown.tree_of x) k ∙ sym e) in
-      true≢false (sym ((shown.at t0 wf k).1 key) ∙ ap is_some none)
-
--- the record of a key of the scale holds its row's words
-pub has_words : {K X : Type 0} {R : K → K → Ordering} (IsKey : Sizes → K → Type 0) (t0 : Database) (history : List Entry) (words : X → List ℕ)
-    (m : FinMap R X) (k : K) → RowsAt (IsKey (replay t0 history).scale) m → IsKey t0.scale k → None ≢ option_map words (get m k)
-has_words IsKey t0 history words m k at key = go (get m k) ((at k).1 (subst (λ s. IsKey s k) (sym (replay-scale t0 history)) key))
-  where
-    go : (o : Option _) → is_some o ≡ true → None ≢ option_map words o
-    go None none e = true≢false (sym none)
-    go (Some r) there e = none-some (words r) e
+  pub customer_from : (k : CustomerKey) (first : Customer) (c : CustomerColumns) → get t0.customers k ≡ Some first
+      → option_map customer_columns (get t.customers k) ≡ Some c
+      → get t.customers k ≡ Some (record first { balance = c.balance; paid = c.paid; payments = c.payments; deliveries = c.deliveries })
+  customer_from k first c found held = one_row customer_columns _ c (get t.customers k) held (λ r is same.
+      let first_name = same_column (λ r. r.first_name) _ _ first r (of.first_names k) found is in
+      let last_name = same_column (λ r. r.last_name) _ _ first r (of.last_names k) found is in
+      let credit = same_column (λ r. r.credit) _ _ first r (of.credit k) found is in
+      let discount = same_column (λ r. r.discount) _ _ first r (of.discounts k) found is in
+      λ i. record {
+        first_name = first_name i;
+        last_name = last_name i;
+        credit = credit i;
+        discount = discount i;
+        balance = (sym same i).balance;
+        paid = (sym same i).paid;
+        payments = (sym same i).payments;
+        deliveries = (sym same i).deliveries;
+      })

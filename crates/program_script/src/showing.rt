@@ -1,8 +1,8 @@
 //! How a session shows a row.
 
-ghost use Rattle.std.specs.Prelude.{◌≡◌, Some, IsSome};
+ghost use Rattle.std.specs.Prelude.{◌≡◌, Some};
 ghost use Rattle.std.specs.FinMap.{get};
-ghost use Rattle.tables.specs.Keys.{IsOrderKey};
+ghost use Rattle.tables.specs.Keys.{IsWarehouseKey, IsDistrictKey, IsCustomerKey};
 ghost use Rattle.tables.specs.Database.{database};
 ghost use Rattle.tables.specs.Records.{IsRecordKey};
 ghost use Rattle.tables.specs.Rows.{row_at};
@@ -13,11 +13,12 @@ ghost use Rattle.program_script.specs.Turns.{row_of};
 
 use book::Run;
 use book_session::Session;
-use encoding::{customer_of, district_of, order_of, stock_of, warehouse_of};
 use money::Payload;
 use program_script_text::{ShowKey, ShownRow};
-use tables::limits::{MAX_CUSTOMERS, MAX_ORDERS};
-use tables::{Order, OrderKey, RecordKey, Tables, number_of_key};
+use rows::{CustomerColumns, DistrictColumns, Present, Row, WarehouseColumns};
+use tables::{
+    Customer, CustomerKey, District, DistrictKey, RecordKey, Tables, Warehouse, number_of_key,
+};
 
 /// The row at a key of the scale, or that there is no such order. Costs one record, and for a row with columns that
 /// never change a look-up in the population.
@@ -25,64 +26,89 @@ pub(crate) fn show<K: Run>(session: &Session<'_, K>, key: ShowKey) -> ShownRow
     requires { IsShowKey K.first.scale key }
     ensures { row_of (replay K.first session.now.history) key ≡ Some result }
 {
-    let Some(row) = find(session, key) else {
-        unreachable!();
-    };
-    row
-}
-
-/// The same, since the population and the records have a row for each key of the scale but an order's.
-fn find<K: Run>(session: &Session<'_, K>, key: ShowKey) -> Option<ShownRow>
-    requires { IsShowKey K.first.scale key }
-    ensures row { row_of (replay K.first session.now.history) key ≡ result }
-    ensures there { IsSome result }
-{
-    let tables = first_tables(session);
     match key {
         ShowKey::Warehouse(warehouse) => {
-            let first = tables.warehouses.get(&warehouse)?;
-            let words = words_of(session, RecordKey::Warehouse(warehouse))?;
-            let row = warehouse_of(first, &words);
-            Some(ShownRow::Warehouse { warehouse, row })
+            let row = warehouse_at(session, warehouse);
+            ShownRow::Warehouse { warehouse, row }
         }
         ShowKey::District(key) => {
-            let first = tables.districts.get(&key)?;
-            let words = words_of(session, RecordKey::District(key))?;
-            // D_NEXT_O_ID is at most one more than the order cap.
-            let scale = session.population().scale();
-            prove!(scale.orders() <= MAX_ORDERS);
-            let row = district_of(first, &words);
-            Some(ShownRow::District { key, row })
+            let row = district_at(session, key);
+            ShownRow::District { key, row }
         }
         ShowKey::Customer(key) => {
-            let first = tables.customers.get(&key)?;
-            let words = words_of(session, RecordKey::Customer(key))?;
-            let row = customer_of(first, &words);
-            Some(ShownRow::Customer { key, row })
+            let row = customer_at(session, key);
+            ShownRow::Customer { key, row }
         }
         ShowKey::Stock(key) => {
-            let words = words_of(session, RecordKey::Stock(key))?;
-            let row = stock_of(&words);
-            Some(ShownRow::Stock { key, row })
+            let row = present_at(session, key);
+            ShownRow::Stock { key, row }
         }
         ShowKey::Order(key) => {
-            let row = order_at(session, key);
-            Some(ShownRow::Order { key, row })
+            let row = row_at(session, key);
+            ShownRow::Order { key, row }
         }
     }
 }
 
-/// The row of ORDER at a key of the scale.
-fn order_at<K: Run>(session: &Session<'_, K>, key: OrderKey) -> Option<Order>
-    requires { IsOrderKey K.first.scale key }
-    ensures { result ≡ get (replay K.first session.now.history).orders key }
+/// The row of WAREHOUSE at a key of the scale.
+fn warehouse_at<K: Run>(session: &Session<'_, K>, key: u32) -> Warehouse
+    requires { IsWarehouseKey K.first.scale key }
+    ensures { get (replay K.first session.now.history).warehouses key ≡ Some result }
 {
-    let words = words_of(session, RecordKey::Order(key))?;
-    // O_C_ID is at most the number of customers.
-    let scale = session.population().scale();
-    prove!(scale.customers() <= MAX_CUSTOMERS);
-    let row = order_of(&words);
-    Some(row)
+    let first = first_tables(session).warehouses.get(&key).unwrap();
+    let columns: WarehouseColumns = present_at(session, key);
+    Warehouse {
+        year_to_date: columns.year_to_date,
+        ..*first
+    }
+}
+
+/// The row of DISTRICT at a key of the scale.
+fn district_at<K: Run>(session: &Session<'_, K>, key: DistrictKey) -> District
+    requires { IsDistrictKey K.first.scale key }
+    ensures { get (replay K.first session.now.history).districts key ≡ Some result }
+{
+    let first = first_tables(session).districts.get(&key).unwrap();
+    let columns: DistrictColumns = present_at(session, key);
+    District {
+        year_to_date: columns.year_to_date,
+        next_order: columns.next_order,
+        ..*first
+    }
+}
+
+/// The row of CUSTOMER at a key of the scale.
+fn customer_at<K: Run>(session: &Session<'_, K>, key: CustomerKey) -> Customer
+    requires { IsCustomerKey K.first.scale key }
+    ensures { get (replay K.first session.now.history).customers key ≡ Some result }
+{
+    let first = first_tables(session).customers.get(&key).unwrap();
+    let columns: CustomerColumns = present_at(session, key);
+    Customer {
+        balance: columns.balance,
+        paid: columns.paid,
+        payments: columns.payments,
+        deliveries: columns.deliveries,
+        ..*first
+    }
+}
+
+/// What the record of a key of the scale holds, of a table that has a row at each.
+fn present_at<T: Present, K: Run>(session: &Session<'_, K>, key: T::Key) -> T
+    requires { IsRecordKey K.first.scale (T.key_of key) }
+    ensures { T.at (replay K.first session.now.history) key ≡ Some result }
+{
+    row_at(session, key).unwrap()
+}
+
+/// The row that the record of a key holds, if there is one.
+fn row_at<T: Row, K: Run>(session: &Session<'_, K>, key: T::Key) -> Option<T>
+    requires { IsRecordKey K.first.scale (T.key_of key) }
+    ensures row { T.at (replay K.first session.now.history) key ≡ result }
+    ensures well_formed { IsWellFormed (replay K.first session.now.history) }
+{
+    let words = words_of(session, T::key(key))?;
+    T::read(&session.population().scale(), &words)
 }
 
 /// The tables that the run began with, which are well-formed.

@@ -16,7 +16,7 @@ use Rattle.tables.specs.declared.records.RecordKey.{RecordKey}
 use Rattle.tables.specs.declared.records.RecordKey.TheVariants as key
 use Rattle.tables.proofs.Numbers.{numbered, warehouse_there, district_there, customer_there, order_there, line_there, stock_there}
 use Rattle.tables.proofs.Numbers.{places as one_to_one}
-use Rattle.encoding.specs.Held.{IsOrderIn}
+use Rattle.rows.specs.Columns.{IsOrderOfScale}
 use Rattle.encoding.specs.Puts.{MayHold}
 use Rattle.tables.specs.Rows.{order_words, line_words}
 use Rattle.tables.specs.WellFormed.{IsLineRow}
@@ -85,7 +85,7 @@ module _ (s : Sizes) where
   place_may_hold table.NewOrder p None h e = (None, refl, λ r is. absurd (none-some r is))
   place_may_hold table.NewOrder p (Some words) h e = there new_order_words (λ r. Unit {0}) (Some words) (new_order_row s words e)
   place_may_hold table.Order p None h e = absurd (true≢false (sym e))
-  place_may_hold table.Order p (Some words) h e = there order_words (IsOrderIn s) (Some words) (order_row s words e)
+  place_may_hold table.Order p (Some words) h e = there order_words (IsOrderOfScale s) (Some words) (order_row s words e)
   place_may_hold table.OrderLine p None h e = absurd (true≢false (sym e))
   place_may_hold table.OrderLine p (Some words) h e = there line_words (IsLineRow s) (Some words) (line_row s words e)
   place_may_hold table.Item p value h e = absurd (not-suc-le-zero h)

@@ -1,7 +1,7 @@
 -- Words in the ranges of their columns, and the numbers that they are.
 use Rattle.std.proofs.Common.{◌≡◌, ℕ, zero, suc, ◌^◌, ◌<◌, ◌≤◌, ℤ, pos, ◌≤ℤ◌, true, ◌&&◌, true≢false, cond, List, [], ◌∷◌, ◌++◌, length, replicate}
 use Rattle.std.proofs.Common.{get_or, slice_index}
-use Rattle.std.proofs.Common.{Option, Some, refl, sym, ap, ◌∙◌, subst, arith, not-suc-le-zero}
+use Rattle.std.proofs.Common.{Option, Some, None, refl, sym, ap, ◌∙◌, subst, arith, not-suc-le-zero}
 use Rattle.std.specs.Prelude.{◌==◌, nat_lt, int_le}
 use Rattle.std.specs.Int.{w64}
 use Rattle.std.specs.Option.{unwrap_or, ForSome}
@@ -10,7 +10,6 @@ use Rattle.std.proofs.lemmas.Int.{ints, of_z-to_z}
 use Rattle.std.proofs.lemmas.Option.{none-some, same_Some}
 use Rattle.tables.specs.Sizes.{IsBetween, IsNumber}
 use Rattle.tables.specs.Rows.{money_word, money_of}
-use Rattle.encoding.specs.Words.{nullable}
 use Rattle.log_text.specs.Columns.{span, is_within, are_within}
 use Rattle.log_text.proofs.Fitting.{and_split}
 
@@ -85,16 +84,17 @@ pub back_in : {least most : ℤ} (word : ℕ) → IsIn least most word → money
 back_in word is = of_z-to_z w64 word is.small
 
 -- a column that may be null
-not_null : (n : ℕ) → nullable (suc n) ≡ Some (suc n)
-not_null n = grind arith
+abbrev pub nullable : ℕ → Option ℕ
+nullable zero = None
+nullable (suc n) = Some (suc n)
 
 pub null_back : (word : ℕ) → unwrap_or (nullable word) 0 ≡ word
 null_back zero = refl
-null_back (suc n) = ap (λ (o : Option ℕ). unwrap_or o 0) (not_null n)
+null_back (suc n) = refl
 
 null_some : (high word : ℕ) → word ≤ high → ForSome (nullable word) (λ n. IsNumber high n)
 null_some high zero h n e = absurd (none-some n e)
-null_some high (suc word) h n e = subst (λ m. IsNumber high m) (same_Some (suc word) n (sym (not_null word) ∙ e)) (omega arith, h)
+null_some high (suc word) h n e = subst (λ m. IsNumber high m) (same_Some (suc word) n e) (omega arith, h)
 
 pub null_in : (high word : ℕ) → IsIn (pos 0) (pos high) word → ForSome (nullable word) (λ n. IsNumber high n)
 null_in high word is = null_some high word (between 0 high word is).1

@@ -1,8 +1,8 @@
 //! The rows of HISTORY that entries of log files add.
 ghost use Rattle.std.specs.Prelude.{◌≡◌, ◌++◌, true, map, flat_map, OnOk};
 ghost use Rattle.tables.specs.Database.{database};
-ghost use Rattle.tables.specs.Sizes.{IsScale};
-ghost use Rattle.encoding.specs.Words.{FitsColumn};
+ghost use Rattle.tables.specs.Sizes.{Sizes, IsScale};
+ghost use Rattle.tables.specs.WellFormed.{IsHistoryRow};
 ghost use Rattle.log_text.specs.Entries.{logged};
 ghost use Rattle.log_text.specs.Writes.{are_writes};
 ghost use Rattle.recover_laws.specs.Rebuilt.{history_of_words as row_of, added_by, rows_in};
@@ -14,10 +14,9 @@ use rows::column::{H_AMOUNT, H_C_D_ID, H_C_ID, H_C_W_ID, H_D_ID, H_DATE, H_W_ID}
 use std::alloc::AllocError;
 use tables::{History, Table, Tables, money_from_word};
 
-/// H_C_ID, H_C_D_ID, H_C_W_ID, H_D_ID, H_W_ID, H_DATE and H_AMOUNT of the words.
+/// H_C_ID, H_C_D_ID, H_C_W_ID, H_D_ID, H_W_ID, H_DATE and H_AMOUNT of the words, which are a row's of some scale.
 fn history_of(words: &Payload) -> History
-    requires { FitsColumn words.now 0 × FitsColumn words.now 1 × FitsColumn words.now 2 × FitsColumn words.now 3
-        × FitsColumn words.now 4 × FitsColumn words.now 5 }
+    requires { (s : Sizes) × IsScale s × IsHistoryRow s (row_of words.now) }
     ensures { result ≡ row_of words.now }
 {
     History {

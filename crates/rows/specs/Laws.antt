@@ -6,11 +6,11 @@ use Rattle.std.specs.FinMap.{get}
 use Rattle.std.proofs.Common.{true≢false, ap, sym, subst, arith}
 use Rattle.std.proofs.lemmas.Option.{none-some, same_Some}
 use Rattle.tables.specs.Database.{Database}
-use Rattle.tables.specs.Sizes.{IsNumber}
+use Rattle.tables.specs.Sizes.{Sizes, IsNumber}
 use Rattle.tables.specs.Records.{IsRecordKey}
 use Rattle.tables.specs.OrderNumbers.{least, numbers_in, next_order}
 use Rattle.tables.specs.Rows.{row_at, warehouse_words, district_words, customer_words}
-use Rattle.tables.specs.WellFormed.{IsWellFormed, IsLineRow, IsStockRow, orderer}
+use Rattle.tables.specs.WellFormed.{IsWellFormed, IsDistrictRow, IsCustomerRow, IsLineRow, IsStockRow, orderer}
 use Rattle.tables.specs.declared.keys.DistrictKey.{DistrictKey}
 use Rattle.tables.specs.declared.keys.CustomerKey.{CustomerKey}
 use Rattle.tables.specs.declared.keys.OrderKey.{OrderKey}
@@ -18,6 +18,7 @@ use Rattle.tables.specs.declared.keys.LineKey.{LineKey}
 use Rattle.tables.specs.declared.keys.StockKey.{StockKey}
 use Rattle.tables.specs.declared.records.RecordKey.TheVariants as key
 use Rattle.tables.specs.declared.rows.District.{District}
+use Rattle.tables.specs.declared.rows.Customer.{Customer}
 use Rattle.tables.specs.declared.rows.Order.{Order}
 use Rattle.tables.specs.declared.rows.OrderLine.{OrderLine}
 use Rattle.tables.specs.declared.rows.Stock.{Stock}
@@ -62,6 +63,13 @@ pub customer_held : (t : Database) (k : CustomerKey)
 customer_held t k =
     in_two_steps customer_columns customer_columns_words customer_words (λ r. refl) (get t.customers k)
 
+pub district_range : (s : Sizes) (r : District) → IsDistrictRow s r → AreDistrictColumns s (district_columns r)
+district_range s r is = record { year_to_date = is.year_to_date; next_order = is.next_order }
+
+pub customer_range : (r : Customer) → IsCustomerRow r → AreCustomerColumns (customer_columns r)
+customer_range r is =
+    record { balance = is.balance; paid = is.paid; payments = is.payments; deliveries = is.deliveries }
+
 pub warehouse_within : (t : Database) (k : ℕ) (c : WarehouseColumns) → IsWellFormed t
     → IsRecordKey t.scale (key.Warehouse k) → option_map warehouse_columns (get t.warehouses k) ≡ Some c → AreWarehouseColumns c
 warehouse_within t k c well _ is =
@@ -72,17 +80,14 @@ pub district_within : (t : Database) (k : DistrictKey) (c : DistrictColumns) →
     → IsRecordKey t.scale (key.District k) → option_map district_columns (get t.districts k) ≡ Some c → AreDistrictColumns t.scale c
 district_within t k c well _ is =
     let found = found_of district_columns (get t.districts k) c is in
-    let row = well.district_rows k found.0 found.1 in
     subst (AreDistrictColumns t.scale) (sym found.2)
-    (record { year_to_date = row.year_to_date; next_order = row.next_order })
+    (district_range t.scale found.0 (well.district_rows k found.0 found.1))
 
 pub customer_within : (t : Database) (k : CustomerKey) (c : CustomerColumns) → IsWellFormed t
     → IsRecordKey t.scale (key.Customer k) → option_map customer_columns (get t.customers k) ≡ Some c → AreCustomerColumns c
 customer_within t k c well _ is =
     let found = found_of customer_columns (get t.customers k) c is in
-    let row = well.customer_rows k found.0 found.1 in
-    subst AreCustomerColumns (sym found.2)
-    (record { balance = row.balance; paid = row.paid; payments = row.payments; deliveries = row.deliveries })
+    subst AreCustomerColumns (sym found.2) (customer_range found.0 (well.customer_rows k found.0 found.1))
 
 pub order_within : (t : Database) (k : OrderKey) (r : Order) → IsWellFormed t → IsRecordKey t.scale (key.Order k)
     → get t.orders k ≡ Some r → IsOrderOfScale t.scale r

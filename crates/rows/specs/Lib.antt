@@ -1,3 +1,4 @@
 pub mod Columns
+pub mod Determined
 pub mod Laws
 pub mod Reading

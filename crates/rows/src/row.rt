@@ -21,6 +21,9 @@ ghost use Rattle.rows.specs.Laws.{warehouse_within, district_within, customer_wi
 ghost use Rattle.rows.specs.Laws.{line_within, stock_within, oldest_within, last_within};
 ghost use Rattle.rows.specs.Laws.{warehouse_there, district_there, customer_there, stock_there};
 ghost use Rattle.rows.specs.Laws.{oldest_there, last_there};
+ghost use Rattle.rows.specs.Determined.{warehouse_determined, district_determined, customer_determined};
+ghost use Rattle.rows.specs.Determined.{order_determined, line_determined, stock_determined};
+ghost use Rattle.rows.specs.Determined.{oldest_determined, last_determined};
 
 use crate::columns::{CustomerColumns, DistrictColumns, WarehouseColumns};
 use crate::index::{Last, Oldest};
@@ -35,8 +38,8 @@ use tables::{
 
 /// The rows of a table, as its records hold them, each by its key.
 ///
-/// Its laws: a record holds the words of its key's row, or nothing where there is none; and rows of well-formed tables
-/// are within their ranges.
+/// Its laws: a record holds the words of its key's row, or nothing where there is none; rows of well-formed tables are
+/// within their ranges; and those that are and have the same words are the same.
 pub trait Keyed {
     type Key: Copy;
 
@@ -60,6 +63,8 @@ pub trait Keyed {
 
     ghost within: { (t : Database) (k : Self.Key) (r : Self) → IsWellFormed t
         → IsRecordKey t.scale (record_of k) → at t k ≡ Some r → are t.scale r };
+
+    ghost determined: { (s : Sizes) (a b : Self) → are s a → are s b → words_of a ≡ words_of b → a ≡ b };
 }
 
 /// Rows that a record of seven words holds.
@@ -93,6 +98,8 @@ impl Keyed for WarehouseColumns {
     ghost record_holds_row = { warehouse_held };
 
     ghost within = { warehouse_within };
+
+    ghost determined = { λ s. warehouse_determined };
 
     fn key(key: u32) -> RecordKey {
         RecordKey::Warehouse(key)
@@ -128,6 +135,8 @@ impl Keyed for DistrictColumns {
 
     ghost within = { district_within };
 
+    ghost determined = { district_determined };
+
     fn key(key: DistrictKey) -> RecordKey {
         RecordKey::District(key)
     }
@@ -161,6 +170,8 @@ impl Keyed for CustomerColumns {
     ghost record_holds_row = { customer_held };
 
     ghost within = { customer_within };
+
+    ghost determined = { λ s. customer_determined };
 
     fn key(key: CustomerKey) -> RecordKey {
         RecordKey::Customer(key)
@@ -198,6 +209,8 @@ impl Keyed for Order {
 
     ghost within = { order_within };
 
+    ghost determined = { order_determined };
+
     fn key(key: OrderKey) -> RecordKey {
         RecordKey::Order(key)
     }
@@ -230,6 +243,8 @@ impl Keyed for OrderLine {
 
     ghost within = { line_within };
 
+    ghost determined = { line_determined };
+
     fn key(key: LineKey) -> RecordKey {
         RecordKey::OrderLine(key)
     }
@@ -261,6 +276,8 @@ impl Keyed for Stock {
     ghost record_holds_row = { λ t k. refl };
 
     ghost within = { stock_within };
+
+    ghost determined = { λ s a b in_a in_b. stock_determined a b };
 
     fn key(key: StockKey) -> RecordKey {
         RecordKey::Stock(key)
@@ -298,6 +315,8 @@ impl Keyed for Oldest {
 
     ghost within = { oldest_within };
 
+    ghost determined = { λ s a b in_a in_b. oldest_determined a b };
+
     fn key(key: DistrictKey) -> RecordKey {
         RecordKey::Oldest(key)
     }
@@ -333,6 +352,8 @@ impl Keyed for Last {
     ghost record_holds_row = { λ t k. refl };
 
     ghost within = { last_within };
+
+    ghost determined = { λ s a b in_a in_b. last_determined a b };
 
     fn key(key: CustomerKey) -> RecordKey {
         RecordKey::Last(key)

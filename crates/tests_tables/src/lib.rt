@@ -6,8 +6,6 @@ mod building_tests;
 #[cfg(test)]
 mod conditions_tests;
 #[cfg(test)]
-mod decoding_tests;
-#[cfg(test)]
 mod limits_tests;
 #[cfg(test)]
 mod money_tests;
@@ -17,5 +15,7 @@ mod new_order_tests;
 mod newest_tests;
 #[cfg(test)]
 mod population_tests;
+#[cfg(test)]
+mod reading_tests;
 #[cfg(test)]
 mod records_tests;

@@ -3,7 +3,7 @@ use Rattle.tables.specs.Database.{database}
 use Rattle.tables.specs.Rows.{new_order_words}
 use Rattle.tables.proofs.Orders.{exact_order}
 use Rattle.tables.proofs.Views.{insert-view}
-use Rattle.encoding.proofs.Decoded.{is_row}
+use Rattle.encoding.proofs.Given.{is_row}
 use Rattle.encoding.proofs.Puts.{puts_new_order}
 use Rattle.encoding.proofs.putting.put_new_order.Goals as goal
 

@@ -5,7 +5,7 @@ use Rattle.tables.specs.Rows.{rows}
 use Rattle.book.specs.History.{replay}
 use Rattle.tables.specs.Database.{Database}
 use Rattle.book.proofs.Replaying.{replay-IsOf}
-use Rattle.encoding.proofs.FromWords.{record_at}
+use Rattle.encoding.proofs.Numbered.{record_at}
 use Rattle.program_script.proofs.showing.words_of.Goals as goal
 
 pub returns-clause-words : goal.returns-clause-words

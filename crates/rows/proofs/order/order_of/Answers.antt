@@ -1,4 +1,4 @@
-use Rattle.std.proofs.Common.{rules, ◌≡◌, Some, List, ℕ, [], ◌∷◌, subst}
+use Rattle.std.proofs.Common.{rules, ◌≡◌, List, ℕ, [], ◌∷◌, subst}
 use Rattle.std.proofs.lemmas.Option.{same_Some}
 use Rattle.tables.specs.declared.rows.Order.{Order}
 use Rattle.tables.specs.Sizes.{IsNumber}

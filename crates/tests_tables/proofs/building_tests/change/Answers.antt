@@ -4,7 +4,7 @@ use Rattle.std.proofs.lemmas.Option.{none-some, same_Some}
 use Rattle.tables.specs.Sizes.{Sizes}
 use Rattle.tables.specs.declared.rows.District.{District}
 use Rattle.tables.specs.declared.rows.Order.{Order}
-use Rattle.encoding.specs.Held.{IsOrderIn}
+use Rattle.rows.specs.Columns.{IsOrderOfScale}
 use Rattle.tests_tables.proofs.building_tests.change.Goals as goal
 
 pub write-requires-clause-words : goal.write-requires-clause-words
@@ -17,8 +17,8 @@ pub write-requires-2-clause-words : goal.write-requires-2-clause-words
 write-requires-2-clause-words c =
     let customers : c.args.scale.now.customers ≡ 10 = ap (λ (s : Sizes). s.customers) c.requires.scale in
     let row : Order = record { customer = 3; entry_date = 2; carrier = None; line_count = 5; all_local = true } in
-    let is : IsOrderIn c.args.scale.now row = record {
-      range = record { entry_date = (omega arith, omega arith); carrier = λ n e. absurd (none-some n e); line_count = (omega arith, omega arith) };
+    let is : IsOrderOfScale c.args.scale.now row = record {
+      row = record { entry_date = (omega arith, omega arith); carrier = λ n e. absurd (none-some n e); line_count = (omega arith, omega arith) };
       customer = (omega arith, omega arith);
     } in
-    (Some row, refl, λ r e. subst (IsOrderIn c.args.scale.now) (same_Some row r e) is)
+    (Some row, refl, λ r e. subst (IsOrderOfScale c.args.scale.now) (same_Some row r e) is)

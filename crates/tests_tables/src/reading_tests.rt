@@ -1,9 +1,9 @@
 //! Rows from the words of their records.
 
-use encoding::{line_of, order_of};
 use money::Cents;
+use rows::Row;
 use std::test::Fail;
-use tables::{Order, OrderLine};
+use tables::{Order, OrderLine, Scale};
 
 #[test]
 fn an_order_that_is_not_delivered(rt: HostRuntime) -> Result<(), Fail> {
@@ -14,7 +14,8 @@ fn an_order_that_is_not_delivered(rt: HostRuntime) -> Result<(), Fail> {
         line_count: 5,
         all_local: true,
     };
-    assert_eq!(rt; order_of(&[3, 1, 0, 5, 1, 0, 0]), order);
+    let scale = Scale::new(1, 2, 10, 20, 30, 1_000)?;
+    assert_eq!(rt; Order::read(&scale, &[3, 1, 0, 5, 1, 0, 0]), Some(order));
     Ok(())
 }
 
@@ -27,6 +28,10 @@ fn a_line_that_is_delivered(rt: HostRuntime) -> Result<(), Fail> {
         quantity: 10,
         amount: Cents::new(1_000),
     };
-    assert_eq!(rt; line_of(&[7, 2, 9, 10, 1_000, 0, 0]), line);
+    let scale = Scale::new(2, 2, 10, 20, 30, 1_000)?;
+    assert_eq!(rt;
+        OrderLine::read(&scale, &[7, 2, 9, 10, 1_000, 0, 0]),
+        Some(line)
+    );
     Ok(())
 }

@@ -1,0 +1,13 @@
+use Rattle.std.proofs.Common.{IsSome, sym, subst}
+use Rattle.tables.specs.Sizes.{Sizes}
+use Rattle.tables.specs.Records.{IsRecordKey}
+use Rattle.book.specs.History.{replay}
+use Rattle.book.proofs.Replaying.{replay-scale}
+use Rattle.program_script.proofs.showing.present_at.Goals as goal
+
+pub unwrap-requires : goal.unwrap-requires
+unwrap-requires g c =
+    let t0 = g.K.Run.first in
+    let history = c.args.session.now.history in
+    let key = subst (λ (s : Sizes). IsRecordKey s (g.T.Keyed.key_of c.args.key)) (sym (replay-scale t0 history)) c.requires in
+    subst (λ row. IsSome row) c.row_at.ensures.row (g.met.T.Present.there (replay t0 history) c.args.key c.row_at.ensures.well_formed key)
