@@ -95,7 +95,7 @@ fn customer_at<K: Run>(session: &Session<'_, K>, key: CustomerKey) -> Customer
 
 /// What the record of a key of the scale holds, of a table that has a row at each.
 fn present_at<T: Present, K: Run>(session: &Session<'_, K>, key: T::Key) -> T
-    requires { IsRecordKey K.first.scale (T.key_of key) }
+    requires { IsRecordKey K.first.scale (T.record_of key) }
     ensures { T.at (replay K.first session.now.history) key ≡ Some result }
 {
     row_at(session, key).unwrap()
@@ -103,7 +103,7 @@ fn present_at<T: Present, K: Run>(session: &Session<'_, K>, key: T::Key) -> T
 
 /// The row that the record of a key holds, if there is one.
 fn row_at<T: Row, K: Run>(session: &Session<'_, K>, key: T::Key) -> Option<T>
-    requires { IsRecordKey K.first.scale (T.key_of key) }
+    requires { IsRecordKey K.first.scale (T.record_of key) }
     ensures row { T.at (replay K.first session.now.history) key ≡ result }
     ensures well_formed { IsWellFormed (replay K.first session.now.history) }
 {

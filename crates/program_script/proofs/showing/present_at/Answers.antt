@@ -9,5 +9,5 @@ pub unwrap-requires : goal.unwrap-requires
 unwrap-requires g c =
     let t0 = g.K.Run.first in
     let history = c.args.session.now.history in
-    let key = subst (λ (s : Sizes). IsRecordKey s (g.T.Keyed.key_of c.args.key)) (sym (replay-scale t0 history)) c.requires in
+    let key = subst (λ (s : Sizes). IsRecordKey s (g.T.Keyed.record_of c.args.key)) (sym (replay-scale t0 history)) c.requires in
     subst (λ row. IsSome row) c.row_at.ensures.row (g.met.T.Present.there (replay t0 history) c.args.key c.row_at.ensures.well_formed key)
