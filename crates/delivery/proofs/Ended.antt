@@ -28,7 +28,7 @@ use Rattle.delivery.specs.Steps.{next_home, next_key, with_dates, amount_up_to, 
 use Rattle.delivery.specs.Ending.{Waits, IsCredited, buyer_of, credited_columns, ending_changes}
 use Rattle.rows.specs.Columns.{customer_columns, customer_columns_words}
 use Rattle.rows.specs.declared.columns.CustomerColumns.{CustomerColumns}
-use Rattle.rows.proofs.Found.{found_row}
+use Rattle.rows.specs.Laws.{found_row}
 use Rattle.tables.specs.declared.rows.Order.{Order}
 use Rattle.delivery.proofs.Dated.{begun}
 use Rattle.delivery.proofs.Done.{ending, ended, ended_others, none_changed}

@@ -37,7 +37,7 @@ lawful_rows t wf (key.District k) is = row_there (IsDistrictKey t.scale) (IsDist
 lawful_rows t wf (key.Customer k) is = row_there (IsCustomerKey t.scale) IsCustomerRow customer_words t.customers k wf.customers (wf.customer_rows k) is
 lawful_rows t wf (key.NewOrder k) is = (get t.new_orders k, refl, λ r e. tt)
 lawful_rows t wf (key.Order k) is =
-    (get t.orders k, refl, λ r. order_within t k r wf)
+    (get t.orders k, refl, λ r. order_within t k r wf is)
 lawful_rows t wf (key.OrderLine k) is = (get t.lines k, refl, wf.line_rows k)
 lawful_rows t wf (key.Stock k) is = row_there (IsStockKey t.scale) IsStockRow stock_words t.stock k wf.stock (wf.stock_rows k) is
 lawful_rows t wf (key.Oldest k) is = tt

@@ -14,7 +14,8 @@ use Rattle.tables.specs.declared.new_order.NewOrderInput.{NewOrderInput}
 use Rattle.tables.specs.declared.records.RecordKey.TheVariants as key
 use Rattle.rows.specs.Columns.{district_columns}
 use Rattle.rows.specs.declared.columns.DistrictColumns.{DistrictColumns}
-use Rattle.rows.proofs.Found.{found_row, column_read}
+use Rattle.rows.specs.Laws.{found_row}
+use Rattle.rows.proofs.Found.{column_read}
 use Rattle.readset.specs.Reads.{held, Keeps}
 use Rattle.readset.specs.Writes.{WriteSetView, no_writes}
 use Rattle.readset.specs.Changes.{Holds, puts_all}

@@ -14,7 +14,7 @@ use Rattle.tables.specs.declared.payment.PaymentInput.{PaymentInput}
 use Rattle.tables.specs.declared.input.Input.TheVariants as input
 use Rattle.tables.specs.declared.reply.Reply.TheVariants as reply
 use Rattle.rows.specs.Columns.{warehouse_columns, district_columns, customer_columns}
-use Rattle.rows.proofs.Found.{found_row}
+use Rattle.rows.specs.Laws.{found_row}
 use Rattle.rows.specs.Columns.{warehouse_columns_words, district_columns_words, customer_columns_words}
 use Rattle.rows.specs.declared.columns.WarehouseColumns.{WarehouseColumns}
 use Rattle.rows.specs.declared.columns.DistrictColumns.{DistrictColumns}

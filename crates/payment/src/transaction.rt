@@ -33,7 +33,8 @@ struct Rows {
 
 /// Executes a Payment (TPC-C 2.5.2.2) in a transaction that has read nothing: reads its records once each, and says
 /// what it is to write and to reply if it commits. No cell changes. Gives back the reader. Costs three loads and a
-/// few look-ups, whatever the tables' size, and by last name what `Population::customer` does.
+/// few look-ups, memory for what it reads and writes, whatever the tables' size, and by last name what
+/// `Population::customer` does.
 ///
 /// # Errors
 ///
@@ -114,8 +115,8 @@ fn read<R: Wait, K: Start>(
     })
 }
 
-/// What a payment of this amount makes of the rows: W_YTD and D_YTD raised, C_BALANCE lowered, C_YTD_PAYMENT raised,
-/// and one payment more.
+/// What a payment of this amount, from 0 to 5,000.00, makes of the rows: W_YTD and D_YTD raised, C_BALANCE lowered,
+/// C_YTD_PAYMENT raised, and one payment more.
 fn raised(rows: &Rows, amount: Cents) -> Rows
     requires rows { (s : Sizes) × AreInRange s rows.now }
     requires low { pos 0 ≤ℤ amount }

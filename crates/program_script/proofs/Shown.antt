@@ -14,7 +14,7 @@ use Rattle.rows.specs.Columns.{warehouse_columns, district_columns, customer_col
 use Rattle.rows.specs.declared.columns.WarehouseColumns.{WarehouseColumns}
 use Rattle.rows.specs.declared.columns.DistrictColumns.{DistrictColumns}
 use Rattle.rows.specs.declared.columns.CustomerColumns.{CustomerColumns}
-use Rattle.rows.proofs.Found.{found_row}
+use Rattle.rows.specs.Laws.{found_row}
 
 -- no row, where its record holds nothing
 pub no_row : {X : Type 0} (words_of : X → List ℕ) (row : Option X) → None ≡ option_map words_of row → row ≡ None

@@ -12,10 +12,6 @@ use Rattle.tables.specs.declared.rows.OrderLine.{OrderLine}
 use Rattle.readset.specs.Reads.{ReadSetView}
 use Rattle.readset.specs.Explains.{IsCandidate}
 
--- the district of an order
-abbrev pub home_of : OrderKey → DistrictKey
-home_of k = record { warehouse = k.warehouse; district = k.district }
-
 -- O_OL_CNT of an order, or 0 where there is no such order
 abbrev pub order_line_count : Database → OrderKey → ℕ
 order_line_count t k = option_map_or (λ r. r.line_count) (get t.orders k) 0

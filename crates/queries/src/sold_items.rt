@@ -6,13 +6,13 @@ ghost use Rattle.std.specs.List.Sorted.{IsStrictlyIncreasing};
 ghost use Rattle.std.specs.Option.{ForSome, option_map, option_map_or};
 ghost use Rattle.std.specs.FinMap.{get};
 ghost use Rattle.tables.specs.Sizes.{Sizes, IsNumber};
-ghost use Rattle.tables.specs.Keys.{IsDistrictKey, IsOrderKey, IsLineKey, IsItemKey};
+ghost use Rattle.tables.specs.Keys.{IsDistrictKey, IsOrderKey, IsLineKey, IsItemKey, district_of_order};
 ghost use Rattle.tables.specs.OrderNumbers.{next_order};
 ghost use Rattle.tables.specs.StockLevel.{is_sold};
 ghost use Rattle.tables.specs.declared.limits.TheConstants.{MAX_ORDER_LINES, RECENT_ORDERS};
 ghost use Rattle.money.specs.declared.refusal.Refusal.TheVariants.{OutOfMemory};
 ghost use Rattle.readset.specs.Transaction.{Finds, IsStepRefusal, ReadsMore};
-ghost use Rattle.queries.specs.SoldItems.{home_of, order_line_count, AreItems};
+ghost use Rattle.queries.specs.SoldItems.{order_line_count, AreItems};
 
 use money::Refusal;
 use readset::{Start, Transaction, read_present, read_row};
@@ -99,8 +99,8 @@ fn order_items<R: Wait, K: Start>(
 ) -> Result<(), Refusal>
     requires order { IsOrderKey K.tables.scale order }
     ensures sold { (first : ℕ) → first ≤ order.order
-        → AreItems K.tables (home_of order) first order.order 0 transaction.old.reads items.old.items
-        → OnOk result (AreItems K.tables (home_of order) first (order.order + 1) 0 transaction.new.reads
+        → AreItems K.tables (district_of_order order) first order.order 0 transaction.old.reads items.old.items
+        → OnOk result (AreItems K.tables (district_of_order order) first (order.order + 1) 0 transaction.new.reads
         items.new.items) }
     ensures items { All (IsItemKey K.tables.scale) items.old.items
         → All (IsItemKey K.tables.scale) items.new.items }

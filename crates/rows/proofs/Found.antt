@@ -1,15 +1,10 @@
--- The row whose columns were found, and the row that was read.
+-- A column of the row whose columns were found, and the row that was read.
 use Rattle.std.proofs.Common.{◌≡◌, ℕ, List, Option, Some, None, refl, sym, ap}
 use Rattle.std.specs.Option.{option_map, option_map_or}
 use Rattle.std.proofs.lemmas.Option.{none-some, same_Some}
 use Rattle.rows.specs.Reading.{IsReading}
 
 module _ {X C : Type 0} (f : X → C) where
-  pub found_row : (row : Option X) (c : C) → option_map f row ≡ Some c → (r : X) × (row ≡ Some r) × (f r ≡ c)
-  found_row None c is = absurd (none-some c is)
-  found_row (Some r) c is = (r, refl, same_Some (f r) c is)
-
-  -- one of its columns
   pub column_read : {Y : Type 0} (g : C → Y) (none : Y) (row : Option X) (c : C) → option_map f row ≡ Some c
       → option_map_or (λ r. g (f r)) row none ≡ g c
   column_read g none None c is = absurd (none-some c is)

@@ -39,10 +39,11 @@ in_two_steps : {A B C : Type 0} (f : A → B) (g : B → C) (h : A → C) → ((
 in_two_steps f g h same None = refl
 in_two_steps f g h same (Some a) = ap Some (same a)
 
-found_of : {A B : Type 0} (f : A → B) (o : Option A) (b : B) → option_map f o ≡ Some b
-    → (a : A) × (o ≡ Some a) × (b ≡ f a)
-found_of f None b is = absurd (none-some b is)
-found_of f (Some a) b is = (a, refl, sym (same_Some (f a) b is))
+-- the row whose columns were found
+pub found_row : {A B : Type 0} (f : A → B) (o : Option A) (b : B) → option_map f o ≡ Some b
+    → (a : A) × (o ≡ Some a) × (f a ≡ b)
+found_row f None b is = absurd (none-some b is)
+found_row f (Some a) b is = (a, refl, same_Some (f a) b is)
 
 some_mapped : {A B : Type 0} (f : A → B) (o : Option A) → IsSome o → IsSome (option_map f o)
 some_mapped f None some = some
@@ -73,21 +74,21 @@ customer_range r is =
 pub warehouse_within : (t : Database) (k : ℕ) (c : WarehouseColumns) → IsWellFormed t
     → IsRecordKey t.scale (key.Warehouse k) → option_map warehouse_columns (get t.warehouses k) ≡ Some c → AreWarehouseColumns c
 warehouse_within t k c well _ is =
-    let found = found_of warehouse_columns (get t.warehouses k) c is in
-    subst AreWarehouseColumns (sym found.2) (well.warehouse_rows k found.0 found.1)
+    let found = found_row warehouse_columns (get t.warehouses k) c is in
+    subst AreWarehouseColumns found.2 (well.warehouse_rows k found.0 found.1)
 
 pub district_within : (t : Database) (k : DistrictKey) (c : DistrictColumns) → IsWellFormed t
     → IsRecordKey t.scale (key.District k) → option_map district_columns (get t.districts k) ≡ Some c → AreDistrictColumns t.scale c
 district_within t k c well _ is =
-    let found = found_of district_columns (get t.districts k) c is in
-    subst (AreDistrictColumns t.scale) (sym found.2)
+    let found = found_row district_columns (get t.districts k) c is in
+    subst (AreDistrictColumns t.scale) found.2
     (district_range t.scale found.0 (well.district_rows k found.0 found.1))
 
 pub customer_within : (t : Database) (k : CustomerKey) (c : CustomerColumns) → IsWellFormed t
     → IsRecordKey t.scale (key.Customer k) → option_map customer_columns (get t.customers k) ≡ Some c → AreCustomerColumns c
 customer_within t k c well _ is =
-    let found = found_of customer_columns (get t.customers k) c is in
-    subst AreCustomerColumns (sym found.2) (customer_range found.0 (well.customer_rows k found.0 found.1))
+    let found = found_row customer_columns (get t.customers k) c is in
+    subst AreCustomerColumns found.2 (customer_range found.0 (well.customer_rows k found.0 found.1))
 
 pub order_within : (t : Database) (k : OrderKey) (r : Order) → IsWellFormed t → IsRecordKey t.scale (key.Order k)
     → get t.orders k ≡ Some r → IsOrderOfScale t.scale r

@@ -7,10 +7,10 @@ ghost use Rattle.tables.specs.declared.limits.TheConstants.{MAX_LINE_AMOUNT};
 ghost use Rattle.rows.specs.Reading.{IsReading};
 ghost use Rattle.rows.specs.Columns.{line_columns};
 
-use crate::reading::{money, nullable, number};
+use crate::reading::{nullable, number};
 use money::{Cents, Payload};
 use tables::limits::{MAX_DATE, MAX_LINE_AMOUNT, MAX_QUANTITY};
-use tables::{OrderLine, Scale};
+use tables::{OrderLine, Scale, money_from_word};
 
 /// The line of these words, or None where they are no line's of this scale.
 pub(crate) fn line_of_words(scale: &Scale, words: &Payload) -> Option<OrderLine>
@@ -63,7 +63,7 @@ fn line_of(
 fn line_amount(word: u64) -> Option<Cents>
     ensures { IsReading (λ z. (pos 0 ≤ℤ z) × (z ≤ℤ MAX_LINE_AMOUNT)) money_word word result }
 {
-    let amount = money(word)?;
+    let amount = money_from_word(word);
     if Cents::new(0) <= amount && amount <= Cents::new(MAX_LINE_AMOUNT) {
         Some(amount)
     } else {

@@ -4,7 +4,8 @@ use Rattle.std.specs.FinMap.{get}
 use Rattle.tables.specs.declared.keys.LineKey.{LineKey}
 use Rattle.tables.specs.Keys.{IsItemKey}
 use Rattle.readset.proofs.UnderWay.{reads_twice, candidate_still}
-use Rattle.queries.specs.SoldItems.{home_of, AreItems}
+use Rattle.tables.specs.Keys.{district_of_order}
+use Rattle.queries.specs.SoldItems.{AreItems}
 use Rattle.queries.proofs.LookedAt.{still_items, next_line, next_first}
 use Rattle.queries.proofs.Pushed.{all_with, length_with}
 use Rattle.queries.proofs.sold_items.order_items.Goals as goal
@@ -14,7 +15,7 @@ loop-done-init g c =
     let t0 = g.K.Start.tables in
     let read = c.read_line_count.ensures.reads in
     record {
-      sold = λ first low start. still_items t0 (home_of c.args.order) first c.args.order.order 0 c.args.transaction.now.reads
+      sold = λ first low start. still_items t0 (district_of_order c.args.order) first c.args.order.order 0 c.args.transaction.now.reads
           c.read_line_count.new.transaction.reads c.args.items.now.items start read.keeps;
       keys = λ all. all;
       counted = c.in_ok-count.ensures.lines;
@@ -30,9 +31,9 @@ loop-done-preserved g c =
     let more = c.read_item.ensures.reads in
     record {
       sold = λ first low start.
-          subst (λ (items : List ℕ). AreItems t0 (home_of c.args.order) first c.args.order.order (c.loop-done.done + 1) c.read_item.new.transaction.reads items)
+          subst (λ (items : List ℕ). AreItems t0 (district_of_order c.args.order) first c.args.order.order (c.loop-done.done + 1) c.read_item.new.transaction.reads items)
           pushed
-          (next_line t0 (home_of c.args.order) first c.args.order.order c.loop-done.done c.loop-done.transaction.reads c.read_item.new.transaction.reads
+          (next_line t0 (district_of_order c.args.order) first c.args.order.order c.loop-done.done c.loop-done.transaction.reads c.read_item.new.transaction.reads
           c.loop-done.items.items c.in_ok-item.item
           (i.sold first low start) more.keeps
           (λ t h. ap (λ (k : LineKey). option_map (λ r. r.item) (get t.lines k)) (sym c.line_key.ensures) ∙ c.in_ok-item.ensures.item t h));
@@ -48,7 +49,7 @@ pub returns-clause-sold : goal.returns-clause-sold
 returns-clause-sold g c = λ first low start.
     let t0 = g.K.Start.tables in
     let all : c.loop-done.done ≡ c.in_ok-count.count = omega (arith, c.loop-done.auto.done-end, c.loop-done-test.false) in
-    next_first t0 (home_of c.args.order) first c.args.order.order c.in_ok-count.count c.loop-done.transaction.reads c.loop-done.items.items low
+    next_first t0 (district_of_order c.args.order) first c.args.order.order c.in_ok-count.count c.loop-done.transaction.reads c.loop-done.items.items low
     c.loop-done.invariant.counted
-    (subst (λ m. AreItems t0 (home_of c.args.order) first c.args.order.order m c.loop-done.transaction.reads c.loop-done.items.items) all
+    (subst (λ m. AreItems t0 (district_of_order c.args.order) first c.args.order.order m c.loop-done.transaction.reads c.loop-done.items.items) all
     (c.loop-done.invariant.sold first low start))

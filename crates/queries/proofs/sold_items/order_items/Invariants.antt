@@ -1,14 +1,15 @@
 use Rattle.std.proofs.Common.{◌≡◌, ℕ, ◌+◌, ◌≤◌, length, All}
 use Rattle.tables.specs.Keys.{IsItemKey}
 use Rattle.readset.specs.Transaction.{AtAll, ReadsMore}
-use Rattle.queries.specs.SoldItems.{home_of, order_line_count, AreItems}
+use Rattle.tables.specs.Keys.{district_of_order}
+use Rattle.queries.specs.SoldItems.{order_line_count, AreItems}
 use Rattle.queries.proofs.sold_items.order_items.Given as goal
 
 -- so many lines of the order are looked at
 abbrev pub invariant-loop-done : goal.invariant-loop-done
 invariant-loop-done g l = record {
-  sold : (first : ℕ) → first ≤ l.order.order → AreItems g.K.Start.tables (home_of l.order) first l.order.order 0 l.fn.transaction.reads l.fn.items.items
-      → AreItems g.K.Start.tables (home_of l.order) first l.order.order l.done l.transaction.reads l.items.items;
+  sold : (first : ℕ) → first ≤ l.order.order → AreItems g.K.Start.tables (district_of_order l.order) first l.order.order 0 l.fn.transaction.reads l.fn.items.items
+      → AreItems g.K.Start.tables (district_of_order l.order) first l.order.order l.done l.transaction.reads l.items.items;
   keys : All (IsItemKey g.K.Start.tables.scale) l.fn.items.items → All (IsItemKey g.K.Start.tables.scale) l.items.items;
   counted : AtAll g.K.Start.tables l.transaction (λ t. order_line_count t l.order ≡ l.count);
   count : length l.items.items ≤ length l.fn.items.items + l.done;

@@ -4,7 +4,8 @@ use Rattle.tables.specs.Keys.{IsItemKey}
 use Rattle.tables.specs.declared.limits.TheConstants.{MAX_ORDER_LINES, RECENT_ORDERS}
 use Rattle.readset.proofs.UnderWay.{reads_none, reads_twice}
 use Rattle.tables.specs.declared.keys.OrderKey.{OrderKey}
-use Rattle.queries.specs.SoldItems.{AreItems, home_of}
+use Rattle.tables.specs.Keys.{district_of_order}
+use Rattle.queries.specs.SoldItems.{AreItems}
 use Rattle.queries.proofs.LookedAt.{none_before, all_sold}
 use Rattle.queries.proofs.sold_items.sold_items.Goals as goal
 
@@ -32,8 +33,8 @@ loop-order-preserved g c =
       low = omega (arith, i.low);
       high = omega (arith, c.loop-order-test.true);
       sold = subst (λ (k : OrderKey). (first : ℕ) → first ≤ k.order
-          → AreItems t0 (home_of k) first k.order 0 c.loop-order.transaction.reads c.loop-order.items.items
-          → AreItems t0 (home_of k) first (k.order + 1) 0 c.order_items.new.transaction.reads c.order_items.new.items.items)
+          → AreItems t0 (district_of_order k) first k.order 0 c.loop-order.transaction.reads c.loop-order.items.items
+          → AreItems t0 (district_of_order k) first (k.order + 1) 0 c.order_items.new.transaction.reads c.order_items.new.items.items)
           c.order_key.ensures c.in_ok-order_items.ensures.sold low i.low i.sold;
       keys = c.order_items.ensures.items i.keys;
       count = omega (arith, c.order_items.ensures.count, i.count, i.low);
