@@ -101,8 +101,8 @@ fn take_line<R: Wait, K: Start>(
     })
 }
 
-/// The stock that the transaction leaves at a key, which lines of the same order may have drawn from. None exactly where
-/// it leaves no such stock.
+/// The stock that the transaction leaves at a key, which lines of the same order may have drawn from. None exactly
+/// where it leaves no such stock.
 fn stock_at<K: Start>(transaction: &Transaction<'_, K>, key: StockKey) -> Option<Stock>
     requires { IsStockKey K.tables.scale key }
     ensures { IsReading (IsStockUpTo (MAX_COUNT + MAX_COUNT_STEP)) (λ r. Some (stock_words r))

@@ -8,8 +8,8 @@ ghost use Rattle.tables.specs.declared.limits.TheConstants.{MAX_ORDER_LINES};
 use money::Cents;
 use tables::{NewOrderInput, Order, OrderLine, RequestedLine};
 
-/// The order's row: not delivered, and O_ALL_LOCAL exactly where its warehouse supplies each line. Costs a pass over the
-/// lines.
+/// The order's row: not delivered, and O_ALL_LOCAL exactly where its warehouse supplies each line. Costs a pass over
+/// the lines.
 pub(crate) fn order_row(order: &NewOrderInput) -> Order
     requires { length order.now.lines ≤ MAX_ORDER_LINES }
     ensures { result ≡ order_row order.now }

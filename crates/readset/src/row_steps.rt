@@ -31,8 +31,9 @@ pub fn read_row<T: Row, R: Wait, K: Start>(
     ensures range { IfOk result (λ row. ForSome row (T.are K.tables.scale)) }
     ensures version { IfOk result (λ row. IsReadAs transaction.new.reads
         (number_of_key K.tables.scale (T.record_of key)) (option_map T.words_of row)) }
-    ensures stale { result ≡ Err Stale → (row : T) → T.are K.tables.scale row → ¬ IsReadAs transaction.new.reads
-        (number_of_key K.tables.scale (T.record_of key)) (Some (T.words_of row)) }
+    ensures stale { result ≡ Err Stale → (row : T) → T.are K.tables.scale row
+        → ¬ IsReadAs transaction.new.reads (number_of_key K.tables.scale (T.record_of key))
+        (Some (T.words_of row)) }
     ensures holds { OnOk result (IsSome (held transaction.new.reads (number_of_key K.tables.scale (T.record_of key)))) }
     ensures others { (n : ℕ) → n ≢ number_of_key K.tables.scale (T.record_of key)
         → held transaction.new.reads n ≡ held transaction.old.reads n }
@@ -63,8 +64,9 @@ pub fn read_present<T: Present, R: Wait, K: Start>(
     ensures range { IfOk result (T.are K.tables.scale) }
     ensures version { IfOk result (λ row. IsReadAs transaction.new.reads
         (number_of_key K.tables.scale (T.record_of key)) (Some (T.words_of row))) }
-    ensures stale { result ≡ Err Stale → (row : T) → T.are K.tables.scale row → ¬ IsReadAs transaction.new.reads
-        (number_of_key K.tables.scale (T.record_of key)) (Some (T.words_of row)) }
+    ensures stale { result ≡ Err Stale → (row : T) → T.are K.tables.scale row
+        → ¬ IsReadAs transaction.new.reads (number_of_key K.tables.scale (T.record_of key))
+        (Some (T.words_of row)) }
     ensures holds { OnOk result (IsSome (held transaction.new.reads (number_of_key K.tables.scale (T.record_of key)))) }
     ensures others { (n : ℕ) → n ≢ number_of_key K.tables.scale (T.record_of key)
         → held transaction.new.reads n ≡ held transaction.old.reads n }

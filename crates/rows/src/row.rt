@@ -59,7 +59,8 @@ pub trait Keyed {
     fn key(key: Self::Key) -> RecordKey
         ensures { result ≡ record_of key };
 
-    ghost record_holds_row: { (t : Database) (k : Self.Key) → row_at t (record_of k) ≡ option_map words_of (at t k) };
+    ghost record_holds_row: { (t : Database) (k : Self.Key)
+        → row_at t (record_of k) ≡ option_map words_of (at t k) };
 
     ghost within: { (t : Database) (k : Self.Key) (r : Self) → IsWellFormed t
         → IsRecordKey t.scale (record_of k) → at t k ≡ Some r → are t.scale r };

@@ -19,8 +19,8 @@ pub(crate) fn stock_of_words(words: &Payload) -> Option<Stock>
     stock_up_to(words, MAX_COUNT)
 }
 
-/// The stock of words that a transaction has left, whose counts lines of its order may have raised: by 150 at most. None
-/// where they are no such stock's.
+/// The stock of words that a transaction has left, whose counts lines of its order may have raised: by 150 at most.
+/// None where they are no such stock's.
 pub fn stock_left(words: &Payload) -> Option<Stock>
     ensures { IsReading (IsStockUpTo (MAX_COUNT + MAX_COUNT_STEP)) stock_words words.now result }
 {
