@@ -93,7 +93,7 @@ fn customer_at<K: Run>(session: &Session<'_, K>, key: CustomerKey) -> Customer
     }
 }
 
-/// What the record of a key of the scale holds, of a table that has a row at each.
+/// The row at a key of the scale, of a table that has one at each.
 fn present_at<T: Present, K: Run>(session: &Session<'_, K>, key: T::Key) -> T
     requires { IsRecordKey K.first.scale (T.record_of key) }
     ensures { T.at (replay K.first session.now.history) key ≡ Some result }
@@ -101,7 +101,7 @@ fn present_at<T: Present, K: Run>(session: &Session<'_, K>, key: T::Key) -> T
     row_at(session, key).unwrap()
 }
 
-/// The row that the record of a key holds, if there is one.
+/// The row at a key of the scale, as its record holds it, or None where there is none.
 fn row_at<T: Row, K: Run>(session: &Session<'_, K>, key: T::Key) -> Option<T>
     requires { IsRecordKey K.first.scale (T.record_of key) }
     ensures row { T.at (replay K.first session.now.history) key ≡ result }

@@ -1,7 +1,7 @@
 -- Words in the ranges of their columns, and the numbers that they are.
 use Rattle.std.proofs.Common.{◌≡◌, ℕ, zero, suc, ◌^◌, ◌<◌, ◌≤◌, ℤ, pos, ◌≤ℤ◌, true, ◌&&◌, true≢false, cond, List, [], ◌∷◌, ◌++◌, length, replicate}
 use Rattle.std.proofs.Common.{get_or, slice_index}
-use Rattle.std.proofs.Common.{Option, Some, None, refl, sym, ap, ◌∙◌, subst, arith, not-suc-le-zero}
+use Rattle.std.proofs.Common.{Option, Some, None, refl, sym, ap, subst, arith, not-suc-le-zero}
 use Rattle.std.specs.Prelude.{◌==◌, nat_lt, int_le}
 use Rattle.std.specs.Int.{w64}
 use Rattle.std.specs.Option.{unwrap_or, ForSome}
