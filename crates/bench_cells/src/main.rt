@@ -1,4 +1,4 @@
-//! Measures record cells. `cells_bench CELLS TURNS` makes that many cells (1 to 100,000,000). It prints the bytes of a
+//! Measures record cells. `bench_cells CELLS TURNS` makes that many cells (1 to 100,000,000). It prints the bytes of a
 //! cell, and what a call costs: the mean over TURNS calls, in nanoseconds. With no words it does nothing.
 #![tactic(auto)]
 

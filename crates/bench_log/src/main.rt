@@ -1,4 +1,4 @@
-//! Measures log files. `log_bench BATCHES PAYMENTS` commits that many batches of so many Payments each, 600,000 at most
+//! Measures log files. `bench_log BATCHES PAYMENTS` commits that many batches of so many Payments each, 600,000 at most
 //! in all, and appends them to a disk in memory and to the file `log-bench` of the folder that it runs in, which is not
 //! to be there and is removed at the end. It prints how many bytes a file has, and what appending costs, a file's syncs
 //! apart, what `scan` does, and a plain copy of the same bytes. With no words it does nothing.

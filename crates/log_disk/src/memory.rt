@@ -15,7 +15,7 @@ use std::alloc::{AllocError, Global};
 use std::marker::Model;
 
 /// A modelled disk, in memory. It records the writes and syncs that it has done, and its bytes are what these leave
-/// (`replay`). Want of memory is its device's failure, after which bytes and calls are as before.
+/// (`replayed_calls`). Want of memory is its device's failure, after which bytes and calls are as before.
 #[derive(Drop)]
 pub struct Memory {
     bytes: Vec<u8>,

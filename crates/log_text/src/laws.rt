@@ -4,7 +4,7 @@ ghost use Rattle.log_header.specs.Header.{HeaderView};
 ghost use Rattle.log_text.specs.Bodies.{BodyView};
 ghost use Rattle.log_text.specs.File.{IsFile};
 
-/// A string of bytes is the file of one header and one list of bodies at most, however it is read.
+/// A string of fewer than 2^64 bytes is the file of one header and one list of bodies at most, however it is read.
 pub fn one_file()
     ensures { (file : List ℕ) (g h : HeaderView) (a b : List BodyView) → length file < 2 ^ 64
         → IsFile file g a → IsFile file h b → (g ≡ h) × (a ≡ b) }

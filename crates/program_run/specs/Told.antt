@@ -68,8 +68,8 @@ pub record IsRan (t0 : Database) (terminals inputs : ℕ) (old new : Option (Lis
   pub counted : AreCounts t0 terminals inputs history tallies counts
   pub told : IsTold (replay t0 history) counts old new report
 
--- it was refused: no input ran, for want of memory or since a device failed, and nothing was written; or all did, and a
--- beginning of the text was written
+-- it was refused, for want of memory or by a device: nothing was written; or all inputs ran, and a beginning of the text
+-- was written
 pub data IsBroken (t0 : Database) (terminals inputs : ℕ) (old new : Option (List ℕ)) (refusal : Refusal) : Type 0 where
   unrun : ((refusal ≢ OutOfMemory) → refusal ≡ Device) → Appends old new []
       → IsBroken t0 terminals inputs old new refusal

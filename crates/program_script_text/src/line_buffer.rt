@@ -18,7 +18,7 @@ pub const MAX_LINE: usize = 1024;
 /// takes once.
 ///
 /// Contracts see it as those bytes, or as `None` once they are more than `MAX_LINE`: for bytes that have
-/// come since the last line feed it is `held` of them (`specs/Lines.antt`).
+/// come since the last line feed it is `buffered` of them (`specs/Lines.antt`).
 #[derive(Drop)]
 pub struct LineBuffer {
     bytes: Vec<u8>,
@@ -107,7 +107,7 @@ impl LineBuffer {
 
 /// The laws by which a loop over `take_line` answers the lines of its whole input, as `IsCut` has them: the
 /// input so far is the lines that were answered, each with its line feed, and then the bytes whose line goes
-/// on, of which the buffer has `held`.
+/// on, of which the buffer has what `buffered` says.
 pub fn cutting_laws()
     ensures start { IsCut [] [] [] }
     ensures line { (text : List ℕ) (lines : List (List ℕ)) (rest end : List ℕ)

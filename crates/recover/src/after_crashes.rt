@@ -35,7 +35,8 @@ pub fn recovery_is_the_replay()
 /// Whatever happens in the first life of a database, and whatever strings a crash then leaves of its log files: they
 /// are its log files, so that `recover` doesn't refuse them by `Damaged`; they have no gap, so that it doesn't refuse
 /// them by `Gap`; and what it gives is the replay of a beginning of the history, up to a durable epoch that is no less
-/// than the board's D, with each commit whose reply was released (Silo, section 4.10). The function does nothing: its contract is the law.
+/// than the board's D, with each commit whose reply was released (Silo, section 4.10). The function does nothing: its
+/// contract is the law.
 pub fn every_crash_is_recovered()
     ensures files { (life : Life) (files : ℕ → LogFileView DiskView) (events : List Event) (by_logger : ℕ → List ℕ)
         → IsFirstLife life → IsFirst life files → MayHappenInTurn life (opening life.plan files) events
