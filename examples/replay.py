@@ -19,7 +19,7 @@ from pathlib import Path
 Scale = namedtuple("Scale", "warehouses districts customers items orders commits")
 Header = namedtuple("Header", "logger loggers scale seed")
 # An entry, with its writes to the tables that are shown.
-Entry = namedtuple("Entry", "number tid writes")
+Entry = namedtuple("Entry", "number tid terminal writes")
 Replay = namedtuple("Replay", "scale durable commits newest")
 
 WAREHOUSE, DISTRICT, HISTORY, NEW_ORDER = 1, 2, 4, 5
@@ -125,8 +125,8 @@ def read_columns(source, number, table, kind):
     return columns
 
 
-def read_writes(source, tables, count):
-    """So many writes, which rise by table and place. Gives those to tables that are shown."""
+def read_writes(source, tables, count, wanted):
+    """So many writes, which rise by table and place. Gives those to tables that are wanted."""
     shown, last, records = [], (0, 0), 0
     for _ in range(count):
         at = source.at
@@ -140,16 +140,18 @@ def read_writes(source, tables, count):
         if records > MAX_WRITES:
             raise source.damaged(at, f"more than {MAX_WRITES} writes")
         columns = read_columns(source, number, table, kind)
-        if number in SHOWN:
+        if number in wanted:
             shown.append((number, place, columns))
     return shown
 
 
 class LogFile:
-    """A log file: its header, the mark of its last body (0 where it has none), and its entries in their order."""
+    """A log file: its header, the mark of its last body (0 where it has none), and its entries in their order, each with
+    its writes to the tables that are shown."""
 
-    def __init__(self, name, data):
+    def __init__(self, name, data, shown=SHOWN):
         source = Source(name, data)
+        self.shown = shown
         self.header = read_header(source)
         self.tables = tables_of(self.header.scale)
         self.mark, self.entries = 0, []
@@ -185,7 +187,7 @@ class LogFile:
         if terminal >= MAX_TERMINALS or terminal % header.loggers != header.logger:
             raise source.damaged(at + 16, f"terminal {terminal} isn't logger {header.logger}'s")
         self.number, self.epoch = number, epoch
-        self.entries.append(Entry(number, tid, read_writes(source, self.tables, count)))
+        self.entries.append(Entry(number, tid, terminal, read_writes(source, self.tables, count, self.shown)))
 
 
 # ---- What several files say

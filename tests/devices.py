@@ -130,16 +130,18 @@ def bodies_in(log):
 def each_turn_of_a_logger_is_synced():
     wrapper = preloaded.Wrapper()
     with tempfile.TemporaryDirectory() as folder, tempfile.NamedTemporaryFile() as notes:
-        ran = run_in(folder, *SCALE, *TWO, "--count", "500", env=wrapper.environment(SYNCS=notes.name))
+        ran = run_in(folder, *SCALE, *TWO, "--count", "500", env=wrapper.environment(STORY=notes.name))
         ends("of a run whose syncs are counted", ran, 0, ran.out)
         same("what is acknowledged of it", counts_of(ran.out).acknowledged, counts_of(ran.out).commits)
-        synced, logs = preloaded.syncs_in(notes.name), contents_of(folder)
-        same("whether its folder is synced", synced[folder] >= 1, True)
+        logs = contents_of(folder)
+        same("whether its folder is synced", "s" in preloaded.story_of(notes.name, folder), True)
         for name in ("log-0", "log-1"):
             turns = bodies_in(logs[name])
             same(f"whether there are turns in {name}", turns >= 1, True)
-            # The header is synced, and of each turn its body and then its gate.
-            same(f"whether each turn in {name} is synced", synced[f"{folder}/{name}"] >= 1 + 2 * turns, True)
+            # The header is synced once it is written, and of each turn its body and then its gate.
+            story = preloaded.story_of(notes.name, f"{folder}/{name}")
+            same(f"whether each turn in {name} is synced", story.count("ws") >= 1 + 2 * turns, True)
+            same(f"whether the last write to {name} is synced", story[-1:], "s")
     wrapper.close()
 
 

@@ -36,9 +36,15 @@ class Settings:
     LAST_NAME, CUSTOMER, ITEM = 255, 1023, 8191
 
 
-ONE_WAREHOUSE, TWO_WAREHOUSES = Scale(1, 2, 1010, 20), Scale(2, 2, 12, 20)
+ONE_WAREHOUSE, TWO_WAREHOUSES, THREE_WAREHOUSES = Scale(1, 2, 1010, 20), Scale(2, 2, 12, 20), Scale(3, 2, 12, 20)
 USUAL, OTHERS = Settings(100, 500, 4000), Settings(255, 7, 1234)
-DECKS = ((ONE_WAREHOUSE, USUAL, 0), (TWO_WAREHOUSES, USUAL, 1), (TWO_WAREHOUSES, USUAL, 3), (TWO_WAREHOUSES, OTHERS, 1))
+DECKS = (
+    (ONE_WAREHOUSE, USUAL, 0),
+    (TWO_WAREHOUSES, USUAL, 1),
+    (TWO_WAREHOUSES, USUAL, 3),
+    (TWO_WAREHOUSES, OTHERS, 1),
+    (THREE_WAREHOUSES, USUAL, 4),
+)
 
 
 class Draws:
@@ -149,8 +155,8 @@ class Population:
 class Deck:
     """The inputs of a terminal."""
 
-    def __init__(self, scale, settings, terminal):
-        self.scale, self.settings, self.draws = scale, settings, Draws(SEED, terminal)
+    def __init__(self, scale, settings, terminal, seed=SEED):
+        self.scale, self.settings, self.draws = scale, settings, Draws(seed, terminal)
         self.home = terminal % scale.warehouses + 1
 
     def other_warehouse(self, chance):
@@ -171,20 +177,20 @@ class Deck:
             return f"last {self.draws.skewed(Settings.LAST_NAME, self.settings.last_name, 0, names - 1)}"
         return f"id {self.customer()}"
 
-    def print_next(self, date):
+    def next(self, date):
+        """The next input, as the words of its line."""
         draws, kind = self.draws, self.draws.number(1, 100)
         if kind <= 45:
-            self.print_new_order(date)
-        elif kind <= 88:
-            self.print_payment(date)
-        elif kind <= 92:
-            print("order-status", date, self.home, self.district(), self.who())
-        elif kind <= 96:
-            print("delivery", date, self.home, draws.number(1, 10))
-        else:
-            print("stock-level", date, self.home, self.district(), draws.number(10, 20))
+            return self.new_order(date)
+        if kind <= 88:
+            return self.payment(date)
+        if kind <= 92:
+            return "order-status", date, self.home, self.district(), self.who()
+        if kind <= 96:
+            return "delivery", date, self.home, draws.number(1, 10)
+        return "stock-level", date, self.home, self.district(), draws.number(10, 20)
 
-    def print_new_order(self, date):
+    def new_order(self, date):
         draws = self.draws
         number, customer = self.district(), self.customer()
         count = draws.number(5, 15)
@@ -196,9 +202,9 @@ class Deck:
             if is_rolled_back and line == count:
                 item = self.scale.items + 1
             lines.append(f"{item}:{supply}:{draws.number(1, 10)}")
-        print("new-order", date, self.home, number, customer, *lines)
+        return "new-order", date, self.home, number, customer, *lines
 
-    def print_payment(self, date):
+    def payment(self, date):
         number = self.district()
         warehouse, district_of = self.other_warehouse(15), number
         if warehouse is None:
@@ -206,7 +212,7 @@ class Deck:
         else:
             district_of = self.district()
         who = self.who()
-        print("payment", date, self.home, number, warehouse, district_of, who, self.draws.number(100, 500000))
+        return "payment", date, self.home, number, warehouse, district_of, who, self.draws.number(100, 500000)
 
 
 if __name__ == "__main__":
@@ -216,4 +222,4 @@ if __name__ == "__main__":
         print("deck", scale.warehouses, terminal, settings.last_name, settings.customer, settings.item)
         deck = Deck(scale, settings, terminal)
         for k in range(1, INPUTS + 1):
-            deck.print_next(k)
+            print(*deck.next(k))

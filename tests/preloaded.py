@@ -1,15 +1,14 @@
-"""A wrapper of the system's calls, which a program is started with: it notes each sync, and fails those that it is to.
+"""A wrapper of the system's calls, which a program is started with: it notes writes and syncs, and fails what it is to.
 
 The wrapper is C, made when it is first asked for, by the kit's compiler or by `cc`. Its environment says what it does:
-SYNCS names a file that gets a line for each `fsync` and `fdatasync`, with the path that was synced. A sync of the path
-that UNSYNCED names fails, and so does a read of the path that UNREAD names, by EIO.
+STORY names a file that gets a line for each `pwrite`, as `w PATH`, and for each `fsync` and `fdatasync`, as `s PATH`. A
+sync of the path that UNSYNCED names fails, and so does a read of the path that UNREAD names, by EIO.
 """
 
 import os
 import shutil
 import subprocess
 import tempfile
-from collections import Counter
 from pathlib import Path
 
 SOURCE = r"""
@@ -22,7 +21,7 @@ extern int *__errno_location(void);
 extern long syscall(long, ...);
 extern ssize_t readlink(const char *, char *, size_t), write(int, const void *, size_t);
 
-enum { EIO = 5, PREAD = 17, FSYNC = 74, FDATASYNC = 75, APPEND = 02001, LONGEST = 4096 };
+enum { EIO = 5, PREAD = 17, PWRITE = 18, FSYNC = 74, FDATASYNC = 75, APPEND = 02001, LONGEST = 4096 };
 
 /* The path of an open file, with a zero behind it. Gives its length. */
 static size_t path_of(int file, char *path) {
@@ -47,16 +46,23 @@ static int failed(void) {
     return -1;
 }
 
-static int synced(long call, int file) {
-    char line[LONGEST + 1];
-    const char *notes = getenv("SYNCS");
-    size_t length = path_of(file, line);
+/* A line of the story: what is done, and to which path. */
+static void note(char what, int file) {
+    char line[LONGEST + 4];
+    const char *story = getenv("STORY");
+    line[0] = what;
+    line[1] = ' ';
+    size_t length = 2 + path_of(file, line + 2);
     line[length] = '\n';
-    int out = notes ? open(notes, APPEND) : -1;
+    int out = story ? open(story, APPEND) : -1;
     if (out >= 0) {
         write(out, line, length + 1);
         close(out);
     }
+}
+
+static int synced(long call, int file) {
+    note('s', file);
     return is_named("UNSYNCED", file) ? failed() : (int)syscall(call, file);
 }
 
@@ -69,6 +75,13 @@ ssize_t pread(int file, void *into, size_t size, long at) {
 }
 
 ssize_t pread64(int file, void *into, size_t size, long at) { return pread(file, into, size, at); }
+
+ssize_t pwrite(int file, const void *from, size_t size, long at) {
+    note('w', file);
+    return syscall(PWRITE, file, from, size, at);
+}
+
+ssize_t pwrite64(int file, const void *from, size_t size, long at) { return pwrite(file, from, size, at); }
 """
 
 FLAGS = "-O2 -fPIC -ffreestanding -fno-stack-protector".split()
@@ -108,6 +121,7 @@ class Wrapper:
         self.room.cleanup()
 
 
-def syncs_in(notes):
-    """How often each path was synced, by the file that SYNCS named."""
-    return Counter(Path(notes).read_text().splitlines())
+def story_of(story, path):
+    """What was done to a path, in order, by the file that STORY named: `w` for writes, `s` for a sync."""
+    lines = [line.split(" ", 1) for line in Path(story).read_text().splitlines()]
+    return "".join(what for what, named in lines if named == path)

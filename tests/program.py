@@ -20,6 +20,7 @@ from pathlib import Path
 # Runs that are killed, and what they leave, are told there.
 sys.dont_write_bytecode = True
 sys.path.insert(0, str(Path(__file__).resolve().parent.parent / "examples"))
+import decks
 import devices
 import flaws
 import kills
@@ -471,7 +472,8 @@ def progress_of_a_run(inputs):
         timer = threading.Timer(SECONDS, long.process.kill)
         timer.start()
         try:
-            long.watch(0.9)
+            # (a second less what it takes to start)
+            long.watch(0.7)
             same("what a terminal is shown in the first second", long.shown, b"")
             status, output = long.close()
         finally:

@@ -23,6 +23,7 @@ const LAST_ROWS: u32 = 996;
 fn main(rt: HostRuntime) -> anyhow::Result<()> {
     let one_warehouse = Scale::new(1, 2, 1_010, 20, 1_010, 1_000)?;
     let two_warehouses = Scale::new(2, 2, 12, 20, 60, 1_000)?;
+    let three_warehouses = Scale::new(3, 2, 12, 20, 60, 1_000)?;
     let other_settings = Settings {
         last_name: 255,
         customer: 7,
@@ -34,7 +35,8 @@ fn main(rt: HostRuntime) -> anyhow::Result<()> {
     print_inputs(&rt, alloc, one_warehouse, Settings::usual(), 0)?;
     print_inputs(&rt, alloc, two_warehouses, Settings::usual(), 1)?;
     print_inputs(&rt, alloc, two_warehouses, Settings::usual(), 3)?;
-    print_inputs(&rt, alloc, two_warehouses, other_settings, 1)
+    print_inputs(&rt, alloc, two_warehouses, other_settings, 1)?;
+    print_inputs(&rt, alloc, three_warehouses, Settings::usual(), 4)
 }
 
 /// Prints all rows of a population.
