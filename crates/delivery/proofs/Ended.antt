@@ -1,5 +1,5 @@
 -- From one district to the next: an order's lines are begun, and the district is ended.
-use Rattle.std.proofs.Common.{◌≡◌, ℕ, suc, zero, ◌+◌, ◌-◌, ◌≤◌, ℤ, pos, ◌+ℤ◌, List, [], Result, Ok, Err, OnOk, Some, None, IsSome, refl, sym, ap, ◌∙◌, subst}
+use Rattle.std.proofs.Common.{◌≡◌, ℕ, suc, zero, ◌+◌, ◌-◌, ◌≤◌, ℤ, pos, ◌+ℤ◌, [], Result, Ok, Err, OnOk, Some, None, IsSome, refl, sym, ap, ◌∙◌, subst}
 use Rattle.std.proofs.Common.{arith}
 use Rattle.std.specs.FinMap.{get}
 use Rattle.tables.specs.Sizes.{Sizes}

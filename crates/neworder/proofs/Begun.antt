@@ -1,5 +1,5 @@
 -- An order that is opened has D_NEXT_O_ID for its number, and none of its lines is taken yet.
-use Rattle.std.proofs.Common.{◌≡◌, ℕ, ◌≤◌, [], Option, Some, IsSome, refl, sym, ap, subst}
+use Rattle.std.proofs.Common.{◌≡◌, ℕ, ◌≤◌, [], Some, IsSome, refl, sym, subst}
 use Rattle.std.proofs.lemmas.List.Elements.{All-nil}
 use Rattle.std.specs.Option.{option_map}
 use Rattle.std.specs.FinMap.{get}

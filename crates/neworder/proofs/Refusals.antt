@@ -17,7 +17,6 @@ use Rattle.rows.specs.Columns.{AreDistrictColumns, district_columns_words}
 use Rattle.rows.specs.declared.columns.DistrictColumns.{DistrictColumns}
 use Rattle.readset.specs.Reads.{ReadSetView, Keeps, IsReadAs}
 use Rattle.readset.specs.Commit.{IsCommitted}
-use Rattle.readset.specs.Explains.{NoCandidate}
 use Rattle.readset.specs.Refused.{NoneMissing, IsAboveCap, IsRefusal}
 use Rattle.readset.specs.Transaction.{TransactionView, IsUnderWay, IsStepRefusal}
 use Rattle.readset.proofs.MoreReads.{read_once}

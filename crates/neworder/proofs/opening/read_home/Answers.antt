@@ -2,12 +2,9 @@ use Rattle.std.proofs.Common.{rules, ◌≡◌, Some, IsSome, subst}
 use Rattle.std.specs.Option.{option_map}
 use Rattle.std.specs.FinMap.{get}
 use Rattle.tables.specs.Records.{number_of_key}
-use Rattle.tables.specs.NewOrder.{home}
 use Rattle.tables.specs.declared.keys.DistrictKey.{DistrictKey}
 use Rattle.tables.specs.declared.records.RecordKey.TheVariants as key
-use Rattle.rows.specs.Columns.{district_columns, AreDistrictColumns, district_columns_words}
-use Rattle.rows.specs.declared.columns.DistrictColumns.{DistrictColumns}
-use Rattle.money.specs.declared.refusal.Refusal.TheVariants.{Stale}
+use Rattle.rows.specs.Columns.{district_columns, district_columns_words}
 use Rattle.readset.specs.Reads.{held, IsReadAs}
 use Rattle.readset.specs.Transaction.{AtAll}
 use Rattle.neworder.specs.Opening.{IsOrderRefusal}

@@ -1,9 +1,7 @@
-use Rattle.std.proofs.Common.{◌≡◌, ◌∙◌, ap, sym, subst, length, IsSome, Some, Ok, Result, Option, List, ℕ}
+use Rattle.std.proofs.Common.{◌≡◌, ◌∙◌, ap, sym, subst, length, IsSome, Some, Ok}
 use Rattle.tables.specs.Sizes.{Sizes}
 use Rattle.tables.specs.Database.{Database}
 use Rattle.tables.specs.Records.{number_of_key}
-use Rattle.money.specs.declared.refusal.Refusal.{Refusal}
-use Rattle.cells.specs.declared.cells.Version.{Version}
 use Rattle.readset.specs.Reads.{held, value_of}
 use Rattle.readset.specs.Transaction.{TransactionView}
 use Rattle.readset.proofs.UnderWay.{loaded_under_way, row_told, some_is}
