@@ -43,8 +43,9 @@ pub(crate) fn deliver_districts<R: Wait, K: Start>(
         transaction.new }
     ensures few { K.tables.scale.districts ≤ MAX_DISTRICTS }
 {
-    let mut orders = Vec::new(alloc);
-    for done in 0..transaction.scale().districts() {
+    let districts = transaction.scale().districts();
+    let mut orders = Vec::with_capacity(alloc, districts as usize)?;
+    for done in 0..districts {
         let order = deliver_district(rt, transaction, delivery, done + 1)?;
         orders.push(order)?;
     }

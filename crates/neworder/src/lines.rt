@@ -10,13 +10,14 @@ ghost use Rattle.tables.specs.declared.limits.TheConstants.{MAX_COUNT, MAX_COUNT
 ghost use Rattle.tables.specs.declared.records.RecordKey.TheVariants as key_variants;
 ghost use Rattle.rows.specs.Reading.{IsReading};
 ghost use Rattle.rows.specs.Columns.{IsStockUpTo};
+ghost use Rattle.readset.specs.Reads.{IsReadAs};
 ghost use Rattle.readset.specs.Writes.{left_at};
 ghost use Rattle.readset.specs.Transaction.{GoesOn, IsStepRefusal};
 ghost use Rattle.neworder.specs.Steps.{AreTaken, IsLineTaken};
 
 use crate::new_rows::line_row;
 use crate::stock::drawn;
-use money::{Cents, Refusal};
+use money::{Cents, Payload, Refusal};
 use readset::{Start, Transaction, put_row};
 use rows::stock_left;
 use std::alloc::Global;
@@ -86,8 +87,8 @@ fn take_line<R: Wait, K: Start>(
         item: line.item,
     };
     transaction.read(rt, RecordKey::OrderLine(own))?;
-    transaction.read(rt, RecordKey::Stock(supply))?;
-    let Some(stock) = stock_at(transaction, supply) else {
+    let held = transaction.read(rt, RecordKey::Stock(supply))?;
+    let Some(stock) = stock_at(transaction, supply, held) else {
         return Err(Refusal::Stale);
     };
     let stock = drawn(&stock, key.warehouse, line);
@@ -101,13 +102,18 @@ fn take_line<R: Wait, K: Start>(
     })
 }
 
-/// The stock that the transaction leaves at a key, which lines of the same order may have drawn from. None exactly
-/// where it leaves no such stock.
-fn stock_at<K: Start>(transaction: &Transaction<'_, K>, key: StockKey) -> Option<Stock>
-    requires { IsStockKey K.tables.scale key }
+/// The stock that the transaction leaves at a key where it has read this: lines of the same order may have drawn from
+/// it. None exactly where it leaves no such stock.
+fn stock_at<K: Start>(
+    transaction: &Transaction<'_, K>,
+    key: StockKey,
+    read: Option<Payload>,
+) -> Option<Stock>
+    requires key { IsStockKey K.tables.scale key }
+    requires read { IsReadAs transaction.now.reads (number_of_key K.tables.scale (key_variants.Stock key)) read }
     ensures { IsReading (IsStockUpTo (MAX_COUNT + MAX_COUNT_STEP)) (λ r. Some (stock_words r))
         (left_at transaction.now.writes transaction.now.reads
         (number_of_key K.tables.scale (key_variants.Stock key))) result }
 {
-    stock_left(&transaction.left(RecordKey::Stock(key))?)
+    stock_left(&transaction.left(RecordKey::Stock(key), read)?)
 }

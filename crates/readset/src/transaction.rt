@@ -147,16 +147,18 @@ impl<'a, K: Start> Transaction<'a, K> {
         Ok(value_of(&version))
     }
 
-    /// What the transaction leaves of a record: what it is to write there, or else what it has read there. Costs the
-    /// logarithms of the numbers of records written and read.
-    pub fn left(&self, key: RecordKey) -> Option<Payload>
-        requires { IsRecordKey K.tables.scale key }
+    /// What the transaction leaves of a record that it has read so: what it is to write there, or else this. Costs the
+    /// logarithm of the number of records written.
+    pub fn left(&self, key: RecordKey, read: Option<Payload>) -> Option<Payload>
+        requires key { IsRecordKey K.tables.scale key }
+        requires read { IsReadAs self.now.reads (number_of_key K.tables.scale key) read }
         ensures { result ≡ left_at self.now.writes self.now.reads (number_of_key K.tables.scale key) }
     {
-        self.writes.left(
-            &self.reads,
-            number_of_key(&self.population.tables().scale, key),
-        )
+        let number = number_of_key(&self.population.tables().scale, key);
+        match self.writes.value(number) {
+            Some(value) => value,
+            None => read,
+        }
     }
 
     /// Says what a record that was read is to hold, in the place of what was said of it before. Costs what

@@ -32,5 +32,5 @@ pub returns-clause-done : goal.returns-clause-done
 returns-clause-done g c =
     let cap : c.scale.result.districts ≡ g.K.Start.tables.scale.districts = ap (λ (s : Sizes). s.districts) c.scale.ensures in
     let all : c.loop-done.done ≡ g.K.Start.tables.scale.districts =
-    omega (arith, c.loop-done.auto.done-end, c.loop-done-test.false, c.districts-done-end.ensures.value, cap) in
+    omega (arith, c.loop-done.auto.done-end, c.loop-done-test.false, c.districts-districts.ensures.value, cap) in
     subst (λ n. AreDone g.K.Start.tables c.args.delivery.now n c.loop-done.transaction) all c.loop-done.invariant.done

@@ -19,7 +19,7 @@ returns-in_default-clause-taken g c = λ ls told number taken.
     none_taken g.K.Start.tables c.args.order.now c.args.key ls c.args.line.now old read told taken c.requires.key
     (subst (IsNumber MAX_ORDER_LINES) number c.requires.number)
     (c.requires.line.supply_warehouse, c.requires.item)
-    (reads_twice old c.read.new.self read 1 1 2 c.read.ensures.reads c.read-2.ensures.reads (omega arith)) c.in_ok-read-2.ensures.holds
+    (reads_twice old c.read.new.self read 1 1 2 c.read.ensures.reads c.read-2.ensures.reads (omega arith)) c.in_ok-held.ensures.holds
     (λ r range left. c.in_default.not-Some r (c.stock_at.ensures.each r range left))
 
 pub returns-in_default-clause-goes_on : goal.returns-in_default-clause-goes_on
@@ -55,7 +55,7 @@ returns-clause-taken g c = λ ls told number taken.
     let stock_number = number_of_key t0.scale (key.Stock (stock_key l)) in
     line_taken t0 c.args.order.now k ls l old read told taken c.requires.key (subst (IsNumber MAX_ORDER_LINES) number c.requires.number)
     (c.requires.line.supply_warehouse, c.requires.item)
-    (reads_twice old c.read.new.self read 1 1 2 c.read.ensures.reads c.read-2.ensures.reads (omega arith)) c.in_ok-read-2.ensures.holds
+    (reads_twice old c.read.new.self read 1 1 2 c.read.ensures.reads c.read-2.ensures.reads (omega arith)) c.in_ok-held.ensures.holds
     c.requires.line c.args.amount c.requires.amount row c.line_row.ensures stock
     (λ r range left. c.drawn-stock.ensures ∙ ap (drawn k.warehouse l) (same_Some _ _ (sym c.in-Some.is ∙ c.stock_at.ensures.each r range left)))
     c.put_row-2.new.transaction (c.put_row-2.ensures.reads ∙ c.put_row.ensures.reads)
