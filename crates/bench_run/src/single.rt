@@ -1,7 +1,7 @@
 //! The same inputs one after another.
 
 ghost use Rattle.std.specs.Prelude.{◌≡◌};
-ghost use Rattle.book.specs.Parts.{IsFresh, IsRunOf, past_of, ledger_name, ledger_parts, terminals_of};
+ghost use Rattle.book.specs.Parts.{IsOpenedAs, first_of, past_of, population_of, terminals_of};
 
 use crate::{SEED, population};
 use anyhow::bail;
@@ -41,11 +41,9 @@ fn run<K: Run, R: Wait + Clock + Print>(
     parts: Parts,
     inputs: Inputs,
 ) -> anyhow::Result<()>
-    requires fresh { IsFresh parts }
+    requires run { IsOpenedAs parts K.population K.first K.past K.cells K.board K.seed K.name K.parts }
     requires one { terminals_of parts ≡ 1 }
-    requires run { IsRunOf parts K.first K.past K.cells K.board K.seed }
-    requires begins { past_of parts ≡ 0 }
-    requires ledger { (ledger_name parts ≡ K.name) × (ledger_parts parts ≡ K.parts) }
+    requires begins { (past_of parts ≡ 0) × (first_of parts ≡ population_of parts) }
 {
     let (engine, mut seats) = Engine::<K>::open(parts);
     let Some(seat) = seats.terminals.next() else {

@@ -1,7 +1,10 @@
 -- A board as it opens, and what is left at its end.
-use Rattle.std.specs.Prelude.{◌≡◌, ℕ, zero, suc, List, [], ◌∷◌, ◌++◌, replicate}
+use Rattle.std.specs.Prelude.{◌≡◌, ◌<◌, ◌≤◌, ℕ, zero, suc, List, [], ◌∷◌, ◌++◌, replicate}
 use mathlib.Core.Option.{some}
 use lib.ListN.{get_elem?}
+use Rattle.atomic_table.specs.Seated.{TableId}
+use Rattle.tables.specs.declared.limits.TheConstants.{MAX_LOGGERS}
+use Rattle.board.specs.declared.steps.TheConstants.{WORDS}
 use Rattle.board.specs.declared.rule.Plan.{Plan}
 use Rattle.board.specs.declared.rule.View.{View}
 use Rattle.board.specs.declared.rule.Role.TheVariants.{Terminal, Book, Clock, Logger}
@@ -9,6 +12,15 @@ use Rattle.board.specs.declared.opening.BoardSeats.{BoardSeats}
 use Rattle.board.specs.Words.{durable_in}
 use Rattle.board.specs.Rule.{IsLawfulBoard}
 use Rattle.board.specs.Seats.{BoardView, SeatView, new_seat, seat_view}
+
+-- what a board's type keeps: its table has just the words, and was made for its plan, which has one logger or more, and
+-- few
+pub record IsBoard (table : TableId) (made_for plan : Plan) : Type 0 where
+  pub words : table.words ≡ WORDS
+  pub slots : table.slots ≡ 0
+  pub planned : made_for ≡ plan
+  pub some : 0 < plan.loggers
+  pub few : plan.loggers ≤ MAX_LOGGERS
 
 -- a seat for each of this many loggers, from logger 0
 abbrev pub logger_seats : BoardView → ℕ → List SeatView

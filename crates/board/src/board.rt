@@ -31,17 +31,14 @@ pub struct Board {
 }
 
 impl Model for Board {
-    ghost use Rattle.std.specs.Prelude.{◌≡◌, ◌<◌, ◌≤◌};
-    ghost use Rattle.tables.specs.declared.limits.TheConstants.{MAX_LOGGERS};
-    ghost use Rattle.board.specs.declared.steps.TheConstants.{WORDS};
+    ghost use Rattle.board.specs.Opening.{IsBoard};
     ghost use Rattle.board.specs.Seats.{BoardView};
 
     ghost Value = { BoardView };
 
     ghost view = { λ b. record { table = b.table.shared.table_id; plan = b.plan } };
 
-    ghost invariant = { λ b. (b.table.shared.table_id.words ≡ WORDS) × (b.table.shared.table_id.slots ≡ 0)
-        × (b.table.shared.key ≡ b.plan) × (0 < b.plan.loggers) × (b.plan.loggers ≤ MAX_LOGGERS) };
+    ghost invariant = { λ b. IsBoard b.table.shared.table_id b.table.shared.key b.plan };
 }
 
 impl Board {

@@ -37,6 +37,23 @@ impl Board {
     {
         open(alloc, Plan { loggers, base: 0 }, terminals)
     }
+
+    /// The same behind a base, the last epoch of which anything is known, as for tables that were recovered: E is the
+    /// base + 1, and D, the floors and the local marks are the base.
+    pub fn behind(
+        alloc: Global,
+        base: u64,
+        loggers: u64,
+        terminals: u64,
+    ) -> Result<(Board, BoardSeats), Refusal>
+        requires loggers { (0 < loggers) × (loggers ≤ MAX_LOGGERS) }
+        requires base { base < last_epoch }
+        ensures ok { IfOk result (λ made.
+            Opens (record { loggers = loggers; base = base }) terminals made.0 made.1) }
+        ensures memory { IfErr result (λ e. e ≡ OutOfMemory) }
+    {
+        open(alloc, Plan { loggers, base }, terminals)
+    }
 }
 
 // A board that opens as this plan says.

@@ -78,8 +78,8 @@ left_of P k loggers l es h = All-drop (λ (e : Entry). P e × (e.terminal % logg
     its : (e : Entry) → (e.terminal % loggers == l) ≡ true → e.terminal % loggers ≡ l
     its e is = ⊎_elim (λ yes. yes.1) (λ no. absurd (true≢false (sym is ∙ no.0))) (eqb_tells (e.terminal % loggers) l)
 
-module _ (past : ℕ) (t0 : Database) (run_cells : List TableId) (seen : ℕ) (written : PenView) (history : List Entry) (t : Database) (plan : Plan)
-    (terminals logger : ℕ) (s : Untaken) (sound : IsSound past t0 written history t) (ready : IsReady past t0 run_cells seen written history t)
+module _ {past : ℕ} {t0 : Database} {run_cells : List TableId} {seen : ℕ} {written : PenView} {history : List Entry} {t : Database} (plan : Plan)
+    {terminals : ℕ} (logger : ℕ) {s : Untaken} (sound : IsSound past t0 written history t) (ready : IsReady past t0 run_cells seen written history t)
     (loggable : AreLoggable t0.scale terminals history) (is : IsUntakenOf plan.base seen (stream plan.loggers logger history) s)
     (few : plan.loggers ≤ MAX_LOGGERS) (own : logger < plan.loggers) (epoch : ℕ) (later : seen ≤ epoch) (bound : epoch ≤ last_epoch) where
   abbrev left : List Entry

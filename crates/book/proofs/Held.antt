@@ -13,14 +13,17 @@ use Rattle.encoding.specs.Held.{row_count}
 use Rattle.encoding.specs.Newest.{words_at, value_at, AreLawful}
 use Rattle.encoding.proofs.Values.{lawful_values}
 use Rattle.encoding.specs.Puts.{MayHold}
+use Rattle.tables.specs.declared.rows.History.{History}
+use Rattle.book.specs.Base.{HasBecome}
 use Rattle.book.specs.History.{replay, rows_added}
 use Rattle.book.specs.Book.{IsSound}
 use Rattle.book.specs.Ready.{IsReady, AreNewest}
 use Rattle.book.specs.declared.entry.Entry.{Entry}
+use Rattle.book.proofs.Become.{becomes, rows_behind}
 use Rattle.book.proofs.Replaying.{replay-history}
 
-module _ (past : ℕ) (t0 : Database) (run_cells : List TableId) (epoch : ℕ) (written : PenView) (history : List Entry)
-    (t : Database) (newest : List Newest) (sound : IsSound past t0 written history t)
+module _ {past : ℕ} {t0 : Database} {run_cells : List TableId} {epoch : ℕ} {written : PenView} {history : List Entry}
+    {t : Database} {newest : List Newest} (sound : IsSound past t0 written history t)
     (ready : IsReady past t0 run_cells epoch written history t) (are : AreNewest written newest) where
   pub counted : length newest ≡ record_count t0.scale
   counted = are.count ∙ ap length ready.cells ∙ ready.count
@@ -32,15 +35,26 @@ module _ (past : ℕ) (t0 : Database) (run_cells : List TableId) (epoch : ℕ) (
   rows_first = omega arith
 
   -- they may be held
-  pub lawful : AreLawful t0.scale (value_at newest)
+  lawful : AreLawful t0.scale (value_at newest)
   lawful n h =
       let scale : t.scale ≡ t0.scale = ready.of_population.scale in
       subst (λ (q : Sizes × Option (List ℕ)). MayHold q.0 (key_of q.0 n) q.1) (λ i. (scale i, sym (value_held n (omega (arith, h, rows_first))) i))
       (lawful_values t sound.well_formed n (subst (λ (s : Sizes). n < row_count s) (sym scale) h))
 
-  -- tables that are told by them, whose HISTORY has the rows that were added, are the committed ones
-  pub are_committed : (made : Database) → replay t0 history ≡ t
-      → ((u : Database) → IsOf t0 u → IsWellFormed u → ((n : ℕ) → n < row_count t0.scale → rows u n ≡ value_at newest n) → u.history ≡ t0.history
-      ++ rows_added history → made ≡ u) → made ≡ t
-  are_committed made is one = one t ready.of_population sound.well_formed (λ n h. sym (value_held n (omega (arith, h, rows_first))))
-      (ap (λ (u : Database). u.history) (sym is) ∙ replay-history (past + 1) t0 history sound.legal.replays)
+  -- so too at the population that the first tables have become, and tables that are told by them and the population's
+  -- HISTORY, with these rows and then those that were added, are the committed ones
+  module _ {population : Database} {rows_here : List History} (become : HasBecome population t0 rows_here) where
+    pub enough : row_count population.scale ≤ length newest
+    enough = subst (λ (s : Sizes). row_count s ≤ length newest) become.of_population.scale (omega (arith, counted, rows_first))
+
+    pub lawful_there : AreLawful population.scale (value_at newest)
+    lawful_there = subst (λ (s : Sizes). AreLawful s (value_at newest)) become.of_population.scale lawful
+
+    pub are_committed : (made : Database) → replay t0 history ≡ t
+        → ((u : Database) → IsOf population u → IsWellFormed u → ((n : ℕ) → n < row_count population.scale → rows u n ≡ value_at newest n)
+        → u.history ≡ population.history ++ (rows_here ++ rows_added history) → made ≡ u) → made ≡ t
+    are_committed made is one = one t (becomes become.of_population ready.of_population) sound.well_formed
+        (subst (λ (s : Sizes). (n : ℕ) → n < row_count s → rows t n ≡ value_at newest n) become.of_population.scale
+        (λ n h. sym (value_held n (omega (arith, h, rows_first)))))
+        (rows_behind t (rows_added history) become
+        (ap (λ (u : Database). u.history) (sym is) ∙ replay-history (past + 1) t0 history sound.legal.replays))

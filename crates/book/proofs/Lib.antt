@@ -17,5 +17,8 @@ mod Batched
 mod NumberLeft
 mod RefusedThere
 mod Opened
+mod Become
 pub mod Executed
+mod Found
 mod TotalsKept
+mod Reached

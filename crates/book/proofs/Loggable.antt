@@ -25,11 +25,11 @@ first_loggable s terminals few = record {
 }
 
 -- one entry more
-pub next_loggable : (t0 : Database) (terminals cells : ℕ) (history : List Entry) (reader : ReaderView) (work : Work) (number tid terminal : ℕ)
+pub next_loggable : {t0 : Database} {terminals cells : ℕ} {history : List Entry} {reader : ReaderView} {work : Work} (number tid terminal : ℕ)
     → AreLoggable t0.scale terminals history → IsWorkOf t0 cells reader work → cells ≡ record_count t0.scale → AreInRecordOrder work.reads work.writes
     → CommitsAt (replay t0 history) work.input work.writes work.reply → IsWellFormed (after (replay t0 history) work.input) → terminal < terminals
     → AreLoggable t0.scale terminals (history ++ entry_of number tid terminal work ∷ [])
-next_loggable t0 terminals cells history reader work number tid terminal are is_work count ordered commits well_formed own =
+next_loggable {t0 = t0} {terminals = terminals} {history = history} {work = work} number tid terminal are is_work count ordered commits well_formed own =
     let entry : Entry = entry_of number tid terminal work in
     record {
       each = All-push (IsLoggable t0.scale) history entry are.each (record {

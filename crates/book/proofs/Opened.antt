@@ -1,5 +1,5 @@
 -- A run that begins is sound.
-use Rattle.std.proofs.Common.{◌≡◌, ℕ, ◌<◌, ◌≤◌, Option, Some, None, List, [], ◌∷◌, length, replicate, refl, sym, ap, ◌∙◌, subst, arith}
+use Rattle.std.proofs.Common.{◌≡◌, ℕ, ◌+◌, ◌-◌, ◌<◌, ◌≤◌, Option, Some, None, List, [], ◌∷◌, length, replicate, refl, sym, ap, ◌∙◌, subst, arith}
 use Rattle.std.proofs.lemmas.List.Elements.{All-nil}
 use Rattle.std.proofs.lemmas.List.{length-replicate, get_or-replicate}
 use Rattle.std.specs.Prelude.{slice_index}
@@ -35,15 +35,18 @@ first_tid None = omega arith
 within_first : (epoch tid : ℕ) → tid ≡ 0 → IsTidWithin epoch 0 tid
 within_first epoch tid none = subst (IsTidWithin epoch 0) (sym none) (record { bits = omega arith; in_epoch = omega arith; sequence = omega arith })
 
+none : (n : ℕ) → n ≡ n + 0
+none n = omega arith
+
 -- no terminal has committed
-pub first_lasts : (terminals count : ℕ) (lasts : List ℕ) → lasts ≡ replicate count 0 → count ≡ terminals → AreLast terminals [] lasts
-first_lasts terminals count lasts none all = record {
+pub first_lasts : {terminals count : ℕ} {lasts : List ℕ} → lasts ≡ replicate count 0 → count ≡ terminals → AreLast terminals [] lasts
+first_lasts {count = count} none all = record {
   count = ap length none ∙ length-replicate count 0 ∙ all;
   last = λ terminal h. subst (λ (l : List ℕ). slice_index l terminal ≡ 0) (sym none)
       (get_or-replicate count terminal 0 _ (subst (λ n. terminal < n) (ap length none ∙ length-replicate count 0) h));
 }
 
-module _ (t0 : Database) (run_cells : List TableId) (pen : PenView) (newest : List Newest) (are : AreFirst t0 newest) (count : length run_cells ≡ length newest)
+module _ {t0 : Database} {run_cells : List TableId} {pen : PenView} {newest : List Newest} (are : AreFirst t0 newest) (count : length run_cells ≡ length newest)
     (fresh : pen ≡ record { cells = run_cells; all = firsts newest })
   where
     only : (n : ℕ) → n < length newest → at pen.all n ≡ words_at newest n ∷ []
@@ -58,8 +61,8 @@ module _ (t0 : Database) (run_cells : List TableId) (pen : PenView) (newest : Li
       last = λ n h. ([], only n h);
     }
 
-    pub first_sound : IsWellFormed t0 → IsConsistent t0 → IsSound 0 t0 pen [] t0
-    first_sound well_formed consistent = record {
+    pub first_sound : (past : ℕ) → IsWellFormed t0 → IsConsistent t0 → IsSound past t0 pen [] t0
+    first_sound past well_formed consistent = record {
       legal = record { replays = tt; end = refl };
       stamped = tt;
       well_formed = well_formed;
@@ -69,8 +72,9 @@ module _ (t0 : Database) (run_cells : List TableId) (pen : PenView) (newest : Li
           ∙ first_value (rows t0 n);
     }
 
-    pub first_ready : (epoch : ℕ) → HasRoom MAX_COMMITS t0 → t0.scale.commits ≤ MAX_COMMITS → IsReady 0 t0 run_cells epoch pen [] t0
-    first_ready epoch room few = record {
+    pub first_ready : (past epoch : ℕ) → HasRoom (MAX_COMMITS - past) t0 → past ≤ t0.scale.commits → t0.scale.commits ≤ MAX_COMMITS
+        → IsReady past t0 run_cells epoch pen [] t0
+    first_ready past epoch room cap few = record {
       of_population = IsOf-itself t0;
       cells = ap (λ (w : PenView). w.cells) fresh;
       count = count ∙ are.count;
@@ -79,7 +83,7 @@ module _ (t0 : Database) (run_cells : List TableId) (pen : PenView) (newest : Li
       terminals = λ terminal. within_first epoch 0 refl;
       free = λ n h v e. subst (λ (u : List ℕ). IsFree (slice_index u 0)) (sym (last_one e.0 [] v (first_version (rows t0 n)) (sym e.1 ∙ first n h)))
           (first_free (rows t0 n));
-      cap = omega arith;
+      cap = omega (arith, cap);
       few = few;
-      room = room;
+      room = subst (λ n. HasRoom (MAX_COMMITS - n) t0) (none past) room;
     }

@@ -1,5 +1,5 @@
 -- Refusals at the committed tables, from what an execution and a commit say.
-use Rattle.std.proofs.Common.{◌≡◌, ◌≢◌, ℕ, ◌+◌, ◌<◌, ◌≤◌, ◌⊎◌, inl, inr, Option, None, IsSome, List, length, refl, sym, subst}
+use Rattle.std.proofs.Common.{◌≡◌, ◌≢◌, ℕ, ◌+◌, ◌≤◌, ◌⊎◌, inl, inr, Option, List, length, refl, sym, subst}
 use Rattle.money.specs.declared.refusal.Refusal.{Refusal}
 use Rattle.money.specs.declared.refusal.Refusal.TheVariants.{OutOfMemory, Conflict, Stale, ItemNotValid, OrdersFull, CommitsFull, EpochFull}
 use Rattle.tables.specs.Sizes.{Sizes}
@@ -13,6 +13,8 @@ use Rattle.readset.specs.declared.work.Work.{Work}
 use Rattle.book.specs.History.{replay, CommitsAt}
 use Rattle.book.specs.declared.entry.Entry.{Entry}
 use Rattle.book.proofs.Replaying.{replay-IsOf, replay-scale}
+use Rattle.book.specs.Book.{BookView}
+use Rattle.book.specs.Committing.{IsDeclined}
 use Rattle.book.specs.Next.{IsRefusedAt}
 
 module _ (past : ℕ) (t0 : Database) (history : List Entry) (x : Input) where
@@ -39,15 +41,12 @@ commits_full past t0 history work done cap = (
   subst (λ (s : Sizes). s.commits ≤ past + length history) (sym (replay-scale t0 history)) cap,
 )
 
--- a refusal of a commit, by what its clauses say of each
-pub refused_there : (past : ℕ) (t0 : Database) (history : List Entry) (work : Work) (refusal : Refusal) (next : Option ℕ) {C L : Type 0} → refusal ≢ EpochFull
-    → ((refusal ≡ Conflict) × C) ⊎ (L × CommitsAt (replay t0 history) work.input work.writes work.reply
-    × (((refusal ≡ CommitsFull) × (t0.scale.commits ≤ past + length history))
-    ⊎ ((refusal ≡ EpochFull) × (past + length history < t0.scale.commits) × (next ≡ None))
-    ⊎ ((refusal ≡ OutOfMemory) × (past + length history < t0.scale.commits) × IsSome next)))
-    → (refusal ≡ Conflict) ⊎ (refusal ≡ OutOfMemory) ⊎ IsRefusedAt (replay t0 history) (past + length history) work.input refusal
-refused_there past t0 history work refusal next never (inl conflict) = inl conflict.0
-refused_there past t0 history work refusal next never (inr (_, done, inl full)) =
-    inr (inr (subst (IsRefusedAt (replay t0 history) (past + length history) work.input) (sym full.0) (commits_full past t0 history work done full.1)))
-refused_there past t0 history work refusal next never (inr (_, done, inr (inl epoch))) = absurd (never epoch.0)
-refused_there past t0 history work refusal next never (inr (_, done, inr (inr memory))) = inr (inl memory.0)
+-- a refusal of a commit, by its cause
+pub refused_there : (past : ℕ) (t0 : Database) (book : BookView) (tid : Option ℕ) (work : Work) (refusal : Refusal) → refusal ≢ EpochFull
+    → IsDeclined t0 book (past + length book.history) tid work refusal
+    → (refusal ≡ Conflict) ⊎ (refusal ≡ OutOfMemory) ⊎ IsRefusedAt (replay t0 book.history) (past + length book.history) work.input refusal
+refused_there past t0 book tid work Conflict never h = inl refl
+refused_there past t0 book tid work OutOfMemory never h = inr (inl refl)
+refused_there past t0 book tid work CommitsFull never h = inr (inr (commits_full past t0 book.history work h.0.there h.1))
+refused_there past t0 book tid work EpochFull never h = absurd (never refl)
+refused_there past t0 book tid work _ never h = absurd h.1

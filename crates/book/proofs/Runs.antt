@@ -110,9 +110,9 @@ each_current : (m : Machine) (reads : ReadSetView) → AreCurrent m (reads_of re
 each_current m reads all n v e = All-contains (IsCurrent m) reads (n, v) (all_current m reads all)
     (Contains-from_lookup {eq = λ x y. is_eq (nat_cmp x y)} same_key n v reads e)
 
-module _ (past : ℕ) (t0 : Database) (run_cells : List TableId) (epoch : ℕ) (k : BookView) (t : Database)
+module _ {past : ℕ} {t0 : Database} {run_cells : List TableId} {epoch : ℕ} (k : BookView) {t : Database}
     (sound : IsSound past t0 k.written k.history t) (ready : IsReady past t0 run_cells epoch k.written k.history t)
-    (reader : ReaderView) (work : Work) (is_work : IsWorkOf t0 (length run_cells) reader work) (order : AreInRecordOrder work.reads work.writes)
+    {reader : ReaderView} {work : Work} (is_work : IsWorkOf t0 (length run_cells) reader work) (order : AreInRecordOrder work.reads work.writes)
     (terminal w : ℕ) (m : Machine) (shows : Mirrors k terminal epoch work.reads m w) where
   abbrev reads : Reads
   reads = reads_of work.reads

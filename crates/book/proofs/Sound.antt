@@ -77,9 +77,9 @@ rest_of n h = omega arith
 further : (k n : ℕ) → k + n + 1 ≡ k + (n + 1)
 further k n = omega arith
 
-module _ (past : ℕ) (t0 : Database) (run_cells : List TableId) (epoch : ℕ) (written : PenView) (history : List Entry) (t : Database)
+module _ {past : ℕ} {t0 : Database} {run_cells : List TableId} {epoch : ℕ} {written : PenView} {history : List Entry} {t : Database}
     (sound : IsSound past t0 written history t) (ready : IsReady past t0 run_cells epoch written history t)
-    (reader : ReaderView) (work : Work) (is_work : IsWorkOf t0 (length run_cells) reader work) (latest : AreLatest written.all work.reads) where
+    {reader : ReaderView} {work : Work} (is_work : IsWorkOf t0 (length run_cells) reader work) (latest : AreLatest written.all work.reads) where
   agrees : Agrees t work.reads
   agrees n v e = sound.latest n (subst (λ m. n < m) ready.count (is_work.read.within n v e)) (words_of v) (latest n v e)
 

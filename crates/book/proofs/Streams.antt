@@ -13,17 +13,10 @@ use Rattle.std.specs.Arc.{arc_value}
 use Rattle.tidword.specs.TidWord.{epoch_of}
 use Rattle.board.specs.declared.rule.Plan.{Plan}
 use Rattle.book.specs.Parts.{AreEmpty}
-use Rattle.book.specs.Streams.{stream, last_number, IsUntakenOf, AreStreams}
+use Rattle.book.specs.Streams.{stream, last_number, IsSameUntaken, IsUntakenOf, AreStreams}
 use Rattle.tables.specs.declared.limits.TheConstants.{MAX_LOGGERS}
 use Rattle.book.specs.declared.entry.Entry.{Entry}
 use Rattle.book.specs.declared.untaken.Untaken.{Untaken}
-
--- a stream with the same entries, of which as much was taken
-pub record IsSameUntaken (s t : Untaken) : Type 0 where
-  pub taken : t.taken ≡ s.taken
-  pub last_taken : t.last_taken ≡ s.last_taken
-  pub waiting : t.waiting.items ≡ s.waiting.items
-  pub mark : t.mark ≡ s.mark
 
 pub same_stream : (base epoch : ℕ) (entries : List Entry) (s t : Untaken) → IsSameUntaken s t → IsUntakenOf base epoch entries s → IsUntakenOf base epoch
     entries t

@@ -30,12 +30,12 @@ use Rattle.book.proofs.Sound.{read_within, next_sound, next_ready}
 pub whole : (n : ℕ) → n % 8 ≡ 0 → tid_of n ≡ n
 whole n even = omega (arith, even)
 
-module _ (past : ℕ) (t0 : Database) (run_cells : List TableId) (epoch : ℕ) (written : PenView) (history : List Entry) (t : Database)
+module _ {past : ℕ} {t0 : Database} {run_cells : List TableId} {epoch : ℕ} {written : PenView} {history : List Entry} {t : Database}
     (sound : IsSound past t0 written history t) (ready : IsReady past t0 run_cells epoch written history t)
-    (reader : ReaderView) (work : Work) (is_work : IsWorkOf t0 (length run_cells) reader work) (latest : AreLatest written.all work.reads)
-    (terminal seen last : ℕ) (is_read : IsRead work.reads seen) (greatest : seen ≡ greatest_tid work.reads) (last_is : last ≡ last_of terminal history) where
+    {reader : ReaderView} {work : Work} (is_work : IsWorkOf t0 (length run_cells) reader work) (latest : AreLatest written.all work.reads)
+    (terminal : ℕ) {seen last : ℕ} (is_read : IsRead work.reads seen) (greatest : seen ≡ greatest_tid work.reads) (last_is : last ≡ last_of terminal history) where
   seen_within : IsTidWithin epoch (length history) seen
-  seen_within = read_within past t0 run_cells epoch written history t sound ready reader work is_work latest seen is_read
+  seen_within = read_within sound ready is_work latest seen is_read
 
   last_within : IsTidWithin epoch (length history) last
   last_within = subst (IsTidWithin epoch (length history)) (sym last_is) (ready.terminals terminal)
@@ -86,8 +86,8 @@ module _ (past : ℕ) (t0 : Database) (run_cells : List TableId) (epoch : ℕ) (
         → IsSound past t0 new (history ++ entry_of (past + length history + 1) tid terminal work ∷ []) (after t work.input)
         × IsReady past t0 run_cells epoch new (history ++ entry_of (past + length history + 1) tid terminal work ∷ []) (after t work.input)
     next_kept new below cells stores = (
-      next_sound past t0 run_cells epoch written history t sound ready reader work is_work latest terminal tid new below cells taken_within lawful.in_epoch
+      next_sound sound ready is_work latest terminal tid new below cells taken_within lawful.in_epoch
           taken_above_last taken_above stores,
-      next_ready past t0 run_cells epoch written history t sound ready reader work is_work latest terminal tid new below cells taken_within lawful.in_epoch
+      next_ready sound ready is_work latest terminal tid new below cells taken_within lawful.in_epoch
           taken_above_last taken_above stores,
     )

@@ -30,17 +30,17 @@ use Rattle.book.proofs.Opened.{first_value}
 use Rattle.book.proofs.Sound.{done_there}
 
 -- what the newest versions of a sound book hold
-pub held_there : (past : ℕ) (t0 : Database) (pen : PenView) (history : List Entry) (t : Database) (newest : List Newest)
+pub held_there : {past : ℕ} {t0 : Database} {pen : PenView} {history : List Entry} {t : Database} {newest : List Newest}
     → IsSound past t0 pen history t → AreNewest pen newest → t.scale ≡ t0.scale → length pen.cells ≡ record_count t0.scale → AreHeld newest t
-held_there past t0 pen history t newest sound are scale count n below =
+held_there {t0 = t0} {newest = newest} sound are scale count n below =
     let here : n < record_count t0.scale = subst (λ s. n < record_count s) scale below in
     sound.latest n here (words_at newest n) (are.last n (subst (λ m. n < m) (sym (are.count ∙ count)) here))
 
-pub records_there : (past : ℕ) (t0 : Database) (pen : PenView) (history : List Entry) (t : Database) (newest : List Newest)
+pub records_there : {past : ℕ} {t0 : Database} {pen : PenView} {history : List Entry} {t : Database} {newest : List Newest}
     → IsSound past t0 pen history t → AreNewest pen newest → t.scale ≡ t0.scale → length pen.cells ≡ record_count t0.scale → AreRecords newest t
-records_there past t0 pen history t newest sound are scale count = record {
+records_there sound are scale count = record {
   count = are.count ∙ count ∙ ap record_count (sym scale);
-  held = held_there past t0 pen history t newest sound are scale count;
+  held = held_there sound are scale count;
   well_formed = sound.well_formed;
   consistent = sound.consistent;
 }
@@ -79,21 +79,21 @@ pub within : (t : Database) → IsWellFormed t → HasOrdersWithin t
 within t wf = record { orders = wf.orders; new_orders = wf.new_orders }
 
 -- the totals of the committed tables may follow a work that commits
-module _ (past : ℕ) (t0 : Database) (run_cells : List TableId) (epoch : ℕ) (written : PenView) (history : List Entry) (t : Database)
+module _ {past : ℕ} {t0 : Database} {run_cells : List TableId} {epoch : ℕ} {written : PenView} {history : List Entry} {t : Database}
     (sound : IsSound past t0 written history t) (ready : IsReady past t0 run_cells epoch written history t) where
   rest : (n cap : ℕ) → n < cap → cap ≤ MAX_COMMITS → MAX_COMMITS - n ≡ MAX_COMMITS - (n + 1) + 1
   rest n cap h few = omega (arith, h, few)
 
-  pub may_follow : (newest : List Newest) → AreNewest written newest → (v : TotalsView) → AreTotals t v → (reader : ReaderView) (work : Work)
+  pub may_follow : {newest : List Newest} → AreNewest written newest → {v : TotalsView} → AreTotals t v → {reader : ReaderView} {work : Work}
       → IsWorkOf t0 (length run_cells) reader work → AreLatest written.all work.reads → AreInRecordOrder work.reads work.writes
       → past + length history < t0.scale.commits → MayFollow t work.input work.reply v newest work.writes
-  may_follow newest are v totals reader work is_work latest ordered below =
+  may_follow are totals {reader = reader} {work = work} is_work latest ordered below =
       let done : CommitsAt t work.input work.writes work.reply = subst (λ s. CommitsAt s work.input work.writes work.reply) sound.legal.end
-      (done_there past t0 run_cells epoch written history t sound ready reader work is_work latest) in
+      (done_there sound ready is_work latest) in
       let room = subst (λ n. HasRoom n t) (rest (past + length history) t0.scale.commits below ready.few) ready.room in
       record {
         totals = totals;
-        records = records_there past t0 written history t newest sound are ready.of_population.scale (ap length ready.cells ∙ ready.count);
+        records = records_there sound are ready.of_population.scale (ap length ready.cells ∙ ready.count);
         input = done.input;
         commit = done.commit;
         ordered = writes_there t0 t (length run_cells) reader work is_work ready.count ready.of_population.scale ordered;

@@ -5,10 +5,14 @@ pub mod Streams
 pub mod Done
 pub mod Loggable
 pub mod Book
+pub mod Base
 pub mod Batches
 pub mod Next
 pub mod Ready
+pub mod Keeps
 pub mod Shows
 pub mod Share
+pub mod Committing
+pub mod Storing
 pub mod Parts
 pub mod Seats

@@ -1,35 +1,41 @@
 -- What an engine is opened with.
 use Rattle.std.specs.Prelude.{◌≡◌, ℕ, ◌<◌, ◌≤◌, List, [], length, replicate, All}
+use Rattle.std.specs.Option.{option_map_or}
 use Rattle.std.specs.Arc.{arc_value}
 use Rattle.atomic_table.specs.Seated.{TableId}
-use Rattle.tables.specs.Database.{Database}
+use Rattle.tables.specs.Database.{Database, database}
 use Rattle.population.specs.Initial.{initial, seed_of}
 use Rattle.cells.specs.First.{firsts}
 use Rattle.cells.specs.Opening.{seen_all}
-use Rattle.encoding.specs.Newest.{AreFirst}
-use Rattle.totals.specs.Totals.{AreTotals}
 use Rattle.board.specs.Seats.{BoardView}
 use Rattle.board.specs.Opening.{Opens}
+use Rattle.book.specs.Base.{IsStart}
 use Rattle.book.specs.declared.untaken.Untaken.{Untaken}
-use Rattle.book.specs.declared.engine.Parts.{Parts}
+use Rattle.cells.specs.declared.cells.Newest.{Newest}
+use Rattle.book.specs.declared.parts.Fresh.{Fresh}
+use Rattle.book.specs.declared.parts.Parts.{Parts}
 use Rattle.tables.specs.declared.limits.TheConstants.{MAX_LOGGERS, MAX_TERMINALS}
 
--- the tables that a run of these parts begins with, how many commits made them, the seed of its population, its cells,
--- its board and what that opened with, its ledger, and how many loggers and terminals it has
+-- the population of a run of these parts, the tables that it begins with, which are the population's own where no
+-- others were handed in, how many commits made them, the seed of its population, its cells, its board and what that
+-- opened with, its ledger, and how many loggers and terminals it has
+abbrev pub population_of : Parts → Database
+population_of p = initial (arc_value p.population)
+
 abbrev pub first_of : Parts → Database
-first_of p = initial (arc_value p.population)
+first_of p = option_map_or database p.begun.base (population_of p)
 
 abbrev pub past_of : Parts → ℕ
-past_of p = p.past
+past_of p = p.begun.past
 
 abbrev pub population_seed : Parts → ℕ
 population_seed p = seed_of (arc_value p.population)
 
 abbrev pub cells_of : Parts → List TableId
-cells_of p = p.cells
+cells_of p = p.fresh.cells
 
 abbrev pub board_of : Parts → BoardView
-board_of p = p.board
+board_of p = p.fresh.board
 
 abbrev pub ledger_name : Parts → ℕ
 ledger_name p = p.blank.name
@@ -38,44 +44,63 @@ abbrev pub ledger_parts : Parts → ℕ
 ledger_parts p = p.blank.parts
 
 abbrev pub base_of : Parts → ℕ
-base_of p = p.board.plan.base
+base_of p = p.fresh.board.plan.base
 
 abbrev pub loggers_of : Parts → ℕ
-loggers_of p = p.board.plan.loggers
+loggers_of p = p.fresh.board.plan.loggers
 
 abbrev pub terminals_of : Parts → ℕ
-terminals_of p = length p.readers.items
-
--- the run of these parts is named so
-pub record IsRunOf (p : Parts) (first : Database) (past : ℕ) (cells : List TableId) (board : BoardView) (seed : ℕ)
-    : Type 0 where
-  pub first_is : first_of p ≡ first
-  pub past_is : past_of p ≡ past
-  pub cells_are : cells_of p ≡ cells
-  pub board_is : board_of p ≡ board
-  pub seed_is : population_seed p ≡ seed
+terminals_of p = length p.fresh.readers.items
 
 -- these are the streams of so many loggers, of which nothing was taken and nothing waits, at this mark
 pub record AreEmpty (loggers mark : ℕ) (streams : List Untaken) : Type 0 where
   pub count : length streams ≡ loggers
   pub empty : All (λ s. (s.taken ≡ 0) × (s.last_taken ≡ 0) × (s.waiting.items ≡ []) × (s.mark ≡ mark)) streams
 
--- the run has no past and nothing has committed: the cells have the first versions, which each reader has seen, no
--- terminal has a TID, the ledger has a part a terminal, nobody has stepped on the board, and of no logger's stream
--- anything was taken. Both that have the population have the same
+-- nobody has read, stepped, committed or taken anything yet: the cells have these first versions, which so many readers
+-- have seen, the board is behind this epoch, the streams are empty at it, and no terminal has a TID
+pub record IsUnused (newest : List Newest) (epoch loggers terminals : ℕ) (f : Fresh) : Type 0 where
+  pub count : length f.cells ≡ length newest
+  pub pen : f.pen ≡ record { cells = f.cells; all = firsts newest }
+  pub readers : All (λ reader. reader ≡ seen_all f.pen) f.readers.items
+  pub as_many : length f.readers.items ≡ terminals
+  pub board : Opens (record { loggers = loggers; base = epoch }) terminals f.board f.seats
+  pub streams : AreEmpty loggers epoch f.streams.items
+  pub lasts : f.lasts.items ≡ replicate terminals 0
+
+-- nothing has committed behind the tables that the run begins with, and the ledger has a part a terminal. Both that
+-- have the population have the same
 pub record IsFresh (p : Parts) : Type 0 where
   pub lent : arc_value p.lent ≡ arc_value p.population
-  pub newest : AreFirst (initial (arc_value p.population)) p.newest.items
+  pub start : IsStart (population_of p) (first_of p) p.begun.rows.items p.begun.past p.begun.newest.items p.begun.totals
   pub history : p.history.items ≡ []
-  pub past : p.past ≡ 0
-  pub lasts : p.lasts.items ≡ replicate (length p.readers.items) 0
-  pub count : length p.cells ≡ length p.newest.items
-  pub pen : p.pen ≡ record { cells = p.cells; all = firsts p.newest.items }
-  pub readers : All (λ reader. reader ≡ seen_all p.pen) p.readers.items
-  pub parts : p.blank.parts ≡ length p.readers.items
-  pub some : 0 < length p.readers.items
-  pub few : length p.readers.items ≤ MAX_TERMINALS
-  pub board : Opens p.board.plan (length p.readers.items) p.board p.seats
-  pub loggers : (0 < p.board.plan.loggers) × (p.board.plan.loggers ≤ MAX_LOGGERS)
-  pub streams : AreEmpty p.board.plan.loggers p.board.plan.base p.streams.items
-  pub totals : AreTotals (initial (arc_value p.population)) p.totals
+  pub unused : IsUnused p.begun.newest.items (base_of p) (loggers_of p) (terminals_of p) p.fresh
+  pub parts : ledger_parts p ≡ terminals_of p
+  pub some : 0 < terminals_of p
+  pub few : terminals_of p ≤ MAX_TERMINALS
+  pub loggers : (0 < loggers_of p) × (loggers_of p ≤ MAX_LOGGERS)
+
+-- these parts are fresh, and of this population, these first tables, which so many past commits have made, and this
+-- base, with so many loggers and terminals
+pub record ArePartsOf (population first : Database) (seed past base loggers terminals : ℕ) (p : Parts) : Type 0 where
+  pub fresh : IsFresh p
+  pub population_is : population_of p ≡ population
+  pub first_is : first_of p ≡ first
+  pub seed_is : population_seed p ≡ seed
+  pub past_is : past_of p ≡ past
+  pub base_is : base_of p ≡ base
+  pub loggers_are : loggers_of p ≡ loggers
+  pub terminals_are : terminals_of p ≡ terminals
+
+-- these parts are fresh, and the run that opens with them is named so
+pub record IsOpenedAs (p : Parts) (population first : Database) (past : ℕ) (cells : List TableId) (board : BoardView)
+    (seed name parts : ℕ) : Type 0 where
+  pub fresh : IsFresh p
+  pub population_is : population_of p ≡ population
+  pub first_is : first_of p ≡ first
+  pub past_is : past_of p ≡ past
+  pub cells_are : cells_of p ≡ cells
+  pub board_is : board_of p ≡ board
+  pub seed_is : population_seed p ≡ seed
+  pub name_is : ledger_name p ≡ name
+  pub parts_are : ledger_parts p ≡ parts

@@ -18,6 +18,13 @@ abbrev pub last_number : ℕ → List Entry → ℕ
 last_number before [] = before
 last_number before (e ∷ es) = last_number e.number es
 
+-- a stream with the same entries, of which as much was taken
+pub record IsSameUntaken (s t : Untaken) : Type 0 where
+  pub taken : t.taken ≡ s.taken
+  pub last_taken : t.last_taken ≡ s.last_taken
+  pub waiting : t.waiting.items ≡ s.waiting.items
+  pub mark : t.mark ≡ s.mark
+
 -- what the book has of a stream of these entries: how many were taken, the number of the last of these, the entries
 -- that wait, and the mark of the last take. That is at least the board's base and below the epoch that the book's seat
 -- has found, and all entries that wait are of later epochs

@@ -1,7 +1,7 @@
 //! The committed state.
 
 use crate::entry::Entry;
-use crate::history_rows::added_rows;
+use crate::history_rows::joined_rows;
 use crate::run::Run;
 use crate::share::Share;
 use crate::untaken::Untaken;
@@ -14,23 +14,24 @@ use population::Population;
 use std::alloc::Global;
 use std::marker::Model;
 use std::sync::{Arc, ledger};
-use tables::{DistrictKey, Tables};
+use tables::{DistrictKey, History, Tables};
 use tidword::TidWord;
 use totals::{DistrictTotals, Totals};
 use totals_report::report_of;
 
-/// The committed state, which stands under the engine's lock: the newest version of each record, by record number,
-/// and what has committed. The committed tables are what these tell, and are kept nowhere. Its type keeps `IsSound` of
-/// what contracts see of it, that it is ready for the next commit, that it has each terminal's last TID, that the
-/// terminals' shares sum to the length of the history, that its seat of the board has counted each commit of the
-/// history, with its epoch, that what waits for a logger is what of its stream was not taken, each entry above the
-/// mark of the last take, that each entry may be written to a log file, and that its totals are those of the committed
-/// tables.
+/// The committed state, which stands under the engine's lock: the newest version of each record, by record number, what
+/// has committed, and the HISTORY rows that past commits added to the population's. The committed tables are what these
+/// tell, and are kept nowhere. Its type keeps `KeepsBook`: `IsSound` of what contracts see of it, that it is ready for
+/// the next commit, that it has each terminal's last TID, that the terminals' shares sum to the length of the history,
+/// that its seat of the board has counted each commit of the history, with its epoch, that what waits for a logger is
+/// what of its stream was not taken, each entry above the mark of the last take, that each entry may be written to a
+/// log file, and that its totals are those of the committed tables.
 #[derive(Drop)]
 pub struct Book<K: Run> {
     pub(crate) pen: Pen,
     pub(crate) population: Arc<Population, Global>,
     pub(crate) past: u32,
+    pub(crate) rows: Vec<History>,
     pub(crate) newest: Vec<Newest>,
     pub(crate) totals: Totals,
     pub(crate) history: Vec<Arc<Entry, Global>>,
@@ -41,16 +42,11 @@ pub struct Book<K: Run> {
 }
 
 impl<K: Run> Model for Book<K> {
-    ghost use Rattle.std.specs.Prelude.{◌≡◌, length, map};
+    ghost use Rattle.std.specs.Prelude.{map};
     ghost use Rattle.std.specs.Arc.{arc_value};
     ghost use Rattle.population.specs.Initial.{initial, seed_of};
-    ghost use Rattle.book.specs.History.{replay};
-    ghost use Rattle.book.specs.Book.{BookView, IsSound};
-    ghost use Rattle.book.specs.Ready.{IsReady, AreLast, AreNewest};
-    ghost use Rattle.book.specs.Epochs.{HasCounted, found_epoch};
-    ghost use Rattle.book.specs.Streams.{AreStreams};
-    ghost use Rattle.book.specs.Loggable.{AreLoggable};
-    ghost use Rattle.totals.specs.Totals.{AreTotals};
+    ghost use Rattle.book.specs.Book.{BookView};
+    ghost use Rattle.book.specs.Keeps.{KeepsBook};
 
     ghost Value = { BookView };
 
@@ -62,17 +58,30 @@ impl<K: Run> Model for Book<K> {
       marks = map (λ s. s.mark) b.streams.items;
     } };
 
-    ghost invariant = { λ b. let history = map arc_value b.history.items in
-        IsSound K.past K.first b.pen history (replay K.first history)
-        × IsReady K.past K.first K.cells (found_epoch b.seat) b.pen history (replay K.first history)
-        × AreNewest b.pen b.newest.items × (initial (arc_value b.population) ≡ K.first)
-        × (b.shares.total ≡ length history)
-        × AreLast K.parts history b.lasts.items
-        × (b.seat.board ≡ K.board) × HasCounted b.seat history
-        × (seed_of (arc_value b.population) ≡ K.seed) × (b.past ≡ K.past)
-        × AreStreams K.board.plan (found_epoch b.seat) history b.streams.items
-        × AreLoggable K.first.scale K.parts history
-        × AreTotals (replay K.first history) b.totals };
+    ghost invariant = { λ b. KeepsBook
+        (record {
+          population = K.population;
+          first = K.first;
+          seed = K.seed;
+          past = K.past;
+          cells = K.cells;
+          board = K.board;
+          parts = K.parts;
+        })
+        (record {
+          population = initial (arc_value b.population);
+          seed = seed_of (arc_value b.population);
+          past = b.past;
+          rows = b.rows.items;
+          pen = b.pen;
+          newest = b.newest.items;
+          totals = b.totals;
+          history = map arc_value b.history.items;
+          streams = b.streams.items;
+          lasts = b.lasts.items;
+          shares = b.shares.total;
+          seat = b.seat;
+        }) };
 }
 
 impl<K: Run> Book<K> {
@@ -105,9 +114,11 @@ impl<K: Run> Book<K> {
         self.history.as_slice()
     }
 
-    /// How many transactions have committed. Constant time, no memory.
+    /// How many transactions have committed in this run: with the past ones, at most the commit cap. Constant time, no
+    /// memory.
     pub fn commits(&self) -> u64
         ensures commits { result ≡ length self.now.history }
+        ensures cap { K.past + result ≤ K.first.scale.commits }
         ensures few { result ≤ MAX_COMMITS }
     {
         self.history.len() as u64
@@ -131,7 +142,7 @@ impl<K: Run> Book<K> {
         ensures only_memory { IfErr result (λ refusal. refusal ≡ OutOfMemory) }
     {
         let alloc = *self.history.allocator();
-        let added = added_rows(alloc, &self.history)?;
+        let added = joined_rows(alloc, &self.rows, &self.history)?;
         tables_of(alloc, &self.population, &self.newest, &added)
     }
 

@@ -1,13 +1,12 @@
 //! Committing a transaction.
-ghost use Rattle.std.specs.Prelude.{◌≡◌, ◌≢◌, ℕ, ◌+◌, ◌<◌, ◌≤◌, ◌⊎◌, Some, None, IsSome, length};
-ghost use Rattle.std.specs.Prelude.{MatchResult, IfOk, IfErr};
-ghost use Rattle.money.specs.declared.refusal.Refusal.TheVariants.{OutOfMemory, Conflict, CommitsFull, EpochFull};
+ghost use Rattle.std.specs.Prelude.{◌≡◌, ◌≢◌, ℕ, ◌+◌, ◌⊎◌, length, MatchResult, IfOk, IfErr};
+ghost use Rattle.money.specs.declared.refusal.Refusal.TheVariants.{OutOfMemory, Conflict, EpochFull};
 ghost use Rattle.commit.specs.Machine.{Machine};
 ghost use Rattle.cells.specs.Records.{HasGrown};
-ghost use Rattle.book.specs.History.{replay, CommitsAt};
-ghost use Rattle.book.specs.Stamps.{tid_for};
+ghost use Rattle.book.specs.History.{replay};
+ghost use Rattle.book.specs.Committing.{CommitsWork, DeclinesWork};
 ghost use Rattle.book.specs.Epochs.{CountsCommit, LoadsEpoch, found_epoch};
-ghost use Rattle.book.specs.Book.{AreLatest, HasConflict, HasSeen, IsAsBefore, IsWorkOf, Commits, entry_of};
+ghost use Rattle.book.specs.Book.{IsWorkOf};
 ghost use Rattle.book.specs.Next.{IsNextCommit, IsRefusedAt};
 ghost use Rattle.book.specs.Shows.{Mirrors, IsCommitRun, IsFailedRun, reads_of};
 
@@ -62,30 +61,9 @@ impl<K: Run> Book<K> {
         ensures reader { HasGrown reader.old reader.new }
         ensures epoch { MatchResult result (λ done. CountsCommit self.old.seat self.new.seat)
             (λ refusal. LoadsEpoch self.old.seat self.new.seat) }
-        ensures answer { MatchResult result
-            (λ done. AreLatest self.old.written.all work.reads
-            × (K.past + length self.old.history < K.first.scale.commits)
-            × (tid_for self.old.history share.old.terminal (found_epoch self.new.seat) work.reads ≡ Some done.tid)
-            × Commits self.old self.new
-            (entry_of (K.past + length self.old.history + 1) done.tid share.old.terminal work)
-            × (done.number ≡ K.past + length self.old.history + 1) × (done.reply ≡ work.reply)
-            × (share.new ≡ record {
-              terminal = share.old.terminal;
-              parts = share.old.parts;
-              commits =
-                  share.old.commits + 1;
-            })
-            × HasSeen reader.new self.new.written work.writes
-            × CommitsAt (replay K.first self.old.history) work.input work.writes work.reply)
-            (λ refusal. IsAsBefore self.old self.new × (share.new ≡ share.old)
-            × (((refusal ≡ Conflict) × HasConflict self.old.written.all work.reads)
-            ⊎ (AreLatest self.old.written.all work.reads
-            × CommitsAt (replay K.first self.old.history) work.input work.writes work.reply
-            × (((refusal ≡ CommitsFull) × (K.first.scale.commits ≤ K.past + length self.old.history))
-            ⊎ ((refusal ≡ EpochFull) × (K.past + length self.old.history < K.first.scale.commits)
-            × (tid_for self.old.history share.old.terminal (found_epoch self.new.seat) work.reads ≡ None))
-            ⊎ ((refusal ≡ OutOfMemory) × (K.past + length self.old.history < K.first.scale.commits)
-            × IsSome (tid_for self.old.history share.old.terminal (found_epoch self.new.seat) work.reads)))))) }
+        ensures committed { IfOk result
+            (CommitsWork K.past K.first self.old self.new share.old share.new reader.new work) }
+        ensures declined { IfErr result (DeclinesWork K.past K.first self.old self.new share.old share.new work) }
         ensures next { IfOk result (IsNextCommit K.past K.first self.old.history self.new.history work.input) }
         ensures refused { IfErr result (λ refusal. (refusal ≡ Conflict) ⊎ (refusal ≡ OutOfMemory)
             ⊎ IsRefusedAt (replay K.first self.old.history) (K.past + length self.old.history) work.input refusal) }

@@ -1,10 +1,10 @@
 //! What may be refused of a commit, all of which comes before its first store.
-ghost use Rattle.std.specs.Prelude.{◌≡◌, ◌+◌, ◌<◌, ◌≤◌, ◌⊎◌, ℕ, Some, None, IsSome, length, vec_len, vec_capacity};
-ghost use Rattle.std.specs.Prelude.{IfOk, IfErr, OnOk};
-ghost use Rattle.std.specs.Arc.{arc_value};
-ghost use Rattle.money.specs.declared.refusal.Refusal.TheVariants.{OutOfMemory, CommitsFull, EpochFull};
+ghost use Rattle.std.specs.Prelude.{◌≡◌, ◌+◌, ◌<◌, length, vec_len, vec_capacity, IfOk, IfErr, OnOk};
 ghost use Rattle.tidword.specs.TidWord.{tid_of};
-ghost use Rattle.tidword.specs.Lawful.{IsLawful, next};
+ghost use Rattle.tidword.specs.Lawful.{next};
+ghost use Rattle.book.specs.Committing.{IsHindered};
+ghost use Rattle.book.specs.Storing.{IsPrepared};
+ghost use Rattle.book.specs.Streams.{IsSameUntaken};
 
 use crate::done::Done;
 use crate::entry::Entry;
@@ -52,41 +52,20 @@ pub(crate) fn prepare(
     reply: Reply,
     writes: WriteSet,
 ) -> Result<Prepared, Refusal>
-    ensures tid { IfOk result (λ made.
-        next (tid_of place.seen) (tid_of place.last) place.epoch ≡ Some made.tid) }
-    ensures lawful { IfOk result (λ made. IsLawful place.seen place.last place.epoch made.tid) }
-    ensures entry { IfOk result (λ made. arc_value made.entry ≡ record {
-      number = place.past + length history.old.items + 1;
-      tid = made.tid;
-      terminal = place.terminal;
-      input = input;
-      reply = reply;
-      writes = writes;
-    }) }
-    ensures waiting { IfOk result (λ made. arc_value made.waiting ≡ arc_value made.entry) }
-    ensures done { IfOk result (λ made.
-        made.done ≡ record { number = place.past + length history.old.items + 1; tid = made.tid; reply = reply }) }
-    ensures below { OnOk result (place.past + length history.old.items < place.cap) }
+    ensures prepared { IfOk result (IsPrepared place (length history.old.items) input reply writes) }
     ensures history { history.new.items ≡ history.old.items }
-    ensures stream { (stream.new.taken ≡ stream.old.taken) × (stream.new.last_taken ≡ stream.old.last_taken)
-        × (stream.new.waiting.items ≡ stream.old.waiting.items) × (stream.new.mark ≡ stream.old.mark) }
+    ensures stream { IsSameUntaken stream.old stream.new }
     ensures room { OnOk result ((vec_len history.new < vec_capacity history.new)
         × (vec_len stream.new.waiting < vec_capacity stream.new.waiting)) }
-    ensures refused { IfErr result (λ refusal.
-        ((refusal ≡ CommitsFull) × (place.cap ≤ place.past + length history.old.items))
-        ⊎ ((refusal ≡ EpochFull) × (place.past + length history.old.items < place.cap)
-        × (next (tid_of place.seen) (tid_of place.last) place.epoch ≡ None))
-        ⊎ ((refusal ≡ OutOfMemory) × (place.past + length history.old.items < place.cap)
-        × IsSome (next (tid_of place.seen) (tid_of place.last) place.epoch))) }
+    ensures refused { IfErr result (IsHindered (place.past + length history.old.items) place.cap
+        (next (tid_of place.seen) (tid_of place.last) place.epoch)) }
 {
     if place.past as usize + history.len() >= place.cap as usize {
         return Err(Refusal::CommitsFull);
     }
     let tid = next_tid(place.seen, place.last, place.epoch)?;
     let alloc = *history.allocator();
-    let Ok(()) = history.reserve(1) else {
-        return Err(Refusal::OutOfMemory);
-    };
+    history.reserve(1)?;
     stream.reserve()?;
     let writes = writes.into_list()?;
     let (entry, waiting) = shared(

@@ -3,15 +3,18 @@
 use std::marker::Brand;
 use std::sync::ledger::Ledger;
 
-/// Names one run: the tables that it began with, their population's seed and how many commits made them, its record
-/// cells, its board of epoch words, and, as a `Ledger`, its terminals' shares.
+/// Names one run: its population with the seed of that, the tables that it began with and how many commits made them,
+/// its record cells, its board of epoch words, and, as a `Ledger`, its terminals' shares.
 pub trait Run: Ledger {
     ghost use Rattle.std.specs.Prelude.{ℕ, List};
     ghost use Rattle.atomic_table.specs.Seated.{TableId};
     ghost use Rattle.tables.specs.Database.{Database};
     ghost use Rattle.board.specs.Seats.{BoardView};
 
-    /// The tables that the run began with.
+    /// The population.
+    ghost population: { Database };
+
+    /// The tables that the run began with: the population's, or what past commits have made of them.
     ghost first: { Database };
 
     /// The seed of the population.
@@ -32,6 +35,8 @@ impl Run for Brand {
     ghost use Rattle.std.specs.Prelude.{[]};
     ghost use Rattle.tables.specs.Sizes.{sizes};
     ghost use Rattle.tables.specs.Database.{empty_database};
+
+    ghost population = { empty_database (sizes 1 1 10 20 10 1) };
 
     ghost first = { empty_database (sizes 1 1 10 20 10 1) };
 

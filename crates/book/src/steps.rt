@@ -1,14 +1,11 @@
 //! The steps of a commit at the records' cells (Silo, section 4.4).
-ghost use Rattle.std.specs.Prelude.{◌≡◌, ℕ, ◌<◌, ◌%◌, ◌∷◌, ◌++◌, Some, List, Option, length, MatchOption};
+ghost use Rattle.std.specs.Prelude.{◌≡◌, ◌%◌, length, MatchOption};
 ghost use Rattle.tidword.specs.TidWord.{tid_of};
-ghost use Rattle.cells.specs.Versions.{last_tid};
-ghost use Rattle.cells.specs.Records.{at, HasGrown, newest_words};
-ghost use Rattle.readset.specs.Writes.{value_for};
-ghost use Rattle.readset.specs.Explains.{WritesAreRead};
-ghost use Rattle.book.specs.History.{committed_version, new_versions};
+ghost use Rattle.cells.specs.Records.{HasGrown, newest_words};
+ghost use Rattle.book.specs.History.{committed_version};
 ghost use Rattle.book.specs.Stamps.{greatest_tid};
-ghost use Rattle.book.specs.Book.{AreInRecordOrder, AreLatest, HasConflict, HasSeen, IsRead, IsReadBy};
-ghost use Rattle.book.specs.Ready.{AreNewest};
+ghost use Rattle.book.specs.Book.{AreInRecordOrder, AreLatest, HasConflict, IsRead, IsReadBy};
+ghost use Rattle.book.specs.Storing.{MayStore, StoresEntry};
 
 use crate::entry::Entry;
 use cells::{Cells, Newest, Pen, Reader};
@@ -64,19 +61,8 @@ pub(crate) fn store<R: Wait>(
     reads: &ReadSet,
     entry: &Entry,
 )
-    requires own { (pen.old.cells ≡ cells.now) × (reader.old.cells ≡ cells.now) }
-    requires read { IsReadBy (length cells.now) reader.old reads.now }
-    requires written_read { WritesAreRead entry.now.writes reads.now }
-    requires no_bits { entry.now.tid % 8 ≡ 0 }
-    requires larger { (n : ℕ) (value : Option (List ℕ)) → value_for entry.now.writes n ≡ Some value
-        → last_tid (at pen.old.all n) < entry.now.tid }
-    requires newest { AreNewest pen.old newest.old }
-    ensures cells { pen.new.cells ≡ pen.old.cells }
-    ensures versions { (n : ℕ)
-        → at pen.new.all n ≡ at pen.old.all n ++ new_versions entry.now.tid entry.now.writes.values n }
-    ensures reader { HasGrown reader.old reader.new }
-    ensures seen { HasSeen reader.new pen.new entry.now.writes }
-    ensures newest { AreNewest pen.new newest.new }
+    requires { MayStore cells.now pen.old reader.old reads.now entry.now newest.old }
+    ensures { StoresEntry pen.old pen.new reader.old reader.new entry.now newest.new }
 {
     for (record, value) in entry.writes.values() {
         let version = version(entry.tid, value);

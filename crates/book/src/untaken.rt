@@ -1,13 +1,11 @@
 //! What a logger is to take.
 ghost use Rattle.std.specs.Prelude.{◌≡◌, ◌<◌, ◌≤◌, ◌+◌, ◌^◌, [], ◌∷◌, ◌++◌, map, length, vec_len, vec_capacity};
-ghost use Rattle.std.specs.Prelude.{OnOk, IfErr};
+ghost use Rattle.std.specs.Prelude.{OnOk};
 ghost use Rattle.std.specs.Arc.{arc_value};
-ghost use Rattle.money.specs.declared.refusal.Refusal.TheVariants.{OutOfMemory};
-ghost use Rattle.book.specs.Streams.{last_number};
+ghost use Rattle.book.specs.Streams.{last_number, IsSameUntaken};
 
 use crate::entry::Entry;
-use money::Refusal;
-use std::alloc::Global;
+use std::alloc::{AllocError, Global};
 use std::mem;
 use std::sync::Arc;
 
@@ -38,17 +36,13 @@ impl Untaken {
         }
     }
 
-    /// Room for one entry more. `OutOfMemory` is the only refusal.
-    pub(crate) fn reserve(&mut self) -> Result<(), Refusal>
-        ensures same { (self.new.taken ≡ self.old.taken) × (self.new.last_taken ≡ self.old.last_taken)
-            × (self.new.waiting.items ≡ self.old.waiting.items) × (self.new.mark ≡ self.old.mark) }
+    /// Room for one entry more.
+    pub(crate) fn reserve(&mut self) -> Result<(), AllocError>
+        ensures same { IsSameUntaken self.old self.new }
         ensures room { OnOk result (vec_len self.new.waiting < vec_capacity self.new.waiting) }
-        ensures only_memory { IfErr result (λ refusal. refusal ≡ OutOfMemory) }
     {
-        match self.waiting.reserve(1) {
-            Ok(()) => Ok(()),
-            Err(_) => Err(Refusal::OutOfMemory),
-        }
+        self.waiting.reserve(1)?;
+        Ok(())
     }
 
     /// One entry more, for which there is room.

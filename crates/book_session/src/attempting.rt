@@ -1,5 +1,5 @@
 //! A transaction that is executed and committed while its terminal has the book: an attempt, and one after another.
-ghost use Rattle.std.specs.Prelude.{◌≡◌, ◌+◌, ◌⊎◌, ◌↔◌, Err, IsTrue, length, IfOk, IfErr, OnErr};
+ghost use Rattle.std.specs.Prelude.{◌≡◌, ◌+◌, ◌⊎◌, length, IfOk, IfErr, OnErr};
 ghost use Rattle.money.specs.declared.refusal.Refusal.TheVariants.{OutOfMemory, Conflict, Stale};
 ghost use Rattle.tables.specs.Inputs.{IsInput};
 ghost use Rattle.book.specs.Book.{IsAsBefore};
@@ -35,9 +35,9 @@ pub(crate) fn persist<K: Run, R: Wait>(
     ensures err { OnErr result (IsAsBefore book.old book.new) }
 {
     for _ in rt.forever() {
-        let outcome = attempt(rt, alloc, engine, book, seat, input);
-        if !is_retried(&outcome) {
-            return outcome;
+        match attempt(rt, alloc, engine, book, seat, input) {
+            Err(refusal) if refusal.is_retried() => {}
+            outcome => return outcome,
         }
     }
     unreachable!()
@@ -71,11 +71,4 @@ fn attempt<K: Run, R: Wait>(
         Ok(work) => book.commit(rt, board, cells, &mut seat.reader, &mut seat.share, work),
         Err(refusal) => Err(book.confirmed(input, refusal)),
     }
-}
-
-/// Whether a transaction is tried again after this outcome: exactly where what it read wasn't or isn't the latest.
-fn is_retried(outcome: &Result<Done, Refusal>) -> bool
-    ensures { IsTrue result ↔ (outcome.now ≡ Err Stale) ⊎ (outcome.now ≡ Err Conflict) }
-{
-    matches!(outcome, Err(Refusal::Stale | Refusal::Conflict))
 }

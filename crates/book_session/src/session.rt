@@ -34,15 +34,13 @@ pub struct Session<'e, K: Run> {
 }
 
 impl<'e, K: Run> Model for Session<'e, K> {
-    ghost use Rattle.std.specs.Prelude.{◌≡◌, length};
-    ghost use Rattle.book_session.specs.Session.{SessionView};
+    ghost use Rattle.book_session.specs.Session.{SessionView, IsSession};
 
     ghost Value = { SessionView };
 
     ghost view = { λ s. record { history = s.book.value.history; dones = s.dones.items } };
 
-    ghost invariant = { λ s. (s.seat.reader.cells ≡ K.cells) × (length s.dones.items ≡ length s.book.value.history)
-        × (K.past ≡ 0) };
+    ghost invariant = { λ s. IsSession K.population K.first K.past K.cells s.seat.reader s.book.value s.dones.items };
 }
 
 impl<'e, K: Run> Session<'e, K> {
@@ -56,7 +54,7 @@ impl<'e, K: Run> Session<'e, K> {
         requires reader { seat.reader.cells ≡ K.cells }
         requires only { seat.share.parts ≡ K.parts }
         requires none { seat.share.commits ≡ 0 }
-        requires begins { K.past ≡ 0 }
+        requires begins { (K.past ≡ 0) × (K.first ≡ K.population) }
         ensures { result ≡ record { history = []; dones = [] } }
     {
         let mut seat = seat;

@@ -2,5 +2,5 @@ mod SumSteps
 mod Orderers
 mod LineSteps
 mod Numbered
-mod Told
-mod Searched
+pub mod Told
+pub mod Searched

@@ -1,5 +1,5 @@
 -- A search for the least key whose row fails a test: what the entries that are left still have to show.
-use Rattle.std.proofs.Common.{◌≡◌, ◌⊎◌, inl, inr, ⊎_elim, true, false, cond, Option, Some, None, IsSome, IsNone, List, [], ◌∷◌, refl, sym, ap, ◌∙◌, subst}
+use Rattle.std.proofs.Common.{◌≡◌, ◌↔◌, ◌⊎◌, inl, inr, ⊎_elim, Bool, true, false, not, cond, true≢false, Option, Some, None, is_some, IsSome, IsNone, List, [], ◌∷◌, refl, sym, ap, ◌∙◌, subst}
 use Rattle.std.specs.List.{AllByRecursion}
 use Rattle.std.specs.List.Sorted.{IsStrictlySortedBy}
 use Rattle.std.specs.Map.{keys_of, lookup}
@@ -8,12 +8,13 @@ use Rattle.std.specs.Ordering.{is_eq}
 use Rattle.std.specs.Cmp.{tied_itself}
 use Rattle.std.specs.BTreeMap as tree
 use Rattle.std.specs.BTreeMap.{BTreeMap, is_at}
-use Rattle.std.specs.FinMap.{get, from_entries}
+use Rattle.std.specs.FinMap.{FinMap, get, from_entries}
 use Rattle.std.specs.declared.cmp.Ordering.{Ordering}
 use Rattle.std.specs.declared.cmp.Ordering.TheVariants.{Less, Equal, Greater}
 use Rattle.std.proofs.lemmas.Map.Keys.{sorted_head, sorted_tail}
 use Rattle.tables.proofs.Orders.{IsExact}
 use Rattle.tables.proofs.Views.{get-view}
+use Rattle.tables.specs.Maps.{EachRow}
 use Rattle.conditions.specs.Finds.{FindsLeast}
 
 -- where the condition holds at each key, nothing is found
@@ -115,3 +116,20 @@ module _ {K X : Type 0} {R : K → K → Ordering} (o : IsExact R) where
       → FindsLeast R (λ k. IsSome (get (from_entries {R = R} m.entries) k)) (λ k. ForSome (get (from_entries {R = R} m.entries) k) (T b k)) found
   finds_told {A} m T a b same found finds = finds-view m (T b) found
       (subst (λ (s : A). FindsLeast R (λ k. IsSome (tree.get R m k)) (λ k. ForSome (tree.get R m k) (T s k)) found) same finds)
+
+  -- nothing is found exactly where the condition holds of each row
+  pub each_told : {A : Type 0} (m : BTreeMap K X) (T : A → K → X → Type 0) (a b : A) → a ≡ b → (found : Option K) (none : Bool) → is_some found ≡ not none
+      → FindsLeast R (λ k. IsSome (tree.get R m k)) (λ k. ForSome (tree.get R m k) (T a k)) found
+      → (none ≡ true) ↔ EachRow (T b) (from_entries {R = R} m.entries)
+  each_told {A} m T a b same found none test finds = answer found none test (finds_told m T a b same found finds)
+    where
+      rows : FinMap R X
+      rows = from_entries {R = R} m.entries
+
+      answer : (found : Option K) (none : Bool) → is_some found ≡ not none
+          → FindsLeast R (λ k. IsSome (get rows k)) (λ k. ForSome (get rows k) (T b k)) found
+          → (none ≡ true) ↔ EachRow (T b) rows
+      answer None true test finds = (λ t k r e. finds k (subst (λ (row : Option X). IsSome row) (sym e) refl) r e, λ each. refl)
+      answer None false test finds = absurd (true≢false (sym test))
+      answer (Some k) true test finds = absurd (true≢false test)
+      answer (Some k) false test finds = (λ t. absurd (true≢false (sym t)), λ each. absurd (finds.1 (λ r e. each k r e)))

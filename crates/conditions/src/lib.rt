@@ -18,3 +18,5 @@ mod sums;
 
 pub use checks::check;
 pub use report::Report;
+pub use row_conditions::RowCondition;
+pub use search::least_row;

@@ -11,3 +11,4 @@ mod Begun
 mod BegunTables
 mod BegunRows
 mod BegunNumbers
+pub mod Belong

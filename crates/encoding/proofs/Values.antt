@@ -81,7 +81,7 @@ module _ {K X Y : Type 0} {R : K → K → Ordering} (IsKey : K → Type 0) (f :
       by_row None (Some r) e g = absurd (true≢false (sym (subst IsSome e (there k ((at k).0 (subst IsSome (sym g) refl))))))
 
 -- where a value is a row's, a row stands
-stands : {K X : Type 0} {R : K → K → Ordering} (IsKey : K → Type 0) (IsIn : K → X → Type 0) (IsOne : X → Type 0) (words : X → List ℕ)
+pub stands : {K X : Type 0} {R : K → K → Ordering} (IsKey : K → Type 0) (IsIn : K → X → Type 0) (IsOne : X → Type 0) (words : X → List ℕ)
     (value : K → Option (List ℕ)) (m : FinMap R X) → IsTableOf IsKey IsIn words value m → ((k : K) → IsKey k → IsRow words IsOne (value k)) → (k : K) → IsKey k
     → IsSome (get m k)
 stands {X = X} IsKey IsIn IsOne words value m a row k is = found (get m k) refl

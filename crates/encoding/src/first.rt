@@ -1,10 +1,9 @@
-//! What the records of a population begin with: all absent at first, and then a pass over each table.
+//! What the records of tables begin with: all absent at first, and then a pass over each table.
 
-ghost use Rattle.std.specs.Prelude.{◌≡◌, ◌<◌, ℕ, None, List, length, IfOk, IfErr};
+ghost use Rattle.std.specs.Prelude.{◌≡◌, ◌<◌, ℕ, None, List, length, IfOk};
 ghost use Rattle.std.specs.BTreeMap.{IsOrdered};
 ghost use Rattle.std.specs.FinMap.{from_entries};
 ghost use Rattle.std.specs.List.{fold};
-ghost use Rattle.money.specs.declared.refusal.Refusal.TheVariants.{OutOfMemory};
 ghost use Rattle.tables.specs.Conditions.{IsConsistent};
 ghost use Rattle.tables.specs.Database.{database};
 ghost use Rattle.tables.specs.Maps.{EachRow};
@@ -12,7 +11,6 @@ ghost use Rattle.tables.specs.Records.{IsRecordKey, record_count};
 ghost use Rattle.tables.specs.Rows.{row_at};
 ghost use Rattle.tables.specs.WellFormed.{IsWellFormed};
 ghost use Rattle.tables.specs.declared.records.RecordKey.{RecordKey as KeyOfRecord};
-ghost use Rattle.population.specs.Initial.{initial};
 ghost use Rattle.encoding.specs.Newest.{words_at, AreFirst};
 ghost use Rattle.encoding.specs.Begun.{AreBegun, begun_by, rows_alone};
 
@@ -21,8 +19,7 @@ use crate::beginnings::{
     Orders, Stocks, Warehouses,
 };
 use cells::Newest;
-use money::{NO_PAYLOAD, Payload, Refusal};
-use population::Population;
+use money::{NO_PAYLOAD, Payload};
 use std::alloc::{AllocError, Global};
 use std::collections::BTreeMap;
 use tables::{RecordKey, Scale, Table, Tables, number_of_key, record_count};
@@ -43,18 +40,13 @@ pub trait Begins<K, X> {
         ensures { result ≡ words_of before key.now row.now };
 }
 
-/// What the records of a population begin with, by record number: each row's words, absence where there is no
-/// row, and the numbers of the two index records. Costs a fill of all records, and one or two passes over each
-/// table.
-///
-/// # Errors
-///
-/// `OutOfMemory`, and no other.
-pub fn newest_of(alloc: Global, population: &Population) -> Result<Vec<Newest>, Refusal>
-    ensures first { IfOk result (λ newest. AreFirst (initial population.now) newest.items) }
-    ensures only_memory { IfErr result (λ refusal. refusal ≡ OutOfMemory) }
+/// What the records of tables begin with, by record number: each row's words, absence where there is no row, and the
+/// numbers of the two index records. Costs a fill of all records, and one or two passes over each table.
+pub fn first_versions(alloc: Global, tables: &Tables) -> Result<Vec<Newest>, AllocError>
+    requires well_formed { IsWellFormed (database tables.now) }
+    requires consistent { IsConsistent (database tables.now) }
+    ensures { IfOk result (λ newest. AreFirst (database tables.now) newest.items) }
 {
-    let tables = population.tables();
     let mut newest = none_of(alloc, &tables.scale)?;
     begin_rows(&mut newest, tables);
     begin_numbers(&mut newest, tables);

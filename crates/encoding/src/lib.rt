@@ -18,10 +18,12 @@ ghost use Rattle.encoding.specs.Puts.{MayHold};
 mod beginnings;
 mod building;
 mod first;
+mod laws;
 mod putting;
 
 pub use building::{row_count, tables_of};
-pub use first::newest_of;
+pub use first::first_versions;
+pub use laws::well_formed_where_rows_belong;
 pub use putting::{put, take_out};
 
 /// Two well-formed tables that a population's may become are the same where the records of rows hold the same

@@ -1,6 +1,6 @@
 //! The calls of a disk.
 ghost use Rattle.std.specs.Prelude.{◌≡◌, ℕ, ◌+◌, ◌^◌, ◌<◌, ◌≤◌, List, length, take, drop, IfOk, OnOk};
-ghost use Rattle.log_disk.specs.Calls.{Call, written, WriteLeft, SyncLeft, Counts};
+ghost use Rattle.log_disk.specs.Calls.{Call, written, WriteLeft, SyncLeft, Counts, OnlyReads};
 ghost use Rattle.log_disk.specs.Crashes.{Torn, MayLeave};
 
 use money::Refusal;
@@ -29,8 +29,7 @@ pub trait Disk {
     /// How many bytes it holds.
     fn len(&mut self) -> Result<u64, Refusal>
         ensures value { is_modelled → IfOk result (λ n. n ≡ length (seen self.old)) }
-        ensures seen { is_modelled → seen self.new ≡ seen self.old }
-        ensures story { is_modelled → story self.new ≡ story self.old }
+        ensures reads { OnlyReads is_modelled seen story self.old self.new }
         ensures cause { Counts result (failed self.old) (failed self.new) };
 
     /// Fills `into` with the bytes from this place on. Where there are fewer, that is a failure; after a failure `into`
@@ -39,8 +38,7 @@ pub trait Disk {
         ensures size { length into.new ≡ length into.old }
         ensures within { is_modelled → OnOk result (at + length into.old ≤ length (seen self.old)) }
         ensures bytes { is_modelled → OnOk result (into.new ≡ take (length into.old) (drop at (seen self.old))) }
-        ensures seen { is_modelled → seen self.new ≡ seen self.old }
-        ensures story { is_modelled → story self.new ≡ story self.old }
+        ensures reads { OnlyReads is_modelled seen story self.old self.new }
         ensures cause { Counts result (failed self.old) (failed self.new) };
 
     /// Writes over what is there, and past the end. It fails where the bytes would end at 2^63 or beyond. After a

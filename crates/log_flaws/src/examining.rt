@@ -9,7 +9,7 @@ use crate::flaw::FileFlaw;
 use log_header::{Header, read_header};
 use log_text::{Body, Last, read_body};
 use money::Refusal;
-use std::alloc::Global;
+use std::alloc::{AllocError, Global};
 
 /// How many bytes a header has.
 const HEADER_BYTES: usize = 48;
@@ -42,7 +42,7 @@ pub fn examine(alloc: Global, asked: &Header, file: &[u8]) -> Result<Examined, R
             asked: field.of(asked),
         }));
     }
-    bodies_examined(alloc, asked, file, bytes)
+    Ok(bodies_examined(alloc, asked, file, bytes)?)
 }
 
 /// The flaw of bytes that begin with no header.
@@ -65,11 +65,10 @@ fn bodies_examined(
     header: &Header,
     file: &[u8],
     bytes: &[u8],
-) -> Result<Examined, Refusal>
+) -> Result<Examined, AllocError>
     requires header { IsHeader header.now }
     requires text { file.now ≡ header_text header.now ++ bytes.now }
-    ensures examined { IfOk result (IsExamined file.now header.now) }
-    ensures only_memory { IfErr result (λ refusal. refusal ≡ OutOfMemory) }
+    ensures { IfOk result (IsExamined file.now header.now) }
 {
     let mut bodies = Vec::new(alloc);
     let mut last = Last::start();
@@ -85,7 +84,7 @@ fn bodies_examined(
         let (body, now, behind) = match read_body(alloc, header, last, text) {
             Ok(read) => read,
             Err(Refusal::Damaged) => return Ok(Examined::Flawed(FileFlaw::NoBody { at: gate + 1 })),
-            Err(_) => return Err(Refusal::OutOfMemory),
+            Err(_) => return Err(AllocError),
         };
         bodies.push(body)?;
         last = now;

@@ -1,3 +1,4 @@
 pub mod Staged
 pub mod Standing
 pub mod Called
+pub mod Appended

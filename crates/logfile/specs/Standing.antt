@@ -1,8 +1,8 @@
 -- A log file on its disk: what stands there, and what no crash can take.
-use Rattle.std.specs.Prelude.{◌≡◌, ◌⊎◌, ℕ, ◌<◌, Bool, Some, List, [], ◌∷◌, ◌++◌, length}
+use Rattle.std.specs.Prelude.{◌≡◌, ◌⊎◌, ℕ, ◌+◌, ◌<◌, ◌≤◌, ◌^◌, Bool, false, Some, List, [], ◌∷◌, ◌++◌, length}
 use Rattle.log_disk.specs.Calls.{Call}
 use Rattle.log_disk.specs.Crashes.{MayLeave}
-use Rattle.log_header.specs.Header.{HeaderView, header_text}
+use Rattle.log_header.specs.Header.{HeaderView, IsHeader, header_text}
 use Rattle.log_text.specs.Bodies.{BodyView, bodies_after, start}
 use Rattle.log_text.specs.File.{IsFile, opened}
 use Rattle.log_text.specs.declared.last.Last.{Last}
@@ -48,3 +48,15 @@ pub record IsKept (h : HeaderView) (story : List Call) (mark : ℕ) : Type 0 whe
   pub least : List ℕ
   pub may : MayLeave story least
   pub just : IsFile least h bodies
+
+-- what each open log file keeps, whose disk has these bytes and calls: its text ends below 2^63, its epochs are near
+-- its mark, and its entries have a number each; on a modelled disk it stands there until the device fails, and no crash
+-- can take what is up to its mark
+pub record IsLogFile (IsModelled : Type 0) (seen : List ℕ) (story : List Call) (h : HeaderView) (end : ℕ) (last : Last)
+    (count : ℕ) (failed : Bool) : Type 0 where
+  pub reaches : end < 2 ^ 63
+  pub header : IsHeader h
+  pub near : last.epoch ≤ last.mark + 1
+  pub counts : count ≤ last.number
+  pub stands : IsModelled → failed ≡ false → IsOpen h end last seen story
+  pub kept : IsModelled → ∥ IsKept h story last.mark ∥₁

@@ -1,15 +1,15 @@
 //! An open log file.
-ghost use Rattle.std.specs.Prelude.{◌≡◌, ◌≢◌, ℕ, ◌+◌, ◌-◌, ◌≤◌, ◌^◌, true, false, Some, List, [], ◌∷◌, ◌++◌, length};
-ghost use Rattle.std.specs.Prelude.{◌↔◌, min, IsTrue};
-ghost use Rattle.std.specs.Prelude.{IfOk, IfErr, OnOk, OnErr, IsErr, IsErrOf};
+ghost use Rattle.std.specs.Prelude.{◌≡◌, ◌≢◌, ◌+◌, ◌≤◌, ◌↔◌, true, false, Some, List, [], ◌∷◌, ◌++◌, length};
+ghost use Rattle.std.specs.Prelude.{IsTrue, IfOk, IfErr, OnOk, OnErr};
 ghost use Rattle.money.specs.declared.refusal.Refusal.TheVariants.{OutOfMemory, Device};
 ghost use Rattle.log_disk.specs.Calls.{Wrote, Synced, Counts};
 ghost use Rattle.log_disk.specs.Crashes.{LeavesOnly};
 ghost use Rattle.log_header.specs.Header.{header_text};
 ghost use Rattle.log_text.specs.Bodies.{BodyView, body_after, body_text, start};
 ghost use Rattle.log_text.specs.declared.last.Last.{Last};
-ghost use Rattle.log_entries.specs.Following.{Continues, behind_batch, body_of_batch};
+ghost use Rattle.log_entries.specs.Following.{Continues};
 ghost use Rattle.logfile.specs.Called.{StoreLeft};
+ghost use Rattle.logfile.specs.Appended.{Appends};
 ghost use Rattle.logfile.specs.Standing.{Stands, IsWithOrWithout, IsKept};
 
 use crate::storing::store;
@@ -21,7 +21,7 @@ use log_entries::put_batch;
 use log_header::{Header, put_header};
 use log_text::Last;
 use money::Refusal;
-use std::alloc::Global;
+use std::alloc::{AllocError, Global};
 use std::marker::Model;
 use std::mem;
 
@@ -43,9 +43,7 @@ pub struct LogFile<D: Disk> {
 }
 
 impl<D: Disk> Model for LogFile<D> {
-    ghost use Rattle.std.specs.Prelude.{◌≡◌, ◌+◌, ◌<◌, ◌≤◌, ◌^◌, false};
-    ghost use Rattle.log_header.specs.Header.{IsHeader};
-    ghost use Rattle.logfile.specs.Standing.{LogFileView, IsOpen, IsKept};
+    ghost use Rattle.logfile.specs.Standing.{LogFileView, IsLogFile};
 
     ghost Value = { LogFileView D };
 
@@ -58,10 +56,8 @@ impl<D: Disk> Model for LogFile<D> {
       failed = f.failed;
     } };
 
-    ghost invariant = { λ f. (f.end < 2 ^ 63) × IsHeader f.header × (f.last.epoch ≤ f.last.mark + 1)
-        × (f.count ≤ f.last.number)
-        × (D.is_modelled → f.failed ≡ false → IsOpen f.header f.end f.last (D.seen f.disk) (D.story f.disk))
-        × (D.is_modelled → ∥ IsKept f.header (D.story f.disk) f.last.mark ∥₁) };
+    ghost invariant = { λ f.
+        IsLogFile D.is_modelled (D.seen f.disk) (D.story f.disk) f.header f.end f.last f.count f.failed };
 }
 
 impl<D: Disk> LogFile<D> {
@@ -157,7 +153,8 @@ fn is_of(header: &Header, batch: &Batch) -> bool
 impl<D: Disk> LogFile<D> {
     /// Appends a batch that begins where the file ends (`Continues`), as one body, by four calls of the device: its
     /// text and a closed gate behind the gate that ends the file's text; a sync; that gate as open; a sync (Silo,
-    /// section 4.10). Costs a pass over the batch; its text is made once, in memory that the file keeps.
+    /// section 4.10). `Appends` has all that it says. Costs a pass over the batch; its text is made once, in memory
+    /// that the file keeps.
     ///
     /// At each moment of the call, also where the device fails, a crash leaves the bodies before, or these and the
     /// whole new one; after Ok these and the new one.
@@ -169,30 +166,7 @@ impl<D: Disk> LogFile<D> {
     /// of the device.
     pub fn append(&mut self, batch: &Batch) -> Result<(), Refusal>
         requires { Continues self.old.header self.old.count self.old.last batch.now }
-        ensures header { self.new.header ≡ self.old.header }
-        ensures ok { OnOk result ((self.old.failed ≡ false) × (self.new.failed ≡ false)
-            × (self.new.last ≡ behind_batch self.old.last batch.now)
-            × (self.new.count ≡ self.old.count + length batch.now.entries)) }
-        ensures added { D.is_modelled → (bodies : List BodyView)
-            → Stands self.old.header bodies self.old.end self.old.last (D.seen self.old.disk) (D.story self.old.disk)
-            → OnOk result (Stands self.new.header (bodies ++ body_of_batch batch.now ∷ []) self.new.end self.new.last
-            (D.seen self.new.disk) (D.story self.new.disk)) }
-        ensures moments { D.is_modelled → (bodies : List BodyView)
-            → Stands self.old.header bodies self.old.end self.old.last (D.seen self.old.disk) (D.story self.old.disk)
-            → LeavesOnly (IsWithOrWithout self.old.header bodies (body_of_batch batch.now)) (D.story self.old.disk)
-            (D.story self.new.disk) }
-        ensures calls { D.is_modelled
-            → StoreLeft result self.old.end (body_text (body_of_batch batch.now) ++ CLOSED ∷ []) (D.seen self.old.disk)
-            (D.story self.old.disk) (D.seen self.new.disk) (D.story self.new.disk) }
-        ensures end { OnOk result (self.new.end
-            ≡ self.old.end + length (body_text (body_of_batch batch.now) ++ CLOSED ∷ [])) }
-        ensures memory { IsErrOf result OutOfMemory → self.new ≡ self.old }
-        ensures device { IsErrOf result Device → (self.new.failed ≡ true) × (self.new.last ≡ self.old.last)
-            × (self.new.count ≡ self.old.count) }
-        ensures refuses { self.old.failed ≡ true → IsErrOf result Device × (self.new ≡ self.old) }
-        ensures cause { self.old.failed ≡ false → IsErrOf result Device
-            → D.failed self.new.disk ≡ min (D.failed self.old.disk + 1) (2 ^ 64 - 1) }
-        ensures others { IfErr result (λ refusal. (refusal ≢ OutOfMemory) → refusal ≡ Device) }
+        ensures { Appends D.is_modelled D.seen D.story D.failed batch.now result self.old self.new }
     {
         if self.failed {
             return Err(Refusal::Device);
@@ -253,9 +227,8 @@ impl<D: Disk> LogFile<D> {
 }
 
 /// The text of a file without bodies: its header, and a closed gate.
-fn first_text(alloc: Global, header: &Header) -> Result<Vec<u8>, Refusal>
-    ensures text { IfOk result (λ text. text.items ≡ header_text header.now ++ CLOSED ∷ []) }
-    ensures only_memory { IfErr result (λ refusal. refusal ≡ OutOfMemory) }
+fn first_text(alloc: Global, header: &Header) -> Result<Vec<u8>, AllocError>
+    ensures { IfOk result (λ text. text.items ≡ header_text header.now ++ CLOSED ∷ []) }
 {
     let mut text = Vec::new(alloc);
     put_header(&mut text, header)?;

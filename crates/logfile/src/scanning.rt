@@ -1,6 +1,7 @@
 //! Reading a log file back.
-ghost use Rattle.std.specs.Prelude.{◌≡◌, ◌≢◌, ◌+◌, ◌-◌, ◌<◌, ◌^◌, ℕ, min, List, length, map, IfOk, IfErr, IsErrOf};
+ghost use Rattle.std.specs.Prelude.{◌≡◌, ◌≢◌, ◌<◌, ◌^◌, ℕ, List, length, map, IfOk, IfErr, IsErrOf};
 ghost use Rattle.money.specs.declared.refusal.Refusal.TheVariants.{OutOfMemory, Damaged, Device};
+ghost use Rattle.log_disk.specs.Calls.{CountsDevice, OnlyReads};
 ghost use Rattle.log_header.specs.Header.{HeaderView};
 ghost use Rattle.log_text.specs.Bodies.{BodyView, body_of};
 ghost use Rattle.log_text.specs.File.{IsFile};
@@ -23,27 +24,23 @@ pub fn scan<D: Disk>(alloc: Global, disk: &mut D) -> Result<(Header, Vec<Body>),
         × (D.is_modelled → file ≡ D.seen disk.old) × IsFile file x.0 (map body_of x.1.items)) }
     ensures damaged { IsErrOf result Damaged → (file : List ℕ) × (D.is_modelled → file ≡ D.seen disk.old)
         × ((h : HeaderView) (bodies : List BodyView) → IsFile file h bodies → ⊥) }
-    ensures failed { IsErrOf result Device → D.failed disk.new ≡ min (D.failed disk.old + 1) (2 ^ 64 - 1) }
-    ensures not_failed { (IsErrOf result Device → ⊥) → D.failed disk.new ≡ D.failed disk.old }
+    ensures counts { CountsDevice result (D.failed disk.old) (D.failed disk.new) }
     ensures others { IfErr result (λ refusal. (refusal ≢ OutOfMemory) → (refusal ≢ Device) → refusal ≡ Damaged) }
-    ensures seen { D.is_modelled → D.seen disk.new ≡ D.seen disk.old }
-    ensures story { D.is_modelled → D.story disk.new ≡ D.story disk.old }
+    ensures reads { OnlyReads D.is_modelled D.seen D.story disk.old disk.new }
 {
     let bytes = contents(alloc, disk)?;
     read_file(alloc, &bytes)
 }
 
-/// All bytes of a disk, by two calls: its length, and one read. It takes memory for them only once the disk's length shows
-/// that they are there.
+/// All bytes of a disk, by two calls: its length, and one read. It takes memory for them only once the disk's length
+/// shows that they are there.
 ///
 /// Refuses by `Device` only where one of these calls fails, and else for memory.
 pub fn contents<D: Disk>(alloc: Global, disk: &mut D) -> Result<Vec<u8>, Refusal>
     ensures bytes { D.is_modelled → IfOk result (λ bytes. bytes.items ≡ D.seen disk.old) }
-    ensures failed { IsErrOf result Device → D.failed disk.new ≡ min (D.failed disk.old + 1) (2 ^ 64 - 1) }
-    ensures not_failed { (IsErrOf result Device → ⊥) → D.failed disk.new ≡ D.failed disk.old }
+    ensures counts { CountsDevice result (D.failed disk.old) (D.failed disk.new) }
     ensures others { IfErr result (λ refusal. (refusal ≢ OutOfMemory) → refusal ≡ Device) }
-    ensures seen { D.is_modelled → D.seen disk.new ≡ D.seen disk.old }
-    ensures story { D.is_modelled → D.story disk.new ≡ D.story disk.old }
+    ensures reads { OnlyReads D.is_modelled D.seen D.story disk.old disk.new }
 {
     let size = disk.len()?;
     let mut bytes = Vec::new(alloc);

@@ -1,12 +1,9 @@
 //! A logger, and its turn.
-ghost use Rattle.std.specs.Prelude.{◌≡◌, ◌≢◌, ◌+◌, ◌-◌, ◌^◌, ◌≤◌, ◌↔◌, false, true, List, [], ◌∷◌, ◌++◌};
-ghost use Rattle.std.specs.Prelude.{length, min, IsTrue, IfOk, IfErr, OnOk, OnErr, IsErrOf};
-ghost use Rattle.money.specs.declared.refusal.Refusal.TheVariants.{OutOfMemory, Device};
-ghost use Rattle.log_disk.specs.Crashes.{LeavesOnly};
-ghost use Rattle.log_text.specs.Bodies.{BodyView, body_text};
-ghost use Rattle.log_entries.specs.Following.{Continues, behind_batch, body_of_batch};
-ghost use Rattle.logfile.specs.Called.{StoreLeft};
-ghost use Rattle.logfile.specs.Standing.{Stands, IsWithOrWithout, IsKept};
+ghost use Rattle.std.specs.Prelude.{◌≡◌, ◌≤◌, ◌↔◌, IsTrue, IfOk, OnErr, IsErrOf};
+ghost use Rattle.money.specs.declared.refusal.Refusal.TheVariants.{OutOfMemory};
+ghost use Rattle.log_entries.specs.Following.{Continues};
+ghost use Rattle.logfile.specs.Appended.{Appends};
+ghost use Rattle.logfile.specs.Standing.{IsKept};
 ghost use Rattle.logger.specs.Logger.{IsLoggerOf, MarksAndPublishes, local_mark};
 
 use board::{Board, Keeper, LoggerSeat};
@@ -84,9 +81,9 @@ impl<D: Disk> Logger<D> {
 
     /// A logger's turn (Silo, section 4.10): appends a batch that begins where the file ends (`Continues`), one without
     /// entries too; makes what the file then keeps the local mark; and raises D to the least local mark of all loggers,
-    /// which it answers. Of the file it says what `LogFile::append` does. Of the seat: on Ok one step more stored the
-    /// file's mark, and then came those of a publication; after a refusal it is as before, and so are the board's words
-    /// for all that this logger did.
+    /// which it answers. Of the file it says what `LogFile::append` does (`Appends`). Of the seat: on Ok one step more
+    /// stored the file's mark, and then came those of a publication; after a refusal it is as before, and so are the
+    /// board's words for all that this logger did.
     ///
     /// # Errors
     ///
@@ -96,35 +93,11 @@ impl<D: Disk> Logger<D> {
     pub fn turn(&mut self, board: &Board, batch: &Batch) -> Result<u64, Refusal>
         requires own { self.old.seat.board ≡ board.now }
         requires continues { Continues self.old.file.header self.old.file.count self.old.file.last batch.now }
-        ensures header { self.new.file.header ≡ self.old.file.header }
-        ensures file { OnOk result ((self.old.file.failed ≡ false) × (self.new.file.failed ≡ false)
-            × (self.new.file.last ≡ behind_batch self.old.file.last batch.now)
-            × (self.new.file.count ≡ self.old.file.count + length batch.now.entries)) }
+        ensures appends { Appends D.is_modelled D.seen D.story D.failed batch.now result self.old.file self.new.file }
         ensures seat { IfOk result (λ least.
             MarksAndPublishes self.old.file.header batch.now.mark self.old.seat least self.new.seat) }
         ensures stays { OnErr result (self.new.seat ≡ self.old.seat) }
-        ensures added { D.is_modelled → (bodies : List BodyView)
-            → Stands self.old.file.header bodies self.old.file.end self.old.file.last (D.seen self.old.file.disk)
-            (D.story self.old.file.disk)
-            → OnOk result (Stands self.new.file.header (bodies ++ body_of_batch batch.now ∷ []) self.new.file.end
-            self.new.file.last (D.seen self.new.file.disk) (D.story self.new.file.disk)) }
-        ensures moments { D.is_modelled → (bodies : List BodyView)
-            → Stands self.old.file.header bodies self.old.file.end self.old.file.last (D.seen self.old.file.disk)
-            (D.story self.old.file.disk)
-            → LeavesOnly (IsWithOrWithout self.old.file.header bodies (body_of_batch batch.now))
-            (D.story self.old.file.disk) (D.story self.new.file.disk) }
-        ensures calls { D.is_modelled → StoreLeft result self.old.file.end
-            (body_text (body_of_batch batch.now) ++ 0 ∷ []) (D.seen self.old.file.disk) (D.story self.old.file.disk)
-            (D.seen self.new.file.disk) (D.story self.new.file.disk) }
-        ensures end { OnOk result (self.new.file.end
-            ≡ self.old.file.end + length (body_text (body_of_batch batch.now) ++ 0 ∷ [])) }
         ensures memory { IsErrOf result OutOfMemory → self.new ≡ self.old }
-        ensures device { IsErrOf result Device → (self.new.file.failed ≡ true)
-            × (self.new.file.last ≡ self.old.file.last) × (self.new.file.count ≡ self.old.file.count) }
-        ensures refuses { self.old.file.failed ≡ true → IsErrOf result Device × (self.new ≡ self.old) }
-        ensures cause { self.old.file.failed ≡ false → IsErrOf result Device
-            → D.failed self.new.file.disk ≡ min (D.failed self.old.file.disk + 1) (2 ^ 64 - 1) }
-        ensures others { IfErr result (λ refusal. (refusal ≢ OutOfMemory) → refusal ≡ Device) }
     {
         // Who reads a batch's entries knows its rules: its mark is no lower than the one before.
         let _ = batch.entries();

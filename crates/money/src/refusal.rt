@@ -43,7 +43,9 @@ pub enum Refusal {
 }
 
 impl Refusal {
+    ghost use Rattle.std.specs.Prelude.{◌⊎◌, ◌↔◌, IsTrue};
     ghost use Rattle.money.specs.Refusal.{refusal_number, refusal_name};
+    ghost use Rattle.money.specs.declared.refusal.Refusal.TheVariants.{Stale, Conflict};
 
     /// The number of this refusal, from 1 to 14.
     pub fn number(self) -> u8
@@ -87,6 +89,13 @@ impl Refusal {
             Refusal::BadScale => "BadScale",
             Refusal::BadLine => "BadLine",
         }
+    }
+
+    /// Whether a transaction that is refused so is tried again: exactly where what it read wasn't or isn't the latest.
+    pub fn is_retried(self) -> bool
+        ensures { IsTrue result ↔ (self ≡ Stale) ⊎ (self ≡ Conflict) }
+    {
+        matches!(self, Refusal::Stale | Refusal::Conflict)
     }
 }
 

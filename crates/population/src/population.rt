@@ -7,6 +7,7 @@ ghost use Rattle.population.specs.Unique.{line_order-prop};
 ghost use Rattle.tables.specs.Conditions.{IsConsistent};
 ghost use Rattle.tables.specs.Database.{database};
 ghost use Rattle.tables.specs.WellFormed.{IsWellFormed, HasRoom};
+ghost use Rattle.tables.specs.Reach.{IsInReach};
 ghost use Rattle.tables.specs.declared.limits.TheConstants.{MAX_COMMITS};
 
 use crate::name_index::NameIndex;
@@ -16,13 +17,14 @@ use std::alloc::{AllocError, Global};
 use tables::{DistrictKey, Scale, Tables, Who};
 
 /// The rows that a database begins with, and its customers by name. Its type keeps that the rows are well-formed and
-/// consistent, and have room for 600,000 commits.
+/// consistent, have room for 600,000 commits, and are in reach of none.
 #[derive(Debug, Drop)]
 pub struct Population {
     tables: Tables,
     names: NameIndex,
     seed: u64,
     pub ghost room: { HasRoom MAX_COMMITS (database tables) } by { Prim.hlevel props },
+    pub ghost reach: { IsInReach 0 (database tables) } by { Prim.hlevel props },
     pub ghost well_formed: { IsWellFormed (database tables) } by { Prim.hlevel (props, line_order-prop) },
     pub ghost named: { names ≡ names_of (database tables).customers } by { Prim.hlevel props },
     pub ghost consistent: { IsConsistent (database tables) } by { Prim.hlevel props },
@@ -74,6 +76,7 @@ impl Population {
         requires well_formed { IsWellFormed (database tables) }
         requires consistent { IsConsistent (database tables) }
         requires room { HasRoom MAX_COMMITS (database tables) }
+        requires reach { IsInReach 0 (database tables) }
         ensures rows { IfOk result (λ population. initial population ≡ database tables) }
         ensures seed { IfOk result (λ population. seed_of population ≡ seed) }
     {

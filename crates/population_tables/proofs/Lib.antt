@@ -11,3 +11,4 @@ mod PlainRows
 mod Sound
 mod OrdersConsistent
 mod Consistent
+mod OneTable

@@ -1,4 +1,4 @@
--- A seeded population is well-formed and has room.
+-- A seeded population is well-formed, has room, and is in reach of no commit.
 use Rattle.std.proofs.Common.{◌≡◌, ℕ, zero, suc, ◌+◌, ◌-◌, ◌*◌, ◌≤◌, IsSome, pos, neg_ℤ, ℤ, Some, List, map, sym, subst}
 use Rattle.std.proofs.Common.{refl, arith}
 use Rattle.std.specs.Prelude.{All}
@@ -17,7 +17,8 @@ use Rattle.tables.specs.declared.keys.LineKey.{LineKey}
 use Rattle.tables.specs.declared.rows.Order.{Order}
 use Rattle.tables.proofs.Named.{somebody}
 use Rattle.tables.specs.WellFormed.{IsMoney, IsMoneyFor, IsDate, IsHistoryRow, IsWellFormed, HasRoom}
-use Rattle.tables.specs.declared.limits.TheConstants.{MAX_COMMITS, MAX_MONEY_STEP}
+use Rattle.tables.specs.Reach.{IsNear, IsInReach}
+use Rattle.tables.specs.declared.limits.TheConstants.{MAX_COMMITS, MAX_MONEY_STEP, MAX_FIRST_MONEY}
 use Rattle.population_tables.specs.Plain.{numbers, plain_history_row}
 use Rattle.population_tables.specs.First.{IsFit, IsSeeded, IsFirstLineKey, first_line_count}
 use Rattle.population_tables.proofs.PlainRows.{one_or_null}
@@ -50,6 +51,12 @@ money_for n z amount is fits = (omega (arith, ints), omega (arith, ints))
 debt_for : (n : ℕ) (z : ℤ) → z ≡ neg_ℤ (pos 1000) → 1000 + MAX_MONEY_STEP * n ≤ 10000000000000 → IsMoneyFor n z
 debt_for n z is fits = (omega (arith, ints), omega (arith, ints))
 
+near : (z : ℤ) (amount : ℕ) → z ≡ pos amount → amount ≤ MAX_FIRST_MONEY → IsNear MAX_FIRST_MONEY z
+near z amount is fits = (omega (arith, ints), omega (arith, ints))
+
+debt_near : (z : ℤ) → z ≡ neg_ℤ (pos 1000) → IsNear MAX_FIRST_MONEY z
+debt_near z is = (omega (arith, ints), omega (arith, ints))
+
 is_history_row : (s : Sizes) (w d c : ℕ) → IsNumber s.warehouses w → IsNumber s.districts d → IsNumber s.customers c → IsHistoryRow s (plain_history_row w d c)
 is_history_row s w d c in_warehouse in_district in_customer = record {
   customer = in_customer;
@@ -78,6 +85,23 @@ module _ (t : Database) (fit : IsFit t.scale) (seeded : IsSeeded t.scale t) wher
     supplied = each seeded.stock _ (λ k r h d. omega (arith, d.year_to_date));
     orders = each seeded.stock _ (λ k r h d. omega (arith, d.orders));
     remote_orders = each seeded.stock _ (λ k r h d. omega (arith, d.remote_orders));
+  }
+
+  reach : IsInReach 0 t
+  reach = record {
+    warehouses = each seeded.warehouses _ (λ k r h d. near _ (t.scale.districts * (t.scale.customers * 1000)) d.year_to_date (omega (arith, total)));
+    districts = each seeded.districts _ (λ k r h d. near _ (t.scale.customers * 1000) d.year_to_date (omega (arith, fit.customers)));
+    customers = each seeded.customers _ (λ k r h d. record {
+      balance = debt_near _ d.balance;
+      paid = near _ 1000 d.paid (omega arith);
+      payments = omega (arith, d.payments);
+      deliveries = omega (arith, d.deliveries);
+    });
+    stock = each seeded.stock _ (λ k r h d. record {
+      year_to_date = omega (arith, d.year_to_date);
+      orders = omega (arith, d.orders);
+      remote_orders = omega (arith, d.remote_orders);
+    });
   }
 
   -- no order has more than 15 lines
@@ -160,6 +184,9 @@ module _ (s : Sizes) (t : Database) (fit : IsFit s) (seeded : IsSeeded s t) wher
 
   pub has_room : HasRoom MAX_COMMITS t
   has_room = room t fit_here seeded_here
+
+  pub has_reach : IsInReach 0 t
+  has_reach = reach t fit_here seeded_here
 
   pub is_well_formed : IsWellFormed t
   is_well_formed = well_formed t fit_here seeded_here

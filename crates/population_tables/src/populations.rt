@@ -4,6 +4,7 @@ ghost use Rattle.std.specs.Prelude.{◌≡◌, ◌≤◌, IfOk};
 ghost use Rattle.tables.specs.Conditions.{IsConsistent};
 ghost use Rattle.tables.specs.Database.{database};
 ghost use Rattle.tables.specs.WellFormed.{IsWellFormed, HasRoom};
+ghost use Rattle.tables.specs.Reach.{IsInReach};
 ghost use Rattle.tables.specs.declared.limits.TheConstants.{MAX_COMMITS};
 ghost use Rattle.population_tables.specs.Plain.{IsPlain};
 ghost use Rattle.population_tables.specs.First.{IsSeeded};
@@ -20,6 +21,7 @@ pub fn plain_tables(alloc: Global, scale: Scale) -> Result<Tables, AllocError>
     ensures well_formed { IfOk result (λ tables. IsWellFormed (database tables)) }
     ensures consistent { IfOk result (λ tables. IsConsistent (database tables)) }
     ensures room { IfOk result (λ tables. HasRoom MAX_COMMITS (database tables)) }
+    ensures reach { IfOk result (λ tables. IsInReach 0 (database tables)) }
 {
     let tables = first_tables(alloc, scale, &mut Plain)?;
     Ok(tables)
@@ -31,6 +33,7 @@ pub fn seeded_tables(alloc: Global, scale: Scale, seed: u64) -> Result<Tables, A
     ensures well_formed { IfOk result (λ tables. IsWellFormed (database tables)) }
     ensures consistent { IfOk result (λ tables. IsConsistent (database tables)) }
     ensures room { IfOk result (λ tables. HasRoom MAX_COMMITS (database tables)) }
+    ensures reach { IfOk result (λ tables. IsInReach 0 (database tables)) }
 {
     let mut source = Seeded::new(seed);
     let tables = first_tables(alloc, scale, &mut source)?;

@@ -7,7 +7,7 @@ ghost use Rattle.program.specs.Status.{IsRefusedStatus, IsStatusOf, outcome_line
 use conditions::Report;
 use itoa::Buffer;
 use money::Refusal;
-use program_script::write_text;
+use program_streams::write_text;
 use std::io::Write;
 
 /// The exit status of a good end.

@@ -3,7 +3,7 @@ use Rattle.std.proofs.Common.{◌≡◌, ℕ, ◌+◌, ◌<◌, List, [], map, l
 use Rattle.std.proofs.lemmas.List.{get_or-map, length-set, length-map}
 use Rattle.std.proofs.Math.Seq.{map-set_same}
 use Rattle.tables.specs.Sizes.{Sizes}
-use Rattle.log_disk.specs.Calls.{Call}
+use Rattle.log_disk.specs.Calls.{Call, OnlyReads}
 use Rattle.log_header.specs.Header.{HeaderView, header_view}
 use Rattle.log_text.specs.Bodies.{BodyView}
 use Rattle.log_text.specs.File.{IsFile}
@@ -13,41 +13,33 @@ use Rattle.program_recovery.specs.Flaws.{IsLogFileOf}
 pub record IsWalked {X : Type 0} (modelled : Type 0) (seen : X → List ℕ) (story : X → List Call) (s : Sizes) (seed : ℕ)
     (first : List X) (i : ℕ) (disks : List X) : Type 0 where
   pub count : length disks ≡ length first
-  pub same_seen : modelled → map seen disks ≡ map seen first
-  pub same_story : modelled → map story disks ≡ map story first
+  pub same : OnlyReads modelled (map seen) (map story) first disks
   pub whole : modelled → (l : ℕ) → l < i → IsLogFileOf s seed l (length first) (get_or (map seen first) l [])
 
 module _ {X : Type 0} {modelled : Type 0} {seen : X → List ℕ} {story : X → List Call} {s : Sizes} {seed : ℕ} {first : List X} where
   pub begins : IsWalked modelled seen story s seed first 0 first
   begins = record {
     count = refl;
-    same_seen = λ _. refl;
-    same_story = λ _. refl;
+    same = record { seen = λ _. refl; story = λ _. refl };
     whole = λ _ l less. absurd (omega (arith, less));
   }
 
   -- disk k, whatever stands for those past the end, becomes now
   module _ {i : ℕ} {disks : List X} (k : ℕ) (past now : X) (so_far : IsWalked modelled seen story s seed first i disks) where
-    pub seen_stays : (modelled → seen now ≡ seen (get_or disks k past))
-        → modelled → map seen (set disks k now) ≡ map seen first
-    seen_stays same given = map-set_same seen disks k now past (same given) ∙ so_far.same_seen given
-
-    pub story_stays : (modelled → story now ≡ story (get_or disks k past))
-        → modelled → map story (set disks k now) ≡ map story first
-    story_stays same given = map-set_same story disks k now past (same given) ∙ so_far.same_story given
-
     module _ (is : k ≡ i) (within : k < length disks) where
       -- what the disk had at first
       here : modelled → get_or (map seen first) i [] ≡ seen (get_or disks k past)
-      here given = (λ j. get_or (sym (so_far.same_seen given) j) (sym is j) []) ∙ get_or-map seen disks k past [] within
+      here given = (λ j. get_or (sym (so_far.same.seen given) j) (sym is j) []) ∙ get_or-map seen disks k past [] within
 
-      pub goes_on : (modelled → seen now ≡ seen (get_or disks k past)) → (modelled → story now ≡ story (get_or disks k past))
+      pub goes_on : OnlyReads modelled seen story (get_or disks k past) now
           → (modelled → IsLogFileOf s seed i (length first) (seen (get_or disks k past)))
           → IsWalked modelled seen story s seed first (i + 1) (set disks k now)
-      goes_on same_seen same_story whole = record {
+      goes_on same whole = record {
         count = length-set disks k now ∙ so_far.count;
-        same_seen = seen_stays same_seen;
-        same_story = story_stays same_story;
+        same = record {
+          seen = λ given. map-set_same seen disks k now past (same.seen given) ∙ so_far.same.seen given;
+          story = λ given. map-set_same story disks k now past (same.story given) ∙ so_far.same.story given;
+        };
         whole = λ given. below_more (λ l. IsLogFileOf s seed l (length first) (get_or (map seen first) l [])) i (so_far.whole given)
             (subst (IsLogFileOf s seed i (length first)) (sym (here given)) (whole given));
       }

@@ -4,6 +4,7 @@ ghost use Rattle.std.specs.Prelude.{IfOk, IfErr, IfSome, MatchOption, Ok};
 ghost use Rattle.std.specs.Option.{option_map_or};
 ghost use Rattle.money.specs.declared.refusal.Refusal.TheVariants.{OutOfMemory, Device};
 ghost use Rattle.tables.specs.declared.limits.TheConstants.{MAX_LOGGERS};
+ghost use Rattle.log_disk.specs.Calls.{OnlyReads};
 ghost use Rattle.log_header.specs.Header.{HeaderView, header_view};
 ghost use Rattle.log_text.specs.Bodies.{BodyView};
 ghost use Rattle.log_text.specs.File.{IsFile};
@@ -49,8 +50,7 @@ pub fn first_damage<D: Disk>(
         → IsLogFileOf (initial population.now).scale (seed_of population.now) l (length disks.old)
         (slice_index_or (map D.seen disks.old) l [])) }
     ensures cause { IfErr result (λ refusal. (refusal ≢ OutOfMemory) → refusal ≡ Device) }
-    ensures seen { D.is_modelled → map D.seen disks.new ≡ map D.seen disks.old }
-    ensures story { D.is_modelled → map D.story disks.new ≡ map D.story disks.old }
+    ensures reads { OnlyReads D.is_modelled (map D.seen) (map D.story) disks.old disks.new }
 {
     let loggers = disks.len() as u16;
     for logger in 0..loggers {
@@ -72,8 +72,7 @@ fn flaw_on<D: Disk>(
     ensures flaw { IfOk result (λ flaw. (file : List ℕ) × (D.is_modelled → file ≡ D.seen disk.old)
         × MatchOption flaw ((bodies : List BodyView) × IsFile file asked.now bodies) (HasFlaw file asked.now)) }
     ensures cause { IfErr result (λ refusal. (refusal ≢ OutOfMemory) → refusal ≡ Device) }
-    ensures seen { D.is_modelled → D.seen disk.new ≡ D.seen disk.old }
-    ensures story { D.is_modelled → D.story disk.new ≡ D.story disk.old }
+    ensures reads { OnlyReads D.is_modelled D.seen D.story disk.old disk.new }
 {
     let bytes = contents(alloc, disk)?;
     match examine(alloc, asked, &bytes)? {

@@ -3,6 +3,7 @@ ghost use Rattle.std.specs.Prelude.{◌≡◌, ◌≢◌, ◌≤◌, ℕ, List, 
 ghost use Rattle.std.specs.List.{All};
 ghost use Rattle.std.specs.List.Sorted.{IsNonDecreasingBy};
 ghost use Rattle.money.specs.declared.refusal.Refusal.TheVariants.{OutOfMemory, Device, Damaged};
+ghost use Rattle.log_disk.specs.Calls.{OnlyReads};
 ghost use Rattle.log_text.specs.Entries.{logged};
 ghost use Rattle.population.specs.Initial.{initial, seed_of};
 ghost use Rattle.recover_laws.specs.Rebuilt.{AreNumbered};
@@ -53,8 +54,7 @@ pub fn first_gap<D: Disk>(
     ensures gap { IfOk result (λ gap. (strings : List (List ℕ)) × (D.is_modelled → strings ≡ map D.seen disks.old)
         × IsFirstGap (initial population.now).scale (seed_of population.now) strings gap) }
     ensures cause { IfErr result (λ refusal. (refusal ≢ OutOfMemory) → (refusal ≢ Device) → refusal ≡ Damaged) }
-    ensures seen { D.is_modelled → map D.seen disks.new ≡ map D.seen disks.old }
-    ensures story { D.is_modelled → map D.story disks.new ≡ map D.story disks.old }
+    ensures reads { OnlyReads D.is_modelled (map D.seen) (map D.story) disks.old disks.new }
 {
     let commits = commits_found(alloc, population, disks)?;
     Ok(first_amiss(&commits))

@@ -2,6 +2,7 @@
 ghost use Rattle.std.specs.Prelude.{◌≡◌, ◌⊎◌, ◌++◌, ℕ, List, map, IfOk, IfErr, OnOk};
 ghost use Rattle.std.specs.Io.KnownBytes.{Appends};
 ghost use Rattle.money.specs.declared.refusal.Refusal.TheVariants.{OutOfMemory, Device};
+ghost use Rattle.log_disk.specs.Calls.{OnlyReads};
 ghost use Rattle.population.specs.Initial.{initial, seed_of};
 ghost use Rattle.program_script_text.specs.Report.{report_text};
 ghost use Rattle.program_recovery.specs.Text.{recovery_text};
@@ -12,8 +13,8 @@ use conditions::{Report, check};
 use log_disk::Disk;
 use money::Refusal;
 use population::Population;
-use program_script::write_text;
 use program_script_text::print_report;
+use program_streams::write_text;
 use recover::{Recovered, recover};
 use std::alloc::Global;
 use std::io::Write;
@@ -40,8 +41,7 @@ pub fn recovered<D: Disk, W: Write>(
         × IsRefused (initial population.now) (seed_of population.now) strings Shows
         (map D.failed disks.old) (map D.failed disks.new) (W.contents writer.old) (W.contents writer.new) refusal) }
     ensures not_failed { OnOk result (map D.failed disks.new ≡ map D.failed disks.old) }
-    ensures seen { D.is_modelled → map D.seen disks.new ≡ map D.seen disks.old }
-    ensures story { D.is_modelled → map D.story disks.new ≡ map D.story disks.old }
+    ensures reads { OnlyReads D.is_modelled (map D.seen) (map D.story) disks.old disks.new }
 {
     let found = recover(alloc, population, disks)?;
     show(alloc, &found, writer)?;
@@ -70,8 +70,7 @@ pub fn checked<D: Disk, W: Write>(
         × IsRefused (initial population.now) (seed_of population.now) strings Reports
         (map D.failed disks.old) (map D.failed disks.new) (W.contents writer.old) (W.contents writer.new) refusal) }
     ensures not_failed { OnOk result (map D.failed disks.new ≡ map D.failed disks.old) }
-    ensures seen { D.is_modelled → map D.seen disks.new ≡ map D.seen disks.old }
-    ensures story { D.is_modelled → map D.story disks.new ≡ map D.story disks.old }
+    ensures reads { OnlyReads D.is_modelled (map D.seen) (map D.story) disks.old disks.new }
 {
     let recovered = recover(alloc, population, disks)?;
     let report = check(alloc, &recovered.tables)?;

@@ -6,7 +6,7 @@ use Rattle.run_threads.specs.History.{IsMadeBy}
 use Rattle.run_threads.specs.Tally.{IsCounted}
 use Rattle.run_threads.specs.declared.tally.Tally.{Tally}
 use Rattle.program_run.specs.Told.{AreCounts}
-use Rattle.program_run.specs.declared.counts.Counts.{Counts}
+use Rattle.run_threads.specs.declared.counts.Counts.{Counts}
 
 -- what three facts of a value say together holds of what was answered
 pub IfOk-three : {A E : Type 0} (P Q R S : A → Type 0) → ((a : A) → P a → Q a → R a → S a) → (r : Result A E)
@@ -16,9 +16,9 @@ IfOk-three P Q R S f (Err e) p q r = tt
 
 pub counts_are : (t0 : Database) (parts terminals past inputs : ℕ) (history : List Entry) (tallies : List Tally) (c : Counts)
     → parts ≡ terminals → past ≡ 0 → IsMadeBy parts past t0 history → c.commits ≡ length history
-    → IsCounted parts inputs tallies c.commits c.rollbacks c.gave_up c.refused → AreCounts t0 terminals inputs history tallies c
+    → IsCounted parts inputs tallies c → AreCounts t0 terminals inputs history tallies c
 counts_are t0 parts terminals past inputs history tallies c same first made commits counted = record {
   made = subst (λ (n : ℕ). IsMadeBy n 0 t0 history) same (subst (λ (p : ℕ). IsMadeBy parts p t0 history) first made);
   commits = commits;
-  counted = subst (λ (n : ℕ). IsCounted n inputs tallies c.commits c.rollbacks c.gave_up c.refused) same counted;
+  counted = subst (λ (n : ℕ). IsCounted n inputs tallies c) same counted;
 }

@@ -13,18 +13,7 @@ use Rattle.book.specs.declared.entry.Entry.{Entry}
 use Rattle.run_threads.specs.History.{IsMadeBy}
 use Rattle.run_threads.specs.Tally.{IsCounted}
 use Rattle.run_threads.specs.declared.tally.Tally.{Tally}
-use Rattle.program_run.specs.declared.counts.Counts.{Counts}
-
--- the counts with these numbers
-abbrev pub counts_with : ℕ → ℕ → ℕ → ℕ → ℕ → ℕ → Counts
-counts_with commits rollbacks gave_up refused durable acknowledged = record {
-  commits = commits;
-  rollbacks = rollbacks;
-  gave_up = gave_up;
-  refused = refused;
-  durable = durable;
-  acknowledged = acknowledged;
-}
+use Rattle.run_threads.specs.declared.counts.Counts.{Counts}
 
 -- the lines of what came of the inputs
 abbrev pub inputs_lines : Counts → List ℕ
@@ -58,7 +47,7 @@ pub record AreCounts (t0 : Database) (terminals inputs : ℕ) (history : List En
     : Type 0 where
   pub made : IsMadeBy terminals 0 t0 history
   pub commits : c.commits ≡ length history
-  pub counted : IsCounted terminals inputs tallies c.commits c.rollbacks c.gave_up c.refused
+  pub counted : IsCounted terminals inputs tallies c
 
 -- so many inputs ran at each of so many terminals from these tables on, and what came of them was told
 pub record IsRan (t0 : Database) (terminals inputs : ℕ) (old new : Option (List ℕ)) (report : Report) : Type 0 where

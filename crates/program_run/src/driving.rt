@@ -3,8 +3,8 @@ ghost use Rattle.std.specs.Prelude.{◌≡◌, ◌≢◌, ◌<◌, ◌≤◌, []
 ghost use Rattle.money.specs.declared.refusal.Refusal.TheVariants.{OutOfMemory, Device};
 ghost use Rattle.tables.specs.declared.limits.TheConstants.{MAX_LOGGERS, MAX_TERMINALS};
 ghost use Rattle.population.specs.Initial.{initial};
-ghost use Rattle.book.specs.Parts.{IsFresh, IsRunOf, base_of, past_of, ledger_name, ledger_parts, loggers_of, terminals_of};
-ghost use Rattle.program_run.specs.Told.{AreCounts, IsBroken, IsRan, counts_with};
+ghost use Rattle.book.specs.Parts.{IsOpenedAs, base_of, past_of, loggers_of, terminals_of};
+ghost use Rattle.program_run.specs.Told.{AreCounts, IsBroken, IsRan};
 
 use crate::outfit::{Slot, logs, stations};
 use crate::telling::ran;
@@ -93,9 +93,7 @@ fn drive_parts<
     plan: &Plan,
     writer: &mut W,
 ) -> Result<Driven, Refusal>
-    requires fresh { IsFresh parts }
-    requires run { IsRunOf parts K.first K.past K.cells K.board K.seed }
-    requires ledger { (ledger_name parts ≡ K.name) × (ledger_parts parts ≡ K.parts) }
+    requires run { IsOpenedAs parts K.population K.first K.past K.cells K.board K.seed K.name K.parts }
     requires loggers { (loggers_of parts ≡ length slots.items) × (length slots.items ≤ MAX_LOGGERS) }
     requires begins { (base_of parts ≡ 0) × (past_of parts ≡ 0) }
     requires terminals { (terminals_of parts ≡ plan.now.terminals) × (plan.now.terminals ≤ MAX_TERMINALS) }
@@ -135,17 +133,14 @@ fn outcome_of<
     gates: Vec<G>,
     plan: &Plan,
 ) -> Result<Outcome<K, D>, Refusal>
-    requires fresh { IsFresh parts }
-    requires run { IsRunOf parts K.first K.past K.cells K.board K.seed }
-    requires ledger { (ledger_name parts ≡ K.name) × (ledger_parts parts ≡ K.parts) }
+    requires run { IsOpenedAs parts K.population K.first K.past K.cells K.board K.seed K.name K.parts }
     requires loggers { (loggers_of parts ≡ length slots.items) × (length slots.items ≤ MAX_LOGGERS) }
     requires begins { (base_of parts ≡ 0) × (past_of parts ≡ 0) }
     requires terminals { (terminals_of parts ≡ plan.now.terminals) × (plan.now.terminals ≤ MAX_TERMINALS) }
     requires gates { length gates.items ≡ plan.now.terminals }
     requires empty { D.is_modelled → All (λ slot. D.seen slot.disk ≡ []) slots.items }
     ensures counted { IfOk result (λ outcome. AreCounts K.first plan.now.terminals plan.now.inputs outcome.closed
-        outcome.tallies.items (counts_with outcome.commits outcome.rollbacks outcome.gave_up outcome.refused
-        outcome.durable outcome.acknowledged)) }
+        outcome.tallies.items outcome.counts) }
     ensures cause { IfErr result (λ refusal. (refusal ≢ OutOfMemory) → refusal ≡ Device) }
 {
     let (engine, seats) = Engine::<K>::open(parts);

@@ -2,7 +2,6 @@
 #![tactic(auto)]
 
 mod beat;
-mod counts;
 mod driving;
 mod outfit;
 mod screen;
@@ -11,7 +10,6 @@ mod telling;
 mod waits;
 
 pub use beat::Beat;
-pub use counts::Counts;
 pub use driving::{Driven, Plan, drive};
 pub use outfit::Slot;
 pub use screen::Screen;

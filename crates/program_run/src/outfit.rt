@@ -14,7 +14,7 @@ use logger::Logger;
 use money::Refusal;
 use population::Population;
 use run_threads::{Log, Pace, Station};
-use std::alloc::Global;
+use std::alloc::{AllocError, Global};
 use tables::Scale;
 use terminals::Gate;
 use terminals_deck::{Deck, Settings};
@@ -26,19 +26,17 @@ pub struct Slot<D: Disk, P: Pace> {
     pub pace: P,
 }
 
-/// A station for each of so many terminals: a deck of its own, drawn from the seed, and its gate. `OutOfMemory` is the
-/// only refusal.
+/// A station for each of so many terminals: a deck of its own, drawn from the seed, and its gate.
 pub(crate) fn stations<G: Gate + Drop>(
     alloc: Global,
     scale: Scale,
     gates: Vec<G>,
     terminals: u16,
     seed: u64,
-) -> Result<Vec<Station<G>>, Refusal>
+) -> Result<Vec<Station<G>>, AllocError>
     requires gates { length gates.items ≡ terminals }
     ensures count { IfOk result (λ stations. length stations.items ≡ terminals) }
     ensures decks { IfOk result (λ stations. All (λ station. station.deck.scale ≡ scale) stations.items) }
-    ensures only_memory { IfErr result (λ refusal. refusal ≡ OutOfMemory) }
 {
     let mut gates = gates;
     gates.reverse();

@@ -1,7 +1,7 @@
 //! How far a run is, on one line of a terminal's screen.
 
 use crate::waits::Waits;
-use program_script::write_text;
+use program_streams::write_text;
 use run_threads::Progress;
 use std::alloc::{AllocError, Global};
 use std::io::Write;

@@ -3,16 +3,15 @@ ghost use Rattle.std.specs.Prelude.{◌≡◌, ◌⊎◌, ◌++◌, ℕ, List, I
 ghost use Rattle.std.specs.Io.KnownBytes.{Appends};
 ghost use Rattle.money.specs.declared.refusal.Refusal.TheVariants.{OutOfMemory, Device};
 ghost use Rattle.book.specs.History.{replay};
-ghost use Rattle.program_run.specs.Told.{IsTold, IsCutShort, counts_with, inputs_lines, replies_lines, run_text};
+ghost use Rattle.program_run.specs.Told.{IsTold, IsCutShort, inputs_lines, replies_lines, run_text};
 
-use crate::counts::Counts;
 use book::Run;
 use conditions::Report;
 use log_disk::Disk;
 use money::Refusal;
-use program_script::write_text;
 use program_script_text::print_verdicts;
-use run_threads::Outcome;
+use program_streams::write_text;
+use run_threads::{Counts, Outcome};
 use std::alloc::{AllocError, Global};
 use std::io::Write;
 
@@ -29,16 +28,13 @@ pub fn ran<K: Run, D: Disk, W: Write>(
     outcome: &Outcome<K, D>,
     writer: &mut W,
 ) -> Result<Report, Refusal>
-    ensures told { IfOk result (IsTold (replay K.first outcome.now.closed) (counts_with outcome.now.commits
-        outcome.now.rollbacks outcome.now.gave_up outcome.now.refused outcome.now.durable outcome.now.acknowledged)
+    ensures told { IfOk result (IsTold (replay K.first outcome.now.closed) outcome.now.counts
         (W.contents writer.old) (W.contents writer.new)) }
-    ensures cut_short { IfErr result (IsCutShort (replay K.first outcome.now.closed) (counts_with outcome.now.commits
-        outcome.now.rollbacks outcome.now.gave_up outcome.now.refused outcome.now.durable outcome.now.acknowledged)
+    ensures cut_short { IfErr result (IsCutShort (replay K.first outcome.now.closed) outcome.now.counts
         (W.contents writer.old) (W.contents writer.new)) }
 {
-    let counts = Counts::of(outcome);
     let report = outcome.closed.report(alloc)?;
-    match write_run(alloc, &counts, &report, writer) {
+    match write_run(alloc, &outcome.counts, &report, writer) {
         Ok(()) => Ok(report),
         Err(refusal) => Err(refusal),
     }

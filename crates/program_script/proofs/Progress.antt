@@ -82,16 +82,6 @@ pub begun_report : (tables : Database) (bytes written output front rest : List �
 begun_report tables bytes written output front rest report dones w is =
     of_whole (written ++ output) rest report dones w (ap (λ o. written ++ o) is ∙ sym (append_assoc written front rest))
 
--- a write takes the first n bytes of what is left
-pub front_more : (old mid new : Option (List ℕ)) (text rest : List ℕ) (n : ℕ) → n ≤ length rest → (front : List ℕ) × (text ≡ front ++ rest)
-    × Appends old mid front → Appends mid new (take n rest) → (front : List ℕ) × (text ≡ front ++ take (length rest - n) (drop n rest)) × Appends old new front
-front_more old mid new text rest n within before wrote =
-    let tail : take (length rest - n) (drop n rest) ≡ drop n rest = ap (λ k. take k (drop n rest)) (sym (length-drop n rest)) ∙ take-length (drop n rest) in
-    let parts : text ≡ (before.0 ++ take n rest) ++ take (length rest - n) (drop n rest) =
-    before.1 ∙ ap (λ r. before.0 ++ r) (sym (take-append-drop n rest)) ∙ sym (append_assoc before.0 (take n rest) (drop n rest))
-    ∙ ap (λ r. (before.0 ++ take n rest) ++ r) (sym tail) in
-    (before.0 ++ take n rest, parts, Appends-trans old mid new before.0 (take n rest) before.2 wrote)
-
 -- known bytes stay known
 consumed_some : (left : List ℕ) (next : Option (List ℕ)) (piece : List ℕ) → Consumes (Some left) next piece → (rest : List ℕ) × (next ≡ Some rest)
     × (left ≡ piece ++ rest)

@@ -6,5 +6,5 @@ mod running;
 mod showing;
 mod turns;
 
-pub use running::{MAX_LINES, script, write_text};
+pub use running::{MAX_LINES, script};
 pub use turns::{bytes_determine_text, lines_determine_turns};

@@ -7,7 +7,7 @@ ghost use Rattle.money.specs.declared.refusal.Refusal.TheVariants.{OutOfMemory, 
 ghost use Rattle.population.specs.Initial.{initial};
 ghost use Rattle.program_script_text.specs.Lines.{buffered};
 ghost use Rattle.program_script_text.specs.Output.{answer_text};
-ghost use Rattle.book.specs.Parts.{IsFresh, IsRunOf, past_of, ledger_name, ledger_parts, terminals_of};
+ghost use Rattle.book.specs.Parts.{IsOpenedAs, first_of, past_of, population_of, terminals_of};
 ghost use Rattle.program_script.specs.Turns.{Turn, IsLineTurn};
 ghost use Rattle.program_script.specs.Written.{HasTooManyLines, IsWhole, IsBeginning};
 ghost use Rattle.program_script.specs.Answered.{state_of, standing_of, HasAnswered, HasAnsweredAll, HasTooMany};
@@ -19,8 +19,9 @@ use conditions::Report;
 use money::Refusal;
 use population::Population;
 use program_script_text::{LineBuffer, print_report};
+use program_streams::{read_piece, write_text};
 use std::alloc::Global;
-use std::io::{ErrorKind, Read, Write};
+use std::io::{Read, Write};
 use std::marker::Brand;
 use std::sync::Wait;
 
@@ -80,11 +81,9 @@ fn run<K: Run, R: Read, W: Write, T: Wait>(
     reader: &mut R,
     writer: &mut W,
 ) -> Result<(Report, Vec<Done>), Refusal>
-    requires fresh { IsFresh parts }
+    requires run { IsOpenedAs parts K.population K.first K.past K.cells K.board K.seed K.name K.parts }
     requires one { terminals_of parts ≡ 1 }
-    requires run { IsRunOf parts K.first K.past K.cells K.board K.seed }
-    requires begins { past_of parts ≡ 0 }
-    requires ledger { (ledger_name parts ≡ K.name) × (ledger_parts parts ≡ K.parts) }
+    requires begins { (past_of parts ≡ 0) × (first_of parts ≡ population_of parts) }
     ensures whole { IfOk result (λ closed. (bytes : List ℕ) → R.remaining reader.old ≡ Some bytes
         → (text : List ℕ)
         × Appends (W.contents writer.old) (W.contents writer.new) text
@@ -127,7 +126,7 @@ impl<'e, K: Run> Desk<'e, K> {
         requires reader { seat.reader.cells ≡ K.cells }
         requires only { seat.share.parts ≡ K.parts }
         requires none { seat.share.commits ≡ 0 }
-        requires begins { K.past ≡ 0 }
+        requires begins { (K.past ≡ 0) × (K.first ≡ K.population) }
         ensures start { IfOk result (λ desk. HasAnswered K.first [] [] (standing_of desk)) }
         ensures memory { IfErr result (λ refusal. refusal ≡ OutOfMemory) }
     {
@@ -306,56 +305,4 @@ impl<'e, K: Run> Desk<'e, K> {
         write_text(writer, output.as_bytes())?;
         Ok((report, dones))
     }
-}
-
-/// Reads what comes next. A read that was interrupted has taken nothing, and is tried again.
-fn read_piece<R: Read>(reader: &mut R, piece: &mut [u8]) -> Result<usize, Refusal>
-    ensures within { IfOk result (λ count. count ≤ length piece.new) }
-    ensures bytes { IfOk result
-        (λ count. Consumes (R.remaining reader.old) (R.remaining reader.new) (take count piece.new)) }
-    ensures end { IfOk result (λ count. count ≡ 0 → 0 < length piece.new
-        → IsAtEnd (R.remaining reader.new)) }
-    ensures device { IfErr result (λ refusal. refusal ≡ Device) }
-{
-    for _ in 0..u64::MAX {
-        match reader.read(piece) {
-            Ok(count) => return Ok(count),
-            Err(error) if error.kind() == ErrorKind::Interrupted => continue,
-            Err(_) => return Err(Refusal::Device),
-        }
-    }
-    Err(Refusal::Device)
-}
-
-/// Writes a text and flushes it. Where that fails, a beginning of it may be written.
-pub fn write_text<W: Write>(writer: &mut W, text: &[u8]) -> Result<(), Refusal>
-    ensures ok { OnOk result (Appends (W.contents writer.old) (W.contents writer.new) text.now) }
-    ensures err { OnErr result ((front rest : List ℕ) × (text.now ≡ front ++ rest)
-        × Appends (W.contents writer.old) (W.contents writer.new) front) }
-    ensures device { IfErr result (λ refusal. refusal ≡ Device) }
-{
-    write_whole(writer, text)?;
-    writer.flush().map_err(|_| Refusal::Device)
-}
-
-/// Writes a text piece by piece, so that where a write fails it is known what the writer has taken.
-fn write_whole<W: Write>(writer: &mut W, text: &[u8]) -> Result<(), Refusal>
-    ensures ok { OnOk result (Appends (W.contents writer.old) (W.contents writer.new) text.now) }
-    ensures err { OnErr result ((front rest : List ℕ) × (text.now ≡ front ++ rest)
-        × Appends (W.contents writer.old) (W.contents writer.new) front) }
-    ensures device { IfErr result (λ refusal. refusal ≡ Device) }
-{
-    let mut rest = text;
-    for _ in 0..u64::MAX {
-        if rest.is_empty() {
-            return Ok(());
-        }
-        match writer.write(rest) {
-            Ok(0) => return Err(Refusal::Device),
-            Ok(count) => rest = &rest[count..],
-            Err(error) if error.kind() == ErrorKind::Interrupted => continue,
-            Err(_) => return Err(Refusal::Device),
-        }
-    }
-    Err(Refusal::Device)
 }

@@ -1,5 +1,6 @@
 -- How much room the text of a reply takes.
-use Rattle.std.specs.Prelude.{ℕ, Option, Some, None, length}
+use Rattle.std.specs.Prelude.{◌≡◌, ℕ, ◌+◌, ◌≤◌, Option, Some, None, List, ◌++◌, length, String, string_bytes}
+use Rattle.std.specs.String.{string_len, string_capacity}
 use Rattle.tables.specs.declared.order_status.LastOrder.{LastOrder}
 use Rattle.tables.specs.declared.reply.Reply.{Reply}
 use Rattle.tables.specs.declared.reply.Reply.TheVariants as reply
@@ -16,3 +17,9 @@ line_count (reply.NewOrder r) = length r.lines
 line_count (reply.Delivery r) = length r.orders
 line_count (reply.OrderStatus r) = last_line_count r.order
 line_count (reply.StockLevel r) = 0
+
+-- these bytes, at most so many, are appended to a text, which keeps its room
+pub record Pushes {Z : Type 0} (old new : String Z) (bytes : List ℕ) (most : ℕ) : Type 0 where
+  pub text : string_bytes new ≡ string_bytes old ++ bytes
+  pub len : string_len new ≤ string_len old + most
+  pub capacity : string_capacity old ≤ string_capacity new

@@ -1,9 +1,10 @@
 //! The parts of an answer, appended to a text that has room for them, so that none of it takes memory.
-ghost use Rattle.std.specs.Prelude.{◌≡◌, ◌≤◌, ◌<◌, ◌+◌, ℕ, Option, ◌∷◌, [], ◌++◌, length, codes, string_bytes};
+ghost use Rattle.std.specs.Prelude.{◌≤◌, ◌<◌, ◌+◌, ◌∷◌, [], ◌++◌, length};
 ghost use Rattle.std.specs.String.{string_len, string_capacity};
 ghost use Rattle.std.specs.Fmt.{decimal};
 ghost use Rattle.money.specs.Money.{money_text, unsigned_money_text};
 ghost use Rattle.program_script_text.specs.Output.{nullable_word};
+ghost use Rattle.program_script_text.specs.Room.{Pushes};
 
 use itoa::Buffer;
 use money::Cents;
@@ -18,9 +19,7 @@ pub(crate) const AMOUNT_ROOM: usize = 24;
 #[inline(always)]
 pub(crate) fn push_field(out: &mut String, before: &str, number: u32)
     requires { string_len out.old + (length before.now + NUMBER_ROOM) ≤ string_capacity out.old }
-    ensures text { string_bytes out.new ≡ string_bytes out.old ++ (before.now ++ decimal number) }
-    ensures len { string_len out.new ≤ string_len out.old + (length before.now + NUMBER_ROOM) }
-    ensures capacity { string_capacity out.old ≤ string_capacity out.new }
+    ensures { Pushes out.old out.new (before.now ++ decimal number) (length before.now + NUMBER_ROOM) }
 {
     push_text(out, before);
     push_number(out, number);
@@ -30,9 +29,7 @@ pub(crate) fn push_field(out: &mut String, before: &str, number: u32)
 #[inline(always)]
 pub(crate) fn push_nullable(out: &mut String, before: &str, column: Option<u32>)
     requires { string_len out.old + (length before.now + NUMBER_ROOM) ≤ string_capacity out.old }
-    ensures text { string_bytes out.new ≡ string_bytes out.old ++ (before.now ++ nullable_word column) }
-    ensures len { string_len out.new ≤ string_len out.old + (length before.now + NUMBER_ROOM) }
-    ensures capacity { string_capacity out.old ≤ string_capacity out.new }
+    ensures { Pushes out.old out.new (before.now ++ nullable_word column) (length before.now + NUMBER_ROOM) }
 {
     push_text(out, before);
     match column {
@@ -45,9 +42,7 @@ pub(crate) fn push_nullable(out: &mut String, before: &str, column: Option<u32>)
 #[inline(always)]
 pub(crate) fn push_amount(out: &mut String, before: &str, amount: Cents)
     requires { string_len out.old + (length before.now + AMOUNT_ROOM) ≤ string_capacity out.old }
-    ensures text { string_bytes out.new ≡ string_bytes out.old ++ (before.now ++ money_text amount) }
-    ensures len { string_len out.new ≤ string_len out.old + (length before.now + AMOUNT_ROOM) }
-    ensures capacity { string_capacity out.old ≤ string_capacity out.new }
+    ensures { Pushes out.old out.new (before.now ++ money_text amount) (length before.now + AMOUNT_ROOM) }
 {
     push_text(out, before);
     push_cents(out, amount);
@@ -57,9 +52,7 @@ pub(crate) fn push_amount(out: &mut String, before: &str, amount: Cents)
 #[inline(always)]
 pub(crate) fn push_text(out: &mut String, text: &str)
     requires { string_len out.old + length text.now ≤ string_capacity out.old }
-    ensures text { string_bytes out.new ≡ string_bytes out.old ++ text.now }
-    ensures len { string_len out.new ≡ string_len out.old + length text.now }
-    ensures capacity { string_capacity out.old ≤ string_capacity out.new }
+    ensures { Pushes out.old out.new text.now (length text.now) }
 {
     out.push_str(text).unwrap();
 }
@@ -68,9 +61,7 @@ pub(crate) fn push_text(out: &mut String, text: &str)
 #[tactic(auto, using(std::proofs::lemmas::Fmt::decimal_digit))]
 fn push_number(out: &mut String, number: u32)
     requires { string_len out.old + NUMBER_ROOM ≤ string_capacity out.old }
-    ensures text { string_bytes out.new ≡ string_bytes out.old ++ decimal number }
-    ensures len { string_len out.new ≤ string_len out.old + NUMBER_ROOM }
-    ensures capacity { string_capacity out.old ≤ string_capacity out.new }
+    ensures { Pushes out.old out.new (decimal number) NUMBER_ROOM }
 {
     if number < 10 {
         push_digit(out, number as u8);
@@ -82,9 +73,7 @@ fn push_number(out: &mut String, number: u32)
 /// Appends an amount.
 fn push_cents(out: &mut String, amount: Cents)
     requires { string_len out.old + AMOUNT_ROOM ≤ string_capacity out.old }
-    ensures text { string_bytes out.new ≡ string_bytes out.old ++ money_text amount }
-    ensures len { string_len out.new ≤ string_len out.old + AMOUNT_ROOM }
-    ensures capacity { string_capacity out.old ≤ string_capacity out.new }
+    ensures { Pushes out.old out.new (money_text amount) AMOUNT_ROOM }
 {
     let cents = amount.amount();
     if cents < 0 {
@@ -96,9 +85,7 @@ fn push_cents(out: &mut String, amount: Cents)
 /// Appends an amount from zero on.
 fn push_unsigned(out: &mut String, cents: u64)
     requires { string_len out.old + 23 ≤ string_capacity out.old }
-    ensures text { string_bytes out.new ≡ string_bytes out.old ++ unsigned_money_text cents }
-    ensures len { string_len out.new ≤ string_len out.old + 23 }
-    ensures capacity { string_capacity out.old ≤ string_capacity out.new }
+    ensures { Pushes out.old out.new (unsigned_money_text cents) 23 }
 {
     let (units, hundredths) = (cents / 100, (cents % 100) as u8);
     push_text(out, Buffer::new().format(units));
@@ -112,9 +99,7 @@ fn push_unsigned(out: &mut String, cents: u64)
 fn push_digit(out: &mut String, digit: u8)
     requires digit { digit < 10 }
     requires room { string_len out.old + 1 ≤ string_capacity out.old }
-    ensures text { string_bytes out.new ≡ string_bytes out.old ++ (48 + digit) ∷ [] }
-    ensures len { string_len out.new ≡ string_len out.old + 1 }
-    ensures capacity { string_capacity out.old ≤ string_capacity out.new }
+    ensures { Pushes out.old out.new ((48 + digit) ∷ []) 1 }
 {
     out.push(char::from(b'0' + digit)).unwrap();
 }

@@ -5,7 +5,7 @@ ghost use Rattle.std.specs.List.{join_with_byte};
 ghost use Rattle.program_script_text.specs.Output.{reply_words, payment_words, head_words, new_order_reply_words, delivery_words};
 ghost use Rattle.program_script_text.specs.Output.{status_words, balance_words, last_words, level_words};
 ghost use Rattle.program_script_text.specs.Output.{supplied_word, supplied_text, delivered_word, delivered_text, told_word, told_text};
-ghost use Rattle.program_script_text.specs.Room.{line_count, last_line_count};
+ghost use Rattle.program_script_text.specs.Room.{Pushes, line_count, last_line_count};
 
 use crate::fields::{push_amount, push_field, push_nullable, push_text};
 use money::Refusal;
@@ -66,9 +66,8 @@ fn room_for(lines: usize) -> Result<usize, Refusal>
 /// Appends a reply.
 fn push_reply(out: &mut String, reply: &Reply)
     requires { string_len out.old + (HEAD_ROOM + LINE_ROOM * line_count reply.now) ≤ string_capacity out.old }
-    ensures text { string_bytes out.new ≡ string_bytes out.old ++ join_with_byte 32 (reply_words reply.now) }
-    ensures len { string_len out.new ≤ string_len out.old + (HEAD_ROOM + LINE_ROOM * line_count reply.now) }
-    ensures capacity { string_capacity out.old ≤ string_capacity out.new }
+    ensures { Pushes out.old out.new (join_with_byte 32 (reply_words reply.now))
+        (HEAD_ROOM + LINE_ROOM * line_count reply.now) }
 {
     match reply {
         Reply::Payment(reply) => push_payment(out, reply),
@@ -81,9 +80,7 @@ fn push_reply(out: &mut String, reply: &Reply)
 
 fn push_payment(out: &mut String, reply: &PaymentReply)
     requires { string_len out.old + HEAD_ROOM ≤ string_capacity out.old }
-    ensures text { string_bytes out.new ≡ string_bytes out.old ++ join_with_byte 32 (payment_words reply.now) }
-    ensures len { string_len out.new ≤ string_len out.old + HEAD_ROOM }
-    ensures capacity { string_capacity out.old ≤ string_capacity out.new }
+    ensures { Pushes out.old out.new (join_with_byte 32 (payment_words reply.now)) HEAD_ROOM }
 {
     push_field(out, "payment ", reply.warehouse);
     push_field(out, " ", reply.district);
@@ -95,9 +92,8 @@ fn push_payment(out: &mut String, reply: &PaymentReply)
 
 fn push_order(out: &mut String, reply: &NewOrderReply)
     requires { string_len out.old + (HEAD_ROOM + LINE_ROOM * length reply.now.lines) ≤ string_capacity out.old }
-    ensures text { string_bytes out.new ≡ string_bytes out.old ++ join_with_byte 32 (new_order_reply_words reply.now) }
-    ensures len { string_len out.new ≤ string_len out.old + (HEAD_ROOM + LINE_ROOM * length reply.now.lines) }
-    ensures capacity { string_capacity out.old ≤ string_capacity out.new }
+    ensures { Pushes out.old out.new (join_with_byte 32 (new_order_reply_words reply.now))
+        (HEAD_ROOM + LINE_ROOM * length reply.now.lines) }
 {
     push_head(out, reply);
     push_supplied(out, reply.lines.as_slice());
@@ -106,9 +102,7 @@ fn push_order(out: &mut String, reply: &NewOrderReply)
 /// Appends what is said of an order itself.
 fn push_head(out: &mut String, reply: &NewOrderReply)
     requires { string_len out.old + HEAD_ROOM ≤ string_capacity out.old }
-    ensures text { string_bytes out.new ≡ string_bytes out.old ++ join_with_byte 32 (head_words reply.now) }
-    ensures len { string_len out.new ≤ string_len out.old + HEAD_ROOM }
-    ensures capacity { string_capacity out.old ≤ string_capacity out.new }
+    ensures { Pushes out.old out.new (join_with_byte 32 (head_words reply.now)) HEAD_ROOM }
 {
     push_field(out, "neworder ", reply.warehouse);
     push_field(out, " ", reply.district);
@@ -121,9 +115,7 @@ fn push_head(out: &mut String, reply: &NewOrderReply)
 /// Appends the lines of an order, each behind a space.
 fn push_supplied(out: &mut String, lines: &[SuppliedLine])
     requires { string_len out.old + LINE_ROOM * length lines.now ≤ string_capacity out.old }
-    ensures text { string_bytes out.new ≡ string_bytes out.old ++ supplied_text lines.now }
-    ensures len { string_len out.new ≤ string_len out.old + LINE_ROOM * length lines.now }
-    ensures capacity { string_capacity out.old ≤ string_capacity out.new }
+    ensures { Pushes out.old out.new (supplied_text lines.now) (LINE_ROOM * length lines.now) }
 {
     for line in lines {
         push_supplied_line(out, line);
@@ -132,9 +124,7 @@ fn push_supplied(out: &mut String, lines: &[SuppliedLine])
 
 fn push_supplied_line(out: &mut String, line: &SuppliedLine)
     requires { string_len out.old + LINE_ROOM ≤ string_capacity out.old }
-    ensures text { string_bytes out.new ≡ string_bytes out.old ++ codes " " ++ supplied_word line.now }
-    ensures len { string_len out.new ≤ string_len out.old + LINE_ROOM }
-    ensures capacity { string_capacity out.old ≤ string_capacity out.new }
+    ensures { Pushes out.old out.new (codes " " ++ supplied_word line.now) LINE_ROOM }
 {
     push_field(out, " ", line.item);
     push_field(out, ":", line.supply_warehouse);
@@ -144,9 +134,8 @@ fn push_supplied_line(out: &mut String, line: &SuppliedLine)
 
 fn push_delivery(out: &mut String, reply: &DeliveryReply)
     requires { string_len out.old + (HEAD_ROOM + LINE_ROOM * length reply.now.orders) ≤ string_capacity out.old }
-    ensures text { string_bytes out.new ≡ string_bytes out.old ++ join_with_byte 32 (delivery_words reply.now) }
-    ensures len { string_len out.new ≤ string_len out.old + (HEAD_ROOM + LINE_ROOM * length reply.now.orders) }
-    ensures capacity { string_capacity out.old ≤ string_capacity out.new }
+    ensures { Pushes out.old out.new (join_with_byte 32 (delivery_words reply.now))
+        (HEAD_ROOM + LINE_ROOM * length reply.now.orders) }
 {
     push_field(out, "delivery ", reply.warehouse);
     push_delivered(out, reply.orders.as_slice());
@@ -155,9 +144,7 @@ fn push_delivery(out: &mut String, reply: &DeliveryReply)
 /// Appends what was delivered in each district, each behind a space.
 fn push_delivered(out: &mut String, orders: &[DeliveredOrder])
     requires { string_len out.old + LINE_ROOM * length orders.now ≤ string_capacity out.old }
-    ensures text { string_bytes out.new ≡ string_bytes out.old ++ delivered_text orders.now }
-    ensures len { string_len out.new ≤ string_len out.old + LINE_ROOM * length orders.now }
-    ensures capacity { string_capacity out.old ≤ string_capacity out.new }
+    ensures { Pushes out.old out.new (delivered_text orders.now) (LINE_ROOM * length orders.now) }
 {
     for delivered in orders {
         push_delivered_order(out, delivered);
@@ -166,9 +153,7 @@ fn push_delivered(out: &mut String, orders: &[DeliveredOrder])
 
 fn push_delivered_order(out: &mut String, delivered: &DeliveredOrder)
     requires { string_len out.old + LINE_ROOM ≤ string_capacity out.old }
-    ensures text { string_bytes out.new ≡ string_bytes out.old ++ codes " " ++ delivered_word delivered.now }
-    ensures len { string_len out.new ≤ string_len out.old + LINE_ROOM }
-    ensures capacity { string_capacity out.old ≤ string_capacity out.new }
+    ensures { Pushes out.old out.new (codes " " ++ delivered_word delivered.now) LINE_ROOM }
 {
     push_field(out, " ", delivered.district);
     push_nullable(out, ":", delivered.order);
@@ -177,11 +162,8 @@ fn push_delivered_order(out: &mut String, delivered: &DeliveredOrder)
 fn push_status(out: &mut String, reply: &OrderStatusReply)
     requires { string_len out.old + (HEAD_ROOM + LINE_ROOM * last_line_count reply.now.order)
         ≤ string_capacity out.old }
-    ensures text { string_bytes out.new
-        ≡ string_bytes out.old ++ join_with_byte 32 (status_words reply.now reply.now.order) }
-    ensures len { string_len out.new
-        ≤ string_len out.old + (HEAD_ROOM + LINE_ROOM * last_line_count reply.now.order) }
-    ensures capacity { string_capacity out.old ≤ string_capacity out.new }
+    ensures { Pushes out.old out.new (join_with_byte 32 (status_words reply.now reply.now.order))
+        (HEAD_ROOM + LINE_ROOM * last_line_count reply.now.order) }
 {
     match &reply.order {
         Some(order) => {
@@ -198,9 +180,7 @@ fn push_status(out: &mut String, reply: &OrderStatusReply)
 /// Appends what is said of a customer's last order before its lines.
 fn push_last_head(out: &mut String, reply: &OrderStatusReply, order: &LastOrder)
     requires { string_len out.old + HEAD_ROOM ≤ string_capacity out.old }
-    ensures text { string_bytes out.new ≡ string_bytes out.old ++ join_with_byte 32 (last_words reply.now order.now) }
-    ensures len { string_len out.new ≤ string_len out.old + HEAD_ROOM }
-    ensures capacity { string_capacity out.old ≤ string_capacity out.new }
+    ensures { Pushes out.old out.new (join_with_byte 32 (last_words reply.now order.now)) HEAD_ROOM }
 {
     push_balance(out, reply);
     push_field(out, " ", order.order);
@@ -211,9 +191,7 @@ fn push_last_head(out: &mut String, reply: &OrderStatusReply, order: &LastOrder)
 /// Appends what is said of a customer, whether it has an order or not.
 fn push_balance(out: &mut String, reply: &OrderStatusReply)
     requires { string_len out.old + 80 ≤ string_capacity out.old }
-    ensures text { string_bytes out.new ≡ string_bytes out.old ++ join_with_byte 32 (balance_words reply.now) }
-    ensures len { string_len out.new ≤ string_len out.old + 80 }
-    ensures capacity { string_capacity out.old ≤ string_capacity out.new }
+    ensures { Pushes out.old out.new (join_with_byte 32 (balance_words reply.now)) 80 }
 {
     push_field(out, "status ", reply.warehouse);
     push_field(out, " ", reply.district);
@@ -225,9 +203,7 @@ fn push_balance(out: &mut String, reply: &OrderStatusReply)
 /// Appends the lines of a customer's last order, each behind a space.
 fn push_told(out: &mut String, lines: &[OrderLine])
     requires { string_len out.old + LINE_ROOM * length lines.now ≤ string_capacity out.old }
-    ensures text { string_bytes out.new ≡ string_bytes out.old ++ told_text lines.now }
-    ensures len { string_len out.new ≤ string_len out.old + LINE_ROOM * length lines.now }
-    ensures capacity { string_capacity out.old ≤ string_capacity out.new }
+    ensures { Pushes out.old out.new (told_text lines.now) (LINE_ROOM * length lines.now) }
 {
     for line in lines {
         push_told_line(out, line);
@@ -236,9 +212,7 @@ fn push_told(out: &mut String, lines: &[OrderLine])
 
 fn push_told_line(out: &mut String, line: &OrderLine)
     requires { string_len out.old + LINE_ROOM ≤ string_capacity out.old }
-    ensures text { string_bytes out.new ≡ string_bytes out.old ++ codes " " ++ told_word line.now }
-    ensures len { string_len out.new ≤ string_len out.old + LINE_ROOM }
-    ensures capacity { string_capacity out.old ≤ string_capacity out.new }
+    ensures { Pushes out.old out.new (codes " " ++ told_word line.now) LINE_ROOM }
 {
     push_field(out, " ", line.item);
     push_field(out, ":", line.supply_warehouse);
@@ -249,9 +223,7 @@ fn push_told_line(out: &mut String, line: &OrderLine)
 
 fn push_level(out: &mut String, reply: &StockLevelReply)
     requires { string_len out.old + HEAD_ROOM ≤ string_capacity out.old }
-    ensures text { string_bytes out.new ≡ string_bytes out.old ++ join_with_byte 32 (level_words reply.now) }
-    ensures len { string_len out.new ≤ string_len out.old + HEAD_ROOM }
-    ensures capacity { string_capacity out.old ≤ string_capacity out.new }
+    ensures { Pushes out.old out.new (join_with_byte 32 (level_words reply.now)) HEAD_ROOM }
 {
     push_field(out, "level ", reply.warehouse);
     push_field(out, " ", reply.district);

@@ -1,5 +1,5 @@
 //! A customer's balance and its last order, on record cells (TPC-C 2.6.2.2).
-ghost use Rattle.std.specs.Prelude.{◌≡◌, ◌≤◌, ◌++◌, IfOk, IfErr, OnOk};
+ghost use Rattle.std.specs.Prelude.{◌≡◌, ◌≤◌, ◌++◌, IfOk, OnOk};
 ghost use Rattle.std.specs.Option.{option_map, option_to_list};
 ghost use Rattle.std.specs.FinMap.{get};
 ghost use Rattle.tables.specs.Sizes.{IsNumber};
@@ -9,14 +9,13 @@ ghost use Rattle.tables.specs.NewOrder.{line_key};
 ghost use Rattle.tables.specs.Rows.{last};
 ghost use Rattle.tables.specs.OrderStatus.{told_of};
 ghost use Rattle.tables.specs.declared.limits.TheConstants.{MAX_ORDER_LINES};
-ghost use Rattle.money.specs.declared.refusal.Refusal.TheVariants.{OutOfMemory};
 ghost use Rattle.readset.specs.Transaction.{Finds, ReadsMore};
 ghost use Rattle.queries.specs.Lines.{lines_up_to};
 
 use money::{Cents, Refusal};
 use readset::{Start, Transaction, read_present, read_row};
 use rows::{CustomerColumns, Last};
-use std::alloc::Global;
+use std::alloc::{AllocError, Global};
 use std::sync::Wait;
 use tables::{CustomerKey, LastOrder, Lines, Order, OrderKey, OrderLine};
 
@@ -116,9 +115,8 @@ fn read_lines<R: Wait, K: Start>(
 }
 
 /// Puts a line behind the others, where there is one.
-fn push_line(lines: &mut Vec<OrderLine>, line: Option<OrderLine>) -> Result<(), Refusal>
-    ensures pushed { OnOk result (lines.new.items ≡ lines.old.items ++ option_to_list line) }
-    ensures only_memory { IfErr result (λ refusal. refusal ≡ OutOfMemory) }
+fn push_line(lines: &mut Vec<OrderLine>, line: Option<OrderLine>) -> Result<(), AllocError>
+    ensures { OnOk result (lines.new.items ≡ lines.old.items ++ option_to_list line) }
 {
     if let Some(line) = line {
         lines.push(line)?;

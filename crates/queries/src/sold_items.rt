@@ -1,6 +1,6 @@
 //! The items of a district's last orders, on record cells (TPC-C 2.8.2.2).
 ghost use Rattle.std.specs.Prelude.{◌≡◌, ◌+◌, ◌-◌, ◌*◌, ◌≤◌, ℕ, max, [], ◌∷◌, ◌++◌, length, Option, Some, IfSome, IfOk};
-ghost use Rattle.std.specs.Prelude.{IfErr, OnOk, ◌==◌, All};
+ghost use Rattle.std.specs.Prelude.{IfErr, OnOk, OnErr, ◌==◌, All};
 ghost use Rattle.std.specs.List.{list_any};
 ghost use Rattle.std.specs.List.Sorted.{IsStrictlyIncreasing};
 ghost use Rattle.std.specs.Option.{ForSome, option_map, option_map_or};
@@ -10,14 +10,13 @@ ghost use Rattle.tables.specs.Keys.{IsDistrictKey, IsOrderKey, IsLineKey, IsItem
 ghost use Rattle.tables.specs.OrderNumbers.{next_order};
 ghost use Rattle.tables.specs.StockLevel.{is_sold};
 ghost use Rattle.tables.specs.declared.limits.TheConstants.{MAX_ORDER_LINES, RECENT_ORDERS};
-ghost use Rattle.money.specs.declared.refusal.Refusal.TheVariants.{OutOfMemory};
 ghost use Rattle.readset.specs.Transaction.{Finds, IsStepRefusal, ReadsMore};
 ghost use Rattle.queries.specs.SoldItems.{order_line_count, AreItems};
 
 use money::Refusal;
 use readset::{Start, Transaction, read_present, read_row};
 use rows::DistrictColumns;
-use std::alloc::Global;
+use std::alloc::{AllocError, Global};
 use std::sync::Wait;
 use tables::limits::RECENT_ORDERS;
 use tables::{DistrictKey, LineKey, Order, OrderKey, OrderLine};
@@ -135,9 +134,9 @@ fn read_line_count<R: Wait, K: Start>(
 }
 
 /// Appends an item, if there is one.
-fn push_some(items: &mut Vec<u32>, item: Option<u32>) -> Result<(), Refusal>
+fn push_some(items: &mut Vec<u32>, item: Option<u32>) -> Result<(), AllocError>
     ensures pushed { OnOk result (items.new.items ≡ items.old.items ++ option_map_or (λ i. i ∷ []) item []) }
-    ensures only_memory { IfErr result (λ refusal. (refusal ≡ OutOfMemory) × (items.new.items ≡ items.old.items)) }
+    ensures stays { OnErr result (items.new.items ≡ items.old.items) }
 {
     if let Some(item) = item {
         items.push(item)?;

@@ -1,5 +1,6 @@
 pub mod Places
 pub mod Arrivals
+pub mod Arrived
 pub mod Reads
 pub mod Writes
 pub mod Commit

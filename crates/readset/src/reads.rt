@@ -8,12 +8,12 @@ ghost use Rattle.std.specs.BTreeMap.{insert_entry};
 ghost use Rattle.money.specs.declared.refusal.Refusal.TheVariants.{OutOfMemory};
 ghost use Rattle.std.specs.List.Sorted.{IsStrictlySortedBy};
 ghost use Rattle.readset.specs.Places.{place};
-ghost use Rattle.readset.specs.Arrivals.{AreArrivals, in_order};
+ghost use Rattle.readset.specs.Arrived.{arrived};
 ghost use Rattle.readset.specs.Reads.{held, value_of, Keeps, AreWithin, AreRead};
 ghost use Rattle.cells.specs.Records.{ReaderView, LoadsRecord, HasGrown, words_of};
 ghost use Rattle.cells.specs.declared.cells.Version.{Version};
 
-use crate::arrivals::{add, count, find, make_room, value_at, value_in};
+use crate::arrivals::Arrivals;
 use cells::{Cells, Reader, Version};
 use money::{Payload, Refusal};
 use std::alloc::Global;
@@ -25,19 +25,16 @@ use std::sync::Wait;
 /// some 400 records neither moves versions nor spends more than a few steps on each look-up.
 #[derive(Drop)]
 pub struct ReadSet {
-    versions: Vec<(u32, Version)>,
-    order: Vec<(u32, u32)>,
+    versions: Arrivals<Version>,
 }
 
 impl Model for ReadSet {
     ghost use Rattle.readset.specs.Reads.{ReadSetView};
-    ghost use Rattle.readset.specs.Arrivals.{AreArrivals, in_order};
+    ghost use Rattle.readset.specs.Arrived.{arrived};
 
     ghost Value = { ReadSetView };
 
-    ghost view = { λ r. in_order r.versions.items r.order.items };
-
-    ghost invariant = { λ r. AreArrivals r.versions.items r.order.items };
+    ghost view = { λ r. arrived r.versions };
 }
 
 impl ReadSet {
@@ -46,8 +43,7 @@ impl ReadSet {
         ensures { result ≡ [] }
     {
         ReadSet {
-            versions: Vec::new(alloc),
-            order: Vec::new(alloc),
+            versions: Arrivals::new(alloc),
         }
     }
 
@@ -86,19 +82,9 @@ impl ReadSet {
             → HasGrown first reader.new }
         ensures only_memory { IfErr result (λ refusal. refusal ≡ OutOfMemory) }
     {
-        let versions = self.versions.as_slice();
-        let order = self.order.as_slice();
-        match find(versions, order, number) {
-            Ok(at) => Ok(*value_in(versions, order, at)),
-            Err(at) => load(
-                rt,
-                cells,
-                reader,
-                &mut self.versions,
-                &mut self.order,
-                at,
-                number,
-            ),
+        match self.versions.find(number) {
+            Ok(at) => Ok(*self.versions.value_in(at)),
+            Err(at) => load(rt, cells, reader, &mut self.versions, at, number),
         }
     }
 
@@ -106,7 +92,7 @@ impl ReadSet {
     pub fn held(&self, number: u32) -> Option<&Version>
         ensures { option_copied result ≡ held self.now number }
     {
-        value_at(self.versions.as_slice(), self.order.as_slice(), number)
+        self.versions.value_at(number)
     }
 
     /// How many versions are held.
@@ -115,7 +101,7 @@ impl ReadSet {
         ensures found { All (λ e. held self.now e.0 ≡ Some e.1) self.now }
         ensures ordered { IsStrictlySortedBy nat_cmp (keys_of self.now) }
     {
-        count(self.versions.as_slice(), self.order.as_slice())
+        self.versions.count()
     }
 
     /// The version held at a place in the order of the record numbers. Takes constant time.
@@ -123,7 +109,7 @@ impl ReadSet {
         requires { place < length self.now }
         ensures { (d : ℕ × Version) → result.now ≡ (slice_index_or self.now place d).1 }
     {
-        value_in(self.versions.as_slice(), self.order.as_slice(), place)
+        self.versions.value_in(place)
     }
 }
 
@@ -132,29 +118,25 @@ fn load<R: Wait>(
     rt: &R,
     cells: &Cells,
     reader: &mut Reader,
-    versions: &mut Vec<(u32, Version)>,
-    order: &mut Vec<(u32, u32)>,
+    versions: &mut Arrivals<Version>,
     at: usize,
     number: u32,
 ) -> Result<Version, Refusal>
     requires own { reader.old.cells ≡ cells.now }
     requires is_record { number < length cells.now }
-    requires arrivals { AreArrivals versions.old.items order.old.items }
-    requires at { place (in_order versions.old.items order.old.items) number ≡ Err at }
+    requires at { place (arrived versions.old) number ≡ Err at }
     ensures read { IfOk result (λ v. LoadsRecord reader.old reader.new number (words_of v)
         × (v.record ≡ number)) }
-    ensures entries { IfOk result (λ v. in_order versions.new.items order.new.items
-        ≡ insert_entry nat_cmp (in_order versions.old.items order.old.items) number v) }
-    ensures arrivals { AreArrivals versions.new.items order.new.items }
+    ensures entries { IfOk result (λ v. arrived versions.new
+        ≡ insert_entry nat_cmp (arrived versions.old) number v) }
     ensures grown { HasGrown reader.old reader.new }
     ensures unread { OnErr result (reader.new ≡ reader.old) }
-    ensures kept { OnErr result (in_order versions.new.items order.new.items
-        ≡ in_order versions.old.items order.old.items) }
+    ensures kept { OnErr result (arrived versions.new ≡ arrived versions.old) }
     ensures only_memory { IfErr result (λ refusal. refusal ≡ OutOfMemory) }
 {
-    make_room(versions, order, at)?;
+    versions.make_room(at)?;
     let version = &cells.read(rt, reader, number);
-    add(versions, order, at, number, *version);
+    versions.add(at, number, *version);
     Ok(*version)
 }
 

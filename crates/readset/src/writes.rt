@@ -5,7 +5,7 @@ ghost use Rattle.std.specs.Map.{keys_of};
 ghost use Rattle.std.specs.List.Sorted.{IsStrictlySortedBy};
 ghost use Rattle.readset.specs.Writes.{no_writes, value_for, puts, left_at};
 
-use crate::arrivals::{add, count, find, make_room, ordered, replace, value_at};
+use crate::arrivals::Arrivals;
 use crate::list::WriteList;
 use crate::reads::{ReadSet, value_of};
 use money::{Payload, Refusal};
@@ -19,23 +19,17 @@ use tables::History;
 /// some 200 records neither moves values nor spends more than a few steps on each look-up.
 #[derive(Drop)]
 pub struct WriteSet {
-    values: Vec<(u32, Option<Payload>)>,
-    order: Vec<(u32, u32)>,
+    values: Arrivals<Option<Payload>>,
     history_row: Option<History>,
 }
 
 impl Model for WriteSet {
     ghost use Rattle.readset.specs.Writes.{WriteSetView};
-    ghost use Rattle.readset.specs.Arrivals.{AreArrivals, in_order};
+    ghost use Rattle.readset.specs.Arrived.{arrived};
 
     ghost Value = { WriteSetView };
 
-    ghost view = { λ w. record {
-      values = in_order w.values.items w.order.items;
-      history_row = w.history_row;
-    } };
-
-    ghost invariant = { λ w. AreArrivals w.values.items w.order.items };
+    ghost view = { λ w. record { values = arrived w.values; history_row = w.history_row } };
 }
 
 impl WriteSet {
@@ -46,8 +40,7 @@ impl WriteSet {
         ensures { result ≡ no_writes }
     {
         WriteSet {
-            values: Vec::new(alloc),
-            order: Vec::new(alloc),
+            values: Arrivals::new(alloc),
             history_row: None,
         }
     }
@@ -64,14 +57,14 @@ impl WriteSet {
         ensures kept { OnErr result (self.new ≡ self.old) }
         ensures only_memory { IfErr result (λ refusal. refusal ≡ OutOfMemory) }
     {
-        match find(self.values.as_slice(), self.order.as_slice(), number) {
-            Ok(at) => replace(&mut self.values, &mut self.order, at, number, value),
+        match self.values.find(number) {
+            Ok(at) => self.values.replace(at, number, value)?,
             Err(at) => {
-                make_room(&mut self.values, &mut self.order, at)?;
-                add(&mut self.values, &mut self.order, at, number, value);
-                Ok(())
+                self.values.make_room(at)?;
+                self.values.add(at, number, value);
             }
         }
+        Ok(())
     }
 
     /// Says which row HISTORY is to get, in the place of the row said before.
@@ -85,7 +78,7 @@ impl WriteSet {
     pub fn value(&self, number: u32) -> Option<Option<Payload>>
         ensures { result ≡ value_for self.now number }
     {
-        value_at(self.values.as_slice(), self.order.as_slice(), number).copied()
+        self.values.value_at(number).copied()
     }
 
     /// What the transaction leaves of a record: what it is to write there, or else what it has read there. Nothing
@@ -93,7 +86,7 @@ impl WriteSet {
     pub fn left(&self, reads: &ReadSet, number: u32) -> Option<Payload>
         ensures { result ≡ left_at self.now reads.now number }
     {
-        match value_at(self.values.as_slice(), self.order.as_slice(), number) {
+        match self.values.value_at(number) {
             Some(value) => *value,
             None => value_of(reads.held(number)?),
         }
@@ -105,7 +98,7 @@ impl WriteSet {
         ensures found { All (λ e. value_for self.now e.0 ≡ Some e.1) self.now.values }
         ensures ordered { IsStrictlySortedBy nat_cmp (keys_of self.now.values) }
     {
-        count(self.values.as_slice(), self.order.as_slice())
+        self.values.count()
     }
 
     /// The row that HISTORY is to get, if there is one.
@@ -124,8 +117,6 @@ impl WriteSet {
         ensures list { IfOk result (λ list. list ≡ self) }
         ensures only_memory { IfErr result (λ refusal. refusal ≡ OutOfMemory) }
     {
-        let alloc = *self.values.allocator();
-        let values = ordered(alloc, self.values.as_slice(), self.order.as_slice())?;
-        Ok(WriteList::new(values, self.history_row))
+        Ok(WriteList::new(self.values.ordered()?, self.history_row))
     }
 }

@@ -3,7 +3,7 @@ use Rattle.std.proofs.Common.{◌≡◌, ℕ, ◌+◌, ◌-◌, ◌<◌, ◌≤�
 use Rattle.std.proofs.lemmas.List.{get_or-map, get_or-set_same, set-get_or, length-set, length-map, length_push, get_or_append_left, get_or_push, take_more, take_all, map_push}
 use Rattle.std.proofs.Math.Seq.{map-set_same}
 use Rattle.tables.specs.Sizes.{Sizes}
-use Rattle.log_disk.specs.Calls.{Call}
+use Rattle.log_disk.specs.Calls.{Call, OnlyReads}
 use Rattle.log_header.specs.Header.{HeaderView, header_view}
 use Rattle.log_text.specs.Bodies.{BodyView}
 use Rattle.log_text.specs.File.{IsFile}
@@ -53,8 +53,7 @@ pub record IsReadSoFar {X : Type 0} (modelled : Type 0) (seen : X → List ℕ) 
   pub files_count : length files ≡ i
   pub are_seen : modelled → strings ≡ take i (map seen first)
   pub each : (l : ℕ) → l < i → IsFileAt (λ n. header_view n (length first) s seed) strings (map bodies_of_file files) l
-  pub same_seen : modelled → map seen disks ≡ map seen first
-  pub same_story : modelled → map story disks ≡ map story first
+  pub same : OnlyReads modelled (map seen) (map story) first disks
   pub same_failed : map failed disks ≡ map failed first
 
 module _ {X : Type 0} {modelled : Type 0} {seen : X → List ℕ} {story : X → List Call} {failed : X → ℕ}
@@ -68,8 +67,7 @@ module _ {X : Type 0} {modelled : Type 0} {seen : X → List ℕ} {story : X →
     files_count = ap (λ (l : List (Vec Body Global)). length l) none;
     are_seen = λ _. refl;
     each = λ l less. absurd (omega (arith, less));
-    same_seen = λ _. refl;
-    same_story = λ _. refl;
+    same = record { seen = λ _. refl; story = λ _. refl };
     same_failed = refl;
   }
 
@@ -93,13 +91,12 @@ module _ {X : Type 0} {modelled : Type 0} {seen : X → List ℕ} {story : X →
   -- disk i, whatever stands for those past the end, becomes now
   module _ {i : ℕ} {disks : List X} {files : List (Vec Body Global)} (past now : X)
       (so_far : IsReadSoFar modelled seen story failed s seed first i disks files) where
-    pub seen_stays : (modelled → seen now ≡ seen (get_or disks i past))
-        → modelled → map seen (set disks i now) ≡ map seen first
-    seen_stays same given = map-set_same seen disks i now past (same given) ∙ so_far.same_seen given
-
-    pub story_stays : (modelled → story now ≡ story (get_or disks i past))
-        → modelled → map story (set disks i now) ≡ map story first
-    story_stays same given = map-set_same story disks i now past (same given) ∙ so_far.same_story given
+    pub only_reads : OnlyReads modelled seen story (get_or disks i past) now
+        → OnlyReads modelled (map seen) (map story) first (set disks i now)
+    only_reads same = record {
+      seen = λ given. map-set_same seen disks i now past (same.seen given) ∙ so_far.same.seen given;
+      story = λ given. map-set_same story disks i now past (same.story given) ∙ so_far.same.story given;
+    }
 
     pub failed_stays : failed now ≡ failed (get_or disks i past) → map failed (set disks i now) ≡ map failed first
     failed_stays same = map-set_same failed disks i now past same ∙ so_far.same_failed
@@ -118,17 +115,17 @@ module _ {X : Type 0} {modelled : Type 0} {seen : X → List ℕ} {story : X →
       pub goes_on : (bodies : Vec Body Global) {longer : List (Vec Body Global)}
           → ((string : List ℕ) × (length string < 2 ^ 64) × (modelled → string ≡ seen (get_or disks i past))
           × IsFile string (header_view i (length disks) s seed) (bodies_of_file bodies))
-          → (modelled → seen now ≡ seen (get_or disks i past)) → (modelled → story now ≡ story (get_or disks i past))
-          → failed now ≡ failed (get_or disks i past) → longer ≡ files ++ bodies ∷ []
+          → OnlyReads modelled seen story (get_or disks i past) now → failed now ≡ failed (get_or disks i past)
+          → longer ≡ files ++ bodies ∷ []
           → IsReadSoFar modelled seen story failed s seed first (i + 1) (set disks i now) longer
-      goes_on bodies {longer} read seen_same story_same failed_same pushed = record {
+      goes_on bodies {longer} read same failed_same pushed = record {
         count = length-set disks i now ∙ so_far.count;
         strings = so_far.strings ++ read.0 ∷ [];
         strings_count = length_push so_far.strings read.0 ∙ ap (λ (n : ℕ). n + 1) so_far.strings_count;
         files_count = ap (λ (l : List (Vec Body Global)). length l) pushed ∙ length_push files bodies
             ∙ ap (λ (n : ℕ). n + 1) so_far.files_count;
         are_seen = λ given.
-            (λ j. so_far.are_seen given j ++ (read.2 given ∙ sym (here seen [] (so_far.same_seen given))) j ∷ [])
+            (λ j. so_far.are_seen given j ++ (read.2 given ∙ sym (here seen [] (so_far.same.seen given))) j ∷ [])
             ∙ sym (take_more (map seen first) i [] (among seen));
         each = subst
             (λ (l : List (List BodyView)). (n : ℕ) → n < i + 1 → IsFileAt headers (so_far.strings ++ read.0 ∷ []) l n)
@@ -136,8 +133,7 @@ module _ {X : Type 0} {modelled : Type 0} {seen : X → List ℕ} {story : X →
             (one_more headers so_far.strings (map bodies_of_file files) i so_far.strings_count
             (length-map files bodies_of_file ∙ so_far.files_count) read.0 (bodies_of_file bodies) so_far.each
             (read.1, subst (λ (n : ℕ). IsFile read.0 (header_view i n s seed) (bodies_of_file bodies)) so_far.count read.3));
-        same_seen = seen_stays seen_same;
-        same_story = story_stays story_same;
+        same = only_reads same;
         same_failed = failed_stays failed_same;
       }
 
@@ -149,7 +145,7 @@ module _ {X : Type 0} {modelled : Type 0} {seen : X → List ℕ} {story : X →
           let strings : List (List ℕ) = set (map seen first) i read.0 in
           let count : length strings ≡ length disks = length-set (map seen first) i read.0 ∙ length-map first seen ∙ sym so_far.count in (
             strings,
-            (λ given. ap (set (map seen first) i) (read.1 given ∙ sym (here seen [] (so_far.same_seen given))) ∙ set-get_or (map seen first) i []),
+            (λ given. ap (set (map seen first) i) (read.1 given ∙ sym (here seen [] (so_far.same.seen given))) ∙ set-get_or (map seen first) i []),
             λ all are.
                 let is : IsFile (get_or strings i []) (header_view i (length strings) s seed) (get_or all i []) = are.each i (omega (arith, within, count)) in
                 read.2 (get_or all i [])

@@ -2,6 +2,7 @@
 ghost use Rattle.std.specs.Prelude.{◌≡◌, ◌≢◌, ℕ, List, map, IfOk, IfErr};
 ghost use Rattle.std.specs.List.Sorted.{IsNonDecreasingBy, IsPermutation};
 ghost use Rattle.money.specs.declared.refusal.Refusal.TheVariants.{OutOfMemory, Damaged, Device};
+ghost use Rattle.log_disk.specs.Calls.{OnlyReads};
 ghost use Rattle.log_text.specs.Bodies.{BodyView};
 ghost use Rattle.log_text.specs.Entries.{logged};
 ghost use Rattle.population.specs.Initial.{initial, seed_of};
@@ -35,8 +36,7 @@ pub fn commits_found<D: Disk>(
         × IsPermutation (found files) (map logged commits.items)) }
     ensures sorted { IfOk result (λ commits. IsNonDecreasingBy (λ commit. commit.number) commits.items) }
     ensures others { IfErr result (λ refusal. (refusal ≢ OutOfMemory) → (refusal ≢ Device) → refusal ≡ Damaged) }
-    ensures seen { D.is_modelled → map D.seen disks.new ≡ map D.seen disks.old }
-    ensures story { D.is_modelled → map D.story disks.new ≡ map D.story disks.old }
+    ensures reads { OnlyReads D.is_modelled (map D.seen) (map D.story) disks.old disks.new }
 {
     let files = read_all(alloc, population, disks)?;
     let durable = durable_of(&files);

@@ -1,7 +1,8 @@
 //! The bodies of a database's log files.
-ghost use Rattle.std.specs.Prelude.{◌≡◌, ◌≢◌, ◌↔◌, ◌+◌, ◌-◌, ◌<◌, ◌^◌, ℕ, min, List, length, map};
+ghost use Rattle.std.specs.Prelude.{◌≡◌, ◌≢◌, ◌↔◌, ◌<◌, ◌^◌, ℕ, List, length, map};
 ghost use Rattle.std.specs.Prelude.{IfOk, IfErr, IsErrOf, IsTrue};
 ghost use Rattle.money.specs.declared.refusal.Refusal.TheVariants.{OutOfMemory, Damaged, Device};
+ghost use Rattle.log_disk.specs.Calls.{CountsDevice, OnlyReads};
 ghost use Rattle.log_header.specs.Header.{header_view};
 ghost use Rattle.log_text.specs.Bodies.{BodyView};
 ghost use Rattle.log_text.specs.File.{IsFile};
@@ -31,8 +32,7 @@ pub fn read_all<D: Disk>(
     ensures failed { IsErrOf result Device → DeviceHasFailed (map D.failed disks.old) (map D.failed disks.new) }
     ensures not_failed { (IsErrOf result Device → ⊥) → map D.failed disks.new ≡ map D.failed disks.old }
     ensures others { IfErr result (λ refusal. (refusal ≢ OutOfMemory) → (refusal ≢ Device) → refusal ≡ Damaged) }
-    ensures seen { D.is_modelled → map D.seen disks.new ≡ map D.seen disks.old }
-    ensures story { D.is_modelled → map D.story disks.new ≡ map D.story disks.old }
+    ensures reads { OnlyReads D.is_modelled (map D.seen) (map D.story) disks.old disks.new }
 {
     let mut files = Vec::new(alloc);
     for logger in 0..disks.len() {
@@ -59,11 +59,9 @@ fn read_one<D: Disk>(
     ensures damaged { IsErrOf result Damaged → (file : List ℕ) × (D.is_modelled → file ≡ D.seen disk.old)
         × ((bodies : List BodyView) → IsFile file
         (header_view logger loggers (initial population.now).scale (seed_of population.now)) bodies → ⊥) }
-    ensures failed { IsErrOf result Device → D.failed disk.new ≡ min (D.failed disk.old + 1) (2 ^ 64 - 1) }
-    ensures not_failed { (IsErrOf result Device → ⊥) → D.failed disk.new ≡ D.failed disk.old }
+    ensures counts { CountsDevice result (D.failed disk.old) (D.failed disk.new) }
     ensures others { IfErr result (λ refusal. (refusal ≢ OutOfMemory) → (refusal ≢ Device) → refusal ≡ Damaged) }
-    ensures seen { D.is_modelled → D.seen disk.new ≡ D.seen disk.old }
-    ensures story { D.is_modelled → D.story disk.new ≡ D.story disk.old }
+    ensures reads { OnlyReads D.is_modelled D.seen D.story disk.old disk.new }
 {
     let (header, bodies) = scan(alloc, disk)?;
     if !is_of(&header, population, logger, loggers) {

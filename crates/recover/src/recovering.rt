@@ -2,6 +2,7 @@
 ghost use Rattle.std.specs.Prelude.{◌≡◌, ◌≢◌, ℕ, List, map, flat_map, IfOk, IfErr, IsErrOf};
 ghost use Rattle.std.specs.List.{All};
 ghost use Rattle.money.specs.declared.refusal.Refusal.TheVariants.{OutOfMemory, Damaged, Device, Gap};
+ghost use Rattle.log_disk.specs.Calls.{OnlyReads};
 ghost use Rattle.tables.specs.Database.{database};
 ghost use Rattle.population.specs.Initial.{initial, seed_of};
 ghost use Rattle.recover_crashes.specs.Recovering.{counted, entries_of};
@@ -65,8 +66,7 @@ pub fn recover<D: Disk>(
     ensures not_failed { (IsErrOf result Device → ⊥) → map D.failed disks.new ≡ map D.failed disks.old }
     ensures others { IfErr result (λ refusal. (refusal ≢ OutOfMemory) → (refusal ≢ Device) → (refusal ≢ Damaged)
         → refusal ≡ Gap) }
-    ensures seen { D.is_modelled → map D.seen disks.new ≡ map D.seen disks.old }
-    ensures story { D.is_modelled → map D.story disks.new ≡ map D.story disks.old }
+    ensures reads { OnlyReads D.is_modelled (map D.seen) (map D.story) disks.old disks.new }
 {
     let files = read_all(alloc, population, disks)?;
     let durable = durable_of(&files);

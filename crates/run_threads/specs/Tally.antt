@@ -4,6 +4,7 @@ use Rattle.std.specs.List.{sum_by}
 use Rattle.money.specs.declared.refusal.Refusal.{Refusal}
 use Rattle.money.specs.declared.refusal.Refusal.TheVariants.{ItemNotValid, GaveUp}
 use Rattle.run_threads.specs.declared.tally.Tally.{Tally}
+use Rattle.run_threads.specs.declared.counts.Counts.{Counts}
 
 -- how many of a terminal's inputs have committed, were rolled back, given up, and refused; and all of them
 abbrev pub commits_in : Tally → ℕ
@@ -28,15 +29,15 @@ with_outcome (Err (ItemNotValid item)) t = record t { rollbacks = t.rollbacks + 
 with_outcome (Err GaveUp) t = record t { gave_up = t.gave_up + 1 }
 with_outcome (Err _) t = record t { refused = t.refused + 1 }
 
--- these are the sums over terminals of which so much came
-pub record AreTallySums (tallies : List Tally) (commits rollbacks gave_up refusals : ℕ) : Type 0 where
-  pub committed_are : commits ≡ sum_by commits_in tallies
-  pub rolled_back_are : rollbacks ≡ sum_by rollbacks_in tallies
-  pub given_up_are : gave_up ≡ sum_by give_ups_in tallies
-  pub refused_are : refusals ≡ sum_by refusals_in tallies
+-- the counts are the sums over terminals of which so much came
+pub record AreTallySums (tallies : List Tally) (c : Counts) : Type 0 where
+  pub committed_are : c.commits ≡ sum_by commits_in tallies
+  pub rolled_back_are : c.rollbacks ≡ sum_by rollbacks_in tallies
+  pub given_up_are : c.gave_up ≡ sum_by give_ups_in tallies
+  pub refused_are : c.refused ≡ sum_by refusals_in tallies
 
 -- what came of so many inputs at each of so many terminals, and the sums of that
-pub record IsCounted (terminals inputs : ℕ) (tallies : List Tally) (commits rollbacks gave_up refusals : ℕ) : Type 0 where
+pub record IsCounted (terminals inputs : ℕ) (tallies : List Tally) (c : Counts) : Type 0 where
   pub terminals_are : length tallies ≡ terminals
   pub all_inputs : All (λ t. inputs_in t ≡ inputs) tallies
-  pub sums : AreTallySums tallies commits rollbacks gave_up refusals
+  pub sums : AreTallySums tallies c

@@ -2,6 +2,7 @@
 #![tactic(auto)]
 
 mod appender;
+mod counts;
 mod outcome;
 mod pace;
 mod progress;
@@ -11,6 +12,7 @@ mod threads;
 mod worker;
 mod writer;
 
+pub use counts::Counts;
 pub use outcome::{Outcome, Written};
 pub use pace::{AtOnce, Pace};
 pub use progress::Progress;

@@ -1,6 +1,7 @@
 //! What comes of a run.
 ghost use Rattle.std.specs.Prelude.{◌≡◌, false};
 
+use crate::counts::Counts;
 use crate::tally::Tally;
 use book::{Closed, Run};
 use log_disk::Disk;
@@ -9,20 +10,9 @@ use logger::Logger;
 /// What comes of a run: what its terminals have counted, what their loggers have made durable, and what was committed.
 #[derive(Drop)]
 pub struct Outcome<K: Run, D: Disk> {
-    /// Transactions that committed.
-    pub commits: u64,
-    /// New-Orders that were rolled back, for an item that isn't in ITEM.
-    pub rollbacks: u64,
-    /// Inputs that their terminals gave up, after 64 tries.
-    pub gave_up: u64,
-    /// Inputs refused for memory, the order cap or the commit cap.
-    pub refused: u64,
-    /// What came of each terminal's inputs, in the order of their numbers: the four above are the sums of these.
+    pub counts: Counts,
+    /// What came of each terminal's inputs, in the order of their numbers: the first four counts are the sums of these.
     pub tallies: Vec<Tally>,
-    /// The last D.
-    pub durable: u64,
-    /// Replies that were released.
-    pub acknowledged: u64,
     /// The loggers' files, in the order of their loggers.
     pub files: Vec<Written<D>>,
     /// What has committed.

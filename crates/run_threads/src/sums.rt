@@ -1,37 +1,13 @@
-//! What came of the inputs of all terminals.
-ghost use Rattle.std.specs.Prelude.{◌≡◌, ◌^◌, ◌<◌, ◌≤◌, [], length, map, vec_capacity};
+//! The end of terminals' work.
+ghost use Rattle.std.specs.Prelude.{◌≡◌, ◌≤◌, [], length, map, vec_capacity};
 ghost use Rattle.std.specs.List.{sum_by};
 ghost use Rattle.book.specs.Share.{parts_of, share_commits};
-ghost use Rattle.run_threads.specs.Tally.{AreTallySums, commits_in};
+ghost use Rattle.run_threads.specs.Tally.{commits_in};
 
 use crate::tally::Tally;
 use crate::worker::Worker;
 use book::{Engine, Run, Share};
 use terminals::Gate;
-
-/// What came of the inputs of terminals, added up.
-#[derive(Clone, Copy, Debug)]
-pub(crate) struct Sums {
-    pub(crate) commits: u64,
-    pub(crate) rollbacks: u64,
-    pub(crate) gave_up: u64,
-    pub(crate) refused: u64,
-}
-
-impl Sums {
-    /// The sums of these.
-    pub(crate) fn of(tallies: &[Tally]) -> Sums
-        requires { length tallies.now < 2 ^ 16 }
-        ensures { AreTallySums tallies.now result.commits result.rollbacks result.gave_up result.refused }
-    {
-        Sums {
-            commits: tallies.iter().map(|tally| u64::from(tally.commits)).sum(),
-            rollbacks: tallies.iter().map(|tally| u64::from(tally.rollbacks)).sum(),
-            gave_up: tallies.iter().map(|tally| u64::from(tally.gave_up)).sum(),
-            refused: tallies.iter().map(|tally| u64::from(tally.refused)).sum(),
-        }
-    }
-}
 
 /// Ends terminals: each acknowledges what is durable, and what came of its inputs and its share are gathered, in their
 /// order. There is room for both. Answers how many replies were released.

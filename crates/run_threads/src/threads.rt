@@ -7,10 +7,11 @@ ghost use Rattle.run_threads.specs.Clocks.{clocks};
 ghost use Rattle.run_threads.specs.History.{IsMadeBy};
 ghost use Rattle.run_threads.specs.Tally.{AreTallySums, IsCounted, inputs_in};
 
+use crate::counts::Counts;
 use crate::outcome::{Outcome, Written};
 use crate::pace::Pace;
 use crate::progress::Progress;
-use crate::sums::{Sums, gathered};
+use crate::sums::gathered;
 use crate::tally::Tally;
 use crate::worker::{Station, Worker};
 use crate::writer::Writer;
@@ -19,7 +20,7 @@ use book::{Closed, Engine, Run, Share, TerminalSeats};
 use log_disk::Disk;
 use logger::Logger;
 use money::Refusal;
-use std::alloc::Global;
+use std::alloc::{AllocError, Global};
 use std::marker::PhantomData;
 use std::sync::Wait;
 use std::thread::{self, Threads};
@@ -70,9 +71,8 @@ pub fn run<
     requires few { K.parts < 2 ^ 16 }
     requires decks { All (λ station. station.deck.scale ≡ K.first.scale) stations.items }
     ensures history { IfOk result (λ outcome. IsMadeBy K.parts K.past K.first outcome.closed) }
-    ensures commits { IfOk result (λ outcome. outcome.commits ≡ length outcome.closed) }
-    ensures counted { IfOk result (λ outcome. IsCounted K.parts inputs outcome.tallies.items
-        outcome.commits outcome.rollbacks outcome.gave_up outcome.refused) }
+    ensures commits { IfOk result (λ outcome. outcome.counts.commits ≡ length outcome.closed) }
+    ensures counted { IfOk result (λ outcome. IsCounted K.parts inputs outcome.tallies.items outcome.counts) }
     ensures memory { IfErr result (λ refusal. refusal ≡ OutOfMemory) }
 {
     let crew = crew_of(alloc, desks, logs, stations)?;
@@ -89,15 +89,14 @@ struct Room<K: Run, D: Disk, P: Pace> {
 }
 
 impl<K: Run, D: Disk + Drop, P: Pace + Drop> Room<K, D, P> {
-    /// For so many terminals and loggers. `OutOfMemory` is the only refusal.
-    fn new(alloc: Global, terminals: usize, loggers: usize) -> Result<Room<K, D, P>, Refusal>
+    /// For so many terminals and loggers.
+    fn new(alloc: Global, terminals: usize, loggers: usize) -> Result<Room<K, D, P>, AllocError>
         ensures empty { IfOk result (λ room. (room.tallies.items ≡ []) × (room.shares.items ≡ [])
             × (room.files.items ≡ []) × (room.paces.items ≡ [])) }
         ensures tallies { IfOk result (λ room. terminals ≤ vec_capacity room.tallies) }
         ensures shares { IfOk result (λ room. terminals ≤ vec_capacity room.shares) }
         ensures files { IfOk result (λ room. loggers ≤ vec_capacity room.files) }
         ensures paces { IfOk result (λ room. loggers ≤ vec_capacity room.paces) }
-        ensures only_memory { IfErr result (λ refusal. refusal ≡ OutOfMemory) }
     {
         Ok(Room {
             tallies: Vec::with_capacity(alloc, terminals)?,
@@ -166,9 +165,8 @@ fn run_crew<
     requires files { length crew.writers.items ≤ vec_capacity crew.room.files }
     requires paces { length crew.writers.items ≤ vec_capacity crew.room.paces }
     ensures history { IsMadeBy K.parts K.past K.first result.closed }
-    ensures commits { result.commits ≡ length result.closed }
-    ensures counted { IsCounted K.parts inputs result.tallies.items
-        result.commits result.rollbacks result.gave_up result.refused }
+    ensures commits { result.counts.commits ≡ length result.closed }
+    ensures counted { IsCounted K.parts inputs result.tallies.items result.counts }
 {
     let Crew {
         workers,
@@ -204,19 +202,18 @@ fn staffed<K: Run, G: Gate + Drop>(
     Ok(workers)
 }
 
-/// The loggers at work, the first of them with the clock. `OutOfMemory` is the only refusal.
+/// The loggers at work, the first of them with the clock.
 fn manned<K: Run, D: Disk + Drop, P: Pace + Drop>(
     alloc: Global,
     clock: ClockSeat,
     logs: Vec<Log<D, P>>,
-) -> Result<Vec<Writer<K, D, P>>, Refusal>
+) -> Result<Vec<Writer<K, D, P>>, AllocError>
     requires clock { clock.board ≡ K.board }
     requires logs { All (λ log. log.logger.seat.board ≡ K.board) logs.items }
     ensures loggers { IfOk result (λ writers.
         map (λ writer. writer.appender.logger) writers.items ≡ map (λ log. log.logger) logs.items) }
     ensures clocks { IfOk result (λ writers.
         map (λ writer. writer.clock) writers.items ≡ clocks (Some clock) (length logs.items)) }
-    ensures only_memory { IfErr result (λ refusal. refusal ≡ OutOfMemory) }
 {
     let mut clock = Some(clock);
     let mut writers = Vec::new(alloc);
@@ -327,9 +324,9 @@ fn settled<K: Run, G: Gate + Drop, D: Disk + Drop, P: Pace + Drop, R: Wait>(
     requires files { length writers.items ≤ vec_capacity room.files }
     requires paces { length writers.items ≤ vec_capacity room.paces }
     ensures history { IsMadeBy K.parts K.past K.first result.closed }
-    ensures commits { result.commits ≡ length result.closed }
+    ensures commits { result.counts.commits ≡ length result.closed }
     ensures tallies { result.tallies.items ≡ map (λ worker. worker.tally) workers.items }
-    ensures sums { AreTallySums result.tallies.items result.commits result.rollbacks result.gave_up result.refused }
+    ensures sums { AreTallySums result.tallies.items result.counts }
 {
     let Room {
         mut tallies,
@@ -340,16 +337,11 @@ fn settled<K: Run, G: Gate + Drop, D: Disk + Drop, P: Pace + Drop, R: Wait>(
     last_turns(rt, &engine, writers, &mut files, &mut paces, progress);
     let acknowledged = gathered(&engine, workers, &mut tallies, &mut shares);
     end_paces(paces, progress);
-    let sums = Sums::of(&tallies);
+    let counts = Counts::of(&tallies, progress.durable(), acknowledged);
     let closed = closed_of(engine, shares);
     Outcome {
-        commits: sums.commits,
-        rollbacks: sums.rollbacks,
-        gave_up: sums.gave_up,
-        refused: sums.refused,
+        counts,
         tallies,
-        durable: progress.durable(),
-        acknowledged,
         files,
         closed,
     }

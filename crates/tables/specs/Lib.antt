@@ -17,4 +17,5 @@ pub mod Inputs
 pub mod Apply
 pub mod Conditions
 pub mod WellFormed
+pub mod Reach
 pub mod Constant

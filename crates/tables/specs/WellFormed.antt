@@ -121,22 +121,33 @@ pub record IsWellFormed (t : Database) : Type 0 where
   -- each last name that a terminal may ask for is somebody's
   pub last_names : HasLastNames t
 
--- a column that stays within its range for n more commits, of which each moves money by at most 15,000,000 cents and
--- raises a count by at most 150
+-- a column that stays within so many cents of zero, or at most so large a count, for n more commits, of which each moves
+-- money by at most 15,000,000 cents and raises a count by at most 150
+abbrev pub IsMoneyTo : ℤ → ℕ → ℤ → Type 0
+IsMoneyTo most n z = (neg_ℤ most ≤ℤ (z -ℤ pos (MAX_MONEY_STEP * n))) × ((z +ℤ pos (MAX_MONEY_STEP * n)) ≤ℤ most)
+
+abbrev pub IsCountTo : ℕ → ℕ → ℕ → Type 0
+IsCountTo most n c = c + MAX_COUNT_STEP * n ≤ most
+
+-- so for each column that commits move
+pub record HasRoomTo (money : ℤ) (count n : ℕ) (t : Database) : Type 0 where
+  pub warehouses : EachRow (λ k r. IsMoneyTo money n r.year_to_date) t.warehouses
+  pub districts : EachRow (λ k r. IsMoneyTo money n r.year_to_date) t.districts
+  pub balances : EachRow (λ k r. IsMoneyTo money n r.balance) t.customers
+  pub paid : EachRow (λ k r. IsMoneyTo money n r.paid) t.customers
+  pub payments : EachRow (λ k r. IsCountTo count n r.payments) t.customers
+  pub deliveries : EachRow (λ k r. IsCountTo count n r.deliveries) t.customers
+  pub supplied : EachRow (λ k r. IsCountTo count n r.year_to_date) t.stock
+  pub orders : EachRow (λ k r. IsCountTo count n r.orders) t.stock
+  pub remote_orders : EachRow (λ k r. IsCountTo count n r.remote_orders) t.stock
+
+-- a column that stays within its range for n more commits
 abbrev pub IsMoneyFor : ℕ → ℤ → Type 0
-IsMoneyFor n z = (neg_ℤ MAX_MONEY ≤ℤ (z -ℤ pos (MAX_MONEY_STEP * n))) × ((z +ℤ pos (MAX_MONEY_STEP * n)) ≤ℤ MAX_MONEY)
+IsMoneyFor n z = IsMoneyTo MAX_MONEY n z
 
 abbrev pub IsCountFor : ℕ → ℕ → Type 0
-IsCountFor n c = c + MAX_COUNT_STEP * n ≤ MAX_COUNT
+IsCountFor n c = IsCountTo MAX_COUNT n c
 
 -- the columns that commits move stay within their ranges for n more commits
-pub record HasRoom (n : ℕ) (t : Database) : Type 0 where
-  pub warehouses : EachRow (λ k r. IsMoneyFor n r.year_to_date) t.warehouses
-  pub districts : EachRow (λ k r. IsMoneyFor n r.year_to_date) t.districts
-  pub balances : EachRow (λ k r. IsMoneyFor n r.balance) t.customers
-  pub paid : EachRow (λ k r. IsMoneyFor n r.paid) t.customers
-  pub payments : EachRow (λ k r. IsCountFor n r.payments) t.customers
-  pub deliveries : EachRow (λ k r. IsCountFor n r.deliveries) t.customers
-  pub supplied : EachRow (λ k r. IsCountFor n r.year_to_date) t.stock
-  pub orders : EachRow (λ k r. IsCountFor n r.orders) t.stock
-  pub remote_orders : EachRow (λ k r. IsCountFor n r.remote_orders) t.stock
+abbrev pub HasRoom : ℕ → Database → Type 0
+HasRoom n t = HasRoomTo MAX_MONEY MAX_COUNT n t

@@ -105,3 +105,10 @@ pub const MAX_MONEY_STEP: u32 = 15_000_000;
 
 /// By how much one commit raises a count at most.
 pub const MAX_COUNT_STEP: u32 = 150;
+
+/// By how much a money column of a first population is away from zero at most: W_YTD of 10 districts, of which each has
+/// 3,000 customers who have paid 10.00.
+pub const MAX_FIRST_MONEY: u32 = 30_000_000;
+
+/// The largest count of a first population: C_PAYMENT_CNT is 1.
+pub const MAX_FIRST_COUNT: u32 = 1;

@@ -1,5 +1,5 @@
 -- A Delivery keeps tables well-formed, and takes up the room of one commit.
-use Rattle.std.proofs.Common.{◌≡◌, ℕ, ◌+◌, ◌≤◌, ℤ, ◌+ℤ◌, Bool, true, false, cond, true≢false, Option, Some, None, IsSome, sym, ap, ◌∙◌, subst, arith}
+use Rattle.std.proofs.Common.{◌≡◌, ℕ, ◌+◌, ◌≤◌, ℤ, ◌+ℤ◌, ◌≤ℤ◌, Bool, true, false, cond, true≢false, Option, Some, None, IsSome, sym, ap, ◌∙◌, subst, arith}
 use Rattle.std.proofs.lemmas.Int.{ints}
 use Rattle.std.proofs.lemmas.Option.{same_Some}
 use Rattle.std.specs.Option.{option_map}
@@ -10,8 +10,9 @@ use Rattle.tables.specs.Keys.{order_cmp, order_of, IsCustomerKey, IsOrderKey, Is
 use Rattle.tables.specs.Maps.{RowsWithin, EachRow}
 use Rattle.tables.specs.Database.{Database}
 use Rattle.tables.specs.Delivery.{IsDelivery, taken, is_taken, carried, dated, order_amount, is_order_of, credited, after_taken, after_delivery}
-use Rattle.tables.specs.WellFormed.{IsWellFormed, HasRoom, IsDate, IsCustomerRow, IsOrderRow, IsLineRow, IsMoneyFor, IsCountFor, orderer}
-use Rattle.tables.specs.declared.limits.TheConstants.{MAX_CARRIER}
+use Rattle.tables.specs.WellFormed.{IsWellFormed, HasRoomTo, IsDate, IsCustomerRow, IsOrderRow, IsLineRow, IsMoneyTo, IsCountTo, orderer}
+use Rattle.money.specs.declared.cents.TheConstants.{MAX_MONEY}
+use Rattle.tables.specs.declared.limits.TheConstants.{MAX_COUNT, MAX_CARRIER}
 use Rattle.tables.specs.declared.keys.CustomerKey.{CustomerKey}
 use Rattle.tables.specs.declared.keys.OrderKey.{OrderKey}
 use Rattle.tables.specs.declared.keys.LineKey.{LineKey}
@@ -63,24 +64,25 @@ module _ (t : Database) (x : DeliveryInput) where
           let k : OrderKey = record { warehouse = c.warehouse; district = c.district; order = n } in
           elim (is_order_of t k c.customer) as (λ b. Q (cond b (credited t k r) r)) [ true ↦ credit k r h | false ↦ same r h ]
 
-  module _ (n : ℕ) (wf : IsWellFormed t) (room : HasRoom (n + 1) t) where
+  module _ (most : ℤ) (top : ℕ) (low : most ≤ℤ MAX_MONEY) (few : top ≤ MAX_COUNT) (n : ℕ) (wf : IsWellFormed t)
+      (room : HasRoomTo most top (n + 1) t) where
     -- an order's sum is at most what a commit may move
-    rises : (k : OrderKey) (z : ℤ) → IsMoneyFor (n + 1) z → IsMoneyFor n (z +ℤ order_amount t k)
+    rises : (k : OrderKey) (z : ℤ) → IsMoneyTo most (n + 1) z → IsMoneyTo most n (z +ℤ order_amount t k)
     rises k z h = let sum = order_amount-within t wf k in (omega (arith, ints, sum.0, sum.1, h.0, h.1), omega (arith, ints, sum.0, sum.1, h.0, h.1))
 
-    counts : (c : ℕ) → IsCountFor (n + 1) c → IsCountFor n (c + 1)
+    counts : (c : ℕ) → IsCountTo top (n + 1) c → IsCountTo top n (c + 1)
     counts c h = omega (arith, h)
 
-    pub kept_room : HasRoom n (after_delivery t x)
-    kept_room = let stays = room_stays n t room in record {
+    pub kept_room : HasRoomTo most top n (after_delivery t x)
+    kept_room = let stays = room_stays most top n t room in record {
       warehouses = stays.warehouses;
       districts = stays.districts;
-      balances = each_customer (λ r. IsMoneyFor (n + 1) r.balance) (λ r. IsMoneyFor n r.balance) room.balances (λ r h. money_stays n r.balance h)
+      balances = each_customer (λ r. IsMoneyTo most (n + 1) r.balance) (λ r. IsMoneyTo most n r.balance) room.balances (λ r h. money_stays most n r.balance h)
           (λ k r h. rises k r.balance h);
-      paid = each_customer (λ r. IsMoneyFor n r.paid) (λ r. IsMoneyFor n r.paid) stays.paid (λ r h. h) (λ k r h. h);
-      payments = each_customer (λ r. IsCountFor n r.payments) (λ r. IsCountFor n r.payments) stays.payments (λ r h. h) (λ k r h. h);
-      deliveries = each_customer (λ r. IsCountFor (n + 1) r.deliveries) (λ r. IsCountFor n r.deliveries) room.deliveries (λ r h. count_stays n r.deliveries h)
-          (λ k r h. counts r.deliveries h);
+      paid = each_customer (λ r. IsMoneyTo most n r.paid) (λ r. IsMoneyTo most n r.paid) stays.paid (λ r h. h) (λ k r h. h);
+      payments = each_customer (λ r. IsCountTo top n r.payments) (λ r. IsCountTo top n r.payments) stays.payments (λ r h. h) (λ k r h. h);
+      deliveries = each_customer (λ r. IsCountTo top (n + 1) r.deliveries) (λ r. IsCountTo top n r.deliveries) room.deliveries
+          (λ r h. count_stays top n r.deliveries h) (λ k r h. counts r.deliveries h);
       supplied = stays.supplied;
       orders = stays.orders;
       remote_orders = stays.remote_orders;
@@ -89,14 +91,14 @@ module _ (t : Database) (x : DeliveryInput) where
     module _ (ok : IsDelivery t.scale x) where
       customer_rows : EachRow (λ c r. IsCustomerRow r) (after_delivery t x).customers
       customer_rows = each_customer
-          (λ r. IsCustomerRow r × IsMoneyFor (n + 1) r.balance × IsCountFor (n + 1) r.deliveries) IsCustomerRow
+          (λ r. IsCustomerRow r × IsMoneyTo most (n + 1) r.balance × IsCountTo top (n + 1) r.deliveries) IsCustomerRow
           (λ c r f. (wf.customer_rows c r f, room.balances c r f, room.deliveries c r f))
           (λ r h. h.0)
           (λ k r h. record {
-            balance = is_money n _ (rises k r.balance h.1);
+            balance = is_money most n low _ (rises k r.balance h.1);
             paid = h.0.paid;
             payments = h.0.payments;
-            deliveries = is_count n _ (counts r.deliveries h.2);
+            deliveries = is_count top n few _ (counts r.deliveries h.2);
           })
 
       order_rows : EachRow (λ k r. IsOrderRow r) (after_delivery t x).orders
@@ -180,10 +182,10 @@ module _ (t : Database) (x : DeliveryInput) where
         last_names = last_names_stay t (after_delivery t x) (kept_constants t x t (IsOf-itself t)) wf.last_names;
       }
 
-pub delivery_keeps_room : (t : Database) (x : DeliveryInput) (n : ℕ) → IsDelivery t.scale x → IsWellFormed t → HasRoom (n + 1) t
-    → HasRoom n (after_delivery t x)
-delivery_keeps_room t x n ok wf room = kept_room t x n wf room
+module _ (most : ℤ) (top : ℕ) (low : most ≤ℤ MAX_MONEY) (few : top ≤ MAX_COUNT)
+    (t : Database) (x : DeliveryInput) (n : ℕ) (ok : IsDelivery t.scale x) (wf : IsWellFormed t) (room : HasRoomTo most top (n + 1) t) where
+  pub delivery_keeps_room : HasRoomTo most top n (after_delivery t x)
+  delivery_keeps_room = kept_room t x most top low few n wf room
 
-pub delivery_keeps_well_formed : (t : Database) (x : DeliveryInput) (n : ℕ) → IsDelivery t.scale x → IsWellFormed t → HasRoom (n + 1) t
-    → IsWellFormed (after_delivery t x)
-delivery_keeps_well_formed t x n ok wf room = kept_well_formed t x n wf room ok
+  pub delivery_keeps_well_formed : IsWellFormed (after_delivery t x)
+  delivery_keeps_well_formed = kept_well_formed t x most top low few n wf room ok

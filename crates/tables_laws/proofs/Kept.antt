@@ -1,12 +1,15 @@
 -- What each transaction keeps, by its kind.
-use Rattle.std.proofs.Common.{◌≡◌, ℕ, ◌+◌, Some, None, refl}
+use Rattle.std.proofs.Common.{◌≡◌, ℕ, ◌+◌, ◌≤◌, ℤ, ◌≤ℤ◌, Some, None, refl, arith}
+use Rattle.std.proofs.lemmas.Int.{ints}
 use Rattle.tables.specs.Sizes.{IsNumber}
 use Rattle.tables.specs.Inputs.{IsInput}
 use Rattle.tables.specs.Apply.{after, HasOrderNumber, order_unless, left_by}
 use Rattle.tables.specs.NewOrder.{first_missing}
 use Rattle.tables.specs.Payment.{IsPayment, payer_number}
 use Rattle.tables.specs.declared.payment.PaymentInput.{PaymentInput}
-use Rattle.tables.specs.WellFormed.{IsWellFormed, HasRoom}
+use Rattle.tables.specs.WellFormed.{IsWellFormed, HasRoom, HasRoomTo}
+use Rattle.money.specs.declared.cents.TheConstants.{MAX_MONEY}
+use Rattle.tables.specs.declared.limits.TheConstants.{MAX_COUNT}
 use Rattle.tables.specs.Conditions.{IsConsistent}
 use Rattle.tables.specs.Constant.{IsOf}
 use Rattle.tables.specs.Database.{Database}
@@ -28,25 +31,32 @@ payer_is_number t x ok wf = is_number_of t (record { warehouse = x.customer_ware
 
 pub after-IsWellFormed : (t : Database) (x : Input) (n : ℕ) → IsInput t.scale x → HasOrderNumber t x → IsWellFormed t → IsConsistent t → HasRoom (n + 1) t
     → IsWellFormed (after t x)
-after-IsWellFormed t (Payment x) n ok number wf con room = payment_keeps_well_formed t x (payer_number t x) n ok (payer_is_number t x ok wf) wf room
+after-IsWellFormed t (Payment x) n ok number wf con room =
+    payment_keeps_well_formed MAX_MONEY MAX_COUNT (omega (arith, ints)) (omega arith) t x (payer_number t x) n ok (payer_is_number t x ok wf) wf room
 after-IsWellFormed t (NewOrder x) n ok number wf con room =
     elim (first_missing t x.lines) as (λ missing. first_missing t x.lines ≡ missing → IsWellFormed (left_by t (order_unless missing t x))) [
-      | None ↦ λ none. new_order_keeps_well_formed t x n ok room wf number con none
+      | None ↦ λ none. new_order_keeps_well_formed MAX_MONEY MAX_COUNT (omega (arith, ints)) (omega arith) t x n ok room wf number con none
       | Some item ↦ λ _. wf
     ] refl
-after-IsWellFormed t (Delivery x) n ok number wf con room = delivery_keeps_well_formed t x n ok wf room
+after-IsWellFormed t (Delivery x) n ok number wf con room =
+    delivery_keeps_well_formed MAX_MONEY MAX_COUNT (omega (arith, ints)) (omega arith) t x n ok wf room
 after-IsWellFormed t (OrderStatus x) n ok number wf con room = wf
 after-IsWellFormed t (StockLevel x) n ok number wf con room = wf
 
+module _ (most : ℤ) (top : ℕ) (low : most ≤ℤ MAX_MONEY) (few : top ≤ MAX_COUNT) where
+  pub after-HasRoomTo : (t : Database) (x : Input) (n : ℕ) → IsInput t.scale x → IsWellFormed t → HasRoomTo most top (n + 1) t
+      → HasRoomTo most top n (after t x)
+  after-HasRoomTo t (Payment x) n ok wf room = payment_keeps_room most top low few t x (payer_number t x) n ok (payer_is_number t x ok wf) wf room
+  after-HasRoomTo t (NewOrder x) n ok wf room = elim (first_missing t x.lines) as (λ missing. HasRoomTo most top n (left_by t (order_unless missing t x))) [
+    | None ↦ new_order_keeps_room most top low few t x n ok room wf
+    | Some item ↦ room_stays most top n t room
+  ]
+  after-HasRoomTo t (Delivery x) n ok wf room = delivery_keeps_room most top low few t x n ok wf room
+  after-HasRoomTo t (OrderStatus x) n ok wf room = room_stays most top n t room
+  after-HasRoomTo t (StockLevel x) n ok wf room = room_stays most top n t room
+
 pub after-HasRoom : (t : Database) (x : Input) (n : ℕ) → IsInput t.scale x → IsWellFormed t → HasRoom (n + 1) t → HasRoom n (after t x)
-after-HasRoom t (Payment x) n ok wf room = payment_keeps_room t x (payer_number t x) n ok (payer_is_number t x ok wf) wf room
-after-HasRoom t (NewOrder x) n ok wf room = elim (first_missing t x.lines) as (λ missing. HasRoom n (left_by t (order_unless missing t x))) [
-  | None ↦ new_order_keeps_room t x n ok room wf
-  | Some item ↦ room_stays n t room
-]
-after-HasRoom t (Delivery x) n ok wf room = delivery_keeps_room t x n ok wf room
-after-HasRoom t (OrderStatus x) n ok wf room = room_stays n t room
-after-HasRoom t (StockLevel x) n ok wf room = room_stays n t room
+after-HasRoom = after-HasRoomTo MAX_MONEY MAX_COUNT (omega (arith, ints)) (omega arith)
 
 pub after-IsConsistent : (t : Database) (x : Input) → IsInput t.scale x → IsWellFormed t → IsConsistent t → IsConsistent (after t x)
 after-IsConsistent t (Payment x) ok wf con = payment_keeps_consistent t x (payer_number t x) ok wf con

@@ -25,3 +25,4 @@ mod TakenOrder
 mod DeliveredAmounts
 mod DeliveryKeepsConsistent
 pub mod Kept
+pub mod Reaching

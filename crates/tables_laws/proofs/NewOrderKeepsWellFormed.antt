@@ -13,8 +13,9 @@ use Rattle.tables.specs.Database.{Database}
 use Rattle.tables.specs.NewOrder.{IsNewOrder, IsRequestedLine, HasNumber, first_missing, home, buyer, new_key, numbered_district, order_row, line_amount}
 use Rattle.tables.specs.NewOrder.{line_key, line_row, after_new_order}
 use Rattle.tables.specs.Conditions.{IsConsistent}
-use Rattle.tables.specs.WellFormed.{IsWellFormed, HasRoom, IsDistrictRow, IsOrderRow, IsLineRow, IsStockRow, IsMoneyFor, IsCountFor, orderer}
-use Rattle.tables.specs.declared.limits.TheConstants.{MAX_LINE_AMOUNT, MAX_QUANTITY}
+use Rattle.tables.specs.WellFormed.{IsWellFormed, HasRoomTo, IsDistrictRow, IsOrderRow, IsLineRow, IsStockRow, IsMoneyTo, IsCountTo, orderer}
+use Rattle.money.specs.declared.cents.TheConstants.{MAX_MONEY}
+use Rattle.tables.specs.declared.limits.TheConstants.{MAX_COUNT, MAX_LINE_AMOUNT, MAX_QUANTITY}
 use Rattle.tables.specs.declared.keys.DistrictKey.{DistrictKey}
 use Rattle.tables.specs.declared.keys.LineKey.{LineKey}
 use Rattle.tables.specs.declared.rows.District.{District}
@@ -48,8 +49,9 @@ none_missing t (l ∷ ls) none ok =
       | false ↦ λ e n. cc
     ] refl none
 
-module _ (t : Database) (x : NewOrderInput) (n : ℕ) (ok : IsNewOrder t.scale x) (room : HasRoom (n + 1) t) (wf : IsWellFormed t) where
-  stock_before : EachRow (λ k r. IsDrawable n (length x.lines) r) t.stock
+module _ (most : ℤ) (top : ℕ) (low : most ≤ℤ MAX_MONEY) (few : top ≤ MAX_COUNT)
+    (t : Database) (x : NewOrderInput) (n : ℕ) (ok : IsNewOrder t.scale x) (room : HasRoomTo most top (n + 1) t) (wf : IsWellFormed t) where
+  stock_before : EachRow (λ k r. IsDrawable top n (length x.lines) r) t.stock
   stock_before k r f = record {
     quantity = (wf.stock_rows k r f).quantity;
     year_to_date = omega (arith, ok.line_count.1, room.supplied k r f);
@@ -57,19 +59,19 @@ module _ (t : Database) (x : NewOrderInput) (n : ℕ) (ok : IsNewOrder t.scale x
     remote_orders = omega (arith, ok.line_count.1, room.remote_orders k r f);
   }
 
-  stock_after : EachRow (λ k r. IsDrawable n 0 r) (after_new_order t x).stock
-  stock_after = draws_range t.scale x.warehouse n x.lines t.stock ok.lines stock_before
+  stock_after : EachRow (λ k r. IsDrawable top n 0 r) (after_new_order t x).stock
+  stock_after = draws_range t.scale x.warehouse top n x.lines t.stock ok.lines stock_before
 
-  count_left : (c : ℕ) → IsCountFor n (c + MAX_QUANTITY * 0) → IsCountFor n c
+  count_left : (c : ℕ) → IsCountTo top n (c + MAX_QUANTITY * 0) → IsCountTo top n c
   count_left c h = omega (arith, h)
 
-  pub new_order_keeps_room : HasRoom n (after_new_order t x)
-  new_order_keeps_room = let stays = room_stays n t room in record {
+  pub new_order_keeps_room : HasRoomTo most top n (after_new_order t x)
+  new_order_keeps_room = let stays = room_stays most top n t room in record {
     warehouses = stays.warehouses;
-    districts = each_updated exact_district (λ k r. IsMoneyFor (n + 1) r.year_to_date) (λ k r. IsMoneyFor n r.year_to_date)
+    districts = each_updated exact_district (λ k r. IsMoneyTo most (n + 1) r.year_to_date) (λ k r. IsMoneyTo most n r.year_to_date)
         (λ k r. cond (is_district x.warehouse x.district k) (numbered_district r) r) t.districts room.districts
-        (λ k r h. elim (is_district x.warehouse x.district k) as (λ b. IsMoneyFor n (cond b (numbered_district r) r).year_to_date)
-        [ true ↦ money_stays n r.year_to_date h | false ↦ money_stays n r.year_to_date h ]);
+        (λ k r h. elim (is_district x.warehouse x.district k) as (λ b. IsMoneyTo most n (cond b (numbered_district r) r).year_to_date)
+        [ true ↦ money_stays most n r.year_to_date h | false ↦ money_stays most n r.year_to_date h ]);
     balances = stays.balances;
     paid = stays.paid;
     payments = stays.payments;
@@ -82,9 +84,9 @@ module _ (t : Database) (x : NewOrderInput) (n : ℕ) (ok : IsNewOrder t.scale x
   stock_rows : EachRow (λ k r. IsStockRow r) (after_new_order t x).stock
   stock_rows k r f = let h = stock_after k r f in record {
     quantity = h.quantity;
-    year_to_date = is_count n r.year_to_date (count_left r.year_to_date h.year_to_date);
-    orders = is_count n r.orders (count_left r.orders h.orders);
-    remote_orders = is_count n r.remote_orders (count_left r.remote_orders h.remote_orders);
+    year_to_date = is_count top n few r.year_to_date (count_left r.year_to_date h.year_to_date);
+    orders = is_count top n few r.orders (count_left r.orders h.orders);
+    remote_orders = is_count top n few r.remote_orders (count_left r.remote_orders h.remote_orders);
   }
 
   module _ (number : HasNumber t x) (con : IsConsistent t) (all_there : first_missing t x.lines ≡ None) where

@@ -1,5 +1,5 @@
 -- A Payment keeps tables well-formed and consistent.
-use Rattle.std.proofs.Common.{◌≡◌, ℕ, ◌+◌, ℤ, pos, ◌+ℤ◌, ◌-ℤ◌, Bool, true, false, cond, ◌==◌, Option, refl, sym, ap, ◌∙◌, subst, arith}
+use Rattle.std.proofs.Common.{◌≡◌, ℕ, ◌+◌, ◌≤◌, ℤ, pos, ◌+ℤ◌, ◌-ℤ◌, ◌≤ℤ◌, Bool, true, false, cond, ◌==◌, Option, refl, sym, ap, ◌∙◌, subst, arith}
 use Rattle.std.proofs.lemmas.Int.{ints}
 use Rattle.std.proofs.lemmas.List.Sums.{fold_push}
 use Rattle.std.proofs.lemmas.List.Elements.{All-push}
@@ -13,7 +13,9 @@ use Rattle.tables.specs.Payment.{IsPayment, raised_warehouse, raised_district, c
 use Rattle.tables.specs.Constant.{IsOf}
 use Rattle.tables.specs.Conditions.{IsConsistent, Condition1At, Condition2At, Condition8At, Condition9At, Condition10At, Condition12At, paid_at_warehouse}
 use Rattle.tables.specs.Conditions.{paid_at_district, paid_by_customer, delivered_amount}
-use Rattle.tables.specs.WellFormed.{IsWellFormed, HasRoom, IsMoneyFor, IsCountFor, IsDistrictRow, IsCustomerRow, IsHistoryRow, orderer}
+use Rattle.tables.specs.WellFormed.{IsWellFormed, HasRoomTo, IsMoneyTo, IsCountTo, IsDistrictRow, IsCustomerRow, IsHistoryRow, orderer}
+use Rattle.money.specs.declared.cents.TheConstants.{MAX_MONEY}
+use Rattle.tables.specs.declared.limits.TheConstants.{MAX_COUNT}
 use Rattle.tables.specs.declared.keys.DistrictKey.{DistrictKey}
 use Rattle.tables.specs.declared.keys.CustomerKey.{CustomerKey}
 use Rattle.tables.specs.declared.rows.Warehouse.{Warehouse}
@@ -156,28 +158,29 @@ payment_keeps_constants t0 t x c h = record {
 }
 
 -- ---- well-formed
-module _ (t : Database) (x : PaymentInput) (c n : ℕ) (ok : IsPayment t.scale x) (is_customer_number : IsNumber t.scale.customers c) (wf : IsWellFormed t)
-    (room : HasRoom (n + 1) t) where
-  rises : (z : ℤ) → IsMoneyFor (n + 1) z → IsMoneyFor n (z +ℤ x.amount)
+module _ (most : ℤ) (top : ℕ) (low : most ≤ℤ MAX_MONEY) (few : top ≤ MAX_COUNT)
+    (t : Database) (x : PaymentInput) (c n : ℕ) (ok : IsPayment t.scale x) (is_customer_number : IsNumber t.scale.customers c) (wf : IsWellFormed t)
+    (room : HasRoomTo most top (n + 1) t) where
+  rises : (z : ℤ) → IsMoneyTo most (n + 1) z → IsMoneyTo most n (z +ℤ x.amount)
   rises z h = (omega (arith, ints, ok.at_least, ok.at_most, h.0, h.1), omega (arith, ints, ok.at_least, ok.at_most, h.0, h.1))
 
-  falls : (z : ℤ) → IsMoneyFor (n + 1) z → IsMoneyFor n (z -ℤ x.amount)
+  falls : (z : ℤ) → IsMoneyTo most (n + 1) z → IsMoneyTo most n (z -ℤ x.amount)
   falls z h = (omega (arith, ints, ok.at_least, ok.at_most, h.0, h.1), omega (arith, ints, ok.at_least, ok.at_most, h.0, h.1))
 
-  counts : (c : ℕ) → IsCountFor (n + 1) c → IsCountFor n (c + 1)
+  counts : (c : ℕ) → IsCountTo top (n + 1) c → IsCountTo top n (c + 1)
   counts c h = omega (arith, h)
 
-  warehouse_room : EachRow (λ k r. IsMoneyFor n r.year_to_date) (after_payment_of t x c).warehouses
-  warehouse_room = each_updated exact_number (λ k r. IsMoneyFor (n + 1) r.year_to_date) (λ k r. IsMoneyFor n r.year_to_date)
+  warehouse_room : EachRow (λ k r. IsMoneyTo most n r.year_to_date) (after_payment_of t x c).warehouses
+  warehouse_room = each_updated exact_number (λ k r. IsMoneyTo most (n + 1) r.year_to_date) (λ k r. IsMoneyTo most n r.year_to_date)
       (λ w r. cond (x.warehouse == w) (raised_warehouse x.amount r) r) t.warehouses room.warehouses
-      (λ w r h. elim (x.warehouse == w) as (λ b. IsMoneyFor n (cond b (raised_warehouse x.amount r) r).year_to_date)
-      [ true ↦ rises r.year_to_date h | false ↦ money_stays n r.year_to_date h ])
+      (λ w r h. elim (x.warehouse == w) as (λ b. IsMoneyTo most n (cond b (raised_warehouse x.amount r) r).year_to_date)
+      [ true ↦ rises r.year_to_date h | false ↦ money_stays most n r.year_to_date h ])
 
-  district_room : EachRow (λ k r. IsMoneyFor n r.year_to_date) (after_payment_of t x c).districts
-  district_room = each_updated exact_district (λ k r. IsMoneyFor (n + 1) r.year_to_date) (λ k r. IsMoneyFor n r.year_to_date)
+  district_room : EachRow (λ k r. IsMoneyTo most n r.year_to_date) (after_payment_of t x c).districts
+  district_room = each_updated exact_district (λ k r. IsMoneyTo most (n + 1) r.year_to_date) (λ k r. IsMoneyTo most n r.year_to_date)
       (λ k r. cond (is_district x.warehouse x.district k) (raised_district x.amount r) r) t.districts room.districts
-      (λ k r h. elim (is_district x.warehouse x.district k) as (λ b. IsMoneyFor n (cond b (raised_district x.amount r) r).year_to_date)
-      [ true ↦ rises r.year_to_date h | false ↦ money_stays n r.year_to_date h ])
+      (λ k r h. elim (is_district x.warehouse x.district k) as (λ b. IsMoneyTo most n (cond b (raised_district x.amount r) r).year_to_date)
+      [ true ↦ rises r.year_to_date h | false ↦ money_stays most n r.year_to_date h ])
 
   abbrev pays : CustomerKey → Customer → Customer
   pays k r = cond (is_customer x.customer_warehouse x.customer_district c k) (charged_customer x.amount r) r
@@ -189,40 +192,41 @@ module _ (t : Database) (x : PaymentInput) (c n : ℕ) (ok : IsPayment t.scale x
       (λ k r h. elim (is_customer x.customer_warehouse x.customer_district c k) as (λ b. Q (cond b (charged_customer x.amount r) r))
       [ true ↦ paid r h | false ↦ same r h ])
 
-  pub payment_keeps_room : HasRoom n (after_payment_of t x c)
+  pub payment_keeps_room : HasRoomTo most top n (after_payment_of t x c)
   payment_keeps_room = record {
     warehouses = warehouse_room;
     districts = district_room;
-    balances = each_customer (λ r. IsMoneyFor (n + 1) r.balance) (λ r. IsMoneyFor n r.balance) room.balances (λ r h. money_stays n r.balance h)
+    balances = each_customer (λ r. IsMoneyTo most (n + 1) r.balance) (λ r. IsMoneyTo most n r.balance) room.balances (λ r h. money_stays most n r.balance h)
         (λ r h. falls r.balance h);
-    paid = each_customer (λ r. IsMoneyFor (n + 1) r.paid) (λ r. IsMoneyFor n r.paid) room.paid (λ r h. money_stays n r.paid h) (λ r h. rises r.paid h);
-    payments = each_customer (λ r. IsCountFor (n + 1) r.payments) (λ r. IsCountFor n r.payments) room.payments (λ r h. count_stays n r.payments h)
-        (λ r h. counts r.payments h);
-    deliveries = each_customer (λ r. IsCountFor (n + 1) r.deliveries) (λ r. IsCountFor n r.deliveries) room.deliveries (λ r h. count_stays n r.deliveries h)
-        (λ r h. count_stays n r.deliveries h);
-    supplied = λ k r f. count_stays n r.year_to_date (room.supplied k r f);
-    orders = λ k r f. count_stays n r.orders (room.orders k r f);
-    remote_orders = λ k r f. count_stays n r.remote_orders (room.remote_orders k r f);
+    paid = each_customer (λ r. IsMoneyTo most (n + 1) r.paid) (λ r. IsMoneyTo most n r.paid) room.paid
+        (λ r h. money_stays most n r.paid h) (λ r h. rises r.paid h);
+    payments = each_customer (λ r. IsCountTo top (n + 1) r.payments) (λ r. IsCountTo top n r.payments) room.payments
+        (λ r h. count_stays top n r.payments h) (λ r h. counts r.payments h);
+    deliveries = each_customer (λ r. IsCountTo top (n + 1) r.deliveries) (λ r. IsCountTo top n r.deliveries) room.deliveries
+        (λ r h. count_stays top n r.deliveries h) (λ r h. count_stays top n r.deliveries h);
+    supplied = λ k r f. count_stays top n r.year_to_date (room.supplied k r f);
+    orders = λ k r f. count_stays top n r.orders (room.orders k r f);
+    remote_orders = λ k r f. count_stays top n r.remote_orders (room.remote_orders k r f);
   }
 
   district_rows : EachRow (λ k r. IsDistrictRow t.scale r) (after_payment_of t x c).districts
-  district_rows = each_updated exact_district (λ k r. IsDistrictRow t.scale r × IsMoneyFor (n + 1) r.year_to_date) (λ k r. IsDistrictRow t.scale r)
+  district_rows = each_updated exact_district (λ k r. IsDistrictRow t.scale r × IsMoneyTo most (n + 1) r.year_to_date) (λ k r. IsDistrictRow t.scale r)
       (λ k r. cond (is_district x.warehouse x.district k) (raised_district x.amount r) r) t.districts
       (λ k r f. (wf.district_rows k r f, room.districts k r f))
       (λ k r h. elim (is_district x.warehouse x.district k) as (λ b. IsDistrictRow t.scale (cond b (raised_district x.amount r) r)) [
-        | true ↦ record { year_to_date = is_money n _ (rises r.year_to_date h.1); next_order = h.0.next_order }
+        | true ↦ record { year_to_date = is_money most n low _ (rises r.year_to_date h.1); next_order = h.0.next_order }
         | false ↦ h.0
       ])
 
   customer_rows : EachRow (λ k r. IsCustomerRow r) (after_payment_of t x c).customers
   customer_rows = each_customer
-      (λ r. IsCustomerRow r × IsMoneyFor (n + 1) r.balance × IsMoneyFor (n + 1) r.paid × IsCountFor (n + 1) r.payments) IsCustomerRow
+      (λ r. IsCustomerRow r × IsMoneyTo most (n + 1) r.balance × IsMoneyTo most (n + 1) r.paid × IsCountTo top (n + 1) r.payments) IsCustomerRow
       (λ k r f. (wf.customer_rows k r f, room.balances k r f, room.paid k r f, room.payments k r f))
       (λ r h. h.0)
       (λ r h. record {
-        balance = is_money n _ (falls r.balance h.1);
-        paid = is_money n _ (rises r.paid h.2);
-        payments = is_count n _ (counts r.payments h.3);
+        balance = is_money most n low _ (falls r.balance h.1);
+        paid = is_money most n low _ (rises r.paid h.2);
+        payments = is_count top n few _ (counts r.payments h.3);
         deliveries = h.0.deliveries;
       })
 
@@ -249,7 +253,7 @@ module _ (t : Database) (x : PaymentInput) (c n : ℕ) (ok : IsPayment t.scale x
     orders = wf.orders;
     lines = wf.lines;
     items = wf.items;
-    warehouse_rows = λ w r f. is_money n r.year_to_date (warehouse_room w r f);
+    warehouse_rows = λ w r f. is_money most n low r.year_to_date (warehouse_room w r f);
     district_rows = district_rows;
     customer_rows = customer_rows;
     history_rows = All-push (IsHistoryRow t.scale) t.history (history_row x c) wf.history_rows added;

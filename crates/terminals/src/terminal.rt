@@ -1,10 +1,10 @@
 //! A terminal, and one input of it.
-ghost use Rattle.std.specs.Prelude.{◌≡◌, ◌↔◌, ℕ, Err, IsTrue, IfOk, IfErr, OnErr};
+ghost use Rattle.std.specs.Prelude.{◌≡◌, ℕ, IfOk, IfErr, OnErr};
 ghost use Rattle.tables.specs.Inputs.{IsInput};
 ghost use Rattle.terminals.specs.Calls.{AreCalls};
 ghost use Rattle.terminals.specs.Outbox.{Acknowledges};
 ghost use Rattle.terminals.specs.Terminal.{HasCommitted, HasRefused, IsTurned};
-ghost use Rattle.terminals.specs.Tries.{AreTries, IsAgain, IsTry, TellsMissing};
+ghost use Rattle.terminals.specs.Tries.{AreTries, IsTry, TellsMissing};
 
 use crate::gate::Gate;
 use crate::outbox::Outbox;
@@ -110,7 +110,10 @@ impl<K: Run> Terminal<K> {
         let input = self.deck.next(alloc)?;
         for _ in 0..TRIES {
             let outcome = self.attempt(rt, alloc, engine, gate, &input);
-            if !is_retried(&outcome) {
+            let Err(refusal) = outcome else {
+                return outcome;
+            };
+            if !refusal.is_retried() {
                 return outcome;
             }
         }
@@ -159,11 +162,4 @@ impl<K: Run> Terminal<K> {
     {
         self.outbox.acknowledge(board)
     }
-}
-
-/// Whether an input is tried again after this outcome: exactly where what it read wasn't or isn't the latest.
-fn is_retried(outcome: &Result<u64, Refusal>) -> bool
-    ensures { IsTrue result ↔ IsAgain outcome.now }
-{
-    matches!(outcome, Err(Refusal::Stale | Refusal::Conflict))
 }

@@ -79,6 +79,6 @@ impl Deck {
         let input = self.next.into_input(alloc);
         self.date = (self.date + 1).min(MAX_DATE);
         self.next = self.drawing.draw(self.date);
-        input
+        Ok(input?)
     }
 }

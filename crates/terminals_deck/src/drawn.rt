@@ -1,12 +1,10 @@
 //! A drawn input, before memory is taken for it.
 
-ghost use Rattle.std.specs.Prelude.{◌≡◌, IfOk, IfErr};
-ghost use Rattle.money.specs.declared.refusal.Refusal.TheVariants.{OutOfMemory};
+ghost use Rattle.std.specs.Prelude.{◌≡◌, IfOk};
 ghost use Rattle.terminals_deck.specs.Drawn.{HasLineRoom, input_of};
 
 use crate::order::DrawnOrder;
-use money::Refusal;
-use std::alloc::Global;
+use std::alloc::{AllocError, Global};
 use tables::{DeliveryInput, Input, OrderStatusInput, PaymentInput, StockLevelInput};
 
 /// An input that was drawn, of one of the five kinds.
@@ -21,10 +19,9 @@ pub enum Drawn {
 
 impl Drawn {
     /// The input. Takes memory for the lines of a New-Order.
-    pub fn into_input(self, alloc: Global) -> Result<Input, Refusal>
+    pub fn into_input(self, alloc: Global) -> Result<Input, AllocError>
         requires { HasLineRoom self }
-        ensures input { IfOk result (λ input. input ≡ input_of self) }
-        ensures only_memory { IfErr result (λ refusal. refusal ≡ OutOfMemory) }
+        ensures { IfOk result (λ input. input ≡ input_of self) }
     {
         match self {
             Drawn::NewOrder(order) => order.into_input(alloc),

@@ -1,12 +1,10 @@
 //! A drawn order.
 
-ghost use Rattle.std.specs.Prelude.{◌≡◌, ◌≤◌, IfOk, IfErr};
-ghost use Rattle.money.specs.declared.refusal.Refusal.TheVariants.{OutOfMemory};
+ghost use Rattle.std.specs.Prelude.{◌≡◌, ◌≤◌, IfOk};
 ghost use Rattle.tables.specs.declared.limits.TheConstants.{MAX_ORDER_LINES};
 ghost use Rattle.terminals_deck.specs.Order.{new_order_of};
 
-use money::Refusal;
-use std::alloc::Global;
+use std::alloc::{AllocError, Global};
 use tables::limits::MAX_ORDER_LINES;
 use tables::{Input, Lines, NewOrderInput, RequestedLine};
 
@@ -26,10 +24,9 @@ pub struct DrawnOrder {
 
 impl DrawnOrder {
     /// The input. Takes memory for its lines.
-    pub fn into_input(self, alloc: Global) -> Result<Input, Refusal>
+    pub fn into_input(self, alloc: Global) -> Result<Input, AllocError>
         requires { self.count ≤ MAX_ORDER_LINES }
-        ensures input { IfOk result (λ input. input ≡ Input.NewOrder (new_order_of self)) }
-        ensures only_memory { IfErr result (λ refusal. refusal ≡ OutOfMemory) }
+        ensures { IfOk result (λ input. input ≡ Input.NewOrder (new_order_of self)) }
     {
         let lines = Vec::from_slice(alloc, &self.lines.as_slice()[..self.count as usize])?;
         Ok(Input::NewOrder(NewOrderInput {

@@ -1,7 +1,7 @@
 //! Appends to a device that fails.
 ghost use Rattle.std.specs.Prelude.{◌≡◌, ◌+◌, ◌^◌, ◌<◌, [], length, IsOk, OnOk};
 ghost use Rattle.log_disk.specs.Calls.{Counts};
-ghost use Rattle.book.specs.Parts.{IsFresh, IsRunOf, ledger_name, ledger_parts, loggers_of};
+ghost use Rattle.book.specs.Parts.{IsOpenedAs, loggers_of};
 
 use crate::filled::{Standing, append_payments, small, where_stands};
 use book::{Parts, Run};
@@ -135,9 +135,7 @@ fn outcome_of<K: Run, R: Wait>(
     parts: Parts,
     disk: Failing<'_>,
 ) -> Result<Outcome, Refusal>
-    requires fresh { IsFresh parts }
-    requires run { IsRunOf parts K.first K.past K.cells K.board K.seed }
-    requires ledger { (ledger_name parts ≡ K.name) × (ledger_parts parts ≡ K.parts) }
+    requires run { IsOpenedAs parts K.population K.first K.past K.cells K.board K.seed K.name K.parts }
     requires loggers { loggers_of parts ≡ 1 }
 {
     let mut stage = Stage::<K, Failing<'_>>::open(alloc, parts, disk)?;

@@ -1,6 +1,6 @@
 //! A log file that is filled with the batches of a run.
 ghost use Rattle.std.specs.Prelude.{◌≡◌, [], IfOk};
-ghost use Rattle.book.specs.Parts.{IsFresh, IsRunOf, ledger_name, ledger_parts, loggers_of};
+ghost use Rattle.book.specs.Parts.{IsFresh, IsOpenedAs, loggers_of};
 
 use board::Keeper;
 use book::{Parts, Run};
@@ -61,9 +61,7 @@ fn fill<K: Run, D: Disk + Drop, R: Wait>(
     disk: D,
     batches: &[&[i64]],
 ) -> Result<Standing, Refusal>
-    requires fresh { IsFresh parts }
-    requires run { IsRunOf parts K.first K.past K.cells K.board K.seed }
-    requires ledger { (ledger_name parts ≡ K.name) × (ledger_parts parts ≡ K.parts) }
+    requires run { IsOpenedAs parts K.population K.first K.past K.cells K.board K.seed K.name K.parts }
     requires loggers { loggers_of parts ≡ 1 }
     requires empty { D.is_modelled → D.seen disk ≡ [] }
 {

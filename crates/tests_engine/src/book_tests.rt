@@ -1,6 +1,6 @@
 //! Two Payments to one district, both executed before either commits, by threads that take no lock.
 ghost use Rattle.std.specs.Prelude.{◌≡◌, length};
-ghost use Rattle.book.specs.Parts.{IsFresh, IsRunOf, cells_of, ledger_name, ledger_parts};
+ghost use Rattle.book.specs.Parts.{IsOpenedAs, cells_of};
 
 use crate::engine::{Committed, Executed, both_of, commit_executed, is_good, parts, pay};
 use crate::payments::{history_row, payment_told};
@@ -269,10 +269,8 @@ fn pay_twice<K: Run + Send + Sync, R: Threads + Wait + Clock + Sync>(
     alloc: Global,
     parts: Parts,
 ) -> Result<Outcome, Fail>
-    requires fresh { IsFresh parts }
+    requires run { IsOpenedAs parts K.population K.first K.past K.cells K.board K.seed K.name K.parts }
     requires cells { length (cells_of parts) ≡ 1085 }
-    requires run { IsRunOf parts K.first K.past K.cells K.board K.seed }
-    requires ledger { (ledger_name parts ≡ K.name) × (ledger_parts parts ≡ K.parts) }
 {
     let (engine, mut seats) = Engine::<K>::open(parts);
     let (left, right) = both_of(&mut seats.terminals).ok_or("seats")?;

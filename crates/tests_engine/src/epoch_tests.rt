@@ -1,6 +1,6 @@
 //! A commit in the epoch that the clock has made.
 ghost use Rattle.std.specs.Prelude.{◌≡◌};
-ghost use Rattle.book.specs.Parts.{IsFresh, IsRunOf, ledger_name, ledger_parts};
+ghost use Rattle.book.specs.Parts.{IsOpenedAs};
 
 use crate::engine::{Committed, parts, pay_next};
 use crate::payments::payment_told;
@@ -30,9 +30,7 @@ fn pay_in_the_next_epoch<K: Run, R: Wait>(
     alloc: Global,
     parts: Parts,
 ) -> Result<(u64, Committed), Refusal>
-    requires fresh { IsFresh parts }
-    requires run { IsRunOf parts K.first K.past K.cells K.board K.seed }
-    requires ledger { (ledger_name parts ≡ K.name) × (ledger_parts parts ≡ K.parts) }
+    requires run { IsOpenedAs parts K.population K.first K.past K.cells K.board K.seed K.name K.parts }
 {
     let (engine, mut seats) = Engine::<K>::open(parts);
     advance_and_pay(rt, alloc, &engine, &mut seats)

@@ -2,6 +2,8 @@
 #![tactic(auto)]
 
 #[cfg(test)]
+mod behind_tests;
+#[cfg(test)]
 mod book_tests;
 #[cfg(test)]
 mod cells_tests;
@@ -13,6 +15,8 @@ mod delivery_tests;
 mod engine;
 #[cfg(test)]
 mod epoch_tests;
+#[cfg(test)]
+mod lives;
 #[cfg(test)]
 mod new_order_tests;
 #[cfg(test)]

@@ -2,7 +2,7 @@
 ghost use Rattle.std.specs.Prelude.{◌≡◌, length, IfOk};
 ghost use Rattle.tables.specs.Records.{record_count};
 ghost use Rattle.population.specs.Initial.{initial};
-ghost use Rattle.book.specs.Parts.{IsFresh, IsRunOf, ledger_name, ledger_parts};
+ghost use Rattle.book.specs.Parts.{IsFresh, IsOpenedAs};
 
 use crate::engine::{attempt, parts};
 use crate::new_orders::{five, line, new_order, order_told};
@@ -145,9 +145,7 @@ type Tries = (
 );
 
 fn try_both<K: Run, R: Wait>(rt: &R, alloc: Global, parts: Parts) -> Result<Tries, Fail>
-    requires fresh { IsFresh parts }
-    requires run { IsRunOf parts K.first K.past K.cells K.board K.seed }
-    requires ledger { (ledger_name parts ≡ K.name) × (ledger_parts parts ≡ K.parts) }
+    requires run { IsOpenedAs parts K.population K.first K.past K.cells K.board K.seed K.name K.parts }
 {
     let (engine, mut seats) = Engine::<K>::open(parts);
     let mut seat = seats.terminals.next().ok_or("seat")?;

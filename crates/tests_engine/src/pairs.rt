@@ -1,7 +1,7 @@
 //! Two transactions at two terminals, of which both are executed before either commits.
 ghost use Rattle.std.specs.Prelude.{◌≡◌, IfOk};
 ghost use Rattle.tables.specs.Inputs.{IsInput};
-ghost use Rattle.book.specs.Parts.{IsFresh, IsRunOf, ledger_name, ledger_parts};
+ghost use Rattle.book.specs.Parts.{IsOpenedAs};
 
 use crate::deliveries::delivery;
 use crate::engine::{self, Executed, both_of, commit_executed, execute_at, is_good, parts};
@@ -166,9 +166,7 @@ fn outcome_on<K: Run, R: Wait>(
     parts: Parts,
     asked: (Asked, Asked),
 ) -> Result<Outcome, Fail>
-    requires fresh { IsFresh parts }
-    requires run { IsRunOf parts K.first K.past K.cells K.board K.seed }
-    requires ledger { (ledger_name parts ≡ K.name) × (ledger_parts parts ≡ K.parts) }
+    requires run { IsOpenedAs parts K.population K.first K.past K.cells K.board K.seed K.name K.parts }
 {
     let (engine, mut seats) = Engine::<K>::open(parts);
     let (left, right) = both_of(&mut seats.terminals).ok_or("seats")?;

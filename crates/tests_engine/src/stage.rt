@@ -8,7 +8,7 @@ ghost use Rattle.cells.specs.Records.{at};
 ghost use Rattle.cells.specs.Versions.{last_tid};
 
 use cells::{Cells, Pen, Reader};
-use encoding::newest_of;
+use encoding::first_versions;
 use money::{NO_PAYLOAD, Payload, Refusal};
 use population::Population;
 use readset::Work;
@@ -51,7 +51,7 @@ pub(crate) fn open<R: Wait>(rt: &R, alloc: Global) -> Result<Stage, Fail>
     ensures first { IfOk result (λ s. (n : ℕ) → n < length s.cells → last_tid (at s.pen.all n) ≡ 0) }
 {
     let population = small(alloc)?;
-    let newest = newest_of(alloc, &population)?;
+    let newest = first_versions(alloc, population.tables())?;
     let (cells, pen, mut readers) = Cells::new(rt, alloc, &newest, 1)?;
     let reader = readers.pop().ok_or("reader")?;
     Ok(Stage {

@@ -2,7 +2,7 @@
 ghost use Rattle.std.specs.Prelude.{◌≡◌, ◌<◌, IfOk, IfSome};
 ghost use Rattle.board.specs.Steps.{stored_mark};
 ghost use Rattle.board.specs.Opening.{logger_seats};
-ghost use Rattle.book.specs.Parts.{IsFresh, IsRunOf, base_of, ledger_name, ledger_parts, loggers_of};
+ghost use Rattle.book.specs.Parts.{IsFresh, IsOpenedAs, base_of, loggers_of};
 
 use crate::engine::pay_next;
 use crate::stage::small;
@@ -156,9 +156,7 @@ fn both(board: &Board, mut seats: Vec<LoggerSeat>) -> Option<(Logger, Logger)>
 
 /// An engine in epoch 1.
 fn open<K: Run>(parts: Parts) -> Option<Stage<K>>
-    requires fresh { IsFresh parts }
-    requires run { IsRunOf parts K.first K.past K.cells K.board K.seed }
-    requires ledger { (ledger_name parts ≡ K.name) × (ledger_parts parts ≡ K.parts) }
+    requires run { IsOpenedAs parts K.population K.first K.past K.cells K.board K.seed K.name K.parts }
     requires loggers { (loggers_of parts ≡ 2) × (base_of parts ≡ 0) }
 {
     let (engine, seats) = Engine::<K>::open(parts);
@@ -181,9 +179,7 @@ fn open<K: Run>(parts: Parts) -> Option<Stage<K>>
 type Turns = (Option<Turn>, Option<Turn>);
 
 fn turns_of<K: Run, R: Wait>(rt: &R, alloc: Global, parts: Parts) -> Result<(Turns, Turns), Refusal>
-    requires fresh { IsFresh parts }
-    requires run { IsRunOf parts K.first K.past K.cells K.board K.seed }
-    requires ledger { (ledger_name parts ≡ K.name) × (ledger_parts parts ≡ K.parts) }
+    requires run { IsOpenedAs parts K.population K.first K.past K.cells K.board K.seed K.name K.parts }
     requires loggers { (loggers_of parts ≡ 2) × (base_of parts ≡ 0) }
 {
     let Some(mut stage) = open::<K>(parts) else {

@@ -2,7 +2,7 @@
 //! Delivery.
 ghost use Rattle.std.specs.Prelude.{◌≡◌, IfSome};
 ghost use Rattle.tables.specs.Keys.{IsDistrictKey};
-ghost use Rattle.book.specs.Parts.{IsFresh, IsRunOf, ledger_name, ledger_parts};
+ghost use Rattle.book.specs.Parts.{IsOpenedAs};
 
 use crate::engine::{attempt, parts};
 use crate::pairs::{Asked, input_of};
@@ -83,9 +83,7 @@ fn course_at<K: Run, R: Wait>(
 }
 
 fn course_of<K: Run, R: Wait>(rt: &R, alloc: Global, parts: Parts) -> Result<Course, Fail>
-    requires fresh { IsFresh parts }
-    requires run { IsRunOf parts K.first K.past K.cells K.board K.seed }
-    requires ledger { (ledger_name parts ≡ K.name) × (ledger_parts parts ≡ K.parts) }
+    requires run { IsOpenedAs parts K.population K.first K.past K.cells K.board K.seed K.name K.parts }
 {
     let (engine, mut seats) = Engine::<K>::open(parts);
     let mut seat = seats.terminals.next().ok_or("seat")?;

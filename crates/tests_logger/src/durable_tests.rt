@@ -1,7 +1,7 @@
 //! Two loggers: a reply is released once both have made its epoch durable.
 ghost use Rattle.std.specs.Prelude.{◌≡◌, [], IfOk};
 ghost use Rattle.board.specs.Opening.{logger_seats};
-ghost use Rattle.book.specs.Parts.{IsFresh, IsRunOf, base_of, ledger_name, ledger_parts, loggers_of};
+ghost use Rattle.book.specs.Parts.{IsOpenedAs, base_of, loggers_of};
 
 use crate::stage::{Stage, logger_on, open, parts};
 use board::{Board, LoggerSeat};
@@ -82,9 +82,7 @@ fn rounds_of<K: Run, R: Wait>(
     alloc: Global,
     parts: Parts,
 ) -> Result<(Answers, Answers), Refusal>
-    requires fresh { IsFresh parts }
-    requires run { IsRunOf parts K.first K.past K.cells K.board K.seed }
-    requires ledger { (ledger_name parts ≡ K.name) × (ledger_parts parts ≡ K.parts) }
+    requires run { IsOpenedAs parts K.population K.first K.past K.cells K.board K.seed K.name K.parts }
     requires loggers { (loggers_of parts ≡ 2) × (base_of parts ≡ 0) }
 {
     let (mut stage, seats) = open::<K>(alloc, parts)?;

@@ -1,6 +1,6 @@
 //! A logger whose disk fails at one of its calls: what is acknowledged is in the file that is read back.
 ghost use Rattle.std.specs.Prelude.{◌≡◌, IfOk};
-ghost use Rattle.book.specs.Parts.{IsFresh, IsRunOf, base_of, ledger_name, ledger_parts, loggers_of};
+ghost use Rattle.book.specs.Parts.{IsOpenedAs, base_of, loggers_of};
 
 use crate::failing::Failing;
 use crate::stage::{Stage, parts};
@@ -75,9 +75,7 @@ fn rounds<K: Run, R: Wait, D: Disk + Drop>(
     parts: Parts,
     disk: D,
 ) -> Result<(Outcome, Option<Outcome>), Refusal>
-    requires fresh { IsFresh parts }
-    requires run { IsRunOf parts K.first K.past K.cells K.board K.seed }
-    requires ledger { (ledger_name parts ≡ K.name) × (ledger_parts parts ≡ K.parts) }
+    requires run { IsOpenedAs parts K.population K.first K.past K.cells K.board K.seed K.name K.parts }
     requires loggers { (loggers_of parts ≡ 1) × (base_of parts ≡ 0) }
     requires unmodelled { D.is_modelled → ⊥ }
 {

@@ -3,7 +3,7 @@ ghost use Rattle.std.specs.Prelude.{◌≡◌, ◌<◌, ◌≤◌, [], IfOk, IfS
 ghost use Rattle.board.specs.declared.rule.Role.TheVariants.{Logger as logger_role};
 ghost use Rattle.board.specs.Seats.{new_seat};
 ghost use Rattle.board.specs.Opening.{logger_seats};
-ghost use Rattle.book.specs.Parts.{IsFresh, IsRunOf, base_of, ledger_name, ledger_parts, loggers_of};
+ghost use Rattle.book.specs.Parts.{IsFresh, IsOpenedAs, base_of, loggers_of};
 
 use crate::desk::Desk;
 use board::{Board, ClockSeat, LoggerSeat, TerminalSeat};
@@ -112,9 +112,7 @@ pub(crate) fn open<K: Run>(
     alloc: Global,
     parts: Parts,
 ) -> Result<(Stage<K>, Vec<LoggerSeat>), Refusal>
-    requires fresh { IsFresh parts }
-    requires run { IsRunOf parts K.first K.past K.cells K.board K.seed }
-    requires ledger { (ledger_name parts ≡ K.name) × (ledger_parts parts ≡ K.parts) }
+    requires run { IsOpenedAs parts K.population K.first K.past K.cells K.board K.seed K.name K.parts }
     ensures { IfOk result (λ x. x.1.items ≡ logger_seats K.board K.board.plan.loggers) }
 {
     let (engine, seats) = Engine::<K>::open(parts);

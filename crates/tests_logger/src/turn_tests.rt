@@ -1,6 +1,6 @@
 //! What a turn leaves on the disk.
 ghost use Rattle.std.specs.Prelude.{◌≡◌, [], IfOk};
-ghost use Rattle.book.specs.Parts.{IsFresh, IsRunOf, base_of, ledger_name, ledger_parts, loggers_of};
+ghost use Rattle.book.specs.Parts.{IsOpenedAs, base_of, loggers_of};
 
 use crate::stage::{Stage, logger_on, open, parts};
 use book::{Parts, Run};
@@ -19,9 +19,7 @@ pub(crate) fn open_one<K: Run, D: Disk + Drop>(
     parts: Parts,
     disk: D,
 ) -> Result<(Stage<K>, Logger<D>), Refusal>
-    requires fresh { IsFresh parts }
-    requires run { IsRunOf parts K.first K.past K.cells K.board K.seed }
-    requires ledger { (ledger_name parts ≡ K.name) × (ledger_parts parts ≡ K.parts) }
+    requires run { IsOpenedAs parts K.population K.first K.past K.cells K.board K.seed K.name K.parts }
     requires loggers { (loggers_of parts ≡ 1) × (base_of parts ≡ 0) }
     requires empty { D.is_modelled → D.seen disk ≡ [] }
     ensures { IfOk result (λ x. x.1.seat.board ≡ K.board) }
@@ -42,9 +40,7 @@ fn turn<K: Run, R: Wait, D: Disk + Drop>(
     disk: D,
     cents: Option<i64>,
 ) -> Result<u64, Refusal>
-    requires fresh { IsFresh parts }
-    requires run { IsRunOf parts K.first K.past K.cells K.board K.seed }
-    requires ledger { (ledger_name parts ≡ K.name) × (ledger_parts parts ≡ K.parts) }
+    requires run { IsOpenedAs parts K.population K.first K.past K.cells K.board K.seed K.name K.parts }
     requires loggers { (loggers_of parts ≡ 1) × (base_of parts ≡ 0) }
     requires empty { D.is_modelled → D.seen disk ≡ [] }
 {

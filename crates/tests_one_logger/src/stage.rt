@@ -1,7 +1,7 @@
 //! The engine, and its file.
 ghost use Rattle.std.specs.Prelude.{◌≡◌, [], IfOk};
 ghost use Rattle.tables.specs.Inputs.{IsInput};
-ghost use Rattle.book.specs.Parts.{IsFresh, IsRunOf, ledger_name, ledger_parts, loggers_of};
+ghost use Rattle.book.specs.Parts.{IsFresh, IsOpenedAs, loggers_of};
 
 use board::ClockSeat;
 use book::{Batch, Engine, Parts, Run, Seat, Seats, TerminalSeats};
@@ -48,9 +48,7 @@ impl<K: Run, D: Disk + Drop> Stage<K, D> {
     /// An engine in epoch 1 in which nothing has committed, and a new file on an empty disk. Refuses as
     /// `LogFile::create` does.
     pub fn open(alloc: Global, parts: Parts, disk: D) -> Result<Stage<K, D>, Refusal>
-        requires fresh { IsFresh parts }
-        requires run { IsRunOf parts K.first K.past K.cells K.board K.seed }
-        requires ledger { (ledger_name parts ≡ K.name) × (ledger_parts parts ≡ K.parts) }
+        requires run { IsOpenedAs parts K.population K.first K.past K.cells K.board K.seed K.name K.parts }
         requires loggers { loggers_of parts ≡ 1 }
         requires empty { D.is_modelled → D.seen disk ≡ [] }
     {

@@ -24,8 +24,8 @@ impl Books {
         outcome: &Outcome<K, D>,
     ) -> Result<Books, Refusal> {
         Ok(Books {
-            durable: outcome.durable,
-            commits: outcome.commits,
+            durable: outcome.counts.durable,
+            commits: outcome.counts.commits,
             year_to_date: year_to_date(&outcome.closed.tables()?),
         })
     }

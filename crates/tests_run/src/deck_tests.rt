@@ -1,6 +1,6 @@
 //! Two terminals, whose entries are their decks' inputs, and more inputs than commits that their population takes.
 ghost use Rattle.std.specs.Prelude.{◌≡◌, [], length, All, IfOk};
-ghost use Rattle.book.specs.Parts.{IsFresh, IsRunOf, base_of, ledger_name, ledger_parts, loggers_of, terminals_of};
+ghost use Rattle.book.specs.Parts.{IsOpenedAs, base_of, loggers_of, terminals_of};
 
 use crate::stage::one_log;
 use book::{Engine, Entry, Parts, Run, Seats};
@@ -114,10 +114,13 @@ fn seen_of<K: Run, D: Disk + Drop>(
 ) -> Result<Seen, Refusal> {
     let history = outcome.closed.history();
     Ok(Seen {
-        commits: outcome.commits,
-        rollbacks: outcome.rollbacks,
-        others: outcome.refused.saturating_add(outcome.gave_up),
-        has_refused: outcome.refused > 0,
+        commits: outcome.counts.commits,
+        rollbacks: outcome.counts.rollbacks,
+        others: outcome
+            .counts
+            .refused
+            .saturating_add(outcome.counts.gave_up),
+        has_refused: outcome.counts.refused > 0,
         are_drawn: history.iter().all(|entry| entry.terminal < 2)
             && are_drawn(alloc, scale, 0, history)?
             && are_drawn(alloc, scale, 1, history)?,
@@ -127,12 +130,12 @@ fn seen_of<K: Run, D: Disk + Drop>(
 /// Whether a run that came to other counts is told by their lines.
 fn is_told<K: Run, D: Disk + Drop>(alloc: Global, outcome: Outcome<K, D>) -> Result<bool, Refusal> {
     let mut outcome = outcome;
-    outcome.commits = 1;
-    outcome.rollbacks = 2;
-    outcome.gave_up = 3;
-    outcome.refused = 4;
-    outcome.durable = 5;
-    outcome.acknowledged = 6;
+    outcome.counts.commits = 1;
+    outcome.counts.rollbacks = 2;
+    outcome.counts.gave_up = 3;
+    outcome.counts.refused = 4;
+    outcome.counts.durable = 5;
+    outcome.counts.acknowledged = 6;
     let mut text = Vec::new(alloc);
     ran(alloc, &outcome, &mut text)?;
     Ok(text.as_slice().starts_with(TOLD.as_bytes()))
@@ -144,9 +147,7 @@ fn run_of<K: Run + Send + Sync, R: Threads + Wait + Sync>(
     alloc: Global,
     parts: Parts,
 ) -> Result<(Seen, bool), Refusal>
-    requires fresh { IsFresh parts }
-    requires run { IsRunOf parts K.first K.past K.cells K.board K.seed }
-    requires ledger { (ledger_name parts ≡ K.name) × (ledger_parts parts ≡ K.parts) }
+    requires run { IsOpenedAs parts K.population K.first K.past K.cells K.board K.seed K.name K.parts }
     requires loggers { (loggers_of parts ≡ 1) × (base_of parts ≡ 0) }
     requires terminals { terminals_of parts ≡ 2 }
 {

@@ -1,6 +1,6 @@
 //! A terminal that commits while its logger syncs.
 ghost use Rattle.std.specs.Prelude.{◌≡◌, [], IfOk};
-ghost use Rattle.book.specs.Parts.{IsFresh, IsRunOf, base_of, ledger_name, ledger_parts, loggers_of, terminals_of};
+ghost use Rattle.book.specs.Parts.{IsOpenedAs, base_of, loggers_of, terminals_of};
 
 use crate::held::{BESIDE, Held, Passing};
 use crate::stage::{follower, one_log, parts};
@@ -22,9 +22,7 @@ fn run_of<K: Run + Send + Sync, R: Threads + Wait + Sync>(
     parts: Parts,
     passing: &Passing,
 ) -> Result<(u64, u64), Refusal>
-    requires fresh { IsFresh parts }
-    requires run { IsRunOf parts K.first K.past K.cells K.board K.seed }
-    requires ledger { (ledger_name parts ≡ K.name) × (ledger_parts parts ≡ K.parts) }
+    requires run { IsOpenedAs parts K.population K.first K.past K.cells K.board K.seed K.name K.parts }
     requires loggers { (loggers_of parts ≡ 1) × (base_of parts ≡ 0) }
     requires terminals { terminals_of parts ≡ 1 }
 {
@@ -42,7 +40,7 @@ fn run_of<K: Run + Send + Sync, R: Threads + Wait + Sync>(
     let stations = follower(alloc, engine.population().scale(), passing)?;
     let desks = Desks { clock, terminals };
     let outcome = run(rt, alloc, engine, desks, logs, stations, 200)?;
-    Ok((outcome.commits, outcome.acknowledged))
+    Ok((outcome.counts.commits, outcome.counts.acknowledged))
 }
 
 #[test]

@@ -1,6 +1,6 @@
 //! Four terminals that meet, beside two loggers.
 ghost use Rattle.std.specs.Prelude.{◌≡◌, [], IfOk};
-ghost use Rattle.book.specs.Parts.{IsFresh, IsRunOf, base_of, ledger_name, ledger_parts, loggers_of, terminals_of};
+ghost use Rattle.book.specs.Parts.{IsOpenedAs, base_of, loggers_of, terminals_of};
 
 use crate::books::{Books, paid};
 use crate::meeting::Meeting;
@@ -32,13 +32,17 @@ fn seen_of<K: Run, D: Disk + Drop>(
     alloc: Global,
     outcome: &Outcome<K, D>,
 ) -> Result<Seen, Refusal> {
-    let sums = [outcome.commits, outcome.rollbacks, outcome.gave_up];
+    let sums = [
+        outcome.counts.commits,
+        outcome.counts.rollbacks,
+        outcome.counts.gave_up,
+    ];
     Ok(Seen {
         inputs: sums.iter().fold(0u64, |sum, n| sum.saturating_add(*n)),
-        refused: outcome.refused,
-        few_gave_up: outcome.gave_up < 100,
-        all_acknowledged: outcome.acknowledged == outcome.commits,
-        as_many_in_the_history: outcome.closed.history().len() as u64 == outcome.commits,
+        refused: outcome.counts.refused,
+        few_gave_up: outcome.counts.gave_up < 100,
+        all_acknowledged: outcome.counts.acknowledged == outcome.counts.commits,
+        as_many_in_the_history: outcome.closed.history().len() as u64 == outcome.counts.commits,
         is_good: outcome.closed.report(alloc)?.is_good(),
         stopped: outcome.files.iter().filter(|file| file.has_stopped).count(),
     })
@@ -52,9 +56,7 @@ fn outcome_of<K: Run + Send + Sync, D: Disk + Send + Drop, R: Threads + Wait + S
     meeting: &Meeting,
     disks: (D, D),
 ) -> Result<Outcome<K, D>, Refusal>
-    requires fresh { IsFresh parts }
-    requires run { IsRunOf parts K.first K.past K.cells K.board K.seed }
-    requires ledger { (ledger_name parts ≡ K.name) × (ledger_parts parts ≡ K.parts) }
+    requires run { IsOpenedAs parts K.population K.first K.past K.cells K.board K.seed K.name K.parts }
     requires loggers { (loggers_of parts ≡ 2) × (base_of parts ≡ 0) }
     requires terminals { terminals_of parts ≡ 4 }
     requires empty { D.is_modelled → (D.seen disks.0 ≡ []) × (D.seen disks.1 ≡ []) }
@@ -81,9 +83,7 @@ fn run_of<K: Run + Send + Sync, D: Disk + Send + Drop, R: Threads + Wait + Sync>
     meeting: &Meeting,
     disks: (D, D),
 ) -> Result<(Seen, Books, i64), Refusal>
-    requires fresh { IsFresh parts }
-    requires run { IsRunOf parts K.first K.past K.cells K.board K.seed }
-    requires ledger { (ledger_name parts ≡ K.name) × (ledger_parts parts ≡ K.parts) }
+    requires run { IsOpenedAs parts K.population K.first K.past K.cells K.board K.seed K.name K.parts }
     requires loggers { (loggers_of parts ≡ 2) × (base_of parts ≡ 0) }
     requires terminals { terminals_of parts ≡ 4 }
     requires empty { D.is_modelled → (D.seen disks.0 ≡ []) × (D.seen disks.1 ≡ []) }

@@ -16,6 +16,8 @@ mod newest_tests;
 #[cfg(test)]
 mod population_tests;
 #[cfg(test)]
+mod reach_tests;
+#[cfg(test)]
 mod reading_tests;
 #[cfg(test)]
 mod records_tests;

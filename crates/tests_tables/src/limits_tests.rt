@@ -5,8 +5,9 @@ use population::Population;
 use std::alloc::{AllocError, Global};
 use std::test::Fail;
 use tables::limits::{
-    LAST_EPOCH, LAST_NAMES, MAX_COUNT, MAX_COUNT_STEP, MAX_LINE_AMOUNT, MAX_LOGGERS, MAX_MARK,
-    MAX_MONEY_STEP, MAX_PRICE, MAX_STOCK, MAX_TERMINALS, MIN_STOCK, RESTOCK,
+    LAST_EPOCH, LAST_NAMES, MAX_COUNT, MAX_COUNT_STEP, MAX_FIRST_COUNT, MAX_FIRST_MONEY,
+    MAX_LINE_AMOUNT, MAX_LOGGERS, MAX_MARK, MAX_MONEY_STEP, MAX_PRICE, MAX_STOCK, MAX_TERMINALS,
+    MIN_STOCK, RESTOCK,
 };
 use tables::{
     DeliveryInput, Input, Lines, NewOrderInput, OrderStatusInput, PaymentInput, RequestedLine,
@@ -187,6 +188,7 @@ fn limits_of_columns(rt: HostRuntime) {
     assert_eq!(rt; [MAX_COUNT, LAST_NAMES], [1_000_000_000, 1_000]);
     assert_eq!(rt; [MIN_STOCK, MAX_STOCK, RESTOCK], [10, 100, 91]);
     assert_eq!(rt; [MAX_MONEY_STEP, MAX_COUNT_STEP], [15_000_000, 150]);
+    assert_eq!(rt; [MAX_FIRST_MONEY, MAX_FIRST_COUNT], [30_000_000, 1]);
 }
 
 /// What an engine and its log files are held to.

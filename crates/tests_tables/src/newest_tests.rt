@@ -1,7 +1,7 @@
 //! What the records of the plain population begin with.
 
 use cells::Newest;
-use encoding::newest_of;
+use encoding::first_versions;
 use money::{NO_PAYLOAD, Payload};
 use population::Population;
 use std::test::Fail;
@@ -24,7 +24,7 @@ fn present(payload: Payload) -> Newest {
 fn newest_of_plain(rt: HostRuntime) -> Result<(), Fail> {
     let scale = Scale::new(1, 2, 10, 20, 30, 1_000)?;
     let population = Population::plain(rt.alloc(), scale)?;
-    let newest = newest_of(rt.alloc(), &population)?;
+    let newest = first_versions(rt.alloc(), population.tables())?;
     assert_eq!(rt; newest.len(), 1_085);
     // The numbers are those of the warehouse, and, in district 2, of the district, customer 3, orders 7 and 8 of
     // NEW-ORDER, orders 7, 10 and 11, lines 5 and 6 of order 8, the stock of item 20, OLDEST, and LAST of

@@ -1,6 +1,6 @@
 //! An engine with a terminal and its rival.
 ghost use Rattle.std.specs.Prelude.{◌≡◌, IfOk};
-ghost use Rattle.book.specs.Parts.{IsFresh, IsRunOf, ledger_name, ledger_parts};
+ghost use Rattle.book.specs.Parts.{IsFresh, IsOpenedAs};
 
 use crate::rival::{Payer, Rival};
 use book::{Engine, Parts, Run, Seat, Seats};
@@ -41,9 +41,7 @@ pub(crate) fn two_inputs<K: Run, R: Wait>(
     seed: u64,
     rivals: u32,
 ) -> Result<(Seen, Seen), Refusal>
-    requires fresh { IsFresh parts }
-    requires run { IsRunOf parts K.first K.past K.cells K.board K.seed }
-    requires ledger { (ledger_name parts ≡ K.name) × (ledger_parts parts ≡ K.parts) }
+    requires run { IsOpenedAs parts K.population K.first K.past K.cells K.board K.seed K.name K.parts }
 {
     let (engine, seats) = Engine::<K>::open(parts);
     let Seats {

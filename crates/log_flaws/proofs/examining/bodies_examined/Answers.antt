@@ -7,8 +7,8 @@ use Rattle.log_flaws.specs.Flaws.{Reaches}
 use Rattle.log_flaws.proofs.Standing.{behind_header, is_reached, nothing}
 use Rattle.log_flaws.proofs.examining.bodies_examined.Goals as goal
 
-pub returns-in_default-clause-examined : goal.returns-in_default-clause-examined
-returns-in_default-clause-examined c =
+pub returns-in_default : goal.returns-in_default
+returns-in_default c =
     let h = c.args.header.now in
     let file = c.args.file.now in
     let bytes = c.args.bytes.now in
@@ -23,8 +23,8 @@ returns-in_default-clause-examined c =
           (behind_header h c.requires.header file bytes c.requires.text bodies is)),
     )
 
-pub returns-in-Err-Damaged-clause-examined : goal.returns-in-Err-Damaged-clause-examined
-returns-in-Err-Damaged-clause-examined c =
+pub returns-in-Err-Damaged : goal.returns-in-Err-Damaged
+returns-in-Err-Damaged c =
     let h = c.args.header.now in
     let file = c.args.file.now in
     let bytes = c.args.bytes.now in

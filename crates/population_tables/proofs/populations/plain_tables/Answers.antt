@@ -1,5 +1,5 @@
 use Rattle.population_tables.proofs.PlainRows.{are_plain, are_seeded}
-use Rattle.population_tables.proofs.Sound.{has_room, is_well_formed}
+use Rattle.population_tables.proofs.Sound.{has_reach, has_room, is_well_formed}
 use Rattle.population_tables.proofs.Consistent.{is_consistent}
 use Rattle.population_tables.proofs.populations.plain_tables.Goals as goal
 
@@ -16,4 +16,8 @@ returns-clause-consistent c = is_consistent c.args.scale _ c.first_tables.ensure
 
 pub returns-clause-room : goal.returns-clause-room
 returns-clause-room c = has_room c.args.scale _ c.first_tables.ensures.fit
+    (are_seeded c.args.scale _ c.in_ok-tables.ensures.rows c.first_tables.ensures.fit)
+
+pub returns-clause-reach : goal.returns-clause-reach
+returns-clause-reach c = has_reach c.args.scale _ c.first_tables.ensures.fit
     (are_seeded c.args.scale _ c.in_ok-tables.ensures.rows c.first_tables.ensures.fit)

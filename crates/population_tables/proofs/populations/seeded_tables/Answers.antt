@@ -1,4 +1,4 @@
-use Rattle.population_tables.proofs.Sound.{has_room, is_well_formed}
+use Rattle.population_tables.proofs.Sound.{has_reach, has_room, is_well_formed}
 use Rattle.population_tables.proofs.Consistent.{is_consistent}
 use Rattle.population_tables.proofs.populations.seeded_tables.Goals as goal
 
@@ -10,3 +10,6 @@ returns-clause-consistent c = is_consistent c.args.scale _ c.first_tables.ensure
 
 pub returns-clause-room : goal.returns-clause-room
 returns-clause-room c = has_room c.args.scale _ c.first_tables.ensures.fit c.in_ok-tables.ensures.rows
+
+pub returns-clause-reach : goal.returns-clause-reach
+returns-clause-reach c = has_reach c.args.scale _ c.first_tables.ensures.fit c.in_ok-tables.ensures.rows

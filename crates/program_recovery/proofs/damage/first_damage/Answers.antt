@@ -19,7 +19,7 @@ loop-logger-preserved g c =
     record {
       loggers = refl;
       walked = goes_on c.from.result c.index-disks-from.result c.flaw_on.new.disk c.loop-logger.invariant.walked from (omega arith)
-          c.in_ok-flaw.ensures.seen c.in_ok-flaw.ensures.story
+          c.in_ok-flaw.ensures.reads
           (λ given. whole_file (initial population).scale c.scale.result (seed_of population) c.seed.result c.loop-logger.logger (length c.args.disks.now)
           (length c.args.disks.now) asked c.new-asked.ensures.value c.scale.ensures c.seed.ensures refl known.0 _ (known.1 given) whole);
     }

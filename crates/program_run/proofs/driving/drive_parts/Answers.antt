@@ -1,5 +1,5 @@
 use Rattle.std.proofs.KnownBytes.{Appends-nil}
-use Rattle.program_run.specs.Told.{counts_with, unrun, untold}
+use Rattle.program_run.specs.Told.{unrun, untold}
 use Rattle.program_run.proofs.driving.drive_parts.Goals as goal
 
 pub returns-clause-ran : goal.returns-clause-ran
@@ -8,7 +8,7 @@ returns-clause-ran g c =
     record {
       history = o.closed;
       tallies = o.tallies.items;
-      counts = counts_with o.commits o.rollbacks o.gave_up o.refused o.durable o.acknowledged;
+      counts = o.counts;
       counted = c.in-Ok.ensures.counted;
       told = c.in-Ok-ran.ensures.told;
     }
@@ -19,4 +19,4 @@ returns-in-Err-clause-broken g c = unrun c.in-Err.ensures.cause (Appends-nil (g.
 pub returns-in-Err-ran-clause-broken : goal.returns-in-Err-ran-clause-broken
 returns-in-Err-ran-clause-broken g c =
     let o = c.in-Ok.outcome in
-    untold o.closed o.tallies.items (counts_with o.commits o.rollbacks o.gave_up o.refused o.durable o.acknowledged) c.in-Ok.ensures.counted c.in-Err-ran.ensures.cut_short
+    untold o.closed o.tallies.items o.counts c.in-Ok.ensures.counted c.in-Err-ran.ensures.cut_short

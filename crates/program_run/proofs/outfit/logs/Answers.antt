@@ -1,10 +1,8 @@
-use Rattle.std.proofs.Common.{◌≡◌, ◌≤◌, ◌∙◌, ◌+◌, ◌++◌, ◌∷◌, All, IfSome, [], ap, length, rules, subst, sym}
+use Rattle.std.proofs.Common.{◌≡◌, ◌∙◌, ◌++◌, All, IfSome, [], ap, length, rules, subst, sym}
 use Rattle.std.specs.Option.{option_to_list}
 use Rattle.std.proofs.lemmas.List.Elements.{All-nil, All-pop, All-push}
 use Rattle.std.proofs.lemmas.List.Sorted.{All-permutation}
-use Rattle.board.specs.declared.rule.Role.TheVariants.{Logger as logger_role}
 use Rattle.board.specs.Opening.{logger_seats}
-use Rattle.board.specs.Seats.{new_seat}
 use Rattle.run_threads.specs.declared.threads.Log.{Log}
 use Rattle.program_run.specs.declared.outfit.Slot.{Slot}
 use Rattle.program_run.proofs.Seats.{last_seat, seats_count}

@@ -12,4 +12,4 @@ returns-in_err-parts-clause-beginning g c =
 pub returns-clause-beginning : goal.returns-clause-beginning
 returns-clause-beginning g c = on_err_more _ _ c.run.result (λ front bytes left.
     let b = front bytes left in
-    (b.0, b.1, subst (λ t. IsBeginning t bytes b.0) c.in_ok-parts.ensures.first b.2)) c.run.ensures.beginning
+    (b.0, b.1, subst (λ t. IsBeginning t bytes b.0) c.in_ok-parts.ensures.parts.first_is b.2)) c.run.ensures.beginning

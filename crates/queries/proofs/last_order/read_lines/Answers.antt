@@ -13,7 +13,7 @@ loop-done-preserved g c =
           lines_next t c.args.key c.loop-done.done
           ∙ (λ j. i.lines t (candidate_still g.K.Start.tables c.loop-done.transaction c.read_line.new.transaction 1 more t h) j
           ++ option_to_list (c.in_ok-line.ensures.line t h j))
-          ∙ sym c.in_ok-push_line.ensures.pushed;
+          ∙ sym c.in_ok-push_line.ensures;
       reads = reads_twice c.args.transaction.now c.loop-done.transaction c.read_line.new.transaction c.loop-done.done 1 (c.loop-done.done + 1) i.reads more
           (omega arith);
     }

@@ -1,5 +1,5 @@
 use Rattle.std.proofs.Common.{rules, arith}
-use Rattle.recover.proofs.Reading.{begins, ends, seen_stays, story_stays, failed_stays, goes_on, none, fails}
+use Rattle.recover.proofs.Reading.{begins, ends, only_reads, failed_stays, goes_on, none, fails}
 use Rattle.recover.proofs.files.read_all.Goals as goal
 
 pub loop-logger-init : goal.loop-logger-init
@@ -14,39 +14,31 @@ returns-in_err-bodies-clause-damaged g c =
 pub returns-in_err-bodies-clause-failed : goal.returns-in_err-bodies-clause-failed
 returns-in_err-bodies-clause-failed g c =
     λ e. fails c.index-disks-logger.result c.read_one.new.disk c.loop-logger.invariant (omega arith)
-    (c.in_err-bodies.ensures.failed (search rules))
+    (c.in_err-bodies.ensures.counts.failed (search rules))
 
 pub returns-in_err-bodies-clause-not_failed : goal.returns-in_err-bodies-clause-not_failed
 returns-in_err-bodies-clause-not_failed g c =
     λ other. failed_stays c.index-disks-logger.result c.read_one.new.disk c.loop-logger.invariant
-    (c.in_err-bodies.ensures.not_failed (λ e. other (search rules)))
+    (c.in_err-bodies.ensures.counts.not_failed (λ e. other (search rules)))
 
-pub returns-in_err-bodies-clause-seen : goal.returns-in_err-bodies-clause-seen
-returns-in_err-bodies-clause-seen g c =
-    seen_stays c.index-disks-logger.result c.read_one.new.disk c.loop-logger.invariant c.in_err-bodies.ensures.seen
-
-pub returns-in_err-bodies-clause-story : goal.returns-in_err-bodies-clause-story
-returns-in_err-bodies-clause-story g c =
-    story_stays c.index-disks-logger.result c.read_one.new.disk c.loop-logger.invariant c.in_err-bodies.ensures.story
+pub returns-in_err-bodies-clause-reads : goal.returns-in_err-bodies-clause-reads
+returns-in_err-bodies-clause-reads g c =
+    only_reads c.index-disks-logger.result c.read_one.new.disk c.loop-logger.invariant c.in_err-bodies.ensures.reads
 
 pub returns-in_err-push-clause-not_failed : goal.returns-in_err-push-clause-not_failed
 returns-in_err-push-clause-not_failed g c =
     λ other. failed_stays c.index-disks-logger.result c.read_one.new.disk c.loop-logger.invariant
-    (c.in_ok-bodies.ensures.not_failed (search rules))
+    (c.in_ok-bodies.ensures.counts.not_failed (search rules))
 
-pub returns-in_err-push-clause-seen : goal.returns-in_err-push-clause-seen
-returns-in_err-push-clause-seen g c =
-    seen_stays c.index-disks-logger.result c.read_one.new.disk c.loop-logger.invariant c.in_ok-bodies.ensures.seen
-
-pub returns-in_err-push-clause-story : goal.returns-in_err-push-clause-story
-returns-in_err-push-clause-story g c =
-    story_stays c.index-disks-logger.result c.read_one.new.disk c.loop-logger.invariant c.in_ok-bodies.ensures.story
+pub returns-in_err-push-clause-reads : goal.returns-in_err-push-clause-reads
+returns-in_err-push-clause-reads g c =
+    only_reads c.index-disks-logger.result c.read_one.new.disk c.loop-logger.invariant c.in_ok-bodies.ensures.reads
 
 pub loop-logger-preserved : goal.loop-logger-preserved
 loop-logger-preserved g c =
     goes_on c.index-disks-logger.result c.read_one.new.disk c.loop-logger.invariant (omega arith) c.in_ok-bodies.bodies
-    c.in_ok-bodies.ensures.found c.in_ok-bodies.ensures.seen c.in_ok-bodies.ensures.story
-    (c.in_ok-bodies.ensures.not_failed (search rules)) c.in_ok-push.ensures.items
+    c.in_ok-bodies.ensures.found c.in_ok-bodies.ensures.reads (c.in_ok-bodies.ensures.counts.not_failed (search rules))
+    c.in_ok-push.ensures.items
 
 pub returns-clause-found : goal.returns-clause-found
 returns-clause-found g c =

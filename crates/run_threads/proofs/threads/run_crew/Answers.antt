@@ -7,5 +7,5 @@ pub returns-clause-counted : goal.returns-clause-counted
 returns-clause-counted g c =
     let o = c.settled.result in
     counted_of (λ (worker : Worker g.row.K.Denot g.row.G.Denot g.K.Run g.G.Gate). worker.tally) c.in_threads-workers.result.0.items o.tallies.items
-    g.K.Ledger.parts c.args.inputs o.commits o.rollbacks o.gave_up o.refused c.settled.ensures.tallies
+    g.K.Ledger.parts c.args.inputs o.counts c.settled.ensures.tallies
     (c.in_threads-workers.ensures.workers ∙ c.requires.count) c.in_threads-workers.ensures.all c.settled.ensures.sums

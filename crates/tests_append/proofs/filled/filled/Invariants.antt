@@ -1,8 +1,9 @@
-use Rattle.book.specs.Parts.{first_of, past_of, cells_of, board_of, population_seed, ledger_name, ledger_parts}
+use Rattle.book.specs.Parts.{population_of, first_of, past_of, cells_of, board_of, population_seed, ledger_name, ledger_parts}
 use Rattle.tests_append.proofs.filled.filled.Given as goal
 
 abbrev pub ghosts-fill-K-Run : goal.ghosts-fill-K-Run
 ghosts-fill-K-Run g a = record {
+  population = population_of a.parts;
   first = first_of a.parts;
   past = past_of a.parts;
   cells = cells_of a.parts;

@@ -7,6 +7,6 @@ invariant_of-result g c =
     let made = c.in_ok-work.ensures in (
       c.execute.ensures.grown.cells ∙ c.requires.reader,
       made.input,
-      work_of c.population-population.ensures c.cells-cells.ensures.value c.args.input c.requires.input c.args.seat.reader c.execute.new.reader
+      work_of c.population-population.ensures.value c.population-population.ensures.of_population c.cells-cells.ensures.value c.args.input c.requires.input c.args.seat.reader c.execute.new.reader
           c.in_ok-work.work made.input made.explains made.limits made.read,
     )

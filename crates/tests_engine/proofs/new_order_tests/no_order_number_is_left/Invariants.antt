@@ -1,8 +1,9 @@
-use Rattle.book.specs.Parts.{first_of, past_of, cells_of, board_of, population_seed, ledger_name, ledger_parts}
+use Rattle.book.specs.Parts.{population_of, first_of, past_of, cells_of, board_of, population_seed, ledger_name, ledger_parts}
 use Rattle.tests_engine.proofs.new_order_tests.no_order_number_is_left.Given as goal
 
 abbrev pub ghosts-try_both-K-Run : goal.ghosts-try_both-K-Run
 ghosts-try_both-K-Run g a = record {
+  population = population_of a.parts;
   first = first_of a.parts;
   past = past_of a.parts;
   cells = cells_of a.parts;

@@ -1,6 +1,4 @@
 use Rattle.std.proofs.Common.{◌≡◌, ◌<◌, ℕ, List, [], ◌∷◌, Option, Some, None, length, refl, ap, ◌∙◌, subst}
-use Rattle.tables.specs.Rows.{rows}
-use Rattle.population.specs.Initial.{initial}
 use Rattle.cells.specs.Records.{PenView, at}
 use Rattle.cells.specs.Versions.{last_tid}
 use Rattle.cells.specs.First.{first_version, firsts}
@@ -16,11 +14,10 @@ first_tid (Some words) = refl
 pub returns-clause-first : goal.returns-clause-first
 returns-clause-first g c n h =
     let newest = c.in_ok-newest.newest.items in
-    let t = initial c.in_ok-population.population in
-    let first = c.in_ok-newest.ensures.first in
+    let first = c.in_ok-newest.ensures in
     let lent = c.deref.ensures.value in
     let small : n < length c.in_ok-newest.newest.items = subst (λ k. n < k) (c.in_ok-cells.ensures.cells ∙ ap length lent) h in
     ap (λ (w : PenView). last_tid (at w.all n)) c.in_ok-cells.ensures.pen
     ∙ ap (λ (l : List Newest). last_tid (at (firsts l) n)) lent
     ∙ ap last_tid (at_first newest n small ∙ ap (λ w. w ∷ []) (first.words n (subst (λ k. n < k) first.count small)))
-    ∙ first_tid (rows t n)
+    ∙ first_tid _

@@ -1,8 +1,9 @@
-use Rattle.book.specs.Parts.{first_of, past_of, cells_of, board_of, population_seed, ledger_name, ledger_parts}
+use Rattle.book.specs.Parts.{population_of, first_of, past_of, cells_of, board_of, population_seed, ledger_name, ledger_parts}
 use Rattle.tests_logger.proofs.durable_tests.a_reply_waits_for_both_loggers.Given as goal
 
 abbrev pub ghosts-rounds_of-K-Run : goal.ghosts-rounds_of-K-Run
 ghosts-rounds_of-K-Run g a = record {
+  population = population_of a.parts;
   first = first_of a.parts;
   past = past_of a.parts;
   cells = cells_of a.parts;

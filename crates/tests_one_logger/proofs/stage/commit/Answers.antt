@@ -4,5 +4,5 @@ use Rattle.tests_one_logger.proofs.stage.commit.Goals as goal
 pub commit-requires-clause-work : goal.commit-requires-clause-work
 commit-requires-clause-work g c =
     let made = c.in_ok-work.ensures in
-    work_of c.population-population.ensures c.cells-cells.ensures.value c.args.input.now c.requires.input
+    work_of c.population-population.ensures.value c.population-population.ensures.of_population c.cells-cells.ensures.value c.args.input.now c.requires.input
     c.args.terminal.now.reader c.execute.new.reader c.in_ok-work.work made.input made.explains made.limits made.read

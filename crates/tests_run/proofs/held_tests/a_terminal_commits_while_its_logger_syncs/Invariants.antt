@@ -1,8 +1,9 @@
-use Rattle.book.specs.Parts.{first_of, past_of, cells_of, board_of, population_seed, ledger_name, ledger_parts}
+use Rattle.book.specs.Parts.{population_of, first_of, past_of, cells_of, board_of, population_seed, ledger_name, ledger_parts}
 use Rattle.tests_run.proofs.held_tests.a_terminal_commits_while_its_logger_syncs.Given as goal
 
 abbrev pub ghosts-run_of-K-Run : goal.ghosts-run_of-K-Run
 ghosts-run_of-K-Run g a = record {
+  population = population_of a.parts;
   first = first_of a.parts;
   past = past_of a.parts;
   cells = cells_of a.parts;

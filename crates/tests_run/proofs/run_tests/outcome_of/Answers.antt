@@ -1,5 +1,4 @@
-use Rattle.std.proofs.Common.{◌∙◌, ap}
-use Rattle.tables.specs.Database.{Database}
+use Rattle.std.proofs.Common.{◌∙◌}
 use Rattle.tests_run.proofs.run_tests.outcome_of.Goals as goal
 
 pub run-requires-clause-logs : goal.run-requires-clause-logs
@@ -7,4 +6,4 @@ run-requires-clause-logs g c κs within = λ k d h. c.in_ok-logs.ensures k d h �
 
 pub run-requires-clause-decks : goal.run-requires-clause-decks
 run-requires-clause-decks g c κs within =
-    λ k d h. c.in_ok-stations.ensures.decks k d h ∙ (c.scale.ensures ∙ ap (λ (t : Database). t.scale) c.population-2.ensures)
+    λ k d h. c.in_ok-stations.ensures.decks k d h ∙ (c.scale.ensures ∙ c.population-2.ensures.scale)

@@ -7,7 +7,7 @@ use Rattle.board.proofs.board.Board.close.Goals as goal
 ended : (c : goal.After-free) → EndsWithDurable c.args.self c.args.seat c.word-durable.result
 ended c =
     let last = c.close_with-closed.ensures.values.2 in
-    ends _ _ c.args.self c.args.seat c.word-durable.result _ last.0.words last.0.views _ _ (c.self.invariant.2 ∙ ap (λ (b : BoardView). b.plan) c.self.view_is)
+    ends _ _ c.args.self c.args.seat c.word-durable.result _ last.0.words last.0.views _ _ (c.self.invariant.planned ∙ ap (λ (b : BoardView). b.plan) c.self.view_is)
     last.1.0 last.1.1 last.2 c.word-durable.ensures c.seat.view_is c.requires
 
 pub returns-clause-kept : goal.returns-clause-kept

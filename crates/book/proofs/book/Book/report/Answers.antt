@@ -29,10 +29,10 @@ returns-clause-report g c =
     let history = map arc_value c.self.inside.history.items in
     let t = replay g.K.Run.first history in
     let i = c.self.invariant in
-    let held : AreHeld c.self.inside.newest.items t = held_there g.K.Run.past g.K.Run.first c.self.inside.pen history t c.self.inside.newest.items i.0 i.2
-    i.1.of_population.scale (ap length i.1.cells ∙ i.1.count) in
+    let held : AreHeld c.self.inside.newest.items t = held_there i.sound i.newest
+    i.ready.of_population.scale (ap length i.ready.cells ∙ i.ready.count) in
     subst (λ (q : BookView). IsReportOf (replay g.K.Run.first q.history) c.report_of.result) c.self.view_is
-    (c.report_of.ensures.report t (asked t c.self.inside.totals c.sums.result.now c.bounds.result.now c.sums.ensures c.bounds.ensures i.12 i.0.well_formed)
+    (c.report_of.ensures.report t (asked t c.self.inside.totals c.sums.result.now c.bounds.result.now c.sums.ensures c.bounds.ensures i.totals i.sound.well_formed)
     (subst (λ (ns : List Newest). AreHeld ns t) (sym c.deref-2.ensures.value) held))
 
 pub returns-clause-good : goal.returns-clause-good
@@ -40,7 +40,7 @@ returns-clause-good g c =
     let history = map arc_value c.self.inside.history.items in
     let t = replay g.K.Run.first history in
     let i = c.self.invariant in
-    let held : AreHeld c.self.inside.newest.items t = held_there g.K.Run.past g.K.Run.first c.self.inside.pen history t c.self.inside.newest.items i.0 i.2
-    i.1.of_population.scale (ap length i.1.cells ∙ i.1.count) in
-    c.report_of.ensures.good t (asked t c.self.inside.totals c.sums.result.now c.bounds.result.now c.sums.ensures c.bounds.ensures i.12 i.0.well_formed)
-    (subst (λ (ns : List Newest). AreHeld ns t) (sym c.deref-2.ensures.value) held) i.0.consistent
+    let held : AreHeld c.self.inside.newest.items t = held_there i.sound i.newest
+    i.ready.of_population.scale (ap length i.ready.cells ∙ i.ready.count) in
+    c.report_of.ensures.good t (asked t c.self.inside.totals c.sums.result.now c.bounds.result.now c.sums.ensures c.bounds.ensures i.totals i.sound.well_formed)
+    (subst (λ (ns : List Newest). AreHeld ns t) (sym c.deref-2.ensures.value) held) i.sound.consistent

@@ -32,9 +32,9 @@ pub overflow_sub-mark : goal.overflow_sub-mark
 overflow_sub-mark g c =
     let i = c.self.invariant in
     let is = found g.K.Run.board.plan (found_epoch c.self.inside.seat) c.args.logger (map arc_value c.self.inside.history.items)
-    c.self.inside.streams.items c.index_mut-stream.result.now i.10 c.requires.logger c.index_mut-stream.ensures.value in
+    c.self.inside.streams.items c.index_mut-stream.result.now i.streams c.requires.logger c.index_mut-stream.ensures.value in
     (begun c.index_mut-stream.result.now.mark (found_epoch c.self.inside.seat) c.floor-epoch.result is.mark
-    (found_later c.self.inside.seat i.6 c.requires.board c.floor-epoch.ensures.later)).0
+    (found_later c.self.inside.seat i.board c.requires.board c.floor-epoch.ensures.later)).0
 
 -- there are few entries
 few : {taken waiting all history cap : ℕ} (past : ℕ) → taken ≤ all → waiting ≡ all - taken → all ≤ history → past + history ≤ cap → cap ≤ MAX_COMMITS
@@ -48,10 +48,10 @@ take-entries-requires g c =
     let loggers = plan.loggers in
     let history = map arc_value c.self.inside.history.items in
     let s = c.index_mut-stream.result.now in
-    let is = found plan (found_epoch c.self.inside.seat) c.args.logger history c.self.inside.streams.items s i.10 c.requires.logger
+    let is = found plan (found_epoch c.self.inside.seat) c.args.logger history c.self.inside.streams.items s i.streams c.requires.logger
     c.index_mut-stream.ensures.value in
     few g.K.Run.past is.taken (sym (length-map s.waiting.items arc_value) ∙ ap length is.waiting ∙ length-drop s.taken (stream loggers c.args.logger history))
-    (stream_within loggers c.args.logger history) i.1.cap i.1.few
+    (stream_within loggers c.args.logger history) i.ready.cap i.ready.few
 
 pub invariant_of-self : goal.invariant_of-self
 invariant_of-self g c =
@@ -64,33 +64,35 @@ invariant_of-self g c =
     let history = map arc_value c.self.inside.history.items in
     let streams = c.self.inside.streams.items in
     let s = c.index_mut-stream.result.now in
-    let later = found_later seat i.6 c.requires.board c.floor-epoch.ensures.later in
-    let is = found plan (found_epoch seat) c.args.logger history streams s i.10 c.requires.logger c.index_mut-stream.ensures.value in
+    let later = found_later seat i.board c.requires.board c.floor-epoch.ensures.later in
+    let is = found plan (found_epoch seat) c.args.logger history streams s i.streams c.requires.logger c.index_mut-stream.ensures.value in
     let mark = begun s.mark (found_epoch seat) epoch is.mark later in
     let step = c.floor-epoch.ensures.step in
     let left = c.take-entries.ensures in
     let taken = stream_set plan epoch history history streams c.args.logger c.take-entries.new.self
-    (streams_later plan (found_epoch seat) epoch history streams later i.10) c.requires.logger (λ k _. refl)
+    (streams_later plan (found_epoch seat) epoch history streams later i.streams) c.requires.logger (λ k _. refl)
     (stream_taken plan.base (found_epoch seat) epoch (epoch - 1) (stream loggers c.args.logger history) s c.take-entries.new.self is
     (at_least plan.base s.mark (epoch - 1) is.least mark.1) mark.2
-    left.taken left.last_taken left.mark left.waiting) in (
-      i.0,
-      subst (λ (q : SeatView). IsReady g.K.Run.past t0 g.K.Run.cells (found_epoch q) c.self.inside.pen (map arc_value c.self.inside.history.items)
+    left.taken left.last_taken left.mark left.waiting) in
+    record {
+      population = i.population;
+      seed = i.seed;
+      past = i.past;
+      become = i.become;
+      sound = i.sound;
+      ready = subst (λ (q : SeatView). IsReady g.K.Run.past t0 g.K.Run.cells (found_epoch q) c.self.inside.pen (map arc_value c.self.inside.history.items)
           (replay t0 (map arc_value c.self.inside.history.items))) (sym step)
-          (ready_loaded seat i.6 c.requires.board c.floor-epoch.ensures.later i.1),
-      i.2,
-      i.3,
-      i.4,
-      i.5,
-      ap (λ (q : SeatView). q.board) step ∙ i.6,
-      subst (λ (q : SeatView). HasCounted q (map arc_value c.self.inside.history.items)) (sym step) i.7,
-      i.8,
-      i.9,
-      subst (λ (q : SeatView). AreStreams g.K.Run.board.plan (found_epoch q) (map arc_value c.self.inside.history.items)
-          (slice_set c.self.inside.streams.items c.args.logger c.take-entries.new.self)) (sym step) taken,
-      i.11,
-      i.12,
-    )
+          (ready_loaded seat i.board c.requires.board c.floor-epoch.ensures.later i.ready);
+      newest = i.newest;
+      totals = i.totals;
+      shares = i.shares;
+      lasts = i.lasts;
+      board = ap (λ (q : SeatView). q.board) step ∙ i.board;
+      counted = subst (λ (q : SeatView). HasCounted q (map arc_value c.self.inside.history.items)) (sym step) i.counted;
+      streams = subst (λ (q : SeatView). AreStreams g.K.Run.board.plan (found_epoch q) (map arc_value c.self.inside.history.items)
+          (slice_set c.self.inside.streams.items c.args.logger c.take-entries.new.self)) (sym step) taken;
+      loggable = i.loggable;
+    }
 
 pub invariant_of-result : goal.invariant_of-result
 invariant_of-result g c =
@@ -99,13 +101,13 @@ invariant_of-result g c =
     let seat = c.self.inside.seat in
     let history = map arc_value c.self.inside.history.items in
     let s = c.index_mut-stream.result.now in
-    let is = found plan (found_epoch seat) c.args.logger history c.self.inside.streams.items s i.10 c.requires.logger c.index_mut-stream.ensures.value in
+    let is = found plan (found_epoch seat) c.args.logger history c.self.inside.streams.items s i.streams c.requires.logger c.index_mut-stream.ensures.value in
     let count : c.len-loggers.result ≡ length c.self.inside.streams.items = search rules in
-    lawful_batch g.K.Run.past g.K.Run.first g.K.Run.cells (found_epoch seat) c.self.inside.pen history (replay g.K.Run.first history) plan
-    g.K.Ledger.parts c.args.logger s i.0 i.1 i.11 is i.10.few c.requires.logger c.floor-epoch.result
-    (found_later seat i.6 c.requires.board c.floor-epoch.ensures.later) c.floor-epoch.ensures.bound
-    c.len-loggers.result s.taken c.seed.result c.scale.result (map arc_value c.take-entries.result.items) (count ∙ i.10.count)
-    (c.scale.ensures ∙ ap (λ (p : Population). (initial p).scale) c.deref.ensures ∙ ap (λ (t : Database). t.scale) i.3)
+    lawful_batch plan c.args.logger i.sound i.ready i.loggable is i.streams.few c.requires.logger c.floor-epoch.result
+    (found_later seat i.board c.requires.board c.floor-epoch.ensures.later) c.floor-epoch.ensures.bound
+    c.len-loggers.result s.taken c.seed.result c.scale.result (map arc_value c.take-entries.result.items) (count ∙ i.streams.count)
+    (c.scale.ensures ∙ ap (λ (p : Population). (initial p).scale) c.deref.ensures ∙ ap (λ (t : Database). t.scale) i.population
+    ∙ sym i.become.of_population.scale)
     (ap (map arc_value) c.take-entries.ensures.entries ∙ is.waiting)
 
 pub returns-clause-batch : goal.returns-clause-batch
@@ -117,10 +119,10 @@ returns-clause-batch g c =
     let history = map arc_value c.self.inside.history.items in
     let streams = c.self.inside.streams.items in
     let s = c.index_mut-stream.result.now in
-    let later = found_later seat i.6 c.requires.board c.floor-epoch.ensures.later in
-    let is = found plan (found_epoch seat) c.args.logger history streams s i.10 c.requires.logger c.index_mut-stream.ensures.value in
+    let later = found_later seat i.board c.requires.board c.floor-epoch.ensures.later in
+    let is = found plan (found_epoch seat) c.args.logger history streams s i.streams c.requires.logger c.index_mut-stream.ensures.value in
     let mark = begun s.mark (found_epoch seat) c.floor-epoch.result is.mark later in
-    let here : c.args.logger < length streams = subst (λ n. c.args.logger < n) (sym i.10.count) c.requires.logger in
+    let here : c.args.logger < length streams = subst (λ n. c.args.logger < n) (sym i.streams.count) c.requires.logger in
     let count : c.len-loggers.result ≡ length streams = search rules in
     let entries : map arc_value c.take-entries.result.items ≡ drop s.taken (stream loggers c.args.logger history) =
     ap (map arc_value) c.take-entries.ensures.entries ∙ is.waiting in
@@ -136,9 +138,9 @@ returns-clause-batch g c =
       mark = c.floor-epoch.result - 1;
     })) c.self.view_is (record {
       logger_is = refl;
-      loggers_are = count ∙ i.10.count;
-      places = length-map streams (λ (t : Untaken). t.taken) ∙ i.10.count;
-      marks = length-map streams (λ (t : Untaken). t.mark) ∙ i.10.count;
+      loggers_are = count ∙ i.streams.count;
+      places = length-map streams (λ (t : Untaken). t.taken) ∙ i.streams.count;
+      marks = length-map streams (λ (t : Untaken). t.mark) ∙ i.streams.count;
       first = sym (get_or-map (λ (t : Untaken). t.taken) streams c.args.logger s 0 here ∙ ap (λ (t : Untaken). t.taken) (sym c.index_mut-stream.ensures.value));
       within = is.taken;
       number_before = is.last_taken;
@@ -146,8 +148,7 @@ returns-clause-batch g c =
           (sym c.index_mut-stream.ensures.value));
       entries = entries;
       epochs = subst (All (λ (e : Entry). (s.mark < epoch_of e.tid) × (epoch_of e.tid ≤ c.floor-epoch.result - 1 + 1))) (sym entries)
-          (epochs_left g.K.Run.past g.K.Run.first g.K.Run.cells (found_epoch seat) c.self.inside.pen history (replay g.K.Run.first history) plan
-          g.K.Ledger.parts c.args.logger s i.0 i.1 i.11 is i.10.few c.requires.logger c.floor-epoch.result later c.floor-epoch.ensures.bound);
+          (epochs_left plan c.args.logger i.sound i.ready i.loggable is i.streams.few c.requires.logger c.floor-epoch.result later c.floor-epoch.ensures.bound);
       marks_rise = mark.1;
     })
 
@@ -158,7 +159,7 @@ returns-clause-taken g c =
     let streams = c.self.inside.streams.items in
     let history = map arc_value c.self.inside.history.items in
     let s = c.index_mut-stream.result.now in
-    let is = found plan (found_epoch c.self.inside.seat) c.args.logger history streams s i.10 c.requires.logger c.index_mut-stream.ensures.value in
+    let is = found plan (found_epoch c.self.inside.seat) c.args.logger history streams s i.streams c.requires.logger c.index_mut-stream.ensures.value in
     let all = c.take-entries.ensures.taken
     ∙ all_of plan.base (found_epoch c.self.inside.seat) (stream plan.loggers c.args.logger history) s is in
     record {

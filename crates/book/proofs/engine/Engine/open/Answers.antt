@@ -1,4 +1,4 @@
-use Rattle.std.proofs.Common.{◌≡◌, ℕ, ◌≤◌, List, [], All, length, map, refl, sym, ap, ◌∙◌, subst, arith, rules}
+use Rattle.std.proofs.Common.{◌≡◌, ℕ, ◌≤◌, List, [], All, length, map, sym, ap, ◌∙◌, subst, arith, rules}
 use Rattle.std.proofs.lemmas.List.{length-replicate}
 use Rattle.std.proofs.lemmas.List.Elements.{All-replicate}
 use Rattle.std.specs.Arc.{arc_value}
@@ -9,6 +9,7 @@ use Rattle.tables.specs.declared.limits.TheConstants.{MAX_COMMITS}
 use Rattle.population.specs.Initial.{initial, seed_of}
 use Rattle.population.specs.declared.population.Population.{Population}
 use Rattle.cells.specs.Records.{PenView, ReaderView}
+use Rattle.book.specs.Base.{HasBecome}
 use Rattle.book.specs.History.{replay}
 use Rattle.book.specs.Book.{IsSound}
 use Rattle.book.specs.declared.entry.Entry.{Entry}
@@ -27,11 +28,14 @@ use Rattle.book.proofs.engine.Engine.open.Goals as goal
 
 pub invariant_of-book : goal.invariant_of-book
 invariant_of-book g c =
-    let parts = c.args.parts in
-    let population = arc_value parts.population in
-    let fresh = c.requires.fresh in
-    let t0 : Database = initial population in
-    let few : t0.scale.commits ≤ MAX_COMMITS =
+    let run = c.requires in
+    let fresh = run.fresh in
+    let start = fresh.start.tables in
+    let unused = fresh.unused in
+    let begun = c.args.parts.begun in
+    let made = c.args.parts.fresh in
+    let seat = made.seats.book in
+    let few : (initial (arc_value c.args.parts.population)).scale.commits ≤ MAX_COMMITS =
     omega (
       arith,
       c.commits.ensures.value,
@@ -39,42 +43,56 @@ invariant_of-book g c =
       ap (λ (s : Sizes). s.commits)
           (c.scale.ensures ∙ ap (λ (p : Population). (initial p).scale) c.deref.ensures),
     ) in
-    let none : map arc_value parts.history.items ≡ [] = ap (map arc_value) fresh.history in
-    let past : 0 ≡ g.K.Run.past = sym fresh.past ∙ c.requires.run.past_is in
-    let sound = first_sound t0 parts.cells parts.pen parts.newest.items fresh.newest fresh.count fresh.pen population.well_formed population.consistent in
-    let ready = first_ready t0 parts.cells parts.pen parts.newest.items fresh.newest fresh.count fresh.pen (found_epoch parts.seats.book)
-    population.room few in (
-      subst (λ (q : Database × ℕ × List Entry). IsSound q.1 q.0 c.args.parts.pen q.2 (replay q.0 q.2))
-          (λ i. (c.requires.run.first_is i, past i, sym none i)) sound,
-      subst (λ (q : Database × ℕ × List TableId × List Entry). IsReady q.1 q.0 q.2 (found_epoch parts.seats.book) c.args.parts.pen q.3 (replay q.0 q.3))
-          (λ i. (c.requires.run.first_is i, past i, c.requires.run.cells_are i, sym none i)) ready,
-      first_newest t0 parts.cells parts.pen parts.newest.items fresh.newest fresh.count fresh.pen,
-      ap initial fresh.lent ∙ c.requires.run.first_is,
-      c.open-shares.ensures.total ∙ sym (ap length none),
-      subst (λ (h : List Entry). AreLast g.K.Ledger.parts h c.args.parts.lasts.items) (sym none)
-          (first_lasts g.K.Ledger.parts (length parts.readers.items) parts.lasts.items fresh.lasts (sym fresh.parts ∙ c.requires.ledger.1)),
-      ap (λ (s : SeatView). s.board) fresh.board.book ∙ c.requires.run.board_is,
-      subst (λ (q : SeatView × List Entry). HasCounted q.0 q.1) (λ i. (sym fresh.board.book i, sym none i)) refl,
-      ap seed_of fresh.lent ∙ c.requires.run.seed_is,
-      c.requires.run.past_is,
-      subst (λ (q : BoardView × SeatView × List Entry). AreStreams q.0.plan (found_epoch q.1) q.2 c.args.parts.streams.items)
-          (λ i. (c.requires.run.board_is i, sym fresh.board.book i, sym none i))
-          (first_streams parts.board.plan parts.streams.items fresh.loggers.0 fresh.loggers.1 fresh.streams),
-      subst (AreLoggable g.K.Run.first.scale g.K.Ledger.parts) (sym none)
-          (first_loggable g.K.Run.first.scale g.K.Ledger.parts (subst (λ n. n ≤ MAX_TERMINALS) (sym fresh.parts ∙ c.requires.ledger.1) fresh.few)),
-      subst (λ (q : Database × List Entry). AreTotals (replay q.0 q.1) c.args.parts.totals) (λ i. (c.requires.run.first_is i, sym none i)) fresh.totals,
-    )
+    let none : map arc_value c.args.parts.history.items ≡ [] = ap (map arc_value) fresh.history in
+    let sound = first_sound fresh.start.newest unused.count unused.pen begun.past start.well_formed start.consistent in
+    let ready =
+    first_ready fresh.start.newest unused.count unused.pen begun.past (found_epoch seat) start.room start.cap
+    (subst (λ (s : Sizes). s.commits ≤ MAX_COMMITS) (sym start.become.of_population.scale) few) in
+    record {
+      population = ap initial fresh.lent ∙ run.population_is;
+      seed = ap seed_of fresh.lent ∙ run.seed_is;
+      past = run.past_is;
+      become = subst (λ (q : Database × Database). HasBecome q.0 q.1 begun.rows.items)
+          (λ i. (run.population_is i, run.first_is i)) start.become;
+      sound = subst (λ (q : Database × ℕ × List Entry). IsSound q.1 q.0 made.pen q.2 (replay q.0 q.2))
+          (λ i. (run.first_is i, run.past_is i, sym none i)) sound;
+      ready = subst (λ (q : Database × ℕ × List TableId × List Entry).
+          IsReady q.1 q.0 q.2 (found_epoch seat) made.pen q.3 (replay q.0 q.3))
+          (λ i. (run.first_is i, run.past_is i, run.cells_are i, sym none i)) ready;
+      newest = first_newest fresh.start.newest unused.count unused.pen;
+      totals = subst (λ (q : Database × List Entry). AreTotals (replay q.0 q.1) begun.totals)
+          (λ i. (run.first_is i, sym none i)) fresh.start.totals;
+      shares = c.open-shares.ensures.total ∙ sym (ap length none);
+      lasts = subst (λ (h : List Entry). AreLast g.K.Ledger.parts h made.lasts.items) (sym none)
+          (first_lasts unused.lasts (sym fresh.parts ∙ run.parts_are));
+      board = ap (λ (s : SeatView). s.board) unused.board.book ∙ run.board_is;
+      counted = subst (λ (q : SeatView × List Entry). HasCounted q.0 q.1)
+          (λ i. (sym unused.board.book i, sym none i)) (λ i. []);
+      streams = subst (λ (q : BoardView × SeatView × List Entry).
+          AreStreams q.0.plan (found_epoch q.1) q.2 made.streams.items)
+          (λ i. (run.board_is i, sym unused.board.book i, sym none i))
+          (first_streams made.board.plan made.streams.items fresh.loggers.0 fresh.loggers.1 unused.streams);
+      loggable = subst (AreLoggable g.K.Run.first.scale g.K.Ledger.parts) (sym none)
+          (first_loggable g.K.Run.first.scale g.K.Ledger.parts
+          (subst (λ n. n ≤ MAX_TERMINALS) (sym fresh.parts ∙ run.parts_are) fresh.few));
+    }
 
 pub invariant_of-terminals : goal.invariant_of-terminals
 invariant_of-terminals g c =
-    let fresh = c.requires.fresh in (
-      (λ k d h. ap (λ (r : ReaderView). r.cells) (fresh.readers k d h) ∙ ap (λ (w : PenView). w.cells) fresh.pen ∙ c.requires.run.cells_are),
-      subst (All (λ (s : SeatView). s ≡ new_seat g.K.Run.board Terminal)) (sym fresh.board.terminals)
-          (All-replicate (λ (s : SeatView). s ≡ new_seat g.K.Run.board Terminal) (length c.args.parts.readers.items) (new_seat c.args.parts.board Terminal)
-          (ap (λ (b : BoardView). new_seat b Terminal) c.requires.run.board_is)),
-      ap length fresh.board.terminals ∙ length-replicate (length c.args.parts.readers.items) (new_seat c.args.parts.board Terminal),
-      search rules,
-      search rules,
-      omega (arith, sym fresh.parts ∙ c.requires.ledger.1),
-      omega (arith, sym fresh.parts ∙ c.requires.ledger.1, fresh.few),
-    )
+    let run = c.requires in
+    let fresh = run.fresh in
+    let unused = fresh.unused in
+    let count = length c.args.parts.fresh.readers.items in
+    let seat = new_seat c.args.parts.fresh.board Terminal in
+    record {
+      own = λ k d h. ap (λ (r : ReaderView). r.cells) (unused.readers k d h)
+          ∙ ap (λ (w : PenView). w.cells) unused.pen ∙ run.cells_are;
+      new = subst (All (λ (s : SeatView). s ≡ new_seat g.K.Run.board Terminal)) (sym unused.board.terminals)
+          (All-replicate (λ (s : SeatView). s ≡ new_seat g.K.Run.board Terminal) count seat
+          (ap (λ (b : BoardView). new_seat b Terminal) run.board_is));
+      as_many = ap length unused.board.terminals ∙ length-replicate count seat;
+      shares = search rules;
+      none = search rules;
+      all = omega (arith, sym fresh.parts ∙ run.parts_are);
+      few = omega (arith, sym fresh.parts ∙ run.parts_are, fresh.few);
+    }

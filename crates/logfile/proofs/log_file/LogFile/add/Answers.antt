@@ -9,49 +9,51 @@ use Rattle.logfile.proofs.log_file.LogFile.add.Goals as goal
 pub store-requires-clause-gate : goal.store-requires-clause-gate
 store-requires-clause-gate g c = λ modelled.
     let usable : c.self.inside.failed ≡ false = subst (λ (v : LogFileView _). v.failed ≡ false) (sym c.self.view_is) c.requires.usable in
-    (c.self.invariant.4 modelled usable).within
+    (c.self.invariant.stands modelled usable).within
 
 pub store-requires-clause-settled : goal.store-requires-clause-settled
 store-requires-clause-settled g c = λ modelled.
     let usable : c.self.inside.failed ≡ false = subst (λ (v : LogFileView _). v.failed ≡ false) (sym c.self.view_is) c.requires.usable in
-    (c.self.invariant.4 modelled usable).settled
+    (c.self.invariant.stands modelled usable).settled
 
 pub invariant_of-self : goal.invariant_of-self
 invariant_of-self g c =
     let usable : c.self.inside.failed ≡ false = subst (λ (v : LogFileView _). v.failed ≡ false) (sym c.self.view_is) c.requires.usable in
     let body = c.requires.body.0 in
     let after : body_after c.self.inside.header c.self.inside.last body ≡ Some c.args.now
-    = subst (λ (v : LogFileView _). body_after v.header v.last body ≡ Some c.args.now) (sym c.self.view_is) c.requires.body.2 in (
-      omega (arith, c.in-Ok.ensures.fits),
-      c.self.invariant.1,
-      c.requires.epoch,
-      subst (λ (v : LogFileView _). v.count + c.args.entries ≤ c.args.now.number) (sym c.self.view_is) c.requires.count,
-      (λ modelled _. is_open _ _ _ _ _ (c.in-Ok.ensures.settled modelled) (∥∥₁_map (c.self.invariant.4 modelled usable).stands
+    = subst (λ (v : LogFileView _). body_after v.header v.last body ≡ Some c.args.now) (sym c.self.view_is) c.requires.body.2 in
+    record {
+      reaches = omega (arith, c.in-Ok.ensures.fits);
+      header = c.self.invariant.header;
+      near = c.requires.epoch;
+      counts = subst (λ (v : LogFileView _). v.count + c.args.entries ≤ c.args.now.number) (sym c.self.view_is) c.requires.count;
+      stands = λ modelled _. is_open _ _ _ _ _ (c.in-Ok.ensures.settled modelled) (∥∥₁_map (c.self.invariant.stands modelled usable).stands
           (λ s. (
             s.0 ++ body ∷ [],
             add_stands _ s.0 body _ _ _ _ _ s.1 _ c.requires.body.1 after _ _ (c.in-Ok.ensures.bytes modelled)
                 (c.in-Ok.ensures.settled modelled),
-          )))),
-      λ modelled. ∥∥₁_map (c.self.invariant.4 modelled usable).stands
+          )));
+      kept = λ modelled. ∥∥₁_map (c.self.invariant.stands modelled usable).stands
           (λ s. all_kept _ _ _ _ _ _ (add_stands _ s.0 body _ _ _ _ _ s.1 _ c.requires.body.1 after _ _ (c.in-Ok.ensures.bytes modelled)
-          (c.in-Ok.ensures.settled modelled)) (g.met.D.Disk.read_gives c.store.new.disk modelled)),
-    )
+          (c.in-Ok.ensures.settled modelled)) (g.met.D.Disk.read_gives c.store.new.disk modelled));
+    }
 
 pub invariant_of-self-in-Err : goal.invariant_of-self-in-Err
 invariant_of-self-in-Err g c =
     let usable : c.self.inside.failed ≡ false = subst (λ (v : LogFileView _). v.failed ≡ false) (sym c.self.view_is) c.requires.usable in
     let body = c.requires.body.0 in
     let after : body_after c.self.inside.header c.self.inside.last body ≡ Some c.args.now
-    = subst (λ (v : LogFileView _). body_after v.header v.last body ≡ Some c.args.now) (sym c.self.view_is) c.requires.body.2 in (
-      c.self.invariant.0,
-      c.self.invariant.1,
-      c.self.invariant.2,
-      c.self.invariant.3,
-      (λ modelled failed. absurd (true≢false failed)),
-      λ modelled. ∥∥₁_map (c.self.invariant.4 modelled usable).stands
+    = subst (λ (v : LogFileView _). body_after v.header v.last body ≡ Some c.args.now) (sym c.self.view_is) c.requires.body.2 in
+    record {
+      reaches = c.self.invariant.reaches;
+      header = c.self.invariant.header;
+      near = c.self.invariant.near;
+      counts = c.self.invariant.counts;
+      stands = λ modelled failed. absurd (true≢false failed);
+      kept = λ modelled. ∥∥₁_map (c.self.invariant.stands modelled usable).stands
           (λ s. add_keeps _ s.0 body _ _ _ _ _ s.1 _ c.requires.body.1 after _ (c.store.ensures.moments modelled)
-          (λ front gate rest has. c.in-Err.ensures.may_stay modelled front gate rest has refl)),
-    )
+          (λ front gate rest has. c.in-Err.ensures.may_stay modelled front gate rest has refl));
+    }
 
 pub returns-in-Ok-clause-added : goal.returns-in-Ok-clause-added
 returns-in-Ok-clause-added g c = λ modelled.

@@ -9,25 +9,26 @@ use Rattle.logfile.proofs.log_file.LogFile.create.Goals as goal
 pub invariant_of-result : goal.invariant_of-result
 invariant_of-result g c =
     let is : IsHeader c.args.header = subst IsHeader c.header.view_is c.header.invariant in
-    let text : c.deref.result.now ≡ header_text c.args.header ++ 0 ∷ [] = c.deref.ensures.value ∙ c.in_ok-buffer.ensures.text in
+    let text : c.deref.result.now ≡ header_text c.args.header ++ 0 ∷ [] = c.deref.ensures.value ∙ c.in_ok-buffer.ensures in
     let size : c.len.result ≡ length c.deref.result.now = c.len.ensures ∙ sym c.deref.ensures.len in
     let end : c.len.result - 1 + 1 ≡ length c.deref.result.now
     = omega (arith, size, ap length text, length-append (header_text c.args.header) (0 ∷ [])) in
     let made : g.D.Disk.is_modelled → Stands c.args.header [] (c.len.result - 1) c.start.result (g.D.Disk.seen c.sync.new.self)
     (g.D.Disk.story c.sync.new.self) = (λ modelled. created c.args.header is _ _ _ _ _ _ _ _ text end c.start.ensures (c.requires.empty modelled)
-    (c.in_ok-write_at.ensures.bytes modelled) (c.in_ok-sync.ensures.seen modelled) (c.in_ok-sync.ensures.story modelled)) in (
-      omega (arith, size, c.in_ok-write_at.ensures.fits),
-      is,
-      omega (arith, ap (λ (l : Last). l.epoch) c.start.ensures),
-      omega arith,
-      (λ modelled _. is_open _ _ _ _ _ (made modelled).settled ∣ ([], made modelled) ∣₁),
-      λ modelled. ∣ all_kept _ _ _ _ _ _ (made modelled) (g.met.D.Disk.read_gives c.sync.new.self modelled) ∣₁,
-    )
+    (c.in_ok-write_at.ensures.bytes modelled) (c.in_ok-sync.ensures.seen modelled) (c.in_ok-sync.ensures.story modelled)) in
+    record {
+      reaches = omega (arith, size, c.in_ok-write_at.ensures.fits);
+      header = is;
+      near = omega (arith, ap (λ (l : Last). l.epoch) c.start.ensures);
+      counts = omega arith;
+      stands = λ modelled _. is_open _ _ _ _ _ (made modelled).settled ∣ ([], made modelled) ∣₁;
+      kept = λ modelled. ∣ all_kept _ _ _ _ _ _ (made modelled) (g.met.D.Disk.read_gives c.sync.new.self modelled) ∣₁;
+    }
 
 pub returns-clause-stands : goal.returns-clause-stands
 returns-clause-stands g c = λ modelled.
     let is : IsHeader c.args.header = subst IsHeader c.header.view_is c.header.invariant in
-    let text : c.deref.result.now ≡ header_text c.args.header ++ 0 ∷ [] = c.deref.ensures.value ∙ c.in_ok-buffer.ensures.text in
+    let text : c.deref.result.now ≡ header_text c.args.header ++ 0 ∷ [] = c.deref.ensures.value ∙ c.in_ok-buffer.ensures in
     let size : c.len.result ≡ length c.deref.result.now = c.len.ensures ∙ sym c.deref.ensures.len in
     let end : c.len.result - 1 + 1 ≡ length c.deref.result.now
     = omega (arith, size, ap length text, length-append (header_text c.args.header) (0 ∷ [])) in
@@ -36,13 +37,13 @@ returns-clause-stands g c = λ modelled.
 
 pub returns-clause-bytes : goal.returns-clause-bytes
 returns-clause-bytes g c = λ modelled.
-    first_bytes c.args.header _ _ _ _ (c.deref.ensures.value ∙ c.in_ok-buffer.ensures.text) (c.requires.empty modelled)
+    first_bytes c.args.header _ _ _ _ (c.deref.ensures.value ∙ c.in_ok-buffer.ensures) (c.requires.empty modelled)
     (c.in_ok-write_at.ensures.bytes modelled) (c.in_ok-sync.ensures.seen modelled)
 
 pub returns-clause-calls : goal.returns-clause-calls
 returns-clause-calls g c = λ modelled.
     let is : IsHeader c.args.header = subst IsHeader c.header.view_is c.header.invariant in
-    let text : c.deref.result.now ≡ header_text c.args.header ++ 0 ∷ [] = c.deref.ensures.value ∙ c.in_ok-buffer.ensures.text in
+    let text : c.deref.result.now ≡ header_text c.args.header ++ 0 ∷ [] = c.deref.ensures.value ∙ c.in_ok-buffer.ensures in
     let size : c.len.result ≡ length c.deref.result.now = c.len.ensures ∙ sym c.deref.ensures.len in
     let end : c.len.result - 1 + 1 ≡ length c.deref.result.now
     = omega (arith, size, ap length text, length-append (header_text c.args.header) (0 ∷ [])) in

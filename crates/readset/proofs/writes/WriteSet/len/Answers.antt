@@ -1,9 +1,9 @@
 use Rattle.std.proofs.Common.{◌≡◌, Some, All, subst}
 use Rattle.readset.specs.Writes.{WriteSetView, value_for}
-use Rattle.readset.specs.Arrivals.{in_order}
+use Rattle.readset.specs.Arrived.{arrived}
 use Rattle.readset.proofs.Entries.{each_found}
 use Rattle.readset.proofs.writes.WriteSet.len.Goals as goal
 
 pub returns-clause-found : goal.returns-clause-found
 returns-clause-found c = subst (λ (w : WriteSetView). All (λ e. value_for w e.0 ≡ Some e.1) w.values) c.self.view_is
-    (each_found (in_order c.self.inside.values.items c.self.inside.order.items) c.self.invariant.sorted)
+    (each_found (arrived c.self.inside.values) c.self.inside.values.sound.sorted)

@@ -1,4 +1,4 @@
-use Rattle.std.proofs.Common.{ap, subst, rules, arith}
+use Rattle.std.proofs.Common.{Err, ap, subst, rules, arith}
 use Rattle.money.specs.declared.refusal.Refusal.TheVariants.{GaveUp}
 use Rattle.cells.specs.Records.{ReaderView}
 use Rattle.readset.specs.Refused.{NoneMissing}
@@ -22,13 +22,22 @@ loop-init g c = record {
   calls = calls_none GaveUp (g.G.Gate.calls c.args.gate.now);
 }
 
-pub returns-then-not-is_retried-clause-tries : goal.returns-then-not-is_retried-clause-tries
-returns-then-not-is_retried-clause-tries g c =
+pub returns-in_default-clause-tries : goal.returns-in_default-clause-tries
+returns-in_default-clause-tries g c =
     let i = c.loop.invariant in
     let made = c.attempt-outcome.ensures in
     let final : ¬ IsAgain c.attempt-outcome.result = search rules in
     tries_of g.K.Run.past g.K.Run.first _ _ i.next c.args.self.now.reader c.loop.self.reader c.attempt-outcome.new.self.reader
     c.loop.counter c.attempt-outcome.result (g.G.Gate.calls c.args.gate.now) (g.G.Gate.calls c.loop.gate) (g.G.Gate.calls c.attempt-outcome.new.gate)
+    (search rules) i.tried final made.tried i.calls made.calls
+
+pub returns-then-not-is_retried-clause-tries : goal.returns-then-not-is_retried-clause-tries
+returns-then-not-is_retried-clause-tries g c =
+    let i = c.loop.invariant in
+    let made = c.in-Err.ensures in
+    let final : ¬ IsAgain (Err c.in-Err.refusal) = search rules in
+    tries_of g.K.Run.past g.K.Run.first _ _ i.next c.args.self.now.reader c.loop.self.reader c.attempt-outcome.new.self.reader
+    c.loop.counter (Err c.in-Err.refusal) (g.G.Gate.calls c.args.gate.now) (g.G.Gate.calls c.loop.gate) (g.G.Gate.calls c.attempt-outcome.new.gate)
     (search rules) i.tried final made.tried i.calls made.calls
 
 pub loop-preserved : goal.loop-preserved

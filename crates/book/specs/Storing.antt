@@ -1,0 +1,59 @@
+-- What a commit makes before its first store, and what its stores do to cells and versions (Silo, section 4.4).
+use Rattle.std.specs.Prelude.{◌≡◌, ℕ, ◌+◌, ◌<◌, ◌%◌, ◌++◌, Some, Option, List, length}
+use Rattle.std.specs.Arc.{arc_value}
+use Rattle.atomic_table.specs.Seated.{TableId}
+use Rattle.tables.specs.declared.input.Input.{Input}
+use Rattle.tables.specs.declared.reply.Reply.{Reply}
+use Rattle.tidword.specs.TidWord.{tid_of}
+use Rattle.tidword.specs.Lawful.{IsLawful, next}
+use Rattle.cells.specs.Versions.{last_tid}
+use Rattle.cells.specs.Records.{PenView, ReaderView, HasGrown, at}
+use Rattle.cells.specs.declared.cells.Newest.{Newest}
+use Rattle.readset.specs.Reads.{ReadSetView}
+use Rattle.readset.specs.Writes.{WriteSetView, value_for}
+use Rattle.readset.specs.Explains.{WritesAreRead}
+use Rattle.book.specs.Book.{IsReadBy, HasSeen}
+use Rattle.book.specs.History.{new_versions}
+use Rattle.book.specs.Ready.{AreNewest}
+use Rattle.book.specs.declared.entry.Entry.{Entry}
+use Rattle.book.specs.declared.prepare.Place.{Place}
+use Rattle.book.specs.declared.prepare.Prepared.{Prepared}
+
+-- what is made for a commit at this place, behind so many of the run: its TID, and its entry for the history, for its
+-- stream and for its terminal
+pub record IsPrepared (place : Place) (count : ℕ) (input : Input) (reply : Reply) (writes : WriteSetView)
+    (made : Prepared) : Type 0 where
+  pub below : place.past + count < place.cap
+  pub tid : next (tid_of place.seen) (tid_of place.last) place.epoch ≡ Some made.tid
+  pub lawful : IsLawful place.seen place.last place.epoch made.tid
+  pub entry : arc_value made.entry ≡ record {
+    number = place.past + count + 1;
+    tid = made.tid;
+    terminal = place.terminal;
+    input = input;
+    reply = reply;
+    writes = writes;
+  }
+  pub waiting : arc_value made.waiting ≡ arc_value made.entry
+  pub done : made.done ≡ record { number = place.past + count + 1; tid = made.tid; reply = reply }
+
+-- an entry's writes may be stored: pen and reader are of these cells, what is written was read by this reader, and the
+-- TID has no status bits and is larger than the last one of each record written; these are the newest versions
+pub record MayStore (cells : List TableId) (pen : PenView) (reader : ReaderView) (reads : ReadSetView) (entry : Entry)
+    (kept : List Newest) : Type 0 where
+  pub own : (pen.cells ≡ cells) × (reader.cells ≡ cells)
+  pub read : IsReadBy (length cells) reader reads
+  pub written_read : WritesAreRead entry.writes reads
+  pub no_bits : entry.tid % 8 ≡ 0
+  pub larger : (n : ℕ) (value : Option (List ℕ)) → value_for entry.writes n ≡ Some value
+      → last_tid (at pen.all n) < entry.tid
+  pub newest : AreNewest pen kept
+
+-- they are stored: each record has its versions more, which the reader has seen, and these are then the newest
+pub record StoresEntry (old new : PenView) (before after : ReaderView) (entry : Entry) (kept : List Newest) : Type 0
+  where
+    pub cells : new.cells ≡ old.cells
+    pub versions : (n : ℕ) → at new.all n ≡ at old.all n ++ new_versions entry.tid entry.writes.values n
+    pub reader : HasGrown before after
+    pub seen : HasSeen after new entry.writes
+    pub newest : AreNewest new kept

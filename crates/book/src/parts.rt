@@ -1,0 +1,251 @@
+//! What an engine is opened with.
+ghost use Rattle.std.specs.Prelude.{◌≡◌, ◌<◌, ◌≤◌, replicate, IfOk, IfErr};
+ghost use Rattle.std.specs.Arc.{arc_value};
+ghost use Rattle.std.specs.Option.{option_map_or};
+ghost use Rattle.money.specs.declared.refusal.Refusal.TheVariants.{OutOfMemory};
+ghost use Rattle.tables.specs.Conditions.{IsConsistent};
+ghost use Rattle.tables.specs.Database.{database};
+ghost use Rattle.tables.specs.WellFormed.{IsWellFormed};
+ghost use Rattle.tables.specs.declared.limits.TheConstants.{MAX_LOGGERS, MAX_TERMINALS};
+ghost use Rattle.population.specs.Initial.{initial, seed_of};
+ghost use Rattle.encoding.specs.Newest.{AreFirst};
+ghost use Rattle.totals.specs.Totals.{AreTotals};
+ghost use Rattle.board.specs.Words.{last_epoch};
+ghost use Rattle.book.specs.Base.{MayBegin, IsStart};
+ghost use Rattle.book.specs.Parts.{ArePartsOf, AreEmpty, IsUnused};
+
+use crate::entry::Entry;
+use crate::shared::shared;
+use crate::untaken::Untaken;
+use board::{Board, BoardSeats};
+use cells::{Cells, Newest, Pen, Reader};
+use encoding::first_versions;
+use money::Refusal;
+use population::Population;
+use std::alloc::{AllocError, Global};
+use std::sync::ledger::Blank;
+use std::sync::{Arc, Wait};
+use tables::{History, Tables};
+use tidword::TidWord;
+use totals::Totals;
+
+/// What an engine is opened with: all memory that opening one takes.
+#[derive(Drop)]
+pub struct Parts {
+    pub(crate) population: Arc<Population, Global>,
+    pub(crate) lent: Arc<Population, Global>,
+    pub(crate) begun: Begun,
+    pub(crate) history: Vec<Arc<Entry, Global>>,
+    pub(crate) fresh: Fresh,
+    pub(crate) blank: Blank,
+}
+
+/// What is committed as a run begins: the tables, where they aren't the population's, the HISTORY rows that they have
+/// behind its own, how many commits made them, the first versions of their records, and their totals.
+#[derive(Drop)]
+pub(crate) struct Begun {
+    /// Opening gives up their memory: the records have them. Until then they say what the run is named by.
+    pub(crate) base: Option<Tables>,
+    pub(crate) rows: Vec<History>,
+    pub(crate) past: u32,
+    pub(crate) newest: Vec<Newest>,
+    pub(crate) totals: Totals,
+}
+
+/// What a run begins with in which nothing has committed: cells with first versions alone, a board at which nobody has
+/// stepped, the loggers' streams, and the terminals' last TIDs.
+#[derive(Drop)]
+pub(crate) struct Fresh {
+    pub(crate) cells: Cells,
+    pub(crate) pen: Pen,
+    pub(crate) readers: Vec<Reader>,
+    pub(crate) board: Board,
+    pub(crate) seats: BoardSeats,
+    pub(crate) streams: Vec<Untaken>,
+    pub(crate) lasts: Vec<TidWord>,
+}
+
+/// Tables that a run goes on from, as recovery gives them: the HISTORY rows that they have behind the population's, how
+/// many commits made them, and the last epoch of which anything is known.
+#[derive(Drop)]
+pub struct Base {
+    pub tables: Tables,
+    pub rows: Vec<History>,
+    pub commits: u32,
+    pub epoch: u64,
+}
+
+impl Parts {
+    /// The parts of an engine over this population, for 1 to 8 loggers and 1 to 16 terminals, of which each gets a
+    /// seat, with a board at epoch 1. Costs what `first_versions`, `Totals::of` and `Cells::new` cost: passes over the
+    /// tables and the records, and a step a record and terminal. May wait, at a record's cell alone.
+    ///
+    /// # Errors
+    ///
+    /// `OutOfMemory`, and no other.
+    pub fn new<R: Wait>(
+        rt: &R,
+        alloc: Global,
+        population: Population,
+        loggers: u16,
+        terminals: u16,
+    ) -> Result<Parts, Refusal>
+        requires loggers { (0 < loggers) × (loggers ≤ MAX_LOGGERS) }
+        requires terminals { (0 < terminals) × (terminals ≤ MAX_TERMINALS) }
+        ensures parts { IfOk result (ArePartsOf (initial population) (initial population) (seed_of population) 0 0
+            loggers terminals) }
+        ensures only_memory { IfErr result (λ refusal. refusal ≡ OutOfMemory) }
+    {
+        let (newest, totals) = records_of(alloc, population.tables())?;
+        let begun = Begun {
+            base: None,
+            rows: Vec::new(alloc),
+            past: 0,
+            newest,
+            totals,
+        };
+        assembled(rt, alloc, population, begun, 0, loggers, terminals)
+    }
+
+    /// The parts of an engine that goes on behind a base: numbers of commits go on from its own, and the board opens at
+    /// the epoch behind its last one. Costs what `new` does; the tables stay in memory until the engine is opened. May
+    /// wait, at a record's cell alone.
+    ///
+    /// # Errors
+    ///
+    /// `OutOfMemory`, and no other.
+    pub fn behind<R: Wait>(
+        rt: &R,
+        alloc: Global,
+        population: Population,
+        base: Base,
+        loggers: u16,
+        terminals: u16,
+    ) -> Result<Parts, Refusal>
+        requires base { MayBegin (initial population) (database base.tables) base.rows.items base.commits }
+        requires epoch { base.epoch < last_epoch }
+        requires loggers { (0 < loggers) × (loggers ≤ MAX_LOGGERS) }
+        requires terminals { (0 < terminals) × (terminals ≤ MAX_TERMINALS) }
+        ensures parts { IfOk result (ArePartsOf (initial population) (database base.tables) (seed_of population)
+            base.commits base.epoch loggers terminals) }
+        ensures only_memory { IfErr result (λ refusal. refusal ≡ OutOfMemory) }
+    {
+        let Base {
+            tables,
+            rows,
+            commits,
+            epoch,
+        } = base;
+        let (newest, totals) = records_of(alloc, &tables)?;
+        let begun = Begun {
+            base: Some(tables),
+            rows,
+            past: commits,
+            newest,
+            totals,
+        };
+        assembled(rt, alloc, population, begun, epoch, loggers, terminals)
+    }
+}
+
+/// The first versions of tables' records, and the tables' totals.
+fn records_of(alloc: Global, tables: &Tables) -> Result<(Vec<Newest>, Totals), AllocError>
+    requires well_formed { IsWellFormed (database tables.now) }
+    requires consistent { IsConsistent (database tables.now) }
+    ensures newest { IfOk result (λ made. AreFirst (database tables.now) made.0.items) }
+    ensures totals { IfOk result (λ made. AreTotals (database tables.now) made.1) }
+{
+    let newest = first_versions(alloc, tables)?;
+    let totals = Totals::of(alloc, &tables.scale, &newest, &tables.history)?;
+    Ok((newest, totals))
+}
+
+/// The parts of an engine that begins so, with a board behind this epoch. `OutOfMemory` is the only refusal.
+fn assembled<R: Wait>(
+    rt: &R,
+    alloc: Global,
+    population: Population,
+    begun: Begun,
+    epoch: u64,
+    loggers: u16,
+    terminals: u16,
+) -> Result<Parts, Refusal>
+    requires start { IsStart (initial population) (option_map_or database begun.base (initial population))
+        begun.rows.items begun.past begun.newest.items begun.totals }
+    requires epoch { epoch < last_epoch }
+    requires loggers { (0 < loggers) × (loggers ≤ MAX_LOGGERS) }
+    requires terminals { (0 < terminals) × (terminals ≤ MAX_TERMINALS) }
+    ensures parts { IfOk result (ArePartsOf (initial population)
+        (option_map_or database begun.base (initial population)) (seed_of population) begun.past epoch loggers
+        terminals) }
+    ensures only_memory { IfErr result (λ refusal. refusal ≡ OutOfMemory) }
+{
+    let fresh = fresh_of(rt, alloc, &begun.newest, epoch, loggers, terminals)?;
+    let (population, lent) = shared(alloc, population)?;
+    Ok(Parts {
+        population,
+        lent,
+        begun,
+        history: Vec::new(alloc),
+        fresh,
+        blank: Blank::new(u64::from(terminals)),
+    })
+}
+
+/// What a run begins with in which nothing has committed, of these first versions, with a board behind this epoch.
+/// `OutOfMemory` is the only refusal.
+fn fresh_of<R: Wait>(
+    rt: &R,
+    alloc: Global,
+    newest: &[Newest],
+    epoch: u64,
+    loggers: u16,
+    terminals: u16,
+) -> Result<Fresh, Refusal>
+    requires epoch { epoch < last_epoch }
+    requires loggers { (0 < loggers) × (loggers ≤ MAX_LOGGERS) }
+    ensures fresh { IfOk result (IsUnused newest.now epoch loggers terminals) }
+    ensures only_memory { IfErr result (λ refusal. refusal ≡ OutOfMemory) }
+{
+    let (streams, lasts) = lists_of(alloc, loggers, terminals, epoch)?;
+    let board = Board::behind(alloc, epoch, u64::from(loggers), u64::from(terminals))?;
+    let cells = Cells::new(rt, alloc, newest, terminals as usize)?;
+    let (board, seats) = board;
+    let (cells, pen, readers) = cells;
+    Ok(Fresh {
+        cells,
+        pen,
+        readers,
+        board,
+        seats,
+        streams,
+        lasts,
+    })
+}
+
+/// The streams of loggers that have taken nothing, at this mark, and the last TIDs of terminals that have committed
+/// nothing.
+fn lists_of(
+    alloc: Global,
+    loggers: u16,
+    terminals: u16,
+    mark: u64,
+) -> Result<(Vec<Untaken>, Vec<TidWord>), AllocError>
+    ensures streams { IfOk result (λ lists. AreEmpty loggers mark lists.0.items) }
+    ensures lasts { IfOk result (λ lists. lists.1.items ≡ replicate terminals 0) }
+{
+    let streams = streams(alloc, loggers, mark)?;
+    let lasts = vec![in alloc; TidWord::new(0); terminals as usize]?;
+    Ok((streams, lasts))
+}
+
+/// The streams of loggers that have taken nothing, at this mark.
+fn streams(alloc: Global, loggers: u16, mark: u64) -> Result<Vec<Untaken>, AllocError>
+    ensures { IfOk result (λ streams. AreEmpty loggers mark streams.items) }
+{
+    let mut streams = Vec::new(alloc);
+    for _ in 0..loggers {
+        streams.push(Untaken::new(alloc, mark))?;
+    }
+    Ok(streams)
+}

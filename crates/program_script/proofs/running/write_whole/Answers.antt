@@ -1,5 +1,0 @@
-use Rattle.program_script.proofs.Progress.{front_more}
-use Rattle.program_script.proofs.running.write_whole.Goals as goal
-
-pub loop-preserved : goal.loop-preserved
-loop-preserved g c = front_more _ _ _ c.args.text.now c.loop.rest.now c.in-Ok.count c.in-Ok.ensures.bound c.loop.invariant c.in-Ok.ensures.bytes
