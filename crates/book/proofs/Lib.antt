@@ -1,3 +1,4 @@
+pub mod RunNames
 mod Checks
 mod Newest
 mod Held

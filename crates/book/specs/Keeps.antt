@@ -69,23 +69,25 @@ pub record KeepsBook (run : RunView) (book : BookParts) : Type 0 where
   pub streams : AreStreams run.board.plan (found_epoch book.seat) book.history book.streams
   pub loggable : AreLoggable run.first.scale run.parts book.history
 
--- what the engine's type keeps of its population, its cells and its board
-pub record IsEngineOf (run : RunView) (population : Database) (cells : List TableId) (board : BoardView) : Type 0 where
-  pub population_is : population ≡ run.population
-  pub of_population : IsOf run.population run.first
-  pub cells_are : cells ≡ run.cells
-  pub count : length run.cells ≡ record_count run.first.scale
-  pub board_is : board ≡ run.board
-  pub some : 0 < run.parts
+-- what the engine's type keeps of its population, its cells and its board, in a run that is named by these
+pub record IsEngineOf (population first : Database) (cells : List TableId) (board : BoardView) (parts : ℕ)
+    (own_population : Database) (own_cells : List TableId) (own_board : BoardView) : Type 0 where
+  pub population_is : own_population ≡ population
+  pub of_population : IsOf population first
+  pub cells_are : own_cells ≡ cells
+  pub count : length cells ≡ record_count first.scale
+  pub board_is : own_board ≡ board
+  pub some : 0 < parts
 
--- what the type of the terminals' seats keeps of those that are left: the readers and the seats of the board, the parts
--- and the commits of the share that they have together, and how many were given
-pub record AreSeatsLeft (run : RunView) (readers : List ReaderView) (seats : List SeatView) (parts commits given : ℕ)
-    : Type 0 where
-  pub own : All (λ reader. reader.cells ≡ run.cells) readers
-  pub new : All (λ seat. seat ≡ new_seat run.board Terminal) seats
+-- what the type of the terminals' seats keeps of those that are left, in a run of these cells, this board and so many
+-- parts: the readers and the seats of the board, the parts and the commits of the share that they have together, and
+-- how many were given
+pub record AreSeatsLeft (cells : List TableId) (board : BoardView) (all_parts : ℕ) (readers : List ReaderView)
+    (seats : List SeatView) (parts commits given : ℕ) : Type 0 where
+  pub own : All (λ reader. reader.cells ≡ cells) readers
+  pub new : All (λ seat. seat ≡ new_seat board Terminal) seats
   pub as_many : length seats ≡ length readers
   pub shares : parts ≡ length readers
   pub none : commits ≡ 0
-  pub all : given + length readers ≡ run.parts
-  pub few : run.parts < 2 ^ 16
+  pub all : given + length readers ≡ all_parts
+  pub few : all_parts < 2 ^ 16

@@ -38,16 +38,7 @@ impl<K: Run> Model for Engine<K> {
 
     ghost view = { λ e. tt };
 
-    ghost invariant = { λ e. IsEngineOf
-        (record {
-          population = K.population;
-          first = K.first;
-          seed = K.seed;
-          past = K.past;
-          cells = K.cells;
-          board = K.board;
-          parts = K.parts;
-        })
+    ghost invariant = { λ e. IsEngineOf K.population K.first K.cells K.board K.parts
         (initial (arc_value e.population)) e.cells e.board };
 }
 
@@ -184,16 +175,7 @@ impl<K: Run> Model for TerminalSeats<K> {
 
     ghost view = { λ s. record { left = length s.readers.items; given = s.given } };
 
-    ghost invariant = { λ s. AreSeatsLeft
-        (record {
-          population = K.population;
-          first = K.first;
-          seed = K.seed;
-          past = K.past;
-          cells = K.cells;
-          board = K.board;
-          parts = K.parts;
-        })
+    ghost invariant = { λ s. AreSeatsLeft K.cells K.board K.parts
         s.readers.items s.seats.items s.share.parts s.share.amount s.given };
 }
 

@@ -180,8 +180,8 @@ fn assembled<R: Wait>(
         terminals) }
     ensures only_memory { IfErr result (λ refusal. refusal ≡ OutOfMemory) }
 {
-    let fresh = fresh_of(rt, alloc, &begun.newest, epoch, loggers, terminals)?;
     let (population, lent) = shared(alloc, population)?;
+    let fresh = fresh_of(rt, alloc, &begun.newest, epoch, loggers, terminals)?;
     Ok(Parts {
         population,
         lent,

@@ -16,8 +16,8 @@ use conditions::RowCondition;
 use conditions_walks::Walk;
 use tables::{LineKey, NewOrder, Order, OrderKey, OrderLine, Tables};
 
-/// Whether each NEW-ORDER row and each ORDER-LINE row has its order, and no line's number is above its order's O_OL_CNT.
-/// In one pass over each of the two tables, beside one over ORDER.
+/// Whether each NEW-ORDER row and each ORDER-LINE row has its order, and no line's number is above its order's
+/// O_OL_CNT. In one pass over each of the two tables, beside one over ORDER.
 pub fn belong_to_orders(tables: &Tables) -> bool
     ensures { IsTrue result ↔ BelongToOrders (database tables.now) }
 {

@@ -1,5 +1,5 @@
-//! What recovered tables are asked beside the conditions: that each NEW-ORDER row and each line belongs to an order, and
-//! that no column is further from zero than so many commits can have taken it.
+//! What recovered tables are asked beside the conditions: that each NEW-ORDER row and each line belongs to an order,
+//! and that no column is further from zero than so many commits can have taken it.
 #![tactic(auto)]
 
 mod belonging;

@@ -15,6 +15,7 @@ use Rattle.tables.specs.declared.rows.District.{District}
 use Rattle.tables.specs.declared.rows.Customer.{Customer}
 use Rattle.tables.specs.declared.records.RecordKey.{RecordKey}
 use Rattle.tables.proofs.Orders.{IsExact, exact_number, exact_district, exact_customer, exact_order, exact_line, exact_stock}
+use Rattle.tables.proofs.Same.{same_database}
 use Rattle.rows.specs.Columns.{warehouse_columns, district_columns, customer_columns, IsOrderOfScale}
 use Rattle.rows.specs.Laws.{district_range, customer_range}
 use Rattle.rows.specs.Determined.{warehouse_determined, district_determined, customer_determined, order_determined, line_determined, stock_determined}
@@ -80,28 +81,15 @@ pub determined : (t0 : Database) (values : RecordKey → Option (List ℕ)) (t u
     → t ≡ u
 determined t0 values t u a b history =
     let s = t0.scale in
-    let scale = a.scale ∙ sym b.scale in
-    let items = a.items ∙ sym b.items in
-    let warehouses = same_table exact_number (IsWarehouseKey s) (IsWarehouseOf t0) warehouse_words _ t.warehouses u.warehouses (same_warehouse t0) a.warehouses
-    b.warehouses in
-    let districts = same_table exact_district (IsDistrictKey s) (IsDistrictOf t0) district_words _ t.districts u.districts (same_district t0) a.districts
-    b.districts in
-    let customers = same_table exact_customer (IsCustomerKey s) (IsCustomerOf t0) customer_words _ t.customers u.customers (same_customer t0) a.customers
-    b.customers in
-    let new_orders = same_table exact_order (IsOrderKey s) (λ k r. Unit {0}) new_order_words _ t.new_orders u.new_orders (λ k r q _ _ _. refl) a.new_orders
-    b.new_orders in
-    let orders = same_table exact_order (IsOrderKey s) (λ k r. IsOrderOfScale s r) order_words _ t.orders u.orders (λ k. order_determined s) a.orders b.orders in
-    let lines = same_table exact_line (IsLineKey s) (λ k r. IsLineRow s r) line_words _ t.lines u.lines (λ k. line_determined s) a.lines b.lines in
-    let stock = same_table exact_stock (IsStockKey s) (λ k r. IsStockRow r) stock_words _ t.stock u.stock (λ k r q _ _. stock_determined r q) a.stock b.stock in
-    λ i. record {
-      scale = scale i;
-      warehouses = warehouses i;
-      districts = districts i;
-      customers = customers i;
-      history = history i;
-      new_orders = new_orders i;
-      orders = orders i;
-      lines = lines i;
-      items = items i;
-      stock = stock i;
-    }
+    same_database t u (record {
+      scale = a.scale ∙ sym b.scale;
+      warehouses = same_table exact_number (IsWarehouseKey s) (IsWarehouseOf t0) warehouse_words _ _ _ (same_warehouse t0) a.warehouses b.warehouses;
+      districts = same_table exact_district (IsDistrictKey s) (IsDistrictOf t0) district_words _ _ _ (same_district t0) a.districts b.districts;
+      customers = same_table exact_customer (IsCustomerKey s) (IsCustomerOf t0) customer_words _ _ _ (same_customer t0) a.customers b.customers;
+      history = history;
+      new_orders = same_table exact_order (IsOrderKey s) (λ k r. Unit {0}) new_order_words _ _ _ (λ k r q _ _ _. refl) a.new_orders b.new_orders;
+      orders = same_table exact_order (IsOrderKey s) (λ k r. IsOrderOfScale s r) order_words _ _ _ (λ k. order_determined s) a.orders b.orders;
+      lines = same_table exact_line (IsLineKey s) (λ k r. IsLineRow s r) line_words _ _ _ (λ k. line_determined s) a.lines b.lines;
+      items = a.items ∙ sym b.items;
+      stock = same_table exact_stock (IsStockKey s) (λ k r. IsStockRow r) stock_words _ _ _ (λ k r q _ _. stock_determined r q) a.stock b.stock;
+    })

@@ -16,7 +16,8 @@ mod source;
 
 pub use populations::{plain_tables, seeded_tables};
 
-/// There is one plain population of a scale: `IsPlain` says all of its tables. It does nothing: its contract is the law.
+/// There is one plain population of a scale: `IsPlain` says all of its tables. It does nothing: its contract is the
+/// law.
 pub fn plain_tables_are_one()
     ensures { (s : Sizes) (t u : Database) → IsPlain s t → IsPlain s u → t ≡ u }
 {}

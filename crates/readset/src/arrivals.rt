@@ -201,6 +201,7 @@ impl<V: Copy> Arrivals<V> {
 }
 
 /// The place of a number in the order of these entries, or else the place where it would go.
+#[inline(always)]
 fn place_in<V>(entries: &[(u32, V)], order: &[(u32, u32)], number: u32) -> Result<usize, usize>
     requires { AreArrivals entries.now order.now }
     ensures { result ≡ place (in_order entries.now order.now) number }

@@ -1,4 +1,5 @@
 pub mod Orders
+pub mod Same
 pub mod KeyTests
 pub mod Views
 mod InTurn

@@ -32,8 +32,8 @@ pub fn transactions_keep_constants()
     ensures { (t0 t : Database) (x : Input) → IsOf t0 t → IsOf t0 (after t x) }
 {}
 
-/// Each transaction takes well-formed tables in reach of n commits to tables in reach of n + 1, below the largest commit
-/// cap.
+/// Each transaction takes well-formed tables in reach of n commits to tables in reach of n + 1, below the largest
+/// commit cap.
 pub fn transactions_stay_in_reach()
     ensures { (t : Database) (x : Input) (n : ℕ) → n < MAX_COMMITS → IsInput t.scale x → IsWellFormed t
         → IsInReach n t → IsInReach (n + 1) (after t x) }
