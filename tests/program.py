@@ -188,6 +188,7 @@ Usage: tpcc %s [OPTIONS] --logs <DIR> --loggers <N>
 Options:
       --logs <DIR>         The folder of the log files, log-0, log-1 and so on
       --loggers <N>        How many loggers wrote them, 1 to 8
+      --threads <N>        The number of threads that read the files, 1 to 8 [default: 1]
 """ + TABLE_OPTIONS
 
 RECOVER_HELP = b"Shows what log files recover to: durable epoch, commits, and the rows of warehouses and districts"
@@ -224,6 +225,16 @@ def faults_of_the_words_go_to_the_errors():
          b" '--population <SEED>': number too large to fit in target type"),
         ("recover --logs . --loggers 9", b"error: invalid value '9' for '--loggers <N>': 9 is not in 1..=8"),
         ("check --logs . --loggers 0", b"error: invalid value '0' for '--loggers <N>': 0 is not in 1..=8"),
+        ("recover --logs . --loggers 1 --threads 0",
+         b"error: invalid value '0' for '--threads <N>': 0 is not in 1..=8"),
+        ("check --logs . --loggers 1 --threads 9",
+         b"error: invalid value '9' for '--threads <N>': 9 is not in 1..=8"),
+        ("recover --logs . --loggers 1 --threads x",
+         b"error: invalid value 'x' for '--threads <N>': invalid digit found in string"),
+        ("check --logs . --loggers 1 --threads 2 --threads 2",
+         b"error: the argument '--threads <N>' cannot be used multiple times\n\n"
+         b"Usage: tpcc check [OPTIONS] --logs <DIR> --loggers <N>"),
+        ("script --threads 2", b"error: unexpected argument '--threads' found\n\nUsage: tpcc script [OPTIONS]"),
         ("recover --loggers 1", b"error: the following required arguments were not provided:\n  --logs <DIR>\n\n"
                                 b"Usage: tpcc recover --logs <DIR> --loggers <N>"),
         ("check --logs .", b"error: the following required arguments were not provided:\n  --loggers <N>\n\n"
@@ -292,6 +303,24 @@ def log_files_of_eight_loggers_are_recovered():
     shown = b"durable 9\ncommits 8\nwarehouse 1 ytd 208.00\ndistrict 1 1 ytd 108.00 next 11\n"
     ends("of recover", on_logs("recover", files), 0, shown + b"district 1 2 ytd 100.00 next 11\n")
     ends("of check", on_logs("check", files), 0, whole(b"", 8))
+
+
+@shows
+def log_files_are_recovered_alike_in_any_number_of_threads():
+    eight = [log(n, 8, body(9, entry(n + 1, n + 1, n))) for n in range(8)]
+    kinds = [
+        ("two files", LOGS, 0),
+        ("eight files", eight, 0),
+        ("a missing commit", [log(0, 2, body(5)), LATER], 1),
+        ("a file without a header", [LOGS[0], b""], 1),
+    ]
+    for subcommand in ("recover", "check"):
+        for what, logs, status in kinds:
+            alone = on_logs(subcommand, logs)
+            same(f"the status of {subcommand} of {what}", alone.status, status)
+            for threads in ("1", "2", "8"):
+                ran = on_logs(subcommand, logs, scale=[*SMALL[1:], "--threads", threads])
+                ends(f"of {subcommand} of {what} in {threads} threads", ran, *alone)
 
 
 @shows

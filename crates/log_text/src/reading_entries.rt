@@ -1,5 +1,5 @@
-//! Reading entries and bodies. Vectors grow by what is read, one after the other, so no count of a file takes memory
-//! that its bytes don't pay for.
+//! Reading entries and bodies. No count of a file takes memory that its bytes don't pay for: vectors grow by what is
+//! read, one after the other, or have room for no more than the bytes that are left can hold.
 ghost use Rattle.std.specs.Prelude.{◌≡◌, ◌≤◌, ◌+◌, ◌-◌, length, map};
 ghost use Rattle.log_codec.specs.Read.{many, filled};
 ghost use Rattle.log_text.specs.Entries.{logged};
@@ -15,11 +15,15 @@ use money::Refusal;
 use std::alloc::Global;
 use tables::limits::MAX_WRITES;
 
+/// The bytes of a write without columns: its table, its place, and that the record is absent.
+const SHORTEST_WRITE: usize = 6;
+
 /// So many writes, one behind the other.
 fn writes_from(alloc: Global, count: u16, bytes: &[u8]) -> Result<(Vec<Write>, &[u8]), Refusal>
     ensures { Gives (λ x. (x.0.items, x.1.now)) result (many count write_from bytes.now) }
 {
-    let mut writes = Vec::new(alloc);
+    let most = usize::from(count).min(bytes.len() / SHORTEST_WRITE);
+    let mut writes = Vec::with_capacity(alloc, most)?;
     let mut rest = bytes;
     'writes: for _ in 0..count {
         let Some((write, behind)) = write_from(rest) else {

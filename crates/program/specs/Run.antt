@@ -51,18 +51,18 @@ pub record IsBrokenOff (t0 : Database) (bytes : List ℕ) (old new : Option (Lis
 abbrev pub IsDone : Database → ℕ → Subcommand → List ℕ → Option (List ℕ) → Option (List ℕ) → Report → Type 0
 IsDone t0 seed Script bytes old new report = IsAnswered t0 bytes old new report
 IsDone t0 seed (Run r) bytes old new report = IsRan t0 r.terminals r.count old new report
-IsDone t0 seed (Recover files) bytes old new report = IsShownWith t0 seed old new report
-IsDone t0 seed (Check files) bytes old new report = IsCheckedWith t0 seed old new report
+IsDone t0 seed (Recover r) bytes old new report = IsShownWith t0 seed old new report
+IsDone t0 seed (Check r) bytes old new report = IsCheckedWith t0 seed old new report
 
 -- or it was refused, of which this is known
 abbrev pub IsFailed : Database → ℕ → Subcommand → List ℕ → Option (List ℕ) → Option (List ℕ) → Refusal
     → Option CauseView → Type 0
 IsFailed t0 seed Script bytes old new refusal known = IsBrokenOff t0 bytes old new refusal × (known ≡ None)
 IsFailed t0 seed (Run r) bytes old new refusal known = IsUnfinishedRun r t0 old new refusal known
-IsFailed t0 seed (Recover files) bytes old new refusal known =
-    IsRefusedWith files Shows t0 seed old new refusal known
-IsFailed t0 seed (Check files) bytes old new refusal known =
-    IsRefusedWith files Reports t0 seed old new refusal known
+IsFailed t0 seed (Recover r) bytes old new refusal known =
+    IsRefusedWith r.files Shows t0 seed old new refusal known
+IsFailed t0 seed (Check r) bytes old new refusal known =
+    IsRefusedWith r.files Reports t0 seed old new refusal known
 
 -- what was asked for was done, over the population and at the scale that were asked for
 pub record IsWholeRun (o : Options) (bytes : List ℕ) (old new : Option (List ℕ)) (report : Report) : Type 0 where

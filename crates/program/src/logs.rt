@@ -14,65 +14,86 @@ use conditions::{Report, check};
 use log_disk::{Disk, FileDisk, sync_folder};
 use money::Refusal;
 use population::Population;
-use program_options::LogFiles;
+use program_options::{LogFiles, RecoverOptions};
 use program_recovery::{checked, recovered};
 use std::alloc::{AllocError, Global};
 use std::fs::{File, TryLockError};
 use std::io::{Error, ErrorKind, Write};
 use std::rt::Files;
+use std::thread::Threads;
 
-/// Recovers log files and shows what they recover to. Answers the report of the recovered tables.
-pub(crate) fn show<T: Files<File = File>, W: Write>(
+/// Recovers log files, in as many threads as are asked for, and shows what they recover to. Answers the report of the
+/// recovered tables. May wait, for its threads.
+pub(crate) fn show<T: Threads + Files<File = File> + Sync, W: Write>(
     rt: &T,
     alloc: Global,
     population: &Population,
-    files: &LogFiles,
+    options: &RecoverOptions,
     output: &mut W,
 ) -> Result<Report, Fault>
     ensures shown { IfOk result (IsShownWith (initial population.now) (seed_of population.now)
         (W.contents output.old) (W.contents output.new)) }
-    ensures refused { IfErr result (λ fault. IsRefusedWith files.now Shows (initial population.now)
+    ensures refused { IfErr result (λ fault. IsRefusedWith options.now.files Shows (initial population.now)
         (seed_of population.now) (W.contents output.old) (W.contents output.new) fault.refusal (cause_of fault)) }
 {
+    let files = &options.files;
     let mut disks = match disks(rt, alloc, files, Purpose::Read) {
         Ok(disks) => disks,
         Err(fault) => return Err(fault),
     };
-    match show_recovered(alloc, population, &mut disks, output) {
+    match show_recovered(
+        rt,
+        alloc,
+        population,
+        &mut disks,
+        output,
+        options.threads as usize,
+    ) {
         Ok(report) => Ok(report),
         Err(refusal) => Err(unrecovered(alloc, population, files, refusal, &mut disks)),
     }
 }
 
-/// Recovers log files and writes the report of the recovered tables.
-pub(crate) fn report<T: Files<File = File>, W: Write>(
+/// Recovers log files, in as many threads as are asked for, and writes the report of the recovered tables. May wait,
+/// for its threads.
+pub(crate) fn report<T: Threads + Files<File = File> + Sync, W: Write>(
     rt: &T,
     alloc: Global,
     population: &Population,
-    files: &LogFiles,
+    options: &RecoverOptions,
     output: &mut W,
 ) -> Result<Report, Fault>
     ensures checked { IfOk result (IsCheckedWith (initial population.now) (seed_of population.now)
         (W.contents output.old) (W.contents output.new)) }
-    ensures refused { IfErr result (λ fault. IsRefusedWith files.now Reports (initial population.now)
+    ensures refused { IfErr result (λ fault. IsRefusedWith options.now.files Reports (initial population.now)
         (seed_of population.now) (W.contents output.old) (W.contents output.new) fault.refusal (cause_of fault)) }
 {
+    let files = &options.files;
     let mut disks = match disks(rt, alloc, files, Purpose::Read) {
         Ok(disks) => disks,
         Err(fault) => return Err(fault),
     };
-    match checked(alloc, population, &mut disks, output) {
+    match checked(
+        rt,
+        alloc,
+        population,
+        &mut disks,
+        output,
+        options.threads as usize,
+    ) {
         Ok(report) => Ok(report),
         Err(refusal) => Err(unrecovered(alloc, population, files, refusal, &mut disks)),
     }
 }
 
 /// Shows what disks recover to, and checks the recovered tables.
-fn show_recovered<D: Disk, W: Write>(
+fn show_recovered<T: Threads + Sync, D: Disk + Send, W: Write>(
+    rt: &T,
     alloc: Global,
     population: &Population,
     disks: &mut [D],
     output: &mut W,
+    threads: usize,
 ) -> Result<Report, Refusal>
     ensures shown { IfOk result (IsShownWith (initial population.now) (seed_of population.now)
         (W.contents output.old) (W.contents output.new)) }
@@ -80,7 +101,7 @@ fn show_recovered<D: Disk, W: Write>(
         (seed_of population.now) strings Shows (map D.failed disks.old) (map D.failed disks.new)
         (W.contents output.old) (W.contents output.new) refusal) }
 {
-    let recovered = recovered(alloc, population, disks, output)?;
+    let recovered = recovered(rt, alloc, population, disks, output, threads)?;
     check(alloc, &recovered.tables)
 }
 

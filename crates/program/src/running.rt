@@ -151,8 +151,8 @@ fn answer_over<
     match subcommand {
         Subcommand::Script => answer_script(rt, alloc, population, input, output),
         Subcommand::Run(options) => live(rt, alloc, population, options, output, screen),
-        Subcommand::Recover(files) => show(rt, alloc, &population, files, output),
-        Subcommand::Check(files) => report(rt, alloc, &population, files, output),
+        Subcommand::Recover(options) => show(rt, alloc, &population, options, output),
+        Subcommand::Check(options) => report(rt, alloc, &population, options, output),
     }
 }
 

@@ -24,10 +24,11 @@ use Rattle.clap.proofs.WalkLemmas.{both, one_text-rows}
 use Rattle.clap.proofs.OnLiterals.{clap_on_literals}
 use Rattle.program_options.specs.declared.asked.Options.{Options}
 use Rattle.program_options.specs.declared.asked.LogFiles.{LogFiles}
+use Rattle.program_options.specs.declared.asked.RecoverOptions.{RecoverOptions}
 use Rattle.program_options.specs.declared.asked.RunOptions.{RunOptions}
 use Rattle.program_options.specs.declared.asked.Subcommand.{Subcommand}
 use Rattle.program_options.specs.declared.asked.Subcommand.TheVariants.{Script, Run, Recover, Check}
-use Rattle.program_options.specs.CommandLine.{AreLogFiles, AreOptionsWritten, AreRunOptions, HasOwnOptions, IsAskedBy, WritesNumber, WritesWithin, app_for, given_rows, subcommand_name, program_app, rules_for}
+use Rattle.program_options.specs.CommandLine.{AreLogFiles, AreOptionsWritten, AreRecoverOptions, AreRunOptions, HasOwnOptions, IsAskedBy, WritesNumber, WritesWithin, app_for, given_rows, subcommand_name, program_app, rules_for}
 use Rattle.program_options.specs.CommandLine.{subcommand_words, text_for, text_in}
 use Rattle.program_options.proofs.Defaults.{HasDefault, default_given, within_given, has_any, has_default, no_default}
 
@@ -153,7 +154,7 @@ have_tables (Run options) = record {
   commits = (_, refl, refl, refl);
   population = (_, refl, refl, refl);
 }
-have_tables (Recover files) = record {
+have_tables (Recover options) = record {
   warehouses = (_, refl, refl, refl);
   districts = (_, refl, refl, refl);
   customers = (_, refl, refl, refl);
@@ -162,7 +163,7 @@ have_tables (Recover files) = record {
   commits = (_, refl, refl, refl);
   population = (_, refl, refl, refl);
 }
-have_tables (Check files) = record {
+have_tables (Check options) = record {
   warehouses = (_, refl, refl, refl);
   districts = (_, refl, refl, refl);
   customers = (_, refl, refl, refl);
@@ -178,6 +179,15 @@ logs_given rules rows files no_folder no_loggers had = record {
   folder = ap (option_and_then (λ (r : Row). slice_get r.values 0)) (sym (no_default (codes "logs") rows rules no_folder)) ∙ had.folder;
   loggers = subst (λ (o : Option Text). WritesNumber 32 o files.loggers)
       (ap (option_and_then row_text) (no_default (codes "loggers") rows rules no_loggers)) had.loggers;
+}
+
+-- where the rule of the threads is found by its name, with its default, so it is of what a recovery is asked for
+recovery_given : (rules : List Rule) (rows : List Row) (r : RecoverOptions) → has_default (codes "logs") rules ≡ false → has_default (codes "loggers") rules ≡ false
+    → HasDefault rules (codes "threads") (codes "1") → AreRecoverOptions (text_in (fold with_default rows rules)) (fold with_default rows rules) r
+    → AreRecoverOptions (text_for rows) rows r
+recovery_given rules rows r no_folder no_loggers has had = record {
+  files = logs_given rules rows r.files no_folder no_loggers had.files;
+  threads = within_given (codes "threads") (codes "1") rows rules has 1 8 r.threads had.threads;
 }
 
 -- where each of a run's own rules is found by its name, with its default, so it is of a run's options
@@ -209,8 +219,8 @@ has_own : (s : Subcommand) (rows : List Row) → HasOwnOptions (text_in (fold wi
     → HasOwnOptions (text_for rows) rows s
 has_own Script rows had = tt
 has_own (Run r) rows had = run_given (rules_for (Run r)) rows r refl (has_run r) had
-has_own (Recover files) rows had = logs_given (rules_for (Recover files)) rows files refl refl had
-has_own (Check files) rows had = logs_given (rules_for (Check files)) rows files refl refl had
+has_own (Recover r) rows had = recovery_given (rules_for (Recover r)) rows r refl refl (_, refl, refl, refl) had
+has_own (Check r) rows had = recovery_given (rules_for (Check r)) rows r refl refl (_, refl, refl, refl) had
 
 -- the subcommand's shape, as clap builds it
 abbrev shape_for : Subcommand → Shape
@@ -220,8 +230,8 @@ shape_for s = built_leaf (inherited program_app.top (app_for s).top)
 by_its_name : (s : Subcommand) → find (λ x. bytes_eq x.name (subcommand_name s)) (built program_app).subs ≡ Some (shape_for s)
 by_its_name Script = refl
 by_its_name (Run options) = refl
-by_its_name (Recover files) = refl
-by_its_name (Check files) = refl
+by_its_name (Recover options) = refl
+by_its_name (Check options) = refl
 
 module _ {Z : Type 0} where
   names_of_rows : (o : Option (Box SubCommand Z)) → option_map (λ b. (out-SubCommand (box_value b)).name.now) o ≡ option_map (λ p. p.0) (subcommand_rows o)

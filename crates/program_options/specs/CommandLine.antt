@@ -15,9 +15,10 @@ use Rattle.clap.specs.declared.builder.value_parser.ValueParser.TheVariants.{Non
 use Rattle.clap.specs.declared.error.Error.{Error}
 use Rattle.clap.specs.declared.error.kind.ErrorKind.TheVariants.{InvalidValue}
 use Rattle.tables.specs.declared.limits.TheConstants.{MAX_LOGGERS, MAX_TERMINALS}
-use Rattle.program_options.specs.declared.asked.TheConstants.{MAX_INPUTS}
+use Rattle.program_options.specs.declared.asked.TheConstants.{MAX_INPUTS, MAX_RECOVERY_THREADS}
 use Rattle.program_options.specs.declared.asked.LogFiles.{LogFiles}
 use Rattle.program_options.specs.declared.asked.Options.{Options}
+use Rattle.program_options.specs.declared.asked.RecoverOptions.{RecoverOptions}
 use Rattle.program_options.specs.declared.asked.RunOptions.{RunOptions}
 use Rattle.program_options.specs.declared.asked.Subcommand.{Subcommand}
 use Rattle.program_options.specs.declared.asked.Subcommand.TheVariants.{Script, Run, Recover, Check}
@@ -83,9 +84,20 @@ limited_option name low high = record (new_rule name) {
 abbrev pub loggers_option : Rule
 loggers_option = limited_option (codes "loggers") 1 MAX_LOGGERS
 
--- a command with the options of log files that are there, which must be given
+-- the number of threads that read them
+abbrev pub threads_option : Rule
+threads_option = limited_option (codes "threads") 1 MAX_RECOVERY_THREADS
+
+-- the options of log files that are there, of which folder and loggers must be given
+abbrev pub log_options : List Rule
+log_options = folder_option
+    ∷ record loggers_option { required = true }
+    ∷ record threads_option { defaults = codes "1" ∷ [] }
+    ∷ []
+
+-- a command with them
 abbrev pub with_logs : App → App
-with_logs app = with_rule (with_rule app folder_option) (record loggers_option { required = true })
+with_logs app = fold with_rule app log_options
 
 -- the options of a run: the log files that it makes, its terminals, and their inputs
 abbrev pub run_options : List Rule
@@ -125,15 +137,15 @@ bare_app = record (new_app (codes "tpcc")) {
 abbrev pub subcommand_name : Subcommand → Text
 subcommand_name Script = codes "script"
 subcommand_name (Run options) = codes "run"
-subcommand_name (Recover files) = codes "recover"
-subcommand_name (Check files) = codes "check"
+subcommand_name (Recover options) = codes "recover"
+subcommand_name (Check options) = codes "check"
 
 -- its command
 abbrev pub app_for : Subcommand → App
 app_for Script = script_app
 app_for (Run options) = run_app
-app_for (Recover files) = on_logs_app (codes "recover")
-app_for (Check files) = on_logs_app (codes "check")
+app_for (Recover options) = on_logs_app (codes "recover")
+app_for (Check options) = on_logs_app (codes "check")
 
 -- the program's command, as clap reads it
 abbrev pub program_app : App
@@ -195,12 +207,17 @@ pub record AreRunOptions (text : Text → Text → Option Text) (rows : List Row
   pub count : WritesWithin 0 MAX_INPUTS (text (codes "count") (codes "100")) r.count
   pub seed : WritesNumber 64 (text (codes "seed") (codes "1")) r.seed
 
+-- the log files to be read are those that are given, and the threads that read them are the number that its text writes
+pub record AreRecoverOptions (text : Text → Text → Option Text) (rows : List Row) (r : RecoverOptions) : Type 0 where
+  pub files : AreLogFiles rows r.files
+  pub threads : WritesWithin 1 MAX_RECOVERY_THREADS (text (codes "threads") (codes "1")) r.threads
+
 -- so it is of a subcommand's own options, beside those of the tables
 abbrev pub HasOwnOptions : (Text → Text → Option Text) → List Row → Subcommand → Type 0
 HasOwnOptions text rows Script = ⊤
 HasOwnOptions text rows (Run r) = AreRunOptions text rows r
-HasOwnOptions text rows (Recover files) = AreLogFiles rows files
-HasOwnOptions text rows (Check files) = AreLogFiles rows files
+HasOwnOptions text rows (Recover r) = AreRecoverOptions text rows r
+HasOwnOptions text rows (Check r) = AreRecoverOptions text rows r
 
 -- clap finds no fault with the words, they name the subcommand, and those after it write these options
 pub record IsAskedBy (words : List Text) (o : Options) : Type 0 where

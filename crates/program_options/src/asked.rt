@@ -1,12 +1,16 @@
 //! What a command line asks for.
 ghost use Rattle.std.specs.Prelude.{◌≤◌};
 ghost use Rattle.tables.specs.declared.limits.TheConstants.{MAX_LOGGERS, MAX_TERMINALS};
+ghost use Rattle.program_options.specs.declared.asked.TheConstants.{MAX_RECOVERY_THREADS};
 
 use money::Refusal;
 use tables::Scale;
 
 /// The most inputs of a terminal in a run.
 pub const MAX_INPUTS: u32 = 1_000_000;
+
+/// The most threads that read log files: as many as a database can have of those.
+pub const MAX_RECOVERY_THREADS: u32 = 8;
 
 /// What the program is to do.
 #[derive(Debug, Drop, PartialEq, Eq)]
@@ -16,9 +20,9 @@ pub enum Subcommand {
     /// `run`: runs terminals beside loggers.
     Run(RunOptions),
     /// `recover`: shows what log files recover to.
-    Recover(LogFiles),
+    Recover(RecoverOptions),
     /// `check`: reports the conditions of what log files recover to.
-    Check(LogFiles),
+    Check(RecoverOptions),
 }
 
 /// Where the log files of a database lie: in one folder, a file for each logger, `log-0`, `log-1` and so on.
@@ -28,6 +32,16 @@ pub struct LogFiles {
     pub folder: String,
     /// `--loggers`, 1 to 8.
     pub loggers: u32,
+}
+
+/// What `recover` and `check` are to recover, and how.
+#[derive(Debug, Drop, PartialEq, Eq)]
+pub struct RecoverOptions {
+    /// The log files.
+    pub files: LogFiles,
+    /// `--threads`, 1 to 8: in how many threads the files are read.
+    pub threads: u32,
+    ghost readers: { (1 ≤ threads) × (threads ≤ MAX_RECOVERY_THREADS) },
 }
 
 /// What `run` is to run.

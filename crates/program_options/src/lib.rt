@@ -5,5 +5,5 @@ mod asked;
 mod run_words;
 mod words;
 
-pub use asked::{LogFiles, Options, RunOptions, Subcommand};
+pub use asked::{LogFiles, Options, RecoverOptions, RunOptions, Subcommand};
 pub use words::options;

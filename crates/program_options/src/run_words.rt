@@ -1,15 +1,15 @@
 //! The options of `run`.
 ghost use Rattle.std.specs.Prelude.{◌≡◌, ◌≤◌, ◌∷◌, IfErr, IfOk, [], codes, false};
-ghost use Rattle.clap.specs.Words.{app_of, found_of, one_of, rows_of, rule_of};
+ghost use Rattle.clap.specs.Words.{app_of, found_of, rows_of, rule_of};
 ghost use Rattle.clap.specs.Kinds.{HasKind};
 ghost use Rattle.clap.specs.declared.error.kind.ErrorKind.TheVariants.{InvalidValue};
 ghost use Rattle.tables.specs.declared.limits.TheConstants.{MAX_TERMINALS};
 ghost use Rattle.program_options.specs.declared.asked.TheConstants.{MAX_INPUTS};
-ghost use Rattle.program_options.specs.CommandLine.{AreRunOptions, HasApp, IsLocal, WritesWithin, limited_option};
+ghost use Rattle.program_options.specs.CommandLine.{AreRunOptions, HasApp, IsLocal, limited_option};
 ghost use Rattle.program_options.specs.CommandLine.{text_in, with_run as with_run_options};
 
 use crate::asked::{LogFiles, MAX_INPUTS, RunOptions};
-use crate::words::{folder, folder_given, loggers, refusal, seed, value_of};
+use crate::words::{folder, folder_given, loggers, number_within, seed, value_of};
 use clap::{Arg, ArgMatches, Command, Error, value_parser};
 use std::alloc::{AllocError, Global};
 use tables::limits::{MAX_LOGGERS, MAX_TERMINALS};
@@ -72,23 +72,4 @@ pub(crate) fn run_options(alloc: Global, given: &ArgMatches<'_>) -> Result<RunOp
         count: number_within(alloc, given, "count", (0, MAX_INPUTS))?,
         seed: value_of::<u64>(alloc, given, "seed")?,
     })
-}
-
-/// The number that the matches give for an option whose parser lets no other through than those from the first of these
-/// limits to the second.
-fn number_within(
-    alloc: Global,
-    given: &ArgMatches<'_>,
-    name: &str,
-    limits: (u32, u32),
-) -> Result<u32, Error>
-    ensures written { IfOk result (WritesWithin limits.0 limits.1 (one_of name.now (rows_of (found_of given.now)))) }
-    ensures unread { IfErr result (HasKind (InvalidValue ∷ [])) }
-{
-    let number = value_of::<u32>(alloc, given, name)?;
-    if limits.0 <= number && number <= limits.1 {
-        return Ok(number);
-    }
-    let text = format!(in alloc; "the value of '--{name}' is outside its limits")?;
-    Err(refusal(alloc, text.as_str())?)
 }

@@ -1,17 +1,17 @@
 //! How the words of a command line are read.
 ghost use Rattle.std.specs.Prelude.{◌≡◌, ◌∷◌, IfErr, IfOk, List, Ok, Some, [], codes, false, map, string_bytes, ℕ};
-ghost use Rattle.clap.specs.Walk.{first_of};
+ghost use Rattle.clap.specs.Walk.{first_of, one_of};
 ghost use Rattle.clap.specs.Words.{app_of, found_of, kind_of, one_text, rows_of, rule_of};
 ghost use Rattle.clap.specs.Kinds.{HasKind};
 ghost use Rattle.clap.specs.declared.error.kind.ErrorKind.TheVariants.{InvalidValue};
-ghost use Rattle.program_options.specs.CommandLine.{AreLogFiles, AreOptionsWritten, HasApp, HasOwnOptions, IsAskedBy, IsLocal};
+ghost use Rattle.program_options.specs.CommandLine.{AreLogFiles, AreOptionsWritten, AreRecoverOptions, HasApp};
+ghost use Rattle.program_options.specs.CommandLine.{HasOwnOptions, IsAskedBy, IsLocal, WritesWithin};
 ghost use Rattle.program_options.specs.CommandLine.{IsOptionsRefusal, folder_option, loggers_option, subcommand_name};
 ghost use Rattle.program_options.specs.CommandLine.{number_option, on_logs_app, program_app, run_app, script_app};
-ghost use Rattle.program_options.specs.CommandLine.{seed_option};
-ghost use Rattle.program_options.specs.CommandLine.{text_in};
+ghost use Rattle.program_options.specs.CommandLine.{seed_option, text_in, threads_option};
 ghost use Rattle.program_options.specs.CommandLine.{with_logs as with_log_options, with_tables as with_table_options};
 
-use crate::asked::{LogFiles, Options, Subcommand};
+use crate::asked::{LogFiles, MAX_RECOVERY_THREADS, Options, RecoverOptions, Subcommand};
 use crate::run_words::{run_options, with_run};
 use clap::builder::ValueParser;
 use clap::error::ErrorKind;
@@ -97,13 +97,16 @@ fn on_log_files<'a>(alloc: Global, name: &'a str, about: &'a str) -> Result<Comm
     with_tables(alloc, command)
 }
 
-/// A subcommand with the options of log files: where they lie, and how many there are.
+/// A subcommand with the options of log files: where they lie, how many there are, and how many threads read them.
 fn with_logs<'a>(alloc: Global, command: Command<'a>) -> Result<Command<'a>, AllocError>
     requires local { IsLocal command }
     ensures app { IfOk result (HasApp (with_log_options (app_of command.entry))) }
 {
     let loggers = loggers(alloc, "How many loggers wrote them, 1 to 8").required(true);
-    command.arg(folder(alloc))?.arg(loggers)
+    command
+        .arg(folder(alloc))?
+        .arg(loggers)?
+        .arg(threads(alloc).default_value("1"))
 }
 
 /// The option `--logs`, which must stand.
@@ -129,6 +132,18 @@ pub(crate) fn loggers<'a>(alloc: Global, help: &'a str) -> Arg<'a>
         .value_name("N")
         .value_parser(value_parser!(u32).range(1..=MAX_LOGGERS as i64))
         .help(help)
+}
+
+/// The option `--threads`.
+fn threads<'a>(alloc: Global) -> Arg<'a>
+    ensures rule { rule_of result ≡ threads_option }
+    ensures local { result.global ≡ false }
+{
+    Arg::new(alloc, "threads")
+        .long("threads")
+        .value_name("N")
+        .value_parser(value_parser!(u32).range(1..=MAX_RECOVERY_THREADS as i64))
+        .help("The number of threads that read the files, 1 to 8")
 }
 
 /// A subcommand with the options of the tables that it begins with: their scale and their population.
@@ -212,7 +227,7 @@ fn options_given(alloc: Global, name: &str, given: &ArgMatches<'_>) -> Result<Op
     })
 }
 
-/// The subcommand of this name, with the log files that its matches give.
+/// The subcommand of this name, with the options of its own that its matches give.
 fn subcommand(alloc: Global, name: &str, given: &ArgMatches<'_>) -> Result<Subcommand, Error>
     ensures named { IfOk result (λ s. name.now ≡ subcommand_name s) }
     ensures own { IfOk result (HasOwnOptions (text_in (rows_of (found_of given.now))) (rows_of (found_of given.now))) }
@@ -221,10 +236,22 @@ fn subcommand(alloc: Global, name: &str, given: &ArgMatches<'_>) -> Result<Subco
     match name {
         "script" => Ok(Subcommand::Script),
         "run" => Ok(Subcommand::Run(run_options(alloc, given)?)),
-        "recover" => Ok(Subcommand::Recover(log_files(alloc, given)?)),
-        "check" => Ok(Subcommand::Check(log_files(alloc, given)?)),
+        "recover" => Ok(Subcommand::Recover(recover_options(alloc, given)?)),
+        "check" => Ok(Subcommand::Check(recover_options(alloc, given)?)),
         _ => Err(refusal(alloc, "a subcommand is required")?),
     }
+}
+
+/// What the matches give for a recovery.
+fn recover_options(alloc: Global, given: &ArgMatches<'_>) -> Result<RecoverOptions, Error>
+    ensures written { IfOk result (AreRecoverOptions (text_in (rows_of (found_of given.now)))
+        (rows_of (found_of given.now))) }
+    ensures unread { IfErr result (HasKind (InvalidValue ∷ [])) }
+{
+    Ok(RecoverOptions {
+        files: log_files(alloc, given)?,
+        threads: number_within(alloc, given, "threads", (1, MAX_RECOVERY_THREADS))?,
+    })
 }
 
 /// The log files that the matches give.
@@ -270,6 +297,25 @@ where
             Err(refusal(alloc, text.as_str())?)
         }
     }
+}
+
+/// The number that the matches give for an option whose parser lets no other through than those from the first of these
+/// limits to the second.
+pub(crate) fn number_within(
+    alloc: Global,
+    given: &ArgMatches<'_>,
+    name: &str,
+    limits: (u32, u32),
+) -> Result<u32, Error>
+    ensures written { IfOk result (WritesWithin limits.0 limits.1 (one_of name.now (rows_of (found_of given.now)))) }
+    ensures unread { IfErr result (HasKind (InvalidValue ∷ [])) }
+{
+    let number = value_of::<u32>(alloc, given, name)?;
+    if limits.0 <= number && number <= limits.1 {
+        return Ok(number);
+    }
+    let text = format!(in alloc; "the value of '--{name}' is outside its limits")?;
+    Err(refusal(alloc, text.as_str())?)
 }
 
 /// An error of the program's own with this text.

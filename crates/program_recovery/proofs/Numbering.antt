@@ -1,18 +1,20 @@
 -- How often numbers stand among entries that rise.
 use Rattle.std.proofs.Common.{◌≡◌, ℕ, suc, ◌+◌, ◌<◌, ◌≤◌, cond, List, [], ◌∷◌, ◌++◌, length, map, get_or, take, drop, refl, sym, ap, ◌∙◌, subst, arith}
-use Rattle.std.proofs.Common.{⊎_elim, add-one, drop-cons, Option, Some, None}
+use Rattle.std.proofs.Common.{⊎_elim, drop-cons, Option, Some, None}
 use Rattle.std.specs.Prelude.{◌==◌, MatchOption}
-use Rattle.std.specs.List.{All, Contains, sum_by}
+use Rattle.std.specs.List.{All}
 use Rattle.std.specs.List.Sorted.{IsNonDecreasingBy, IsPermutation}
 use Rattle.std.proofs.lemmas.Bool.Decides.{eqb_tells, nat_tests}
-use Rattle.std.proofs.lemmas.List.{get_or-map, length-map, length-take-le, map-append, take-append-drop, take_more}
+use Rattle.std.proofs.lemmas.List.{get_or-map, length-map, length-take-le, take-append-drop, take_more}
 use Rattle.std.proofs.lemmas.List.Elements.{Contains-append_left, Contains-append_right, Contains-push}
 use Rattle.std.proofs.lemmas.List.Sorted.{Contains-permutation, IsPermutation-sym, sum_by-IsPermutation}
 use Rattle.std.proofs.lemmas.List.Sums.{sum_by-append, sum_by-cons}
-use Rattle.log_text.specs.Entries.{EntryView, logged}
-use Rattle.log_text.specs.declared.entry.LoggedEntry.{LoggedEntry}
+use Rattle.log_text.specs.Entries.{EntryView}
 use Rattle.recover_laws.specs.Rebuilt.{AreNumbered, HaveNoGap}
+use Rattle.recover.specs.Parts.{commit_of}
+use Rattle.recover.specs.declared.numbering.Commit.{Commit}
 use Rattle.recover.proofs.LawfulEntries.{IsPositive}
+use Rattle.recover.proofs.Ordering.{next_entry, entries_rise}
 use Rattle.program_recovery.specs.Flaws.{IsFirstAmiss, IsMisnumbered, times}
 use Rattle.program_recovery.specs.declared.gap.Misnumbered.{Misnumbered}
 use Rattle.program_recovery.specs.declared.gap.Misnumbered.TheVariants.{Missing, Twice}
@@ -92,65 +94,59 @@ pub numbered_more : (m : ℕ) (es : List EntryView) (e : EntryView) → AreNumbe
 numbered_more m [] e numbers is = (omega (arith, is), tt)
 numbered_more m (d ∷ es) e numbers is = (numbers.0, numbered_more (m + 1) es e numbers.1 (omega (arith, is)))
 
--- entries that rise, as views
-rest_rises : (x : LoggedEntry) (xs : List LoggedEntry) → IsNonDecreasingBy (λ (c : LoggedEntry). c.number) (x ∷ xs) → IsNonDecreasingBy (λ (c : LoggedEntry). c.number) xs
+-- the first of some entries, or this one
+hd_or : EntryView → List EntryView → EntryView
+hd_or e [] = e
+hd_or e (x ∷ xs) = x
+
+-- entries that rise
+rest_rises : (x : EntryView) (xs : List EntryView) → IsNonDecreasingBy (λ (e : EntryView). e.number) (x ∷ xs) → IsNonDecreasingBy (λ (e : EntryView). e.number) xs
 rest_rises x xs up = λ i j d h lt. up (suc i) (suc j) d (omega (arith, h)) (omega (arith, lt))
 
-do_rise : (x : LoggedEntry) (xs : List LoggedEntry) → IsNonDecreasingBy (λ (c : LoggedEntry). c.number) (x ∷ xs) → DoRise x.number (map logged xs)
+do_rise : (x : EntryView) (xs : List EntryView) → IsNonDecreasingBy (λ (e : EntryView). e.number) (x ∷ xs) → DoRise x.number xs
 do_rise x [] up = tt
 do_rise x (y ∷ ys) up = (up 0 1 x (omega arith) (omega arith), do_rise y ys (rest_rises x (y ∷ ys) up))
 
-pub rise_behind : (front : List LoggedEntry) (x : LoggedEntry) (later : List LoggedEntry) → IsNonDecreasingBy (λ (c : LoggedEntry). c.number) (front ++ x ∷ later)
-    → DoRise x.number (map logged later)
+rise_behind : (front : List EntryView) (x : EntryView) (later : List EntryView) → IsNonDecreasingBy (λ (e : EntryView). e.number) (front ++ x ∷ later)
+    → DoRise x.number later
 rise_behind [] x later up = do_rise x later up
 rise_behind (y ∷ ys) x later up = rise_behind ys x later (rest_rises y (ys ++ x ∷ later) up)
 
--- what stands around entry i
-pub around : (xs : List LoggedEntry) (i : ℕ) (d : LoggedEntry) → i < length xs → take i xs ++ get_or xs i d ∷ drop (i + 1) xs ≡ xs
-around xs i d less = rw (add-one, sym (drop-cons xs i d less)) (take-append-drop i xs)
+-- the entry of commit i, behind those with the numbers 1, 2, 3 and so on
+module _ (es : List EntryView) (commits : List Commit) (i : ℕ) (c : Commit) (same : commits ≡ map commit_of es) (within : i < length commits)
+    (is : c ≡ get_or commits i c) (up : IsNonDecreasingBy (λ (k : Commit). k.number) commits) (numbers : AreNumbered 1 (take i es)) where
+  at : (e : EntryView) × (drop i es ≡ e ∷ drop (i + 1) es) × (e.number ≡ c.number)
+  at = next_entry es commits i c same within is
 
--- entry i, behind those with the numbers 1, 2, 3 and so on
-module _ (xs : List LoggedEntry) (i : ℕ) (x : LoggedEntry) (within : i < length xs) (is : x ≡ get_or xs i x)
-    (up : IsNonDecreasingBy (λ (c : LoggedEntry). c.number) xs) (numbers : AreNumbered 1 (map logged (take i xs))) where
-  front : List EntryView
-  front = map logged (take i xs)
+  whole : take i es ++ at.0 ∷ drop (i + 1) es ≡ es
+  whole = ap (λ (l : List EntryView). take i es ++ l) (sym at.1) ∙ take-append-drop i es
 
-  later : List LoggedEntry
-  later = drop (i + 1) xs
+  rise : DoRise at.0.number (drop (i + 1) es)
+  rise = rise_behind (take i es) at.0 (drop (i + 1) es) (subst (IsNonDecreasingBy (λ (e : EntryView). e.number)) (sym whole) (entries_rise es commits same up))
 
-  whole : take i xs ++ x ∷ later ≡ xs
-  unfolding later
-  whole = ap (λ (y : LoggedEntry). take i xs ++ y ∷ drop (i + 1) xs) is ∙ around xs i x within
+  size : length (take i es) ≡ i
+  size = length-take-le i es (omega (arith, within, ap length same ∙ length-map es commit_of))
 
-  views : front ++ logged x ∷ map logged later ≡ map logged xs
-  unfolding front
-  views = sym (map-append logged (take i xs) (x ∷ later)) ∙ ap (map logged) whole
-
-  rise : DoRise x.number (map logged later)
-  rise = rise_behind (take i xs) x later (subst (IsNonDecreasingBy (λ (c : LoggedEntry). c.number)) (sym whole) up)
-
-  size : length front ≡ i
-  unfolding front
-  size = length-map (take i xs) logged ∙ length-take-le i xs (omega (arith, within))
-
-  pub missing_at : (next : ℕ) → next ≡ i + 1 → next < x.number → IsMisnumbered (map logged xs) (Missing next)
-  unfolding front
+  pub missing_at : (next : ℕ) → next ≡ i + 1 → next < c.number → IsMisnumbered es (Missing next)
   missing_at next behind less =
-      subst (λ (es : List EntryView). IsMisnumbered es (Missing next)) views
-      (missing front (logged x) (map logged later) numbers rise next (omega (arith, behind, size)) less)
+      subst (λ (l : List EntryView). IsMisnumbered l (Missing next)) whole
+      (missing (take i es) at.0 (drop (i + 1) es) numbers rise next (omega (arith, behind, size)) (omega (arith, less, at.2)))
 
-  pub twice_at : 1 ≤ x.number → x.number ≤ i → IsMisnumbered (map logged xs) (Twice x.number)
-  unfolding front
+  pub twice_at : 1 ≤ c.number → c.number ≤ i → IsMisnumbered es (Twice c.number)
   twice_at low high =
-      subst (λ (es : List EntryView). IsMisnumbered es (Twice x.number)) views
-      (twice front (logged x) (map logged later) numbers rise low (omega (arith, high, size)))
+      subst (λ (q : List EntryView × ℕ). IsMisnumbered q.0 (Twice q.1)) (λ j. (whole j, at.2 j))
+      (twice (take i es) at.0 (drop (i + 1) es) numbers rise (omega (arith, low, at.2)) (omega (arith, high, at.2, size)))
 
-  pub numbered_on : x.number ≡ i + 1 → AreNumbered 1 (map logged (take (i + 1) xs))
-  unfolding front
-  numbered_on same =
-      subst (λ (cs : List LoggedEntry). AreNumbered 1 (map logged cs)) (sym (take_more xs i x within ∙ ap (λ (y : LoggedEntry). take i xs ++ y ∷ []) (sym is)))
-      (subst (AreNumbered 1) (sym (map-append logged (take i xs) (x ∷ [])))
-      (numbered_more 1 front (logged x) numbers (omega (arith, same, size))))
+  pub numbered_on : c.number ≡ i + 1 → AreNumbered 1 (take (i + 1) es)
+  unfolding hd_or
+  numbered_on next =
+      subst (AreNumbered 1) (sym longer) (numbered_more 1 (take i es) at.0 numbers (omega (arith, next, at.2, size)))
+    where
+      short : i < length es
+      short = subst (λ (n : ℕ). i < n) (ap length same ∙ length-map es commit_of) within
+
+      longer : take (i + 1) es ≡ take i es ++ at.0 ∷ []
+      longer = take_more es i at.0 short ∙ ap (λ (l : List EntryView). take i es ++ hd_or at.0 l ∷ []) (sym (drop-cons es i at.0 short) ∙ at.1)
 
 -- what is amiss of entries in one order is so in another
 module _ (es sorted : List EntryView) (same : IsPermutation es sorted) where
@@ -173,7 +169,9 @@ module _ (es sorted : List EntryView) (same : IsPermutation es sorted) where
   first_amiss_here None numbers = (sorted, record { same = same; numbers = numbers })
   first_amiss_here (Some gap) is = amiss_here gap is
 
--- what is so of all as views is so of each
-pub each_positive : (xs : List LoggedEntry) → All IsPositive (map logged xs) → All (λ (c : LoggedEntry). 1 ≤ c.number) xs
-each_positive xs all k d less =
-    subst IsPositive (get_or-map logged xs k d (logged d) less) (all k (logged d) (subst (λ (n : ℕ). k < n) (sym (length-map xs logged)) less))
+-- what is so of all entries is so of what is kept of each
+pub each_positive : (es : List EntryView) → All IsPositive es → All (λ (c : Commit). 1 ≤ c.number) (map commit_of es)
+each_positive es all k d less =
+    let short : k < length es = subst (λ (n : ℕ). k < n) (length-map es commit_of) less in
+    let e : EntryView = record { number = 0; tid = 0; terminal = 0; writes = [] } in
+    subst (λ (c : Commit). 1 ≤ c.number) (sym (get_or-map commit_of es k e d short)) (all k e short)

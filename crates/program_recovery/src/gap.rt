@@ -4,16 +4,16 @@ ghost use Rattle.std.specs.List.{All};
 ghost use Rattle.std.specs.List.Sorted.{IsNonDecreasingBy};
 ghost use Rattle.money.specs.declared.refusal.Refusal.TheVariants.{OutOfMemory, Device, Damaged};
 ghost use Rattle.log_disk.specs.Calls.{OnlyReads};
-ghost use Rattle.log_text.specs.Entries.{logged};
+ghost use Rattle.log_text.specs.Entries.{EntryView};
 ghost use Rattle.population.specs.Initial.{initial, seed_of};
 ghost use Rattle.recover_laws.specs.Rebuilt.{AreNumbered};
+ghost use Rattle.recover.specs.Parts.{commit_of};
 ghost use Rattle.program_recovery.specs.Flaws.{IsFirstGap, IsMisnumbered};
 
 use log_disk::Disk;
-use log_text::LoggedEntry;
 use money::Refusal;
 use population::Population;
-use recover::commits_found;
+use recover::{Commit, commits_found};
 use std::alloc::Global;
 use std::fmt::{self, Display};
 
@@ -61,10 +61,11 @@ pub fn first_gap<D: Disk>(
 }
 
 /// The first number that is amiss of commits that stand in the order of their numbers.
-fn first_amiss(commits: &[LoggedEntry]) -> Option<Misnumbered>
+fn first_amiss(commits: &[Commit]) -> Option<Misnumbered>
     requires sorted { IsNonDecreasingBy (λ commit. commit.number) commits.now }
     requires positive { All (λ commit. 1 ≤ commit.number) commits.now }
-    ensures { MatchOption result (AreNumbered 1 (map logged commits.now)) (IsMisnumbered (map logged commits.now)) }
+    ensures { (es : List EntryView) → commits.now ≡ map commit_of es
+        → MatchOption result (AreNumbered 1 es) (IsMisnumbered es) }
 {
     let mut next = 1;
     for commit in commits {

@@ -15,23 +15,26 @@ use money::Refusal;
 use population::Population;
 use program_script_text::print_report;
 use program_streams::write_text;
-use recover::{Recovered, recover};
+use recover::{Recovered, recover_with};
 use std::alloc::Global;
 use std::io::Write;
+use std::thread::Threads;
 
-/// Recovers the tables that log files hold, as `recover` does, and writes the durable epoch, the number of commits, and
+/// Recovers the tables that log files hold, as `recover_with` does, and writes the durable epoch, the number of commits, and
 /// the rows of the warehouses and districts: `durable 5`, `commits 2`, then for each warehouse
-/// `warehouse 1 ytd 202.00` and, for each of its districts, `district 1 1 ytd 102.00 next 11`.
+/// `warehouse 1 ytd 202.00` and, for each of its districts, `district 1 1 ytd 102.00 next 11`. May wait, for its threads.
 ///
 /// # Errors
 ///
-/// As `recover`, and then nothing is written; and, where no disk fails, `Device` where the writer fails, `OutOfMemory`
+/// As `recover_with`, and then nothing is written; and, where no disk fails, `Device` where the writer fails, `OutOfMemory`
 /// where the text has no room.
-pub fn recovered<D: Disk, W: Write>(
+pub fn recovered<R: Threads + Sync, D: Disk + Send, W: Write>(
+    rt: &R,
     alloc: Global,
     population: &Population,
     disks: &mut [D],
     writer: &mut W,
+    threads: usize,
 ) -> Result<Recovered, Refusal>
     ensures shown { IfOk result (λ r. (strings : List (List ℕ)) × (D.is_modelled → strings ≡ map D.seen disks.old)
         × IsShown (initial population.now) (seed_of population.now) strings
@@ -43,23 +46,25 @@ pub fn recovered<D: Disk, W: Write>(
     ensures not_failed { OnOk result (map D.failed disks.new ≡ map D.failed disks.old) }
     ensures reads { OnlyReads D.is_modelled (map D.seen) (map D.story) disks.old disks.new }
 {
-    let found = recover(alloc, population, disks)?;
+    let found = recover_with(rt, alloc, population, disks, threads)?;
     show(alloc, &found, writer)?;
     Ok(found)
 }
 
-/// Recovers the tables that log files hold, as `recover` does, and writes the report of the consistency conditions on
-/// them: `commits 2`, then for each condition (TPC-C 3.3.2) a line as `C1 ok`.
+/// Recovers the tables that log files hold, as `recover_with` does, and writes the report of the consistency conditions on
+/// them: `commits 2`, then for each condition (TPC-C 3.3.2) a line as `C1 ok`. May wait, for its threads.
 ///
 /// # Errors
 ///
-/// As `recover`, and then nothing is written; and, where no disk fails, `Device` where the writer fails, `OutOfMemory`
+/// As `recover_with`, and then nothing is written; and, where no disk fails, `Device` where the writer fails, `OutOfMemory`
 /// where check or text have no room.
-pub fn checked<D: Disk, W: Write>(
+pub fn checked<R: Threads + Sync, D: Disk + Send, W: Write>(
+    rt: &R,
     alloc: Global,
     population: &Population,
     disks: &mut [D],
     writer: &mut W,
+    threads: usize,
 ) -> Result<Report, Refusal>
     ensures checked { IfOk result (λ report. (strings : List (List ℕ))
         × (D.is_modelled → strings ≡ map D.seen disks.old)
@@ -72,7 +77,7 @@ pub fn checked<D: Disk, W: Write>(
     ensures not_failed { OnOk result (map D.failed disks.new ≡ map D.failed disks.old) }
     ensures reads { OnlyReads D.is_modelled (map D.seen) (map D.story) disks.old disks.new }
 {
-    let recovered = recover(alloc, population, disks)?;
+    let recovered = recover_with(rt, alloc, population, disks, threads)?;
     let report = check(alloc, &recovered.tables)?;
     report_on(alloc, recovered.commits, &report, writer)?;
     Ok(report)

@@ -20,7 +20,7 @@ use Rattle.recover.specs.declared.recovering.Recovered.{Recovered}
 
 -- strings are the files of one list of bodies
 module _ (t0 : Database) (seed : ℕ) (strings : List (List ℕ)) (left : List (List BodyView)) (are : AreFiles t0.scale seed strings left) where
-  same_files : (files : List (List BodyView)) → AreShort strings → AreFiles t0.scale seed strings files → files ≡ left
+  pub same_files : (files : List (List BodyView)) → AreShort strings → AreFiles t0.scale seed strings files → files ≡ left
   same_files files short is =
       ext_get_or [] files left (is.count ∙ sym are.count)
       (λ l less.
@@ -35,12 +35,12 @@ module _ (t0 : Database) (seed : ℕ) (strings : List (List ℕ)) (left : List (
     pub is_replay : (r : Recovered) → IsRecovery t0 seed strings r → IsReplayOf t0 history r
     is_replay r is =
         let same : is.files ≡ left = same_files is.files is.short is.read in
-        let durable : durable_of left ≡ r.durable = sym (is.durable ∙ ap durable_of same) in
+        let durable : durable_of left ≡ r.durable = sym (is.of_files.durable ∙ ap durable_of same) in
         let rebuilt : IsRebuilt t0 (found left) (database r.tables)
-        = subst (λ (files : List (List BodyView)). IsRebuilt t0 (found files) (database r.tables)) same is.rebuilt in
+        = subst (λ (files : List (List BodyView)). IsRebuilt t0 (found files) (database r.tables)) same is.of_files.rebuilt in
         record {
           tables = subst (λ (d : ℕ). database r.tables ≡ replay t0 (cut d history)) durable (give.is_replay (database r.tables) rebuilt);
-          commits = is.commits ∙ ap (λ (files : List (List BodyView)). length (found files)) same ∙ give.as_many
+          commits = is.of_files.commits ∙ ap (λ (files : List (List BodyView)). length (found files)) same ∙ give.as_many
               ∙ ap (λ (d : ℕ). length (cut d history)) durable;
         }
 
@@ -62,7 +62,7 @@ module _ (life : Life) (w : World) (by_logger : ℕ → List ℕ) (leaves : Leav
   pub is_beginning : (r : Recovered) → IsRecovery life.first life.seed strings r → IsBeginningOf life w r
   is_beginning r is =
       let durable : durable_of leaves.left ≡ r.durable
-      = sym (is.durable ∙ ap durable_of (same_files life.first life.seed strings leaves.left are_files is.files is.short is.read)) in
+      = sym (is.of_files.durable ∙ ap durable_of (same_files life.first life.seed strings leaves.left are_files is.files is.short is.read)) in
       record {
         no_less = subst (λ (d : ℕ). w.durable ≤ d) durable leaves.no_less;
         rest = leaves.rest;

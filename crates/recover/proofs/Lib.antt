@@ -1,6 +1,6 @@
 mod Looking
 mod Knowing
-mod Ordering
+pub mod Ordering
 mod Rebuilding
 pub mod Found
 mod Crashed
@@ -9,5 +9,11 @@ mod Ranges
 mod RowsOfWords
 mod LawfulWrites
 mod HistoryWords
+mod HistoryRows
 mod LastMarks
-mod Reading
+mod OneAnswer
+mod DiskByDisk
+mod Halves
+mod AllRead
+mod Answering
+mod HalvesOfFiles

@@ -1,17 +1,19 @@
 -- Entries in the order of their numbers.
-use Rattle.std.proofs.Common.{◌≡◌, inl, inr, ℕ, suc, ◌+◌, ◌<◌, ◌≤◌, cond, List, [], ◌∷◌, length, map, refl, sym, ap, ◌∙◌, subst, arith, not-suc-le-zero}
+use Rattle.std.proofs.Common.{◌≡◌, inl, inr, ℕ, suc, ◌+◌, ◌<◌, ◌≤◌, cond, List, [], ◌∷◌, get_or, set, drop, length, map, refl, sym, ap, ◌∙◌, subst, arith, add-one, drop-cons}
 use Rattle.std.specs.Prelude.{nat_le, slice_index_or}
-use Rattle.std.specs.List.{sum_by}
-use Rattle.std.specs.List.Sorted.{IsPermutation, IsNonDecreasingBy}
+use Rattle.std.specs.List.{sum_by, swap}
+use Rattle.std.specs.List.Sorted.{IsPermutation, IsNonDecreasingBy, SwapsInRange, apply_swaps}
 use Rattle.std.proofs.lemmas.Bool.Decides.{nat_tests}
 use Rattle.std.proofs.lemmas.List.Sums.{sum_by-cons}
 use Rattle.std.proofs.lemmas.List.Sorted.{sum_by-IsPermutation}
-use Rattle.std.proofs.lemmas.List.{length-map, get_or-map}
-use Rattle.log_text.specs.Entries.{EntryView, logged}
-use Rattle.log_text.specs.declared.entry.LoggedEntry.{LoggedEntry}
+use Rattle.std.proofs.Math.ListN.{get_or-map as map_at}
+use Rattle.std.proofs.lemmas.List.{length-map, get_or-map, map-set}
+use Rattle.log_text.specs.Entries.{EntryView}
 use Rattle.recover_laws.specs.Rebuilt.{AreNumbered, HaveNoGap}
 use Rattle.recover_laws.proofs.Elements.{Has}
 use Rattle.recover_laws.proofs.Numbered.{from_number}
+use Rattle.recover.specs.Parts.{commit_of}
+use Rattle.recover.specs.declared.numbering.Commit.{Commit}
 
 -- one where the entry's number is up to a bound
 abbrev counts_to : ℕ → EntryView → ℕ
@@ -84,11 +86,45 @@ sorted_numbered es sorted same up gapless =
     numbered_same 1 sorted gapless.0 up gapless.1.numbers
     (λ bound. sum_by-IsPermutation (counts_to bound) es sorted same ∙ sym (sum_by-IsPermutation (counts_to bound) es gapless.0 gapless.1.same))
 
--- rising numbers rise in the entries as views too
-pub views_rise : (xs : List LoggedEntry) → IsNonDecreasingBy (λ (e : LoggedEntry). e.number) xs → Rises (map logged xs)
-views_rise [] up = λ i j d h lt. absurd (not-suc-le-zero lt)
-views_rise (x ∷ xs) up = λ i j d h lt.
-    let short : j < length (x ∷ xs) = subst (λ (n : ℕ). j < n) (length-map (x ∷ xs) logged) lt in
-    let at : (k : ℕ) → k < length (x ∷ xs) → slice_index_or (map logged (x ∷ xs)) k d ≡ logged (slice_index_or (x ∷ xs) k x) = λ k less. get_or-map logged (x ∷ xs) k x d less in
-    subst (λ (a : EntryView). a.number ≤ (slice_index_or (map logged (x ∷ xs)) j d).number) (sym (at i (omega (arith, h, short))))
-    (subst (λ (b : EntryView). (logged (slice_index_or (x ∷ xs) i x)).number ≤ b.number) (sym (at j short)) (up i j x h short))
+-- where commits are what is kept of entries: the entry of commit i, and those behind it
+pub next_entry : (es : List EntryView) (commits : List Commit) (i : ℕ) (c : Commit) → commits ≡ map commit_of es → i < length commits → c ≡ get_or commits i c
+    → (e : EntryView) × (drop i es ≡ e ∷ drop (i + 1) es) × (e.number ≡ c.number)
+next_entry es commits i c same less is =
+    let d : EntryView = record { number = c.number; tid = 0; terminal = 0; writes = [] } in
+    let short : i < length es = subst (λ (n : ℕ). i < n) (ap length same ∙ length-map es commit_of) less in
+    let at : c ≡ commit_of (get_or es i d) = is ∙ ap (λ (l : List Commit). get_or l i c) same ∙ get_or-map commit_of es i d c short in (
+      get_or es i d,
+      rw add-one (drop-cons es i d short),
+      sym (ap (λ (k : Commit). k.number) at),
+    )
+
+-- entries whose commits rise rise
+pub entries_rise : (es : List EntryView) (commits : List Commit) → commits ≡ map commit_of es → IsNonDecreasingBy (λ (c : Commit). c.number) commits → Rises es
+entries_rise es commits same up = λ i j d h lt.
+    let short : j < length commits = subst (λ (n : ℕ). j < n) (sym (ap length same ∙ length-map es commit_of)) lt in
+    let at : (k : ℕ) → k < length es → (get_or commits k (commit_of d)).number ≡ (get_or es k d).number
+    = λ k less. ap (λ (l : List Commit). (get_or l k (commit_of d)).number) same ∙ ap (λ (c : Commit). c.number) (get_or-map commit_of es k d (commit_of d) less) in
+    subst (λ (n : ℕ). n ≤ (get_or es j d).number) (at i (omega (arith, h, lt)))
+    (subst (λ (n : ℕ). (get_or commits i (commit_of d)).number ≤ n) (at j lt) (up i j (commit_of d) h short))
+
+-- commits in another order are those of the entries in that order
+module _ {X Y : Type 0} (f : X → Y) where
+  map_swapped : (xs : List X) (i j : ℕ) → map f (swap xs i j) ≡ swap (map f xs) i j
+  map_swapped [] i j = refl
+  map_swapped (d ∷ ys) i j = map-set f (set (d ∷ ys) i (get_or (d ∷ ys) j d)) j (get_or (d ∷ ys) i d)
+      ∙ (λ k. set ((map-set f (d ∷ ys) i (get_or (d ∷ ys) j d) ∙ ap (set (map f (d ∷ ys)) i) (sym (map_at f (d ∷ ys) j d))) k) j (sym (map_at f (d ∷ ys) i d) k))
+
+  map_all_swapped : (xs : List X) (moves : List (ℕ × ℕ)) → map f (apply_swaps xs moves) ≡ apply_swaps (map f xs) moves
+  map_all_swapped xs [] = refl
+  map_all_swapped xs (m ∷ moves) = map_swapped (apply_swaps xs moves) m.0 m.1 ∙ ap (λ l. swap l m.0 m.1) (map_all_swapped xs moves)
+
+  pub reordered : (xs : List X) (ys : List Y) → IsPermutation (map f xs) ys → (zs : List X) × IsPermutation xs zs × (ys ≡ map f zs)
+  reordered xs ys same = (
+    apply_swaps xs same.moves,
+    record {
+      moves = same.moves;
+      below = subst (λ (n : ℕ). SwapsInRange n same.moves) (length-map xs f) same.below;
+      is = refl;
+    },
+    same.is ∙ sym (map_all_swapped xs same.moves),
+  )

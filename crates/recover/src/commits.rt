@@ -4,17 +4,17 @@ ghost use Rattle.std.specs.List.Sorted.{IsNonDecreasingBy, IsPermutation};
 ghost use Rattle.money.specs.declared.refusal.Refusal.TheVariants.{OutOfMemory, Damaged, Device};
 ghost use Rattle.log_disk.specs.Calls.{OnlyReads};
 ghost use Rattle.log_text.specs.Bodies.{BodyView};
-ghost use Rattle.log_text.specs.Entries.{logged};
+ghost use Rattle.log_text.specs.Entries.{EntryView};
 ghost use Rattle.population.specs.Initial.{initial, seed_of};
 ghost use Rattle.recover_laws.specs.Found.{found};
 ghost use Rattle.recover.specs.Files.{AreFiles};
+ghost use Rattle.recover.specs.Parts.{commit_of};
 
 use crate::durable::durable_of;
-use crate::files::read_all;
-use crate::numbering::sort;
+use crate::files::read_some;
+use crate::numbering::{Commit, sort};
 use crate::recovering::merged;
 use log_disk::Disk;
-use log_text::LoggedEntry;
 use money::Refusal;
 use population::Population;
 use std::alloc::Global;
@@ -29,19 +29,21 @@ pub fn commits_found<D: Disk>(
     alloc: Global,
     population: &Population,
     disks: &mut [D],
-) -> Result<Vec<LoggedEntry>, Refusal>
+) -> Result<Vec<Commit>, Refusal>
     ensures found { IfOk result (λ commits. (strings : List (List ℕ))
         × (D.is_modelled → strings ≡ map D.seen disks.old) × (files : List (List BodyView))
         × AreFiles (initial population.now).scale (seed_of population.now) strings files
-        × IsPermutation (found files) (map logged commits.items)) }
+        × (es : List EntryView)
+        × IsPermutation (found files) es × (commits.items ≡ map commit_of es)) }
     ensures sorted { IfOk result (λ commits. IsNonDecreasingBy (λ commit. commit.number) commits.items) }
     ensures others { IfErr result (λ refusal. (refusal ≢ OutOfMemory) → (refusal ≢ Device) → refusal ≡ Damaged) }
     ensures reads { OnlyReads D.is_modelled (map D.seen) (map D.story) disks.old disks.new }
 {
-    let files = read_all(alloc, population, disks)?;
+    let loggers = disks.len();
+    let files = read_some(alloc, population, loggers, 0, disks)?;
     let durable = durable_of(&files);
     let part = merged(alloc, &population.scale(), files, durable)?;
-    let mut commits = part.entries;
+    let mut commits = part.commits;
     sort(&mut commits);
     Ok(commits)
 }

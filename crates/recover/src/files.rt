@@ -1,5 +1,5 @@
 //! The bodies of a database's log files.
-ghost use Rattle.std.specs.Prelude.{◌≡◌, ◌≢◌, ◌↔◌, ◌<◌, ◌^◌, ℕ, List, length, map};
+ghost use Rattle.std.specs.Prelude.{◌≡◌, ◌≢◌, ◌↔◌, ◌+◌, ◌<◌, ◌≤◌, ◌^◌, ℕ, List, length};
 ghost use Rattle.std.specs.Prelude.{IfOk, IfErr, IsErrOf, IsTrue};
 ghost use Rattle.money.specs.declared.refusal.Refusal.TheVariants.{OutOfMemory, Damaged, Device};
 ghost use Rattle.log_disk.specs.Calls.{CountsDevice, OnlyReads};
@@ -7,7 +7,7 @@ ghost use Rattle.log_header.specs.Header.{header_view};
 ghost use Rattle.log_text.specs.Bodies.{BodyView};
 ghost use Rattle.log_text.specs.File.{IsFile};
 ghost use Rattle.population.specs.Initial.{initial, seed_of};
-ghost use Rattle.recover.specs.Files.{AreFiles, AreDamaged, AreShort, bodies_in, DeviceHasFailed};
+ghost use Rattle.recover.specs.Files.{bodies_in, headers_from, ReadsFiles};
 
 use log_disk::Disk;
 use log_header::Header;
@@ -17,27 +17,28 @@ use money::Refusal;
 use population::Population;
 use std::alloc::Global;
 
-/// The bodies of the log files of a population's database, in the order of their loggers.
-pub fn read_all<D: Disk>(
+/// The bodies of the log files of some loggers of a population's database, which has so many: of those from the first
+/// of these disks' on, in their order.
+///
+/// # Errors
+///
+/// `Device` where a call of a disk fails, and only there. `Damaged` where a file is no log file of this population's
+/// database, of its logger and of that many loggers. `OutOfMemory`. The first file that refuses decides.
+pub(crate) fn read_some<D: Disk>(
     alloc: Global,
     population: &Population,
+    loggers: usize,
+    first: usize,
     disks: &mut [D],
 ) -> Result<Vec<Vec<Body>>, Refusal>
-    ensures found { IfOk result (λ files. (strings : List (List ℕ)) × (D.is_modelled → strings ≡ map D.seen disks.old)
-        × AreShort strings × AreFiles (initial population.now).scale (seed_of population.now) strings
-        (map (λ bodies. bodies_in bodies.items) files.items)) }
-    ensures damaged { IsErrOf result Damaged → (strings : List (List ℕ))
-        × (D.is_modelled → strings ≡ map D.seen disks.old)
-        × AreDamaged (initial population.now).scale (seed_of population.now) strings }
-    ensures failed { IsErrOf result Device → DeviceHasFailed (map D.failed disks.old) (map D.failed disks.new) }
-    ensures not_failed { (IsErrOf result Device → ⊥) → map D.failed disks.new ≡ map D.failed disks.old }
-    ensures others { IfErr result (λ refusal. (refusal ≢ OutOfMemory) → (refusal ≢ Device) → refusal ≡ Damaged) }
-    ensures reads { OnlyReads D.is_modelled (map D.seen) (map D.story) disks.old disks.new }
+    requires { first + length disks.old ≤ loggers }
+    ensures { ReadsFiles D.is_modelled D.seen D.story D.failed
+        (headers_from first loggers (initial population.now).scale (seed_of population.now)) disks.old disks.new
+        result }
 {
     let mut files = Vec::new(alloc);
-    for logger in 0..disks.len() {
-        let loggers = disks.len();
-        let bodies = read_one(alloc, population, logger, loggers, &mut disks[logger])?;
+    for n in 0..disks.len() {
+        let bodies = read_one(alloc, population, first + n, loggers, &mut disks[n])?;
         files.push(bodies)?;
     }
     Ok(files)

@@ -1,14 +1,15 @@
 //! The rows of HISTORY that entries of log files add.
-ghost use Rattle.std.specs.Prelude.{◌≡◌, ◌++◌, true, map, flat_map, OnOk};
+ghost use Rattle.std.specs.Prelude.{◌≡◌, ◌++◌, true, flat_map, OnOk};
+ghost use Rattle.std.specs.Option.{option_to_list};
 ghost use Rattle.tables.specs.Database.{database};
 ghost use Rattle.tables.specs.Sizes.{Sizes, IsScale};
 ghost use Rattle.tables.specs.WellFormed.{IsHistoryRow};
-ghost use Rattle.log_text.specs.Entries.{logged};
 ghost use Rattle.log_text.specs.Writes.{are_writes};
-ghost use Rattle.recover_laws.specs.Rebuilt.{history_of_words as row_of, added_by, rows_in};
-ghost use Rattle.recover.specs.Parts.{HaveLawfulWrites};
+ghost use Rattle.recover_laws.specs.Rebuilt.{history_of_words as row_of};
+ghost use Rattle.recover.specs.Parts.{row_added};
 
-use log_text::{LoggedEntry, Write};
+use crate::numbering::Commit;
+use log_text::Write;
 use money::Payload;
 use rows::column::{H_AMOUNT, H_C_D_ID, H_C_ID, H_C_W_ID, H_D_ID, H_DATE, H_W_ID};
 use std::alloc::AllocError;
@@ -30,31 +31,28 @@ fn history_of(words: &Payload) -> History
     }
 }
 
-/// Adds the rows of entries to HISTORY, in their order. One pass over their writes.
-pub fn add_history(tables: &mut Tables, entries: &[LoggedEntry]) -> Result<(), AllocError>
-    requires scale { IsScale (database tables.old).scale }
-    requires lawful { HaveLawfulWrites (database tables.old).scale (map logged entries.now) }
-    ensures { OnOk result (database tables.new ≡ record (database tables.old) {
-      history = (database tables.old).history ++ flat_map added_by (map logged entries.now);
-    }) }
-{
-    for entry in entries {
-        add_rows(tables, &entry.writes)?;
-    }
-    Ok(())
-}
-
-/// Adds the rows of an entry's writes.
-fn add_rows(tables: &mut Tables, writes: &[Write]) -> Result<(), AllocError>
-    requires scale { IsScale (database tables.old).scale }
-    requires lawful { are_writes (database tables.old).scale writes.now ≡ true }
-    ensures { OnOk result (database tables.new ≡ record (database tables.old) {
-      history = (database tables.old).history ++ flat_map (λ w. rows_in w.table w.words) writes.now;
-    }) }
+/// The row that an entry's writes add to HISTORY, if they add one. One pass over them at most.
+pub fn added_row(writes: &[Write]) -> Option<History>
+    requires { (s : Sizes) × IsScale s × (are_writes s writes.now ≡ true) }
+    ensures { result ≡ row_added writes.now }
 {
     for write in writes {
         if let (Table::History, Some(words)) = (write.table, &write.words) {
-            tables.history.push(history_of(words))?;
+            return Some(history_of(words));
+        }
+    }
+    None
+}
+
+/// Adds the rows of commits to HISTORY, in their order. One pass over them.
+pub fn add_history(tables: &mut Tables, commits: &[Commit]) -> Result<(), AllocError>
+    ensures { OnOk result (database tables.new ≡ record (database tables.old) {
+      history = (database tables.old).history ++ flat_map (λ c. option_to_list c.row) commits.now;
+    }) }
+{
+    for commit in commits {
+        if let Some(row) = commit.row {
+            tables.history.push(row)?;
         }
     }
     Ok(())

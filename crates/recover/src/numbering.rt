@@ -1,26 +1,36 @@
-//! The order of commits.
-ghost use Rattle.std.specs.Prelude.{◌≡◌, ◌↔◌, map, IsTrue};
+//! What is kept of the commits that count in log files, and the order of their numbers.
+ghost use Rattle.std.specs.Prelude.{◌≡◌, ◌↔◌, List, map, IsTrue};
 ghost use Rattle.std.specs.List.Sorted.{IsPermutation, IsNonDecreasingBy};
-ghost use Rattle.log_text.specs.Entries.{logged};
+ghost use Rattle.log_text.specs.Entries.{EntryView};
 ghost use Rattle.recover_laws.specs.Rebuilt.{AreNumbered};
+ghost use Rattle.recover.specs.Parts.{commit_of};
 
-use log_text::LoggedEntry;
+use tables::History;
 
-/// Puts entries into the order of their commit numbers.
-pub fn sort(entries: &mut Vec<LoggedEntry>)
-    ensures permutation { IsPermutation entries.old.items entries.new.items }
-    ensures sorted { IsNonDecreasingBy (λ e. e.number) entries.new.items }
+/// What is kept of an entry of a log file once its writes were looked at.
+#[derive(Clone, Copy, Debug, PartialEq, Eq)]
+pub struct Commit {
+    /// The commit number, from 1.
+    pub number: u64,
+    /// The row that it adds to HISTORY, if it adds one.
+    pub row: Option<History>,
+}
+
+/// Puts commits into the order of their numbers.
+pub fn sort(commits: &mut Vec<Commit>)
+    ensures permutation { IsPermutation commits.old.items commits.new.items }
+    ensures sorted { IsNonDecreasingBy (λ commit. commit.number) commits.new.items }
 {
-    entries.sort_unstable_by_key(|entry| entry.number);
+    commits.sort_unstable_by_key(|commit| commit.number);
 }
 
 /// Whether these are the commits 1, 2, 3 and so on, in this order. One pass.
-pub fn are_numbered(entries: &[LoggedEntry]) -> bool
-    ensures { IsTrue result ↔ AreNumbered 1 (map logged entries.now) }
+pub fn are_numbered(commits: &[Commit]) -> bool
+    ensures { (es : List EntryView) → commits.now ≡ map commit_of es → IsTrue result ↔ AreNumbered 1 es }
 {
     let mut next = 1;
-    for entry in entries {
-        if entry.number != next {
+    for commit in commits {
+        if commit.number != next {
             return false;
         }
         next += 1;

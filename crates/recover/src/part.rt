@@ -1,102 +1,114 @@
 //! What a part of the entries of log files says.
-ghost use Rattle.std.specs.Prelude.{◌≡◌, ℕ, true, [], ◌∷◌, ◌++◌, List, map, filter, fold, IfOk, OnOk};
-ghost use Rattle.std.specs.BTreeMap.{get};
-ghost use Rattle.std.specs.Ordering.{nat_cmp};
-ghost use Rattle.tables.specs.Sizes.{Sizes};
-ghost use Rattle.log_text.specs.Bodies.{BodyView, body_of};
+ghost use Rattle.std.specs.Prelude.{◌≡◌, true, [], ◌∷◌, ◌++◌, List, length, map, filter, fold, IfOk, OnOk, ℕ};
+ghost use Rattle.tables.specs.Records.{record_count as count_of_records};
+ghost use Rattle.tables.specs.Sizes.{Sizes, IsScale};
+ghost use Rattle.log_text.specs.Bodies.{body_of};
 ghost use Rattle.log_text.specs.Entries.{EntryView, logged};
 ghost use Rattle.log_text.specs.Writes.{are_writes};
 ghost use Rattle.recover_crashes.specs.Recovering.{counts, counted, entries_of};
-ghost use Rattle.recover.specs.Parts.{IsPart, HaveLawfulWrites, looked_at, raised_by};
+ghost use Rattle.recover_newest.specs.Known.{known};
+ghost use Rattle.recover.specs.Parts.{IsPart, HaveLawfulWrites, raised_by};
 
+use crate::history::added_row;
+use crate::numbering::Commit;
 use log_text::{Body, LoggedEntry};
-use recover_newest::{Latest, merge, raise};
+use recover_newest::{Latest, Newest};
 use std::alloc::{AllocError, Global};
-use std::collections::BTreeMap;
-use tables::{Scale, Table, rec};
+use tables::{Scale, Table, rec, record_count};
 
-/// Entries of log files, and of each record what the newest of those that write it has left there. Its memory goes by
-/// what was written, and not by how many records there are.
+/// What entries of log files say: of each record what the newest of those that write it has left there, and of each
+/// entry its commit number and its row of HISTORY. Takes 4 bytes for each record of the scale; the rest goes by what was
+/// written.
 #[derive(Drop)]
 pub struct Part {
-    pub latest: BTreeMap<u32, Latest>,
-    pub entries: Vec<LoggedEntry>,
+    pub newest: Newest,
+    pub commits: Vec<Commit>,
 }
 
 impl Part {
-    /// A part without entries. Takes no memory.
-    pub fn new(alloc: Global) -> Part
-        ensures part { (s : Sizes) → IsPart s result }
-        ensures entries { looked_at result ≡ [] }
+    /// A part without entries.
+    pub fn new(alloc: Global, scale: &Scale) -> Result<Part, AllocError>
+        ensures { IfOk result (λ part. IsPart scale.now [] part) }
     {
-        Part {
-            latest: BTreeMap::new(alloc),
-            entries: Vec::new(alloc),
-        }
+        let newest = Newest::new(alloc, record_count(scale) as usize)?;
+        Ok(Part {
+            newest,
+            commits: Vec::new(alloc),
+        })
     }
 
-    /// The entries of a file's bodies that count up to this durable epoch. A look-up and an insert a write.
+    /// The entries of a file's bodies that count up to this durable epoch. Constant time a write.
     pub fn of_file(
         alloc: Global,
         scale: &Scale,
         bodies: Vec<Body>,
         durable: u64,
     ) -> Result<Part, AllocError>
+        requires scale { IsScale scale.now }
         requires lawful { HaveLawfulWrites scale.now (entries_of (map body_of bodies.items)) }
-        ensures part { IfOk result (λ part. IsPart scale.now part) }
-        ensures entries { IfOk result (λ part. looked_at part ≡ counted durable (map body_of bodies.items)) }
+        ensures { IfOk result (λ part. IsPart scale.now (counted durable (map body_of bodies.items)) part) }
     {
-        let mut part = Part::new(alloc);
+        let mut part = Part::new(alloc, scale)?;
         for body in bodies {
             part.add_all(scale, body.entries, durable)?;
         }
         Ok(part)
     }
 
-    /// Looks at the entries of a body that count.
+    /// Looks at the entries of a body that count. Each is given up once it was looked at.
     fn add_all(
         &mut self,
         scale: &Scale,
         entries: Vec<LoggedEntry>,
         durable: u64,
     ) -> Result<(), AllocError>
+        requires scale { IsScale scale.now }
         requires lawful { HaveLawfulWrites scale.now (map logged entries.items) }
-        ensures part { IsPart scale.now self.old → OnOk result (IsPart scale.now self.new) }
-        ensures entries { OnOk result (looked_at self.new
-            ≡ looked_at self.old ++ filter (λ e. counts durable e.tid) (map logged entries.items)) }
+        requires records { length self.old.newest.places ≡ count_of_records scale.now }
+        ensures part { OnOk result ((es : List EntryView) → IsPart scale.now es self.old
+            → IsPart scale.now (es ++ filter (λ e. counts durable e.tid) (map logged entries.items)) self.new) }
+        ensures records { length self.new.newest.places ≡ length self.old.newest.places }
     {
         for entry in entries {
             if is_counted(&entry, durable) {
-                self.add(scale, entry)?;
+                self.add(scale, &entry)?;
             }
         }
         Ok(())
     }
 
     /// Looks at one entry more.
-    fn add(&mut self, scale: &Scale, entry: LoggedEntry) -> Result<(), AllocError>
-        requires lawful { are_writes scale.now entry.writes.items ≡ true }
-        ensures part { IsPart scale.now self.old → OnOk result (IsPart scale.now self.new) }
-        ensures entries { OnOk result (looked_at self.new ≡ looked_at self.old ++ logged entry ∷ []) }
+    fn add(&mut self, scale: &Scale, entry: &LoggedEntry) -> Result<(), AllocError>
+        requires scale { IsScale scale.now }
+        requires lawful { are_writes scale.now entry.now.writes.items ≡ true }
+        requires records { length self.old.newest.places ≡ count_of_records scale.now }
+        ensures part { OnOk result ((es : List EntryView) → IsPart scale.now es self.old
+            → IsPart scale.now (es ++ logged entry.now ∷ []) self.new) }
+        ensures records { length self.new.newest.places ≡ length self.old.newest.places }
     {
-        raise_all(&mut self.latest, scale, &entry)?;
-        self.entries.push(entry)?;
+        raise_all(&mut self.newest, scale, entry)?;
+        self.commits.push(Commit {
+            number: entry.number,
+            row: added_row(&entry.writes),
+        })?;
         Ok(())
     }
 
-    /// Adds what another part knows, and its entries behind this one's. A look-up and an insert a record of the other
-    /// part; a part without entries becomes the other as it is.
+    /// Adds what another part knows, and its commits behind this one's. One pass over the records and the other's
+    /// commits; a part without commits becomes the other as it is.
     pub fn merge(&mut self, other: Part) -> Result<(), AllocError>
-        ensures part { (s : Sizes) → IsPart s self.old → IsPart s other → OnOk result (IsPart s self.new) }
-        ensures entries { OnOk result (looked_at self.new ≡ looked_at self.old ++ looked_at other) }
+        requires records { length self.old.newest.places ≡ length other.newest.places }
+        ensures part { OnOk result ((s : Sizes) (es more : List EntryView) → IsPart s es self.old → IsPart s more other
+            → IsPart s (es ++ more) self.new) }
+        ensures records { length self.new.newest.places ≡ length self.old.newest.places }
     {
-        if self.entries.is_empty() {
+        if self.commits.is_empty() {
             *self = other;
             return Ok(());
         }
-        merge(&mut self.latest, &other.latest)?;
-        let mut entries = other.entries;
-        self.entries.append(&mut entries)?;
+        self.newest.merge(&other.newest)?;
+        let mut commits = other.commits;
+        self.commits.append(&mut commits)?;
         Ok(())
     }
 }
@@ -109,15 +121,12 @@ fn is_counted(entry: &LoggedEntry, durable: u64) -> bool
 }
 
 /// Keeps each write of an entry that is newer than what is known of its record. Rows of HISTORY have no record.
-fn raise_all(
-    latest: &mut BTreeMap<u32, Latest>,
-    scale: &Scale,
-    entry: &LoggedEntry,
-) -> Result<(), AllocError>
+fn raise_all(newest: &mut Newest, scale: &Scale, entry: &LoggedEntry) -> Result<(), AllocError>
     requires lawful { are_writes scale.now entry.now.writes.items ≡ true }
-    ensures { OnOk result ((n : ℕ) → get nat_cmp latest.new n
-        ≡ fold (raised_by scale.now entry.now.tid entry.now.number n) (get nat_cmp latest.old n)
-        entry.now.writes.items) }
+    requires records { length newest.old.places ≡ count_of_records scale.now }
+    ensures raised { OnOk result ((n : ℕ) → known newest.new n
+        ≡ fold (raised_by scale.now entry.now.tid entry.now.number n) (known newest.old n) entry.now.writes.items) }
+    ensures records { length newest.new.places ≡ length newest.old.places }
 {
     for write in &entry.writes {
         if write.table != Table::History {
@@ -127,7 +136,7 @@ fn raise_all(
                 number: entry.number,
                 words: write.words,
             };
-            raise(latest, number, left)?;
+            newest.raise(number as usize, left)?;
         }
     }
     Ok(())

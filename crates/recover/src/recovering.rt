@@ -1,21 +1,27 @@
 //! Recovery.
-ghost use Rattle.std.specs.Prelude.{◌≡◌, ◌≢◌, ℕ, List, map, flat_map, IfOk, IfErr, IsErrOf};
+ghost use Rattle.std.specs.Prelude.{◌≡◌, ◌≢◌, List, map, flat_map, IfOk, IfErr, IsErrOf};
 ghost use Rattle.std.specs.List.{All};
-ghost use Rattle.money.specs.declared.refusal.Refusal.TheVariants.{OutOfMemory, Damaged, Device, Gap};
-ghost use Rattle.log_disk.specs.Calls.{OnlyReads};
+ghost use Rattle.money.specs.declared.refusal.Refusal.TheVariants.{OutOfMemory, Gap};
 ghost use Rattle.tables.specs.Database.{database};
+ghost use Rattle.tables.specs.Sizes.{IsScale};
+ghost use Rattle.log_text.specs.Bodies.{BodyView};
+ghost use Rattle.log_text.specs.Entries.{EntryView};
 ghost use Rattle.population.specs.Initial.{initial, seed_of};
 ghost use Rattle.recover_crashes.specs.Recovering.{counted, entries_of};
+ghost use Rattle.recover_laws.specs.Found.{found};
 ghost use Rattle.recover_laws.specs.Rebuilt.{HaveNoGap, IsRebuilt};
-ghost use Rattle.recover.specs.Files.{AreDamaged, bodies_in, DeviceHasFailed};
-ghost use Rattle.recover.specs.Parts.{IsPart, HaveLawfulWrites, looked_at};
-ghost use Rattle.recover.specs.Recovered.{IsRecovery, HasGap};
+ghost use Rattle.recover.specs.Answers.{IsAnswerOn};
+ghost use Rattle.recover.specs.Files.{bodies_in};
+ghost use Rattle.recover.specs.Parts.{IsPart, IsMerged, HaveLawfulWrites};
+ghost use Rattle.recover.specs.Recovered.{IsOfFiles};
 
 use crate::durable::durable_of;
-use crate::files::read_all;
+use crate::files::read_some;
 use crate::history::add_history;
+use crate::merging::merged_with;
 use crate::numbering::{are_numbered, sort};
 use crate::part::Part;
+use crate::reading::read_with;
 use encoding::{values_are_held, values_determine_tables};
 use log_disk::Disk;
 use log_text::Body;
@@ -23,6 +29,7 @@ use money::Refusal;
 use population::Population;
 use recover_newest::{copied, put_all};
 use std::alloc::{AllocError, Global};
+use std::thread::Threads;
 use tables::{Scale, Tables};
 
 /// What recovery gives.
@@ -41,8 +48,9 @@ pub struct Recovered {
 /// then commit number; rows of HISTORY follow the population's in the order of commit numbers. It reads the disks, and
 /// writes nothing.
 ///
-/// Costs a pass over the files, a look-up and an insert a write, a sort of the commits, and a copy of the population.
-/// Its memory goes by what was written, beside that copy.
+/// Costs a pass over the files, constant time a write, a pass over the records for each file and one more, a look-up and
+/// an insert for each that was written, a sort of the commits, and a copy of the population. Beside that copy it takes 4
+/// bytes a record of the scale, twice, and memory for what was written.
 ///
 /// # Errors
 ///
@@ -55,29 +63,40 @@ pub fn recover<D: Disk>(
     population: &Population,
     disks: &mut [D],
 ) -> Result<Recovered, Refusal>
-    ensures recovered { IfOk result (λ r. (strings : List (List ℕ)) × (D.is_modelled → strings ≡ map D.seen disks.old)
-        × IsRecovery (initial population.now) (seed_of population.now) strings r) }
-    ensures gap { IsErrOf result Gap → (strings : List (List ℕ)) × (D.is_modelled → strings ≡ map D.seen disks.old)
-        × HasGap (initial population.now).scale (seed_of population.now) strings }
-    ensures damaged { IsErrOf result Damaged → (strings : List (List ℕ))
-        × (D.is_modelled → strings ≡ map D.seen disks.old)
-        × AreDamaged (initial population.now).scale (seed_of population.now) strings }
-    ensures failed { IsErrOf result Device → DeviceHasFailed (map D.failed disks.old) (map D.failed disks.new) }
-    ensures not_failed { (IsErrOf result Device → ⊥) → map D.failed disks.new ≡ map D.failed disks.old }
-    ensures others { IfErr result (λ refusal. (refusal ≢ OutOfMemory) → (refusal ≢ Device) → (refusal ≢ Damaged)
-        → refusal ≡ Gap) }
-    ensures reads { OnlyReads D.is_modelled (map D.seen) (map D.story) disks.old disks.new }
+    ensures { IsAnswerOn D.is_modelled D.seen D.story D.failed (initial population.now) (seed_of population.now)
+        disks.old disks.new result }
 {
-    let files = read_all(alloc, population, disks)?;
+    let loggers = disks.len();
+    let files = read_some(alloc, population, loggers, 0, disks)?;
     let durable = durable_of(&files);
     let part = merged(alloc, &population.scale(), files, durable)?;
-    let commits = part.entries.len() as u64;
-    let tables = rebuilt(alloc, population, part)?;
-    Ok(Recovered {
-        tables,
-        commits,
-        durable,
-    })
+    settled(alloc, population, part, durable)
+}
+
+/// What `recover` does, where files are read, and what they say is merged, in at most so many threads, of which the
+/// calling one is the first; with 0 or 1 it is the only one, and there are no more than files. Where a thread can't be
+/// started, the calling one does its work. Takes 4 bytes a record of the scale for each thread and one more. May wait,
+/// for its threads.
+///
+/// # Errors
+///
+/// As `recover`, but that each thread looks at its own files until one refuses: where one thread finds a device that
+/// fails, that decides, whatever another has found.
+pub fn recover_with<R: Threads + Sync, D: Disk + Send>(
+    rt: &R,
+    alloc: Global,
+    population: &Population,
+    disks: &mut [D],
+    threads: usize,
+) -> Result<Recovered, Refusal>
+    ensures { IsAnswerOn D.is_modelled D.seen D.story D.failed (initial population.now) (seed_of population.now)
+        disks.old disks.new result }
+{
+    let loggers = disks.len();
+    let files = read_with(rt, alloc, population, loggers, 0, threads, disks)?;
+    let durable = durable_of(&files);
+    let part = merged_with(rt, alloc, &population.scale(), files, durable, threads)?;
+    settled(alloc, population, part, durable)
 }
 
 /// What the files say together, from one part a file.
@@ -87,13 +106,13 @@ pub(crate) fn merged(
     files: Vec<Vec<Body>>,
     durable: u64,
 ) -> Result<Part, AllocError>
+    requires scale { IsScale scale.now }
     requires lawful { All (λ bodies. HaveLawfulWrites scale.now (entries_of bodies))
         (map (λ bodies. bodies_in bodies.items) files.items) }
-    ensures part { IfOk result (λ part. IsPart scale.now part) }
-    ensures entries { IfOk result (λ part. looked_at part
-        ≡ flat_map (counted durable) (map (λ bodies. bodies_in bodies.items) files.items)) }
+    ensures { IfOk result (λ part. IsPart scale.now
+        (flat_map (counted durable) (map (λ bodies. bodies_in bodies.items) files.items)) part) }
 {
-    let mut all = Part::new(alloc);
+    let mut all = Part::new(alloc, scale)?;
     for bodies in files {
         let part = Part::of_file(alloc, scale, bodies, durable)?;
         all.merge(part)?;
@@ -101,17 +120,43 @@ pub(crate) fn merged(
     Ok(all)
 }
 
-/// The tables of what all files say.
-fn rebuilt(alloc: Global, population: &Population, part: Part) -> Result<Tables, Refusal>
-    requires part { IsPart (initial population.now).scale part }
-    requires lawful { HaveLawfulWrites (initial population.now).scale (looked_at part) }
-    ensures rebuilt { IfOk result (λ tables. IsRebuilt (initial population.now) (looked_at part) (database tables)) }
-    ensures gap { IsErrOf result Gap → HaveNoGap (looked_at part) → ⊥ }
+/// What a part recovers to that has what the files say together, which count up to this durable epoch.
+fn settled(
+    alloc: Global,
+    population: &Population,
+    part: Part,
+    durable: u64,
+) -> Result<Recovered, Refusal>
+    requires merged { (files : List (List BodyView)) × IsMerged (initial population.now).scale files durable part }
+    ensures recovered { (files : List (List BodyView)) → IsMerged (initial population.now).scale files durable part
+        → IfOk result (IsOfFiles (initial population.now) files) }
+    ensures gap { (files : List (List BodyView)) → IsMerged (initial population.now).scale files durable part
+        → IsErrOf result Gap → HaveNoGap (found files) → ⊥ }
     ensures others { IfErr result (λ refusal. (refusal ≢ OutOfMemory) → refusal ≡ Gap) }
 {
-    let mut entries = part.entries;
-    sort(&mut entries);
-    if !are_numbered(&entries) {
+    let commits = part.commits.len() as u64;
+    let tables = rebuilt(alloc, population, part)?;
+    Ok(Recovered {
+        tables,
+        commits,
+        durable,
+    })
+}
+
+/// The tables of what all files say.
+fn rebuilt(alloc: Global, population: &Population, part: Part) -> Result<Tables, Refusal>
+    requires part { (es : List EntryView) × IsPart (initial population.now).scale es part
+        × HaveLawfulWrites (initial population.now).scale es }
+    ensures rebuilt { IfOk result (λ tables. (es : List EntryView) → IsPart (initial population.now).scale es part
+        → HaveLawfulWrites (initial population.now).scale es
+        → IsRebuilt (initial population.now) es (database tables)) }
+    ensures gap { IsErrOf result Gap → (es : List EntryView) → IsPart (initial population.now).scale es part
+        → HaveNoGap es → ⊥ }
+    ensures others { IfErr result (λ refusal. (refusal ≢ OutOfMemory) → refusal ≡ Gap) }
+{
+    let mut commits = part.commits;
+    sort(&mut commits);
+    if !are_numbered(&commits) {
         return Err(Refusal::Gap);
     }
     // The copy holds what the population's records hold.
@@ -119,7 +164,7 @@ fn rebuilt(alloc: Global, population: &Population, part: Part) -> Result<Tables,
     values_are_held();
     let first = population.tables();
     let mut tables = copied(alloc, first)?;
-    put_all(&mut tables, first, &part.latest)?;
-    add_history(&mut tables, &entries)?;
+    put_all(&mut tables, first, &part.newest)?;
+    add_history(&mut tables, &commits)?;
     Ok(tables)
 }

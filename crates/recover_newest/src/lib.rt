@@ -2,7 +2,9 @@
 #![tactic(auto)]
 
 mod latest;
+mod newest;
 mod rebuilding;
 
-pub use latest::{Latest, merge, raise};
+pub use latest::Latest;
+pub use newest::Newest;
 pub use rebuilding::{copied, put_all};

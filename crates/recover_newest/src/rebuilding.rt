@@ -1,23 +1,21 @@
 //! Tables from the newest writes of their records.
-ghost use Rattle.std.specs.Prelude.{◌≡◌, ℕ, Some, IfOk, OnOk};
-ghost use Rattle.std.specs.BTreeMap.{get};
-ghost use Rattle.std.specs.Ordering.{nat_cmp};
+ghost use Rattle.std.specs.Prelude.{◌≡◌, ℕ, Some, IfOk, OnOk, length};
 ghost use Rattle.tables.specs.Database.{Database, database};
-ghost use Rattle.tables.specs.Records.{key_of as key_of_number};
+ghost use Rattle.tables.specs.Records.{record_count as count_of_records, key_of as key_of_number};
 ghost use Rattle.tables.specs.Rows.{rows};
 ghost use Rattle.tables.specs.Sizes.{IsScale};
 ghost use Rattle.tables.specs.WellFormed.{IsWellFormed};
 ghost use Rattle.encoding.specs.Held.{by_key, AreTables};
 ghost use Rattle.encoding.specs.Puts.{Puts};
+ghost use Rattle.recover_newest.specs.Known.{known};
 ghost use Rattle.recover_newest.specs.Putting.{MayPut, left_in};
 ghost use Rattle.recover_newest.specs.declared.latest.Latest.{Latest};
 
-use crate::latest::Latest;
+use crate::newest::Newest;
 use encoding::{put, take_out};
 use money::Payload;
 use std::alloc::{AllocError, Global};
-use std::collections::BTreeMap;
-use tables::{RecordKey, Tables, key_of};
+use tables::{RecordKey, Tables, key_of, record_count};
 
 /// A copy of tables. Costs their memory, and a pass over their rows.
 pub fn copied(alloc: Global, tables: &Tables) -> Result<Tables, AllocError>
@@ -39,24 +37,24 @@ pub fn copied(alloc: Global, tables: &Tables) -> Result<Tables, AllocError>
     })
 }
 
-/// Puts what records were left with into the tables that a population's have become. A look-up and an insert a record.
-pub fn put_all(
-    tables: &mut Tables,
-    population: &Tables,
-    latest: &BTreeMap<u32, Latest>,
-) -> Result<(), AllocError>
+/// Puts what records were left with into the tables that a population's have become, in the order of their numbers. One
+/// pass over the records, and a look-up and an insert for each that was written.
+pub fn put_all(tables: &mut Tables, population: &Tables, newest: &Newest) -> Result<(), AllocError>
     requires population { IsWellFormed (database population.now) }
     requires lawful { IsScale (database population.now).scale }
-    requires writes { (n : ℕ) (w : Latest) → get nat_cmp latest.now n ≡ Some w
+    requires records { length newest.now.places ≡ count_of_records (database population.now).scale }
+    requires writes { (n : ℕ) (w : Latest) → known newest.now n ≡ Some w
         → MayPut (database population.now).scale n w.words }
     requires tables { AreTables (database population.now) (by_key (database population.now).scale
         (rows (database population.now))) (database tables.old) }
     ensures tables { OnOk result (AreTables (database population.now) (by_key (database population.now).scale
-        (λ n. left_in (get nat_cmp latest.now n) (rows (database population.now) n))) (database tables.new)) }
+        (λ n. left_in (known newest.now n) (rows (database population.now) n))) (database tables.new)) }
     ensures history { OnOk result ((database tables.new).history ≡ (database tables.old).history) }
 {
-    for (number, write) in latest.iter() {
-        put_one(tables, population, *number, &write.words)?;
+    for number in 0..record_count(&population.scale) {
+        if let Some(write) = newest.get(number as usize) {
+            put_one(tables, population, number, &write.words)?;
+        }
     }
     Ok(())
 }

@@ -1,7 +1,8 @@
 //! Command lines, and what is made of them.
+ghost use Rattle.std.specs.Prelude.{◌≤◌};
 
 use clap::error::ErrorKind;
-use program_options::{Options, Subcommand, options};
+use program_options::{LogFiles, Options, RecoverOptions, Subcommand, options};
 use std::alloc::{AllocError, Global};
 use std::test::Fail;
 
@@ -56,6 +57,42 @@ fn each_option_is_read(rt: HostRuntime) -> Result<(), Fail> {
     Ok(())
 }
 
+/// What is asked of a recovery of two files in `a`, in so many threads.
+fn of_two_files(alloc: Global, threads: u32) -> Result<RecoverOptions, AllocError>
+    requires { (1 ≤ threads) × (threads ≤ 8) }
+{
+    Ok(RecoverOptions {
+        files: LogFiles {
+            folder: String::from_str(alloc, "a")?,
+            loggers: 2,
+        },
+        threads,
+    })
+}
+
+/// The subcommand that a line asks for.
+fn subcommand_of(alloc: Global, line: &str) -> Result<Subcommand, Fail> {
+    let words = words(alloc, line)?;
+    let asked = options(alloc, words.as_slice())?;
+    Ok(asked.subcommand)
+}
+
+#[test]
+fn log_files_are_read_in_one_thread(rt: HostRuntime) -> Result<(), Fail> {
+    let asked = subcommand_of(rt.alloc(), "tpcc recover --logs a --loggers 2")?;
+    let expected = Subcommand::Recover(of_two_files(rt.alloc(), 1)?);
+    assert_eq!(rt; asked, expected);
+    Ok(())
+}
+
+#[test]
+fn log_files_are_read_in_the_threads_that_are_asked_for(rt: HostRuntime) -> Result<(), Fail> {
+    let asked = subcommand_of(rt.alloc(), "tpcc check --threads 8 --logs a --loggers 2")?;
+    let expected = Subcommand::Check(of_two_files(rt.alloc(), 8)?);
+    assert_eq!(rt; asked, expected);
+    Ok(())
+}
+
 #[test]
 fn an_error_names_what_is_wrong(rt: HostRuntime) -> Result<(), Fail> {
     let lines = [
@@ -85,6 +122,19 @@ fn an_error_names_what_is_wrong(rt: HostRuntime) -> Result<(), Fail> {
             "tpcc recover --logs a --loggers 0",
             "'0' for '--loggers <N>'",
         ),
+        (
+            "tpcc recover --logs a --loggers 2 --threads 0",
+            "'0' for '--threads <N>'",
+        ),
+        (
+            "tpcc check --logs a --loggers 2 --threads 9",
+            "'9' for '--threads <N>'",
+        ),
+        (
+            "tpcc check --logs a --loggers 2 --threads 2 --threads 2",
+            "'--threads <N>'",
+        ),
+        ("tpcc run --logs a --threads 2", "'--threads'"),
         ("tpcc script --logs a", "'--logs'"),
     ];
     for (line, named) in lines {

@@ -6,6 +6,10 @@ mod log_bytes;
 #[cfg(test)]
 mod log_files;
 #[cfg(test)]
+mod meeting;
+#[cfg(test)]
 mod recovering_tests;
 #[cfg(test)]
 mod telling_tests;
+#[cfg(test)]
+mod threads_tests;

@@ -10,9 +10,9 @@ use tables::{CustomerKey, Tables};
 
 /// What recovery comes to.
 #[derive(Clone, Copy, Debug, PartialEq, Eq)]
-struct Recovery {
-    durable: u64,
-    commits: u64,
+pub(crate) struct Recovery {
+    pub(crate) durable: u64,
+    pub(crate) commits: u64,
 }
 
 /// The balance of a customer of district 1, in cents.

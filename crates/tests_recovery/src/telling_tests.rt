@@ -7,59 +7,82 @@ use program_recovery::{checked, recovered};
 use std::alloc::Global;
 use std::io::{self, ErrorKind, Write};
 use std::test::Fail;
+use std::thread::Threads;
 
-/// What is shown of these disks.
-fn shown(alloc: Global, disks: &mut [Memory]) -> Result<Vec<u8>, Refusal> {
+/// In how many threads the files are read.
+const THREADS: [usize; 3] = [1, 2, 8];
+
+/// What is shown of these disks, read in so many threads.
+fn shown<R: Threads + Sync>(
+    rt: &R,
+    alloc: Global,
+    disks: &mut [Memory],
+    threads: usize,
+) -> Result<Vec<u8>, Refusal> {
     let population = small(alloc)?;
     let mut text = Vec::new(alloc);
-    recovered(alloc, &population, disks, &mut text)?;
+    recovered(rt, alloc, &population, disks, &mut text, threads)?;
     Ok(text)
 }
 
 /// What is reported of them.
-fn reported(alloc: Global, disks: &mut [Memory]) -> Result<Vec<u8>, Refusal> {
+fn reported<R: Threads + Sync>(
+    rt: &R,
+    alloc: Global,
+    disks: &mut [Memory],
+    threads: usize,
+) -> Result<Vec<u8>, Refusal> {
     let population = small(alloc)?;
     let mut text = Vec::new(alloc);
-    checked(alloc, &population, disks, &mut text)?;
+    checked(rt, alloc, &population, disks, &mut text, threads)?;
     Ok(text)
 }
 
 #[test]
 fn two_files_are_shown(rt: HostRuntime) -> Result<(), Fail> {
     let mut disks = disks(rt.alloc(), 1)?;
-    let text = shown(rt.alloc(), &mut disks)?;
     let expected = "durable 5\ncommits 2\nwarehouse 1 ytd 202.00\ndistrict 1 1 ytd 102.00 next 11\n\
         district 1 2 ytd 100.00 next 11\n";
-    assert_eq!(rt; text.as_slice(), expected.as_bytes());
+    for threads in THREADS {
+        let text = shown(&rt, rt.alloc(), &mut disks, threads)?;
+        assert_eq!(rt; text.as_slice(), expected.as_bytes());
+    }
     Ok(())
 }
 
 #[test]
 fn two_files_are_reported(rt: HostRuntime) -> Result<(), Fail> {
     let mut disks = disks(rt.alloc(), 1)?;
-    let text = reported(rt.alloc(), &mut disks)?;
     let expected =
         "commits 2\nC1 ok\nC2 ok\nC3 ok\nC4 ok\nC5 ok\nC6 ok\nC7 ok\nC8 ok\nC9 ok\nC10 ok\nC12 ok\n";
-    assert_eq!(rt; text.as_slice(), expected.as_bytes());
+    for threads in THREADS {
+        let text = reported(&rt, rt.alloc(), &mut disks, threads)?;
+        assert_eq!(rt; text.as_slice(), expected.as_bytes());
+    }
     Ok(())
 }
 
 #[test]
 fn a_missing_commit_is_a_gap(rt: HostRuntime) -> Result<(), Fail> {
     let mut disks = disks(rt.alloc(), 0)?;
-    assert_eq!(rt; shown(rt.alloc(), &mut disks).err(), Some(Refusal::Gap));
-    assert_eq!(rt; reported(rt.alloc(), &mut disks).err(), Some(Refusal::Gap));
+    for threads in THREADS {
+        let text = shown(&rt, rt.alloc(), &mut disks, threads);
+        assert_eq!(rt; text.err(), Some(Refusal::Gap));
+        let text = reported(&rt, rt.alloc(), &mut disks, threads);
+        assert_eq!(rt; text.err(), Some(Refusal::Gap));
+    }
     Ok(())
 }
 
 #[test]
 fn one_file_of_two_is_damaged(rt: HostRuntime) -> Result<(), Fail> {
     let mut disks = first_disk(rt.alloc())?;
-    assert_eq!(rt; shown(rt.alloc(), &mut disks).err(), Some(Refusal::Damaged));
-    assert_eq!(rt;
-        reported(rt.alloc(), &mut disks).err(),
-        Some(Refusal::Damaged)
-    );
+    for threads in THREADS {
+        let text = shown(&rt, rt.alloc(), &mut disks, threads);
+        assert_eq!(rt; text.err(), Some(Refusal::Damaged));
+        let text = reported(&rt, rt.alloc(), &mut disks, threads);
+        assert_eq!(rt; text.err(), Some(Refusal::Damaged));
+    }
     Ok(())
 }
 
@@ -88,9 +111,11 @@ impl Write for Full {
 fn a_writer_that_fails_is_a_device(rt: HostRuntime) -> Result<(), Fail> {
     let population = small(rt.alloc())?;
     let mut disks = disks(rt.alloc(), 1)?;
-    let outcome = recovered(rt.alloc(), &population, &mut disks, &mut Full { room: 7 });
+    let full = &mut Full { room: 7 };
+    let outcome = recovered(&rt, rt.alloc(), &population, &mut disks, full, 2);
     assert_eq!(rt; outcome.err(), Some(Refusal::Device));
-    let outcome = checked(rt.alloc(), &population, &mut disks, &mut Full { room: 7 });
+    let full = &mut Full { room: 7 };
+    let outcome = checked(&rt, rt.alloc(), &population, &mut disks, full, 2);
     assert_eq!(rt; outcome.err(), Some(Refusal::Device));
     Ok(())
 }

@@ -9,7 +9,7 @@ use Rattle.log_text.proofs.reading_entries.writes_from.Goals as goal
 pub writes-init : goal.writes-init
 writes-init c = (
   omega arith,
-  ap (λ (l : List Write). many_after l (many (c.args.count - 0) write_from c.args.bytes.now)) c.new-writes.ensures.items
+  ap (λ (l : List Write). many_after l (many (c.args.count - 0) write_from c.args.bytes.now)) c.in_ok-writes.ensures.items
       ∙ many_begins (many (c.args.count - 0) write_from c.args.bytes.now) ∙ ap (λ (n : ℕ). many n write_from c.args.bytes.now) (whole c.args.count),
 )
   where

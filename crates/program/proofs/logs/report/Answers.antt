@@ -14,6 +14,6 @@ returns-in-Err-clause-refused g c = unread c.in-Err.ensures.unready (Appends-nil
 pub returns-clause-refused : goal.returns-clause-refused
 returns-clause-refused g c =
     let refused = c.in-Err-checked.ensures.refused in
-    subst (λ (refusal : Refusal). IsRefusedWith c.args.files.now Reports (initial c.args.population.now) (seed_of c.args.population.now)
+    subst (λ (refusal : Refusal). IsRefusedWith c.args.options.now.files Reports (initial c.args.population.now) (seed_of c.args.population.now)
     (g.W.Write.contents c.args.output.now) (g.W.Write.contents c.checked.new.writer) refusal (cause_of c.unrecovered.result)) (sym c.unrecovered.ensures.refusal)
     (untold refused.0 _ _ refused.2 c.unrecovered.ensures.cause)

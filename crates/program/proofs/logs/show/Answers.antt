@@ -14,6 +14,6 @@ returns-in-Err-clause-refused g c = unread c.in-Err.ensures.unready (Appends-nil
 pub returns-clause-refused : goal.returns-clause-refused
 returns-clause-refused g c =
     let refused = c.in-Err-show_recovered.ensures.refused in
-    subst (λ (refusal : Refusal). IsRefusedWith c.args.files.now Shows (initial c.args.population.now) (seed_of c.args.population.now)
+    subst (λ (refusal : Refusal). IsRefusedWith c.args.options.now.files Shows (initial c.args.population.now) (seed_of c.args.population.now)
     (g.W.Write.contents c.args.output.now) (g.W.Write.contents c.show_recovered.new.output) refusal (cause_of c.unrecovered.result)) (sym c.unrecovered.ensures.refusal)
     (untold refused.0 _ _ refused.1 c.unrecovered.ensures.cause)

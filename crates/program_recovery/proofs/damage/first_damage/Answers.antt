@@ -1,4 +1,4 @@
-use Rattle.std.proofs.Common.{◌≡◌, ◌<◌, ℕ, List, Option, length, refl, arith, rules, subst}
+use Rattle.std.proofs.Common.{◌≡◌, List, Option, length, refl, arith, rules, subst}
 use Rattle.std.specs.Prelude.{MatchOption}
 use Rattle.log_text.specs.Bodies.{BodyView}
 use Rattle.log_text.specs.File.{IsFile}

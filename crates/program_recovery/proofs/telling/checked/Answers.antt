@@ -11,11 +11,10 @@ returns-in_err-recovered-clause-refused g c =
     let w = g.W.Write.contents c.args.writer.now in
     let seed = seed_of c.args.population.now in
     let before = map g.D.Disk.failed c.args.disks.now in
-    let now = map g.D.Disk.failed c.recover.new.disks in
+    let now = map g.D.Disk.failed c.recover_with.new.disks in
     let refused : SomeStrings g.D.Disk.is_modelled (map g.D.Disk.seen c.args.disks.now)
     (λ strings. IsRefused (initial c.args.population.now) seed strings Reports before now w w e) =
-    unrecovered g.D.Disk.is_modelled (map g.D.Disk.seen c.args.disks.now) (initial c.args.population.now) seed Reports before now w e c.in_err-recovered.ensures.failed
-    c.in_err-recovered.ensures.not_failed c.in_err-recovered.ensures.damaged c.in_err-recovered.ensures.gap c.in_err-recovered.ensures.others in
+    unrecovered Reports w e c.in_err-recovered.ensures in
     search rules
 
 pub returns-in_err-report_on-clause-refused : goal.returns-in_err-report_on-clause-refused
@@ -25,17 +24,17 @@ returns-in_err-report_on-clause-refused g c =
     let report = c.in_ok-report.report in
     let seed = seed_of c.args.population.now in
     let before = map g.D.Disk.failed c.args.disks.now in
-    let now = map g.D.Disk.failed c.recover.new.disks in
+    let now = map g.D.Disk.failed c.recover_with.new.disks in
     let refused : SomeStrings g.D.Disk.is_modelled (map g.D.Disk.seen c.args.disks.now)
     (λ strings. IsRefused (initial c.args.population.now) seed strings Reports before now
     (g.W.Write.contents c.args.writer.now) (g.W.Write.contents c.report_on.new.writer) e) =
     untold (map g.D.Disk.seen c.args.disks.now) (initial c.args.population.now) seed Reports (report_text r.commits report) r before now _ _ e
-    c.in_ok-recovered.ensures.recovered (report, c.in_ok-report.ensures.ok, refl) (c.in_ok-recovered.ensures.not_failed (search rules)) c.in_err-report_on.ensures.beginning in
+    c.in_ok-recovered.ensures.answer (report, c.in_ok-report.ensures.ok, refl) (c.in_ok-recovered.ensures.not_failed (search rules)) c.in_err-report_on.ensures.beginning in
     search rules
 
 pub returns-clause-checked : goal.returns-clause-checked
 returns-clause-checked g c =
-    let known = c.in_ok-recovered.ensures.recovered in (
+    let known = c.in_ok-recovered.ensures.answer in (
       known.0,
       known.1,
       record {

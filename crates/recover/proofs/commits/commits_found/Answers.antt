@@ -1,38 +1,37 @@
-use Rattle.std.proofs.Common.{◌≡◌, List, Vec, Global, map, sym, ap, ◌∙◌, subst}
+use Rattle.std.proofs.Common.{rules, List, Vec, Global, map, sym, ap, ◌∙◌, subst}
 use Rattle.std.specs.List.{All}
 use Rattle.std.specs.List.Sorted.{IsPermutation}
-use Rattle.std.proofs.lemmas.List.Sorted.{IsPermutation-map}
 use Rattle.tables.specs.Sizes.{Sizes}
 use Rattle.log_text.specs.Bodies.{BodyView}
-use Rattle.log_text.specs.Entries.{EntryView, logged}
 use Rattle.log_text.specs.declared.body.Body.{Body}
 use Rattle.population.specs.Initial.{seed_of}
 use Rattle.recover_crashes.specs.Recovering.{entries_of}
 use Rattle.recover_laws.specs.Found.{durable_of, found}
 use Rattle.recover.specs.Files.{bodies_in}
-use Rattle.recover.specs.Parts.{HaveLawfulWrites, looked_at}
+use Rattle.recover.specs.Parts.{HaveLawfulWrites, commit_of}
+use Rattle.recover.specs.declared.numbering.Commit.{Commit}
+use Rattle.recover.proofs.AllRead.{found_all}
 use Rattle.recover.proofs.Found.{files_lawful, counted_found}
+use Rattle.recover.proofs.Ordering.{reordered}
 use Rattle.recover.proofs.commits.commits_found.Goals as goal
 
 abbrev bodies_of : List (Vec Body Global) → List (List BodyView)
 bodies_of files = map (λ bodies. bodies_in bodies.items) files
 
-pub merged-requires : goal.merged-requires
-merged-requires g c =
+pub merged-requires-clause-lawful : goal.merged-requires-clause-lawful
+merged-requires-clause-lawful g c =
     let s = c.args.population.now.tables.scale in
     let files = bodies_of c.in_ok-files.files.items in
-    let read = c.in_ok-files.ensures.found in
-    record {
-      lawful = subst (λ (t : Sizes). All (λ bodies. HaveLawfulWrites t (entries_of bodies)) files) (sym c.scale.ensures)
-          (files_lawful s (seed_of c.args.population.now) read.0 files read.3);
-    }
+    let read = found_all (search rules) c.in_ok-files.ensures in
+    subst (λ (t : Sizes). All (λ bodies. HaveLawfulWrites t (entries_of bodies)) files) (sym c.scale.ensures)
+    (files_lawful s (seed_of c.args.population.now) read.0 files read.3)
 
 pub returns-clause-found : goal.returns-clause-found
 returns-clause-found g c =
     let files = bodies_of c.in_ok-files.files.items in
-    let read = c.in_ok-files.ensures.found in
-    let part = c.in_ok-part.part in
+    let read = found_all (search rules) c.in_ok-files.ensures in
     let durable = c.durable_of-durable.ensures ∙ ap (λ (vs : List (Vec Body Global)). durable_of (bodies_of vs)) c.deref.ensures.value in
-    let all : looked_at part ≡ found files = c.in_ok-part.ensures.entries ∙ counted_found c.durable_of-durable.result files durable in
-    let same = IsPermutation-map logged part.entries.items c.sort.new.entries.items c.sort.ensures.permutation in
-    (read.0, read.1, files, read.3, subst (λ (es : List EntryView). IsPermutation es (map logged c.sort.new.entries.items)) all same)
+    let all = c.in_ok-part.ensures.commits ∙ ap (map commit_of) (counted_found c.durable_of-durable.result files durable) in
+    let order = reordered commit_of (found files) c.sort.new.commits.items
+    (subst (λ (cs : List Commit). IsPermutation cs c.sort.new.commits.items) all c.sort.ensures.permutation) in
+    (read.0, read.1, files, read.3, order.0, order.1, order.2)

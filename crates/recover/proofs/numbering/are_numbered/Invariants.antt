@@ -1,12 +1,13 @@
-use Rattle.std.proofs.Common.{◌≡◌, ◌+◌, drop, map}
-use Rattle.log_text.specs.Entries.{logged}
+use Rattle.std.proofs.Common.{◌≡◌, ◌+◌, List, drop, map}
+use Rattle.log_text.specs.Entries.{EntryView}
 use Rattle.recover_laws.specs.Rebuilt.{AreNumbered}
+use Rattle.recover.specs.Parts.{commit_of}
 use Rattle.recover.proofs.numbering.are_numbered.Given as goal
 
 -- all are numbered where what is left is
-abbrev pub invariant-loop-entry : goal.invariant-loop-entry
-invariant-loop-entry l = record {
-  next : l.next ≡ l.entry-index + 1;
-  enough : AreNumbered l.next (map logged (drop l.entry-index l.entries)) → AreNumbered 1 (map logged l.entries);
-  needed : AreNumbered 1 (map logged l.entries) → AreNumbered l.next (map logged (drop l.entry-index l.entries));
+abbrev pub invariant-loop-commit : goal.invariant-loop-commit
+invariant-loop-commit l = record {
+  next : l.next ≡ l.commit-index + 1;
+  enough : (es : List EntryView) → l.commits ≡ map commit_of es → AreNumbered l.next (drop l.commit-index es) → AreNumbered 1 es;
+  needed : (es : List EntryView) → l.commits ≡ map commit_of es → AreNumbered 1 es → AreNumbered l.next (drop l.commit-index es);
 }

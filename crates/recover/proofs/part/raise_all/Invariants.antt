@@ -1,7 +1,6 @@
-use Rattle.std.proofs.Common.{◌≡◌, ℕ, drop}
+use Rattle.std.proofs.Common.{◌≡◌, ℕ, drop, length}
 use Rattle.std.specs.List.{fold}
-use Rattle.std.specs.BTreeMap.{get}
-use Rattle.std.specs.Ordering.{nat_cmp}
+use Rattle.recover_newest.specs.Known.{known}
 use Rattle.recover.specs.Parts.{raised_by}
 use Rattle.recover.proofs.part.raise_all.Given as goal
 
@@ -9,6 +8,7 @@ use Rattle.recover.proofs.part.raise_all.Given as goal
 abbrev pub invariant-loop-write : goal.invariant-loop-write
 invariant-loop-write l = record {
   items : l.write-items ≡ l.entry.writes.items;
-  raised : (n : ℕ) → fold (raised_by l.scale l.entry.tid l.entry.number n) (get nat_cmp l.latest n) (drop l.write-index l.write-items)
-      ≡ fold (raised_by l.scale l.entry.tid l.entry.number n) (get nat_cmp l.fn.latest n) l.entry.writes.items;
+  records : length l.newest.places ≡ length l.fn.newest.places;
+  raised : (n : ℕ) → fold (raised_by l.scale l.entry.tid l.entry.number n) (known l.newest n) (drop l.write-index l.write-items)
+      ≡ fold (raised_by l.scale l.entry.tid l.entry.number n) (known l.fn.newest n) l.entry.writes.items;
 }

@@ -1,4 +1,4 @@
-use Rattle.std.proofs.Common.{◌≡◌, List, Vec, Global, ◌++◌, map, ap, ◌∙◌, subst}
+use Rattle.std.proofs.Common.{◌≡◌, List, Vec, Global, ◌++◌, map, subst}
 use Rattle.std.specs.List.{All, flat_map}
 use Rattle.std.specs.Vec.Iter.{into_iter_items}
 use Rattle.std.proofs.lemmas.List.Elements.{All-head, All-tail}
@@ -7,7 +7,7 @@ use Rattle.log_text.specs.Entries.{EntryView}
 use Rattle.log_text.specs.declared.body.Body.{Body}
 use Rattle.recover_crashes.specs.Recovering.{counted, entries_of}
 use Rattle.recover.specs.Files.{bodies_in}
-use Rattle.recover.specs.Parts.{HaveLawfulWrites, looked_at}
+use Rattle.recover.specs.Parts.{HaveLawfulWrites}
 use Rattle.recover.proofs.Looking.{next_of}
 use Rattle.recover.proofs.recovering.merged.Goals as goal
 
@@ -18,21 +18,21 @@ loop-bodies-preserved c =
     let rest : List (List BodyView) = map file (into_iter_items c.next.new.self) in
     let b : List BodyView = file c.in-Some.bodies in
     let all : List EntryView = flat_map (counted c.args.durable) (map file c.args.files.items) in
-    let front : List EntryView = looked_at c.loop-bodies.all in
-    let looked = subst (λ (vs : List (Vec Body Global)). front ++ flat_map (counted c.args.durable) (map file vs) ≡ all) c.in-Some.ensures.steps.0 c.loop-bodies.invariant.looked in
+    let part = c.loop-bodies.invariant.part in
+    let looked = subst (λ (vs : List (Vec Body Global)). part.0 ++ flat_map (counted c.args.durable) (map file vs) ≡ all) c.in-Some.ensures.steps.0 part.2 in
     let lawful = subst (λ (vs : List (Vec Body Global)). All (λ bodies. HaveLawfulWrites s (entries_of bodies)) (map file vs)) c.in-Some.ensures.steps.0 c.loop-bodies.invariant.lawful in
     record {
-      part = c.in_ok-merge.ensures.part s c.loop-bodies.invariant.part c.in_ok-part.ensures.part;
-      looked = ap (λ (l : List EntryView). l ++ flat_map (counted c.args.durable) rest) (c.in_ok-merge.ensures.entries ∙ ap (λ (l : List EntryView). front ++ l) c.in_ok-part.ensures.entries)
-          ∙ next_of (counted c.args.durable) front b rest all looked;
+      part = (
+        _,
+        c.in_ok-merge.ensures.part s part.0 (counted c.args.durable b) part.1 c.in_ok-part.ensures,
+        next_of (counted c.args.durable) part.0 b rest all looked,
+      );
       lawful = All-tail (λ (bodies : List BodyView). HaveLawfulWrites s (entries_of bodies)) b rest lawful;
     }
 
-pub of_file-requires : goal.of_file-requires
-of_file-requires c =
+pub of_file-requires-clause-lawful : goal.of_file-requires-clause-lawful
+of_file-requires-clause-lawful c =
     let s = c.args.scale.now in
     let file = λ (v : Vec Body Global). bodies_in v.items in
     let lawful = subst (λ (vs : List (Vec Body Global)). All (λ bodies. HaveLawfulWrites s (entries_of bodies)) (map file vs)) c.in-Some.ensures.steps.0 c.loop-bodies.invariant.lawful in
-    record {
-      lawful = All-head (λ (bodies : List BodyView). HaveLawfulWrites s (entries_of bodies)) (file c.in-Some.bodies) (map file (into_iter_items c.next.new.self)) lawful;
-    }
+    All-head (λ (bodies : List BodyView). HaveLawfulWrites s (entries_of bodies)) (file c.in-Some.bodies) (map file (into_iter_items c.next.new.self)) lawful

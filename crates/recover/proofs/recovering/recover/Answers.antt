@@ -1,65 +1,41 @@
-use Rattle.std.proofs.Common.{rules, ◌≡◌, List, Vec, Global, map, length, sym, ap, ◌∙◌, subst}
+use Rattle.std.proofs.Common.{rules, List, Vec, Global, Err, sym, ap, ◌∙◌, subst}
 use Rattle.std.specs.List.{All}
-use Rattle.std.proofs.lemmas.List.{length-map}
 use Rattle.tables.specs.Sizes.{Sizes}
-use Rattle.tables.specs.Database.{database}
-use Rattle.log_text.specs.Bodies.{BodyView}
-use Rattle.log_text.specs.Entries.{EntryView, logged}
 use Rattle.log_text.specs.declared.body.Body.{Body}
 use Rattle.population.specs.Initial.{initial, seed_of}
 use Rattle.recover_crashes.specs.Recovering.{entries_of}
-use Rattle.recover_laws.specs.Found.{durable_of, found}
-use Rattle.recover_laws.specs.Rebuilt.{HaveNoGap, IsRebuilt}
-use Rattle.recover.specs.Files.{bodies_in}
-use Rattle.recover.specs.Parts.{HaveLawfulWrites, looked_at}
-use Rattle.recover.proofs.Found.{files_lawful, counted_lawful, counted_found}
+use Rattle.recover_laws.specs.Found.{durable_of}
+use Rattle.recover.specs.Answers.{IsAnswerOn}
+use Rattle.recover.specs.Parts.{HaveLawfulWrites}
+use Rattle.recover.proofs.AllRead.{found_all}
+use Rattle.recover.proofs.Answering.{unread, settled_answer, merged_of}
+use Rattle.recover.proofs.Found.{files_lawful}
+use Rattle.recover.proofs.HalvesOfFiles.{bodies_of}
 use Rattle.recover.proofs.recovering.recover.Goals as goal
 
-abbrev bodies_of : List (Vec Body Global) → List (List BodyView)
-bodies_of files = map (λ bodies. bodies_in bodies.items) files
+pub merged-requires-clause-lawful : goal.merged-requires-clause-lawful
+merged-requires-clause-lawful g c =
+    let read = found_all (search rules) c.in_ok-files.ensures in
+    subst (λ (t : Sizes). All (λ bodies. HaveLawfulWrites t (entries_of bodies)) (bodies_of c.in_ok-files.files.items)) (sym c.scale.ensures)
+    (files_lawful (initial c.args.population.now).scale (seed_of c.args.population.now) read.0 _ read.3)
 
-pub merged-requires : goal.merged-requires
-merged-requires g c =
-    let s = c.args.population.now.tables.scale in
-    let files = bodies_of c.in_ok-files.files.items in
-    let read = c.in_ok-files.ensures.found in
-    record {
-      lawful = subst (λ (t : Sizes). All (λ bodies. HaveLawfulWrites t (entries_of bodies)) files) (sym c.scale.ensures)
-          (files_lawful s (seed_of c.args.population.now) read.0 files read.3);
-    }
-
-pub rebuilt-requires-clause-lawful : goal.rebuilt-requires-clause-lawful
-rebuilt-requires-clause-lawful g c =
-    let s = c.args.population.now.tables.scale in
-    let files = bodies_of c.in_ok-files.files.items in
-    let read = c.in_ok-files.ensures.found in
-    subst (HaveLawfulWrites s) (sym c.in_ok-part.ensures.entries)
-    (counted_lawful s c.durable_of-durable.result files (files_lawful s (seed_of c.args.population.now) read.0 files read.3))
-
-pub returns-in_err-tables-clause-gap : goal.returns-in_err-tables-clause-gap
-returns-in_err-tables-clause-gap g c = λ err.
-    let files = bodies_of c.in_ok-files.files.items in
-    let read = c.in_ok-files.ensures.found in
+pub settled-requires : goal.settled-requires
+settled-requires g c =
+    let read = found_all (search rules) c.in_ok-files.ensures in
     let durable = c.durable_of-durable.ensures ∙ ap (λ (vs : List (Vec Body Global)). durable_of (bodies_of vs)) c.deref.ensures.value in
-    let all = c.in_ok-part.ensures.entries ∙ counted_found c.durable_of-durable.result files durable in
-    (read.0, read.1, record { files = files; short = read.2; read = read.3; gap = λ none. c.rebuilt.ensures.gap (search rules) (subst HaveNoGap (sym all) none) })
+    record { merged = (_, merged_of (seed_of c.args.population.now) read.0 read.3 durable c.scale.ensures c.in_ok-part.ensures) }
 
-pub returns-clause-recovered : goal.returns-clause-recovered
-returns-clause-recovered g c =
-    let t0 = initial c.args.population.now in
-    let files = bodies_of c.in_ok-files.files.items in
-    let read = c.in_ok-files.ensures.found in
+pub returns-in_err-files : goal.returns-in_err-files
+returns-in_err-files g c =
+    let answer : IsAnswerOn g.D.Disk.is_modelled g.D.Disk.seen g.D.Disk.story g.D.Disk.failed (initial c.args.population.now)
+    (seed_of c.args.population.now) c.args.disks.now c.read_some.new.disks (Err c.in_err-files.field-0.0)
+    = unread {t0 = initial c.args.population.now} (search rules) c.in_err-files.ensures in
+    search rules
+
+pub returns : goal.returns
+returns g c =
+    let read = found_all (search rules) c.in_ok-files.ensures in
     let durable = c.durable_of-durable.ensures ∙ ap (λ (vs : List (Vec Body Global)). durable_of (bodies_of vs)) c.deref.ensures.value in
-    let all : looked_at c.in_ok-part.part ≡ found files = c.in_ok-part.ensures.entries ∙ counted_found c.durable_of-durable.result files durable in
-    let count : c.len-commits.result ≡ length c.in_ok-part.part.entries.items = search rules in (
-      read.0,
-      read.1,
-      record {
-        files = files;
-        short = read.2;
-        read = read.3;
-        rebuilt = subst (λ (es : List EntryView). IsRebuilt t0 es (database c.in_ok-tables.tables)) all c.in_ok-tables.ensures.rebuilt;
-        commits = count ∙ (sym (length-map c.in_ok-part.part.entries.items logged) ∙ ap length all);
-        durable = durable;
-      },
-    )
+    let merged = merged_of (seed_of c.args.population.now) read.0 read.3 durable c.scale.ensures c.in_ok-part.ensures in
+    settled_answer (search rules) c.in_ok-files.ensures c.settled.result (c.settled.ensures.recovered _ merged) (c.settled.ensures.gap _ merged)
+    c.settled.ensures.others

@@ -1,23 +1,21 @@
-use Rattle.std.proofs.Common.{◌≡◌, ◌++◌, ◌∷◌, [], List, Option, map, sym, ap, ◌∙◌, subst}
+use Rattle.std.proofs.Common.{◌++◌, ◌∷◌, [], List, Option, sym, ap, ◌∙◌, subst}
 use Rattle.std.proofs.lemmas.List.{map-append}
-use Rattle.std.specs.BTreeMap.{get}
-use Rattle.std.specs.Ordering.{nat_cmp}
-use Rattle.log_text.specs.Entries.{EntryView, logged}
+use Rattle.recover_newest.specs.Known.{known}
 use Rattle.recover_newest.specs.declared.latest.Latest.{Latest}
-use Rattle.recover.specs.Parts.{looked_at, IsKnown}
+use Rattle.log_text.specs.Entries.{EntryView, logged}
+use Rattle.recover.specs.Parts.{IsKnown, row_added, commit_of}
+use Rattle.recover.specs.declared.numbering.Commit.{Commit}
 use Rattle.recover.proofs.Knowing.{known_more}
 use Rattle.recover.proofs.part.Part.add.Goals as goal
 
 pub returns-clause-part : goal.returns-clause-part
-returns-clause-part c = λ part.
+returns-clause-part c = λ es part.
     let s = c.args.scale.now in
-    let old = looked_at c.args.self.now in
-    let e : EntryView = logged c.args.entry in
-    let all : map logged c.push.new.self.items ≡ old ++ e ∷ []
-    = ap (map logged) c.in_ok-push.ensures.items ∙ map-append logged c.args.self.now.entries.items (c.args.entry ∷ []) in
+    let e : EntryView = logged c.args.entry.now in
     record {
+      records = c.in_ok-raise_all.ensures.records ∙ part.records;
       known = λ n.
-          subst (λ (es : List EntryView). IsKnown s es n (get nat_cmp c.raise_all.new.latest n)) (sym all)
-          (subst (λ (o : Option Latest). IsKnown s (old ++ e ∷ []) n o) (sym (c.in_ok-raise_all.ensures n))
-          (known_more s n e old (get nat_cmp c.args.self.now.latest n) (part.known n)));
+          subst (λ (o : Option Latest). IsKnown s (es ++ e ∷ []) n o) (sym (c.in_ok-raise_all.ensures.raised n))
+          (known_more s n e es (known c.args.self.now.newest n) (part.known n));
+      commits = ◌∙◌ {A = List Commit} c.in_ok-push.ensures.items (◌∙◌ {A = List Commit} (λ i. part.commits i ++ record { number = e.number; row = (c.added_row.ensures ∙ ap row_added c.deref.ensures.value) i } ∷ []) (sym (map-append commit_of es (e ∷ []))));
     }

@@ -1,14 +1,13 @@
 -- Reading log files, disk after disk.
-use Rattle.std.proofs.Common.{◌≡◌, ℕ, ◌+◌, ◌-◌, ◌<◌, ◌≤◌, ◌^◌, min, List, [], ◌∷◌, ◌++◌, map, length, get_or, set, take, Vec, Global, refl, sym, ap, ◌∙◌, subst, arith, below_more}
-use Rattle.std.proofs.lemmas.List.{get_or-map, get_or-set_same, set-get_or, length-set, length-map, length_push, get_or_append_left, get_or_push, take_more, take_all, map_push}
+use Rattle.std.proofs.Common.{◌≡◌, ℕ, ◌+◌, ◌-◌, ◌<◌, ◌^◌, min, List, [], ◌∷◌, ◌++◌, map, length, get_or, set, take, Vec, Global, refl, sym, ap, ◌∙◌, subst, arith, below_more}
+use Rattle.std.proofs.lemmas.List.{get_or-map, get_or-set_same, set-get_or, length-set, length-map, length_push, get_or_append_left, get_or_push, take_more, map_push}
 use Rattle.std.proofs.Math.Seq.{map-set_same}
-use Rattle.tables.specs.Sizes.{Sizes}
 use Rattle.log_disk.specs.Calls.{Call, OnlyReads}
-use Rattle.log_header.specs.Header.{HeaderView, header_view}
+use Rattle.log_header.specs.Header.{HeaderView}
 use Rattle.log_text.specs.Bodies.{BodyView}
 use Rattle.log_text.specs.File.{IsFile}
 use Rattle.log_text.specs.declared.body.Body.{Body}
-use Rattle.recover.specs.Files.{AreFiles, AreDamaged, AreShort, bodies_in, DeviceHasFailed}
+use Rattle.recover.specs.Files.{AreFilesWith, AreOnDisks, bodies_in, DeviceHasFailed}
 
 abbrev pub bodies_of_file : Vec Body Global → List BodyView
 bodies_of_file bodies = bodies_in bodies.items
@@ -46,20 +45,20 @@ module _ (headers : ℕ → HeaderView) (strings : List (List ℕ)) (files : Lis
 
 -- the first i disks are read, and no disk has changed
 pub record IsReadSoFar {X : Type 0} (modelled : Type 0) (seen : X → List ℕ) (story : X → List Call) (failed : X → ℕ)
-    (s : Sizes) (seed : ℕ) (first : List X) (i : ℕ) (disks : List X) (files : List (Vec Body Global)) : Type 0 where
+    (headers : ℕ → HeaderView) (first : List X) (i : ℕ) (disks : List X) (files : List (Vec Body Global)) : Type 0 where
   pub count : length disks ≡ length first
   pub strings : List (List ℕ)
   pub strings_count : length strings ≡ i
   pub files_count : length files ≡ i
   pub are_seen : modelled → strings ≡ take i (map seen first)
-  pub each : (l : ℕ) → l < i → IsFileAt (λ n. header_view n (length first) s seed) strings (map bodies_of_file files) l
+  pub each : (l : ℕ) → l < i → IsFileAt headers strings (map bodies_of_file files) l
   pub same : OnlyReads modelled (map seen) (map story) first disks
   pub same_failed : map failed disks ≡ map failed first
 
 module _ {X : Type 0} {modelled : Type 0} {seen : X → List ℕ} {story : X → List Call} {failed : X → ℕ}
-    {s : Sizes} {seed : ℕ} {first : List X} where
+    {headers : ℕ → HeaderView} {first : List X} where
   pub begins : {files : List (Vec Body Global)} → files ≡ []
-      → IsReadSoFar modelled seen story failed s seed first 0 first files
+      → IsReadSoFar modelled seen story failed headers first 0 first files
   begins none = record {
     count = refl;
     strings = [];
@@ -71,26 +70,9 @@ module _ {X : Type 0} {modelled : Type 0} {seen : X → List ℕ} {story : X →
     same_failed = refl;
   }
 
-  pub ends : {i : ℕ} {disks : List X} {files : List (Vec Body Global)} → length first ≤ i → i ≤ length first
-      → IsReadSoFar modelled seen story failed s seed first i disks files
-      → (strings : List (List ℕ)) × (modelled → strings ≡ map seen first) × AreShort strings
-      × AreFiles s seed strings (map bodies_of_file files)
-  ends {i} {disks} {files} low high so_far =
-      let all : length first ≡ length so_far.strings = omega (arith, low, high, so_far.strings_count) in (
-        so_far.strings,
-        (λ given. so_far.are_seen given ∙ take_all i (map seen first) (omega (arith, low, length-map first seen))),
-        (λ l less. (so_far.each l (omega (arith, less, so_far.strings_count))).0),
-        record {
-          count = length-map files bodies_of_file ∙ so_far.files_count ∙ sym so_far.strings_count;
-          each = λ l less. (subst
-              (λ (n : ℕ). IsFileAt (λ k. header_view k n s seed) so_far.strings (map bodies_of_file files) l)
-              all (so_far.each l (omega (arith, less, so_far.strings_count)))).1;
-        },
-      )
-
   -- disk i, whatever stands for those past the end, becomes now
   module _ {i : ℕ} {disks : List X} {files : List (Vec Body Global)} (past now : X)
-      (so_far : IsReadSoFar modelled seen story failed s seed first i disks files) where
+      (so_far : IsReadSoFar modelled seen story failed headers first i disks files) where
     pub only_reads : OnlyReads modelled seen story (get_or disks i past) now
         → OnlyReads modelled (map seen) (map story) first (set disks i now)
     only_reads same = record {
@@ -101,10 +83,10 @@ module _ {X : Type 0} {modelled : Type 0} {seen : X → List ℕ} {story : X →
     pub failed_stays : failed now ≡ failed (get_or disks i past) → map failed (set disks i now) ≡ map failed first
     failed_stays same = map-set_same failed disks i now past same ∙ so_far.same_failed
 
-    module _ (within : i < length disks) where
-      abbrev headers : ℕ → HeaderView
-      headers l = header_view l (length first) s seed
+    pub count_stays : length (set disks i now) ≡ length first
+    count_stays = length-set disks i now ∙ so_far.count
 
+    module _ (within : i < length disks) where
       here : {Y : Type 0} (f : X → Y) (e : Y) → map f disks ≡ map f first
           → get_or (map f first) i e ≡ f (get_or disks i past)
       here f e same = (λ j. get_or (sym same j) i e) ∙ get_or-map f disks i past e within
@@ -114,12 +96,12 @@ module _ {X : Type 0} {modelled : Type 0} {seen : X → List ℕ} {story : X →
 
       pub goes_on : (bodies : Vec Body Global) {longer : List (Vec Body Global)}
           → ((string : List ℕ) × (length string < 2 ^ 64) × (modelled → string ≡ seen (get_or disks i past))
-          × IsFile string (header_view i (length disks) s seed) (bodies_of_file bodies))
+          × IsFile string (headers i) (bodies_of_file bodies))
           → OnlyReads modelled seen story (get_or disks i past) now → failed now ≡ failed (get_or disks i past)
           → longer ≡ files ++ bodies ∷ []
-          → IsReadSoFar modelled seen story failed s seed first (i + 1) (set disks i now) longer
+          → IsReadSoFar modelled seen story failed headers first (i + 1) (set disks i now) longer
       goes_on bodies {longer} read same failed_same pushed = record {
-        count = length-set disks i now ∙ so_far.count;
+        count = count_stays;
         strings = so_far.strings ++ read.0 ∷ [];
         strings_count = length_push so_far.strings read.0 ∙ ap (λ (n : ℕ). n + 1) so_far.strings_count;
         files_count = ap (λ (l : List (Vec Body Global)). length l) pushed ∙ length_push files bodies
@@ -132,26 +114,29 @@ module _ {X : Type 0} {modelled : Type 0} {seen : X → List ℕ} {story : X →
             (sym (map_push bodies_of_file files bodies) ∙ ap (map bodies_of_file) (sym pushed))
             (one_more headers so_far.strings (map bodies_of_file files) i so_far.strings_count
             (length-map files bodies_of_file ∙ so_far.files_count) read.0 (bodies_of_file bodies) so_far.each
-            (read.1, subst (λ (n : ℕ). IsFile read.0 (header_view i n s seed) (bodies_of_file bodies)) so_far.count read.3));
+            (read.1, read.3));
         same = only_reads same;
         same_failed = failed_stays failed_same;
       }
 
       -- a disk that holds no such file
       pub none : ((file : List ℕ) × (modelled → file ≡ seen (get_or disks i past))
-          × ((bodies : List BodyView) → IsFile file (header_view i (length disks) s seed) bodies → ⊥))
-          → (strings : List (List ℕ)) × (modelled → strings ≡ map seen first) × AreDamaged s seed strings
+          × ((bodies : List BodyView) → IsFile file (headers i) bodies → ⊥))
+          → (strings : List (List ℕ)) × AreOnDisks modelled (map seen first) strings
+          × ((files : List (List BodyView)) → AreFilesWith headers strings files → ⊥)
       none read =
           let strings : List (List ℕ) = set (map seen first) i read.0 in
-          let count : length strings ≡ length disks = length-set (map seen first) i read.0 ∙ length-map first seen ∙ sym so_far.count in (
+          let count : length strings ≡ length (map seen first) = length-set (map seen first) i read.0 in (
             strings,
-            (λ given. ap (set (map seen first) i) (read.1 given ∙ sym (here seen [] (so_far.same.seen given))) ∙ set-get_or (map seen first) i []),
-            λ all are.
-                let is : IsFile (get_or strings i []) (header_view i (length strings) s seed) (get_or all i []) = are.each i (omega (arith, within, count)) in
-                read.2 (get_or all i [])
-                (subst (λ (t : List ℕ). IsFile t (header_view i (length disks) s seed) (get_or all i []))
+            record {
+              count = count;
+              modelled = λ given. ap (set (map seen first) i) (read.1 given ∙ sym (here seen [] (so_far.same.seen given)))
+                  ∙ set-get_or (map seen first) i [];
+            },
+            λ all are. read.2 (get_or all i [])
+                (subst (λ (t : List ℕ). IsFile t (headers i) (get_or all i []))
                 (get_or-set_same (map seen first) i read.0 [] (among seen))
-                (subst (λ (n : ℕ). IsFile (get_or strings i []) (header_view i n s seed) (get_or all i [])) count is)),
+                (are.each i (omega (arith, among seen, count)))),
           )
 
       -- a disk whose call fails

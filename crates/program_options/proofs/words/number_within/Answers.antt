@@ -2,7 +2,7 @@ use Rattle.std.proofs.Common.{rules}
 use Rattle.clap.specs.Words.{found_of, one_of, rows_of}
 use Rattle.program_options.specs.CommandLine.{WritesNumber}
 use Rattle.program_options.proofs.Reading.{written}
-use Rattle.program_options.proofs.run_words.number_within.Goals as goal
+use Rattle.program_options.proofs.words.number_within.Goals as goal
 
 pub returns-then-number-limits-clause-written : goal.returns-then-number-limits-clause-written
 returns-then-number-limits-clause-written c =

@@ -1,0 +1,101 @@
+//! The newest write of each record.
+ghost use Rattle.std.specs.Prelude.{◌≡◌, ◌<◌, ◌==◌, ℕ, Some, None, length, OnOk, OnErr, IfOk, if◌then◌else◌};
+ghost use Rattle.recover_newest.specs.Latest.{newer, joined};
+ghost use Rattle.recover_newest.specs.Known.{known};
+
+use crate::latest::Latest;
+use std::alloc::{AllocError, Global};
+use std::marker::Model;
+
+/// The newest writes of records, as far as writes were looked at: a list of them, and of each record its place there.
+/// It takes 4 bytes for each record of the scale, and a write for each record that was written.
+#[derive(Drop)]
+pub struct Newest {
+    /// By record number: 0 where no write is known, else the place of the newest in the list, from 1.
+    places: Vec<u32>,
+    writes: Vec<Latest>,
+}
+
+impl Model for Newest {
+    ghost use Rattle.recover_newest.specs.Known.{NewestView, ArePlaces};
+
+    ghost Value = { NewestView };
+
+    ghost view = { λ newest. record { places = newest.places.items; writes = newest.writes.items } };
+
+    ghost invariant = { λ newest. ArePlaces newest.places.items newest.writes.items };
+}
+
+impl Newest {
+    /// Nothing known of so many records.
+    pub fn new(alloc: Global, records: usize) -> Result<Newest, AllocError>
+        ensures records { IfOk result (λ newest. length newest.places ≡ records) }
+        ensures none { IfOk result (λ newest. (n : ℕ) → known newest n ≡ None) }
+    {
+        let places = vec![in alloc; 0; records]?;
+        Ok(Newest {
+            places,
+            writes: Vec::new(alloc),
+        })
+    }
+
+    /// Of how many records a write may be known.
+    pub fn records(&self) -> usize
+        ensures { result ≡ length self.now.places }
+    {
+        self.places.len()
+    }
+
+    /// The newest write of a record, if one is known. Constant time.
+    pub fn get(&self, number: usize) -> Option<Latest>
+        requires { number < length self.now.places }
+        ensures { result ≡ known self.now number }
+    {
+        let place = self.places[number];
+        if place == 0 {
+            return None;
+        }
+        Some(self.writes[place as usize - 1])
+    }
+
+    /// Keeps a write of the record of this number, where none is known yet that is newer or as new. Constant time;
+    /// without memory for it nothing changes.
+    pub fn raise(&mut self, number: usize, write: Latest) -> Result<(), AllocError>
+        requires { number < length self.old.places }
+        ensures records { length self.new.places ≡ length self.old.places }
+        ensures kept { OnOk result ((n : ℕ) → known self.new n
+            ≡ (if n == number then Some (newer (known self.old n) write) else known self.old n)) }
+        ensures err { OnErr result (self.new ≡ self.old) }
+    {
+        let place = self.places[number];
+        if place != 0 {
+            let at = place as usize - 1;
+            let known = self.writes[at];
+            if known.is_older(&write) {
+                self.writes[at] = write;
+            }
+            return Ok(());
+        }
+        // A place takes 4 bytes.
+        if self.writes.len() >= u32::MAX as usize {
+            return Err(AllocError);
+        }
+        self.writes.push(write)?;
+        self.places[number] = self.writes.len() as u32;
+        Ok(())
+    }
+
+    /// Keeps of each record the newer of what either has of it. One pass over the records.
+    pub fn merge(&mut self, other: &Newest) -> Result<(), AllocError>
+        requires { length other.now.places ≡ length self.old.places }
+        ensures records { length self.new.places ≡ length self.old.places }
+        ensures merged { OnOk result ((n : ℕ) → known self.new n ≡ joined (known self.old n) (known other.now n)) }
+    {
+        for number in 0..other.places.len() {
+            if let Some(write) = other.get(number) {
+                self.raise(number, write)?;
+            }
+        }
+        Ok(())
+    }
+}

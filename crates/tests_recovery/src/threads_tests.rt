@@ -1,0 +1,79 @@
+//! Recovery in threads: five Payments of 1.00 in epochs 4 to 8, in two files.
+
+use crate::log_files::{disks, small};
+use crate::meeting::{Meeting, Met};
+use crate::recovering_tests::Recovery;
+use log_disk::{Disk, Memory};
+use money::Refusal;
+use recover::recover_with;
+use std::alloc::Global;
+use std::test::Fail;
+use std::thread::Threads;
+
+/// What these disks recover to in so many threads.
+fn recovery_of<R: Threads + Sync, D: Disk + Send>(
+    rt: &R,
+    alloc: Global,
+    disks: &mut [D],
+    threads: usize,
+) -> Result<Recovery, Refusal> {
+    let population = small(alloc)?;
+    let found = recover_with(rt, alloc, &population, disks, threads)?;
+    Ok(Recovery {
+        durable: found.durable,
+        commits: found.commits,
+    })
+}
+
+#[test]
+fn any_number_of_threads_recovers_the_same(rt: HostRuntime) -> Result<(), Fail> {
+    let expected = Recovery {
+        durable: 5,
+        commits: 2,
+    };
+    for threads in [0, 1, 2, 8] {
+        let mut disks = disks(rt.alloc(), 1)?;
+        assert_eq!(rt;
+            recovery_of(&rt, rt.alloc(), &mut disks, threads),
+            Ok(expected)
+        );
+    }
+    Ok(())
+}
+
+#[test]
+fn a_gap_is_found_in_threads(rt: HostRuntime) -> Result<(), Fail> {
+    let mut disks = disks(rt.alloc(), 0)?;
+    assert_eq!(rt;
+        recovery_of(&rt, rt.alloc(), &mut disks, 2),
+        Err(Refusal::Gap)
+    );
+    Ok(())
+}
+
+/// The disks of both files, which meet.
+fn met<'a>(alloc: Global, meeting: &'a Meeting) -> Result<Vec<Met<'a, Memory>>, Refusal> {
+    let mut met = Vec::new(alloc);
+    for disk in disks(alloc, 1)? {
+        let is_first = met.is_empty();
+        met.push(Met {
+            disk,
+            is_first,
+            meeting,
+        })?;
+    }
+    Ok(met)
+}
+
+#[test]
+fn two_threads_read_two_files_at_once(rt: HostRuntime) -> Result<(), Fail> {
+    let meeting = Meeting::default();
+    let mut disks = met(rt.alloc(), &meeting)?;
+    let expected = Recovery {
+        durable: 5,
+        commits: 2,
+    };
+    assert_eq!(rt; recovery_of(&rt, rt.alloc(), &mut disks, 2), Ok(expected));
+    assert_eq!(rt; meeting.in_vain(), 0);
+    Ok(())
+}
