@@ -58,6 +58,7 @@ pub(crate) fn push_text(out: &mut String, text: &str)
 }
 
 /// Appends a number. Most numbers of an answer have one digit.
+#[inline(always)]
 #[tactic(auto, using(std::proofs::lemmas::Fmt::decimal_digit))]
 fn push_number(out: &mut String, number: u32)
     requires { string_len out.old + NUMBER_ROOM ≤ string_capacity out.old }
