@@ -4,8 +4,9 @@
     replay.py DIR LOGGERS
 
 Reads DIR/log-0, DIR/log-1 and so on, as many as there were loggers. The durable epoch D is the least of their last
-marks. Of each record the newest write counts, the one of the greatest TID, among the entries of epochs up to D. Where
-there is none, the record is as in the plain population, in which each customer has paid 10.00 in their district.
+marks. An entry counts where its epoch is up to D, and no file has a void body that declares it void. Of each record the
+newest write counts, the one of the greatest TID. Where there is none, the record is as in the plain population, in
+which each customer has paid 10.00 in their district.
 
 Ends with 0, and with 1 where bytes are no log file of that logger, where the files are of several databases, or where a
 commit is missing; standard error then has the file, the place of the first byte that is wrong there, and why.
@@ -26,8 +27,10 @@ WAREHOUSE, DISTRICT, HISTORY, NEW_ORDER = 1, 2, 4, 5
 SHOWN = WAREHOUSE, DISTRICT
 OPEN, PRESENT, ABSENT = 1, 1, 0
 MAX_MARK, MAX_TERMINALS, MAX_WRITES = 2**32 - 2, 16, 200
+# A void body has this in place of a mark.
+VOID_MARK = 2**64 - 1
 
-BYTE, LENGTH = struct.Struct("<B"), struct.Struct("<Q")
+BYTE, LENGTH, RANGE = struct.Struct("<B"), struct.Struct("<Q"), struct.Struct("<QQ")
 HEADER, ENTRY, WRITE = struct.Struct("<8sIHH6IQ"), struct.Struct("<QQHH"), struct.Struct("<BIB")
 
 
@@ -146,16 +149,16 @@ def read_writes(source, tables, count, wanted):
 
 
 class LogFile:
-    """A log file: its header, the mark of its last body (0 where it has none), and its entries in their order, each with
-    its writes to the tables that are shown."""
+    """A log file: its header, the mark of its last body (0 where it has none), its entries in their order, each with
+    its writes to the tables that are shown, and the ranges of epochs that it declares void."""
 
     def __init__(self, name, data, shown=SHOWN):
         source = Source(name, data)
         self.shown = shown
         self.header = read_header(source)
         self.tables = tables_of(self.header.scale)
-        self.mark, self.entries = 0, []
-        # The commit number and the epoch of the last entry.
+        self.mark, self.entries, self.voids = 0, [], []
+        # The commit number of the last entry in the same body, and the epoch of the last one in the file.
         self.number, self.epoch = 0, 1
         while source.take(BYTE)[0] == OPEN:
             self.read_body(source)
@@ -169,11 +172,30 @@ class LogFile:
             raise source.damaged(at, f"a body of {length} bytes, the gate behind it included")
         source.end = end
         (mark,) = source.take(LENGTH)
-        if not self.mark <= mark <= MAX_MARK:
-            raise source.damaged(at + 8, f"the mark {mark} behind the mark {self.mark}")
-        while source.at < end:
-            self.read_entry(source, mark)
+        if mark == VOID_MARK:
+            mark = self.read_void(source)
+        else:
+            self.read_entries(source, mark)
         self.mark, source.end = mark, len(source.data)
+
+    def read_void(self, source):
+        """The range of a void body. Its end is the mark, too."""
+        at = source.at
+        low, high = source.take(RANGE)
+        if not 1 <= low <= high <= MAX_MARK or high < max(self.mark, self.epoch):
+            raise source.damaged(at, f"epochs {low} to {high} void behind the mark {self.mark} and epoch {self.epoch}")
+        if source.at < source.end:
+            raise source.damaged(source.at, "a void body has no bytes behind its range")
+        self.voids.append((low, high))
+        return high
+
+    def read_entries(self, source, mark):
+        """The entries of a body of this mark."""
+        if not self.mark <= mark <= MAX_MARK:
+            raise source.damaged(source.at - LENGTH.size, f"the mark {mark} behind the mark {self.mark}")
+        self.number = 0
+        while source.at < source.end:
+            self.read_entry(source, mark)
 
     def read_entry(self, source, mark):
         """An entry of a body of this mark."""
@@ -206,11 +228,17 @@ def read_files(folder, loggers):
     return files
 
 
+def counts(epoch, durable, voids):
+    """Whether the entries of an epoch count."""
+    return epoch <= durable and not any(low <= epoch <= high for low, high in voids)
+
+
 def replay(folder, loggers):
     """The durable epoch, how many commits count, and the newest columns that they leave, by table and place."""
     files = read_files(folder, loggers)
     durable = min(file.mark for file in files)
-    entries = [entry for file in files for entry in file.entries if epoch_of(entry.tid) <= durable]
+    voids = [span for file in files for span in file.voids]
+    entries = [entry for file in files for entry in file.entries if counts(epoch_of(entry.tid), durable, voids)]
     for wanted, number in enumerate(sorted(entry.number for entry in entries), 1):
         if number != wanted:
             raise Damaged(f"{folder}: commit {number} stands where commit {wanted} is to be")

@@ -1,7 +1,7 @@
 """Tests of the built program on log files that aren't those that it asks for: what is told of them."""
 
 from checks import SMALL, ends, shows
-from logs import LATER, LOGS, body, entry, log, on_logs
+from logs import LATER, LOGS, body, entry, log, on_logs, void
 
 # The same scale with other numbers, and what is then told of the first file.
 OTHER_NUMBERS = [
@@ -59,6 +59,26 @@ DAMAGED = [
     ),
     # A file's header is told before its bodies are.
     ("another header and no body", [log(1, 2)[:48], LATER], "log-0: its header is of logger 1, and 0 was asked for"),
+]
+
+
+# Void bodies behind mark 5 and an entry of epoch 6, and what is told of each.
+VOIDS = [
+    ("from 0", void(0, 8), "it begins at epoch 0"),
+    ("from behind its end", void(8, 7), "it begins behind its end"),
+    ("to what is no mark", void(6, 2**32 - 1), "it ends behind epoch 4294967294"),
+    ("to before a mark", void(4, 4), "it ends before a mark or an epoch in front of it"),
+    ("to before an epoch", void(5, 5), "it ends before a mark or an epoch in front of it"),
+    ("of another length", void(6, 8, 24), "its length isn't 25"),
+]
+
+DAMAGED += [
+    (
+        f"a void body {what}",
+        [log(0, 1, body(5, entry(1, 6, 0)), text)],
+        f"log-0: the void body at byte 222 isn't one that may stand there: {why}",
+    )
+    for what, text, why in VOIDS
 ]
 
 

@@ -31,6 +31,11 @@ def body(mark, *entries):
     return struct.pack("<Q", len(text) + 1) + text
 
 
+def void(low, high, length=25):
+    """A body that declares epochs void, from one to another, but for the gate that follows it."""
+    return struct.pack("<4Q", length, 2**64 - 1, low, high)
+
+
 def log(logger, loggers, *bodies):
     """A log file at the scale of SMALL, over the plain population: its header, then each body behind an open gate."""
     header = struct.pack("<8sIHH6IQ", b"SILOTPCC", 1, logger, loggers, 1, 2, 10, 20, 30, 1000, 0)

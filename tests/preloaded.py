@@ -1,8 +1,10 @@
-"""A wrapper of the system's calls, which a program is started with: it notes writes and syncs, and fails what it is to.
+"""A wrapper of the system's calls, which a program is started with: it notes writes and syncs, and holds or fails what
+it is to.
 
 The wrapper is C, made when it is first asked for, by the kit's compiler or by `cc`. Its environment says what it does:
 STORY names a file that gets a line for each `pwrite`, as `w PATH`, and for each `fsync` and `fdatasync`, as `s PATH`. A
-sync of the path that UNSYNCED names fails, and so does a read of the path that UNREAD names, by EIO.
+sync of the path that UNSYNCED names fails, and so does a read of the path that UNREAD names, by EIO. A read of the path
+that HELD names takes a second and a half more. With THREADLESS no thread can be started.
 """
 
 import os
@@ -21,7 +23,10 @@ extern int *__errno_location(void);
 extern long syscall(long, ...);
 extern ssize_t readlink(const char *, char *, size_t), write(int, const void *, size_t);
 
-enum { EIO = 5, PREAD = 17, PWRITE = 18, FSYNC = 74, FDATASYNC = 75, APPEND = 02001, LONGEST = 4096 };
+extern void *dlsym(void *, const char *);
+
+enum { EIO = 5, EAGAIN = 11, PREAD = 17, PWRITE = 18, NANOSLEEP = 35, FSYNC = 74, FDATASYNC = 75 };
+enum { APPEND = 02001, LONGEST = 4096 };
 
 /* The path of an open file, with a zero behind it. Gives its length. */
 static size_t path_of(int file, char *path) {
@@ -71,6 +76,8 @@ int fsync(int file) { return synced(FSYNC, file); }
 int fdatasync(int file) { return synced(FDATASYNC, file); }
 
 ssize_t pread(int file, void *into, size_t size, long at) {
+    long held[] = {1, 500000000};
+    if (is_named("HELD", file)) syscall(NANOSLEEP, held, 0);
     return is_named("UNREAD", file) ? failed() : syscall(PREAD, file, into, size, at);
 }
 
@@ -82,6 +89,12 @@ ssize_t pwrite(int file, const void *from, size_t size, long at) {
 }
 
 ssize_t pwrite64(int file, const void *from, size_t size, long at) { return pwrite(file, from, size, at); }
+
+int pthread_create(void *thread, const void *how, void *(*run)(void *), void *with) {
+    if (getenv("THREADLESS")) return EAGAIN;
+    int (*create)(void *, const void *, void *(*)(void *), void *) = dlsym((void *)-1, "pthread_create");
+    return create(thread, how, run, with);
+}
 """
 
 FLAGS = "-O2 -fPIC -ffreestanding -fno-stack-protector".split()

@@ -24,6 +24,8 @@ import decks
 import devices
 import flaws
 import kills
+import screens
+import voids
 from checks import RUNS, SECONDS, SHOWN, SMALL, Checks, Ran, ends, fail, run, same, shows, shows_runs, start, whole
 from logs import LATER, LOGS, LONG, SCALE, TWO, body, contents_of, counts_of, entry, inputs_of, log, on_logs, run_in
 

@@ -13,7 +13,7 @@ use crate::timed::Timed;
 use anyhow::bail;
 use book::{Parts, Run};
 use log_disk::{Disk, FileDisk, Memory};
-use logfile::scan;
+use log_scan::scan;
 use money::Refusal;
 use std::alloc::Global;
 use std::marker::Brand;

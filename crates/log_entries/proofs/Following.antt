@@ -49,12 +49,12 @@ pub record IsFit (h : HeaderView) (least mark : ℕ) (e : Entry) : Type 0 where
   pub writes : are_writes h.scale (writes_of h.scale e.writes) ≡ true
 
 module _ (h : HeaderView) (mark : ℕ) where
-  fits : (last : Last) (e : Entry) → last.number < e.number → last.epoch ≤ epoch_of e.tid → e.tid % 8 ≡ 0 → IsFit h last.mark mark e
-      → is_entry h mark last (logged_entry h.scale e) ≡ true
-  fits last e rise epoch bits fit =
+  fits : (number : ℕ) (last : Last) (e : Entry) → number < e.number → last.epoch ≤ epoch_of e.tid → e.tid % 8 ≡ 0 → IsFit h last.mark mark e
+      → is_entry h mark number last (logged_entry h.scale e) ≡ true
+  fits number last e rise epoch bits fit =
       and_from _ _
       (and_from _ _
-      (and_from _ _ (lt-ltb last.number e.number rise) (le-leb e.number h.scale.commits fit.cap))
+      (and_from _ _ (lt-ltb number e.number rise) (le-leb e.number h.scale.commits fit.cap))
       (and_from _ _ (eq-eqb (e.tid % 8) 0 bits)
       (and_from _ _ (le-leb last.epoch (epoch_of e.tid) epoch)
       (and_from _ _ (lt-ltb last.mark (epoch_of e.tid) fit.above) (le-leb (epoch_of e.tid) (mark + 1) fit.near)))))
@@ -62,16 +62,15 @@ module _ (h : HeaderView) (mark : ℕ) where
       (and_from _ _ (lt-ltb e.terminal MAX_TERMINALS fit.terminal) (eq-eqb (e.terminal % h.loggers) h.logger fit.asked))
       fit.writes)
 
-  entries_follow : (last : Last) (es : List Entry) → NumbersRise last.number es → AreStamped es → All (λ (e : Entry). last.epoch ≤ epoch_of e.tid) es
+  entries_follow : (number : ℕ) (last : Last) (es : List Entry) → NumbersRise number es → AreStamped es → All (λ (e : Entry). last.epoch ≤ epoch_of e.tid) es
       → All (IsFit h last.mark mark) es
-      → entries_after h mark last (map (logged_entry h.scale) es)
-      ≡ Some (record { mark = last.mark; number = last_number last.number es; epoch = last_epoch_of last.epoch es })
-  entries_follow last [] rise stamped epochs fit = refl
-  entries_follow last (e ∷ es) rise stamped epochs fit =
-      let this = fits last e rise.0 (All-head (λ (d : Entry). last.epoch ≤ epoch_of d.tid) e es epochs) stamped.0 (All-head (IsFit h last.mark mark) e es fit) in
+      → entries_after h mark number last (map (logged_entry h.scale) es) ≡ Some (record { mark = last.mark; epoch = last_epoch_of last.epoch es })
+  entries_follow number last [] rise stamped epochs fit = refl
+  entries_follow number last (e ∷ es) rise stamped epochs fit =
+      let this = fits number last e rise.0 (All-head (λ (d : Entry). last.epoch ≤ epoch_of d.tid) e es epochs) stamped.0 (All-head (IsFit h last.mark mark) e es fit) in
       let later = All-weaker (Follows e) (λ (d : Entry). epoch_of e.tid ≤ epoch_of d.tid) (λ d f. f.epochs) es stamped.1 in
-      ap (λ (b : Bool). if b then entries_after h mark (behind last (logged_entry h.scale e)) (map (logged_entry h.scale) es) else None) this
-      ∙ entries_follow (behind last (logged_entry h.scale e)) es rise.1 stamped.2 later (All-tail (IsFit h last.mark mark) e es fit)
+      ap (λ (b : Bool). if b then entries_after h mark e.number (behind last (logged_entry h.scale e)) (map (logged_entry h.scale) es) else None) this
+      ∙ entries_follow e.number (behind last (logged_entry h.scale e)) es rise.1 stamped.2 later (All-tail (IsFit h last.mark mark) e es fit)
 
 -- what holds of all holds of the last ones
 all_behind : {X : Type 0} (P : X → Type 0) (xs ys : List X) → All P (xs ++ ys) → All P ys
@@ -98,13 +97,18 @@ done_writes s scale e h d =
 pub writes_lawful : (s : Sizes) → IsScale s → (e : Entry) → IsLoggable s e → are_writes s (writes_of s e.writes) ≡ true
 writes_lawful s scale e h = ∥∥₁_elim h.done (Coded-set coded_bool _ _) (λ d. done_writes s scale e h d)
 
+-- numbers that rise from above one rise from above 0
+rise_from_zero : (before : ℕ) (es : List Entry) → NumbersRise before es → NumbersRise 0 es
+rise_from_zero before [] rise = tt
+rise_from_zero before (e ∷ es) rise = (omega (arith, rise.0), rise.1)
+
 -- a batch that continues a file may follow where the file stands
-pub batch_follows : (h : HeaderView) (count : ℕ) (last : Last) (b : BatchView) → IsBatch b → Continues h count last b → last.epoch ≤ last.mark + 1
+pub batch_follows : (h : HeaderView) (count number : ℕ) (last : Last) (b : BatchView) → IsBatch b → Continues h count number last b → last.epoch ≤ last.mark + 1
     → IsScale b.scale → body_after h last (body_of_batch b) ≡ Some (behind_batch last b)
-batch_follows h count last b is at epoch scale =
+batch_follows h count number last b is at epoch scale =
     let marks : (nat_le last.mark b.mark && nat_le b.mark MAX_MARK) ≡ true
     = and_from _ _ (le-leb last.mark b.mark (omega (arith, at.mark_before, is.marks_rise))) (le-leb b.mark MAX_MARK (omega (arith, is.last_mark))) in
-    let rise : NumbersRise last.number b.entries = subst (λ (n : ℕ). NumbersRise n b.entries) at.number_before is.rise in
+    let rise : NumbersRise 0 b.entries = rise_from_zero b.number_before b.entries is.rise in
     let fit : All (IsFit h last.mark b.mark) b.entries = (λ k d lt. record {
       cap = subst (λ (s : Sizes). (get_or b.entries k d).number ≤ s.commits) at.scale (is.cap k d lt);
       above = omega (arith, (is.epochs k d lt).0, at.mark_before);
@@ -115,9 +119,9 @@ batch_follows h count last b is at epoch scale =
     }) in
     let epochs : All (λ (e : Entry). last.epoch ≤ epoch_of e.tid) b.entries
     = (λ k d lt. omega (arith, epoch, (is.epochs k d lt).0, at.mark_before)) in
-    let entries = entries_follow h b.mark last b.entries rise is.stamped epochs fit in
-    ap (λ (t : Bool). if t then option_and_then (λ (l : Last). Some (marked b.mark l)) (entries_after h b.mark last (map (logged_entry b.scale) b.entries)) else None) marks
-    ∙ ap (λ (s : Sizes). option_and_then (λ (l : Last). Some (marked b.mark l)) (entries_after h b.mark last (map (logged_entry s) b.entries))) at.scale
+    let entries = entries_follow h b.mark 0 last b.entries rise is.stamped epochs fit in
+    ap (λ (t : Bool). if t then option_and_then (λ (l : Last). Some (marked b.mark l)) (entries_after h b.mark 0 last (map (logged_entry b.scale) b.entries)) else None) marks
+    ∙ ap (λ (s : Sizes). option_and_then (λ (l : Last). Some (marked b.mark l)) (entries_after h b.mark 0 last (map (logged_entry s) b.entries))) at.scale
     ∙ ap (option_and_then (λ (l : Last). Some (marked b.mark l))) entries
 
 -- behind it the epoch is at most one above the mark

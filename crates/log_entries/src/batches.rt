@@ -20,65 +20,80 @@ use tables::Scale;
 // The gate behind the last body: what stands behind it doesn't count.
 const CLOSED: u8 = 0;
 
-/// Appends a batch as a body, with a closed gate behind it, for a file that stands there (`last`); gives where the file
-/// then stands. Costs a pass over the batch, whose text is made once.
+/// Appends a batch as a body, with a closed gate behind it, for a file that stands there (`last`) and to which entries
+/// were appended up to a commit number; gives where the file then stands, and up to which number. Costs a pass over the
+/// batch, whose text is made once.
 ///
 /// # Errors
 ///
 /// Want of memory: the bytes may then have a part of the body at their end.
-pub fn put_batch(out: &mut Vec<u8>, batch: &Batch, last: Last) -> Result<Last, AllocError>
+pub fn put_batch(
+    out: &mut Vec<u8>,
+    batch: &Batch,
+    last: Last,
+    number: u64,
+) -> Result<(Last, u64), AllocError>
     ensures text { OnOk result (out.new.items
         ≡ out.old.items ++ (body_text (body_of_batch batch.now) ++ CLOSED ∷ [])) }
-    ensures last { IfOk result (λ now. now ≡ behind_batch last batch.now) }
+    ensures last { IfOk result (λ x. x.0 ≡ behind_batch last batch.now) }
+    ensures rises { IfOk result (λ x. x.1 ≡ last_number number batch.now.entries) }
 {
-    let now = put_body(out, batch, last)?;
+    let (now, number) = put_body(out, batch, last, number)?;
     put_u8(out, CLOSED)?;
-    Ok(now)
+    Ok((now, number))
 }
 
 /// Appends a batch as a body.
-fn put_body(out: &mut Vec<u8>, batch: &Batch, last: Last) -> Result<Last, AllocError>
+fn put_body(
+    out: &mut Vec<u8>,
+    batch: &Batch,
+    last: Last,
+    number: u64,
+) -> Result<(Last, u64), AllocError>
     ensures text { OnOk result (out.new.items ≡ out.old.items ++ body_text (body_of_batch batch.now)) }
-    ensures last { IfOk result (λ now. now ≡ behind_batch last batch.now) }
+    ensures last { IfOk result (λ x. x.0 ≡ behind_batch last batch.now) }
+    ensures rises { IfOk result (λ x. x.1 ≡ last_number number batch.now.entries) }
 {
     let start = out.len();
     put_u64(out, 0)?;
     let mark = batch.mark();
     put_u64(out, mark)?;
     let scale = batch.scale();
-    let last = put_entries(out, &scale, batch.entries(), last)?;
+    let (last, number) = put_entries(out, &scale, batch.entries(), last, number)?;
     set_length(out.as_mut_slice(), start);
-    Ok(Last {
+    let now = Last {
         mark,
-        number: last.number,
         epoch: last.epoch,
-    })
+    };
+    Ok((now, number))
 }
 
-/// Appends the entries of a body; gives where the file stands behind the last.
+/// Appends the entries of a body; gives where the file stands behind the last, and its commit number.
 fn put_entries(
     out: &mut Vec<u8>,
     scale: &Scale,
     entries: &[Arc<Entry, Global>],
     last: Last,
-) -> Result<Last, AllocError>
+    before: u64,
+) -> Result<(Last, u64), AllocError>
     requires { All (IsLoggable scale.now) (map arc_value entries.now) }
     ensures text { OnOk result (out.new.items ≡ out.old.items
         ++ flat_map entry_text (map (logged_entry scale.now) (map arc_value entries.now))) }
-    ensures last { IfOk result (λ now. now ≡ record {
+    ensures last { IfOk result (λ x. x.0 ≡ record {
       mark = last.mark;
-      number = last_number last.number (map arc_value entries.now);
       epoch = last_epoch_of last.epoch (map arc_value entries.now);
     }) }
+    ensures rises { IfOk result (λ x. x.1 ≡ last_number before (map arc_value entries.now)) }
 {
     let mut now = last;
+    let mut number = before;
     for entry in entries {
         put_entry(out, scale, entry)?;
+        number = u64::from(entry.number);
         now = Last {
             mark: now.mark,
-            number: u64::from(entry.number),
             epoch: u64::from(entry.tid.epoch()),
         };
     }
-    Ok(now)
+    Ok((now, number))
 }

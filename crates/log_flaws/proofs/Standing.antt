@@ -1,12 +1,15 @@
 -- A log file, seen from behind its header.
-use Rattle.std.proofs.Common.{◌≡◌, ℕ, ◌-◌, List, [], ◌∷◌, ◌++◌, Some, length, refl, sym, ap, ◌∙◌, arith, length-append}
+use Rattle.std.proofs.Common.{◌≡◌, ℕ, ◌-◌, List, [], ◌∷◌, ◌++◌, Option, Some, None, length, refl, sym, ap, ◌∙◌, subst, arith, length-append}
 use Rattle.log_codec.proofs.Codecs.{one_value}
 use Rattle.log_header.specs.Header.{HeaderView, IsHeader, header_text}
 use Rattle.log_header.proofs.Headers.{codec-header}
 use Rattle.log_text.specs.Bodies.{BodyView, bodies_after, start}
 use Rattle.log_text.specs.File.{AreBodies, IsFile, opened}
 use Rattle.log_text.specs.declared.last.Last.{Last}
-use Rattle.log_flaws.specs.Flaws.{Reaches}
+use Rattle.log_flaws.specs.Voids.{void_flaw}
+use Rattle.log_flaws.specs.Flaws.{Reaches, HasNoBody, HasFlaw, body_flaw}
+use Rattle.log_flaws.specs.declared.flaw.FileFlaw.{FileFlaw}
+use Rattle.log_flaws.specs.declared.voids.VoidFlaw.{VoidFlaw}
 
 -- bytes that begin with a header are no file of another one
 pub one_header : (g h : HeaderView) → IsHeader g → (file rest : List ℕ) → file ≡ header_text g ++ rest → (bodies : List BodyView)
@@ -40,3 +43,12 @@ is_reached h file bytes rest bodies last text read lawful =
 pub nothing : (bytes : List ℕ) → length bytes ≡ 0 → bytes ≡ []
 nothing [] none = refl
 nothing (b ∷ bs) none = absurd (omega (arith, none))
+
+-- what is told of a place where no body may stand is so
+pub body_flawed : (file : List ℕ) (h : HeaderView) (at : ℕ) (n : HasNoBody file h at) (flaw : FileFlaw) → flaw ≡ body_flaw at (void_flaw n.last n.text)
+    → HasFlaw file h flaw
+body_flawed file h at n flaw e = subst (HasFlaw file h) (sym e) (told (void_flaw n.last n.text) refl)
+  where
+    told : (why : Option VoidFlaw) → void_flaw n.last n.text ≡ why → HasFlaw file h (body_flaw at why)
+    told None q = (n, q)
+    told (Some why) q = (n, q)

@@ -1,14 +1,16 @@
 -- What keeps bytes from being the log file that was asked for.
-use Rattle.std.specs.Prelude.{◌≡◌, ℕ, ◌+◌, ◌<◌, ◌≤◌, Some, List, [], ◌∷◌, ◌++◌, find, length, map}
+use Rattle.std.specs.Prelude.{◌≡◌, ℕ, ◌+◌, ◌<◌, ◌≤◌, Option, None, Some, List, [], ◌∷◌, ◌++◌, find, length, map}
 use Rattle.log_header.specs.Header.{HeaderView, IsHeader, header_text}
 use Rattle.log_text.specs.Bodies.{BodyView, bodies_after, body_of, start}
 use Rattle.log_text.specs.File.{IsBody, IsFile, opened}
 use Rattle.log_text.specs.declared.last.Last.{Last}
 use Rattle.log_flaws.specs.Fields.{differs, number_in}
+use Rattle.log_flaws.specs.Voids.{void_flaw}
 use Rattle.log_flaws.specs.declared.field.TheConstants.{FIELDS}
 use Rattle.log_flaws.specs.declared.field.HeaderField.{HeaderField}
 use Rattle.log_flaws.specs.declared.flaw.FileFlaw.{FileFlaw}
-use Rattle.log_flaws.specs.declared.flaw.FileFlaw.TheVariants.{TooShort, NoHeader, OtherHeader, NoGate, NoBody}
+use Rattle.log_flaws.specs.declared.flaw.FileFlaw.TheVariants.{TooShort, NoHeader, OtherHeader, NoGate, NoBody, NoVoid}
+use Rattle.log_flaws.specs.declared.voids.VoidFlaw.{VoidFlaw}
 use Rattle.log_flaws.specs.declared.examining.Examined.{Examined}
 use Rattle.log_flaws.specs.declared.examining.Examined.TheVariants.{Whole, Flawed}
 
@@ -42,6 +44,11 @@ pub record HasNoBody (file : List ℕ) (h : HeaderView) (at : ℕ) : Type 0 wher
   pub reached : Reaches file h gate last (1 ∷ text)
   pub none : (body : BodyView) (now : Last) (rest : List ℕ) → IsBody h last body now rest text → ⊥
 
+-- what is told of such a place: what is wrong with a void body, where one begins there
+abbrev pub body_flaw : ℕ → Option VoidFlaw → FileFlaw
+body_flaw at None = NoBody at
+body_flaw at (Some why) = NoVoid at why
+
 -- the bytes have this flaw, where a file with this header was asked for
 abbrev pub HasFlaw : List ℕ → HeaderView → FileFlaw → Type 0
 HasFlaw file asked (TooShort n) = (length file ≡ n) × (n < 48) × IsHeadless file
@@ -49,7 +56,8 @@ HasFlaw file asked NoHeader = (48 ≤ length file) × IsHeadless file
 HasFlaw file asked (OtherHeader field found number) =
     HasOtherHeader file asked field found × (number ≡ number_in field asked)
 HasFlaw file asked (NoGate at) = (last : Last) × Reaches file asked at last []
-HasFlaw file asked (NoBody at) = HasNoBody file asked at
+HasFlaw file asked (NoBody at) = (n : HasNoBody file asked at) × (void_flaw n.last n.text ≡ None)
+HasFlaw file asked (NoVoid at why) = (n : HasNoBody file asked at) × (void_flaw n.last n.text ≡ Some why)
 
 -- what they were found to be: the file with these bodies; or none, for this flaw
 abbrev pub IsExamined : List ℕ → HeaderView → Examined → Type 0

@@ -1,3 +1,4 @@
 pub mod Fields
+pub mod Voids
 pub mod Flaws
 pub mod Texts

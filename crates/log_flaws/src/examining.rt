@@ -2,10 +2,12 @@
 ghost use Rattle.std.specs.Prelude.{◌≡◌, ◌+◌, ◌++◌, ◌<◌, ◌^◌, List, ℕ, length, IfOk, IfErr};
 ghost use Rattle.money.specs.declared.refusal.Refusal.TheVariants.{OutOfMemory};
 ghost use Rattle.log_header.specs.Header.{HeaderView, IsHeader, header_text};
-ghost use Rattle.log_flaws.specs.Flaws.{HasFlaw, IsExamined, IsHeadless};
+ghost use Rattle.log_flaws.specs.Voids.{void_flaw};
+ghost use Rattle.log_flaws.specs.Flaws.{HasFlaw, IsExamined, IsHeadless, body_flaw};
 
 use crate::field::first_difference;
 use crate::flaw::FileFlaw;
+use crate::voids::void_flaw;
 use log_header::{Header, read_header};
 use log_text::{Body, Last, read_body};
 use money::Refusal;
@@ -59,6 +61,17 @@ fn headless(file: &[u8]) -> FileFlaw
     }
 }
 
+/// What is told of a body at this place that is none which may stand there, where the file stands there and these bytes
+/// begin.
+fn body_flaw(last: Last, text: &[u8], at: u64) -> FileFlaw
+    ensures { result ≡ body_flaw at (void_flaw last text.now) }
+{
+    match void_flaw(last, text) {
+        None => FileFlaw::NoBody { at },
+        Some(why) => FileFlaw::NoVoid { at, why },
+    }
+}
+
 /// What a file is found to be whose first bytes are the header that was asked for, and which has these bytes behind it.
 fn bodies_examined(
     alloc: Global,
@@ -83,7 +96,9 @@ fn bodies_examined(
         }
         let (body, now, behind) = match read_body(alloc, header, last, text) {
             Ok(read) => read,
-            Err(Refusal::Damaged) => return Ok(Examined::Flawed(FileFlaw::NoBody { at: gate + 1 })),
+            Err(Refusal::Damaged) => {
+                return Ok(Examined::Flawed(body_flaw(last, text, gate + 1)));
+            }
             Err(_) => return Err(AllocError),
         };
         bodies.push(body)?;

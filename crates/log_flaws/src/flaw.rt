@@ -1,6 +1,7 @@
 //! What is wrong with a log file.
 
 use crate::field::HeaderField;
+use crate::voids::VoidFlaw;
 use std::fmt::{self, Display};
 
 /// What keeps bytes from being the log file that was asked for: the first such thing in them. Bytes are counted from 0.
@@ -25,6 +26,11 @@ pub enum FileFlaw {
     /// Behind an open gate, what begins at this byte is no whole body that may follow.
     NoBody {
         at: u64,
+    },
+    /// The same, and it begins as a void body, in which this is wrong.
+    NoVoid {
+        at: u64,
+        why: VoidFlaw,
     },
 }
 
@@ -54,6 +60,13 @@ impl Display for FileFlaw {
             FileFlaw::NoGate { at } => write!(f, "it ends at byte {at}, where a gate is to stand"),
             FileFlaw::NoBody { at } => {
                 write!(f, "the body at byte {at} isn't one that may stand there")
+            }
+            FileFlaw::NoVoid { at, why } => {
+                let why = why.told();
+                write!(
+                    f,
+                    "the void body at byte {at} isn't one that may stand there: {why}"
+                )
             }
         }
     }

@@ -5,7 +5,9 @@
 mod examining;
 mod field;
 mod flaw;
+mod voids;
 
 pub use examining::{Examined, examine};
 pub use field::HeaderField;
 pub use flaw::FileFlaw;
+pub use voids::VoidFlaw;

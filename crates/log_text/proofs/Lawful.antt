@@ -9,7 +9,8 @@ use Rattle.log_codec.proofs.Codecs.{and_then_some}
 use Rattle.log_header.specs.Header.{HeaderView, IsHeader}
 use Rattle.log_text.specs.Writes.{are_writes}
 use Rattle.log_text.specs.Entries.{EntryView}
-use Rattle.log_text.specs.Bodies.{BodyView, is_next, is_timed, is_asked, is_entry, behind, entries_after, marked, body_after}
+use Rattle.log_text.specs.Bodies.{BodyView, Entries, Void, is_next, is_timed, is_asked, is_entry, behind, entries_after, marked, may_be_void, body_after}
+use Rattle.log_text.specs.declared.body.TheConstants.{VOID_MARK}
 use Rattle.tables.specs.declared.limits.TheConstants.{MAX_MARK, MAX_TERMINALS}
 use Rattle.log_text.specs.declared.last.Last.{Last}
 use Rattle.log_text.proofs.Texts.{FitsEntry}
@@ -19,17 +20,17 @@ pub through : {A : Type 0} (b : Bool) (o : Option A) (y : A) → (if b then o el
 through true o y e = (refl, e)
 through false o y e = absurd cc
 
--- a body whose parts fit their bytes
-pub record FitsBody (b : BodyView) : Type 0 where
-  pub mark : b.mark < 256 ^ 8
-  pub entries : AllByRecursion FitsEntry b.entries
+-- a body whose parts fit their bytes, and whose mark isn't what stands in its place in a void one
+abbrev pub FitsBody : BodyView → Type 0
+FitsBody (Entries mark entries) = (mark < VOID_MARK) × AllByRecursion FitsEntry entries
+FitsBody (Void low high) = (low < 256 ^ 8) × (high < 256 ^ 8)
 
-entry_fits : (h : HeaderView) → IsHeader h → (mark : ℕ) (last : Last) (e : EntryView) → mark ≤ MAX_MARK → is_entry h mark last e ≡ true → FitsEntry e
-entry_fits h is mark last e small lawful =
-    let halves = and_split (is_next h last e.number && is_timed mark last e.tid) (is_asked h e.terminal && are_writes h.scale e.writes) lawful in
-    let first = and_split (is_next h last e.number) (is_timed mark last e.tid) halves.0 in
+entry_fits : (h : HeaderView) → IsHeader h → (mark number : ℕ) (last : Last) (e : EntryView) → mark ≤ MAX_MARK → is_entry h mark number last e ≡ true → FitsEntry e
+entry_fits h is mark number last e small lawful =
+    let halves = and_split (is_next h number e.number && is_timed mark last e.tid) (is_asked h e.terminal && are_writes h.scale e.writes) lawful in
+    let first = and_split (is_next h number e.number) (is_timed mark last e.tid) halves.0 in
     let second = and_split (is_asked h e.terminal) (are_writes h.scale e.writes) halves.1 in
-    let next = and_split (nat_lt last.number e.number) (nat_le e.number h.scale.commits) first.0 in
+    let next = and_split (nat_lt number e.number) (nat_le e.number h.scale.commits) first.0 in
     let bits = and_split (e.tid % 8 == 0)
     (nat_le last.epoch (epoch_of e.tid) && (nat_lt last.mark (epoch_of e.tid) && nat_le (epoch_of e.tid) (mark + 1))) first.1 in
     let later = and_split (nat_le last.epoch (epoch_of e.tid)) (nat_lt last.mark (epoch_of e.tid) && nat_le (epoch_of e.tid) (mark + 1)) bits.1 in
@@ -43,18 +44,25 @@ entry_fits h is mark last e small lawful =
       writes = all_writes_fit h.scale is.scale e.writes second.1;
     }
 
-entries_fit : (h : HeaderView) → IsHeader h → (mark : ℕ) (last : Last) (es : List EntryView) (now : Last) → mark ≤ MAX_MARK
-    → entries_after h mark last es ≡ Some now → AllByRecursion FitsEntry es
-entries_fit h is mark last [] now small e = tt
-entries_fit h is mark last (entry ∷ es) now small e =
-    let step = through (is_entry h mark last entry) (entries_after h mark (behind last entry) es) now e in
-    (entry_fits h is mark last entry small step.0, entries_fit h is mark (behind last entry) es now small step.1)
+entries_fit : (h : HeaderView) → IsHeader h → (mark number : ℕ) (last : Last) (es : List EntryView) (now : Last) → mark ≤ MAX_MARK
+    → entries_after h mark number last es ≡ Some now → AllByRecursion FitsEntry es
+entries_fit h is mark number last [] now small e = tt
+entries_fit h is mark number last (entry ∷ es) now small e =
+    let step = through (is_entry h mark number last entry) (entries_after h mark entry.number (behind last entry) es) now e in
+    (entry_fits h is mark number last entry small step.0, entries_fit h is mark entry.number (behind last entry) es now small step.1)
 
 pub body_fits : (h : HeaderView) → IsHeader h → (last : Last) (b : BodyView) (now : Last) → body_after h last b ≡ Some now → FitsBody b
-body_fits h is last b now e =
-    let step = through (nat_le last.mark b.mark && nat_le b.mark MAX_MARK)
-    (option_and_then (λ (l : Last). Some (marked b.mark l)) (entries_after h b.mark last b.entries)) now e in
-    let marks = and_split (nat_le last.mark b.mark) (nat_le b.mark MAX_MARK) step.0 in
-    let small : b.mark ≤ MAX_MARK = leb-true b.mark MAX_MARK marks.1 in
-    let entries = and_then_some (λ (l : Last). Some (marked b.mark l)) (entries_after h b.mark last b.entries) now step.1 in
-    record { mark = omega (arith, small); entries = entries_fit h is b.mark last b.entries entries.0 small entries.1 }
+body_fits h is last (Entries mark entries) now e =
+    let step = through (nat_le last.mark mark && nat_le mark MAX_MARK)
+    (option_and_then (λ (l : Last). Some (marked mark l)) (entries_after h mark 0 last entries)) now e in
+    let marks = and_split (nat_le last.mark mark) (nat_le mark MAX_MARK) step.0 in
+    let small : mark ≤ MAX_MARK = leb-true mark MAX_MARK marks.1 in
+    let all = and_then_some (λ (l : Last). Some (marked mark l)) (entries_after h mark 0 last entries) now step.1 in
+    (omega (arith, small), entries_fit h is mark 0 last entries all.0 small all.1)
+body_fits h is last (Void low high) now e =
+    let step = through (may_be_void last low high) (Some (marked high last)) now e in
+    let halves = and_split (nat_le 1 low && nat_le low high) ((nat_le last.mark high && nat_le last.epoch high) && nat_le high MAX_MARK) step.0 in
+    let range = and_split (nat_le 1 low) (nat_le low high) halves.0 in
+    let marks = and_split (nat_le last.mark high && nat_le last.epoch high) (nat_le high MAX_MARK) halves.1 in
+    let most : high ≤ MAX_MARK = leb-true high MAX_MARK marks.1 in
+    (omega (arith, leb-true low high range.1, most), omega (arith, most))

@@ -11,7 +11,8 @@ use Rattle.tables.specs.Rows.{payload_of}
 use Rattle.tables.specs.declared.records.Table.{Table}
 use Rattle.log_text.specs.Columns.{width}
 use Rattle.log_text.specs.Entries.{EntryView}
-use Rattle.log_text.specs.Bodies.{BodyView}
+use Rattle.log_text.specs.Bodies.{BodyView, Entries, Void}
+use Rattle.log_text.specs.declared.body.TheConstants.{VOID_MARK}
 use Rattle.tables.specs.declared.limits.TheConstants.{MAX_WRITES}
 use Rattle.log_text.specs.declared.write.Write.{Write}
 
@@ -50,9 +51,14 @@ entry_from bytes = chosen (λ x. Some (record { number = x.0; tid = x.1.0; termi
 unfoldable pub entries_from : List ℕ → Option (List EntryView)
 entries_from bytes = filled entry_from bytes (length bytes)
 
+-- two numbers, and nothing behind them
+unfoldable pub void_from : List ℕ → Option BodyView
+void_from bytes = option_and_then (λ low. option_and_then (λ high.
+    if length high.1 == 0 then Some (Void low.0 high.0) else None) (number_at 8 low.1)) (number_at 8 bytes)
+
 unfoldable pub content_from : List ℕ → Option BodyView
-content_from bytes = option_and_then (λ mark. option_map (λ entries. record { mark = mark.0; entries = entries })
-    (entries_from mark.1)) (number_at 8 bytes)
+content_from bytes = option_and_then (λ mark. if mark.0 == VOID_MARK then void_from mark.1
+    else option_map (λ entries. Entries mark.0 entries) (entries_from mark.1)) (number_at 8 bytes)
 
 unfoldable pub body_from : Reader BodyView
 body_from bytes = option_and_then (λ size. if nat_le 9 size.0 && nat_le (size.0 - 1) (length size.1)

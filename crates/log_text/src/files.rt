@@ -3,7 +3,7 @@ ghost use Rattle.std.specs.Prelude.{◌≡◌, ◌≢◌, List, map, IfOk, IfErr
 ghost use Rattle.money.specs.declared.refusal.Refusal.TheVariants.{OutOfMemory, Damaged};
 ghost use Rattle.log_header.specs.Header.{HeaderView, IsHeader};
 ghost use Rattle.log_text.specs.Bodies.{BodyView, body_of};
-ghost use Rattle.log_text.specs.File.{AreBodies, IsFile};
+ghost use Rattle.log_text.specs.File.{AreBodies, AreBodiesTo, IsFile, IsFileTo};
 
 use crate::bodies::read_body;
 use crate::body::Body;
@@ -25,16 +25,33 @@ pub fn read_file(alloc: Global, file: &[u8]) -> Result<(Header, Vec<Body>), Refu
         → IsFile file.now h bodies → ⊥ }
     ensures others { IfErr result (λ refusal. (refusal ≢ OutOfMemory) → refusal ≡ Damaged) }
 {
-    let Some((header, bytes)) = read_header(file) else {
-        return Err(Refusal::Damaged);
-    };
-    let bodies = read_bodies(alloc, &header, bytes)?;
+    let (header, bodies, _, _) = read_to_end(alloc, file)?;
     Ok((header, bodies))
 }
 
-fn read_bodies(alloc: Global, header: &Header, bytes: &[u8]) -> Result<Vec<Body>, Refusal>
+/// The same, with where the file stands behind its bodies, and the place of the gate that ends its text.
+pub fn read_to_end(alloc: Global, file: &[u8]) -> Result<(Header, Vec<Body>, Last, usize), Refusal>
+    ensures found { IfOk result (λ x. IsFileTo file.now x.0 (map body_of x.1.items) x.2 x.3) }
+    ensures damaged { IsErrOf result Damaged → (h : HeaderView) (bodies : List BodyView)
+        → IsFile file.now h bodies → ⊥ }
+    ensures others { IfErr result (λ refusal. (refusal ≢ OutOfMemory) → refusal ≡ Damaged) }
+{
+    let Some((header, bytes)) = read_header(file) else {
+        return Err(Refusal::Damaged);
+    };
+    let (bodies, last, left) = read_bodies(alloc, &header, bytes)?;
+    let end = file.len() - left.len();
+    Ok((header, bodies, last, end))
+}
+
+/// The bodies that bytes begin with, where the file stands behind them, and the bytes from the gate on that ends them.
+fn read_bodies<'a>(
+    alloc: Global,
+    header: &Header,
+    bytes: &'a [u8],
+) -> Result<(Vec<Body>, Last, &'a [u8]), Refusal>
     requires { IsHeader header.now }
-    ensures found { IfOk result (λ bodies. AreBodies header.now (map body_of bodies.items) bytes.now) }
+    ensures found { IfOk result (λ x. AreBodiesTo header.now (map body_of x.0.items) x.1 x.2.now bytes.now) }
     ensures damaged { IsErrOf result Damaged → (bodies : List BodyView)
         → AreBodies header.now bodies bytes.now → ⊥ }
     ensures others { IfErr result (λ refusal. (refusal ≢ OutOfMemory) → refusal ≡ Damaged) }
@@ -47,7 +64,7 @@ fn read_bodies(alloc: Global, header: &Header, bytes: &[u8]) -> Result<Vec<Body>
             return Err(Refusal::Damaged);
         };
         if *gate != OPEN {
-            return Ok(bodies);
+            return Ok((bodies, last, rest));
         }
         let (body, now, behind) = read_body(alloc, header, last, text)?;
         bodies.push(body)?;

@@ -17,10 +17,10 @@ mod write_rules;
 mod writing;
 
 pub use bodies::read_body;
-pub use body::Body;
+pub use body::{Body, VOID_MARK};
 pub use entry::LoggedEntry;
-pub use files::read_file;
+pub use files::{read_file, read_to_end};
 pub use last::Last;
 pub use laws::one_file;
 pub use write::Write;
-pub use writing::{put_body, put_front, put_write, set_length};
+pub use writing::{put_body, put_front, put_write, set_length, void_text};

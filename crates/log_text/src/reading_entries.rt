@@ -4,9 +4,10 @@ ghost use Rattle.std.specs.Prelude.{◌≡◌, ◌≤◌, ◌+◌, ◌-◌, leng
 ghost use Rattle.log_codec.specs.Read.{many, filled};
 ghost use Rattle.log_text.specs.Entries.{logged};
 ghost use Rattle.log_text.specs.Bodies.{body_of};
-ghost use Rattle.log_text.specs.Read.{Gives, body_from, content_from, entries_from, entry_from, write_from};
+ghost use Rattle.std.specs.Option.{option_map};
+ghost use Rattle.log_text.specs.Read.{Gives, body_from, content_from, entries_from, entry_from, void_from, write_from};
 
-use crate::body::Body;
+use crate::body::{Body, VOID_MARK};
 use crate::entry::LoggedEntry;
 use crate::reading::write_from;
 use crate::write::Write;
@@ -75,13 +76,29 @@ fn entries_from(alloc: Global, bytes: &[u8]) -> Result<Vec<LoggedEntry>, Refusal
     Ok(entries)
 }
 
+/// The range of a void body, behind what stands in its mark's place.
+#[tactic(auto, unfolding(crate::specs::Read::void_from))]
+fn void_from(bytes: &[u8]) -> Option<Body>
+    ensures { option_map body_of result ≡ void_from bytes.now }
+{
+    let (low, rest) = u64_at(bytes)?;
+    let (high, rest) = u64_at(rest)?;
+    if rest.len() != 0 {
+        return None;
+    }
+    Some(Body::Void(low, high))
+}
+
 #[tactic(auto, unfolding(crate::specs::Read::content_from))]
 fn content_from(alloc: Global, bytes: &[u8]) -> Result<Body, Refusal>
     ensures { Gives body_of result (content_from bytes.now) }
 {
     let (mark, rest) = u64_at(bytes).ok_or(Refusal::Damaged)?;
+    if mark == VOID_MARK {
+        return void_from(rest).ok_or(Refusal::Damaged);
+    }
     let entries = entries_from(alloc, rest)?;
-    Ok(Body { mark, entries })
+    Ok(Body::Entries(mark, entries))
 }
 
 /// The body that the bytes begin with, before its rules are asked, and the bytes behind it, the first of which is to be

@@ -1,13 +1,13 @@
 //! Writing entries and bodies.
-ghost use Rattle.std.specs.Prelude.{◌≡◌, ◌++◌, ◌≤◌, ◌<◌, ◌^◌, ◌+◌, length, flat_map, ℕ, List, OnOk};
+ghost use Rattle.std.specs.Prelude.{◌≡◌, [], ◌∷◌, ◌++◌, ◌≤◌, ◌<◌, ◌^◌, ◌+◌, length, flat_map, map, ℕ, List, OnOk};
 ghost use Rattle.std.specs.List.{All};
 ghost use Rattle.log_codec.specs.Numbers.{number};
 ghost use Rattle.log_text.specs.Columns.{width};
 ghost use Rattle.log_text.specs.Writes.{value_text, write_text};
 ghost use Rattle.log_text.specs.Entries.{entry_text, front_text, logged};
-ghost use Rattle.log_text.specs.Bodies.{body_of, body_text, content_text};
+ghost use Rattle.log_text.specs.Bodies.{Entries, HasFewWrites, Void, body_of, body_text, content_text};
 
-use crate::body::Body;
+use crate::body::{Body, VOID_MARK};
 use crate::columns::width;
 use crate::entry::LoggedEntry;
 use crate::write::Write;
@@ -97,7 +97,7 @@ pub fn set_length(bytes: &mut [u8], start: usize)
 
 /// Appends a body whose entries have at most 65,535 writes each.
 pub fn put_body(out: &mut Vec<u8>, body: &Body) -> Result<(), AllocError>
-    requires { All (λ e. length e.writes.items < 2 ^ 16) body.now.entries.items }
+    requires { HasFewWrites body.now }
     ensures { OnOk result (out.new.items ≡ out.old.items ++ body_text (body_of body.now)) }
 {
     let start = out.len();
@@ -108,12 +108,42 @@ pub fn put_body(out: &mut Vec<u8>, body: &Body) -> Result<(), AllocError>
 }
 
 fn put_content(out: &mut Vec<u8>, body: &Body) -> Result<(), AllocError>
-    requires { All (λ e. length e.writes.items < 2 ^ 16) body.now.entries.items }
+    requires { HasFewWrites body.now }
     ensures { OnOk result (out.new.items ≡ out.old.items ++ content_text (body_of body.now)) }
 {
-    put_u64(out, body.mark)?;
-    for entry in &body.entries {
+    match body {
+        Body::Entries(mark, entries) => put_entries(out, *mark, entries),
+        Body::Void(low, high) => {
+            put_u64(out, VOID_MARK)?;
+            put_u64(out, *low)?;
+            put_u64(out, *high)
+        }
+    }
+}
+
+fn put_entries(out: &mut Vec<u8>, mark: u64, entries: &[LoggedEntry]) -> Result<(), AllocError>
+    requires { All (λ e. length e.writes.items < 2 ^ 16) entries.now }
+    ensures { OnOk result (out.new.items ≡ out.old.items ++ content_text (Entries mark (map logged entries.now))) }
+{
+    put_u64(out, mark)?;
+    for entry in entries {
         put_entry(out, entry)?;
     }
     Ok(())
+}
+
+/// A void body of the epochs from `low` to `high`, with a closed gate behind it. Takes no memory.
+#[rattlefmt::skip]
+pub fn void_text(low: u64, high: u64) -> [u8; 33]
+    ensures { result ≡ body_text (Void low high) ++ 0 ∷ [] }
+{
+    let a = low.to_le_bytes();
+    let b = high.to_le_bytes();
+    [
+        25, 0, 0, 0, 0, 0, 0, 0,
+        255, 255, 255, 255, 255, 255, 255, 255,
+        a[0], a[1], a[2], a[3], a[4], a[5], a[6], a[7],
+        b[0], b[1], b[2], b[3], b[4], b[5], b[6], b[7],
+        0,
+    ]
 }

@@ -15,6 +15,7 @@ use Rattle.log_text.proofs.OneFile.{opened_push, after_push}
 use Rattle.tables.specs.Sizes.{IsScale}
 use Rattle.book.specs.Batches.{BatchView, IsBatch}
 use Rattle.book.specs.Loggable.{NumbersRise}
+use Rattle.book.specs.Streams.{last_number}
 use Rattle.log_entries.specs.Following.{Continues, behind_batch, body_of_batch}
 use Rattle.log_entries.proofs.Following.{batch_follows, batch_near, number_rises}
 use Rattle.logfile.specs.Staged.{IsSettled, HasGate, IsStaged}
@@ -242,25 +243,25 @@ no_call h bodies body end last seen story s = record {
 }
 
 -- a batch that continues a file, as the body that follows there
-pub batch_body : (h : HeaderView) (count : ℕ) (last now : Last) (b : BatchView) → IsHeader h → IsBatch b → Continues h count last b
+pub batch_body : (h : HeaderView) (count number : ℕ) (last now : Last) (b : BatchView) → IsHeader h → IsBatch b → Continues h count number last b
     → last.epoch ≤ last.mark + 1 → now ≡ behind_batch last b → body_after h last (body_of_batch b) ≡ Some now
-batch_body h count last now b is batch at epoch now_is =
-    batch_follows h count last b batch at epoch (subst IsScale (sym at.scale) is.scale) ∙ ap Some (sym now_is)
+batch_body h count number last now b is batch at epoch now_is =
+    batch_follows h count number last b batch at epoch (subst IsScale (sym at.scale) is.scale) ∙ ap Some (sym now_is)
 
 -- its entries are counted, and their numbers rise
-pub batch_counts : (h : HeaderView) (count entries : ℕ) (last now : Last) (b : BatchView) → IsBatch b → Continues h count last b → count ≤ last.number
-    → entries ≡ length b.entries → now ≡ behind_batch last b → count + entries ≤ now.number
-batch_counts h count entries last now b batch at low entries_is now_is =
+pub batch_counts : (h : HeaderView) (count number entries upto : ℕ) (last : Last) (b : BatchView) → IsBatch b → Continues h count number last b
+    → count ≤ number → entries ≡ length b.entries → upto ≡ last_number number b.entries → count + entries ≤ upto
+batch_counts h count number entries upto last b batch at low entries_is upto_is =
     omega (
       arith,
       low,
       entries_is,
-      number_rises last.number b.entries (subst (λ (n : ℕ). NumbersRise n b.entries) at.number_before batch.rise),
-      ap (λ (l : Last). l.number) now_is,
+      number_rises number b.entries (subst (λ (n : ℕ). NumbersRise n b.entries) at.number_before batch.rise),
+      upto_is,
     )
 
 -- and their epochs are near the mark
-pub batch_epoch : (h : HeaderView) (count : ℕ) (last now : Last) (b : BatchView) → IsBatch b → Continues h count last b → last.epoch ≤ last.mark + 1
-    → now ≡ behind_batch last b → now.epoch ≤ now.mark + 1
-batch_epoch h count last now b batch at epoch now_is =
+pub batch_epoch : (h : HeaderView) (count number : ℕ) (last now : Last) (b : BatchView) → IsBatch b → Continues h count number last b
+    → last.epoch ≤ last.mark + 1 → now ≡ behind_batch last b → now.epoch ≤ now.mark + 1
+batch_epoch h count number last now b batch at epoch now_is =
     subst (λ (l : Last). l.epoch ≤ l.mark + 1) (sym now_is) (batch_near last b batch at.mark_before epoch)

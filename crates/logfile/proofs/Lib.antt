@@ -2,3 +2,4 @@ pub mod Tearing
 pub mod Moments
 pub mod Staging
 pub mod Appending
+pub mod Opening

@@ -9,13 +9,15 @@ use Rattle.log_text.specs.declared.last.Last.{Last}
 use Rattle.logfile.specs.Staged.{IsSettled}
 
 -- what contracts see of an open log file: its disk and header, the place of the gate that ends its text, where the file
--- stands behind its bodies, how many entries it was given since it was opened, and whether its device has failed
+-- stands behind its bodies, how many entries it was given since it was opened, the commit number of the last of these
+-- (0 before the first), and whether its device has failed
 pub record LogFileView (D : Type 0) : Type 0 where
   pub disk : D
   pub header : HeaderView
   pub end : ℕ
   pub last : Last
   pub count : ℕ
+  pub number : ℕ
   pub failed : Bool
 
 -- a disk on which this was written, and a file of these bodies: a read gives it, a crash leaves just that, and the gate
@@ -53,10 +55,10 @@ pub record IsKept (h : HeaderView) (story : List Call) (mark : ℕ) : Type 0 whe
 -- its mark, and its entries have a number each; on a modelled disk it stands there until the device fails, and no crash
 -- can take what is up to its mark
 pub record IsLogFile (IsModelled : Type 0) (seen : List ℕ) (story : List Call) (h : HeaderView) (end : ℕ) (last : Last)
-    (count : ℕ) (failed : Bool) : Type 0 where
+    (count number : ℕ) (failed : Bool) : Type 0 where
   pub reaches : end < 2 ^ 63
   pub header : IsHeader h
   pub near : last.epoch ≤ last.mark + 1
-  pub counts : count ≤ last.number
+  pub counts : count ≤ number
   pub stands : IsModelled → failed ≡ false → IsOpen h end last seen story
   pub kept : IsModelled → ∥ IsKept h story last.mark ∥₁

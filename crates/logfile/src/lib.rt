@@ -1,10 +1,7 @@
-//! Log files on disks: bytes come in so that a crash at any moment leaves them whole or not at all (Silo, section
-//! 4.10), and are read back.
+//! Log files on disks: bytes come in so that a crash at any moment leaves them whole or not at all (Silo, section 4.10).
 #![tactic(auto)]
 
 mod log_file;
-mod scanning;
 mod storing;
 
 pub use log_file::LogFile;
-pub use scanning::{contents, scan};

@@ -1,15 +1,16 @@
 //! An open log file.
-ghost use Rattle.std.specs.Prelude.{◌≡◌, ◌≢◌, ◌+◌, ◌≤◌, ◌↔◌, true, false, Some, List, [], ◌∷◌, ◌++◌, length};
-ghost use Rattle.std.specs.Prelude.{IsTrue, IfOk, IfErr, OnOk, OnErr};
-ghost use Rattle.money.specs.declared.refusal.Refusal.TheVariants.{OutOfMemory, Device};
+ghost use Rattle.std.specs.Prelude.{◌≡◌, ◌≢◌, ℕ, ◌+◌, ◌^◌, ◌<◌, ◌≤◌, ◌↔◌, true, false, Some, List, [], ◌∷◌, ◌++◌, length, map};
+ghost use Rattle.std.specs.Prelude.{IsTrue, IfOk, IfErr, IsErrOf, OnOk, OnErr};
+ghost use Rattle.money.specs.declared.refusal.Refusal.TheVariants.{OutOfMemory, Damaged, Device};
 ghost use Rattle.log_disk.specs.Calls.{Wrote, Synced, Counts};
 ghost use Rattle.log_disk.specs.Crashes.{LeavesOnly};
-ghost use Rattle.log_header.specs.Header.{header_text};
-ghost use Rattle.log_text.specs.Bodies.{BodyView, body_after, body_text, start};
+ghost use Rattle.log_header.specs.Header.{HeaderView, header_text};
+ghost use Rattle.log_text.specs.Bodies.{BodyView, Void, body_after, body_of, body_text, marked, start};
+ghost use Rattle.log_text.specs.File.{IsFile, IsFileTo};
 ghost use Rattle.log_text.specs.declared.last.Last.{Last};
 ghost use Rattle.log_entries.specs.Following.{Continues};
 ghost use Rattle.logfile.specs.Called.{StoreLeft};
-ghost use Rattle.logfile.specs.Appended.{Appends};
+ghost use Rattle.logfile.specs.Appended.{Appends, AppendsBody};
 ghost use Rattle.logfile.specs.Standing.{Stands, IsWithOrWithout, IsKept};
 
 use crate::storing::store;
@@ -19,7 +20,8 @@ use log_codec::put_u8;
 use log_disk::Disk;
 use log_entries::put_batch;
 use log_header::{Header, put_header};
-use log_text::Last;
+use log_scan::contents;
+use log_text::{Body, Last, read_to_end, void_text};
 use money::Refusal;
 use std::alloc::{AllocError, Global};
 use std::marker::Model;
@@ -37,6 +39,7 @@ pub struct LogFile<D: Disk> {
     end: u64,
     last: Last,
     count: u64,
+    number: u64,
     failed: bool,
     // The text of a body, kept from one to the next for its room.
     buffer: Vec<u8>,
@@ -53,11 +56,12 @@ impl<D: Disk> Model for LogFile<D> {
       end = f.end;
       last = f.last;
       count = f.count;
+      number = f.number;
       failed = f.failed;
     } };
 
     ghost invariant = { λ f.
-        IsLogFile D.is_modelled (D.seen f.disk) (D.story f.disk) f.header f.end f.last f.count f.failed };
+        IsLogFile D.is_modelled (D.seen f.disk) (D.story f.disk) f.header f.end f.last f.count f.number f.failed };
 }
 
 impl<D: Disk> LogFile<D> {
@@ -72,7 +76,8 @@ impl<D: Disk> LogFile<D> {
         D: Drop,
         requires empty { D.is_modelled → D.seen disk ≡ [] }
         ensures header { IfOk result (λ file. file.header ≡ header) }
-        ensures last { IfOk result (λ file. (file.last ≡ start) × (file.count ≡ 0) × (file.failed ≡ false)) }
+        ensures last { IfOk result (λ file. (file.last ≡ start) × (file.count ≡ 0) × (file.number ≡ 0)
+            × (file.failed ≡ false)) }
         ensures stands { D.is_modelled → IfOk result (λ file.
             Stands file.header [] file.end file.last (D.seen file.disk) (D.story file.disk)) }
         ensures bytes { D.is_modelled → IfOk result (λ file.
@@ -94,9 +99,78 @@ impl<D: Disk> LogFile<D> {
             end: buffer.len() as u64 - 1,
             last: Last::start(),
             count: 0,
+            number: 0,
             failed: false,
             buffer,
         })
+    }
+
+    /// A log file that is opened again: as `open_with_bodies`, without what stands in it.
+    ///
+    /// # Errors
+    ///
+    /// As `open_with_bodies`.
+    pub fn open(alloc: Global, disk: D) -> Result<LogFile<D>, Refusal>
+    where
+        D: Drop,
+        ensures fresh { IfOk result (λ file. (file.count ≡ 0) × (file.number ≡ 0) × (file.failed ≡ false)) }
+        ensures near { IfOk result (λ file. file.last.epoch ≤ file.last.mark + 1) }
+        ensures stands { D.is_modelled → IfOk result (λ file. (bodies : List BodyView)
+            × Stands file.header bodies file.end file.last (D.seen file.disk) (D.story file.disk)) }
+        ensures read { IfOk result (λ file. (bytes : List ℕ) × (bodies : List BodyView) × ((length bytes < 2 ^ 64)
+            × (D.is_modelled → bytes ≡ D.seen disk) × IsFileTo bytes file.header bodies file.last file.end)) }
+        ensures synced { D.is_modelled → IfOk result (λ file. (D.seen file.disk ≡ D.seen disk)
+            × (D.story file.disk ≡ Synced (D.seen disk) ∷ D.story disk)) }
+        ensures damaged { D.is_modelled → IsErrOf result Damaged → (h : HeaderView) (bodies : List BodyView)
+            → IsFile (D.seen disk) h bodies → ⊥ }
+        ensures none_failed { IfOk result (λ file. D.failed file.disk ≡ D.failed disk) }
+        ensures others { IfErr result (λ refusal. (refusal ≢ OutOfMemory) → (refusal ≢ Device) → refusal ≡ Damaged) }
+    {
+        let (file, _) = LogFile::open_with_bodies(alloc, disk)?;
+        Ok(file)
+    }
+
+    /// A log file that is opened again for appending, and the bodies that stand in it. The disk is synced before it is
+    /// read, so that no crash can take what was read. No entry counts as appended to this open file; its mark is that
+    /// of the last body (0 without one), and the next body goes behind the gate that ends the text. Costs a pass over
+    /// the file.
+    ///
+    /// # Errors
+    ///
+    /// `Device` where the device fails, and only there; `Damaged` exactly where it doesn't and the bytes are no log
+    /// file; `OutOfMemory`. The disk is dropped then; nothing was written.
+    pub fn open_with_bodies(alloc: Global, disk: D) -> Result<(LogFile<D>, Vec<Body>), Refusal>
+    where
+        D: Drop,
+        ensures fresh { IfOk result (λ x. (x.0.count ≡ 0) × (x.0.number ≡ 0) × (x.0.failed ≡ false)) }
+        ensures near { IfOk result (λ x. x.0.last.epoch ≤ x.0.last.mark + 1) }
+        ensures stands { D.is_modelled → IfOk result (λ x. Stands x.0.header (map body_of x.1.items) x.0.end x.0.last
+            (D.seen x.0.disk) (D.story x.0.disk)) }
+        ensures read { IfOk result (λ x. (bytes : List ℕ) × ((length bytes < 2 ^ 64)
+            × (D.is_modelled → bytes ≡ D.seen disk)
+            × IsFileTo bytes x.0.header (map body_of x.1.items) x.0.last x.0.end)) }
+        ensures synced { D.is_modelled → IfOk result (λ x. (D.seen x.0.disk ≡ D.seen disk)
+            × (D.story x.0.disk ≡ Synced (D.seen disk) ∷ D.story disk)) }
+        ensures damaged { D.is_modelled → IsErrOf result Damaged → (h : HeaderView) (bodies : List BodyView)
+            → IsFile (D.seen disk) h bodies → ⊥ }
+        ensures none_failed { IfOk result (λ x. D.failed x.0.disk ≡ D.failed disk) }
+        ensures others { IfErr result (λ refusal. (refusal ≢ OutOfMemory) → (refusal ≢ Device) → refusal ≡ Damaged) }
+    {
+        let mut synced = disk;
+        synced.sync()?;
+        let bytes = contents(alloc, &mut synced)?;
+        let (header, bodies, last, end) = read_to_end(alloc, &bytes)?;
+        let file = LogFile {
+            disk: synced,
+            header,
+            end: end as u64,
+            last,
+            count: 0,
+            number: 0,
+            failed: false,
+            buffer: Vec::new(alloc),
+        };
+        Ok((file, bodies))
     }
 
     /// Whose file it is, and over what.
@@ -106,18 +180,18 @@ impl<D: Disk> LogFile<D> {
         self.header
     }
 
-    /// How many entries were appended to this open file.
+    /// How many entries were appended to this open file: those that stood in it when it was opened don't count.
     pub fn count(&self) -> u64
         ensures { result ≡ self.now.count }
     {
         self.count
     }
 
-    /// The commit number of the last entry, and 0 where there is none.
+    /// The commit number of the last entry that was appended to this open file, and 0 where there is none.
     pub fn last(&self) -> u64
-        ensures { result ≡ self.now.last.number }
+        ensures { result ≡ self.now.number }
     {
-        self.last.number
+        self.number
     }
 
     /// The mark of the last body, and 0 where there is none.
@@ -130,12 +204,21 @@ impl<D: Disk> LogFile<D> {
     /// Whether a batch begins where the file ends, as `append` asks: outside of one hold of the book's lock nothing
     /// else tells it.
     pub fn is_continued_by(&self, batch: &Batch) -> bool
-        ensures { IsTrue result ↔ Continues self.now.header self.now.count self.now.last batch.now }
+        ensures { IsTrue result
+            ↔ Continues self.now.header self.now.count self.now.number self.now.last batch.now }
     {
         is_of(&self.header, batch)
             && batch.first() == self.count
-            && u64::from(batch.number_before()) == self.last.number
+            && u64::from(batch.number_before()) == self.number
             && batch.mark_before() == self.mark()
+    }
+
+    /// Whether the epochs from `low` to `high` may be declared void where the file ends, as `append_void` asks.
+    pub fn may_be_void(&self, low: u64, high: u64) -> bool
+        ensures { IsTrue result ↔ (body_after self.now.header self.now.last (Void low high)
+            ≡ Some (marked high self.now.last)) }
+    {
+        self.last.may_be_void(low, high)
     }
 }
 
@@ -165,35 +248,59 @@ impl<D: Disk> LogFile<D> {
     /// device fails in this call or an earlier append failed so: from then on every append answers it, without a call
     /// of the device.
     pub fn append(&mut self, batch: &Batch) -> Result<(), Refusal>
-        requires { Continues self.old.header self.old.count self.old.last batch.now }
+        requires { Continues self.old.header self.old.count self.old.number self.old.last batch.now }
         ensures { Appends D.is_modelled D.seen D.story D.failed batch.now result self.old self.new }
     {
         if self.failed {
             return Err(Refusal::Device);
         }
         self.buffer.clear();
-        let now = put_batch(&mut self.buffer, batch, self.last)?;
+        let (now, number) = put_batch(&mut self.buffer, batch, self.last, self.number)?;
         let entries = batch.entries().len() as u64;
         let alloc = *self.buffer.allocator();
         let text = mem::replace(&mut self.buffer, Vec::new(alloc));
-        let result = self.add(&text, now, entries);
+        let result = self.add(&text, now, entries, number);
         self.buffer = text;
         result
     }
 
+    /// Declares the epochs from `low` to `high` void, as a restart does with those that it gives up: appends a void
+    /// body, by the same four calls of the device as `append`, of which it says the same (`AppendsBody`). Takes no
+    /// memory.
+    ///
+    /// # Errors
+    ///
+    /// `Device`, as `append`.
+    pub fn append_void(&mut self, low: u64, high: u64) -> Result<(), Refusal>
+        requires { body_after self.old.header self.old.last (Void low high) ≡ Some (marked high self.old.last) }
+        ensures appends { AppendsBody D.is_modelled D.seen D.story D.failed (Void low high) (marked high self.old.last)
+            0 self.old.number result self.old self.new }
+        ensures only_device { IfErr result (λ refusal. refusal ≡ Device) }
+    {
+        if self.failed {
+            return Err(Refusal::Device);
+        }
+        let number = self.number;
+        let now = Last {
+            mark: high,
+            ..self.last
+        };
+        self.add(&void_text(low, high), now, 0, number)
+    }
+
     /// Appends a body, whose text and closed gate these are, behind which the file stands at `now`, with so many
-    /// entries more.
-    fn add(&mut self, text: &[u8], now: Last, entries: u64) -> Result<(), Refusal>
+    /// entries more, up to the one of this commit number.
+    fn add(&mut self, text: &[u8], now: Last, entries: u64, number: u64) -> Result<(), Refusal>
         requires usable { self.old.failed ≡ false }
         requires body { (body : BodyView) × (text.now ≡ body_text body ++ CLOSED ∷ [])
             × (body_after self.old.header self.old.last body ≡ Some now) }
-        requires count { self.old.count + entries ≤ now.number }
+        requires count { self.old.count + entries ≤ number }
         requires epoch { now.epoch ≤ now.mark + 1 }
         ensures header { self.new.header ≡ self.old.header }
         ensures ok { OnOk result ((self.new.last ≡ now) × (self.new.count ≡ self.old.count + entries)
-            × (self.new.failed ≡ false)) }
+            × (self.new.number ≡ number) × (self.new.failed ≡ false)) }
         ensures err { OnErr result ((self.new.last ≡ self.old.last) × (self.new.count ≡ self.old.count)
-            × (self.new.failed ≡ true)) }
+            × (self.new.number ≡ self.old.number) × (self.new.failed ≡ true)) }
         ensures added { D.is_modelled → (bodies : List BodyView) (body : BodyView)
             → Stands self.old.header bodies self.old.end self.old.last (D.seen self.old.disk) (D.story self.old.disk)
             → text.now ≡ body_text body ++ CLOSED ∷ []
@@ -216,6 +323,7 @@ impl<D: Disk> LogFile<D> {
                 self.end += text.len() as u64;
                 self.last = now;
                 self.count += entries;
+                self.number = number;
                 Ok(())
             }
             Err(refusal) => {

@@ -46,7 +46,7 @@ impl<D: Disk> Logger<D> {
     /// asks of it. Constant time, no memory.
     pub fn may_append(&self, batch: &Batch) -> bool
         ensures { IsTrue result
-            ↔ Continues self.now.file.header self.now.file.count self.now.file.last batch.now }
+            ↔ Continues self.now.file.header self.now.file.count self.now.file.number self.now.file.last batch.now }
     {
         self.file.is_continued_by(batch)
     }
@@ -92,7 +92,8 @@ impl<D: Disk> Logger<D> {
     /// turn answers it, and the local mark stays.
     pub fn turn(&mut self, board: &Board, batch: &Batch) -> Result<u64, Refusal>
         requires own { self.old.seat.board ≡ board.now }
-        requires continues { Continues self.old.file.header self.old.file.count self.old.file.last batch.now }
+        requires continues { Continues self.old.file.header self.old.file.count self.old.file.number self.old.file.last
+            batch.now }
         ensures appends { Appends D.is_modelled D.seen D.story D.failed batch.now result self.old.file self.new.file }
         ensures seat { IfOk result (λ least.
             MarksAndPublishes self.old.file.header batch.now.mark self.old.seat least self.new.seat) }

@@ -9,7 +9,7 @@ use Rattle.money.specs.declared.refusal.Refusal.TheVariants.{OutOfMemory, Device
 use Rattle.tables.specs.Database.{Database, database}
 use Rattle.conditions.specs.Report.{IsReportOf}
 use Rattle.conditions.specs.declared.report.Report.{Report}
-use Rattle.recover.specs.declared.recovering.Recovered.{Recovered}
+use Rattle.recover_files.specs.declared.recovering.Recovered.{Recovered}
 use Rattle.program_recovery.specs.Told.{IsShown, IsChecked, IsRefused}
 use Rattle.program_recovery.specs.Flaws.{IsDamage, IsFirstGap}
 use Rattle.program_recovery.specs.declared.damage.Damage.{Damage}

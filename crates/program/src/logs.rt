@@ -15,21 +15,28 @@ use log_disk::{Disk, FileDisk, sync_folder};
 use money::Refusal;
 use population::Population;
 use program_options::{LogFiles, RecoverOptions};
-use program_recovery::{checked, recovered};
+use program_recovery::{Manner, checked, recovered};
 use std::alloc::{AllocError, Global};
-use std::fs::{File, TryLockError};
+use std::fs::{self, File, TryLockError};
 use std::io::{Error, ErrorKind, Write};
 use std::rt::Files;
+use std::sync::Wait;
 use std::thread::Threads;
+use std::time::Clock;
 
 /// Recovers log files, in as many threads as are asked for, and shows what they recover to. Answers the report of the
-/// recovered tables. May wait, for its threads.
-pub(crate) fn show<T: Threads + Files<File = File> + Sync, W: Write>(
+/// recovered tables. How far it is goes to the screen, if there is one. May wait, for its threads.
+pub(crate) fn show<
+    T: Wait + Threads + Clock + Files<File = File> + Sync,
+    W: Write,
+    S: Write + Send + Drop,
+>(
     rt: &T,
     alloc: Global,
     population: &Population,
     options: &RecoverOptions,
     output: &mut W,
+    screen: Option<S>,
 ) -> Result<Report, Fault>
     ensures shown { IfOk result (IsShownWith (initial population.now) (seed_of population.now)
         (W.contents output.old) (W.contents output.new)) }
@@ -41,27 +48,26 @@ pub(crate) fn show<T: Threads + Files<File = File> + Sync, W: Write>(
         Ok(disks) => disks,
         Err(fault) => return Err(fault),
     };
-    match show_recovered(
-        rt,
-        alloc,
-        population,
-        &mut disks,
-        output,
-        options.threads as usize,
-    ) {
+    let manner = manner(rt, alloc, options, screen);
+    match show_recovered(rt, alloc, population, &mut disks, output, manner) {
         Ok(report) => Ok(report),
         Err(refusal) => Err(unrecovered(alloc, population, files, refusal, &mut disks)),
     }
 }
 
-/// Recovers log files, in as many threads as are asked for, and writes the report of the recovered tables. May wait,
-/// for its threads.
-pub(crate) fn report<T: Threads + Files<File = File> + Sync, W: Write>(
+/// Recovers log files, in as many threads as are asked for, and writes the report of the recovered tables. How far it
+/// is goes to the screen, if there is one. May wait, for its threads.
+pub(crate) fn report<
+    T: Wait + Threads + Clock + Files<File = File> + Sync,
+    W: Write,
+    S: Write + Send + Drop,
+>(
     rt: &T,
     alloc: Global,
     population: &Population,
     options: &RecoverOptions,
     output: &mut W,
+    screen: Option<S>,
 ) -> Result<Report, Fault>
     ensures checked { IfOk result (IsCheckedWith (initial population.now) (seed_of population.now)
         (W.contents output.old) (W.contents output.new)) }
@@ -73,27 +79,26 @@ pub(crate) fn report<T: Threads + Files<File = File> + Sync, W: Write>(
         Ok(disks) => disks,
         Err(fault) => return Err(fault),
     };
-    match checked(
-        rt,
-        alloc,
-        population,
-        &mut disks,
-        output,
-        options.threads as usize,
-    ) {
+    let manner = manner(rt, alloc, options, screen);
+    match checked(rt, alloc, population, &mut disks, output, manner) {
         Ok(report) => Ok(report),
         Err(refusal) => Err(unrecovered(alloc, population, files, refusal, &mut disks)),
     }
 }
 
 /// Shows what disks recover to, and checks the recovered tables.
-fn show_recovered<T: Threads + Sync, D: Disk + Send, W: Write>(
+fn show_recovered<
+    T: Wait + Threads + Clock + Sync,
+    D: Disk + Send,
+    W: Write,
+    S: Write + Send + Drop,
+>(
     rt: &T,
     alloc: Global,
     population: &Population,
     disks: &mut [D],
     output: &mut W,
-    threads: usize,
+    manner: Manner<S>,
 ) -> Result<Report, Refusal>
     ensures shown { IfOk result (IsShownWith (initial population.now) (seed_of population.now)
         (W.contents output.old) (W.contents output.new)) }
@@ -101,8 +106,44 @@ fn show_recovered<T: Threads + Sync, D: Disk + Send, W: Write>(
         (seed_of population.now) strings Shows (map D.failed disks.old) (map D.failed disks.new)
         (W.contents output.old) (W.contents output.new) refusal) }
 {
-    let recovered = recovered(rt, alloc, population, disks, output, threads)?;
+    let recovered = recovered(rt, alloc, population, disks, output, manner)?;
     check(alloc, &recovered.tables)
+}
+
+/// How a recovery is gone about, with these options, and this screen, if there is one.
+fn manner<T: Files<File = File>, S>(
+    rt: &T,
+    alloc: Global,
+    options: &RecoverOptions,
+    screen: Option<S>,
+) -> Manner<S> {
+    let sizes = match &screen {
+        Some(_) => sizes(rt, alloc, &options.files).unwrap_or(Vec::new(alloc)),
+        None => Vec::new(alloc),
+    };
+    Manner {
+        threads: options.threads as usize,
+        screen,
+        sizes,
+    }
+}
+
+/// How many bytes each log file has, in the order of the loggers, and 0 where the system doesn't tell.
+fn sizes<T: Files<File = File>>(
+    rt: &T,
+    alloc: Global,
+    files: &LogFiles,
+) -> Result<Vec<u64>, AllocError> {
+    let mut sizes = Vec::new(alloc);
+    for logger in 0..files.loggers {
+        let path = path(alloc, files, logger)?;
+        let size = match fs::metadata(rt, path.as_str()) {
+            Ok(metadata) => metadata.len(),
+            Err(_) => 0,
+        };
+        sizes.push(size)?;
+    }
+    Ok(sizes)
 }
 
 /// The disks in log files that are opened, or created, in the order of their loggers. The first file that can't be

@@ -32,8 +32,9 @@ use tables::Scale;
 
 /// Does what the words of a command line ask for, the first of which is the program's own name, from `input` to
 /// `output`, and answers the exit status. A fault of the words, or the help that they ask for, goes to `errors`, and
-/// so does a refusal's line, with one more on what was wrong, where that is known. How far a run of terminals is goes
-/// to `screen`, if there is one, and nothing else does. May wait, as `script` and `run_threads::run` do.
+/// so does a refusal's line, with one more on what was wrong, where that is known. How far a run of terminals or a
+/// recovery is goes to `screen`, if there is one, and nothing else does. May wait, as `script` and `run_threads::run`
+/// do.
 pub fn run<
     T: Wait + Threads + Clock + Files<File = File> + Sync,
     R: Read,
@@ -151,8 +152,8 @@ fn answer_over<
     match subcommand {
         Subcommand::Script => answer_script(rt, alloc, population, input, output),
         Subcommand::Run(options) => live(rt, alloc, population, options, output, screen),
-        Subcommand::Recover(options) => show(rt, alloc, &population, options, output),
-        Subcommand::Check(options) => report(rt, alloc, &population, options, output),
+        Subcommand::Recover(options) => show(rt, alloc, &population, options, output, screen),
+        Subcommand::Check(options) => report(rt, alloc, &population, options, output, screen),
     }
 }
 

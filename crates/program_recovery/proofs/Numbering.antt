@@ -10,11 +10,11 @@ use Rattle.std.proofs.lemmas.List.Elements.{Contains-append_left, Contains-appen
 use Rattle.std.proofs.lemmas.List.Sorted.{Contains-permutation, IsPermutation-sym, sum_by-IsPermutation}
 use Rattle.std.proofs.lemmas.List.Sums.{sum_by-append, sum_by-cons}
 use Rattle.log_text.specs.Entries.{EntryView}
-use Rattle.recover_laws.specs.Rebuilt.{AreNumbered, HaveNoGap}
-use Rattle.recover.specs.Parts.{commit_of}
-use Rattle.recover.specs.declared.numbering.Commit.{Commit}
-use Rattle.recover.proofs.LawfulEntries.{IsPositive}
-use Rattle.recover.proofs.Ordering.{next_entry, entries_rise}
+use Rattle.recover_found.specs.Rebuilt.{AreNumbered, HaveNoGap}
+use Rattle.recover_files.specs.Parts.{commit_of}
+use Rattle.recover_files.specs.declared.numbering.Commit.{Commit}
+use Rattle.recover_files.proofs.LawfulEntries.{IsPositive}
+use Rattle.recover_files.proofs.Ordering.{next_entry, entries_rise}
 use Rattle.program_recovery.specs.Flaws.{IsFirstAmiss, IsMisnumbered, times}
 use Rattle.program_recovery.specs.declared.gap.Misnumbered.{Misnumbered}
 use Rattle.program_recovery.specs.declared.gap.Misnumbered.TheVariants.{Missing, Twice}

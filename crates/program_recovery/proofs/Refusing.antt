@@ -6,9 +6,9 @@ use Rattle.money.specs.declared.refusal.Refusal.{Refusal}
 use Rattle.money.specs.declared.refusal.Refusal.TheVariants as refusal
 use Rattle.tables.specs.Database.{Database}
 use Rattle.log_disk.specs.Calls.{Call}
-use Rattle.recover.specs.Answers.{IsAnswerOn}
-use Rattle.recover.specs.Recovered.{IsRecovery}
-use Rattle.recover.specs.declared.recovering.Recovered.{Recovered}
+use Rattle.recover_files.specs.Answers.{IsAnswerOn}
+use Rattle.recover_files.specs.Recovered.{IsRecovery}
+use Rattle.recover_files.specs.declared.recovering.Recovered.{Recovered}
 use Rattle.program_recovery.specs.Told.{IsRefused, memory, device, damaged, gap, begun}
 
 -- what is known of the strings that were read: where the disks are modelled, they are those

@@ -26,6 +26,12 @@ module _ {X : Type 0} {modelled : Type 0} {seen : X → List ℕ} {story : X →
 
   -- disk k, whatever stands for those past the end, becomes now
   module _ {i : ℕ} {disks : List X} (k : ℕ) (past now : X) (so_far : IsWalked modelled seen story s seed first i disks) where
+    pub only_reads : OnlyReads modelled seen story (get_or disks k past) now → OnlyReads modelled (map seen) (map story) first (set disks k now)
+    only_reads same = record {
+      seen = λ given. map-set_same seen disks k now past (same.seen given) ∙ so_far.same.seen given;
+      story = λ given. map-set_same story disks k now past (same.story given) ∙ so_far.same.story given;
+    }
+
     module _ (is : k ≡ i) (within : k < length disks) where
       -- what the disk had at first
       here : modelled → get_or (map seen first) i [] ≡ seen (get_or disks k past)
@@ -36,10 +42,7 @@ module _ {X : Type 0} {modelled : Type 0} {seen : X → List ℕ} {story : X →
           → IsWalked modelled seen story s seed first (i + 1) (set disks k now)
       goes_on same whole = record {
         count = length-set disks k now ∙ so_far.count;
-        same = record {
-          seen = λ given. map-set_same seen disks k now past (same.seen given) ∙ so_far.same.seen given;
-          story = λ given. map-set_same story disks k now past (same.story given) ∙ so_far.same.story given;
-        };
+        same = only_reads same;
         whole = λ given. below_more (λ l. IsLogFileOf s seed l (length first) (get_or (map seen first) l [])) i (so_far.whole given)
             (subst (IsLogFileOf s seed i (length first)) (sym (here given)) (whole given));
       }

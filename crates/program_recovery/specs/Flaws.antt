@@ -8,9 +8,9 @@ use Rattle.log_text.specs.Bodies.{BodyView}
 use Rattle.log_text.specs.Entries.{EntryView}
 use Rattle.log_text.specs.File.{IsFile}
 use Rattle.log_flaws.specs.Flaws.{HasFlaw}
-use Rattle.recover_laws.specs.Found.{found}
-use Rattle.recover_laws.specs.Rebuilt.{HaveNoGap}
-use Rattle.recover.specs.Files.{AreFiles}
+use Rattle.recover_found.specs.Found.{found}
+use Rattle.recover_found.specs.Rebuilt.{HaveNoGap}
+use Rattle.recover_files.specs.Files.{AreFiles}
 use Rattle.program_recovery.specs.declared.damage.Damage.{Damage}
 use Rattle.program_recovery.specs.declared.gap.Misnumbered.{Misnumbered}
 use Rattle.program_recovery.specs.declared.gap.Misnumbered.TheVariants.{Missing, Twice}

@@ -10,7 +10,7 @@ use Rattle.population_tables.specs.Plain.{numbers}
 use Rattle.program_script_text.specs.Output.{row_words}
 use Rattle.program_script_text.specs.declared.shown.ShownRow.{ShownRow}
 use Rattle.program_script_text.specs.declared.shown.ShownRow.TheVariants.{Warehouse, District}
-use Rattle.recover.specs.declared.recovering.Recovered.{Recovered}
+use Rattle.recover_files.specs.declared.recovering.Recovered.{Recovered}
 
 -- a row's line, as a script shows it, with its line feed
 abbrev pub row_line : ShownRow → List ℕ

@@ -7,9 +7,9 @@ use Rattle.tables.specs.Database.{Database, database}
 use Rattle.conditions.specs.Report.{IsReportOf}
 use Rattle.conditions.specs.declared.report.Report.{Report}
 use Rattle.program_script_text.specs.Report.{report_text}
-use Rattle.recover.specs.Files.{AreDamaged, DeviceHasFailed}
-use Rattle.recover.specs.Recovered.{IsRecovery, HasGap}
-use Rattle.recover.specs.declared.recovering.Recovered.{Recovered}
+use Rattle.recover_files.specs.Files.{AreDamaged, DeviceHasFailed}
+use Rattle.recover_files.specs.Recovered.{IsRecovery, HasGap}
+use Rattle.recover_files.specs.declared.recovering.Recovered.{Recovered}
 use Rattle.program_recovery.specs.Text.{recovery_text}
 
 -- this was recovered from these strings of bytes, and its text was written

@@ -15,7 +15,7 @@ ghost use Rattle.program_recovery.specs.Flaws.{IsDamage, IsLogFileOf};
 use log_disk::Disk;
 use log_flaws::{Examined, FileFlaw, examine};
 use log_header::Header;
-use logfile::contents;
+use log_scan::contents;
 use money::Refusal;
 use population::Population;
 use std::alloc::Global;

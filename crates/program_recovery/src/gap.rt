@@ -6,14 +6,15 @@ ghost use Rattle.money.specs.declared.refusal.Refusal.TheVariants.{OutOfMemory, 
 ghost use Rattle.log_disk.specs.Calls.{OnlyReads};
 ghost use Rattle.log_text.specs.Entries.{EntryView};
 ghost use Rattle.population.specs.Initial.{initial, seed_of};
-ghost use Rattle.recover_laws.specs.Rebuilt.{AreNumbered};
-ghost use Rattle.recover.specs.Parts.{commit_of};
+ghost use Rattle.recover_found.specs.Rebuilt.{AreNumbered};
+ghost use Rattle.recover_files.specs.Parts.{commit_of};
 ghost use Rattle.program_recovery.specs.Flaws.{IsFirstGap, IsMisnumbered};
 
 use log_disk::Disk;
 use money::Refusal;
 use population::Population;
 use recover::{Commit, commits_found};
+use recover_progress::Progress;
 use std::alloc::Global;
 use std::fmt::{self, Display};
 
@@ -56,7 +57,8 @@ pub fn first_gap<D: Disk>(
     ensures cause { IfErr result (λ refusal. (refusal ≢ OutOfMemory) → (refusal ≢ Device) → refusal ≡ Damaged) }
     ensures reads { OnlyReads D.is_modelled (map D.seen) (map D.story) disks.old disks.new }
 {
-    let commits = commits_found(alloc, population, disks)?;
+    let unshown = Progress::of(Vec::new(alloc));
+    let commits = commits_found(alloc, population, disks, &unshown)?;
     Ok(first_amiss(&commits))
 }
 

@@ -5,7 +5,9 @@ mod damage;
 mod gap;
 mod telling;
 mod text;
+mod watching;
 
 pub use damage::{Damage, first_damage};
 pub use gap::{Misnumbered, first_gap};
 pub use telling::{checked, recovered};
+pub use watching::Manner;

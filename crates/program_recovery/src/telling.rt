@@ -9,32 +9,41 @@ ghost use Rattle.program_recovery.specs.Text.{recovery_text};
 ghost use Rattle.program_recovery.specs.Told.{IsShown, IsChecked, IsRefused, Shows, Reports};
 
 use crate::text::text_of;
+use crate::watching::{Manner, recover_shown};
 use conditions::{Report, check};
 use log_disk::Disk;
 use money::Refusal;
 use population::Population;
 use program_script_text::print_report;
 use program_streams::write_text;
-use recover::{Recovered, recover_with};
+use recover::Recovered;
 use std::alloc::Global;
 use std::io::Write;
+use std::sync::Wait;
 use std::thread::Threads;
+use std::time::Clock;
 
 /// Recovers the tables that log files hold, as `recover_with` does, and writes the durable epoch, the number of commits, and
 /// the rows of the warehouses and districts: `durable 5`, `commits 2`, then for each warehouse
-/// `warehouse 1 ytd 202.00` and, for each of its districts, `district 1 1 ytd 102.00 next 11`. May wait, for its threads.
+/// `warehouse 1 ytd 202.00` and, for each of its districts, `district 1 1 ytd 102.00 next 11`. A recovery of more than a
+/// second shows on the screen how far it is, if there is one. May wait, for its threads.
 ///
 /// # Errors
 ///
 /// As `recover_with`, and then nothing is written; and, where no disk fails, `Device` where the writer fails, `OutOfMemory`
 /// where the text has no room.
-pub fn recovered<R: Threads + Sync, D: Disk + Send, W: Write>(
+pub fn recovered<
+    R: Threads + Wait + Clock + Sync,
+    D: Disk + Send,
+    W: Write,
+    S: Write + Send + Drop,
+>(
     rt: &R,
     alloc: Global,
     population: &Population,
     disks: &mut [D],
     writer: &mut W,
-    threads: usize,
+    manner: Manner<S>,
 ) -> Result<Recovered, Refusal>
     ensures shown { IfOk result (λ r. (strings : List (List ℕ)) × (D.is_modelled → strings ≡ map D.seen disks.old)
         × IsShown (initial population.now) (seed_of population.now) strings
@@ -46,25 +55,28 @@ pub fn recovered<R: Threads + Sync, D: Disk + Send, W: Write>(
     ensures not_failed { OnOk result (map D.failed disks.new ≡ map D.failed disks.old) }
     ensures reads { OnlyReads D.is_modelled (map D.seen) (map D.story) disks.old disks.new }
 {
-    let found = recover_with(rt, alloc, population, disks, threads)?;
-    show(alloc, &found, writer)?;
-    Ok(found)
+    let found = recover_shown(rt, alloc, population, disks, manner)?;
+    match show(alloc, &found, writer) {
+        Ok(()) => Ok(found),
+        Err(refusal) => return Err(refusal),
+    }
 }
 
 /// Recovers the tables that log files hold, as `recover_with` does, and writes the report of the consistency conditions on
-/// them: `commits 2`, then for each condition (TPC-C 3.3.2) a line as `C1 ok`. May wait, for its threads.
+/// them: `commits 2`, then for each condition (TPC-C 3.3.2) a line as `C1 ok`. Shows how far it is, as `recovered` does.
+/// May wait, for its threads.
 ///
 /// # Errors
 ///
 /// As `recover_with`, and then nothing is written; and, where no disk fails, `Device` where the writer fails, `OutOfMemory`
 /// where check or text have no room.
-pub fn checked<R: Threads + Sync, D: Disk + Send, W: Write>(
+pub fn checked<R: Threads + Wait + Clock + Sync, D: Disk + Send, W: Write, S: Write + Send + Drop>(
     rt: &R,
     alloc: Global,
     population: &Population,
     disks: &mut [D],
     writer: &mut W,
-    threads: usize,
+    manner: Manner<S>,
 ) -> Result<Report, Refusal>
     ensures checked { IfOk result (λ report. (strings : List (List ℕ))
         × (D.is_modelled → strings ≡ map D.seen disks.old)
@@ -77,10 +89,12 @@ pub fn checked<R: Threads + Sync, D: Disk + Send, W: Write>(
     ensures not_failed { OnOk result (map D.failed disks.new ≡ map D.failed disks.old) }
     ensures reads { OnlyReads D.is_modelled (map D.seen) (map D.story) disks.old disks.new }
 {
-    let recovered = recover_with(rt, alloc, population, disks, threads)?;
+    let recovered = recover_shown(rt, alloc, population, disks, manner)?;
     let report = check(alloc, &recovered.tables)?;
-    report_on(alloc, recovered.commits, &report, writer)?;
-    Ok(report)
+    match report_on(alloc, recovered.commits, &report, writer) {
+        Ok(()) => Ok(report),
+        Err(refusal) => return Err(refusal),
+    }
 }
 
 /// Writes what was recovered.

@@ -1,19 +1,1 @@
-mod Looking
-mod Knowing
-pub mod Ordering
-mod Rebuilding
-pub mod Found
 mod Crashed
-pub mod LawfulEntries
-mod Ranges
-mod RowsOfWords
-mod LawfulWrites
-mod HistoryWords
-mod HistoryRows
-mod LastMarks
-mod OneAnswer
-mod DiskByDisk
-mod Halves
-mod AllRead
-mod Answering
-mod HalvesOfFiles

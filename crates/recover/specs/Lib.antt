@@ -1,4 +1,1 @@
-pub mod Parts
-pub mod Files
-pub mod Recovered
-pub mod Answers
+pub mod Beginning

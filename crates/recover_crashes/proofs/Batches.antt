@@ -14,18 +14,12 @@ use Rattle.book.specs.Loggable.{IsLoggable}
 use Rattle.book.specs.Stamps.{AreStamped}
 use Rattle.book.specs.Streams.{stream}
 use Rattle.book.specs.declared.entry.Entry.{Entry}
-use Rattle.tables.specs.declared.limits.TheConstants.{MAX_TERMINALS}
 use Rattle.recover_crashes.specs.World.{Life, Idle, World, header_of}
 use Rattle.recover_crashes.specs.Events.{MayTake}
+use Rattle.recover_crashes.specs.Recovering.{IsFitForLogs}
 use Rattle.recover_crashes.proofs.Lists.{all_behind}
 use Rattle.recover_crashes.proofs.Histories.{stream_rises, stream_stamped}
 use Rattle.recover_crashes.proofs.Lanes.{FitsLane, taken, all_that_waits}
-
--- an entry of the history may be written to a log file
-pub record IsFit (s : Sizes) (e : Entry) : Type 0 where
-  pub cap : e.number ≤ s.commits
-  pub asked : e.terminal < MAX_TERMINALS
-  pub loggable : IsLoggable s e
 
 module _ (life : Life) (w : World) (k : ℕ) (batch : BatchView) (old : List BodyView) (landed : List BatchView) (local : ℕ)
     (lane : FitsLane (header_of life k) life.past w.found (stream life.plan.loggers k w.history) old landed (w.logger k).file Idle local)
@@ -42,7 +36,7 @@ module _ (life : Life) (w : World) (k : ℕ) (batch : BatchView) (old : List Bod
     of_history : (P : Entry → Type 0) → All P w.history → All P batch.entries
     of_history P all = of_stream P (All-filter (λ (e : Entry). e.terminal % life.plan.loggers == k) P w.history all)
 
-    pub is_batch : Replays (life.past + 1) life.first w.history → AreStamped w.history → All (IsFit life.first.scale) w.history
+    pub is_batch : Replays (life.past + 1) life.first w.history → AreStamped w.history → All (IsFitForLogs life.first.scale) w.history
         → All (λ e. epoch_of e.tid ≤ w.found) w.history → w.epoch ≤ last_epoch → IsBatch batch
     is_batch replays stamped fit epochs ends =
         let header = lane.header in
@@ -50,7 +44,7 @@ module _ (life : Life) (w : World) (k : ℕ) (batch : BatchView) (old : List Bod
         let loggers : batch.loggers ≡ life.plan.loggers = may.continues.loggers ∙ ap (λ (h : HeaderView). h.loggers) header in
         let scale : batch.scale ≡ life.first.scale = may.continues.scale ∙ ap (λ (h : HeaderView). h.scale) header in
         let own = of_stream (λ (e : Entry). (e.terminal % life.plan.loggers == k) ≡ true) (filter_passes (λ (e : Entry). e.terminal % life.plan.loggers == k) w.history) in
-        let fits = of_history (IsFit life.first.scale) fit in
+        let fits = of_history (IsFitForLogs life.first.scale) fit in
         let found = of_history (λ (e : Entry). epoch_of e.tid ≤ w.found) epochs in
         let above : All (λ (e : Entry). (w.logger k).file.last.mark < epoch_of e.tid) batch.entries
         = subst (All (λ (e : Entry). (w.logger k).file.last.mark < epoch_of e.tid)) (sym waits) lane.above in

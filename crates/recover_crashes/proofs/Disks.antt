@@ -1,4 +1,4 @@
--- A logger's disk while a batch is appended: what stands there at each stage, and what a crash may leave.
+-- A logger's disk while a body is appended: what stands there at each stage, and what a crash may leave.
 use Rattle.std.proofs.Common.{◌≡◌, ◌≢◌, ℕ, ◌+◌, Some, List, [], ◌∷◌, ◌++◌, length, drop, Result, Ok, Err, true, sym, ◌∙◌, subst, inl, inr}
 use Rattle.money.specs.declared.refusal.Refusal.{Refusal}
 use Rattle.log_disk.specs.Calls.{Call, Synced}
@@ -7,7 +7,6 @@ use Rattle.log_header.specs.Header.{HeaderView, IsHeader, header_text}
 use Rattle.log_text.specs.Bodies.{BodyView, body_after, bodies_after, start}
 use Rattle.log_text.specs.File.{opened}
 use Rattle.log_text.specs.declared.last.Last.{Last}
-use Rattle.book.specs.Batches.{BatchView}
 use Rattle.log_entries.specs.Following.{body_of_batch}
 use Rattle.logfile.specs.Staged.{IsSettled, HasGate, IsStaged}
 use Rattle.logfile.specs.Standing.{LogFileView, Stands, IsWithOrWithout}
@@ -35,25 +34,25 @@ IsReady TextSynced end front gate text d = IsSettled d.seen d.story × ((rest : 
 IsReady GateOpened end front gate text d = (rest : List ℕ) × (d.seen ≡ front ++ 1 ∷ (text ++ rest))
 IsReady DeviceFailed end front gate text d = Unit {0}
 
--- a batch is on its way into the file
-pub record IsFlying (h : HeaderView) (bodies : List BodyView) (stage : Stage) (batch : BatchView) (file : LogFileView DiskView) : Type 0 where
+-- a body is on its way into the file
+pub record IsFlying (h : HeaderView) (bodies : List BodyView) (stage : Stage) (body : BodyView) (file : LogFileView DiskView) : Type 0 where
   pub placed : IsPlaced h bodies file
   pub gate : ℕ
   pub closed : gate ≢ 1
-  pub leaves : Leaves (IsStaged (front_of h bodies) gate (text_of batch)) file.disk.story
-  pub ready : IsReady stage file.end (front_of h bodies) gate (text_of batch) file.disk
+  pub leaves : Leaves (IsStaged (front_of h bodies) gate (text_of body)) file.disk.story
+  pub ready : IsReady stage file.end (front_of h bodies) gate (text_of body) file.disk
 
 abbrev pub FitsDisk : HeaderView → List BodyView → Flight → LogFileView DiskView → Type 0
 FitsDisk h bodies Idle file = Stands h bodies file.end file.last file.disk.seen file.disk.story
-FitsDisk h bodies (Flying stage batch) file = IsFlying h bodies stage batch file
+FitsDisk h bodies (Flying stage batch) file = IsFlying h bodies stage (body_of_batch batch) file
 
 pub placed_there : (h : HeaderView) (bodies : List BodyView) (file : LogFileView DiskView)
     → Stands h bodies file.end file.last file.disk.seen file.disk.story → IsPlaced h bodies file
 placed_there h bodies file s = record { header = s.file.header; lawful = s.lawful; place = s.place }
 
-pub takes : (h : HeaderView) (bodies : List BodyView) (batch : BatchView) (file : LogFileView DiskView)
-    → Stands h bodies file.end file.last file.disk.seen file.disk.story → IsFlying h bodies BatchTaken batch file
-takes h bodies batch file s =
+pub takes : (h : HeaderView) (bodies : List BodyView) (body : BodyView) (file : LogFileView DiskView)
+    → Stands h bodies file.end file.last file.disk.seen file.disk.story → IsFlying h bodies BatchTaken body file
+takes h bodies body file s =
     let has = at_gate h bodies file.end file.last file.disk.seen file.disk.story s in
     record {
       placed = placed_there h bodies file s;
@@ -67,16 +66,16 @@ takes h bodies batch file s =
 settled_by : (old new : DiskView) → new.seen ≡ old.seen → new.story ≡ Synced old.seen ∷ old.story → IsSettled new.seen new.story
 settled_by old new seen story = λ bytes may. subst (λ (s : List Call). MayLeave s bytes) story may ∙ sym seen
 
-module _ (h : HeaderView) (bodies : List BodyView) (batch : BatchView) (file : LogFileView DiskView) (disk : DiskView) where
+module _ (h : HeaderView) (bodies : List BodyView) (body : BodyView) (file : LogFileView DiskView) (disk : DiskView) where
   abbrev front : List ℕ
   front = front_of h bodies
 
   abbrev text : List ℕ
-  text = text_of batch
+  text = text_of body
 
-  -- whatever the next call's result is, a crash leaves the file with the batch or without it
-  pub leaves_after : (stage : Stage) (result : Result (Unit {0}) Refusal) → (f : IsFlying h bodies stage batch file)
-      → IsCalled stage batch file result disk → Leaves (IsStaged front f.gate text) disk.story
+  -- whatever the next call's result is, a crash leaves the file with the body or without it
+  pub leaves_after : (stage : Stage) (result : Result (Unit {0}) Refusal) → (f : IsFlying h bodies stage body file)
+      → IsCalled stage body file result disk → Leaves (IsStaged front f.gate text) disk.story
   leaves_after BatchTaken result f call =
       only_last (IsStaged front f.gate text) file.disk.story disk.story
       (text_moments file.end front f.gate f.ready.1.0 file.disk.seen text (length text) file.disk.story disk.story f.ready.1.1
@@ -96,8 +95,8 @@ module _ (h : HeaderView) (bodies : List BodyView) (batch : BatchView) (file : L
   leaves_after DeviceFailed result f call = absurd call
 
   -- the call that comes next is done
-  pub text_is_written : (x : Unit {0}) → IsFlying h bodies BatchTaken batch file → IsCalled BatchTaken batch file (Ok x) disk
-      → IsFlying h bodies TextWritten batch (on_disk file disk)
+  pub text_is_written : (x : Unit {0}) → IsFlying h bodies BatchTaken body file → IsCalled BatchTaken body file (Ok x) disk
+      → IsFlying h bodies TextWritten body (on_disk file disk)
   text_is_written x f call = record {
     placed = record { header = f.placed.header; lawful = f.placed.lawful; place = f.placed.place };
     gate = f.gate;
@@ -106,8 +105,8 @@ module _ (h : HeaderView) (bodies : List BodyView) (batch : BatchView) (file : L
     ready = (drop (length text) f.ready.1.0, text_seen file.end front f.gate f.ready.1.0 file.disk.seen text disk.seen f.ready.1.1 call.seen);
   }
 
-  pub text_is_synced : (x : Unit {0}) → IsFlying h bodies TextWritten batch file → IsCalled TextWritten batch file (Ok x) disk
-      → IsFlying h bodies TextSynced batch (on_disk file disk)
+  pub text_is_synced : (x : Unit {0}) → IsFlying h bodies TextWritten body file → IsCalled TextWritten body file (Ok x) disk
+      → IsFlying h bodies TextSynced body (on_disk file disk)
   text_is_synced x f call = record {
     placed = record { header = f.placed.header; lawful = f.placed.lawful; place = f.placed.place };
     gate = f.gate;
@@ -119,8 +118,8 @@ module _ (h : HeaderView) (bodies : List BodyView) (batch : BatchView) (file : L
     );
   }
 
-  pub gate_is_opened : (x : Unit {0}) → IsFlying h bodies TextSynced batch file → IsCalled TextSynced batch file (Ok x) disk
-      → IsFlying h bodies GateOpened batch (on_disk file disk)
+  pub gate_is_opened : (x : Unit {0}) → IsFlying h bodies TextSynced body file → IsCalled TextSynced body file (Ok x) disk
+      → IsFlying h bodies GateOpened body (on_disk file disk)
   gate_is_opened x f call = record {
     placed = record { header = f.placed.header; lawful = f.placed.lawful; place = f.placed.place };
     gate = f.gate;
@@ -129,16 +128,16 @@ module _ (h : HeaderView) (bodies : List BodyView) (batch : BatchView) (file : L
     ready = (f.ready.1.0, gate_seen file.end front f.gate 1 (text ++ f.ready.1.0) file.disk.seen disk.seen f.ready.1.1 call.seen);
   }
 
-  pub batch_is_there : (x : Unit {0}) (now : Last) → (f : IsFlying h bodies GateOpened batch file) → IsCalled GateOpened batch file (Ok x) disk
-      → body_after h file.last (body_of_batch batch) ≡ Some now
-      → Stands h (bodies ++ body_of_batch batch ∷ []) (file.end + length text) now disk.seen disk.story
-  batch_is_there x now f call after =
-      stands h f.placed.header bodies (body_of_batch batch) file.last now f.placed.lawful after file.end f.ready.0 disk.seen disk.story f.placed.place
+  pub body_is_there : (x : Unit {0}) (now : Last) → (f : IsFlying h bodies GateOpened body file) → IsCalled GateOpened body file (Ok x) disk
+      → body_after h file.last body ≡ Some now
+      → Stands h (bodies ++ body ∷ []) (file.end + length text) now disk.seen disk.story
+  body_is_there x now f call after =
+      stands h f.placed.header bodies body file.last now f.placed.lawful after file.end f.ready.0 disk.seen disk.story f.placed.place
       (call.seen ∙ f.ready.1) (settled_by file.disk disk call.seen call.story)
 
   -- or it fails
-  pub has_failed : (stage : Stage) (refusal : Refusal) → IsFlying h bodies stage batch file → IsCalled stage batch file (Err refusal) disk
-      → IsFlying h bodies DeviceFailed batch (record (on_disk file disk) { failed = true })
+  pub has_failed : (stage : Stage) (refusal : Refusal) → IsFlying h bodies stage body file → IsCalled stage body file (Err refusal) disk
+      → IsFlying h bodies DeviceFailed body (record (on_disk file disk) { failed = true })
   has_failed stage refusal f call = record {
     placed = record { header = f.placed.header; lawful = f.placed.lawful; place = f.placed.place };
     gate = f.gate;
@@ -147,9 +146,9 @@ module _ (h : HeaderView) (bodies : List BodyView) (batch : BatchView) (file : L
     ready = tt;
   }
 
--- what a crash leaves of a batch on its way
-pub with_or_without : (h : HeaderView) (bodies : List BodyView) (stage : Stage) (batch : BatchView) (file : LogFileView DiskView) (now : Last)
-    → IsFlying h bodies stage batch file → body_after h file.last (body_of_batch batch) ≡ Some now
-    → (bytes : List ℕ) → MayLeave file.disk.story bytes → IsWithOrWithout h bodies (body_of_batch batch) bytes
-with_or_without h bodies stage batch file now f after bytes may =
-    staged_is h f.placed.header bodies (body_of_batch batch) file.last now f.placed.lawful after f.gate bytes f.closed (f.leaves bytes may)
+-- what a crash leaves of a body on its way
+pub with_or_without : (h : HeaderView) (bodies : List BodyView) (stage : Stage) (body : BodyView) (file : LogFileView DiskView) (now : Last)
+    → IsFlying h bodies stage body file → body_after h file.last body ≡ Some now
+    → (bytes : List ℕ) → MayLeave file.disk.story bytes → IsWithOrWithout h bodies body bytes
+with_or_without h bodies stage body file now f after bytes may =
+    staged_is h f.placed.header bodies body file.last now f.placed.lawful after f.gate bytes f.closed (f.leaves bytes may)

@@ -1,8 +1,9 @@
 -- What a history keeps in its beginnings and streams; the entries up to an epoch are a beginning of one whose epochs don't fall.
 use Rattle.std.proofs.Common.{◌≡◌, ℕ, ◌+◌, ◌<◌, ◌≤◌, Bool, true, false, cond, filter, List, [], ◌∷◌, ◌++◌, subst, refl, sym, ap, ◌∙◌, arith}
+use Rattle.std.specs.Prelude.{nat_le, ◌&&◌, not}
 use Rattle.std.specs.List.{All}
-use Rattle.std.proofs.lemmas.Bool.{leb-false, lt-leb}
-use Rattle.std.proofs.lemmas.List.Elements.{All-filter}
+use Rattle.std.proofs.lemmas.Bool.{leb-true, leb-false, lt-leb}
+use Rattle.std.proofs.lemmas.List.Elements.{All-filter, All-head, All-tail}
 use Rattle.tidword.specs.TidWord.{epoch_of}
 use Rattle.tables.specs.Database.{Database}
 use Rattle.tables.specs.Apply.{after}
@@ -11,7 +12,8 @@ use Rattle.book.specs.Stamps.{AreStamped, Follows}
 use Rattle.book.specs.Loggable.{NumbersRise}
 use Rattle.book.specs.Streams.{last_number}
 use Rattle.book.specs.declared.entry.Entry.{Entry}
-use Rattle.recover_crashes.specs.Recovering.{counts, cut}
+use Rattle.recover_found.specs.Found.{up_to}
+use Rattle.recover_crashes.specs.Recovering.{cut}
 use Rattle.recover_crashes.proofs.Lists.{kept_here, left_out, none_kept, all_in_front}
 
 pub replays_front : (n : ℕ) (t : Database) (xs ys : List Entry) → Replays n t (xs ++ ys) → Replays n t xs
@@ -22,21 +24,55 @@ pub stamped_front : (xs ys : List Entry) → AreStamped (xs ++ ys) → AreStampe
 stamped_front [] ys h = tt
 stamped_front (x ∷ xs) ys h = (h.0, all_in_front (Follows x) xs ys h.1, stamped_front xs ys h.2)
 
-pub cut_begins : (durable : ℕ) (h : List Entry) → AreStamped h → (rest : List Entry) × (h ≡ cut durable h ++ rest)
-cut_begins durable [] stamped = ([], refl)
-cut_begins durable (e ∷ es) stamped = by (cut_begins durable es stamped.2) (counts durable e.tid) refl
+-- an epoch above the durable one doesn't count, and one up to it does where it isn't void
+pub above_out : (durable epoch : ℕ) (void : ℕ → Bool) → durable < epoch → up_to durable void epoch ≡ false
+above_out durable epoch void above = ap (λ (b : Bool). b && not (void epoch)) (lt-leb epoch durable above)
+
+pub alive_counts : (durable epoch : ℕ) (void : ℕ → Bool) → void epoch ≡ false → up_to durable void epoch ≡ nat_le epoch durable
+alive_counts durable epoch void alive = by (nat_le epoch durable)
   where
-    by : (rest : List Entry) × (es ≡ cut durable es ++ rest) → (b : Bool) → counts durable e.tid ≡ b
-        → (rest : List Entry) × (e ∷ es ≡ cut durable (e ∷ es) ++ rest)
-    by later true is =
-        (later.0, ap (λ (l : List Entry). e ∷ l) later.1 ∙ ap (λ (l : List Entry). l ++ later.0) (sym (kept_here (λ (d : Entry). counts durable d.tid) e es is)))
+    by : (b : Bool) → (b && not (void epoch)) ≡ b
+    by true = ap not alive
+    by false = refl
+
+-- what counts is of an epoch up to the durable one, and not void
+pub counts_low : (durable epoch : ℕ) (void : ℕ → Bool) → up_to durable void epoch ≡ true → epoch ≤ durable
+counts_low durable epoch void is = by (nat_le epoch durable) refl is
+  where
+    by : (b : Bool) → nat_le epoch durable ≡ b → (b && not (void epoch)) ≡ true → epoch ≤ durable
+    by true low _ = leb-true epoch durable low
+    by false _ never = absurd cc
+
+pub counts_alive : (durable epoch : ℕ) (void : ℕ → Bool) → up_to durable void epoch ≡ true → void epoch ≡ false
+counts_alive durable epoch void is = by (nat_le epoch durable) (void epoch) is
+  where
+    by : (a b : Bool) → (a && not b) ≡ true → b ≡ false
+    by true true never = absurd cc
+    by true false _ = refl
+    by false b never = absurd cc
+
+-- where no entry is of a void epoch, what counts is a beginning
+pub cut_begins : (durable : ℕ) (void : ℕ → Bool) (h : List Entry) → AreStamped h → All (λ e. void (epoch_of e.tid) ≡ false) h
+    → (rest : List Entry) × (h ≡ cut (up_to durable void) h ++ rest)
+cut_begins durable void [] stamped alive = ([], refl)
+cut_begins durable void (e ∷ es) stamped alive =
+    by (cut_begins durable void es stamped.2 (All-tail (λ (d : Entry). void (epoch_of d.tid) ≡ false) e es alive)) (up_to durable void (epoch_of e.tid)) refl
+  where
+    by : (rest : List Entry) × (es ≡ cut (up_to durable void) es ++ rest) → (b : Bool) → up_to durable void (epoch_of e.tid) ≡ b
+        → (rest : List Entry) × (e ∷ es ≡ cut (up_to durable void) (e ∷ es) ++ rest)
+    by later true is = (
+      later.0,
+      ap (λ (l : List Entry). e ∷ l) later.1
+          ∙ ap (λ (l : List Entry). l ++ later.0) (sym (kept_here (λ (d : Entry). up_to durable void (epoch_of d.tid)) e es is)),
+    )
     by later false is =
-        let above : durable < epoch_of e.tid = leb-false (epoch_of e.tid) durable is in
-        let none : All (λ (d : Entry). counts durable d.tid ≡ false) es
-        = λ k d lt. lt-leb _ durable (omega (arith, above, (stamped.1 k d lt).epochs)) in (
+        let above : durable < epoch_of e.tid
+        = leb-false (epoch_of e.tid) durable (sym (alive_counts durable (epoch_of e.tid) void (All-head (λ (d : Entry). void (epoch_of d.tid) ≡ false) e es alive)) ∙ is) in
+        let none : All (λ (d : Entry). up_to durable void (epoch_of d.tid) ≡ false) es
+        = λ k d lt. above_out durable _ void (omega (arith, above, (stamped.1 k d lt).epochs)) in (
           e ∷ es,
           ap (λ (l : List Entry). l ++ (e ∷ es))
-              (sym (left_out (λ (d : Entry). counts durable d.tid) e es is ∙ none_kept (λ (d : Entry). counts durable d.tid) es none)),
+              (sym (left_out (λ (d : Entry). up_to durable void (epoch_of d.tid)) e es is ∙ none_kept (λ (d : Entry). up_to durable void (epoch_of d.tid)) es none)),
         )
 
 -- ---- commit numbers

@@ -12,7 +12,7 @@ use Rattle.tables.specs.Sizes.{IsScale}
 use Rattle.tidword.specs.TidWord.{epoch_of}
 use Rattle.log_disk.specs.Crashes.{MayLeave}
 use Rattle.log_header.specs.Header.{HeaderView}
-use Rattle.log_text.specs.Bodies.{BodyView, body_after, bodies_after, start}
+use Rattle.log_text.specs.Bodies.{BodyView, entries_in, body_after, bodies_after, start}
 use Rattle.log_text.specs.File.{IsFile}
 use Rattle.book.specs.Batches.{BatchView, IsBatch}
 use Rattle.book.specs.Streams.{last_number}
@@ -24,11 +24,11 @@ use Rattle.log_text.proofs.OneFile.{after_push}
 use Rattle.logfile.specs.Standing.{LogFileView, Stands}
 use Rattle.recover_crashes.specs.World.{DiskView, Stage, BatchTaken, TextWritten, TextSynced, GateOpened, DeviceFailed, Flight, Idle, Flying, Logger}
 use Rattle.recover_crashes.specs.Events.{IsCalled, text_of, on_disk, with_batch, called}
-use Rattle.recover_crashes.specs.Recovering.{last_mark, entries_of}
+use Rattle.recover_found.specs.Found.{last_mark, entries_of}
 use Rattle.recover_crashes.proofs.Histories.{last_number_rises, last_number_joined}
 use Rattle.recover_crashes.proofs.Marks.{last_is}
 use Rattle.recover_crashes.proofs.Disks.{FitsDisk, IsFlying, takes, text_is_written, text_is_synced, gate_is_opened}
-use Rattle.recover_crashes.proofs.Disks.{batch_is_there, has_failed, with_or_without}
+use Rattle.recover_crashes.proofs.Disks.{body_is_there, has_failed, with_or_without}
 
 -- the entries of batches, and of the one under way
 abbrev pub taken : List BatchView → List Entry
@@ -47,7 +47,7 @@ IsAbove mark e = mark < epoch_of e.tid
 -- a batch that is under way: it goes on where the file ends, and what waits is above its mark
 pub record IsNext (found : ℕ) (waiting : List Entry) (batch : BatchView) (file : LogFileView DiskView) : Type 0 where
   pub is_batch : IsBatch batch
-  pub continues : Continues file.header file.count file.last batch
+  pub continues : Continues file.header file.count file.number file.last batch
   pub low : batch.mark < found
   pub above : All (IsAbove batch.mark) waiting
 
@@ -63,7 +63,7 @@ pub record FitsLane (h : HeaderView) (past found : ℕ) (entries : List Entry) (
   pub waiting : List Entry
   pub all : entries ≡ taken landed ++ (flying flight ++ waiting)
   pub count : file.count ≡ length (taken landed)
-  pub number : file.last.number ≤ last_number past (taken landed)
+  pub number : file.number ≤ last_number past (taken landed)
   pub logged : entries_of (bodies_of landed) ≡ map (logged_entry h.scale) (taken landed)
   pub near : file.last.epoch ≤ file.last.mark + 1
   pub low : file.last.mark < found
@@ -130,19 +130,19 @@ module _ (h : HeaderView) (past found : ℕ) (entries : List Entry) (old : List 
 -- ---- an idle logger is given all that waits
 pub all_that_waits : (h : HeaderView) (past found : ℕ) (entries : List Entry) (old : List BodyView) (landed : List BatchView) (file : LogFileView DiskView)
     (local : ℕ) (batch : BatchView) → (lane : FitsLane h past found entries old landed file Idle local)
-    → Continues file.header file.count file.last batch → batch.entries ≡ drop batch.first entries → batch.entries ≡ lane.waiting
+    → Continues file.header file.count file.number file.last batch → batch.entries ≡ drop batch.first entries → batch.entries ≡ lane.waiting
 all_that_waits h past found entries old landed file local batch lane continues rest =
     rest ∙ (λ i. drop ((continues.first ∙ lane.count) i) (lane.all i)) ∙ drop-append_seam (taken landed) lane.waiting
 
 pub lane_takes : (h : HeaderView) (past found : ℕ) (entries : List Entry) (old : List BodyView) (landed : List BatchView) (file : LogFileView DiskView)
     (local : ℕ) (batch : BatchView) → FitsLane h past found entries old landed file Idle local → IsBatch batch
-    → Continues file.header file.count file.last batch → batch.entries ≡ drop batch.first entries
+    → Continues file.header file.count file.number file.last batch → batch.entries ≡ drop batch.first entries
     → FitsLane h past (batch.mark + 1) entries old landed file (Flying BatchTaken batch) local
 lane_takes h past found entries old landed file local batch lane is continues rest =
     let waits = all_that_waits h past found entries old landed file local batch lane continues rest in
     record {
       header = lane.header;
-      disk = takes h (old ++ bodies_of landed) batch file lane.disk;
+      disk = takes h (old ++ bodies_of landed) (body_of_batch batch) file lane.disk;
       waiting = [];
       all = lane.all ∙ ap (λ (l : List Entry). taken landed ++ l) (sym waits ∙ sym (append-nil batch.entries));
       count = lane.count;
@@ -167,12 +167,12 @@ module _ (h : HeaderView) (past found : ℕ) (entries : List Entry) (old : List 
     scale : batch.scale ≡ h.scale
     scale = lane.next.continues.scale ∙ ap (λ (x : HeaderView). x.scale) lane.header
 
-    continues : Continues h file.count file.last batch
-    continues = subst (λ (x : HeaderView). Continues x file.count file.last batch) lane.header lane.next.continues
+    continues : Continues h file.count file.number file.last batch
+    continues = subst (λ (x : HeaderView). Continues x file.count file.number file.last batch) lane.header lane.next.continues
 
     -- the batch's body may follow
     pub after : body_after h file.last (body_of_batch batch) ≡ Some (behind_batch file.last batch)
-    after = batch_follows h file.count file.last batch lane.next.is_batch continues lane.near (subst IsScale (sym scale) lane.disk.placed.header.scale)
+    after = batch_follows h file.count file.number file.last batch lane.next.is_batch continues lane.near (subst IsScale (sym scale) lane.disk.placed.header.scale)
 
     taken_landed : taken landed ++ batch.entries ≡ taken (landed ++ batch ∷ [])
     taken_landed = ap (λ (l : List Entry). taken landed ++ l) (sym (append-nil batch.entries))
@@ -185,7 +185,7 @@ module _ (h : HeaderView) (past found : ℕ) (entries : List Entry) (old : List 
     pub logged_landed : entries_of (bodies_of (landed ++ batch ∷ [])) ≡ map (logged_entry h.scale) (taken (landed ++ batch ∷ []))
     logged_landed =
         ap entries_of (map-append body_of_batch landed (batch ∷ []))
-        ∙ flat_map-append (λ (b : BodyView). b.entries) (bodies_of landed) (body_of_batch batch ∷ [])
+        ∙ flat_map-append entries_in (bodies_of landed) (body_of_batch batch ∷ [])
         ∙ (λ i. lane.logged i ++ append-nil (map (logged_entry (scale i)) batch.entries) i)
         ∙ sym (map-append (logged_entry h.scale) (taken landed) batch.entries)
         ∙ ap (map (logged_entry h.scale)) taken_landed
@@ -196,7 +196,7 @@ module _ (h : HeaderView) (past found : ℕ) (entries : List Entry) (old : List 
 
     -- another disk, and the batch at this stage
     pub lane_moves : (next : Stage) (disk : DiskView) (failed : Bool)
-        → IsFlying h (old ++ bodies_of landed) next batch (record file { disk = disk; failed = failed })
+        → IsFlying h (old ++ bodies_of landed) next (body_of_batch batch) (record file { disk = disk; failed = failed })
         → FitsLane h past found entries old landed (record file { disk = disk; failed = failed }) (Flying next batch) local
     lane_moves next disk failed flies = record {
       header = lane.header;
@@ -215,11 +215,11 @@ module _ (h : HeaderView) (past found : ℕ) (entries : List Entry) (old : List 
 
     -- the batch is in the file
     pub lane_lands : (disk : DiskView)
-        → Stands h ((old ++ bodies_of landed) ++ body_of_batch batch ∷ []) (file.end + length (text_of batch)) (behind_batch file.last batch) disk.seen
+        → Stands h ((old ++ bodies_of landed) ++ body_of_batch batch ∷ []) (file.end + length (text_of (body_of_batch batch))) (behind_batch file.last batch) disk.seen
         disk.story → FitsLane h past found entries old (landed ++ batch ∷ []) (with_batch (on_disk file disk) batch) Idle local
     lane_lands disk there = record {
       header = lane.header;
-      disk = subst (λ (l : List BodyView). Stands h l (file.end + length (text_of batch)) (behind_batch file.last batch) disk.seen disk.story)
+      disk = subst (λ (l : List BodyView). Stands h l (file.end + length (text_of (body_of_batch batch))) (behind_batch file.last batch) disk.seen disk.story)
           bodies_landed there;
       waiting = lane.waiting;
       all = all_landed;
@@ -229,9 +229,9 @@ module _ (h : HeaderView) (past found : ℕ) (entries : List Entry) (old : List 
         length-append (taken landed) batch.entries,
         ap length taken_landed,
       );
-      number = subst (λ (l : List Entry). last_number file.last.number batch.entries ≤ last_number past l) taken_landed
-          (subst (λ (n : ℕ). last_number file.last.number batch.entries ≤ n) (sym (last_number_joined past (taken landed) batch.entries))
-          (last_number_rises file.last.number (last_number past (taken landed)) batch.entries lane.number));
+      number = subst (λ (l : List Entry). last_number file.number batch.entries ≤ last_number past l) taken_landed
+          (subst (λ (n : ℕ). last_number file.number batch.entries ≤ n) (sym (last_number_joined past (taken landed) batch.entries))
+          (last_number_rises file.number (last_number past (taken landed)) batch.entries lane.number));
       logged = logged_landed;
       near = batch_near file.last batch lane.next.is_batch lane.next.continues.mark_before lane.near;
       low = lane.next.low;
@@ -243,35 +243,35 @@ module _ (h : HeaderView) (past found : ℕ) (entries : List Entry) (old : List 
 -- what a call of the device makes of a logger
 pub lane_called : (h : HeaderView) (past found : ℕ) (entries : List Entry) (old : List BodyView) (landed : List BatchView) (x : Logger) (stage : Stage)
     (batch : BatchView) (result : Result (Unit {0}) Refusal) (disk : DiskView) → FitsLane h past found entries old landed x.file (Flying stage batch) x.local
-    → IsCalled stage batch x.file result disk
+    → IsCalled stage (body_of_batch batch) x.file result disk
     → let y : Logger = called (Flying stage batch) result (on_disk x.file disk) x in
     FitsLane h past found entries old (landed_by (Flying stage batch) result landed) y.file y.flight y.local
 lane_called h past found entries old landed x BatchTaken batch (Ok u) disk lane call =
     lane_moves h past found entries old landed x.file BatchTaken batch x.local lane TextWritten disk x.file.failed
-    (text_is_written h (old ++ bodies_of landed) batch x.file disk u lane.disk call)
+    (text_is_written h (old ++ bodies_of landed) (body_of_batch batch) x.file disk u lane.disk call)
 lane_called h past found entries old landed x TextWritten batch (Ok u) disk lane call =
     lane_moves h past found entries old landed x.file TextWritten batch x.local lane TextSynced disk x.file.failed
-    (text_is_synced h (old ++ bodies_of landed) batch x.file disk u lane.disk call)
+    (text_is_synced h (old ++ bodies_of landed) (body_of_batch batch) x.file disk u lane.disk call)
 lane_called h past found entries old landed x TextSynced batch (Ok u) disk lane call =
     lane_moves h past found entries old landed x.file TextSynced batch x.local lane GateOpened disk x.file.failed
-    (gate_is_opened h (old ++ bodies_of landed) batch x.file disk u lane.disk call)
+    (gate_is_opened h (old ++ bodies_of landed) (body_of_batch batch) x.file disk u lane.disk call)
 lane_called h past found entries old landed x GateOpened batch (Ok u) disk lane call =
     lane_lands h past found entries old landed x.file GateOpened batch x.local lane disk
-    (batch_is_there h (old ++ bodies_of landed) batch x.file disk u (behind_batch x.file.last batch) lane.disk call
+    (body_is_there h (old ++ bodies_of landed) (body_of_batch batch) x.file disk u (behind_batch x.file.last batch) lane.disk call
     (after h past found entries old landed x.file GateOpened batch x.local lane))
 lane_called h past found entries old landed x DeviceFailed batch (Ok u) disk lane call = absurd call
 lane_called h past found entries old landed x BatchTaken batch (Err refusal) disk lane call =
     lane_moves h past found entries old landed x.file BatchTaken batch x.local lane DeviceFailed disk true
-    (has_failed h (old ++ bodies_of landed) batch x.file disk BatchTaken refusal lane.disk call)
+    (has_failed h (old ++ bodies_of landed) (body_of_batch batch) x.file disk BatchTaken refusal lane.disk call)
 lane_called h past found entries old landed x TextWritten batch (Err refusal) disk lane call =
     lane_moves h past found entries old landed x.file TextWritten batch x.local lane DeviceFailed disk true
-    (has_failed h (old ++ bodies_of landed) batch x.file disk TextWritten refusal lane.disk call)
+    (has_failed h (old ++ bodies_of landed) (body_of_batch batch) x.file disk TextWritten refusal lane.disk call)
 lane_called h past found entries old landed x TextSynced batch (Err refusal) disk lane call =
     lane_moves h past found entries old landed x.file TextSynced batch x.local lane DeviceFailed disk true
-    (has_failed h (old ++ bodies_of landed) batch x.file disk TextSynced refusal lane.disk call)
+    (has_failed h (old ++ bodies_of landed) (body_of_batch batch) x.file disk TextSynced refusal lane.disk call)
 lane_called h past found entries old landed x GateOpened batch (Err refusal) disk lane call =
     lane_moves h past found entries old landed x.file GateOpened batch x.local lane DeviceFailed disk true
-    (has_failed h (old ++ bodies_of landed) batch x.file disk GateOpened refusal lane.disk call)
+    (has_failed h (old ++ bodies_of landed) (body_of_batch batch) x.file disk GateOpened refusal lane.disk call)
 lane_called h past found entries old landed x DeviceFailed batch (Err refusal) disk lane call = absurd call
 
 -- ---- a crash
@@ -329,4 +329,4 @@ module _ (h : HeaderView) (past found : ℕ) (entries : List Entry) (old : List 
             kept = omega (arith, lane.kept, lane.next.continues.mark_before, lane.next.is_batch.marks_rise, mark);
           },
         ))
-        (with_or_without h (old ++ bodies_of landed) stage batch file (behind_batch file.last batch) lane.disk follows bytes may)
+        (with_or_without h (old ++ bodies_of landed) stage (body_of_batch batch) file (behind_batch file.last batch) lane.disk follows bytes may)

@@ -1,10 +1,11 @@
 pub mod Lists
-mod Marks
+pub mod Marks
 pub mod Histories
+pub mod Joins
 pub mod Holding
-mod Disks
-mod Lanes
+pub mod Disks
+pub mod Lanes
 mod Batches
-mod Sound
-mod Opened
-mod Crashed
+pub mod Sound
+pub mod Opened
+pub mod Crashed

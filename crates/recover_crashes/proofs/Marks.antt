@@ -2,17 +2,20 @@
 use Rattle.std.proofs.Common.{◌≡◌, ℕ, Some, List, [], ◌∷◌, sym, ap, ◌∙◌}
 use Rattle.log_codec.proofs.Codecs.{and_then_some}
 use Rattle.log_header.specs.Header.{HeaderView}
-use Rattle.log_text.specs.Bodies.{BodyView, mark_of, entries_in, marked, entries_after, body_after, bodies_after}
+use Rattle.log_text.specs.Bodies.{BodyView, Entries, Void, mark_of, marked, entries_after, body_after, bodies_after}
 use Rattle.log_text.specs.declared.last.Last.{Last}
 use Rattle.log_text.proofs.Texts.{some_is}
 use Rattle.log_text.proofs.Lawful.{through}
-use Rattle.recover_crashes.specs.Recovering.{last_mark}
+use Rattle.recover_found.specs.Found.{last_mark}
 
 body_mark : (h : HeaderView) (last : Last) (b : BodyView) (now : Last) → body_after h last b ≡ Some now → now.mark ≡ mark_of b
-body_mark h last b now e =
+body_mark h last (Entries mark entries) now e =
     let t = through _ _ now e in
-    let s = and_then_some (λ (l : Last). Some (marked (mark_of b) l)) (entries_after h (mark_of b) last (entries_in b)) now t.1 in
-    sym (ap (λ (l : Last). l.mark) (some_is (marked (mark_of b) s.0) now s.2))
+    let s = and_then_some (λ (l : Last). Some (marked mark l)) (entries_after h mark 0 last entries) now t.1 in
+    sym (ap (λ (l : Last). l.mark) (some_is (marked mark s.0) now s.2))
+body_mark h last (Void low high) now e =
+    let t = through _ _ now e in
+    sym (ap (λ (l : Last). l.mark) (some_is (marked high last) now t.1))
 
 pub last_is : (h : HeaderView) (first : Last) (bs : List BodyView) (last : Last) → bodies_after h first bs ≡ Some last
     → last_mark first.mark bs ≡ last.mark

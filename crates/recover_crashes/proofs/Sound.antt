@@ -17,8 +17,9 @@ use Rattle.book.specs.declared.entry.Entry.{Entry}
 use Rattle.recover_crashes.specs.World.{Life, DiskView, Stage, BatchTaken, TextWritten, TextSynced, GateOpened, DeviceFailed, Flight, Idle, Flying, Logger, World, header_of}
 use Rattle.recover_crashes.specs.Events.{Event, Commit, Take, LoadEpoch, Advance, CallDevice, Confirm, LoadMark, RaiseDurable, Release}
 use Rattle.recover_crashes.specs.Events.{MayTake, MayCall, MayHappen, with_logger, on_disk, called, confirmed, with_mark, published, world_after, MayHappenInTurn, world_after_all}
+use Rattle.recover_crashes.specs.Recovering.{IsFitForLogs}
 use Rattle.recover_crashes.proofs.Lists.{each_set, each_set_two}
-use Rattle.recover_crashes.proofs.Batches.{IsFit, is_batch}
+use Rattle.recover_crashes.proofs.Batches.{is_batch}
 use Rattle.recover_crashes.proofs.Lanes.{FitsLane, landed_by, lane_goes_on, lane_later, lane_confirmed, lane_takes, lane_called}
 
 -- the marks that a publication has loaded, newest first, are no larger than the loggers' local marks
@@ -59,10 +60,13 @@ pub record IsSound (life : Life) (old : ℕ → List BodyView) (w : World) : Typ
   pub durable : (l : ℕ) → l < life.plan.loggers → w.durable ≤ local_of w l
   pub replays : Replays (life.past + 1) life.first w.history
   pub stamped : AreStamped w.history
-  pub fit : All (IsFit life.first.scale) w.history
+  pub fit : All (IsFitForLogs life.first.scale) w.history
   pub epochs : All (λ e. epoch_of e.tid ≤ w.found) w.history
   pub ends : w.epoch ≤ last_epoch
   pub released : All (MayTell w) w.released
+  pub begun : life.plan.base < w.found
+  pub new : All (λ e. life.plan.base < epoch_of e.tid) w.history
+  pub lasting : life.plan.base ≤ w.durable
 
 module _ (life : Life) (old : ℕ → List BodyView) (w : World) (sound : IsSound life old w) where
   abbrev n : ℕ
@@ -93,6 +97,9 @@ module _ (life : Life) (old : ℕ → List BodyView) (w : World) (sound : IsSoun
         ends = sound.ends;
         released = All-weaker (MayTell w) (λ e. Contains w.history e × (epoch_of e.tid ≤ durable)) (λ e may. (may.0, omega (arith, may.1, higher)))
             w.released sound.released;
+        begun = omega (arith, sound.begun, later);
+        new = sound.new;
+        lasting = omega (arith, sound.lasting, higher);
       }
 
   pub commits : (entry : Entry) → MayHappen life w (Commit entry) → IsSound life old (world_after w (Commit entry))
@@ -109,7 +116,7 @@ module _ (life : Life) (old : ℕ → List BodyView) (w : World) (sound : IsSoun
     durable = sound.durable;
     replays = may.replays;
     stamped = may.stamped;
-    fit = All-push (IsFit life.first.scale) w.history entry sound.fit (record { cap = may.cap; asked = may.asked; loggable = may.loggable });
+    fit = All-push (IsFitForLogs life.first.scale) w.history entry sound.fit (record { cap = may.cap; asked = may.asked; loggable = may.loggable });
     epochs = All-push (λ (e : Entry). epoch_of e.tid ≤ epoch_of entry.tid) w.history entry
         (All-weaker (λ (e : Entry). epoch_of e.tid ≤ w.found) (λ (e : Entry). epoch_of e.tid ≤ epoch_of entry.tid) (λ e low. omega (arith, low, may.later))
         w.history sound.epochs)
@@ -117,6 +124,9 @@ module _ (life : Life) (old : ℕ → List BodyView) (w : World) (sound : IsSoun
     ends = sound.ends;
     released = All-weaker (MayTell w) (λ e. Contains (w.history ++ entry ∷ []) e × (epoch_of e.tid ≤ w.durable))
         (λ e tell. (Contains-append_left w.history (entry ∷ []) e tell.0, tell.1)) w.released sound.released;
+    begun = omega (arith, sound.begun, may.later);
+    new = All-push (λ (e : Entry). life.plan.base < epoch_of e.tid) w.history entry sound.new (omega (arith, sound.begun, may.later));
+    lasting = sound.lasting;
   }
 
   pub takes : (k : ℕ) (batch : BatchView) → MayTake life w k batch → IsSound life old (world_after w (Take k batch))
@@ -143,6 +153,9 @@ module _ (life : Life) (old : ℕ → List BodyView) (w : World) (sound : IsSoun
         sound.epochs;
     ends = sound.ends;
     released = sound.released;
+    begun = omega (arith, sound.begun, later);
+    new = sound.new;
+    lasting = sound.lasting;
   }
 
   pub advances : w.epoch < last_epoch → IsSound life old (record w { epoch = w.epoch + 1 })
@@ -157,6 +170,9 @@ module _ (life : Life) (old : ℕ → List BodyView) (w : World) (sound : IsSoun
     epochs = sound.epochs;
     ends = omega (arith, below);
     released = sound.released;
+    begun = sound.begun;
+    new = sound.new;
+    lasting = sound.lasting;
   }
 
   calls : (k : ℕ) (flight : Flight) (result : Result (Unit {0}) Refusal) (disk : DiskView) → k < n → (w.logger k).flight ≡ flight
@@ -220,6 +236,9 @@ module _ (life : Life) (old : ℕ → List BodyView) (w : World) (sound : IsSoun
     epochs = sound.epochs;
     ends = sound.ends;
     released = All-cons (MayTell w) entry w.released may sound.released;
+    begun = sound.begun;
+    new = sound.new;
+    lasting = sound.lasting;
   }
 
   every_event : (event : Event) → MayHappen life w event → IsSound life old (world_after w event)

@@ -7,10 +7,10 @@ use Rattle.tidword.specs.TidWord.{epoch_of}
 use Rattle.log_disk.specs.Calls.{written, WriteLeft, SyncLeft}
 use Rattle.board.specs.Words.{last_epoch}
 use Rattle.board.specs.Publishing.{IsLeastMark}
-use Rattle.log_text.specs.Bodies.{body_text}
+use Rattle.log_text.specs.Bodies.{BodyView, body_text}
 use Rattle.book.specs.History.{Replays}
 use Rattle.book.specs.Stamps.{AreStamped}
-use Rattle.book.specs.Streams.{stream}
+use Rattle.book.specs.Streams.{stream, last_number}
 use Rattle.book.specs.Batches.{BatchView}
 use Rattle.book.specs.Loggable.{IsLoggable}
 use Rattle.book.specs.declared.entry.Entry.{Entry}
@@ -51,7 +51,8 @@ pub record MayCommit (life : Life) (w : World) (entry : Entry) : Type 0 where
 pub record MayTake (life : Life) (w : World) (logger : ℕ) (batch : BatchView) : Type 0 where
   pub within : logger < life.plan.loggers
   pub idle : (w.logger logger).flight ≡ Idle
-  pub continues : Continues (w.logger logger).file.header (w.logger logger).file.count (w.logger logger).file.last batch
+  pub continues : Continues (w.logger logger).file.header (w.logger logger).file.count (w.logger logger).file.number
+      (w.logger logger).file.last batch
   pub entries : batch.entries ≡ drop batch.first (stream life.plan.loggers logger w.history)
   pub later : w.found ≤ batch.mark + 1
   pub loaded : batch.mark + 1 ≤ w.epoch
@@ -65,22 +66,22 @@ pub record IsSync (result : Result (Unit {0}) Refusal) (old new : DiskView) : Ty
   pub seen : new.seen ≡ old.seen
   pub story : SyncLeft result old.seen old.story new.story
 
--- a batch's text: its body, and a closed gate behind it
-abbrev pub text_of : BatchView → List ℕ
-text_of batch = body_text (body_of_batch batch) ++ 0 ∷ []
+-- the text that one append writes: its body, and a closed gate behind it
+abbrev pub text_of : BodyView → List ℕ
+text_of body = body_text body ++ 0 ∷ []
 
 -- the call of the device that comes next: the text is written behind the gate that ends the file's, and synced; then
 -- that gate is written as 1, and synced
-abbrev pub IsCalled : Stage → BatchView → LogFileView DiskView → Result (Unit {0}) Refusal → DiskView → Type 0
-IsCalled BatchTaken batch file result disk = IsWrite (file.end + 1) (text_of batch) result file.disk disk
-IsCalled TextWritten batch file result disk = IsSync result file.disk disk
-IsCalled TextSynced batch file result disk = IsWrite file.end (1 ∷ []) result file.disk disk
-IsCalled GateOpened batch file result disk = IsSync result file.disk disk
-IsCalled DeviceFailed batch file result disk = ⊥
+abbrev pub IsCalled : Stage → BodyView → LogFileView DiskView → Result (Unit {0}) Refusal → DiskView → Type 0
+IsCalled BatchTaken body file result disk = IsWrite (file.end + 1) (text_of body) result file.disk disk
+IsCalled TextWritten body file result disk = IsSync result file.disk disk
+IsCalled TextSynced body file result disk = IsWrite file.end (1 ∷ []) result file.disk disk
+IsCalled GateOpened body file result disk = IsSync result file.disk disk
+IsCalled DeviceFailed body file result disk = ⊥
 
 abbrev pub MayCall : Flight → LogFileView DiskView → Result (Unit {0}) Refusal → DiskView → Type 0
 MayCall Idle file result disk = ⊥
-MayCall (Flying stage batch) file result disk = IsCalled stage batch file result disk
+MayCall (Flying stage batch) file result disk = IsCalled stage (body_of_batch batch) file result disk
 
 -- where each event may happen
 abbrev pub MayHappen : Life → World → Event → Type 0
@@ -107,9 +108,10 @@ on_disk file disk = record file { disk = disk }
 
 abbrev pub with_batch : LogFileView DiskView → BatchView → LogFileView DiskView
 with_batch file batch = record file {
-  end = file.end + length (text_of batch);
+  end = file.end + length (text_of (body_of_batch batch));
   last = behind_batch file.last batch;
   count = file.count + length batch.entries;
+  number = last_number file.number batch.entries;
 }
 
 -- a logger whose call was done, and one whose call failed

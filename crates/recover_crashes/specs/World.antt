@@ -1,10 +1,11 @@
--- The world in which crashes happen: a life of the engine, from the making of its log files on. The book's history, the
--- board's words, and the loggers with their disks.
-use Rattle.std.specs.Prelude.{◌≡◌, ℕ, ◌+◌, ◌<◌, List, []}
+-- The world in which crashes happen: a life of the engine, from the making of its log files on, or from a restart on
+-- files that stand already. The book's history, the board's words, and the loggers with their disks.
+use Rattle.std.specs.Prelude.{◌≡◌, ℕ, ◌+◌, ◌<◌, ◌≤◌, List, []}
 use Rattle.tables.specs.Database.{Database}
 use Rattle.board.specs.declared.rule.Plan.{Plan}
 use Rattle.log_disk.specs.Calls.{Call}
 use Rattle.log_header.specs.Header.{HeaderView, header_view}
+use Rattle.log_text.specs.Bodies.{BodyView}
 use Rattle.book.specs.Batches.{BatchView}
 use Rattle.book.specs.declared.entry.Entry.{Entry}
 use Rattle.logfile.specs.Standing.{LogFileView, Stands}
@@ -69,14 +70,17 @@ opening plan files = record {
   logger = λ l. record { file = files l; flight = Idle; local = plan.base; marks = [] };
 }
 
--- a log file as `create` gives it
-pub record IsCreated (h : HeaderView) (file : LogFileView DiskView) : Type 0 where
+-- a log file as it is opened behind these bodies, of a disk that was synced: to it nothing is appended yet
+pub record IsOpened (h : HeaderView) (bodies : List BodyView) (file : LogFileView DiskView) : Type 0 where
   pub header : file.header ≡ h
   pub count : file.count ≡ 0
-  pub stands : Stands h [] file.end file.last file.disk.seen file.disk.story
+  pub number : file.number ≡ 0
+  pub near : file.last.epoch ≤ file.last.mark + 1
+  pub stands : Stands h bodies file.end file.last file.disk.seen file.disk.story
 
--- the first life: no epoch is past, there is a logger, and each has its file, which was just made
+-- the first life: nothing is past, there is a logger, and each has its file, which was just made
 pub record IsFirst (life : Life) (files : ℕ → LogFileView DiskView) : Type 0 where
   pub base : life.plan.base ≡ 0
+  pub past : life.past ≡ 0
   pub some : 0 < life.plan.loggers
-  pub created : (l : ℕ) → l < life.plan.loggers → IsCreated (header_of life l) (files l)
+  pub created : (l : ℕ) → l < life.plan.loggers → IsOpened (header_of life l) [] (files l)

@@ -1,14 +1,14 @@
--- What a crash leaves of log files is what is rebuilt.
-use Rattle.std.proofs.Common.{◌≡◌, ◌⊎◌, inl, inr, ⊎_elim, ℕ, zero, suc, ◌+◌, ◌<◌, ◌≤◌, Bool, true, false, cond, List, [], ◌∷◌, ◌++◌, map, filter, length, Option, Some, None, refl, sym, ap, ◌∙◌}
-use Rattle.std.proofs.Common.{subst, arith, append-nil}
+-- What files tell of a history is what recovery keeps of it.
+use Rattle.std.proofs.Common.{◌≡◌, ◌⊎◌, inl, inr, ⊎_elim, ℕ, zero, suc, ◌+◌, ◌<◌, ◌≤◌, Bool, true, false, ◌||◌, List, [], ◌∷◌, ◌++◌, map, length, Option, Some, None, refl, sym, ap, ◌∙◌}
+use Rattle.std.proofs.Common.{subst, arith}
 use Rattle.std.specs.Prelude.{min, nat_le, unwrap_or, slice_index_or}
-use Rattle.std.specs.List.{All, Contains}
+use Rattle.std.specs.List.{All}
 use Rattle.std.specs.Option.{option_map_or}
 use Rattle.std.proofs.lemmas.Bool.{leb-true, leb-false}
 use Rattle.std.proofs.lemmas.Int.{ints}
 use Rattle.std.proofs.lemmas.Option.{none-some, same_Some}
 use Rattle.std.proofs.lemmas.List.{get_or_default}
-use Rattle.std.proofs.lemmas.List.Elements.{All-head, All-tail}
+use Rattle.std.proofs.lemmas.List.Elements.{All-head, All-tail, All-weaker}
 use Rattle.tables.specs.Sizes.{Sizes}
 use Rattle.tables.specs.Database.{Database}
 use Rattle.tables.specs.OrderNumbers.{least}
@@ -16,30 +16,25 @@ use Rattle.tables.specs.Apply.{after}
 use Rattle.tables.specs.WellFormed.{HasRoom}
 use Rattle.tables.specs.declared.limits.TheConstants.{MAX_COMMITS}
 use Rattle.log_text.specs.Bodies.{BodyView}
-use Rattle.log_text.specs.File.{IsFile}
-use Rattle.book.specs.History.{IsLegal, Replays, replay}
+use Rattle.book.specs.History.{Replays}
+use Rattle.book.specs.Loggable.{IsLoggable}
 use Rattle.book.specs.Stamps.{AreStamped}
 use Rattle.book.specs.Streams.{stream}
 use Rattle.book.specs.declared.entry.Entry.{Entry}
 use Rattle.log_entries.specs.Logged.{logged_entry}
-use Rattle.recover_crashes.specs.World.{Life, World, header_of}
-use Rattle.recover_crashes.specs.Recovering.{HoldTheHistory, Recovers, last_mark, counts, counted, cut as up_to}
+use Rattle.recover_found.specs.Found.{last_mark, void_in, up_to, counted, durable_of, void_of, keeps}
+use Rattle.recover_found.proofs.Elements.{Has, has_from, maps}
+use Rattle.recover_crashes.specs.Recovering.{HoldTheHistory, IsDurable, IsFitForLogs, Tell, is_void, counts_in, cut}
 use Rattle.recover_crashes.proofs.Histories.{cut_begins}
 use Rattle.recover_crashes.proofs.Holding.{held_up_to}
-use Rattle.recover_laws.specs.Found.{durable_of, durable_cut}
-use Rattle.recover_laws.specs.Recovered.{HoldTheCut, IsHistoryOf, GiveTheReplay, IsFirstLife, LeavesTheReplay}
-use Rattle.recover_laws.proofs.Elements.{Has, has_from, maps}
+use Rattle.recover_laws.specs.Found.{durable_cut, listed}
+use Rattle.recover_laws.specs.Recovered.{HoldTheCut, IsHistoryOf, IsFirstDatabase}
 
--- the first values of a function, as a list
-abbrev listed : {X : Type 0} → ℕ → (ℕ → X) → List X
-listed zero f = []
-listed (suc n) f = f zero ∷ listed n (λ l. f (suc l))
-
-length_listed : {X : Type 0} (n : ℕ) (f : ℕ → X) → length (listed n f) ≡ n
+pub length_listed : {X : Type 0} (n : ℕ) (f : ℕ → X) → length (listed n f) ≡ n
 length_listed zero f = refl
 length_listed (suc n) f = let rest = length_listed n (λ l. f (suc l)) in omega (arith, rest)
 
-listed_at : {X : Type 0} (n : ℕ) (f : ℕ → X) (l : ℕ) (d : X) → l < n → slice_index_or (listed n f) l d ≡ f l
+pub listed_at : {X : Type 0} (n : ℕ) (f : ℕ → X) (l : ℕ) (d : X) → l < n → slice_index_or (listed n f) l d ≡ f l
 listed_at zero f l d h = absurd (omega (arith, h))
 listed_at (suc n) f zero d h = refl
 listed_at (suc n) f (suc l) d h = listed_at n (λ k. f (suc k)) l d (omega (arith, h))
@@ -96,14 +91,6 @@ least_low (x ∷ xs) y h = by (least xs) refl (least_low xs y)
     by (Some k) some rest = ⊎_elim (λ (e : x ≡ y). omega (arith, e))
         (λ m. let low = rest m in let is : unwrap_or (least xs) 0 ≡ k = ap (λ o. unwrap_or o 0) some in omega (arith, low, is)) h
 
--- what was kept once is kept again
-filter_again : {X : Type 0} (p : X → Bool) (xs : List X) → filter p (filter p xs) ≡ filter p xs
-filter_again p [] = refl
-filter_again p (x ∷ xs) = elim (p x) as (λ b. p x ≡ b → filter p (cond b (x ∷ filter p xs) (filter p xs)) ≡ cond b (x ∷ filter p xs) (filter p xs)) [
-  | true ↦ λ t. ap (λ b. cond b (x ∷ filter p (filter p xs)) (filter p (filter p xs))) t ∙ ap (λ l. x ∷ l) (filter_again p xs)
-  | false ↦ λ _. filter_again p xs
-] refl
-
 -- numbers up to a cap are no more than it
 no_more : (n cap : ℕ) (t : Database) (es : List Entry) → Replays n t es → All (λ (e : Entry). e.number ≤ cap) es → n ≤ cap + 1 → n + length es ≤ cap + 1
 no_more n cap t [] h capped low = omega (arith, low)
@@ -126,85 +113,73 @@ less_room n m t h room = record {
   remote_orders = λ k r e. let x = room.remote_orders k r e in omega (arith, h, x);
 }
 
-module _ (life : Life) (w : World) (strings : ℕ → List ℕ) (first : IsFirstLife life) (some : 0 < life.plan.loggers) (r : Recovers life w strings) where
-  abbrev n : ℕ
-  n = life.plan.loggers
+-- ---- files by number, and as a list
+-- a void range of one file is void for all, however they are given
+void_listed : (n : ℕ) (files : ℕ → List BodyView) (epoch : ℕ) → void_of (listed n files) epoch ≡ is_void n files epoch
+void_listed zero files epoch = refl
+void_listed (suc n) files epoch = ap (λ (b : Bool). void_in (files zero) epoch || b) (void_listed n (λ l. files (suc l)) epoch)
 
+void_by_number : (files : List (List BodyView)) (epoch : ℕ) → is_void (length files) (λ l. slice_index_or files l []) epoch ≡ void_of files epoch
+void_by_number [] epoch = refl
+void_by_number (bodies ∷ files) epoch = ap (λ (b : Bool). void_in bodies epoch || b) (void_by_number files epoch)
+
+pub durable_listed : (n : ℕ) (files : ℕ → List BodyView) (durable : ℕ) → IsDurable n files durable → durable_of (listed n files) ≡ durable
+durable_listed n files durable is =
+    ap (λ (l : List ℕ). unwrap_or (least l) 0) (map_listed (last_mark 0) n files)
+    ∙ least_is (listed n (λ l. last_mark 0 (files l))) durable
+    (subst (Has (listed n (λ l. last_mark 0 (files l)))) is.among.2 (has_listed n (λ l. last_mark 0 (files l)) is.among.0 is.among.1))
+    (λ y h. let found = listed_has n (λ l. last_mark 0 (files l)) y h in subst (λ (m : ℕ). durable ≤ m) found.2 (is.least found.0 found.1))
+
+-- which epochs count
+pub keeps_listed : (n : ℕ) (files : ℕ → List BodyView) (durable : ℕ) → IsDurable n files durable
+    → keeps (listed n files) ≡ counts_in n files durable
+keeps_listed n files durable is = λ i epoch. up_to (durable_listed n files durable is i) (λ e. void_listed n files e i) epoch
+
+-- ---- what files tell of a history is what recovery keeps of it
+module _ (t0 : Database) (n : ℕ) (files : ℕ → List BodyView) (durable : ℕ) (history released : List Entry)
+    (tell : Tell t0 n files durable history released) where
   abbrev left : List (List BodyView)
-  left = listed n r.left
+  left = listed n files
 
-  abbrev front : List Entry
-  front = up_to r.durable w.history
+  abbrev counts : ℕ → Bool
+  counts = counts_in n files durable
 
-  marks : durable_of left ≡ r.durable
-  marks =
-      ap (λ (l : List ℕ). unwrap_or (least l) 0) (map_listed (last_mark 0) n r.left)
-      ∙ least_is (listed n (λ l. last_mark 0 (r.left l))) r.durable
-      (subst (Has (listed n (λ l. last_mark 0 (r.left l)))) r.is_durable.among.2
-      (has_listed n (λ l. last_mark 0 (r.left l)) r.is_durable.among.0 r.is_durable.among.1))
-      (λ y h. let found = listed_has n (λ l. last_mark 0 (r.left l)) y h in
-      subst (λ (m : ℕ). r.durable ≤ m) found.2 (r.is_durable.least found.0 found.1))
+  counts_are : keeps left ≡ counts
+  counts_are = keeps_listed n files durable tell.is_durable
 
-  cut_is : durable_cut left w.history ≡ front
-  cut_is = ap (λ (d : ℕ). up_to d w.history) marks
+  pub cut_is : durable_cut left history ≡ cut counts history
+  cut_is = ap (λ (c : ℕ → Bool). cut c history) counts_are
 
-  cut_again : durable_cut left front ≡ front
-  cut_again = ap (λ (d : ℕ). up_to d front) marks ∙ filter_again (λ (e : Entry). counts r.durable e.tid) w.history
-
-  count : length left ≡ n
-  count = length_listed n r.left
-
-  holds : HoldTheCut life.first.scale left front
-  holds = record {
-    rest = [];
-    beginning = sym (append-nil (durable_cut left front) ∙ cut_again);
-    same = λ l lt.
-        let within : l < n = omega (arith, lt, count) in
-        (λ i. counted (marks i) (listed_at n r.left l [] within i))
-        ∙ r.held l within
-        ∙ (λ i. map (logged_entry life.first.scale) (stream (sym count i) l (sym cut_again i)));
-  }
-
-  replays : Replays 1 life.first front
-  replays = subst (λ (m : ℕ). Replays (m + 1) life.first front) first.past r.legal.replays
-
-  is_history : IsHistoryOf life.first front
-  is_history = record {
-    scale = first.scale;
-    well_formed = first.well_formed;
-    consistent = first.consistent;
-    room = less_room (length front) MAX_COMMITS life.first
-        (let most = no_more 1 life.first.scale.commits life.first front replays r.capped (omega arith) in omega (arith, most, first.scale.commits.1)) first.room;
-    replays = replays;
-    stamped = r.stamped;
-    loggable = r.loggable;
-  }
-
-  pub leaves : GiveTheReplay life.first left front → LeavesTheReplay life w strings
-  leaves give = record {
-    left = left;
-    count = count;
-    files = λ l lt. subst (IsFile (strings l) (header_of life l)) (sym (listed_at n r.left l [] lt)) (r.files l lt);
-    no_less = omega (arith, r.no_less, marks);
-    rest = r.rest;
-    beginning = r.beginning ∙ ap (λ (es : List Entry). es ++ r.rest) (sym cut_is);
-    legal = subst (λ (es : List Entry). IsLegal life.past life.first es (replay life.first es)) (sym cut_is) r.legal;
-    give = record {
-      as_many = give.as_many ∙ ap length (cut_again ∙ sym cut_is);
-      no_gap = give.no_gap;
-      is_replay = λ t h. give.is_replay t h ∙ ap (replay life.first) (cut_again ∙ sym cut_is);
-    };
-    released = subst (λ (es : List Entry). All (Contains es) w.released) (sym cut_is) r.released;
-  }
+  pub count : length left ≡ n
+  count = length_listed n files
 
   pub some_left : 0 < length left
-  some_left = omega (arith, some, count)
+  some_left = let among = tell.is_durable.among.1 in omega (arith, among, count)
 
-  pub held : HoldTheCut life.first.scale left front
-  held = holds
+  pub holds : HoldTheCut t0.scale left history
+  holds = record {
+    rest = tell.rest;
+    beginning = tell.beginning ∙ ap (λ (es : List Entry). es ++ tell.rest) (sym cut_is);
+    same = λ l lt.
+        let within : l < n = omega (arith, lt, count) in
+        (λ i. counted (counts_are i) (listed_at n files l [] within i))
+        ∙ tell.held l within
+        ∙ (λ i. map (logged_entry t0.scale) (stream (sym count i) l (sym cut_is i)));
+  }
 
-  pub history : IsHistoryOf life.first front
-  history = is_history
+  pub is_history : IsFirstDatabase t0 → IsHistoryOf t0 history
+  is_history begins = record {
+    scale = begins.scale;
+    well_formed = begins.well_formed;
+    consistent = begins.consistent;
+    room = less_room (length history) MAX_COMMITS t0
+        (let most = no_more 1 t0.scale.commits t0 history tell.replays
+        (All-weaker (IsFitForLogs t0.scale) (λ (e : Entry). e.number ≤ t0.scale.commits) (λ e fit. fit.cap) history tell.fit) (omega arith) in
+        omega (arith, most, begins.scale.commits.1)) begins.room;
+    replays = tell.replays;
+    stamped = tell.stamped;
+    loggable = All-weaker (IsFitForLogs t0.scale) (IsLoggable t0.scale) (λ e fit. fit.loggable) history tell.fit;
+  }
 
 -- the durable epoch is no later than the last mark of any file
 durable_low : (files : List (List BodyView)) (l : ℕ) → l < length files → durable_of files ≤ last_mark 0 (slice_index_or files l [])
@@ -216,9 +191,15 @@ durable_low files l lt =
 pub hold_the_cut : (s : Sizes) (files : List (List BodyView)) (history : List Entry) → AreStamped history
     → HoldTheHistory s (length files) (λ l. slice_index_or files l []) history → HoldTheCut s files history
 hold_the_cut s files history stamped hold =
-    let front = cut_begins (durable_of files) history stamped in
+    let by_number : ℕ → List BodyView = λ l. slice_index_or files l [] in
+    let counts_are : counts_in (length files) by_number (durable_of files) ≡ keeps files
+    = λ i epoch. up_to (durable_of files) (λ e. void_by_number files e i) epoch in
+    let front = cut_begins (durable_of files) (is_void (length files) by_number) history stamped hold.alive in
     record {
       rest = front.0;
-      beginning = front.1;
-      same = λ l lt. held_up_to s (length files) l (durable_of files) (slice_index_or files l []) history (hold l lt) (durable_low files l lt);
+      beginning = front.1 ∙ ap (λ (c : ℕ → Bool). cut c history ++ front.0) counts_are;
+      same = λ l lt.
+          (λ i. counted (sym counts_are i) (by_number l))
+          ∙ held_up_to s (length files) l (durable_of files) (is_void (length files) by_number) (by_number l) history (hold.each l lt) (durable_low files l lt)
+          ∙ ap (λ (c : ℕ → Bool). map (logged_entry s) (stream (length files) l (cut c history))) counts_are;
     }

@@ -20,9 +20,9 @@ use Rattle.log_text.specs.Writes.{is_history}
 use Rattle.log_text.specs.declared.write.Write.{Write}
 use Rattle.log_entries.specs.Logged.{write_at, history_write, is_before_history, is_behind_history, writes_of, logged_entry}
 use Rattle.log_entries.proofs.Turns.{before_history, behind_history}
-use Rattle.recover_laws.specs.Rebuilt.{number_of, LeavesInRecord}
+use Rattle.recover_found.specs.Rebuilt.{number_of, LeavesInRecord}
 use Rattle.recover_laws.proofs.Places.{number_back}
-use Rattle.recover_laws.proofs.Elements.{Has, has_from, has_to, has_left, has_right, has_either, passed, passes, mapped, maps}
+use Rattle.recover_found.proofs.Elements.{Has, has_from, has_to, has_left, has_right, has_either, passed, passes, mapped, maps}
 
 abbrev pub Value : Type 0
 Value = ℕ × Option (List ℕ)

@@ -26,11 +26,12 @@ use Rattle.log_text.specs.Entries.{EntryView}
 use Rattle.log_entries.specs.Logged.{logged_entry}
 use Rattle.recover_crashes.proofs.Lists.{all_in_front}
 use Rattle.recover_crashes.proofs.Histories.{replays_front, stamped_front}
-use Rattle.recover_laws.specs.Found.{kept, found, durable_cut}
-use Rattle.recover_laws.specs.Rebuilt.{LeavesInRecord, IsUpTo, IsNewest, AreLeft, added_by, AreNumbered, HaveNoGap, IsRebuilt}
+use Rattle.recover_found.specs.Found.{kept, found}
+use Rattle.recover_laws.specs.Found.{durable_cut}
+use Rattle.recover_found.specs.Rebuilt.{LeavesInRecord, IsUpTo, IsNewest, AreLeft, added_by, AreNumbered, HaveNoGap, IsRebuilt}
 use Rattle.recover_laws.specs.Recovered.{HoldTheCut, IsHistoryOf}
-use Rattle.recover_laws.proofs.Elements.{Has, has_from, has_to, mapped}
-use Rattle.recover_laws.proofs.Numbered.{same_entry, same_order}
+use Rattle.recover_found.proofs.Elements.{Has, has_from, has_to, mapped}
+use Rattle.recover_found.proofs.Numbered.{same_entry, same_order}
 use Rattle.recover_laws.proofs.Parts.{parts, parts_all, files_parts}
 use Rattle.recover_laws.proofs.Logged.{leaves_value}
 use Rattle.recover_laws.proofs.Walk.{IsReached, reached}

@@ -17,8 +17,8 @@ use Rattle.book.specs.Loggable.{IsLoggable}
 use Rattle.book.specs.declared.entry.Entry.{Entry}
 use Rattle.log_text.specs.declared.write.Write.{Write}
 use Rattle.log_entries.specs.Logged.{write_at, history_words, history_write, is_before_history, is_behind_history, logged_entry}
-use Rattle.recover_laws.specs.Rebuilt.{history_of_words, rows_in, added_by}
-use Rattle.recover_laws.proofs.Elements.{Has}
+use Rattle.recover_found.specs.Rebuilt.{history_of_words, rows_in, added_by}
+use Rattle.recover_found.proofs.Elements.{Has}
 use Rattle.recover_laws.proofs.Logged.{no_history, distinct}
 
 -- a write of another table adds none

@@ -25,8 +25,8 @@ use Rattle.book.specs.Stamps.{Follows, AreStamped}
 use Rattle.book.specs.declared.entry.Entry.{Entry}
 use Rattle.log_text.specs.Entries.{EntryView}
 use Rattle.log_entries.specs.Logged.{logged_entry}
-use Rattle.recover_laws.specs.Rebuilt.{LeavesInRecord, IsUpTo, IsNewest, AreLeft, added_by}
-use Rattle.recover_laws.proofs.Elements.{Has, has_from, has_to, has_left, has_right, has_either, mapped, maps}
+use Rattle.recover_found.specs.Rebuilt.{LeavesInRecord, IsUpTo, IsNewest, AreLeft, added_by}
+use Rattle.recover_found.proofs.Elements.{Has, has_from, has_to, has_left, has_right, has_either, mapped, maps}
 use Rattle.recover_laws.proofs.Logged.{leaves_value, value_leaves}
 use Rattle.recover_laws.proofs.Rows.{added_rows}
 

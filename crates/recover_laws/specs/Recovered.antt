@@ -1,29 +1,29 @@
 -- That recovery gives a part of the history.
-use Rattle.std.specs.Prelude.{◌≡◌, ℕ, ◌<◌, ◌≤◌, List, [], ◌++◌, length, map, slice_index_or}
-use Rattle.std.specs.List.{All, Contains}
+use Rattle.std.specs.Prelude.{◌≡◌, ℕ, ◌<◌, List, [], ◌++◌, length, map, slice_index_or}
+use Rattle.std.specs.List.{All}
 use Rattle.tables.specs.Database.{Database}
 use Rattle.tables.specs.Sizes.{Sizes, IsScale}
 use Rattle.tables.specs.Conditions.{IsConsistent}
 use Rattle.tables.specs.WellFormed.{IsWellFormed, HasRoom}
 use Rattle.tables.specs.declared.limits.TheConstants.{MAX_COMMITS}
 use Rattle.log_text.specs.Bodies.{BodyView}
-use Rattle.log_text.specs.File.{IsFile}
 use Rattle.log_entries.specs.Logged.{logged_entry}
-use Rattle.book.specs.History.{IsLegal, Replays, replay}
+use Rattle.book.specs.History.{Replays, replay}
 use Rattle.book.specs.Loggable.{IsLoggable}
 use Rattle.book.specs.Stamps.{AreStamped}
 use Rattle.book.specs.Streams.{stream}
 use Rattle.book.specs.declared.entry.Entry.{Entry}
-use Rattle.recover_crashes.specs.World.{Life, World, header_of}
-use Rattle.recover_laws.specs.Found.{durable_of, kept, found, durable_cut}
-use Rattle.recover_laws.specs.Rebuilt.{HaveNoGap, IsRebuilt}
+use Rattle.recover_found.specs.Found.{kept, found}
+use Rattle.recover_found.specs.Rebuilt.{HaveNoGap, IsRebuilt}
+use Rattle.recover_laws.specs.Found.{durable_cut}
 
 -- what recovery keeps of a history is a beginning of it, and of each file what that has of the logger's stream
 pub record HoldTheCut (s : Sizes) (files : List (List BodyView)) (history : List Entry) : Type 0 where
   pub rest : List Entry
   pub beginning : history ≡ durable_cut files history ++ rest
   pub same : (l : ℕ) → l < length files
-      → kept files (slice_index_or files l []) ≡ map (logged_entry s) (stream (length files) l (durable_cut files history))
+      → kept files (slice_index_or files l [])
+      ≡ map (logged_entry s) (stream (length files) l (durable_cut files history))
 
 -- the history of a database that began with these tables: replayed from 1, stamped, and written to log files
 pub record IsHistoryOf (t0 : Database) (history : List Entry) : Type 0 where
@@ -41,24 +41,9 @@ pub record GiveTheReplay (t0 : Database) (files : List (List BodyView)) (history
   pub no_gap : HaveNoGap (found files)
   pub is_replay : (t : Database) → IsRebuilt t0 (found files) t → t ≡ replay t0 (durable_cut files history)
 
--- after a crash that leaves these strings: they are log files, whose durable epoch is no less than the board's D. The
--- entries up to it are a beginning of the history, and legal; each entry whose reply was released is among them; and the
--- files give their replay
-pub record LeavesTheReplay (life : Life) (w : World) (strings : ℕ → List ℕ) : Type 0 where
-  pub left : List (List BodyView)
-  pub count : length left ≡ life.plan.loggers
-  pub files : (l : ℕ) → l < life.plan.loggers → IsFile (strings l) (header_of life l) (slice_index_or left l [])
-  pub no_less : w.durable ≤ durable_of left
-  pub rest : List Entry
-  pub beginning : w.history ≡ durable_cut left w.history ++ rest
-  pub legal : IsLegal life.past life.first (durable_cut left w.history) (replay life.first (durable_cut left w.history))
-  pub give : GiveTheReplay life.first left w.history
-  pub released : All (Contains (durable_cut left w.history)) w.released
-
--- the tables that a first life begins with: well-formed and consistent, with room for all commits
-pub record IsFirstLife (life : Life) : Type 0 where
-  pub past : life.past ≡ 0
-  pub scale : IsScale life.first.scale
-  pub well_formed : IsWellFormed life.first
-  pub consistent : IsConsistent life.first
-  pub room : HasRoom MAX_COMMITS life.first
+-- the tables that a database begins with: well-formed and consistent, with room for all commits
+pub record IsFirstDatabase (t0 : Database) : Type 0 where
+  pub scale : IsScale t0.scale
+  pub well_formed : IsWellFormed t0
+  pub consistent : IsConsistent t0
+  pub room : HasRoom MAX_COMMITS t0

@@ -7,18 +7,15 @@ ghost use Rattle.tables.specs.Sizes.{Sizes};
 ghost use Rattle.tables.specs.Database.{Database};
 ghost use Rattle.log_text.specs.Bodies.{BodyView};
 ghost use Rattle.book.specs.declared.entry.Entry.{Entry as CommittedEntry};
-ghost use Rattle.logfile.specs.Standing.{LogFileView};
-ghost use Rattle.recover_crashes.specs.World.{Life, DiskView, IsFirst, opening};
-ghost use Rattle.recover_crashes.specs.Events.{Event, MayHappenInTurn, world_after_all};
 ghost use Rattle.book.specs.Stamps.{AreStamped};
-ghost use Rattle.recover_crashes.specs.Recovering.{Crashes, HoldTheHistory};
-ghost use Rattle.recover_laws.specs.Recovered.{IsHistoryOf, HoldTheCut, GiveTheReplay, IsFirstLife, LeavesTheReplay};
+ghost use Rattle.recover_crashes.specs.Recovering.{HoldTheHistory};
+ghost use Rattle.recover_laws.specs.Recovered.{IsHistoryOf, HoldTheCut, GiveTheReplay};
 
 use encoding::values_determine_tables;
-use recover_crashes::every_crash_recovers;
 
-/// Files that hold a history, each a beginning of its logger's stream with all up to the file's last mark, hold what
-/// counts of it: the entries up to the durable epoch. The function does nothing: its contract is the law.
+/// Files that hold a history, each in its entries that aren't void a beginning of its logger's stream with all up to
+/// the file's last mark, hold what counts of it: the entries up to the durable epoch. The function does nothing: its
+/// contract is the law.
 pub fn files_hold_the_cut()
     ensures { (s : Sizes) (files : List (List BodyView)) (history : List CommittedEntry)
         → AreStamped history → HoldTheHistory s (length files) (λ l. slice_index_or files l []) history
@@ -33,17 +30,4 @@ pub fn rebuilt_tables_are_the_replay()
         → GiveTheReplay t0 files history }
 {
     values_determine_tables();
-}
-
-/// Whatever happens in the first life of a database, and whatever a crash then leaves of its log files: tables that
-/// are rebuilt of these are the replay of a beginning of the history, legal and with each entry whose reply was released
-/// (Silo, section 4.10). The function does nothing: its contract is the law.
-pub fn every_crash_leaves_the_replay()
-    ensures { (life : Life) (files : ℕ → LogFileView DiskView) (events : List Event) (strings : ℕ → List ℕ)
-        → IsFirstLife life → IsFirst life files → MayHappenInTurn life (opening life.plan files) events
-        → Crashes life (world_after_all (opening life.plan files) events) strings
-        → LeavesTheReplay life (world_after_all (opening life.plan files) events) strings }
-{
-    every_crash_recovers();
-    rebuilt_tables_are_the_replay();
 }

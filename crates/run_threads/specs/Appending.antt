@@ -1,6 +1,7 @@
 -- What a logger does with the batches that it takes (Silo, section 4.10).
 use Rattle.std.specs.Prelude.{◌≡◌, ◌+◌, ◌⊎◌, Bool, true, false, Option, Some, None, MatchOption, length}
 use Rattle.book.specs.Batches.{BatchView}
+use Rattle.book.specs.Streams.{last_number}
 use Rattle.log_entries.specs.Following.{Continues, behind_batch}
 use Rattle.logfile.specs.Standing.{LogFileView}
 use Rattle.logger.specs.Logger.{LoggerView}
@@ -20,13 +21,15 @@ pub record IsAppenderIdle {D : Type 0} (a : AppenderView D) : Type 0 where
 pub record HasAppended {D : Type 0} (batch : BatchView) (old new : LogFileView D) : Type 0 where
   pub last : new.last ≡ behind_batch old.last batch
   pub count : new.count ≡ old.count + length batch.entries
+  pub number : new.number ≡ last_number old.number batch.entries
   pub runs : new.failed ≡ false
 
 -- the file stands where it stood, and its device has failed, or the batch doesn't begin there
 pub record AppendHasFailed {D : Type 0} (batch : BatchView) (old new : LogFileView D) : Type 0 where
   pub last : new.last ≡ old.last
   pub count : new.count ≡ old.count
-  pub cause : (new.failed ≡ true) ⊎ ¬ Continues old.header old.count old.last batch
+  pub number : new.number ≡ old.number
+  pub cause : (new.failed ≡ true) ⊎ ¬ Continues old.header old.count old.number old.last batch
 
 -- what comes of a batch: it is appended; or it waits, for want of memory, and the file is as it was; or the logger has
 -- stopped

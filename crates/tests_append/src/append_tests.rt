@@ -3,8 +3,8 @@ ghost use Rattle.std.specs.Prelude.{◌≡◌, []};
 
 use crate::filled::{Standing, filled};
 use log_disk::{FileDisk, Memory};
+use log_scan::scan;
 use log_text::{Body, read_file};
-use logfile::scan;
 use money::Refusal;
 use std::alloc::Global;
 use std::fs;
@@ -23,17 +23,26 @@ fn is_file_of(bytes: &[u8], body: &[u8]) -> bool {
 /// Payments of three batches.
 const THREE: [&[i64]; 3] = [&[100, 200], &[], &[300]];
 
-/// Of a body: its mark, how many entries it has, and the commit number of the last.
+/// Of a body: its mark, how many entries it has, and the commit number of the last (0 without one).
 type Shape = (u64, usize, u64);
 
 /// The bodies of those three batches.
 const BODIES: [Shape; 3] = [(1, 2, 2), (2, 0, 0), (3, 1, 3)];
 
+fn shape_of(body: &Body) -> Shape {
+    match body {
+        Body::Entries(mark, entries) => {
+            let last = entries.last().map_or(0, |entry| entry.number);
+            (*mark, entries.len(), last)
+        }
+        Body::Void(_, high) => (*high, 0, 0),
+    }
+}
+
 pub(crate) fn shapes(alloc: Global, bodies: &[Body]) -> Result<Vec<Shape>, Refusal> {
     let mut shapes = Vec::new(alloc);
     for body in bodies {
-        let last = body.entries.last().map_or(0, |entry| entry.number);
-        shapes.push((body.mark, body.entries.len(), last))?;
+        shapes.push(shape_of(body))?;
     }
     Ok(shapes)
 }

@@ -6,7 +6,7 @@ ghost use Rattle.book.specs.Parts.{IsOpenedAs, loggers_of};
 use crate::filled::{Standing, append_payments, small, where_stands};
 use book::{Parts, Run};
 use log_disk::{Disk, Memory};
-use logfile::scan;
+use log_scan::scan;
 use money::Refusal;
 use std::alloc::Global;
 use std::marker::Brand;

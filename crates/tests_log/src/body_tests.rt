@@ -1,6 +1,6 @@
 //! Bodies whose bytes are known, there and back, and bodies that may not stand in a file.
 ghost use Rattle.std.specs.Prelude.{◌≡◌, ◌<◌, ◌^◌, length, IfOk};
-ghost use Rattle.std.specs.List.{All};
+ghost use Rattle.log_text.specs.Bodies.{HasFewWrites};
 
 use log_header::Header;
 use log_text::{Body, Last, LoggedEntry, Write, put_body, read_body};
@@ -52,11 +52,7 @@ const FRONT: Front = Front {
 };
 
 /// Behind that commit.
-const BEHIND: Last = Last {
-    mark: 1,
-    number: 1,
-    epoch: 1,
-};
+const BEHIND: Last = Last { mark: 1, epoch: 1 };
 
 fn present(table: Table, place: u32, words: [u64; 7]) -> Write {
     Write {
@@ -85,15 +81,12 @@ fn entry(alloc: Global, front: Front, writes: &[Write]) -> Result<LoggedEntry, A
 
 fn body(alloc: Global, front: Front, writes: &[Write]) -> Result<Body, AllocError>
     requires { length writes.now < 2 ^ 16 }
-    ensures { IfOk result (λ b. All (λ e. length e.writes.items < 2 ^ 16) b.entries.items) }
+    ensures { IfOk result HasFewWrites }
 {
     let entry = entry(alloc, front, writes)?;
     let mut entries = Vec::new(alloc);
     entries.push(entry)?;
-    Ok(Body {
-        mark: front.mark,
-        entries,
-    })
+    Ok(Body::Entries(front.mark, entries))
 }
 
 /// The text of a body with one entry.
@@ -246,7 +239,6 @@ fn the_last_mark_and_the_last_epoch_behind_it(rt: HostRuntime) -> Result<(), Fai
     };
     let behind = Last {
         mark: 4_294_967_294,
-        number: 1,
         epoch: 4_294_967_295,
     };
     let now = follows(rt.alloc(), Last::start(), last, &[WAREHOUSE])?;
@@ -262,16 +254,11 @@ fn bodies_that_go_back_are_refused(rt: HostRuntime) -> Result<(), Fail> {
         tid: 2 << 32,
         terminal: 1,
     };
-    let later = Last {
-        mark: 2,
-        number: 2,
-        epoch: 2,
-    };
+    let later = Last { mark: 2, epoch: 2 };
     let now = follows(rt.alloc(), BEHIND, next, &[WAREHOUSE])?;
     assert!(rt; now == Some(later));
-    // the same number again, an epoch that the mark before has, and a mark below the one before
+    // an epoch that the mark before has, and a mark below the one before
     for front in [
-        Front { number: 1, ..next },
         Front {
             tid: 1 << 32,
             ..next
@@ -286,13 +273,50 @@ fn bodies_that_go_back_are_refused(rt: HostRuntime) -> Result<(), Fail> {
         assert!(rt; now.is_none());
     }
     // an epoch before the last entry's
-    let last = Last {
-        mark: 1,
-        number: 1,
-        epoch: 3,
-    };
+    let last = Last { mark: 1, epoch: 3 };
     let now = follows(rt.alloc(), last, next, &[WAREHOUSE])?;
     assert!(rt; now.is_none());
+    Ok(())
+}
+
+/// The text of a body of mark 1 with two entries of these commit numbers.
+fn two_entries(alloc: Global, first: u64, second: u64) -> Result<Vec<u8>, AllocError> {
+    let mut out = Vec::new(alloc);
+    out.extend_from_slice(&PAYMENT)?;
+    out.extend_from_slice(&PAYMENT[16..])?;
+    let bytes = out.as_mut_slice();
+    if bytes.len() == 328 {
+        bytes[..8].copy_from_slice(&321_u64.to_le_bytes());
+        bytes[16..24].copy_from_slice(&first.to_le_bytes());
+        bytes[172..180].copy_from_slice(&second.to_le_bytes());
+    }
+    Ok(out)
+}
+
+#[test]
+fn numbers_begin_anew_in_each_body(rt: HostRuntime) -> Result<(), Fail> {
+    let next = Front {
+        mark: 2,
+        number: 1,
+        tid: 2 << 32,
+        terminal: 1,
+    };
+    let now = follows(rt.alloc(), BEHIND, next, &[WAREHOUSE])?;
+    assert!(rt; now == Some(Last { mark: 2, epoch: 2 }));
+    Ok(())
+}
+
+#[test]
+fn numbers_rise_inside_a_body(rt: HostRuntime) -> Result<(), Fail> {
+    for (first, second, behind) in [
+        (1, 2, Some(BEHIND)),
+        (7, 9, Some(BEHIND)),
+        (1, 1, None),
+        (2, 1, None),
+    ] {
+        let text = two_entries(rt.alloc(), first, second)?;
+        assert!(rt; stands(rt.alloc(), Last::start(), &text)? == behind);
+    }
     Ok(())
 }
 

@@ -1,5 +1,5 @@
 //! Whole log files: their bytes, their gates, and bytes that are no log file.
-use log_text::read_file;
+use log_text::{Body, read_file};
 use money::Refusal;
 use std::alloc::{AllocError, Global};
 use std::test::Fail;
@@ -19,8 +19,11 @@ fn file(alloc: Global, gate: u8, body: &[u8], next: u8) -> Result<Vec<u8>, Alloc
 fn counted(alloc: Global, file: &[u8]) -> Result<Option<(usize, usize)>, Refusal> {
     match read_file(alloc, file) {
         Ok((_, bodies)) => {
-            let entries = bodies.first().map(|body| body.entries.len());
-            Ok(Some((bodies.len(), entries.unwrap_or(0))))
+            let entries = match bodies.first() {
+                Some(Body::Entries(_, entries)) => entries.len(),
+                _ => 0,
+            };
+            Ok(Some((bodies.len(), entries)))
         }
         Err(Refusal::Damaged) => Ok(None),
         Err(refusal) => Err(refusal),

@@ -13,4 +13,8 @@ mod header_tests;
 #[cfg(test)]
 mod number_tests;
 #[cfg(test)]
+mod opened_tests;
+#[cfg(test)]
 mod scan_tests;
+#[cfg(test)]
+mod void_tests;

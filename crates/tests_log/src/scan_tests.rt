@@ -3,7 +3,7 @@ ghost use Rattle.std.specs.Prelude.{◌≡◌, ◌+◌, ◌-◌, ◌^◌, [], mi
 ghost use Rattle.money.specs.declared.refusal.Refusal.TheVariants.{Device};
 
 use log_disk::{Disk, FileDisk, Memory};
-use logfile::scan;
+use log_scan::scan;
 use money::Refusal;
 use std::alloc::Global;
 use std::fs;

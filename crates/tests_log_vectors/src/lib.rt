@@ -1,6 +1,8 @@
 //! Bytes of log files that are known from outside the code, for tests.
 #![tactic(auto)]
 
+use std::alloc::{AllocError, Global};
+
 /// The header of logger 0 of 1, over 1 warehouse, 2 districts, 10 customers, 20 items, orders up to 30, 1,000 commits
 /// and the plain population.
 pub const FIRST: [u8; 48] = [
@@ -20,3 +22,60 @@ pub const PAYMENT: [u8; 172] = [
     1, 3, 0, 0, 0, 0, 0, 0, 0, 1, 0, 0, 0, 0, 0, 0, 0, 1, 0, 0, 0, 0, 0, 0, 0, 1, 0, 0, 0, 0, 0, 0,
     0, 1, 0, 0, 0, 0, 0, 0, 0, 1, 0, 0, 0, 0, 0, 0, 0, 0xd2, 4, 0, 0, 0, 0, 0, 0,
 ];
+
+/// The text of a void body of epochs 6 to 8, and the closed gate behind it.
+pub const VOID: [u8; 33] = [
+    0x19, 0, 0, 0, 0, 0, 0, 0, 255, 255, 255, 255, 255, 255, 255, 255, 6, 0, 0, 0, 0, 0, 0, 0, 8,
+    0, 0, 0, 0, 0, 0, 0, 0,
+];
+
+/// The entry of commit N, a Payment of 1.00 by customer N in district 1, in epoch N + 3, at this terminal.
+fn payment(number: u8, terminal: u8) -> [u8; 156] {
+    let mut entry = [0; 156];
+    entry.copy_from_slice(&PAYMENT[16..]);
+    entry[0] = number;
+    entry[12] = number.wrapping_add(3);
+    entry[16] = terminal;
+    let paid = 100 * u64::from(number);
+    entry[26..34].copy_from_slice(&(20_000 + paid).to_le_bytes());
+    entry[40..48].copy_from_slice(&(10_000 + paid).to_le_bytes());
+    entry[57] = number.wrapping_sub(1);
+    entry[62..70].copy_from_slice(&(u64::MAX - 1_099).to_le_bytes());
+    entry[70..78].copy_from_slice(&1_100_u64.to_le_bytes());
+    entry[100] = number;
+    entry[148..156].copy_from_slice(&100_u64.to_le_bytes());
+    entry
+}
+
+/// A file of logger 0 or 1 of 2, whose terminal's number is the same, with one body of this mark, and in it the
+/// Payments from one commit number to another.
+pub fn file_of_payments(
+    alloc: Global,
+    logger: u8,
+    mark: u64,
+    commits: (u8, u8),
+) -> Result<Vec<u8>, AllocError> {
+    let mut file = Vec::new(alloc);
+    file.extend_from_slice(&FIRST)?;
+    let mut content = Vec::new(alloc);
+    content.extend_from_slice(&mark.to_le_bytes())?;
+    for number in commits.0..=commits.1 {
+        content.extend_from_slice(&payment(number, logger))?;
+    }
+    content.push(0)?;
+    file.push(1)?;
+    file.extend_from_slice(&(content.len() as u64).to_le_bytes())?;
+    file.append(&mut content)?;
+    Ok(with_logger(file, logger))
+}
+
+/// The same file, of this logger of 2.
+fn with_logger(mut file: Vec<u8>, logger: u8) -> Vec<u8> {
+    if let Some(byte) = file.get_mut(12) {
+        *byte = logger;
+    }
+    if let Some(byte) = file.get_mut(14) {
+        *byte = 2;
+    }
+    file
+}

@@ -7,7 +7,8 @@ use crate::stage::{Stage, parts};
 use crate::turn_tests::open_one;
 use book::{Parts, Run};
 use log_disk::{Disk, Memory};
-use logfile::scan;
+use log_scan::scan;
+use log_text::Body;
 use logger::Logger;
 use money::Refusal;
 use std::alloc::Global;
@@ -91,12 +92,14 @@ fn rounds<K: Run, R: Wait, D: Disk + Drop>(
 /// How many entries the file on a disk has.
 fn entries_of<D: Disk>(alloc: Global, disk: &mut D) -> Result<usize, Refusal> {
     let (_, bodies) = scan(alloc, disk)?;
-    Ok(
-        bodies
-            .iter()
-            .filter(|body| !body.entries.is_empty())
-            .count(),
-    )
+    Ok(bodies.iter().filter(|body| has_entries(body)).count())
+}
+
+fn has_entries(body: &Body) -> bool {
+    match body {
+        Body::Entries(_, entries) => !entries.is_empty(),
+        Body::Void(_, _) => false,
+    }
 }
 
 /// A disk of which the call fails that comes after so many.

@@ -13,3 +13,5 @@ mod recovering_tests;
 mod telling_tests;
 #[cfg(test)]
 mod threads_tests;
+#[cfg(test)]
+mod void_tests;

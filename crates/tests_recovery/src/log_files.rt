@@ -4,6 +4,7 @@ use crate::log_bytes::{ENTRY, push_body, push_entry, push_header};
 use log_disk::{Disk, Memory};
 use money::Refusal;
 use population::Population;
+use recover_progress::Progress;
 use std::alloc::{AllocError, Global};
 use tables::Scale;
 
@@ -34,6 +35,11 @@ fn second(alloc: Global) -> Result<Vec<u8>, AllocError> {
     }
     bytes.push(0)?;
     Ok(bytes)
+}
+
+/// The progress of a recovery that nobody asks for.
+pub(crate) fn unwatched(alloc: Global) -> Progress {
+    Progress::of(Vec::new(alloc))
 }
 
 /// A disk with these bytes.

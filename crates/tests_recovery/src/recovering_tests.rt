@@ -1,7 +1,7 @@
 //! What is recovered of log files: of two, of one whose last gate may hold any byte, and of bytes that are none.
 
 use crate::log_bytes::{ENTRY, push_body, push_entry, push_entry_of, push_header};
-use crate::log_files::{disks, one_disk, small};
+use crate::log_files::{disks, one_disk, small, unwatched};
 use money::{Cents, Refusal};
 use recover::recover;
 use std::alloc::{AllocError, Global};
@@ -29,7 +29,8 @@ fn balance(tables: &Tables, customer: u32) -> Option<Cents> {
 fn customers_of_later_epochs_have_not_paid(rt: HostRuntime) -> Result<(), Fail> {
     let population = small(rt.alloc())?;
     let mut disks = disks(rt.alloc(), 1)?;
-    let found = recover(rt.alloc(), &population, &mut disks)?;
+    let progress = unwatched(rt.alloc());
+    let found = recover(rt.alloc(), &population, &mut disks, &progress)?;
     assert_eq!(rt; (found.durable, found.commits), (5, 2));
     assert_eq!(rt; balance(&found.tables, 2), Some(Cents::new(-1_100)));
     assert_eq!(rt; balance(&found.tables, 3), Some(Cents::new(-1_000)));
@@ -40,7 +41,7 @@ fn customers_of_later_epochs_have_not_paid(rt: HostRuntime) -> Result<(), Fail> 
 fn outcome(alloc: Global, bytes: &[u8]) -> Result<Recovery, Refusal> {
     let population = small(alloc)?;
     let mut disks = one_disk(alloc, bytes)?;
-    let found = recover(alloc, &population, &mut disks)?;
+    let found = recover(alloc, &population, &mut disks, &unwatched(alloc))?;
     Ok(Recovery {
         durable: found.durable,
         commits: found.commits,

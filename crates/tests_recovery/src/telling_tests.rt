@@ -3,17 +3,28 @@
 use crate::log_files::{disks, first_disk, small};
 use log_disk::Memory;
 use money::Refusal;
-use program_recovery::{checked, recovered};
+use program_recovery::{Manner, checked, recovered};
 use std::alloc::Global;
 use std::io::{self, ErrorKind, Write};
+use std::sync::Wait;
 use std::test::Fail;
 use std::thread::Threads;
+use std::time::Clock;
 
 /// In how many threads the files are read.
 const THREADS: [usize; 3] = [1, 2, 8];
 
+/// A recovery in so many threads, which is shown nowhere.
+fn manner(alloc: Global, threads: usize) -> Manner<Vec<u8>> {
+    Manner {
+        threads,
+        screen: None,
+        sizes: Vec::new(alloc),
+    }
+}
+
 /// What is shown of these disks, read in so many threads.
-fn shown<R: Threads + Sync>(
+fn shown<R: Threads + Wait + Clock + Sync>(
     rt: &R,
     alloc: Global,
     disks: &mut [Memory],
@@ -21,12 +32,13 @@ fn shown<R: Threads + Sync>(
 ) -> Result<Vec<u8>, Refusal> {
     let population = small(alloc)?;
     let mut text = Vec::new(alloc);
-    recovered(rt, alloc, &population, disks, &mut text, threads)?;
+    let manner = manner(alloc, threads);
+    recovered(rt, alloc, &population, disks, &mut text, manner)?;
     Ok(text)
 }
 
 /// What is reported of them.
-fn reported<R: Threads + Sync>(
+fn reported<R: Threads + Wait + Clock + Sync>(
     rt: &R,
     alloc: Global,
     disks: &mut [Memory],
@@ -34,7 +46,8 @@ fn reported<R: Threads + Sync>(
 ) -> Result<Vec<u8>, Refusal> {
     let population = small(alloc)?;
     let mut text = Vec::new(alloc);
-    checked(rt, alloc, &population, disks, &mut text, threads)?;
+    let manner = manner(alloc, threads);
+    checked(rt, alloc, &population, disks, &mut text, manner)?;
     Ok(text)
 }
 
@@ -112,10 +125,12 @@ fn a_writer_that_fails_is_a_device(rt: HostRuntime) -> Result<(), Fail> {
     let population = small(rt.alloc())?;
     let mut disks = disks(rt.alloc(), 1)?;
     let full = &mut Full { room: 7 };
-    let outcome = recovered(&rt, rt.alloc(), &population, &mut disks, full, 2);
+    let how = manner(rt.alloc(), 2);
+    let outcome = recovered(&rt, rt.alloc(), &population, &mut disks, full, how);
     assert_eq!(rt; outcome.err(), Some(Refusal::Device));
     let full = &mut Full { room: 7 };
-    let outcome = checked(&rt, rt.alloc(), &population, &mut disks, full, 2);
+    let how = manner(rt.alloc(), 2);
+    let outcome = checked(&rt, rt.alloc(), &population, &mut disks, full, how);
     assert_eq!(rt; outcome.err(), Some(Refusal::Device));
     Ok(())
 }

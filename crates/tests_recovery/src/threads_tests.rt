@@ -1,11 +1,12 @@
 //! Recovery in threads: five Payments of 1.00 in epochs 4 to 8, in two files.
 
-use crate::log_files::{disks, small};
+use crate::log_files::{disks, first_disk, small, unwatched};
 use crate::meeting::{Meeting, Met};
 use crate::recovering_tests::Recovery;
 use log_disk::{Disk, Memory};
 use money::Refusal;
 use recover::recover_with;
+use recover_progress::Progress;
 use std::alloc::Global;
 use std::test::Fail;
 use std::thread::Threads;
@@ -17,8 +18,19 @@ fn recovery_of<R: Threads + Sync, D: Disk + Send>(
     disks: &mut [D],
     threads: usize,
 ) -> Result<Recovery, Refusal> {
+    noted(rt, alloc, disks, threads, &unwatched(alloc))
+}
+
+/// The same, with the progress of it noted.
+fn noted<R: Threads + Sync, D: Disk + Send>(
+    rt: &R,
+    alloc: Global,
+    disks: &mut [D],
+    threads: usize,
+    progress: &Progress,
+) -> Result<Recovery, Refusal> {
     let population = small(alloc)?;
-    let found = recover_with(rt, alloc, &population, disks, threads)?;
+    let found = recover_with(rt, alloc, &population, disks, threads, progress)?;
     Ok(Recovery {
         durable: found.durable,
         commits: found.commits,
@@ -38,6 +50,29 @@ fn any_number_of_threads_recovers_the_same(rt: HostRuntime) -> Result<(), Fail> 
             Ok(expected)
         );
     }
+    Ok(())
+}
+
+#[test]
+fn files_and_entries_are_noted_once(rt: HostRuntime) -> Result<(), Fail> {
+    for threads in [1, 2] {
+        let mut disks = disks(rt.alloc(), 1)?;
+        let progress = Progress::of(vec![in rt.alloc(); 1_000, 200]?);
+        assert_eq!(rt; (progress.read(), progress.entries()), (0, 0));
+        noted(&rt, rt.alloc(), &mut disks, threads, &progress)?;
+        assert_eq!(rt; (progress.read(), progress.entries()), (1_200, 5));
+        assert_eq!(rt; progress.to_read(), 1_200);
+    }
+    Ok(())
+}
+
+#[test]
+fn a_file_that_is_damaged_is_not_noted(rt: HostRuntime) -> Result<(), Fail> {
+    let mut disks = first_disk(rt.alloc())?;
+    let progress = Progress::of(vec![in rt.alloc(); 1_000]?);
+    let outcome = noted(&rt, rt.alloc(), &mut disks, 1, &progress);
+    assert_eq!(rt; outcome, Err(Refusal::Damaged));
+    assert_eq!(rt; (progress.read(), progress.entries()), (0, 0));
     Ok(())
 }
 

@@ -5,6 +5,7 @@ use book::{Closed, Entry, Run};
 use log_disk::{Disk, Memory};
 use money::Refusal;
 use recover::recover;
+use recover_progress::Progress;
 use run_threads::Outcome;
 use std::alloc::Global;
 use std::sync::Arc;
@@ -33,7 +34,8 @@ impl Books {
     /// Those that log files recover to.
     pub(crate) fn recovered(alloc: Global, disks: (Memory, Memory)) -> Result<Books, Refusal> {
         let population = plain(alloc)?;
-        let found = recover(alloc, &population, &mut [disks.0, disks.1])?;
+        let unwatched = Progress::of(Vec::new(alloc));
+        let found = recover(alloc, &population, &mut [disks.0, disks.1], &unwatched)?;
         Ok(Books {
             durable: found.durable,
             commits: found.commits,

@@ -1,12 +1,11 @@
-use Rattle.std.proofs.Common.{[]}
 use Rattle.recover_crashes.specs.World.{opening}
 use Rattle.recover_crashes.specs.Events.{world_after_all}
-use Rattle.recover_crashes.proofs.Opened.{opens, first_begins, first_low}
+use Rattle.recover_crashes.proofs.Opened.{opens}
 use Rattle.recover_crashes.proofs.Sound.{all_events}
 use Rattle.recover_crashes.proofs.Crashed.{is_lawful}
 use Rattle.recover_crashes.proofs.durable_epoch_is_lawful.Goals as goal
 
 pub returns : goal.returns
-returns c = λ life files events first enabled.
-    is_lawful life (world_after_all (opening life.plan files) events)
-    (all_events life (λ l. []) (opening life.plan files) events (opens life (λ l. []) files (first_begins life files first) (first_low life files first)) enabled)
+returns c = λ t0 life old past earlier files events base opened happened.
+    is_lawful t0 life old past earlier base (world_after_all (opening life.plan files) events)
+    (all_events life old (opening life.plan files) events (opens life old files opened base.marks base.room) happened)

@@ -43,9 +43,9 @@ loop-entry-preserved c =
           ∙ ap (λ (l : List (Arc Entry Global)). c.loop-entry.out.items ++ flat_map entry_text (map (logged_entry c.args.scale.now) (map arc_value l))) (sym cut)
           ∙ whole.0,
       whole.1,
-      ap (λ (n : ℕ). last_number n left) (c.from.ensures ∙ ap (λ (e : Entry). e.number) c.deref-in-loop-entry.ensures)
-          ∙ ap (λ (l : List (Arc Entry Global)). last_number now.number (map arc_value l)) (sym cut) ∙ whole.2,
-      ap (λ (n : ℕ). last_epoch_of n left) (c.from-in-loop-entry.ensures ∙ c.epoch.ensures ∙ ap (λ (e : Entry). epoch_of e.tid) c.deref-in-loop-entry-2.ensures)
+      ap (λ (n : ℕ). last_number n left) (c.from-number.ensures ∙ ap (λ (e : Entry). e.number) c.deref-in-loop-entry.ensures)
+          ∙ ap (λ (l : List (Arc Entry Global)). last_number c.loop-entry.number (map arc_value l)) (sym cut) ∙ whole.2,
+      ap (λ (n : ℕ). last_epoch_of n left) (c.from.ensures ∙ c.epoch.ensures ∙ ap (λ (e : Entry). epoch_of e.tid) c.deref-in-loop-entry-2.ensures)
           ∙ ap (λ (l : List (Arc Entry Global)). last_epoch_of now.epoch (map arc_value l)) (sym cut) ∙ whole.3,
     )
 
@@ -60,6 +60,10 @@ pub returns-clause-last : goal.returns-clause-last
 returns-clause-last c =
     let none : drop c.loop-entry.entry-index c.args.entries.now ≡ [] = drop_all c.loop-entry.entry-index c.args.entries.now (omega (arith, c.loop-entry-test.false)) in
     let whole = c.loop-entry.invariant in
-    let numbers = ap (λ (l : List (Arc Entry Global)). last_number c.loop-entry.now.number (map arc_value l)) (sym none) ∙ whole.2 in
     let epochs = ap (λ (l : List (Arc Entry Global)). last_epoch_of c.loop-entry.now.epoch (map arc_value l)) (sym none) ∙ whole.3 in
-    λ j. record { mark = whole.1 j; number = numbers j; epoch = epochs j }
+    λ j. record { mark = whole.1 j; epoch = epochs j }
+
+pub returns-clause-rises : goal.returns-clause-rises
+returns-clause-rises c =
+    let none : drop c.loop-entry.entry-index c.args.entries.now ≡ [] = drop_all c.loop-entry.entry-index c.args.entries.now (omega (arith, c.loop-entry-test.false)) in
+    ap (λ (l : List (Arc Entry Global)). last_number c.loop-entry.number (map arc_value l)) (sym none) ∙ c.loop-entry.invariant.2

@@ -13,5 +13,5 @@ invariant-loop-entry l =
     (l.out.items ++ flat_map entry_text (map (logged_entry l.scale) (map arc_value left))
     ≡ l.fn.out.items ++ flat_map entry_text (map (logged_entry l.scale) (map arc_value l.entries)))
     × (l.now.mark ≡ l.fn.last.mark)
-    × (last_number l.now.number (map arc_value left) ≡ last_number l.fn.last.number (map arc_value l.entries))
+    × (last_number l.number (map arc_value left) ≡ last_number l.fn.before (map arc_value l.entries))
     × (last_epoch_of l.now.epoch (map arc_value left) ≡ last_epoch_of l.fn.last.epoch (map arc_value l.entries))

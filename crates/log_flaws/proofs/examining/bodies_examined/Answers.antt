@@ -1,10 +1,10 @@
-use Rattle.std.proofs.Common.{◌≡◌, ◌-◌, ◌<◌, ◌^◌, ◌++◌, ◌∷◌, [], length, map, List, ℕ, refl, sym, ap, ◌∙◌, subst, rules}
+use Rattle.std.proofs.Common.{◌≡◌, ◌+◌, ◌-◌, ◌<◌, ◌^◌, ◌++◌, ◌∷◌, [], length, map, List, ℕ, refl, sym, ap, ◌∙◌, subst, rules}
 use Rattle.std.proofs.lemmas.List.{map-append}
 use Rattle.log_text.specs.Bodies.{BodyView, body_of, bodies_after, start}
 use Rattle.log_text.specs.File.{opened}
 use Rattle.log_text.proofs.OneFile.{next, not_empty, follows, opened_push, after_push}
 use Rattle.log_flaws.specs.Flaws.{Reaches}
-use Rattle.log_flaws.proofs.Standing.{behind_header, is_reached, nothing}
+use Rattle.log_flaws.proofs.Standing.{behind_header, is_reached, nothing, body_flawed}
 use Rattle.log_flaws.proofs.examining.bodies_examined.Goals as goal
 
 pub returns-in_default : goal.returns-in_default
@@ -36,14 +36,16 @@ returns-in-Err-Damaged c =
     let front : rest ≡ 1 ∷ text = search rules in
     let reached = is_reached h file bytes rest read last c.requires.text c.bodies.invariant.0 c.bodies.invariant.1 in
     let none = c.in-Err-Damaged.ensures.damaged (search rules) in (
-      record {
-        last = last;
-        text = text;
-        gate = length file - length rest;
-        behind = refl;
-        reached = subst (Reaches file h (length file - length rest) last) front reached;
-        none = none;
-      },
+      body_flawed file h (length file - length rest + 1)
+          (record {
+            last = last;
+            text = text;
+            gate = length file - length rest;
+            behind = refl;
+            reached = subst (Reaches file h (length file - length rest) last) front reached;
+            none = none;
+          })
+          c.body_flaw.result c.body_flaw.ensures,
       λ bodies is.
           let there = follows h last rest text front
           (next h c.requires.header read bodies last rest bytes c.bodies.invariant.0 c.bodies.invariant.1 small

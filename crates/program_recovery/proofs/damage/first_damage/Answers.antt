@@ -5,7 +5,7 @@ use Rattle.log_text.specs.File.{IsFile}
 use Rattle.log_flaws.specs.Flaws.{HasFlaw}
 use Rattle.log_flaws.specs.declared.flaw.FileFlaw.{FileFlaw}
 use Rattle.population.specs.Initial.{initial, seed_of}
-use Rattle.program_recovery.proofs.Walking.{goes_on, whole_file}
+use Rattle.program_recovery.proofs.Walking.{goes_on, only_reads, whole_file}
 use Rattle.program_recovery.proofs.damage.first_damage.Goals as goal
 
 pub loop-logger-preserved : goal.loop-logger-preserved
@@ -23,3 +23,7 @@ loop-logger-preserved g c =
           (λ given. whole_file (initial population).scale c.scale.result (seed_of population) c.seed.result c.loop-logger.logger (length c.args.disks.now)
           (length c.args.disks.now) asked c.new-asked.ensures.value c.scale.ensures c.seed.ensures refl known.0 _ (known.1 given) whole);
     }
+
+pub returns-in-Some-clause-reads : goal.returns-in-Some-clause-reads
+returns-in-Some-clause-reads g c =
+    only_reads c.from.result c.index-disks-from.result c.flaw_on.new.disk c.loop-logger.invariant.walked c.in_ok-flaw.ensures.reads

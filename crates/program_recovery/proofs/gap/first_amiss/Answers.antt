@@ -1,5 +1,5 @@
 use Rattle.std.proofs.Common.{◌≤◌, arith, subst, sym}
-use Rattle.recover.specs.declared.numbering.Commit.{Commit}
+use Rattle.recover_files.specs.declared.numbering.Commit.{Commit}
 use Rattle.program_recovery.proofs.Numbering.{missing_at, numbered_on, twice_at}
 use Rattle.program_recovery.proofs.gap.first_amiss.Goals as goal
 

@@ -1,7 +1,7 @@
 use Rattle.std.proofs.Common.{◌≡◌, ◌+◌, List, map, take}
 use Rattle.log_text.specs.Entries.{EntryView}
-use Rattle.recover_laws.specs.Rebuilt.{AreNumbered}
-use Rattle.recover.specs.Parts.{commit_of}
+use Rattle.recover_found.specs.Rebuilt.{AreNumbered}
+use Rattle.recover_files.specs.Parts.{commit_of}
 use Rattle.program_recovery.proofs.gap.first_amiss.Given as goal
 
 -- so far the commits have the numbers 1, 2, 3 and so on

@@ -2,10 +2,10 @@ use Rattle.std.proofs.Common.{◌≤◌, List, subst, sym, ◌∙◌}
 use Rattle.std.specs.List.{All}
 use Rattle.std.proofs.lemmas.List.Sorted.{All-permutation}
 use Rattle.population.specs.Initial.{initial, seed_of}
-use Rattle.recover_laws.specs.Found.{found}
-use Rattle.recover.specs.declared.numbering.Commit.{Commit}
-use Rattle.recover.proofs.Found.{found_positive}
-use Rattle.recover.proofs.LawfulEntries.{IsPositive}
+use Rattle.recover_found.specs.Found.{found}
+use Rattle.recover_files.specs.declared.numbering.Commit.{Commit}
+use Rattle.recover_files.proofs.Found.{found_positive}
+use Rattle.recover_files.proofs.LawfulEntries.{IsPositive}
 use Rattle.program_recovery.proofs.Numbering.{each_positive, first_amiss_here}
 use Rattle.program_recovery.proofs.gap.first_gap.Goals as goal
 

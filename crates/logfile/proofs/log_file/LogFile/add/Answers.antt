@@ -26,7 +26,7 @@ invariant_of-self g c =
       reaches = omega (arith, c.in-Ok.ensures.fits);
       header = c.self.invariant.header;
       near = c.requires.epoch;
-      counts = subst (λ (v : LogFileView _). v.count + c.args.entries ≤ c.args.now.number) (sym c.self.view_is) c.requires.count;
+      counts = subst (λ (v : LogFileView _). v.count + c.args.entries ≤ c.args.number) (sym c.self.view_is) c.requires.count;
       stands = λ modelled _. is_open _ _ _ _ _ (c.in-Ok.ensures.settled modelled) (∥∥₁_map (c.self.invariant.stands modelled usable).stands
           (λ s. (
             s.0 ++ body ∷ [],

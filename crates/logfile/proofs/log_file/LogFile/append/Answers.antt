@@ -30,36 +30,36 @@ returns-in_err-now g c = record {
 
 pub add-result-requires-clause-body : goal.add-result-requires-clause-body
 add-result-requires-clause-body g c =
-    let at : Continues c.self.inside.header c.self.inside.count c.self.inside.last c.args.batch.now
-    = subst (λ (v : LogFileView _). Continues v.header v.count v.last c.args.batch.now) (sym c.self.view_is) c.requires in
+    let at : Continues c.self.inside.header c.self.inside.count c.self.inside.number c.self.inside.last c.args.batch.now
+    = subst (λ (v : LogFileView _). Continues v.header v.count v.number v.last c.args.batch.now) (sym c.self.view_is) c.requires in
     let text : c.deref.result.now ≡ body_text (body_of_batch c.args.batch.now) ++ 0 ∷ []
     = c.deref.ensures.value ∙ ap (λ (v : Vec ℕ Global). v.items) c.replace-text.ensures.value ∙ c.in_ok-now.ensures.text
     ∙ ap (λ (l : List ℕ). l ++ (body_text (body_of_batch c.args.batch.now) ++ 0 ∷ [])) c.clear.ensures.items in
-    let lawful = batch_body _ _ _ _ _ c.self.invariant.header c.entries.ensures.lawful at c.self.invariant.near c.in_ok-now.ensures.last in
+    let lawful = batch_body _ _ _ _ _ _ c.self.invariant.header c.entries.ensures.lawful at c.self.invariant.near c.in_ok-now.ensures.last in
     (body_of_batch c.args.batch.now, text, lawful)
 
 pub add-result-requires-clause-count : goal.add-result-requires-clause-count
 add-result-requires-clause-count g c =
-    let at : Continues c.self.inside.header c.self.inside.count c.self.inside.last c.args.batch.now
-    = subst (λ (v : LogFileView _). Continues v.header v.count v.last c.args.batch.now) (sym c.self.view_is) c.requires in
+    let at : Continues c.self.inside.header c.self.inside.count c.self.inside.number c.self.inside.last c.args.batch.now
+    = subst (λ (v : LogFileView _). Continues v.header v.count v.number v.last c.args.batch.now) (sym c.self.view_is) c.requires in
     let size : length c.entries.result.now ≡ length c.args.batch.now.entries
     = sym (length-map c.entries.result.now arc_value) ∙ ap length c.entries.ensures.entries in
-    batch_counts _ _ _ _ _ _ c.entries.ensures.lawful at c.self.invariant.counts size c.in_ok-now.ensures.last
+    batch_counts _ _ _ _ _ _ _ c.entries.ensures.lawful at c.self.invariant.counts size c.in_ok-now.ensures.rises
 
 pub add-result-requires-clause-epoch : goal.add-result-requires-clause-epoch
 add-result-requires-clause-epoch g c =
-    let at : Continues c.self.inside.header c.self.inside.count c.self.inside.last c.args.batch.now
-    = subst (λ (v : LogFileView _). Continues v.header v.count v.last c.args.batch.now) (sym c.self.view_is) c.requires in
-    batch_epoch _ _ _ _ _ c.entries.ensures.lawful at c.self.invariant.near c.in_ok-now.ensures.last
+    let at : Continues c.self.inside.header c.self.inside.count c.self.inside.number c.self.inside.last c.args.batch.now
+    = subst (λ (v : LogFileView _). Continues v.header v.count v.number v.last c.args.batch.now) (sym c.self.view_is) c.requires in
+    batch_epoch _ _ _ _ _ _ c.entries.ensures.lawful at c.self.invariant.near c.in_ok-now.ensures.last
 
 pub returns : goal.returns
 returns g c =
-    let at : Continues c.self.inside.header c.self.inside.count c.self.inside.last c.args.batch.now
-    = subst (λ (v : LogFileView _). Continues v.header v.count v.last c.args.batch.now) (sym c.self.view_is) c.requires in
+    let at : Continues c.self.inside.header c.self.inside.count c.self.inside.number c.self.inside.last c.args.batch.now
+    = subst (λ (v : LogFileView _). Continues v.header v.count v.number v.last c.args.batch.now) (sym c.self.view_is) c.requires in
     let text : c.deref.result.now ≡ body_text (body_of_batch c.args.batch.now) ++ 0 ∷ []
     = c.deref.ensures.value ∙ ap (λ (v : Vec ℕ Global). v.items) c.replace-text.ensures.value ∙ c.in_ok-now.ensures.text
     ∙ ap (λ (l : List ℕ). l ++ (body_text (body_of_batch c.args.batch.now) ++ 0 ∷ [])) c.clear.ensures.items in
-    let lawful = batch_body _ _ _ _ _ c.self.invariant.header c.entries.ensures.lawful at c.self.invariant.near c.in_ok-now.ensures.last in
+    let lawful = batch_body _ _ _ _ _ _ c.self.invariant.header c.entries.ensures.lawful at c.self.invariant.near c.in_ok-now.ensures.last in
     let old : (bodies : List BodyView) → Stands c.args.self.now.header bodies c.args.self.now.end c.args.self.now.last (g.D.Disk.seen c.args.self.now.disk) (g.D.Disk.story c.args.self.now.disk)
     → Stands c.self.inside.header bodies c.self.inside.end c.self.inside.last (g.D.Disk.seen c.self.inside.disk) (g.D.Disk.story c.self.inside.disk)
     = (λ bodies s. subst (λ (v : LogFileView _). Stands v.header bodies v.end v.last (g.D.Disk.seen v.disk) (g.D.Disk.story v.disk)) (sym c.self.view_is) s) in

@@ -1,0 +1,38 @@
+use Rattle.std.proofs.Common.{◌<◌, List, ℕ, map, length, sym, ap, ◌∙◌, subst, arith, rules}
+use Rattle.log_text.specs.Bodies.{BodyView, body_of}
+use Rattle.log_text.specs.File.{IsFile}
+use Rattle.logfile.specs.Standing.{Stands}
+use Rattle.logfile.proofs.Appending.{all_kept, is_open}
+use Rattle.logfile.proofs.Opening.{file_near, end_within, reopened}
+use Rattle.logfile.proofs.log_file.LogFile.open_with_bodies.Goals as goal
+
+pub invariant_of-file : goal.invariant_of-file
+invariant_of-file g c =
+    let is = c.in_ok-header.ensures.found in
+    let h = c.in_ok-header.header in
+    let last = c.in_ok-header.last in
+    let end : ℕ = c.in_ok-header.end in
+    let bodies : List BodyView = map body_of c.in_ok-header.bodies.items in
+    let within : end < length c.deref.result.now = end_within c.deref.result.now h bodies last end is in
+    let stands : g.D.Disk.is_modelled → Stands h bodies end last (g.D.Disk.seen c.contents.new.disk) (g.D.Disk.story c.contents.new.disk)
+    = (λ modelled. reopened c.deref.result.now h bodies last end _ _ _ _ _ _ is (c.deref.ensures.value ∙ c.in_ok-bytes.ensures.bytes modelled)
+    (c.in_ok-sync.ensures.seen modelled) (c.in_ok-bytes.ensures.reads.seen modelled) (c.in_ok-sync.ensures.story modelled)
+    (c.in_ok-bytes.ensures.reads.story modelled)) in
+    record {
+      reaches = omega (arith, within, c.deref.ensures.len, ap length c.deref.ensures.value, c.in_ok-bytes.bytes.small);
+      header = is.is.header;
+      near = file_near c.deref.result.now h bodies last end is;
+      counts = omega arith;
+      stands = λ modelled _. is_open _ _ _ _ _ (stands modelled).settled ∣ (bodies, stands modelled) ∣₁;
+      kept = λ modelled. ∣ all_kept _ _ _ _ _ _ (stands modelled) (g.met.D.Disk.read_gives c.contents.new.disk modelled) ∣₁;
+    }
+
+pub returns-in_err-header-clause-damaged : goal.returns-in_err-header-clause-damaged
+returns-in_err-header-clause-damaged g c = λ modelled e h bodies is.
+    let same = c.deref.ensures.value ∙ c.in_ok-bytes.ensures.bytes modelled ∙ c.in_ok-sync.ensures.seen modelled in
+    c.in_err-header.ensures.damaged (search (rules, e)) h bodies (subst (λ (b : List ℕ). IsFile b h bodies) (sym same) is)
+
+pub returns-clause-near : goal.returns-clause-near
+returns-clause-near g c =
+    file_near c.deref.result.now c.in_ok-header.header (map body_of c.in_ok-header.bodies.items) c.in_ok-header.last c.in_ok-header.end
+    c.in_ok-header.ensures.found

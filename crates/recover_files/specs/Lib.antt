@@ -1,0 +1,4 @@
+pub mod Parts
+pub mod Files
+pub mod Recovered
+pub mod Answers

@@ -1,0 +1,6 @@
+pub mod Elements
+pub mod Numbered
+mod LastMarks
+mod Reaching
+mod Within
+mod Voids

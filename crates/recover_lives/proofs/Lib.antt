@@ -1,0 +1,6 @@
+pub mod Voids
+mod Restarts
+pub mod Worlds
+pub mod Replayed
+mod Falls
+mod WorkedFiles

@@ -1,0 +1,264 @@
+//! Log files that are opened again, and void bodies that are appended to them.
+ghost use Rattle.std.specs.Prelude.{◌≡◌, ◌+◌, ◌^◌, ◌<◌, [], length, IsOk, OnOk};
+ghost use Rattle.log_disk.specs.Calls.{Counts};
+
+use log_disk::{Disk, Memory};
+use log_scan::scan;
+use logfile::LogFile;
+use money::Refusal;
+use std::alloc::Global;
+use std::test::Fail;
+use tests_log_vectors::{VOID, file_of_payments};
+
+/// A disk in memory with the file of one Payment, of epoch 4 and mark 5, that was never synced.
+fn written(alloc: Global) -> Result<Memory, Refusal> {
+    let file = file_of_payments(alloc, 0, 5, (1, 1))?;
+    let mut memory = Memory::new(alloc);
+    memory.write_at(0, &file)?;
+    Ok(memory)
+}
+
+/// Where an open file stands.
+#[derive(Clone, Copy, Debug, PartialEq, Eq)]
+struct Standing {
+    count: u64,
+    last: u64,
+    mark: u64,
+}
+
+fn standing_of<D: Disk>(file: &LogFile<D>) -> Standing {
+    Standing {
+        count: file.count(),
+        last: file.last(),
+        mark: file.mark(),
+    }
+}
+
+/// Where that file stands once it is opened.
+const OPENED: Standing = Standing {
+    count: 0,
+    last: 0,
+    mark: 5,
+};
+
+/// Behind a void body of epochs 6 to 8.
+const DECLARED: Standing = Standing {
+    count: 0,
+    last: 0,
+    mark: 8,
+};
+
+/// Appends a void body of epochs 6 to 8.
+fn declare<D: Disk>(file: &mut LogFile<D>) -> Result<(), Refusal> {
+    if !file.may_be_void(6, 8) {
+        return Err(Refusal::BadInput);
+    }
+    file.append_void(6, 8)
+}
+
+/// Where a file stands once it is opened, what two void bodies come to, and where it stands then.
+#[derive(Clone, Copy, Debug, PartialEq, Eq)]
+struct Outcome {
+    opened: Standing,
+    first: Result<(), Refusal>,
+    again: Result<(), Refusal>,
+    standing: Standing,
+}
+
+fn outcome_on<D: Disk + Drop>(alloc: Global, disk: D) -> Result<Outcome, Refusal> {
+    let mut file = LogFile::open(alloc, disk)?;
+    Ok(Outcome {
+        opened: standing_of(&file),
+        first: declare(&mut file),
+        again: declare(&mut file),
+        standing: standing_of(&file),
+    })
+}
+
+/// Where a file stands once it is opened, and behind a void body.
+fn declared_on<D: Disk + Drop>(alloc: Global, disk: D) -> Result<(Standing, Standing), Refusal> {
+    let mut file = LogFile::open(alloc, disk)?;
+    let opened = standing_of(&file);
+    declare(&mut file)?;
+    Ok((opened, standing_of(&file)))
+}
+
+#[test]
+fn a_void_body_has_its_bytes(rt: HostRuntime) -> Result<(), Fail> {
+    let mut memory = written(rt.alloc())?;
+    assert_eq!(rt; declared_on(rt.alloc(), &mut memory)?, (OPENED, DECLARED));
+    let bytes = memory.bytes();
+    assert_eq!(rt; bytes.len(), 255);
+    assert!(rt; bytes.get(221) == Some(&1));
+    assert!(rt; bytes.ends_with(&VOID));
+    // the test's write, a sync, and the four calls of an append
+    assert_eq!(rt; memory.calls().len(), 6);
+    Ok(())
+}
+
+#[test]
+fn a_file_with_a_void_body_is_opened(rt: HostRuntime) -> Result<(), Fail> {
+    let mut memory = written(rt.alloc())?;
+    declared_on(rt.alloc(), &mut memory)?;
+    let file = LogFile::open(rt.alloc(), &mut memory)?;
+    assert_eq!(rt; standing_of(&file), DECLARED);
+    // epochs before the void ones are past
+    assert!(rt; !file.may_be_void(6, 7));
+    Ok(())
+}
+
+/// What two void bodies come to on a disk one of whose writes and syncs fails, and how many bodies are read back then.
+fn failed_at(alloc: Global, call: u32) -> Result<(Outcome, usize), Refusal> {
+    let mut memory = written(alloc)?;
+    let disk = Strict {
+        memory: &mut memory,
+        others: Some(call),
+        synced: false,
+        failures: 0,
+    };
+    let outcome = outcome_on(alloc, disk)?;
+    let (_, bodies) = scan(alloc, &mut memory)?;
+    Ok((outcome, bodies.len()))
+}
+
+#[test]
+fn a_device_that_fails_ends_a_file_that_was_opened(rt: HostRuntime) -> Result<(), Fail> {
+    let expected = Outcome {
+        opened: OPENED,
+        first: Err(Refusal::Device),
+        again: Err(Refusal::Device),
+        standing: OPENED,
+    };
+    // The first call is the sync of `open`; behind the last write the gate is open.
+    assert!(rt; failed_at(rt.alloc(), 0) == Err(Refusal::Device));
+    for (call, bodies) in [(1, 1), (2, 1), (3, 1), (4, 2)] {
+        assert_eq!(rt; failed_at(rt.alloc(), call)?, (expected, bodies));
+    }
+    Ok(())
+}
+
+/// A disk that can't be read before it was synced, and one of whose writes and syncs fails, and changes nothing then: the
+/// one behind so many others.
+#[derive(Drop)]
+struct Strict<'a> {
+    memory: &'a mut Memory,
+    others: Option<u32>,
+    synced: bool,
+    failures: u64,
+}
+
+impl Strict<'_> {
+    /// Refuses where this is the call that fails.
+    fn call(&mut self) -> Result<(), Refusal>
+        ensures { self.new.failures ≡ self.old.failures }
+    {
+        let others = self.others;
+        self.others = others.and_then(|left| left.checked_sub(1));
+        match others {
+            Some(0) => Err(Refusal::Device),
+            _ => Ok(()),
+        }
+    }
+
+    fn write(&mut self, at: u64, bytes: &[u8]) -> Result<(), Refusal>
+        ensures fits { OnOk result (at + length bytes.now < 2 ^ 63) }
+        ensures failures { self.new.failures ≡ self.old.failures }
+    {
+        self.call()?;
+        if self.memory.len()? < at {
+            return Err(Refusal::Device);
+        }
+        self.memory.write_at(at, bytes)
+    }
+
+    fn size(&mut self) -> Result<u64, Refusal>
+        ensures { self.new.failures ≡ self.old.failures }
+    {
+        if !self.synced {
+            return Err(Refusal::Device);
+        }
+        self.memory.len()
+    }
+
+    fn fill(&mut self, at: u64, into: &mut [u8]) -> Result<(), Refusal>
+        ensures size { length into.new ≡ length into.old }
+        ensures failures { self.new.failures ≡ self.old.failures }
+    {
+        if !self.synced {
+            return Err(Refusal::Device);
+        }
+        self.memory.read_at(at, into)
+    }
+
+    fn keep(&mut self) -> Result<(), Refusal>
+        ensures { self.new.failures ≡ self.old.failures }
+    {
+        self.call()?;
+        self.synced = true;
+        self.memory.sync()
+    }
+
+    /// This answer, as one of a disk that counts its failures.
+    fn counted<T: Drop>(&mut self, answer: Result<T, Refusal>) -> Result<T, Refusal>
+        ensures ok { IsOk result → IsOk answer }
+        ensures cause { Counts result self.old.failures self.new.failures }
+    {
+        match answer {
+            Ok(value) if self.failures < u64::MAX => Ok(value),
+            _ => {
+                self.failures = self.failures.saturating_add(1);
+                Err(Refusal::Device)
+            }
+        }
+    }
+}
+
+impl Disk for Strict<'_> {
+    ghost is_modelled = { ⊥ };
+
+    ghost seen = { λ disk. [] };
+
+    ghost story = { λ disk. [] };
+
+    ghost failed = { λ disk. disk.failures };
+
+    ghost read_gives = { λ disk never. absurd never };
+
+    fn len(&mut self) -> Result<u64, Refusal> {
+        let answer = self.size();
+        self.counted(answer)
+    }
+
+    fn read_at(&mut self, at: u64, into: &mut [u8]) -> Result<(), Refusal> {
+        let answer = self.fill(at, into);
+        self.counted(answer)
+    }
+
+    fn write_at(&mut self, at: u64, bytes: &[u8]) -> Result<(), Refusal> {
+        let answer = self.write(at, bytes);
+        self.counted(answer)
+    }
+
+    fn sync(&mut self) -> Result<(), Refusal> {
+        let answer = self.keep();
+        self.counted(answer)
+    }
+
+    fn failures(&self) -> u64 {
+        self.failures
+    }
+}
+
+#[test]
+fn a_file_is_read_behind_a_sync(rt: HostRuntime) -> Result<(), Fail> {
+    let mut memory = written(rt.alloc())?;
+    let disk = Strict {
+        memory: &mut memory,
+        others: None,
+        synced: false,
+        failures: 0,
+    };
+    let file = LogFile::open(rt.alloc(), disk)?;
+    assert_eq!(rt; standing_of(&file), OPENED);
+    Ok(())
+}

@@ -1,0 +1,101 @@
+"""Tests of the built program on what a recovery shows on a terminal."""
+
+import os
+import pty
+import re
+import subprocess
+import tempfile
+import threading
+import tty
+from pathlib import Path
+
+import preloaded
+from checks import SECONDS, SMALL, Ran, ends, fail, run, same, shows, start, whole
+from logs import LOGS
+
+SIZES = [len(log) for log in LOGS]
+
+# Where the report of the recovered tables is asked for, and where their rows are shown.
+OUTPUTS = {
+    "check": whole(b"", 2),
+    "recover": b"durable 5\ncommits 2\nwarehouse 1 ytd 202.00\ndistrict 1 1 ytd 102.00 next 11\n"
+    b"district 1 2 ytd 100.00 next 11\n",
+}
+
+
+def words_of(subcommand, folder, *words):
+    """The words of a subcommand on the log files in this folder."""
+    return [subcommand, *SMALL[1:], "--logs", folder, "--loggers", "2", *words]
+
+
+def on_terminal(words, env=None):
+    """Runs the program with a terminal as its standard error: what that was shown is told as what the errors got."""
+    terminal, end = pty.openpty()
+    tty.setraw(end)
+    process = start(words, stdin=subprocess.DEVNULL, stdout=subprocess.PIPE, stderr=end, env=env)
+    os.close(end)
+    timer = threading.Timer(SECONDS, process.kill)
+    timer.start()
+    shown = b""
+    try:
+        while piece := os.read(terminal, 65536):
+            shown += piece
+    except OSError:  # The other end was closed.
+        pass
+    finally:
+        os.close(terminal)
+        out = process.communicate()[0]
+        timer.cancel()
+    return Ran(process.returncode, out, shown)
+
+
+def has_shown(what, shown, read):
+    """Two checks: that lines stood on a screen which said that so many bytes were read and no entries looked at, until
+    the files were whole, and that all was erased."""
+    held = b"read %d of %d bytes, 0 entries" % (read, sum(SIZES))
+    last = re.compile(rb"read %d of %d bytes, [0-5] entries *" % (sum(SIZES), sum(SIZES)))
+    front, *lines, blanks, behind = shown.split(b"\r") if shown.count(b"\r") > 2 else [shown, b"", b"", b""]
+    same(f"what is erased {what}", (front, blanks.strip(b" "), len(blanks) >= len(held), behind), (b"", b"", True, b""))
+    same(f"whether the bytes that were read are shown {what}", lines[:1], [held])
+    for line in lines:
+        if line.rstrip(b" ") != held and not last.fullmatch(line):
+            fail(f"a line {what} is {line!r}")
+
+
+@shows
+def a_long_recovery_is_shown_on_a_terminal():
+    wrapper = preloaded.Wrapper()
+    with tempfile.TemporaryDirectory() as folder:
+        for logger, text in enumerate(LOGS):
+            (Path(folder) / f"log-{logger}").write_bytes(text)
+        held = [wrapper.environment(HELD=f"{folder}/log-{logger}") for logger in (0, 1)]
+        one, two = SIZES
+        cases = [("check", 1, 0, 0), ("recover", 1, 1, one), ("recover", 2, 0, two), ("check", 2, 1, one)]
+        for subcommand, threads, slow, read in cases:
+            what = f"by {subcommand} in {threads} threads where log-{slow} is slow"
+            ran = on_terminal(words_of(subcommand, folder, "--threads", str(threads)), held[slow])
+            ends(what, ran._replace(err=b""), 0, OUTPUTS[subcommand])
+            has_shown(what, ran.err, read)
+        words, output = words_of("recover", folder), OUTPUTS["recover"]
+        ends("of a slow one on no terminal", run(words, env=held[0]), 0, output)
+        ends("of a quick one on a terminal", on_terminal(words), 0, output)
+        ends("of a slow one without threads", on_terminal(words, {**held[0], "THREADLESS": "1"}), 0, output)
+    wrapper.close()
+
+
+@shows
+def what_is_wrong_with_log_files_is_told_behind_what_was_shown():
+    wrapper = preloaded.Wrapper()
+    with tempfile.TemporaryDirectory() as folder:
+        for logger, text in enumerate([LOGS[0], LOGS[0]]):
+            (Path(folder) / f"log-{logger}").write_bytes(text)
+        env = wrapper.environment(HELD=f"{folder}/log-1")
+        for subcommand in OUTPUTS:
+            alone = run(words_of(subcommand, folder))
+            ran = on_terminal(words_of(subcommand, folder), env)
+            shown, _, told = ran.err.rpartition(b"\r")
+            what = f"of {subcommand} on a file of another logger"
+            ends(what, ran._replace(err=told), alone.status, alone.out, alone.err)
+            line = b"\rread %d of %d bytes, 0 entries" % (SIZES[0], 2 * SIZES[0])
+            same(f"whether {subcommand} has shown how far it was", shown.startswith(line), True)
+    wrapper.close()
