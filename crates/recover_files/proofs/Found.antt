@@ -8,12 +8,13 @@ use Rattle.tidword.specs.TidWord.{epoch_of}
 use Rattle.log_header.specs.Header.{header_view}
 use Rattle.log_text.specs.Bodies.{BodyView}
 use Rattle.log_text.specs.Entries.{EntryView}
+use Rattle.log_text.specs.File.{IsFile}
 use Rattle.log_text.specs.Writes.{are_writes}
 use Rattle.recover_found.specs.Found.{counted, entries_of, found, keeps, kept}
 use Rattle.recover_found.proofs.Elements.{has_to}
 use Rattle.recover_files.specs.Files.{AreFiles}
 use Rattle.recover_files.specs.Parts.{HaveLawfulWrites}
-use Rattle.recover_files.proofs.LawfulEntries.{IsPositive, lawful_entries, positive_entries}
+use Rattle.recover_files.proofs.LawfulEntries.{IsPositive, IsWithinCap, lawful_entries, positive_entries, entries_within_cap}
 use Rattle.recover_files.proofs.Looking.{all_from, all_in, all_passed}
 
 -- the entries of log files have lawful writes
@@ -42,13 +43,28 @@ counted_lawful s counts (file ∷ files) all =
 pub counted_found : (counts : ℕ → Bool) (files : List (List BodyView)) → counts ≡ keeps files → flat_map (counted counts) files ≡ found files
 counted_found counts files is = ap (λ (c : ℕ → Bool). flat_map (counted c) files) is
 
--- the entries that are found have commit numbers from 1 on
-pub found_positive : (s : Sizes) (seed : ℕ) (strings : List (List ℕ)) (files : List (List BodyView)) → AreFiles s seed strings files → All IsPositive (found files)
-found_positive s seed strings files are = all_in IsPositive (kept files) files (All-from_get_or (λ (bodies : List BodyView). All IsPositive (kept files bodies)) files [] each)
-  where
-    each : (l : ℕ) → l < length files → All IsPositive (kept files (get_or files l []))
-    each l lt =
-        let is = are.each l (subst (λ (n : ℕ). l < n) are.count lt) in
-        let bodies = get_or files l [] in
-        All-filter (λ e. keeps files (epoch_of e.tid)) IsPositive (entries_of bodies)
-        (positive_entries (get_or strings l []) (header_view l (length strings) s seed) bodies is)
+module _ (s : Sizes) (seed : ℕ) (strings : List (List ℕ)) (files : List (List BodyView))
+    (are : AreFiles s seed strings files) where
+  abbrev IsNth : ℕ → Type 0
+  IsNth l = IsFile (get_or strings l []) (header_view l (length strings) s seed) (get_or files l [])
+
+  -- what holds of all entries of each file holds of those that are found
+  found_keep : (P : EntryView → Type 0) → ((l : ℕ) → IsNth l → All P (entries_of (get_or files l [])))
+      → All P (found files)
+  found_keep P of_file =
+      all_in P (kept files) files (All-from_get_or (λ (bodies : List BodyView). All P (kept files bodies)) files [] each)
+    where
+      each : (l : ℕ) → l < length files → All P (kept files (get_or files l []))
+      each l lt =
+          let is = are.each l (subst (λ (n : ℕ). l < n) are.count lt) in
+          All-filter (λ e. keeps files (epoch_of e.tid)) P (entries_of (get_or files l [])) (of_file l is)
+
+  -- the entries that are found have commit numbers from 1 on
+  pub found_positive : All IsPositive (found files)
+  found_positive = found_keep IsPositive
+      (λ l is. positive_entries (get_or strings l []) (header_view l (length strings) s seed) (get_or files l []) is)
+
+  -- up to the commit cap
+  pub found_within_cap : All (IsWithinCap s.commits) (found files)
+  found_within_cap = found_keep (IsWithinCap s.commits)
+      (λ l is. entries_within_cap (get_or strings l []) (header_view l (length strings) s seed) (get_or files l []) is)

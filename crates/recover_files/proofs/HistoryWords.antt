@@ -15,7 +15,7 @@ use Rattle.recover_files.proofs.LawfulWrites.{each_lawful}
 use Rattle.recover_files.proofs.Ranges.{IsIn, each_in, between}
 
 module _ (s : Sizes) (words : List ℕ) (e : are_within (ranges s table.History) words ≡ true) where
-  row_in_ranges : IsHistoryRow s (history_of_words words)
+  pub row_in_ranges : IsHistoryRow s (history_of_words words)
   row_in_ranges =
       let each = each_in (ranges s table.History) words e in
       let amount : IsIn MIN_PAYMENT MAX_PAYMENT (slice_index words 6) = each 6 (lit< tt) in

@@ -1,9 +1,9 @@
--- What each entry of a log file has: lawful writes, and a commit number from 1 on.
+-- What each entry of a log file has: lawful writes, and a commit number from 1 up to the commit cap.
 use Rattle.std.proofs.Common.{◌≡◌, ◌≤◌, ℕ, true, ◌&&◌, true≢false, arith, Option, Some, None, IsSome, List, [], ◌∷◌, ◌++◌, refl, sym}
 use Rattle.std.specs.Prelude.{nat_le, nat_lt}
 use Rattle.std.specs.List.{All, AllByRecursion, Contains}
 use Rattle.std.specs.Option.{option_and_then}
-use Rattle.std.proofs.lemmas.Bool.{ltb-true}
+use Rattle.std.proofs.lemmas.Bool.{ltb-true, leb-true}
 use Rattle.std.proofs.lemmas.List.Elements.{All-nil, All-append, All-contains, All-from_recursion}
 use Rattle.tables.specs.Sizes.{Sizes}
 use Rattle.log_header.specs.Header.{HeaderView}
@@ -78,3 +78,19 @@ entry_positive h mark number last e lawful =
 
 pub positive_entries : (file : List ℕ) (h : HeaderView) (bodies : List BodyView) → IsFile file h bodies → All IsPositive (entries_of bodies)
 positive_entries file h bodies is = file_keeps h IsPositive (entry_positive h) file bodies is
+
+-- and at most the commit cap
+abbrev pub IsWithinCap : ℕ → EntryView → Type 0
+IsWithinCap cap e = e.number ≤ cap
+
+entry_within_cap : (h : HeaderView) (mark number : ℕ) (last : Last) (e : EntryView)
+    → is_entry h mark number last e ≡ true → IsWithinCap h.scale.commits e
+entry_within_cap h mark number last e lawful =
+    let asked = is_asked h e.terminal && are_writes h.scale e.writes in
+    let halves = and_split (is_next h number e.number && is_timed mark last e.tid) asked lawful in
+    let next = and_split (is_next h number e.number) (is_timed mark last e.tid) halves.0 in
+    leb-true e.number h.scale.commits (and_split (nat_lt number e.number) (nat_le e.number h.scale.commits) next.0).1
+
+pub entries_within_cap : (file : List ℕ) (h : HeaderView) (bodies : List BodyView) → IsFile file h bodies
+    → All (IsWithinCap h.scale.commits) (entries_of bodies)
+entries_within_cap file h bodies is = file_keeps h (IsWithinCap h.scale.commits) (entry_within_cap h) file bodies is

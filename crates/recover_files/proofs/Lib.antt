@@ -1,4 +1,4 @@
-mod Looking
+pub mod Looking
 mod Knowing
 pub mod Ordering
 mod Rebuilding
@@ -6,8 +6,8 @@ pub mod Found
 pub mod LawfulEntries
 mod Ranges
 mod RowsOfWords
-mod LawfulWrites
-mod HistoryWords
+pub mod LawfulWrites
+pub mod HistoryWords
 mod HistoryRows
 mod OneAnswer
 mod DiskByDisk

@@ -10,6 +10,8 @@ mod meeting;
 #[cfg(test)]
 mod recovering_tests;
 #[cfg(test)]
+mod restart_tests;
+#[cfg(test)]
 mod telling_tests;
 #[cfg(test)]
 mod threads_tests;

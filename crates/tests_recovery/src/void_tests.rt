@@ -10,7 +10,7 @@ use std::test::Fail;
 use tests_log_vectors::VOID;
 
 /// Puts a void body of epochs 6 to 8 behind the file of this logger, and gives the file's length.
-fn declare(disks: &mut [Memory], logger: usize) -> Result<u64, Refusal> {
+pub(crate) fn declare(disks: &mut [Memory], logger: usize) -> Result<u64, Refusal> {
     let Some(disk) = disks.get_mut(logger) else {
         return Err(Refusal::BadInput);
     };
@@ -21,7 +21,10 @@ fn declare(disks: &mut [Memory], logger: usize) -> Result<u64, Refusal> {
 }
 
 /// What is recovered of disks, and W_YTD of warehouse 1.
-fn outcome_of(alloc: Global, disks: &mut [Memory]) -> Result<(Recovery, Option<Cents>), Refusal> {
+pub(crate) fn outcome_of(
+    alloc: Global,
+    disks: &mut [Memory],
+) -> Result<(Recovery, Option<Cents>), Refusal> {
     let population = small(alloc)?;
     let found = recover(alloc, &population, disks, &unwatched(alloc))?;
     let recovery = Recovery {

@@ -1,0 +1,4 @@
+mod Fronts
+mod Losing
+mod Going
+mod Happening

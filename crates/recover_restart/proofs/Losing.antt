@@ -1,0 +1,63 @@
+-- What was declared void in files, as worlds in which crashes happen have them.
+use Rattle.std.proofs.Common.{◌++◌, take, drop, ◌≡◌, ℕ, ◌+◌, ◌<◌, List, [], ◌∷◌, length, map, get_or, sym, ap, ◌∙◌, subst, arith}
+use Rattle.std.proofs.lemmas.List.{append-nil, drop_all, get_or-map, length-map, take_all}
+use Rattle.log_disk.specs.Calls.{Call}
+use Rattle.logfile.specs.Standing.{LogFileView}
+use Rattle.recover_crashes.specs.World.{DiskView}
+use Rattle.recover_opening.specs.Opening.{file_on}
+use Rattle.recover_restart.specs.Declaring.{IsDeclared, AreDeclared, no_failure}
+use Rattle.recover_restart.specs.Restarting.{HasLost, HaveLost}
+
+-- an element of a list that has one
+one_of : {A : Type 0} (xs : List A) → 0 < length xs → A
+one_of [] less = absurd (omega (arith, less))
+one_of (x ∷ xs) less = x
+
+module _ {D : Type 0} {IsModelled : Type 0} {seen : D → List ℕ} {story : D → List Call} {failed : D → ℕ} {durable top : ℕ} (modelled : IsModelled) where
+  has_lost : (old new : LogFileView D) → IsDeclared IsModelled seen story failed (durable + 1) top no_failure old new
+      → HasLost durable top (file_on seen story old) (file_on seen story new)
+  has_lost old new is = record {
+    header = is.header;
+    last = is.ok.2;
+    count = is.ok.3 ∙ omega arith;
+    number = is.ok.4;
+    failed = is.ok.1 ∙ sym is.ok.0;
+    end = is.end;
+    calls = is.calls modelled;
+  }
+
+  pub have_lost : (old new : List (LogFileView D)) → durable < top
+      → AreDeclared IsModelled seen story failed (durable + 1) top no_failure old new
+      → HaveLost durable top (map (file_on seen story) old) (map (file_on seen story) new)
+  have_lost old new less are = record {
+    count = length-map new (file_on seen story) ∙ are.count ∙ sym (length-map old (file_on seen story));
+    some = λ _ l d within.
+        let less : l < length old = omega (arith, within, length-map old (file_on seen story)) in
+        let e : LogFileView D = one_of old (omega (arith, less)) in
+        let here : get_or (map (file_on seen story) old) l d ≡ file_on seen story (get_or old l e)
+        = get_or-map (file_on seen story) old l e d less in
+        let there : get_or (map (file_on seen story) new) l d ≡ file_on seen story (get_or new l e)
+        = get_or-map (file_on seen story) new l e d (omega (arith, less, are.count)) in
+        subst (λ (f : LogFileView DiskView). HasLost durable top f (get_or (map (file_on seen story) new) l d)) (sym here)
+        (subst (λ (f : LogFileView DiskView). HasLost durable top (file_on seen story (get_or old l e)) f) (sym there)
+        (has_lost (get_or old l e) (get_or new l e) (are.front l e (omega (arith, less, are.all)))));
+    none = λ le. absurd (omega (arith, less, le));
+  }
+
+-- what is written back of a list in place of as many elements
+pub written_back : {A : Type 0} (n : ℕ) (old new : List A) → n ≡ length old → length new ≡ length old
+    → take n (new ++ drop (length new) old) ≡ new
+written_back n old new n_is count =
+    ap (λ rest. take n (new ++ rest)) (drop_all (length new) old (omega (arith, count)))
+    ∙ ap (take n) (append-nil new) ∙ take_all n new (omega (arith, n_is, count))
+
+-- what was declared void of files in a list, of which the others were written back
+pub lost_in : {D : Type 0} (seen : D → List ℕ) (story : D → List Call) {durable top n : ℕ} (items now new : List (LogFileView D))
+    → now ≡ items → n ≡ length items
+    → HaveLost durable top (map (file_on seen story) now) (map (file_on seen story) new)
+    → HaveLost durable top (map (file_on seen story) items) (map (file_on seen story) (take n (new ++ drop (length new) items)))
+lost_in {D} seen story {durable} {top} {n} items now new value n_is lost =
+    let count : length new ≡ length items = omega (arith, lost.count, length-map new (file_on seen story), length-map now (file_on seen story), ap length value) in
+    subst (λ (files : List (LogFileView D)). HaveLost durable top (map (file_on seen story) items) (map (file_on seen story) files))
+    (sym (written_back n items new n_is count))
+    (subst (λ (files : List (LogFileView D)). HaveLost durable top (map (file_on seen story) files) (map (file_on seen story) new)) value lost)

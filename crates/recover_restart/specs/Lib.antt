@@ -1,0 +1,4 @@
+pub mod Declaring
+pub mod Basing
+pub mod Restarting
+pub mod Lives

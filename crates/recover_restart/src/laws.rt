@@ -1,0 +1,40 @@
+//! That a restart is what may happen over the lives of a database.
+ghost use Rattle.std.specs.Prelude.{◌≡◌, ◌<◌, ℕ, List, [], length, slice_index_or};
+ghost use Rattle.tables.specs.Database.{Database};
+ghost use Rattle.book.specs.Parts.{first_of};
+ghost use Rattle.book.specs.declared.parts.Parts.{Parts};
+ghost use Rattle.logfile.specs.Standing.{LogFileView};
+ghost use Rattle.recover_crashes.specs.World.{DiskView};
+ghost use Rattle.recover_lives.specs.World.{Declaring, Declared};
+ghost use Rattle.recover_lives.specs.Events.{FilesAreRead, MayOpen};
+ghost use Rattle.recover_restart.specs.Restarting.{IsRestart};
+ghost use Rattle.recover_restart.specs.Lives.{origin_behind, life_behind, IsSyncedTwice, AreVoidCalls};
+
+/// What `restart` gives is what may happen over the lives of a database, event for event (`recover_lives`): each disk is
+/// synced before any is read, and once more; all files are read; where the last epoch of which they have anything is
+/// above the durable one, each file gets the void body by the four calls of an append; and a life may open behind it.
+/// The function does nothing: its contract is the law.
+pub fn restart_goes_on()
+    ensures syncs { (t0 : Database) (seed terminals : ℕ) (disks : List DiskView) (parts : Parts)
+        (files : List (LogFileView DiskView)) (commits epoch : ℕ)
+        → (r : IsRestart t0 seed terminals disks parts files commits epoch)
+        → (l : ℕ) (disk : DiskView) (file : LogFileView DiskView) → l < length disks
+        → IsSyncedTwice (slice_index_or disks l disk) (slice_index_or r.old l file).disk }
+    ensures reads { (t0 : Database) (seed terminals : ℕ) (disks : List DiskView) (parts : Parts)
+        (files : List (LogFileView DiskView)) (commits epoch : ℕ)
+        → (r : IsRestart t0 seed terminals disks parts files commits epoch)
+        → (disk : DiskView) (file : LogFileView DiskView) → 0 < length disks
+        → FilesAreRead (origin_behind t0 seed (length disks)) (λ l. (slice_index_or r.old l file).disk)
+        (λ l. slice_index_or r.bodies l []) r.durable r.top (λ l. slice_index_or r.old l file) }
+    ensures declares { (t0 : Database) (seed terminals : ℕ) (disks : List DiskView) (parts : Parts)
+        (files : List (LogFileView DiskView)) (commits epoch : ℕ)
+        → (r : IsRestart t0 seed terminals disks parts files commits epoch)
+        → (l : ℕ) (file : LogFileView DiskView) → l < length disks → r.durable < r.top
+        → AreVoidCalls r.durable r.top (slice_index_or r.old l file) (slice_index_or files l file) }
+    ensures opens { (t0 : Database) (seed terminals : ℕ) (disks : List DiskView) (parts : Parts)
+        (files : List (LogFileView DiskView)) (commits epoch : ℕ)
+        → (r : IsRestart t0 seed terminals disks parts files commits epoch) → 0 < length disks
+        → (steps : ℕ → Declaring) → ((l : ℕ) → l < length disks → r.durable < r.top → steps l ≡ Declared)
+        → MayOpen (origin_behind t0 seed (length disks)) (λ l. slice_index_or r.bodies l []) r.durable r.top steps
+        (life_behind (first_of parts) commits seed (length disks) r.top) }
+{}

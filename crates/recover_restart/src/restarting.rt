@@ -1,0 +1,142 @@
+//! Restart.
+ghost use Rattle.std.specs.Prelude.{◌≡◌, ◌≢◌, ◌<◌, ◌≤◌, ℕ, List, length, map, IfOk, IfErr, IsErrOf};
+ghost use Rattle.money.specs.declared.refusal.Refusal.TheVariants.{OutOfMemory, Damaged, Device, Gap, EpochFull};
+ghost use Rattle.tables.specs.declared.limits.TheConstants.{MAX_LOGGERS, MAX_TERMINALS};
+ghost use Rattle.population.specs.Initial.{initial, seed_of};
+ghost use Rattle.recover_found.specs.Found.{bodies_in, found};
+ghost use Rattle.recover_found.specs.Rebuilt.{HaveNoGap};
+ghost use Rattle.recover_files.specs.Files.{AreFiles};
+ghost use Rattle.recover_opening.specs.Opening.{disk_on, file_on};
+ghost use Rattle.recover_restart.specs.Basing.{AreUnsound};
+ghost use Rattle.recover_restart.specs.Restarting.{GoesOnBehind, IsRestart, AreFilesThat, IsFull};
+
+use crate::basing::base_of;
+use crate::declaring::declare_lost;
+use book::Parts;
+use log_disk::Disk;
+use log_text::Body;
+use logfile::LogFile;
+use money::Refusal;
+use population::Population;
+use recover_found::durable_of;
+use recover_opening::{open_all, top_epoch};
+use recover_progress::Progress;
+use recover_sound::sound_tables_may_begin;
+use std::alloc::Global;
+use std::sync::Wait;
+
+/// What a restart gives.
+#[derive(Drop)]
+pub struct Restarted<D: Disk> {
+    /// What the engine is opened with that goes on.
+    pub parts: Parts,
+    /// The log files, in the order of their loggers, to which it goes on to append.
+    pub files: Vec<LogFile<D>>,
+    /// How many commits were recovered: the next one has the number behind them.
+    pub commits: u64,
+    /// The epoch in which it goes on: the one behind all of which the files have anything.
+    pub epoch: u64,
+}
+
+/// What goes on behind files.
+#[derive(Drop)]
+pub(crate) struct Resumption {
+    pub(crate) parts: Parts,
+    /// Epochs behind this one up to the last are given up.
+    pub(crate) durable: u64,
+    /// The last epoch of which the files have anything.
+    pub(crate) top: u64,
+    pub(crate) commits: u64,
+}
+
+/// Goes on from the log files that a database's last process has left: disk `l` has the file of logger `l`, of as many
+/// loggers as disks. Syncs every disk before it reads any; recovers (`recover_files::recover`); and declares void, in
+/// every file in turn, the epochs behind the durable one up to the last of which the files have anything, if there are
+/// such (Silo, section 4.10). The engine that is opened with these parts commits in the epoch behind that. Costs what a
+/// recovery does, and what `Parts::behind` does. May wait, at a record's cell alone.
+///
+/// # Errors
+///
+/// In this order: `Device` where a call of a disk fails. `Damaged` where some file is no log file of this population's
+/// database, of its logger and of that many loggers. `Gap` where the commits that count don't have the numbers 1, 2 and
+/// so on, each once. `EpochFull` where the files have something of the last epoch that there is. `Damaged` where the
+/// tables that they recover to aren't such as so many commits can have made. `OutOfMemory`. Up to here nothing is
+/// written. Then `Device`, where a write or a sync of a void body fails: the files are then as a crash may leave them.
+/// The disks are dropped; on the same files it may be called again.
+pub fn restart<R: Wait, D: Disk + Drop>(
+    rt: &R,
+    alloc: Global,
+    population: Population,
+    disks: Vec<D>,
+    terminals: u16,
+    progress: &Progress,
+) -> Result<Restarted<D>, Refusal>
+    requires loggers { (0 < length disks.items) × (length disks.items ≤ MAX_LOGGERS) }
+    requires terminals { (0 < terminals) × (terminals ≤ MAX_TERMINALS) }
+    ensures restarted { D.is_modelled → IfOk result (λ r. IsRestart (initial population) (seed_of population) terminals
+        (map (disk_on D.seen D.story) disks.items) r.parts (map (file_on D.seen D.story) r.files.items) r.commits
+        r.epoch) }
+    ensures gap { D.is_modelled → IsErrOf result Gap
+        → AreFilesThat (initial population).scale (seed_of population) (map D.seen disks.items) (λ files.
+        HaveNoGap (found files) → ⊥) }
+    ensures full { D.is_modelled → IsErrOf result EpochFull
+        → AreFilesThat (initial population).scale (seed_of population) (map D.seen disks.items) IsFull }
+    ensures others { IfErr result (λ refusal. (refusal ≢ OutOfMemory) → (refusal ≢ Device) → (refusal ≢ Gap)
+        → (refusal ≢ EpochFull) → refusal ≡ Damaged) }
+{
+    let loggers = disks.len() as u16;
+    let (mut files, bodies) = open_all(alloc, &population, disks)?;
+    let ahead = behind_files(rt, alloc, population, bodies, loggers, terminals, progress)?;
+    match declare_lost(&mut files, ahead.durable, ahead.top) {
+        Ok(()) => Ok(Restarted {
+            parts: ahead.parts,
+            files,
+            commits: ahead.commits,
+            epoch: ahead.top + 1,
+        }),
+        Err(refusal) => Err(refusal),
+    }
+}
+
+/// What goes on behind log files of these bodies.
+///
+/// # Errors
+///
+/// As `base_of`.
+fn behind_files<R: Wait>(
+    rt: &R,
+    alloc: Global,
+    population: Population,
+    files: Vec<Vec<Body>>,
+    loggers: u16,
+    terminals: u16,
+    progress: &Progress,
+) -> Result<Resumption, Refusal>
+    requires files { (strings : List (List ℕ)) × AreFiles (initial population).scale (seed_of population) strings
+        (map (λ bodies. bodies_in bodies.items) files.items) }
+    requires loggers { (0 < loggers) × (loggers ≤ MAX_LOGGERS) }
+    requires terminals { (0 < terminals) × (terminals ≤ MAX_TERMINALS) }
+    ensures goes_on { IfOk result (λ r. GoesOnBehind (initial population) (seed_of population) loggers terminals
+        (map (λ bodies. bodies_in bodies.items) files.items) r.parts r.durable r.top r.commits) }
+    ensures gap { IsErrOf result Gap → HaveNoGap (found (map (λ bodies. bodies_in bodies.items) files.items)) → ⊥ }
+    ensures full { IsErrOf result EpochFull → IsFull (map (λ bodies. bodies_in bodies.items) files.items) }
+    ensures damaged { IsErrOf result Damaged → AreUnsound (initial population)
+        (map (λ bodies. bodies_in bodies.items) files.items) }
+    ensures others { IfErr result (λ refusal. (refusal ≢ OutOfMemory) → (refusal ≢ Gap) → (refusal ≢ EpochFull)
+        → refusal ≡ Damaged) }
+{
+    // Who asks for a scale knows its limits.
+    let _scale = population.scale();
+    let durable = durable_of(&files);
+    let top = top_epoch(&files);
+    let base = base_of(alloc, &population, files, top, progress)?;
+    let commits = u64::from(base.commits);
+    sound_tables_may_begin();
+    let parts = Parts::behind(rt, alloc, population, base, loggers, terminals)?;
+    Ok(Resumption {
+        parts,
+        durable,
+        top,
+        commits,
+    })
+}

@@ -1,0 +1,4 @@
+mod Good
+mod Capped
+mod Lawful
+mod Beginning
