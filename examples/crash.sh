@@ -1,5 +1,6 @@
 #!/bin/sh
-# Shows what a crash leaves: a run that ends and a run that is killed in mid-air, and what each recovers to.
+# Shows what a crash leaves: a run that ends and a run that is killed in mid-air, what each recovers to, and that the
+# killed one is gone on with.
 #
 #     crash.sh [PROGRAM]
 #
@@ -91,4 +92,16 @@ child=
 [ ! -s "$work/cut.ran" ] || fail "it wrote its counts, and so wasn't killed in mid-air"
 echo "  killed with $(size "$work"/cut/log-*) bytes in its $loggers log files"
 examine "$work/cut"
+
+echo "The run that was killed, gone on with:"
+before=$(number commits "$work/cut.recovered")
+# shellcheck disable=SC2086
+"$program" run --resume --logs "$work/cut" --loggers $loggers --count 1000 --seed 2 $tables >"$work/cut.resumed" ||
+    fail "the resumed run ended with status $?"
+resumed=$(sed -n 's/^resumed \([0-9]*\) epoch [0-9]*$/\1/p' "$work/cut.resumed")
+[ "$resumed" = "$before" ] || fail "it went on behind $resumed commits, and not behind $before"
+echo "  it says: $(head -n 1 "$work/cut.resumed"), then $(number commits "$work/cut.resumed") commits more"
+examine "$work/cut"
+after=$(number commits "$work/cut.recovered")
+[ "$after" -eq $((before + $(number commits "$work/cut.resumed"))) ] || fail "$after commits were recovered"
 echo "All is as it must be."

@@ -24,6 +24,7 @@ import decks
 import devices
 import flaws
 import kills
+import resumed
 import screens
 import voids
 from checks import RUNS, SECONDS, SHOWN, SMALL, Checks, Ran, ends, fail, run, same, shows, shows_runs, start, whole
@@ -177,10 +178,14 @@ Options:
       --terminals <N>      The number of terminals, 1 to 16 [default: 4]
       --count <N>          Inputs of each terminal, 0 to 1000000 [default: 100]
       --seed <SEED>        The seed that the inputs are drawn from [default: 1]
+      --resume             Goes on from the log files that are there, after a run that ended or was stopped
 """ + TABLE_OPTIONS + b"""
 Each logger makes a file of its own in DIR: log-0, log-1 and so on. Where one is there already, nothing is run.
 What the files hold outlives a crash: `tpcc recover` shows what that is, and `tpcc check` its consistency conditions,
 for the same DIR, as many loggers, and the same options of the tables.
+With --resume a run goes on from what they hold: for the same DIR, as many loggers, and the same options of the tables.
+It first prints `resumed M epoch E`: M commits were recovered, and it commits in epoch E and later ones. Give another
+--seed than before, or its inputs are those of the run before. Where a file is missing or damaged, nothing is run.
 """
 
 LOGS_HELP = b"""

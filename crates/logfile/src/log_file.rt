@@ -69,8 +69,9 @@ impl<D: Disk> LogFile<D> {
     ///
     /// # Errors
     ///
-    /// `Device` where the device fails, and only there; `OutOfMemory`, before the first call of the device. The disk is
-    /// dropped then.
+    /// `Device`; `OutOfMemory`. After Ok no call of the device has failed. An Err drops the disk, so no clause says more
+    /// of it; by the code alone `Device` comes exactly where a call of the device fails, and `OutOfMemory` before the
+    /// first one.
     pub fn create(alloc: Global, disk: D, header: Header) -> Result<LogFile<D>, Refusal>
     where
         D: Drop,
@@ -137,8 +138,10 @@ impl<D: Disk> LogFile<D> {
     ///
     /// # Errors
     ///
-    /// `Device` where the device fails, and only there; `Damaged` exactly where it doesn't and the bytes are no log
-    /// file; `OutOfMemory`. The disk is dropped then; nothing was written.
+    /// `Damaged`, of a modelled disk only where its bytes are no log file; `Device`; `OutOfMemory`. After Ok they are
+    /// one, and no call of the device has failed. An Err drops the disk, so no clause says more of it; by the code
+    /// alone `Device` comes exactly where a call of the device fails, `OutOfMemory` only for want of memory, and
+    /// nothing is written.
     pub fn open_with_bodies(alloc: Global, disk: D) -> Result<(LogFile<D>, Vec<Body>), Refusal>
     where
         D: Drop,

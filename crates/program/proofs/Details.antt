@@ -6,7 +6,7 @@ use Rattle.money.specs.declared.refusal.Refusal.TheVariants.{Device, Damaged, Ga
 use Rattle.tables.specs.Sizes.{Sizes}
 use Rattle.log_flaws.specs.Texts.{flaw_text}
 use Rattle.program_recovery.specs.Flaws.{misnumbered_text}
-use Rattle.program.specs.Detail.{CauseView, Unusable, Flawed, Amiss, IsCauseLine, IsDetail, IsReasonTold, reason_of, scale_line, trouble_of}
+use Rattle.program.specs.Detail.{CauseView, Unusable, Flawed, Amiss, Unsound, IsCauseLine, IsDetail, IsReasonTold, reason_of, scale_line, trouble_of}
 
 some_line : (what : List ℕ) (reason : Option Error) → (line : List ℕ) × IsReasonTold what reason line
 some_line what (Some error) = (what ++ (codes ": " ++ ([] ++ codes "\n")), ([], refl))
@@ -16,6 +16,7 @@ some_cause : (known : Option CauseView) → (line : List ℕ) × IsCauseLine kno
 some_cause (Some (Unusable path trouble)) = some_line (path ++ (codes ": " ++ trouble_of trouble)) (reason_of trouble)
 some_cause (Some (Flawed path flaw)) = (path ++ (codes ": " ++ (flaw_text flaw ++ codes "\n")), refl)
 some_cause (Some (Amiss gap)) = (misnumbered_text gap ++ codes "\n", refl)
+some_cause (Some Unsound) = (_, refl)
 some_cause None = ([], refl)
 
 -- for each refusal there is something to be told

@@ -1,2 +1,3 @@
 mod Beginnings
 mod Details
+mod Resumed

@@ -17,7 +17,7 @@ use Rattle.program.specs.declared.fault.Cause.TheVariants as cause
 use Rattle.program.specs.declared.fault.Fault.{Fault}
 use Rattle.program.specs.declared.fault.Trouble.{Trouble}
 use Rattle.program.specs.declared.fault.Trouble.TheVariants.{NotCreated, Exists, NotOpened, NotLocked, InUse}
-use Rattle.program.specs.declared.fault.Trouble.TheVariants.{NotRead, NotWritten, NotSynced}
+use Rattle.program.specs.declared.fault.Trouble.TheVariants.{NotRead, NotWritten, NotUsed, NotSynced}
 
 -- `--orders is 9: it is to be from 10 (the customers) to 100000`, with a line feed. The note says whose number the
 -- lower limit is
@@ -59,6 +59,7 @@ trouble_of (NotLocked error) = codes "can't be locked"
 trouble_of InUse = codes "in use by another process"
 trouble_of (NotRead error) = codes "can't be read"
 trouble_of (NotWritten error) = codes "can't be written"
+trouble_of (NotUsed error) = codes "can't be read or written"
 trouble_of (NotSynced error) = codes "can't be synced"
 
 -- the system's reason, if it is one of its own
@@ -70,29 +71,37 @@ reason_of (NotLocked error) = Some error
 reason_of InUse = None
 reason_of (NotRead error) = Some error
 reason_of (NotWritten error) = Some error
+reason_of (NotUsed error) = Some error
 reason_of (NotSynced error) = Some error
 
 -- why a run was refused: the file of this path, or the folder of the files, couldn't be used; the file isn't the log file
--- that it is to be; or the numbers of commits are amiss
+-- that it is to be; the numbers of commits are amiss; or what the files recover to no commits can have made
 pub data CauseView : Type 0 where
   Unusable : List ℕ → Trouble → CauseView
   Flawed : List ℕ → FileFlaw → CauseView
   Amiss : Misnumbered → CauseView
+  Unsound : CauseView
 
 abbrev pub cause_view : Cause → CauseView
 cause_view (cause.Unusable path trouble) = Unusable (string_bytes path) trouble
 cause_view (cause.Flawed path flaw) = Flawed (string_bytes path) flaw
 cause_view (cause.Amiss gap) = Amiss gap
+cause_view cause.Unsound = Unsound
 
 -- what is known of why
 abbrev pub cause_of : Fault → Option CauseView
 cause_of fault = option_map cause_view fault.cause
+
+-- what is told of files that recover to what no commits can have made
+abbrev pub unsound_text : List ℕ
+unsound_text = codes "what the log files recover to no commits can have made: `tpcc check` tells more"
 
 -- the line on it, if it is known
 abbrev pub IsCauseLine : Option CauseView → List ℕ → Type 0
 IsCauseLine (Some (Unusable path trouble)) line = IsReasonTold (path ++ (codes ": " ++ trouble_of trouble)) (reason_of trouble) line
 IsCauseLine (Some (Flawed path flaw)) line = line ≡ path ++ (codes ": " ++ (flaw_text flaw ++ codes "\n"))
 IsCauseLine (Some (Amiss gap)) line = line ≡ misnumbered_text gap ++ codes "\n"
+IsCauseLine (Some Unsound) line = line ≡ unsound_text ++ codes "\n"
 IsCauseLine None line = line ≡ []
 
 -- the line on the stream on which the last call failed, by the errors of the last calls on the input and on the output,

@@ -1,5 +1,5 @@
 -- What a run of the program comes to: from its words and its input to its output, its errors and its exit status.
-use Rattle.std.specs.Prelude.{◌≡◌, ◌⊎◌, ◌++◌, ◌≤◌, ℕ, List, [], Option, None}
+use Rattle.std.specs.Prelude.{◌≡◌, ◌⊎◌, ◌++◌, ◌≤◌, ℕ, List, [], Option, None, MatchBool}
 use Rattle.std.specs.Io.KnownBytes.{Appends}
 use Rattle.std.specs.declared.io.Error.{Error as IoError}
 use Rattle.clap.specs.declared.error.Error.{Error}
@@ -15,6 +15,7 @@ use Rattle.book.specs.Done.{Done}
 use Rattle.program_script.specs.Written.{HasTooManyLines, IsWhole, IsBeginning}
 use Rattle.program_options.specs.CommandLine.{IsAskedBy, IsOptionsRefusal}
 use Rattle.program_options.specs.declared.asked.Options.{Options}
+use Rattle.program_options.specs.declared.asked.RunOptions.{RunOptions}
 use Rattle.program_options.specs.declared.asked.Subcommand.{Subcommand}
 use Rattle.program_options.specs.declared.asked.Subcommand.TheVariants.{Script, Run, Recover, Check}
 use Rattle.program_run.specs.Told.{IsRan}
@@ -22,6 +23,7 @@ use Rattle.program_recovery.specs.Told.{Shows, Reports}
 use Rattle.program.specs.Status.{IsRefusedStatus, refusal_line, WritesBeginning}
 use Rattle.program.specs.Detail.{CauseView, IsDetail}
 use Rattle.program.specs.Logs.{IsShownWith, IsCheckedWith, IsRefusedWith, IsUnfinishedRun}
+use Rattle.program.specs.Resumed.{IsResumedRun, IsUnfinishedResumedRun}
 
 -- the scale that options ask for
 abbrev pub scale_of : Options → Sizes
@@ -47,10 +49,21 @@ pub record IsBrokenOff (t0 : Database) (bytes : List ℕ) (old new : Option (Lis
   pub wrote : Appends old new front
   pub beginning : IsBeginning t0 bytes front
 
+-- terminals ran, from these first tables on, or from what log files hold that were there
+abbrev pub IsRunAsAsked : Database → ℕ → RunOptions → Option (List ℕ) → Option (List ℕ) → Report → Type 0
+IsRunAsAsked t0 seed r old new report =
+    MatchBool r.resume (IsResumedRun r t0 seed old new report) (IsRan 0 t0 r.terminals r.count old new report)
+
+-- or that was refused, of which this is known
+abbrev pub IsUnfinishedAsAsked : Database → ℕ → RunOptions → Option (List ℕ) → Option (List ℕ) → Refusal → Option CauseView
+    → Type 0
+IsUnfinishedAsAsked t0 seed r old new refusal known = MatchBool r.resume (IsUnfinishedResumedRun r t0 seed old new refusal known)
+    (IsUnfinishedRun r t0 old new refusal known)
+
 -- a subcommand was done, over a population of these tables and this seed, and it ends with this report
 abbrev pub IsDone : Database → ℕ → Subcommand → List ℕ → Option (List ℕ) → Option (List ℕ) → Report → Type 0
 IsDone t0 seed Script bytes old new report = IsAnswered t0 bytes old new report
-IsDone t0 seed (Run r) bytes old new report = IsRan t0 r.terminals r.count old new report
+IsDone t0 seed (Run r) bytes old new report = IsRunAsAsked t0 seed r old new report
 IsDone t0 seed (Recover r) bytes old new report = IsShownWith t0 seed old new report
 IsDone t0 seed (Check r) bytes old new report = IsCheckedWith t0 seed old new report
 
@@ -58,7 +71,7 @@ IsDone t0 seed (Check r) bytes old new report = IsCheckedWith t0 seed old new re
 abbrev pub IsFailed : Database → ℕ → Subcommand → List ℕ → Option (List ℕ) → Option (List ℕ) → Refusal
     → Option CauseView → Type 0
 IsFailed t0 seed Script bytes old new refusal known = IsBrokenOff t0 bytes old new refusal × (known ≡ None)
-IsFailed t0 seed (Run r) bytes old new refusal known = IsUnfinishedRun r t0 old new refusal known
+IsFailed t0 seed (Run r) bytes old new refusal known = IsUnfinishedAsAsked t0 seed r old new refusal known
 IsFailed t0 seed (Recover r) bytes old new refusal known =
     IsRefusedWith r.files Shows t0 seed old new refusal known
 IsFailed t0 seed (Check r) bytes old new refusal known =

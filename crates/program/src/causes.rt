@@ -5,6 +5,7 @@ ghost use Rattle.population.specs.Initial.{initial, seed_of};
 ghost use Rattle.program_options.specs.declared.asked.LogFiles.{LogFiles as LogFilesValue};
 ghost use Rattle.program.specs.Detail.{Flawed, cause_of, cause_view};
 ghost use Rattle.program.specs.Logs.{HasBroken, IsWhy, path_of};
+ghost use Rattle.program.specs.declared.fault.Purpose.{Purpose as PurposeValue};
 
 use crate::fault::{Cause, Fault, Purpose};
 use crate::logs::path;
@@ -58,43 +59,46 @@ fn broken_file(
     None
 }
 
-/// The fault of a recovery that was refused. It tells the file that couldn't be read, or what is wrong with the files,
-/// for which it reads them once more, unless memory is short.
+/// The fault of a recovery, or a restart, that was refused. It tells the file that couldn't be used, or what is wrong
+/// with the files, for which it reads them once more, unless memory is short.
 pub(crate) fn unrecovered(
     alloc: Global,
     population: &Population,
     files: &LogFiles,
+    purpose: Purpose,
     refusal: Refusal,
     disks: &mut [FileDisk],
 ) -> Fault
     requires { length disks.old ≡ files.now.loggers }
     ensures refusal { result.refusal ≡ refusal }
-    ensures cause { IfSome (cause_of result) (IsWhy files.now (initial population.now) (seed_of population.now)
-        refusal) }
+    ensures cause { IfSome (cause_of result) (IsWhy purpose files.now (initial population.now).scale
+        (seed_of population.now) refusal) }
 {
     match refusal {
         Refusal::Damaged => Fault {
             refusal,
-            cause: damaged_file(alloc, population, files, disks),
+            cause: damaged_file(alloc, population, files, purpose, disks),
         },
         Refusal::Gap => Fault {
             refusal,
             cause: gap_in(alloc, population, disks),
         },
-        _ => broken_off(alloc, files, Purpose::Read, refusal, disks),
+        _ => broken_off(alloc, files, purpose, refusal, disks),
     }
 }
 
-/// The first file that isn't the log file that it is to be. None where none is, or it can't be told.
+/// The first file that isn't the log file that it is to be; where all are, files that are to be gone on with recover to
+/// what no commits can have made. None where it can't be told.
 fn damaged_file(
     alloc: Global,
     population: &Population,
     files: &LogFiles,
+    purpose: Purpose,
     disks: &mut [FileDisk],
 ) -> Option<Cause>
     requires { length disks.old ≡ files.now.loggers }
-    ensures { IfSome result (λ cause. IsWhy files.now (initial population.now) (seed_of population.now) Damaged
-        (cause_view cause)) }
+    ensures { IfSome result (λ cause. IsWhy purpose files.now (initial population.now).scale (seed_of population.now)
+        Damaged (cause_view cause)) }
 {
     // A command line lets no more through.
     if disks.len() > usize::from(MAX_LOGGERS) {
@@ -102,6 +106,7 @@ fn damaged_file(
     }
     match first_damage(alloc, population, disks) {
         Ok(Some(damage)) => flawed(alloc, files, &damage),
+        Ok(None) if purpose == Purpose::Append => Some(Cause::Unsound),
         _ => None,
     }
 }
@@ -120,8 +125,8 @@ fn flawed(alloc: Global, files: &LogFiles, damage: &Damage) -> Option<Cause>
 
 /// The first number that is amiss of the commits that log files have. None where none is, or it can't be told.
 fn gap_in(alloc: Global, population: &Population, disks: &mut [FileDisk]) -> Option<Cause>
-    ensures { IfSome result (λ cause. (files : LogFilesValue) → IsWhy files (initial population.now)
-        (seed_of population.now) Gap (cause_view cause)) }
+    ensures { IfSome result (λ cause. (purpose : PurposeValue) (files : LogFilesValue) → IsWhy purpose files
+        (initial population.now).scale (seed_of population.now) Gap (cause_view cause)) }
 {
     match first_gap(alloc, population, disks) {
         Ok(Some(gap)) => Some(Cause::Amiss(gap)),

@@ -66,9 +66,14 @@ fn cause_detail(alloc: Global, cause: &Option<Cause>) -> Result<String, AllocErr
             format!(in alloc; "{path}: {flaw}\n")
         }
         Some(Cause::Amiss(gap)) => format!(in alloc; "{gap}\n"),
+        Some(Cause::Unsound) => format!(in alloc; "{UNSOUND}\n"),
         None => Ok(String::new(alloc)),
     }
 }
+
+/// What is told of files that recover to what no commits can have made.
+const UNSOUND: &str =
+    "what the log files recover to no commits can have made: `tpcc check` tells more";
 
 /// The line on a file that couldn't be used.
 fn file_detail(alloc: Global, path: &str, trouble: &Trouble) -> Result<String, AllocError>

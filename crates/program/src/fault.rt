@@ -23,6 +23,8 @@ pub(crate) enum Cause {
     Flawed { path: String, flaw: FileFlaw },
     /// The commits that log files have lack one, or have one twice.
     Amiss(Misnumbered),
+    /// The files are whole, but what they recover to no commits can have made.
+    Unsound,
 }
 
 /// What log files are used for.
@@ -32,6 +34,8 @@ pub(crate) enum Purpose {
     Read,
     /// To be made, and then written: they aren't there yet.
     Create,
+    /// To be read, and then written behind what they hold: they are there.
+    Append,
 }
 
 impl Purpose {
@@ -45,6 +49,7 @@ impl Purpose {
         match self {
             Purpose::Read => Trouble::NotRead(error),
             Purpose::Create => Trouble::NotWritten(error),
+            Purpose::Append => Trouble::NotUsed(error),
         }
     }
 }
@@ -66,6 +71,8 @@ pub(crate) enum Trouble {
     NotRead(Error),
     /// It couldn't be written, or its bytes not be made durable.
     NotWritten(Error),
+    /// It couldn't be read or written, or its bytes not be made durable.
+    NotUsed(Error),
     /// The names in the folder couldn't be made durable.
     NotSynced(Error),
 }
@@ -88,6 +95,7 @@ impl Trouble {
             Trouble::InUse => "in use by another process",
             Trouble::NotRead(_) => "can't be read",
             Trouble::NotWritten(_) => "can't be written",
+            Trouble::NotUsed(_) => "can't be read or written",
             Trouble::NotSynced(_) => "can't be synced",
         }
     }
@@ -103,6 +111,7 @@ impl Trouble {
             | Trouble::NotLocked(error)
             | Trouble::NotRead(error)
             | Trouble::NotWritten(error)
+            | Trouble::NotUsed(error)
             | Trouble::NotSynced(error) => Some(*error),
             Trouble::InUse => None,
         }

@@ -7,6 +7,7 @@ mod ending;
 mod fault;
 mod live;
 mod logs;
+mod resuming;
 mod running;
 mod watched;
 

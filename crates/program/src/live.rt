@@ -1,5 +1,5 @@
-//! The subcommand `run`: terminals and loggers in threads, with a new log file a logger.
-ghost use Rattle.std.specs.Prelude.{◌≡◌, length, IfOk, IfErr};
+//! The subcommand `run`: terminals and loggers in threads, with a log file a logger.
+ghost use Rattle.std.specs.Prelude.{◌≡◌, length, map, IfOk, IfErr};
 ghost use Rattle.population.specs.Initial.{initial};
 ghost use Rattle.program_run.specs.Told.{IsRan};
 ghost use Rattle.program.specs.Detail.{cause_of};
@@ -9,11 +9,12 @@ use crate::causes::broken_off;
 use crate::fault::{Fault, Purpose};
 use crate::logs::disks;
 use conditions::Report;
-use log_disk::FileDisk;
+use log_disk::{Disk, FileDisk};
+use logfile::LogFile;
 use money::Refusal;
 use population::Population;
 use program_options::RunOptions;
-use program_run::{Beat, Plan, Screen, Slot, Stopwatch, Waits, drive};
+use program_run::{Beat, OpenLog, Plan, Screen, Slot, Stopwatch, Waits, drive};
 use std::alloc::{AllocError, Global};
 use std::fs::File;
 use std::io::Write;
@@ -40,7 +41,7 @@ pub(crate) fn live<
     output: &mut W,
     screen: Option<S>,
 ) -> Result<Report, Fault>
-    ensures ran { IfOk result (IsRan (initial population) options.now.terminals options.now.count
+    ensures ran { IfOk result (IsRan 0 (initial population) options.now.terminals options.now.count
         (W.contents output.old) (W.contents output.new)) }
     ensures failed { IfErr result (λ fault. IsUnfinishedRun options.now (initial population)
         (W.contents output.old) (W.contents output.new) fault.refusal (cause_of fault)) }
@@ -52,13 +53,16 @@ pub(crate) fn live<
     let waits = waits_for(alloc, &screen)?;
     let gates = gates(rt, alloc, options.terminals as u16, waits.as_ref())?;
     let slots = slots(rt, alloc, &mut disks, screen, waits.as_ref())?;
-    let plan = Plan {
-        terminals: options.terminals as u16,
-        inputs: options.count,
-        seed: options.seed,
-    };
     let files = &options.files;
-    match drive(rt, alloc, population, slots, gates, &plan, output) {
+    match drive(
+        rt,
+        alloc,
+        population,
+        slots,
+        gates,
+        &plan_of(options),
+        output,
+    ) {
         Ok(driven) => match driven.stopped {
             None => Ok(driven.report),
             Some(_) => Err(broken_off(alloc, files, Purpose::Create, Refusal::Device, &disks)),
@@ -67,8 +71,23 @@ pub(crate) fn live<
     }
 }
 
+/// The terminals of a run with these options, and what they do.
+pub(crate) fn plan_of(options: &RunOptions) -> Plan
+    ensures { result ≡ record {
+      terminals = options.now.terminals;
+      inputs = options.now.count;
+      seed = options.now.seed;
+    } }
+{
+    Plan {
+        terminals: options.terminals as u16,
+        inputs: options.count,
+        seed: options.seed,
+    }
+}
+
 /// What the terminals tell of what their commits wait, if there is a screen that shows it.
-fn waits_for<S>(alloc: Global, screen: &Option<S>) -> Result<Option<Waits>, AllocError> {
+pub(crate) fn waits_for<S>(alloc: Global, screen: &Option<S>) -> Result<Option<Waits>, AllocError> {
     match screen {
         Some(_) => Ok(Some(Waits::new(alloc)?)),
         None => Ok(None),
@@ -76,7 +95,7 @@ fn waits_for<S>(alloc: Global, screen: &Option<S>) -> Result<Option<Waits>, Allo
 }
 
 /// What terminals are given: each a gate that takes the time of its commits, if that is to be told.
-fn gates<'a, C: Clock>(
+pub(crate) fn gates<'a, C: Clock>(
     clock: &'a C,
     alloc: Global,
     terminals: u16,
@@ -91,7 +110,7 @@ fn gates<'a, C: Clock>(
     Ok(gates)
 }
 
-/// What loggers are given: each a disk, which it borrows, and turns an interval apart. The first one has the screen.
+/// What loggers of new log files are given: each a disk, which it borrows, and its beat.
 fn slots<'a, 'd, C: Clock, S: Write + Drop>(
     clock: &'a C,
     alloc: Global,
@@ -101,16 +120,43 @@ fn slots<'a, 'd, C: Clock, S: Write + Drop>(
 ) -> Result<Vec<Slot<&'d mut FileDisk, Beat<'a, C, S>>>, AllocError>
     ensures { IfOk result (λ slots. length slots.items ≡ length disks.old) }
 {
-    let mut screen = match (screen, clock.monotonic(), waits) {
-        (Some(screen), Ok(now), Some(waits)) => Some(Screen::new(alloc, screen, now, waits)),
-        _ => None,
-    };
+    let mut screen = screen_of(clock, alloc, screen, waits);
     let mut slots = Vec::new(alloc);
     for disk in disks.iter_mut() {
-        slots.push(Slot {
-            disk,
-            pace: Beat::new(clock, Duration::from_millis(INTERVAL), screen.take()),
-        })?;
+        let pace = Beat::new(clock, Duration::from_millis(INTERVAL), screen.take());
+        slots.push(Slot { disk, pace })?;
     }
     Ok(slots)
+}
+
+/// What loggers of open log files are given: each its file, and its beat.
+pub(crate) fn paced<'a, D: Disk + Drop, C: Clock, S: Write + Drop>(
+    clock: &'a C,
+    alloc: Global,
+    files: Vec<LogFile<D>>,
+    screen: Option<S>,
+    waits: Option<&'a Waits>,
+) -> Result<Vec<OpenLog<D, Beat<'a, C, S>>>, AllocError>
+    ensures { IfOk result (λ logs. map (λ log. log.file) logs.items ≡ files.items) }
+{
+    let mut screen = screen_of(clock, alloc, screen, waits);
+    let mut logs = Vec::new(alloc);
+    for file in files {
+        let pace = Beat::new(clock, Duration::from_millis(INTERVAL), screen.take());
+        logs.push(OpenLog { file, pace })?;
+    }
+    Ok(logs)
+}
+
+/// The screen of a run, which the first logger's beat gets: the beats make turns an interval apart.
+fn screen_of<'a, C: Clock, S: Write + Drop>(
+    clock: &C,
+    alloc: Global,
+    screen: Option<S>,
+    waits: Option<&'a Waits>,
+) -> Option<Screen<'a, S>> {
+    match (screen, clock.monotonic(), waits) {
+        (Some(screen), Ok(now), Some(waits)) => Some(Screen::new(alloc, screen, now, waits)),
+        _ => None,
+    }
 }

@@ -51,7 +51,10 @@ pub(crate) fn show<
     let manner = manner(rt, alloc, options, screen);
     match show_recovered(rt, alloc, population, &mut disks, output, manner) {
         Ok(report) => Ok(report),
-        Err(refusal) => Err(unrecovered(alloc, population, files, refusal, &mut disks)),
+        Err(refusal) => {
+            let purpose = Purpose::Read;
+            Err(unrecovered(alloc, population, files, purpose, refusal, &mut disks))
+        }
     }
 }
 
@@ -82,7 +85,10 @@ pub(crate) fn report<
     let manner = manner(rt, alloc, options, screen);
     match checked(rt, alloc, population, &mut disks, output, manner) {
         Ok(report) => Ok(report),
-        Err(refusal) => Err(unrecovered(alloc, population, files, refusal, &mut disks)),
+        Err(refusal) => {
+            let purpose = Purpose::Read;
+            Err(unrecovered(alloc, population, files, purpose, refusal, &mut disks))
+        }
     }
 }
 
@@ -129,7 +135,7 @@ fn manner<T: Files<File = File>, S>(
 }
 
 /// How many bytes each log file has, in the order of the loggers, and 0 where the system doesn't tell.
-fn sizes<T: Files<File = File>>(
+pub(crate) fn sizes<T: Files<File = File>>(
     rt: &T,
     alloc: Global,
     files: &LogFiles,
@@ -194,8 +200,8 @@ fn disk<T: Files<File = File>>(
     }
 }
 
-/// The disk in the file of this path. One that is created belongs to this process alone, until it ends; one that is
-/// read may be shared by processes that read it.
+/// The disk in the file of this path. One that is created or gone on with belongs to this process alone, until it ends;
+/// one that is read may be shared by processes that read it.
 fn disk_at<T: Files<File = File>>(rt: &T, path: &str, purpose: Purpose) -> Result<FileDisk, Trouble>
     ensures { IfErr result (λ trouble. may_stop purpose trouble ≡ true) }
 {
@@ -208,6 +214,11 @@ fn disk_at<T: Files<File = File>>(rt: &T, path: &str, purpose: Purpose) -> Resul
         Purpose::Read => {
             let disk = FileDisk::in_file(rt, path).map_err(Trouble::NotOpened)?;
             disk.try_lock_shared().map_err(not_locked)?;
+            Ok(disk)
+        }
+        Purpose::Append => {
+            let disk = FileDisk::in_file(rt, path).map_err(Trouble::NotOpened)?;
+            disk.try_lock().map_err(not_locked)?;
             Ok(disk)
         }
     }

@@ -11,7 +11,7 @@ use Rattle.std.proofs.lemmas.List.Folds.{find-append}
 use Rattle.clap.specs.Words.{Row, Rule, Text, one_of, read_as}
 use Rattle.clap.specs.Walk.{at_row, default_rows, has_row, more_values, row_text, reading_by, with_default}
 use Rattle.clap.specs.declared.parser.matches.ValueSource.TheVariants.{DefaultValue}
-use Rattle.program_options.specs.CommandLine.{WritesNumber, WritesWithin}
+use Rattle.program_options.specs.CommandLine.{WritesFlag, WritesNumber, WritesWithin}
 
 -- the row of an id
 abbrev at : Text → List Row → Option Row
@@ -92,26 +92,26 @@ default_found name d rows (x ∷ rules) a found defaults none =
         all_kept name _ (with_default rows x) rules first
     go false other rest e = rest e (passed name rows x other none)
 
--- what the rows with defaults write, the given rows or the default write
-pub writes_given : (name d : Text) (rows : List Row) (rules : List Rule) (a : Rule) → find (λ x. bytes_eq x.id name) rules ≡ Some a → a.defaults ≡ d ∷ []
-    → read_as (reading_by a) d ≡ d → (bits n : ℕ) → WritesNumber bits (one_of name (fold with_default rows rules)) n
-    → WritesNumber bits (option_or (one_of name rows) (Some d)) n
-writes_given name d rows rules a found defaults plain bits n writes = go (at name rows) refl
+-- what is so of what the rows with defaults have is so of what the given rows or the default have
+pub so_given : (P : Option Text → Type 0) → (P None → ⊥) → (name d : Text) (rows : List Row) (rules : List Rule) (a : Rule)
+    → find (λ x. bytes_eq x.id name) rules ≡ Some a → a.defaults ≡ d ∷ [] → read_as (reading_by a) d ≡ d
+    → P (one_of name (fold with_default rows rules)) → P (option_or (one_of name rows) (Some d))
+so_given P some name d rows rules a found defaults plain writes = go (at name rows) refl
   where
-    with_row : (o : Option Text) → WritesNumber bits o n → WritesNumber bits (option_or o (Some d)) n
-    with_row None h = absurd h
+    with_row : (o : Option Text) → P o → P (option_or o (Some d))
+    with_row None h = absurd (some h)
     with_row (Some t) h = h
 
-    go : (o : Option Row) → at name rows ≡ o → WritesNumber bits (option_or (option_and_then row_text (at name rows)) (Some d)) n
+    go : (o : Option Row) → at name rows ≡ o → P (option_or (option_and_then row_text (at name rows)) (Some d))
     go None none =
         let read : one_of name (fold with_default rows rules) ≡ Some d =
         ap (option_and_then row_text) (default_found name d rows rules a found defaults none) ∙ ap Some plain in
         let is : option_or (option_and_then row_text (at name rows)) (Some d) ≡ Some d = ap (λ o. option_or (option_and_then row_text o) (Some d)) none in
-        subst (λ (o : Option Text). WritesNumber bits o n) (read ∙ sym is) writes
+        subst P (read ∙ sym is) writes
     go (Some r) has =
         let same : one_of name (fold with_default rows rules) ≡ one_of name rows =
         ap (option_and_then row_text) (all_kept name r rows rules has) ∙ sym (ap (option_and_then row_text) has) in
-        with_row (one_of name rows) (subst (λ (o : Option Text). WritesNumber bits o n) same writes)
+        with_row (one_of name rows) (subst P same writes)
 
 -- the first rule of this name has this one default, which is read as it stands
 abbrev pub HasDefault : List Rule → Text → Text → Type 0
@@ -119,7 +119,12 @@ HasDefault rules name d = (a : Rule) × (find (λ x. bytes_eq x.id name) rules �
 
 pub default_given : (name d : Text) (rows : List Row) (rules : List Rule) → HasDefault rules name d → (bits n : ℕ)
     → WritesNumber bits (one_of name (fold with_default rows rules)) n → WritesNumber bits (option_or (one_of name rows) (Some d)) n
-default_given name d rows rules has = writes_given name d rows rules has.0 has.1 has.2 has.3
+default_given name d rows rules has bits n = so_given (λ o. WritesNumber bits o n) (λ never. never) name d rows rules has.0 has.1 has.2 has.3
+
+-- so it is of a flag
+pub flag_given : (name d : Text) (rows : List Row) (rules : List Rule) → HasDefault rules name d → (flag : Bool)
+    → WritesFlag (one_of name (fold with_default rows rules)) flag → WritesFlag (option_or (one_of name rows) (Some d)) flag
+flag_given name d rows rules has flag = so_given (λ o. WritesFlag o flag) (λ never. never) name d rows rules has.0 has.1 has.2 has.3
 
 -- so it is of a number within limits
 pub within_given : (name d : Text) (rows : List Row) (rules : List Rule) → HasDefault rules name d → (low high n : ℕ)

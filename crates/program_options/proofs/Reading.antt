@@ -3,7 +3,7 @@ use Rattle.std.proofs.Common.{◌≡◌, ◌∙◌, ◌<◌, ◌^◌, ◌||◌, 
 use Rattle.std.proofs.Common.{true≢false}
 use Rattle.std.proofs.Math.Bool.{or-false}
 use Rattle.std.specs.Box.{box_value}
-use Rattle.std.specs.Prelude.{Box, Result, find, fold, option_and_then, option_map, slice_get, unwrap_or}
+use Rattle.std.specs.Prelude.{Box, MatchBool, Result, find, fold, option_and_then, option_map, slice_get, unwrap_or}
 use Rattle.std.specs.List.{list_all, list_any}
 use Rattle.std.specs.Str.{bytes_eq}
 use Rattle.std.specs.Str.Parse.{IsNumeral, digits_value, without_leading_plus}
@@ -28,9 +28,9 @@ use Rattle.program_options.specs.declared.asked.RecoverOptions.{RecoverOptions}
 use Rattle.program_options.specs.declared.asked.RunOptions.{RunOptions}
 use Rattle.program_options.specs.declared.asked.Subcommand.{Subcommand}
 use Rattle.program_options.specs.declared.asked.Subcommand.TheVariants.{Script, Run, Recover, Check}
-use Rattle.program_options.specs.CommandLine.{AreLogFiles, AreOptionsWritten, AreRecoverOptions, AreRunOptions, HasOwnOptions, IsAskedBy, WritesNumber, WritesWithin, app_for, given_rows, subcommand_name, program_app, rules_for}
+use Rattle.program_options.specs.CommandLine.{AreLogFiles, AreOptionsWritten, AreRecoverOptions, AreRunOptions, HasOwnOptions, IsAskedBy, WritesFlag, WritesNumber, app_for, given_rows, subcommand_name, program_app, rules_for}
 use Rattle.program_options.specs.CommandLine.{subcommand_words, text_for, text_in}
-use Rattle.program_options.proofs.Defaults.{HasDefault, default_given, within_given, has_any, has_default, no_default}
+use Rattle.program_options.proofs.Defaults.{HasDefault, default_given, flag_given, within_given, has_any, has_default, no_default}
 
 pub program_is_simple : is_simple program_app ≡ true
 unfolding clap_on_literals
@@ -111,6 +111,13 @@ written bits f name text n is parsed =
     let rows : one_of name (rows_of f) ≡ Some text = sym (one_text-rows f name) ∙ is in
     let fits : n < 2 ^ bits = subst (λ (k : ℕ). k < 2 ^ bits) (sym parsed.1) parsed.0.1 in
     subst (λ (o : Option Text). WritesNumber bits o n) (sym rows) (parsed.0.0, parsed.1, fits)
+
+-- and the flag that one read
+pub flag_written : (f : Found) (name text : Text) (flag : Bool) → one_text f name ≡ Some text
+    → MatchBool flag (text ≡ codes "true") (text ≡ codes "false") → WritesFlag (one_of name (rows_of f)) flag
+flag_written f name text flag is parsed =
+    let rows : one_of name (rows_of f) ≡ Some text = sym (one_text-rows f name) ∙ is in
+    subst (λ (o : Option Text). WritesFlag o flag) (sym rows) parsed
 
 -- the numbers that the rows with defaults write are those that the given rows or the defaults write, where each of the rules
 -- is found by its name, with its default
@@ -196,6 +203,7 @@ pub record HasRun (rules : List Rule) : Type 0 where
   pub terminals : HasDefault rules (codes "terminals") (codes "4")
   pub count : HasDefault rules (codes "count") (codes "100")
   pub seed : HasDefault rules (codes "seed") (codes "1")
+  pub resume : HasDefault rules (codes "resume") (codes "false")
 
 has_run : (r : RunOptions) → HasRun (rules_for (Run r))
 has_run r = record {
@@ -203,6 +211,7 @@ has_run r = record {
   terminals = (_, refl, refl, refl);
   count = (_, refl, refl, refl);
   seed = (_, refl, refl, refl);
+  resume = (_, refl, refl, refl);
 }
 
 run_given : (rules : List Rule) (rows : List Row) (r : RunOptions) → has_default (codes "logs") rules ≡ false → HasRun rules
@@ -213,6 +222,7 @@ run_given rules rows r no_folder has had = record {
   terminals = within_given (codes "terminals") (codes "4") rows rules has.terminals 1 16 r.terminals had.terminals;
   count = within_given (codes "count") (codes "100") rows rules has.count 0 1000000 r.count had.count;
   seed = default_given (codes "seed") (codes "1") rows rules has.seed 64 r.seed had.seed;
+  resume = flag_given (codes "resume") (codes "false") rows rules has.resume r.resume had.resume;
 }
 
 has_own : (s : Subcommand) (rows : List Row) → HasOwnOptions (text_in (fold with_default rows (rules_for s))) (fold with_default rows (rules_for s)) s

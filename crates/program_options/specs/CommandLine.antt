@@ -1,6 +1,6 @@
 -- What the words of a command line ask for, as clap reads them for the program's command.
 use Rattle.std.specs.Prelude.{◌≡◌, ◌<◌, ◌≤◌, ◌^◌, ℕ, pos, true, List, [], ◌∷◌, Option, false, Some, None, ⊤, codes}
-use Rattle.std.specs.Prelude.{drop, fold, string_bytes}
+use Rattle.std.specs.Prelude.{Bool, MatchBool, drop, fold, string_bytes}
 use Rattle.std.specs.Option.{option_or}
 use Rattle.std.specs.Str.Parse.{IsNumeral, digits_value, without_leading_plus}
 use Rattle.clap.specs.Walk.{Row, Rule, Text, first_of, nothing_held, one_of, settled, stop_after, walk}
@@ -8,6 +8,7 @@ use Rattle.clap.specs.Simple.{App, app_of, built, built_leaf, inherited, names_o
 use Rattle.clap.specs.Simple.{with_rule, with_subcommand}
 use Rattle.clap.specs.Kinds.{HasKind}
 use Rattle.clap.specs.Faults.{fault_of}
+use Rattle.clap.specs.declared.builder.action.ArgAction.TheVariants.{SetTrue}
 use Rattle.clap.specs.declared.builder.command.Command.{Command}
 use Rattle.clap.specs.declared.builder.command.Command.TheViews.{out-Command}
 use Rattle.clap.specs.declared.builder.value_parser.ValueParser.{ValueParser}
@@ -80,6 +81,10 @@ limited_option name low high = record (new_rule name) {
   parser = Some (Signed (pos low) (pos high));
 }
 
+-- `--NAME`, which stands or doesn't
+abbrev pub flag_option : Text → Rule
+flag_option name = record (new_rule name) { long = Some name; action = Some SetTrue }
+
 -- the number of their loggers
 abbrev pub loggers_option : Rule
 loggers_option = limited_option (codes "loggers") 1 MAX_LOGGERS
@@ -99,13 +104,14 @@ log_options = folder_option
 abbrev pub with_logs : App → App
 with_logs app = fold with_rule app log_options
 
--- the options of a run: the log files that it makes, its terminals, and their inputs
+-- the options of a run: its log files, its terminals, their inputs, and whether it goes on from files that are there
 abbrev pub run_options : List Rule
 run_options = folder_option
     ∷ record loggers_option { defaults = codes "2" ∷ [] }
     ∷ record (limited_option (codes "terminals") 1 MAX_TERMINALS) { defaults = codes "4" ∷ [] }
     ∷ record (limited_option (codes "count") 0 MAX_INPUTS) { defaults = codes "100" ∷ [] }
     ∷ seed_option (codes "seed") (codes "1")
+    ∷ flag_option (codes "resume")
     ∷ []
 
 -- a command with them
@@ -180,6 +186,11 @@ WritesNumber bits None n = ⊥
 WritesNumber bits (Some text) n = IsNumeral 10 (without_leading_plus text)
     × (n ≡ digits_value 10 (without_leading_plus text)) × (n < 2 ^ bits)
 
+-- a text is there, and is the word `true` where a flag stands, else `false`
+abbrev pub WritesFlag : Option Text → Bool → Type 0
+WritesFlag None flag = ⊥
+WritesFlag (Some text) flag = MatchBool flag (text ≡ codes "true") (text ≡ codes "false")
+
 -- and the number is within these limits
 abbrev pub WritesWithin : ℕ → ℕ → Option Text → ℕ → Type 0
 WritesWithin low high text n = WritesNumber 32 text n × (low ≤ n) × (n ≤ high)
@@ -199,13 +210,14 @@ pub record AreLogFiles (rows : List Row) (files : LogFiles) : Type 0 where
   pub folder : first_of (codes "logs") rows ≡ Some (string_bytes files.folder)
   pub loggers : WritesNumber 32 (one_of (codes "loggers") rows) files.loggers
 
--- the same of the log files that a run makes; each other option of its own is the number that its text writes
+-- the same of the log files of a run; each other option of its own is the number, or the flag, that its text writes
 pub record AreRunOptions (text : Text → Text → Option Text) (rows : List Row) (r : RunOptions) : Type 0 where
   pub folder : first_of (codes "logs") rows ≡ Some (string_bytes r.files.folder)
   pub loggers : WritesWithin 1 MAX_LOGGERS (text (codes "loggers") (codes "2")) r.files.loggers
   pub terminals : WritesWithin 1 MAX_TERMINALS (text (codes "terminals") (codes "4")) r.terminals
   pub count : WritesWithin 0 MAX_INPUTS (text (codes "count") (codes "100")) r.count
   pub seed : WritesNumber 64 (text (codes "seed") (codes "1")) r.seed
+  pub resume : WritesFlag (text (codes "resume") (codes "false")) r.resume
 
 -- the log files to be read are those that are given, and the threads that read them are the number that its text writes
 pub record AreRecoverOptions (text : Text → Text → Option Text) (rows : List Row) (r : RecoverOptions) : Type 0 where

@@ -47,7 +47,7 @@ pub struct RecoverOptions {
 /// What `run` is to run.
 #[derive(Debug, Drop, PartialEq, Eq)]
 pub struct RunOptions {
-    /// Where the log files are made.
+    /// Where the log files are made, or are to be found.
     pub files: LogFiles,
     /// `--terminals`, 1 to 16.
     pub terminals: u32,
@@ -55,6 +55,8 @@ pub struct RunOptions {
     pub count: u32,
     /// `--seed`, which the inputs are drawn from.
     pub seed: u64,
+    /// `--resume`: whether it goes on from the log files that are there.
+    pub resume: bool,
     ghost loggers: { (1 ≤ files.loggers) × (files.loggers ≤ MAX_LOGGERS) },
     ghost stations: { (1 ≤ terminals) × (terminals ≤ MAX_TERMINALS) },
 }

@@ -77,7 +77,10 @@ const RUN: &str = "Runs terminals in threads, and writes what they commit to log
 const AFTER_RUN: &str = "\
 Each logger makes a file of its own in DIR: log-0, log-1 and so on. Where one is there already, nothing is run.
 What the files hold outlives a crash: `tpcc recover` shows what that is, and `tpcc check` its consistency conditions,
-for the same DIR, as many loggers, and the same options of the tables.";
+for the same DIR, as many loggers, and the same options of the tables.
+With --resume a run goes on from what they hold: for the same DIR, as many loggers, and the same options of the tables.
+It first prints `resumed M epoch E`: M commits were recovered, and it commits in epoch E and later ones. Give another
+--seed than before, or its inputs are those of the run before. Where a file is missing or damaged, nothing is run.";
 
 /// The subcommand `run`.
 fn run<'a>(alloc: Global) -> Result<Command<'a>, AllocError>

@@ -10,4 +10,4 @@ mod watching;
 pub use damage::{Damage, first_damage};
 pub use gap::{Misnumbered, first_gap};
 pub use telling::{checked, recovered};
-pub use watching::Manner;
+pub use watching::{Manner, while_shown};

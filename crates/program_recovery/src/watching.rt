@@ -15,7 +15,7 @@ use std::alloc::{AllocError, Global};
 use std::io::Write;
 use std::sync::Wait;
 use std::sync::atomic::{AtomicBool, Ordering};
-use std::thread::{Parker, Threads, join_mut};
+use std::thread::{Parker, Threads, join, join_mut};
 use std::time::{Clock, Duration};
 
 /// How often the screen is looked at, in milliseconds.
@@ -120,6 +120,57 @@ fn recover_watched<R: Threads + Wait + Clock + Sync, D: Disk + Send, S: Write + 
     // The first of the two gets a thread of its own. Where none can be started it comes last, and shows nothing.
     let ((), found) = join_mut(rt, &mut watch, &mut work);
     found
+}
+
+/// Does this work, of which the progress tells how far its recovery is. Where there is a screen, a line there shows that,
+/// once it takes longer than a second, and is erased at its end. The calling thread does the work; may wait, for the
+/// thread that shows it.
+pub fn while_shown<R: Threads + Wait + Clock + Sync, S: Write + Send + Drop, A, F: FnOnce() -> A>(
+    rt: &R,
+    alloc: Global,
+    progress: &Progress,
+    screen: Option<S>,
+    work: F,
+) -> A
+    requires { F.pre work }
+    ensures { F.post work result }
+{
+    match (screen, rt.monotonic()) {
+        (Some(screen), Ok(began)) => {
+            let line = ScreenLine::new(alloc, screen, began);
+            while_watched(rt, alloc, progress, line, work)
+        }
+        _ => work(),
+    }
+}
+
+/// Does this work while the line on a screen shows how far its recovery is.
+fn while_watched<R: Threads + Wait + Clock + Sync, S: Write + Send + Drop, A, F: FnOnce() -> A>(
+    rt: &R,
+    alloc: Global,
+    progress: &Progress,
+    line: ScreenLine<S>,
+    work: F,
+) -> A
+    requires { F.pre work }
+    ensures { F.post work result }
+{
+    let end = &End::new();
+    let watch = move || {
+        let mut line = line;
+        show_until(rt, alloc, end, progress, &mut line)
+    };
+    let work = move || -> A
+        requires { F.pre work }
+        ensures { F.post work result }
+    {
+        let done = work();
+        end.come();
+        done
+    };
+    // The first of the two gets a thread of its own. Where none can be started it comes last, and shows nothing.
+    let ((), done) = join(rt, watch, work);
+    done
 }
 
 /// Shows how far a recovery is until its end, and erases it then.

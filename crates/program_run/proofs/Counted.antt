@@ -15,10 +15,10 @@ IfOk-three P Q R S f (Ok a) p q r = f a p q r
 IfOk-three P Q R S f (Err e) p q r = tt
 
 pub counts_are : (t0 : Database) (parts terminals past inputs : ℕ) (history : List Entry) (tallies : List Tally) (c : Counts)
-    → parts ≡ terminals → past ≡ 0 → IsMadeBy parts past t0 history → c.commits ≡ length history
-    → IsCounted parts inputs tallies c → AreCounts t0 terminals inputs history tallies c
-counts_are t0 parts terminals past inputs history tallies c same first made commits counted = record {
-  made = subst (λ (n : ℕ). IsMadeBy n 0 t0 history) same (subst (λ (p : ℕ). IsMadeBy parts p t0 history) first made);
+    → parts ≡ terminals → IsMadeBy parts past t0 history → c.commits ≡ length history
+    → IsCounted parts inputs tallies c → AreCounts past t0 terminals inputs history tallies c
+counts_are t0 parts terminals past inputs history tallies c same made commits counted = record {
+  made = subst (λ (n : ℕ). IsMadeBy n past t0 history) same made;
   commits = commits;
   counted = subst (λ (n : ℕ). IsCounted n inputs tallies c) same counted;
 }

@@ -42,25 +42,29 @@ pub data IsCutShort (committed : Database) (c : Counts) (old new : Option (List 
       → Appends old new front → (refusal ≡ OutOfMemory) ⊎ (refusal ≡ Device) → IsCutShort committed c old new refusal
 
 -- of so many inputs at each of so many terminals, so much came of each terminal's, and these are the counts of that and
--- of the history that they have made from these tables on
-pub record AreCounts (t0 : Database) (terminals inputs : ℕ) (history : List Entry) (tallies : List Tally) (c : Counts)
-    : Type 0 where
-  pub made : IsMadeBy terminals 0 t0 history
+-- of the history that they have made from these tables on, which so many past commits have made
+pub record AreCounts (past : ℕ) (t0 : Database) (terminals inputs : ℕ) (history : List Entry) (tallies : List Tally)
+    (c : Counts) : Type 0 where
+  pub made : IsMadeBy terminals past t0 history
   pub commits : c.commits ≡ length history
   pub counted : IsCounted terminals inputs tallies c
 
--- so many inputs ran at each of so many terminals from these tables on, and what came of them was told
-pub record IsRan (t0 : Database) (terminals inputs : ℕ) (old new : Option (List ℕ)) (report : Report) : Type 0 where
+-- so many inputs ran at each of so many terminals from these tables on, which so many past commits have made, and what
+-- came of them was told
+pub record IsRan (past : ℕ) (t0 : Database) (terminals inputs : ℕ) (old new : Option (List ℕ)) (report : Report)
+    : Type 0 where
   pub history : List Entry
   pub tallies : List Tally
   pub counts : Counts
-  pub counted : AreCounts t0 terminals inputs history tallies counts
+  pub counted : AreCounts past t0 terminals inputs history tallies counts
   pub told : IsTold (replay t0 history) counts old new report
 
 -- it was refused, for want of memory or by a device: nothing was written; or all inputs ran, and a beginning of the text
 -- was written
-pub data IsBroken (t0 : Database) (terminals inputs : ℕ) (old new : Option (List ℕ)) (refusal : Refusal) : Type 0 where
+pub data IsBroken (past : ℕ) (t0 : Database) (terminals inputs : ℕ) (old new : Option (List ℕ)) (refusal : Refusal)
+    : Type 0 where
   unrun : ((refusal ≢ OutOfMemory) → refusal ≡ Device) → Appends old new []
-      → IsBroken t0 terminals inputs old new refusal
-  untold : (history : List Entry) (tallies : List Tally) (c : Counts) → AreCounts t0 terminals inputs history tallies c
-      → IsCutShort (replay t0 history) c old new refusal → IsBroken t0 terminals inputs old new refusal
+      → IsBroken past t0 terminals inputs old new refusal
+  untold : (history : List Entry) (tallies : List Tally) (c : Counts)
+      → AreCounts past t0 terminals inputs history tallies c
+      → IsCutShort (replay t0 history) c old new refusal → IsBroken past t0 terminals inputs old new refusal

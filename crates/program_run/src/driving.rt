@@ -1,12 +1,13 @@
-//! A run from a population to its report.
-ghost use Rattle.std.specs.Prelude.{◌≡◌, ◌≢◌, ◌<◌, ◌≤◌, [], length, All, IfOk, IfErr};
-ghost use Rattle.money.specs.declared.refusal.Refusal.TheVariants.{OutOfMemory, Device};
+//! A run from a population, or from what was restarted, to its report.
+ghost use Rattle.std.specs.Prelude.{◌≡◌, ◌<◌, ◌≤◌, [], length, map, All, IfOk, IfErr};
+ghost use Rattle.money.specs.declared.refusal.Refusal.TheVariants.{OutOfMemory};
 ghost use Rattle.tables.specs.declared.limits.TheConstants.{MAX_LOGGERS, MAX_TERMINALS};
 ghost use Rattle.population.specs.Initial.{initial};
-ghost use Rattle.book.specs.Parts.{IsOpenedAs, base_of, past_of, loggers_of, terminals_of};
+ghost use Rattle.book.specs.Parts.{IsFresh, IsOpenedAs, base_of, first_of, past_of, loggers_of, terminals_of};
+ghost use Rattle.program_run.specs.Outfit.{AreLogsOf};
 ghost use Rattle.program_run.specs.Told.{AreCounts, IsBroken, IsRan};
 
-use crate::outfit::{Slot, logs, stations};
+use crate::outfit::{OpenLog, Slot, created, manned, stations};
 use crate::telling::ran;
 use book::{Engine, Parts, Run, Seats};
 use conditions::Report;
@@ -67,13 +68,52 @@ pub fn drive<
     requires terminals { (0 < plan.now.terminals) × (plan.now.terminals ≤ MAX_TERMINALS) }
     requires gates { length gates.items ≡ plan.now.terminals }
     requires empty { D.is_modelled → All (λ slot. D.seen slot.disk ≡ []) slots.items }
-    ensures ran { IfOk result (λ driven. IsRan (initial population) plan.now.terminals plan.now.inputs
+    ensures ran { IfOk result (λ driven. IsRan 0 (initial population) plan.now.terminals plan.now.inputs
         (W.contents writer.old) (W.contents writer.new) driven.report) }
-    ensures broken { IfErr result (IsBroken (initial population) plan.now.terminals plan.now.inputs
+    ensures broken { IfErr result (IsBroken 0 (initial population) plan.now.terminals plan.now.inputs
         (W.contents writer.old) (W.contents writer.new)) }
 {
+    let (scale, seed) = (population.scale(), population.seed());
     let parts = Parts::new(rt, alloc, population, slots.len() as u16, plan.terminals)?;
-    drive_parts::<Brand, D, P, G, W, R>(rt, alloc, parts, slots, gates, plan, writer)
+    let logs = match created(alloc, scale, seed, slots) {
+        Ok(logs) => logs,
+        Err(refusal) => return Err(refusal),
+    };
+    drive_on(rt, alloc, parts, logs, gates, plan, writer)
+}
+
+/// Runs an engine of these parts, with log files that are open, one for each logger, in their order, each at the mark
+/// at which the parts begin, and a gate for each terminal; and writes what came of it, as `ran` does. So goes on what
+/// was restarted. May wait, as `run_threads::run` does.
+///
+/// # Errors
+///
+/// `OutOfMemory`: then no input runs, and nothing is written. Also as `ran`. A disk that fails stops its logger.
+pub fn drive_on<
+    D: Disk + Send + Drop,
+    P: Pace + Send + Drop,
+    G: Gate + Send + Drop,
+    W: Write,
+    R: Threads + Wait + Sync,
+>(
+    rt: &R,
+    alloc: Global,
+    parts: Parts,
+    logs: Vec<OpenLog<D, P>>,
+    gates: Vec<G>,
+    plan: &Plan,
+    writer: &mut W,
+) -> Result<Driven, Refusal>
+    requires fresh { IsFresh parts }
+    requires logs { AreLogsOf (loggers_of parts) (base_of parts) (map (λ log. log.file) logs.items) }
+    requires terminals { terminals_of parts ≡ plan.now.terminals }
+    requires gates { length gates.items ≡ plan.now.terminals }
+    ensures ran { IfOk result (λ driven. IsRan (past_of parts) (first_of parts) plan.now.terminals plan.now.inputs
+        (W.contents writer.old) (W.contents writer.new) driven.report) }
+    ensures broken { IfErr result (IsBroken (past_of parts) (first_of parts) plan.now.terminals plan.now.inputs
+        (W.contents writer.old) (W.contents writer.new)) }
+{
+    drive_parts::<Brand, D, P, G, W, R>(rt, alloc, parts, logs, gates, plan, writer)
 }
 
 /// Runs an engine of these parts, and writes what came of it.
@@ -88,23 +128,21 @@ fn drive_parts<
     rt: &R,
     alloc: Global,
     parts: Parts,
-    slots: Vec<Slot<D, P>>,
+    logs: Vec<OpenLog<D, P>>,
     gates: Vec<G>,
     plan: &Plan,
     writer: &mut W,
 ) -> Result<Driven, Refusal>
     requires run { IsOpenedAs parts K.population K.first K.past K.cells K.board K.seed K.name K.parts }
-    requires loggers { (loggers_of parts ≡ length slots.items) × (length slots.items ≤ MAX_LOGGERS) }
-    requires begins { (base_of parts ≡ 0) × (past_of parts ≡ 0) }
-    requires terminals { (terminals_of parts ≡ plan.now.terminals) × (plan.now.terminals ≤ MAX_TERMINALS) }
+    requires logs { AreLogsOf (loggers_of parts) (base_of parts) (map (λ log. log.file) logs.items) }
+    requires terminals { terminals_of parts ≡ plan.now.terminals }
     requires gates { length gates.items ≡ plan.now.terminals }
-    requires empty { D.is_modelled → All (λ slot. D.seen slot.disk ≡ []) slots.items }
-    ensures ran { IfOk result (λ driven. IsRan K.first plan.now.terminals plan.now.inputs
+    ensures ran { IfOk result (λ driven. IsRan K.past K.first plan.now.terminals plan.now.inputs
         (W.contents writer.old) (W.contents writer.new) driven.report) }
-    ensures broken { IfErr result (IsBroken K.first plan.now.terminals plan.now.inputs
+    ensures broken { IfErr result (IsBroken K.past K.first plan.now.terminals plan.now.inputs
         (W.contents writer.old) (W.contents writer.new)) }
 {
-    let outcome = match outcome_of::<K, D, P, G, R>(rt, alloc, parts, slots, gates, plan) {
+    let outcome = match outcome_of::<K, D, P, G, R>(rt, alloc, parts, logs, gates, plan) {
         Ok(outcome) => outcome,
         Err(refusal) => return Err(refusal),
     };
@@ -118,7 +156,7 @@ fn drive_parts<
     })
 }
 
-/// Runs an engine of these parts. `OutOfMemory` is a refusal, and so is `Device`, where a disk fails at the start.
+/// Runs an engine of these parts. `OutOfMemory` is the only refusal.
 fn outcome_of<
     K: Run + Send + Sync,
     D: Disk + Send + Drop,
@@ -129,19 +167,17 @@ fn outcome_of<
     rt: &R,
     alloc: Global,
     parts: Parts,
-    slots: Vec<Slot<D, P>>,
+    logs: Vec<OpenLog<D, P>>,
     gates: Vec<G>,
     plan: &Plan,
 ) -> Result<Outcome<K, D>, Refusal>
     requires run { IsOpenedAs parts K.population K.first K.past K.cells K.board K.seed K.name K.parts }
-    requires loggers { (loggers_of parts ≡ length slots.items) × (length slots.items ≤ MAX_LOGGERS) }
-    requires begins { (base_of parts ≡ 0) × (past_of parts ≡ 0) }
-    requires terminals { (terminals_of parts ≡ plan.now.terminals) × (plan.now.terminals ≤ MAX_TERMINALS) }
+    requires logs { AreLogsOf (loggers_of parts) (base_of parts) (map (λ log. log.file) logs.items) }
+    requires terminals { terminals_of parts ≡ plan.now.terminals }
     requires gates { length gates.items ≡ plan.now.terminals }
-    requires empty { D.is_modelled → All (λ slot. D.seen slot.disk ≡ []) slots.items }
-    ensures counted { IfOk result (λ outcome. AreCounts K.first plan.now.terminals plan.now.inputs outcome.closed
+    ensures counted { IfOk result (λ outcome. AreCounts K.past K.first plan.now.terminals plan.now.inputs outcome.closed
         outcome.tallies.items outcome.counts) }
-    ensures cause { IfErr result (λ refusal. (refusal ≢ OutOfMemory) → refusal ≡ Device) }
+    ensures only_memory { IfErr result (λ refusal. refusal ≡ OutOfMemory) }
 {
     let (engine, seats) = Engine::<K>::open(parts);
     let Seats {
@@ -150,7 +186,7 @@ fn outcome_of<
         terminals,
     } = seats;
     let desks = Desks { clock, terminals };
-    let logs = logs(alloc, engine.population(), engine.board(), loggers, slots)?;
+    let logs = manned(alloc, engine.board(), loggers, logs)?;
     let stations = stations(
         alloc,
         engine.population().scale(),

@@ -1,10 +1,11 @@
 //! What the terminals and loggers of a run are given.
-ghost use Rattle.std.specs.Prelude.{◌≡◌, ◌≢◌, ◌<◌, ◌≤◌, [], length, All, IfOk, IfErr};
+ghost use Rattle.std.specs.Prelude.{◌≡◌, ◌≢◌, ◌<◌, ◌≤◌, [], length, map, All, IfOk, IfErr};
 ghost use Rattle.money.specs.declared.refusal.Refusal.TheVariants.{OutOfMemory, Device};
 ghost use Rattle.tables.specs.declared.limits.TheConstants.{MAX_LOGGERS};
 ghost use Rattle.board.specs.declared.rule.Role.TheVariants.{Logger as logger_role};
 ghost use Rattle.board.specs.Opening.{logger_seats};
 ghost use Rattle.board.specs.Seats.{new_seat};
+ghost use Rattle.program_run.specs.Outfit.{AreLogsOf};
 
 use board::{Board, LoggerSeat};
 use log_disk::Disk;
@@ -12,7 +13,6 @@ use log_header::Header;
 use logfile::LogFile;
 use logger::Logger;
 use money::Refusal;
-use population::Population;
 use run_threads::{Log, Pace, Station};
 use std::alloc::{AllocError, Global};
 use tables::Scale;
@@ -23,6 +23,13 @@ use terminals_deck::{Deck, Settings};
 #[derive(Drop)]
 pub struct Slot<D: Disk, P: Pace> {
     pub disk: D,
+    pub pace: P,
+}
+
+/// A log file that is open, and how its logger waits between its turns.
+#[derive(Drop)]
+pub struct OpenLog<D: Disk, P: Pace> {
+    pub file: LogFile<D>,
     pub pace: P,
 }
 
@@ -53,60 +60,76 @@ pub(crate) fn stations<G: Gate + Drop>(
     Ok(stations)
 }
 
-/// The loggers, each with a new log file on its disk, in the order of their numbers. `OutOfMemory` is a refusal, and so
-/// is `Device`, where a disk fails.
-pub(crate) fn logs<D: Disk + Drop, P: Pace + Drop>(
+/// New log files on the disks of slots, one for each logger, in their order, of a population of this scale and seed.
+/// `OutOfMemory` is a refusal, and so is `Device`, where a disk fails.
+pub(crate) fn created<D: Disk + Drop, P: Pace + Drop>(
     alloc: Global,
-    population: &Population,
-    board: &Board,
-    seats: Vec<LoggerSeat>,
+    scale: Scale,
+    seed: u64,
     slots: Vec<Slot<D, P>>,
-) -> Result<Vec<Log<D, P>>, Refusal>
-    requires seats { seats.items ≡ logger_seats board.now board.now.plan.loggers }
-    requires slots { length slots.items ≡ board.now.plan.loggers }
-    requires few { board.now.plan.loggers ≤ MAX_LOGGERS }
-    requires base { board.now.plan.base ≡ 0 }
+) -> Result<Vec<OpenLog<D, P>>, Refusal>
+    requires few { length slots.items ≤ MAX_LOGGERS }
     requires empty { D.is_modelled → All (λ slot. D.seen slot.disk ≡ []) slots.items }
-    ensures own { IfOk result (λ logs. All (λ log. log.logger.seat.board ≡ board.now) logs.items) }
+    ensures logs { IfOk result (λ logs. AreLogsOf (length slots.items) 0 (map (λ log. log.file) logs.items)) }
     ensures cause { IfErr result (λ refusal. (refusal ≢ OutOfMemory) → refusal ≡ Device) }
 {
     let loggers = slots.len() as u16;
-    let (mut seats, mut slots) = (seats, slots);
     let mut logs = Vec::new(alloc);
-    while let Some(seat) = seats.pop() {
-        let Some(slot) = slots.pop() else {
-            unreachable!()
-        };
-        let header = Header::new(
-            population.scale(),
-            population.seed(),
-            seats.len() as u16,
-            loggers,
-        );
-        logs.push(log_of(alloc, header, seat, slot)?)?;
+    for slot in slots {
+        let header = Header::new(scale, seed, logs.len() as u16, loggers);
+        logs.push(new_log(alloc, header, slot)?)?;
     }
-    logs.reverse();
     Ok(logs)
 }
 
-/// A logger with a new log file. `OutOfMemory` is a refusal, and so is `Device`, where the disk fails.
-fn log_of<D: Disk + Drop, P: Pace + Drop>(
+/// A new log file on a slot's disk. `OutOfMemory` is a refusal, and so is `Device`, where the disk fails.
+fn new_log<D: Disk + Drop, P: Pace + Drop>(
     alloc: Global,
     header: Header,
-    seat: LoggerSeat,
     slot: Slot<D, P>,
-) -> Result<Log<D, P>, Refusal>
-    requires seat { seat ≡ new_seat seat.board (logger_role header.logger) }
-    requires loggers { seat.board.plan.loggers ≡ header.loggers }
-    requires base { seat.board.plan.base ≡ 0 }
+) -> Result<OpenLog<D, P>, Refusal>
     requires empty { D.is_modelled → D.seen slot.disk ≡ [] }
-    ensures own { IfOk result (λ log. log.logger.seat.board ≡ seat.board) }
+    ensures own { IfOk result (λ log. (log.file.header ≡ header) × (log.file.last.mark ≡ 0)) }
     ensures cause { IfErr result (λ refusal. (refusal ≢ OutOfMemory) → refusal ≡ Device) }
 {
     let Slot { disk, pace } = slot;
     let file = LogFile::create(alloc, disk, header)?;
-    Ok(Log {
+    Ok(OpenLog { file, pace })
+}
+
+/// The loggers of these seats, each with its log file, in the order of their numbers.
+pub(crate) fn manned<D: Disk + Drop, P: Pace + Drop>(
+    alloc: Global,
+    board: &Board,
+    seats: Vec<LoggerSeat>,
+    logs: Vec<OpenLog<D, P>>,
+) -> Result<Vec<Log<D, P>>, AllocError>
+    requires seats { seats.items ≡ logger_seats board.now board.now.plan.loggers }
+    requires logs { AreLogsOf board.now.plan.loggers board.now.plan.base (map (λ log. log.file) logs.items) }
+    ensures own { IfOk result (λ manned. All (λ log. log.logger.seat.board ≡ board.now) manned.items) }
+{
+    let (mut seats, mut logs) = (seats, logs);
+    let mut manned = Vec::new(alloc);
+    while let Some(seat) = seats.pop() {
+        let Some(log) = logs.pop() else {
+            unreachable!()
+        };
+        manned.push(log_of(seat, log))?;
+    }
+    manned.reverse();
+    Ok(manned)
+}
+
+/// The logger of this seat, with its log file.
+fn log_of<D: Disk, P: Pace>(seat: LoggerSeat, log: OpenLog<D, P>) -> Log<D, P>
+    requires seat { seat ≡ new_seat seat.board (logger_role log.file.header.logger) }
+    requires loggers { seat.board.plan.loggers ≡ log.file.header.loggers }
+    requires base { seat.board.plan.base ≡ log.file.last.mark }
+    ensures own { result.logger.seat.board ≡ seat.board }
+{
+    let OpenLog { file, pace } = log;
+    Log {
         logger: Logger::new(file, seat),
         pace,
-    })
+    }
 }

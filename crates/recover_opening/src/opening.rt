@@ -24,9 +24,10 @@ use std::alloc::Global;
 ///
 /// # Errors
 ///
-/// `Device` where a call of a disk fails, and only there. `Damaged` exactly where none fails and some file is no log file
-/// of this population's database, of its logger and of that many loggers. `OutOfMemory`. The first file that refuses
-/// decides. The disks are dropped then.
+/// `Damaged`, of modelled disks only where some file is no log file of this population's database, of its logger and of
+/// that many loggers; `Device`; `OutOfMemory`. After Ok all are, and no call of a disk has failed. An Err drops the
+/// disks, so no clause says more of them; by the code alone `Device` comes exactly where a call of a disk fails,
+/// `OutOfMemory` only for want of memory, the first file that refuses decides, and nothing is written.
 pub fn open_all<D: Disk + Drop>(
     alloc: Global,
     population: &Population,
@@ -55,7 +56,7 @@ pub fn open_all<D: Disk + Drop>(
 ///
 /// # Errors
 ///
-/// `Device` where the device of one fails, and only there.
+/// `Device`. After Ok no device has failed.
 fn sync_all<D: Disk>(disks: &mut [D]) -> Result<(), Refusal>
     ensures synced { OnOk result (AreSynced D.is_modelled D.seen D.story D.failed disks.old disks.new) }
     ensures only_device { IfErr result (λ refusal. refusal ≡ Device) }

@@ -14,12 +14,11 @@ use Rattle.logfile.specs.Standing.{LogFileView}
 use Rattle.recover_found.specs.Found.{durable_of, found}
 use Rattle.recover_found.specs.Rebuilt.{IsRebuilt}
 use Rattle.recover_files.specs.Files.{AreFiles}
-use Rattle.recover_opening.specs.Opening.{AreOpenBehind}
 use Rattle.recover_opening.specs.Tops.{IsTopOfAll, bodies_at}
 use Rattle.recover_opening.proofs.VoidFollows.{void_may_follow}
 use Rattle.recover_sound.specs.Sound.{AreSoundTables, rows_behind_those_of}
 use Rattle.recover_restart.specs.Basing.{IsBaseOf}
-use Rattle.recover_restart.specs.Restarting.{GoesOnBehind}
+use Rattle.recover_restart.specs.Restarting.{GoesOnBehind, MayGiveUp}
 
 -- the law on sound tables
 abbrev pub SoundTablesMayBegin : Type 0
@@ -56,14 +55,13 @@ module _ {t0 : Database} {files : List (List BodyView)} {top : ℕ} {base : Base
   }
 
 -- each file may get the void body
-pub may_declare : {D : Type 0} {s : Sizes} {seed loggers : ℕ} {files : List (LogFileView D)} {bodies : List (List BodyView)}
-    {t0 : Database} {its_seed its_loggers terminals durable top commits : ℕ} {parts : Parts}
-    → AreOpenBehind s seed loggers files bodies → GoesOnBehind t0 its_seed its_loggers terminals bodies parts durable top commits
+pub may_declare : {D : Type 0} {durable top : ℕ} {files : List (LogFileView D)} → MayGiveUp durable top files
     → durable < top → (l : ℕ) (d : LogFileView D) → l < length files
     → body_after (get_or files l d).header (get_or files l d).last (Void (durable + 1) top) ≡ Some (marked top (get_or files l d).last)
-may_declare {s = s} {seed} {loggers} {files} {bodies} {durable = durable} {top} behind goes more l d within =
-    let is = behind.each l (omega (arith, within, behind.files_count)) d in
-    let here = void_may_follow (header_view l loggers s seed) (length bodies) (bodies_at bodies) durable top l (get_or files l d).last
-    goes.is_top.is_top more goes.room (omega (arith, within, behind.files_count, behind.bodies_count)) is.lawful in
+may_declare {durable = durable} {top} {files} may more l d within =
+    let s : Sizes = may.first.scale in
+    let is = may.behind.each l (omega (arith, within, may.behind.files_count)) d in
+    let here = void_may_follow (header_view l may.loggers s may.seed) (length may.bodies) (bodies_at may.bodies) durable top l (get_or files l d).last
+    may.goes_on.is_top.is_top more may.goes_on.room (omega (arith, within, may.behind.files_count, may.behind.bodies_count)) is.lawful in
     subst (λ (h : HeaderView). body_after h (get_or files l d).last (Void (durable + 1) top) ≡ Some (marked top (get_or files l d).last))
     (sym is.header) here.0

@@ -39,7 +39,7 @@ least_in f (b ∷ c ∷ cs) some =
     cases rest (inl less) = (0, omega arith, omega (arith, less))
     cases rest (inr more) = (suc rest.0, omega (arith, rest.1), rest.2 ∙ omega (arith, more))
 
-least_below : (f : List BodyView → ℕ) (files : List (List BodyView)) (l : ℕ) → l < length files
+pub least_below : (f : List BodyView → ℕ) (files : List (List BodyView)) (l : ℕ) → l < length files
     → unwrap_or (least (map f files)) 0 ≤ f (get_or files l [])
 least_below f [] l less = absurd (omega (arith, less))
 least_below f (b ∷ []) zero less = omega arith

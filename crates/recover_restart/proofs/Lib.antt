@@ -1,4 +1,6 @@
 mod Fronts
 mod Losing
+mod Standing
 mod Going
 mod Happening
+mod Taking

@@ -1,12 +1,12 @@
 -- What was declared void in files, as worlds in which crashes happen have them.
-use Rattle.std.proofs.Common.{◌++◌, take, drop, ◌≡◌, ℕ, ◌+◌, ◌<◌, List, [], ◌∷◌, length, map, get_or, sym, ap, ◌∙◌, subst, arith}
+use Rattle.std.proofs.Common.{◌++◌, take, drop, ◌≡◌, ℕ, ◌+◌, ◌<◌, ◌≤◌, List, [], ◌∷◌, length, map, get_or, refl, sym, ap, ◌∙◌, subst, arith}
 use Rattle.std.proofs.lemmas.List.{append-nil, drop_all, get_or-map, length-map, take_all}
 use Rattle.log_disk.specs.Calls.{Call}
 use Rattle.logfile.specs.Standing.{LogFileView}
 use Rattle.recover_crashes.specs.World.{DiskView}
 use Rattle.recover_opening.specs.Opening.{file_on}
 use Rattle.recover_restart.specs.Declaring.{IsDeclared, AreDeclared, no_failure}
-use Rattle.recover_restart.specs.Restarting.{HasLost, HaveLost}
+use Rattle.recover_restart.specs.Restarting.{HasLost, HaveLost, HaveMoved}
 
 -- an element of a list that has one
 one_of : {A : Type 0} (xs : List A) → 0 < length xs → A
@@ -50,6 +50,33 @@ pub written_back : {A : Type 0} (n : ℕ) (old new : List A) → n ≡ length ol
 written_back n old new n_is count =
     ap (λ rest. take n (new ++ rest)) (drop_all (length new) old (omega (arith, count)))
     ∙ ap (take n) (append-nil new) ∙ take_all n new (omega (arith, n_is, count))
+
+-- files that got a void body have its end as their mark
+pub have_moved : {D : Type 0} {IsModelled : Type 0} {seen : D → List ℕ} {story : D → List Call} {failed : D → ℕ} {durable top : ℕ}
+    (old new : List (LogFileView D)) → durable < top
+    → AreDeclared IsModelled seen story failed (durable + 1) top no_failure old new → HaveMoved durable top old new
+have_moved old new less are = record {
+  count = are.count;
+  some = λ _ l file within.
+      let is = are.front l file (omega (arith, within, are.all)) in
+      (is.header, is.ok.2);
+  none = λ le. absurd (omega (arith, less, le));
+}
+
+pub stay : {D : Type 0} {durable top : ℕ} (files : List (LogFileView D)) → top ≤ durable → HaveMoved durable top files files
+stay files le = record {
+  count = refl;
+  some = λ less. absurd (omega (arith, less, le));
+  none = λ _. refl;
+}
+
+-- so they did in a list of which the others were written back
+pub moved_in : {D : Type 0} {durable top n : ℕ} (items now new : List (LogFileView D)) → now ≡ items → n ≡ length items
+    → HaveMoved durable top now new → HaveMoved durable top items (take n (new ++ drop (length new) items))
+moved_in {D} {durable} {top} {n} items now new value n_is moved =
+    let count : length new ≡ length items = moved.count ∙ ap length value in
+    subst (λ (files : List (LogFileView D)). HaveMoved durable top items files) (sym (written_back n items new n_is count))
+    (subst (λ (files : List (LogFileView D)). HaveMoved durable top files new) value moved)
 
 -- what was declared void of files in a list, of which the others were written back
 pub lost_in : {D : Type 0} (seen : D → List ℕ) (story : D → List Call) {durable top n : ℕ} (items now new : List (LogFileView D))

@@ -1,5 +1,5 @@
 //! What a database goes on from, of the bodies of its log files.
-ghost use Rattle.std.specs.Prelude.{◌≡◌, ◌≢◌, ◌≤◌, ℕ, List, map, IfOk, IfErr, IsErrOf};
+ghost use Rattle.std.specs.Prelude.{◌≡◌, ◌≢◌, ◌<◌, ◌≤◌, ℕ, List, map, IfOk, IfErr, IsErrOf};
 ghost use Rattle.money.specs.declared.refusal.Refusal.TheVariants.{OutOfMemory, Damaged, Gap, EpochFull};
 ghost use Rattle.tables.specs.Database.{database};
 ghost use Rattle.tables.specs.declared.limits.TheConstants.{MAX_COMMITS};
@@ -41,8 +41,9 @@ pub(crate) fn base_of(
     ensures base { IfOk result (IsBaseOf (initial population.now) (map (λ bodies. bodies_in bodies.items) files.items)
         top) }
     ensures gap { IsErrOf result Gap → HaveNoGap (found (map (λ bodies. bodies_in bodies.items) files.items)) → ⊥ }
-    ensures full { IsErrOf result EpochFull → last_epoch ≤ top }
-    ensures damaged { IsErrOf result Damaged → AreUnsound (initial population.now)
+    ensures full { IsErrOf result EpochFull → (HaveNoGap (found (map (λ bodies. bodies_in bodies.items) files.items)))
+        × (last_epoch ≤ top) }
+    ensures damaged { IsErrOf result Damaged → (top < last_epoch) × AreUnsound (initial population.now)
         (map (λ bodies. bodies_in bodies.items) files.items) }
     ensures others { IfErr result (λ refusal. (refusal ≢ OutOfMemory) → (refusal ≢ Gap) → (refusal ≢ EpochFull)
         → refusal ≡ Damaged) }

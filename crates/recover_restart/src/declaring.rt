@@ -5,7 +5,7 @@ ghost use Rattle.log_text.specs.Bodies.{Void, body_after, marked};
 ghost use Rattle.logfile.specs.Standing.{LogFileView};
 ghost use Rattle.recover_opening.specs.Opening.{file_on};
 ghost use Rattle.recover_restart.specs.Declaring.{AreDeclared};
-ghost use Rattle.recover_restart.specs.Restarting.{HaveLost};
+ghost use Rattle.recover_restart.specs.Restarting.{MayGiveUp, HaveLost, HaveMoved};
 
 use log_disk::Disk;
 use logfile::LogFile;
@@ -31,7 +31,8 @@ pub fn declare_all<D: Disk>(files: &mut [LogFile<D>], low: u64, high: u64) -> Re
     Ok(())
 }
 
-/// Declares void, in every file in turn, the epochs behind the durable one up to the top, if there are such.
+/// Declares void, in every file in turn, the epochs behind the durable one up to the top, if there are such. It asks
+/// for what goes on behind them, tables that were tested among it: nothing is given up before.
 ///
 /// # Errors
 ///
@@ -41,9 +42,8 @@ pub(crate) fn declare_lost<D: Disk>(
     durable: u64,
     top: u64,
 ) -> Result<(), Refusal>
-    requires { durable < top → (l : ℕ) (d : LogFileView D) → l < length files.old
-        → body_after (slice_index_or files.old l d).header (slice_index_or files.old l d).last (Void (durable + 1) top)
-        ≡ Some (marked top (slice_index_or files.old l d).last) }
+    requires { MayGiveUp durable top files.old }
+    ensures moved { OnOk result (HaveMoved durable top files.old files.new) }
     ensures lost { D.is_modelled → OnOk result (HaveLost durable top (map (file_on D.seen D.story) files.old)
         (map (file_on D.seen D.story) files.new)) }
     ensures only_device { IfErr result (λ refusal. refusal ≡ Device) }

@@ -1,14 +1,21 @@
-//! That a restart is what may happen over the lives of a database.
+//! That a restart is what may happen over the lives of a database, and takes what any crash among them leaves.
 ghost use Rattle.std.specs.Prelude.{◌≡◌, ◌<◌, ℕ, List, [], length, slice_index_or};
 ghost use Rattle.tables.specs.Database.{Database};
+ghost use Rattle.tables.specs.Reach.{IsInReach};
 ghost use Rattle.book.specs.Parts.{first_of};
 ghost use Rattle.book.specs.declared.parts.Parts.{Parts};
 ghost use Rattle.logfile.specs.Standing.{LogFileView};
-ghost use Rattle.recover_crashes.specs.World.{DiskView};
-ghost use Rattle.recover_lives.specs.World.{Declaring, Declared};
+ghost use Rattle.recover_crashes.specs.World.{Life, DiskView, IsFirst};
+ghost use Rattle.recover_laws.specs.Found.{listed};
+ghost use Rattle.recover_laws.specs.Recovered.{IsFirstDatabase};
+ghost use Rattle.recover_lives.specs.World.{Declaring, Declared, origin_of, first_world};
 ghost use Rattle.recover_lives.specs.Events.{FilesAreRead, MayOpen};
-ghost use Rattle.recover_restart.specs.Restarting.{IsRestart};
+ghost use Rattle.recover_lives.specs.Events.{LivesEvent, MayOccurInTurn, MayStrike, lives_after_all};
+ghost use Rattle.recover_restart.specs.Restarting.{IsRestart, AreTakenUp};
 ghost use Rattle.recover_restart.specs.Lives.{origin_behind, life_behind, IsSyncedTwice, AreVoidCalls};
+
+use recover_lives::every_crash_is_survived;
+use recover_sound::{recovered_commits_are_within_the_cap, replays_are_reached};
 
 /// What `restart` gives is what may happen over the lives of a database, event for event (`recover_lives`): each disk is
 /// synced before any is read, and once more; all files are read; where the last epoch of which they have anything is
@@ -38,3 +45,21 @@ pub fn restart_goes_on()
         → MayOpen (origin_behind t0 seed (length disks)) (λ l. slice_index_or r.bodies l []) r.durable r.top steps
         (life_behind (first_of parts) commits seed (length disks) r.top) }
 {}
+
+/// Whatever happens over the lives of a database, any number of crashes and restarts and whatever happens within each
+/// life, and whatever string a crash then leaves on each disk: a restart on them refuses them neither by `Damaged` nor
+/// by `Gap` (`AreTakenUp`, of the clauses of `restart`). They are log files, no commit that counts is missing, and
+/// tables that are rebuilt of them are such as so many commits can have made, since they are the replay of what counts.
+/// The database began with tables that no commit had moved, as those of a population are (`IsInReach 0`). The function
+/// does nothing: its contract is the law.
+pub fn restart_takes_what_a_crash_leaves()
+    ensures { (life : Life) (files : ℕ → LogFileView DiskView) (events : List LivesEvent) (strings : ℕ → List ℕ)
+        → IsFirstDatabase life.first → IsInReach 0 life.first → IsFirst life files
+        → MayOccurInTurn (origin_of life) (first_world life files) events
+        → MayStrike (origin_of life) (lives_after_all (origin_of life) (first_world life files) events) strings
+        → AreTakenUp life.first life.seed (listed life.plan.loggers strings) }
+{
+    every_crash_is_survived();
+    recovered_commits_are_within_the_cap();
+    replays_are_reached();
+}

@@ -7,5 +7,5 @@ mod laws;
 mod restarting;
 
 pub use declaring::declare_all;
-pub use laws::restart_goes_on;
+pub use laws::{restart_goes_on, restart_takes_what_a_crash_leaves};
 pub use restarting::{Restarted, restart};

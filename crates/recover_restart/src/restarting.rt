@@ -3,12 +3,14 @@ ghost use Rattle.std.specs.Prelude.{◌≡◌, ◌≢◌, ◌<◌, ◌≤◌, �
 ghost use Rattle.money.specs.declared.refusal.Refusal.TheVariants.{OutOfMemory, Damaged, Device, Gap, EpochFull};
 ghost use Rattle.tables.specs.declared.limits.TheConstants.{MAX_LOGGERS, MAX_TERMINALS};
 ghost use Rattle.population.specs.Initial.{initial, seed_of};
+ghost use Rattle.book.specs.Parts.{base_of};
 ghost use Rattle.recover_found.specs.Found.{bodies_in, found};
 ghost use Rattle.recover_found.specs.Rebuilt.{HaveNoGap};
-ghost use Rattle.recover_files.specs.Files.{AreFiles};
+ghost use Rattle.recover_files.specs.Files.{AreFiles, AreOnDisks};
+ghost use Rattle.recover_files.specs.Recovered.{HasGap};
 ghost use Rattle.recover_opening.specs.Opening.{disk_on, file_on};
-ghost use Rattle.recover_restart.specs.Basing.{AreUnsound};
-ghost use Rattle.recover_restart.specs.Restarting.{GoesOnBehind, IsRestart, AreFilesThat, IsFull};
+ghost use Rattle.recover_restart.specs.Restarting.{GoesOnBehind, GoesOnFrom, IsRestart, StandAt};
+ghost use Rattle.recover_restart.specs.Restarting.{AreFilesThat, HaveLastEpoch, GiveUnsoundTables, AreDamagedOrUnsound};
 
 use crate::basing::base_of;
 use crate::declaring::declare_lost;
@@ -57,12 +59,16 @@ pub(crate) struct Resumption {
 ///
 /// # Errors
 ///
-/// In this order: `Device` where a call of a disk fails. `Damaged` where some file is no log file of this population's
-/// database, of its logger and of that many loggers. `Gap` where the commits that count don't have the numbers 1, 2 and
-/// so on, each once. `EpochFull` where the files have something of the last epoch that there is. `Damaged` where the
-/// tables that they recover to aren't such as so many commits can have made. `OutOfMemory`. Up to here nothing is
-/// written. Then `Device`, where a write or a sync of a void body fails: the files are then as a crash may leave them.
-/// The disks are dropped; on the same files it may be called again.
+/// Of modelled disks in this order, and each only where it is due. `Damaged`: some file is no log file of this
+/// population's database, of its logger and of that many loggers. `Gap`: all are, but the commits that count don't have
+/// the numbers 1, 2 and so on, each once. `EpochFull`: they have, but the files have something of the last epoch that
+/// there is. `Damaged`: they have nothing of it, but the tables that they recover to aren't such as so many commits can
+/// have made. Beside these `Device` and `OutOfMemory`.
+///
+/// An Err drops the disks, so no clause says when these two come, nor what is written then. By the code alone: `Device`
+/// comes exactly where a call of a disk fails, and `OutOfMemory` only for want of memory; and nothing is written but
+/// void bodies, when nothing can refuse any more but a device. So the files are then as they were, or as a crash may
+/// leave them, and on them it may be called again.
 pub fn restart<R: Wait, D: Disk + Drop>(
     rt: &R,
     alloc: Global,
@@ -76,11 +82,18 @@ pub fn restart<R: Wait, D: Disk + Drop>(
     ensures restarted { D.is_modelled → IfOk result (λ r. IsRestart (initial population) (seed_of population) terminals
         (map (disk_on D.seen D.story) disks.items) r.parts (map (file_on D.seen D.story) r.files.items) r.commits
         r.epoch) }
+    ensures goes_on { IfOk result (λ r. (strings : List (List ℕ))
+        × AreOnDisks D.is_modelled (map D.seen disks.items) strings
+        × GoesOnFrom (initial population) (seed_of population) (length disks.items) terminals strings r.parts r.commits
+        r.epoch) }
+    ensures stand { IfOk result (λ r. StandAt (initial population).scale (seed_of population) (length disks.items)
+        (base_of r.parts) r.files.items) }
     ensures gap { D.is_modelled → IsErrOf result Gap
-        → AreFilesThat (initial population).scale (seed_of population) (map D.seen disks.items) (λ files.
-        HaveNoGap (found files) → ⊥) }
+        → HasGap (initial population).scale (seed_of population) (map D.seen disks.items) }
     ensures full { D.is_modelled → IsErrOf result EpochFull
-        → AreFilesThat (initial population).scale (seed_of population) (map D.seen disks.items) IsFull }
+        → AreFilesThat (initial population).scale (seed_of population) (map D.seen disks.items) HaveLastEpoch }
+    ensures damaged { D.is_modelled → IsErrOf result Damaged
+        → AreDamagedOrUnsound (initial population) (seed_of population) (map D.seen disks.items) }
     ensures others { IfErr result (λ refusal. (refusal ≢ OutOfMemory) → (refusal ≢ Device) → (refusal ≢ Gap)
         → (refusal ≢ EpochFull) → refusal ≡ Damaged) }
 {
@@ -119,8 +132,8 @@ fn behind_files<R: Wait>(
     ensures goes_on { IfOk result (λ r. GoesOnBehind (initial population) (seed_of population) loggers terminals
         (map (λ bodies. bodies_in bodies.items) files.items) r.parts r.durable r.top r.commits) }
     ensures gap { IsErrOf result Gap → HaveNoGap (found (map (λ bodies. bodies_in bodies.items) files.items)) → ⊥ }
-    ensures full { IsErrOf result EpochFull → IsFull (map (λ bodies. bodies_in bodies.items) files.items) }
-    ensures damaged { IsErrOf result Damaged → AreUnsound (initial population)
+    ensures full { IsErrOf result EpochFull → HaveLastEpoch (map (λ bodies. bodies_in bodies.items) files.items) }
+    ensures damaged { IsErrOf result Damaged → GiveUnsoundTables (initial population)
         (map (λ bodies. bodies_in bodies.items) files.items) }
     ensures others { IfErr result (λ refusal. (refusal ≢ OutOfMemory) → (refusal ≢ Gap) → (refusal ≢ EpochFull)
         → refusal ≡ Damaged) }

@@ -1,5 +1,4 @@
-use Rattle.std.proofs.Common.{◌≡◌, ℕ, List, [], map, length, Option, Some, None, IfSome, refl, sym, subst}
-use Rattle.std.specs.Prelude.{slice_index_or}
+use Rattle.std.proofs.Common.{◌≡◌, ℕ, Option, Some, None, IfSome, refl, sym, subst}
 use Rattle.money.specs.declared.refusal.Refusal.TheVariants.{Damaged}
 use Rattle.population.specs.Initial.{initial, seed_of}
 use Rattle.program_recovery.specs.Flaws.{IsDamage}
@@ -22,4 +21,4 @@ returns-in-Ok-Some c =
     let damage = c.in-Ok-Some.damage in
     let known = rw c.in-Ok-Some.field-0-is at c.in-Ok-Some.ensures.damage in
     let is = subst (λ (loggers : ℕ). IsDamage t0.scale seed loggers known.0 damage) c.requires known.2 in
-    of_view (IsWhy files t0 seed Damaged) (Flawed (path_of files damage.logger) damage.flaw) (damaged known.0 damage refl is refl) c.flawed.result c.flawed.ensures
+    of_view (IsWhy c.args.purpose files t0.scale seed Damaged) (Flawed (path_of files damage.logger) damage.flaw) (damaged known.0 damage refl is refl) c.flawed.result c.flawed.ensures

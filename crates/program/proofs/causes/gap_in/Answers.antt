@@ -6,7 +6,7 @@ use Rattle.program.specs.Logs.{gap}
 use Rattle.program.proofs.causes.gap_in.Goals as goal
 
 pub returns-in-Ok-Some : goal.returns-in-Ok-Some
-returns-in-Ok-Some c = λ files.
+returns-in-Ok-Some c = λ purpose files.
     let population = c.args.population.now in
     let known = c.in-Ok-Some.ensures.gap in
     gap known.0 c.in-Ok-Some.gap refl

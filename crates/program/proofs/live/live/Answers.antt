@@ -2,6 +2,8 @@ use Rattle.std.proofs.Common.{refl, subst, sym}
 use Rattle.std.proofs.KnownBytes.{Appends-nil}
 use Rattle.money.specs.declared.refusal.Refusal.{Refusal}
 use Rattle.population.specs.Initial.{initial}
+use Rattle.program_run.specs.Told.{IsBroken, IsRan}
+use Rattle.program_run.specs.declared.driving.Plan.{Plan}
 use Rattle.program.specs.Detail.{cause_of}
 use Rattle.program.specs.Logs.{IsUnfinishedRun, broken, stopped, unmade}
 use Rattle.program.proofs.live.live.Goals as goal
@@ -13,10 +15,14 @@ pub returns-in-Ok-drive-clause-failed : goal.returns-in-Ok-drive-clause-failed
 returns-in-Ok-drive-clause-failed g c =
     subst (λ (refusal : Refusal). IsUnfinishedRun c.args.options.now (initial c.args.population) (g.W.Write.contents c.args.output.now)
     (g.W.Write.contents c.drive.new.writer) refusal (cause_of c.broken_off.result)) (sym c.broken_off.ensures.refusal)
-    (stopped c.in-Ok-drive.driven.report c.in-Ok-drive.ensures.ran refl c.broken_off.ensures.cause)
+    (stopped c.in-Ok-drive.driven.report
+    (subst (λ (plan : Plan). IsRan 0 (initial c.args.population) plan.terminals plan.inputs (g.W.Write.contents c.args.output.now)
+    (g.W.Write.contents c.drive.new.writer) c.in-Ok-drive.driven.report) c.plan_of.ensures c.in-Ok-drive.ensures.ran) refl c.broken_off.ensures.cause)
 
 pub returns-clause-failed : goal.returns-clause-failed
 returns-clause-failed g c =
     subst (λ (refusal : Refusal). IsUnfinishedRun c.args.options.now (initial c.args.population) (g.W.Write.contents c.args.output.now)
     (g.W.Write.contents c.drive.new.writer) refusal (cause_of c.broken_off-in-Err-drive.result)) (sym c.broken_off-in-Err-drive.ensures.refusal)
-    (broken c.in-Err-drive.ensures.broken c.broken_off-in-Err-drive.ensures.cause)
+    (broken
+    (subst (λ (plan : Plan). IsBroken 0 (initial c.args.population) plan.terminals plan.inputs (g.W.Write.contents c.args.output.now)
+    (g.W.Write.contents c.drive.new.writer) c.in-Err-drive.refusal) c.plan_of.ensures c.in-Err-drive.ensures.broken) c.broken_off-in-Err-drive.ensures.cause)

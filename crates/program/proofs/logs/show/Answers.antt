@@ -1,11 +1,10 @@
-use Rattle.std.proofs.Common.{◌≡◌, Option, List, ℕ, IfSome, sym, subst}
+use Rattle.std.proofs.Common.{sym, subst}
 use Rattle.std.proofs.KnownBytes.{Appends-nil}
 use Rattle.money.specs.declared.refusal.Refusal.{Refusal}
 use Rattle.population.specs.Initial.{initial, seed_of}
 use Rattle.program_recovery.specs.Told.{Shows}
-use Rattle.program.specs.declared.fault.Purpose.TheVariants.{Read}
 use Rattle.program.specs.Detail.{cause_of}
-use Rattle.program.specs.Logs.{HasBroken, IsRefusedWith, unread, untold}
+use Rattle.program.specs.Logs.{IsRefusedWith, unread, untold}
 use Rattle.program.proofs.logs.show.Goals as goal
 
 pub returns-in-Err-clause-refused : goal.returns-in-Err-clause-refused

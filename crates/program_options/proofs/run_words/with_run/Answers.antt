@@ -1,7 +1,7 @@
 use Rattle.std.proofs.Common.{rules, codes, refl, [], ◌∷◌}
 use Rattle.std.proofs.lemmas.Result.{IfOk-weaker}
 use Rattle.clap.specs.Words.{app_of}
-use Rattle.program_options.specs.CommandLine.{HasApp, folder_option, limited_option, loggers_option, seed_option}
+use Rattle.program_options.specs.CommandLine.{HasApp, flag_option, folder_option, limited_option, loggers_option, seed_option}
 use Rattle.program_options.proofs.Building.{more}
 use Rattle.program_options.proofs.run_words.with_run.Goals as goal
 
@@ -14,7 +14,8 @@ returns c =
     (search rules) in
     let four = more _ (record (limited_option (codes "count") 0 1000000) { defaults = codes "100" ∷ [] }) _ _ _ three c.in_ok-arg-4.ensures (search rules)
     (search rules) in
-    let last = seed_option (codes "seed") (codes "1") in
+    let five = more _ (seed_option (codes "seed") (codes "1")) _ _ _ four c.in_ok-arg-5.ensures (search rules) c.seed.ensures.local in
+    let last = flag_option (codes "resume") in
     record {
-      app = IfOk-weaker c.arg-5.result _ _ (λ command added. more _ last _ _ _ four added (search rules) c.seed.ensures.local) c.arg-5.ensures;
+      app = IfOk-weaker c.arg-6.result _ _ (λ command added. more _ last _ _ _ five added (search rules) (search rules)) c.arg-6.ensures;
     }

@@ -14,7 +14,7 @@ returns-clause-ran g c =
     }
 
 pub returns-in-Err-clause-broken : goal.returns-in-Err-clause-broken
-returns-in-Err-clause-broken g c = unrun c.in-Err.ensures.cause (Appends-nil (g.W.Write.contents c.args.writer.now))
+returns-in-Err-clause-broken g c = unrun (λ not. absurd (not c.in-Err.ensures.only_memory)) (Appends-nil (g.W.Write.contents c.args.writer.now))
 
 pub returns-in-Err-ran-clause-broken : goal.returns-in-Err-ran-clause-broken
 returns-in-Err-ran-clause-broken g c =

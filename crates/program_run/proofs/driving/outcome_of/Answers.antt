@@ -1,5 +1,4 @@
-use Rattle.std.proofs.Common.{◌∙◌, ap, sym}
-use Rattle.tables.specs.Database.{Database}
+use Rattle.std.proofs.Common.{◌∙◌, sym}
 use Rattle.program_run.proofs.Counted.{IfOk-three, counts_are}
 use Rattle.program_run.proofs.driving.outcome_of.Goals as goal
 
@@ -8,7 +7,7 @@ run-requires-clause-logs g c κs within = λ k d h. c.in_ok-logs.ensures.own k d
 
 pub run-requires-clause-decks : goal.run-requires-clause-decks
 run-requires-clause-decks g c κs within =
-    λ k d h. c.in_ok-stations.ensures.decks k d h ∙ (c.scale.ensures ∙ c.population-2.ensures.scale)
+    λ k d h. c.in_ok-stations.ensures.decks k d h ∙ (c.scale.ensures ∙ c.population.ensures.scale)
 
 pub returns-clause-counted : goal.returns-clause-counted
 returns-clause-counted g c =
@@ -16,6 +15,5 @@ returns-clause-counted g c =
     (λ o made commits counted.
     counts_are g.K.Run.first g.K.Ledger.parts c.args.plan.now.terminals g.K.Run.past c.args.plan.now.inputs o.closed o.tallies.items
     o.counts
-    (sym c.requires.run.parts_are ∙ (c.requires.run.fresh.parts ∙ c.requires.terminals.0))
-    (sym c.requires.run.past_is ∙ c.requires.begins.1) made commits counted)
+    (sym c.requires.run.parts_are ∙ (c.requires.run.fresh.parts ∙ c.requires.terminals)) made commits counted)
     c.run.result c.run.ensures.history c.run.ensures.commits c.run.ensures.counted

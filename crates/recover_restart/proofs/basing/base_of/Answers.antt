@@ -19,10 +19,12 @@ admitted-requires c =
 
 pub returns-clause-damaged : goal.returns-clause-damaged
 returns-clause-damaged c = λ e.
-    let of_files = c.in_ok-recovered.ensures.recovered in
-    record {
-      tables = database c.in_ok-recovered.recovered.tables;
-      rebuilt = of_files.rebuilt;
-      unsound = λ sound. c.admitted.ensures.damaged e
-          (subst (λ (n : ℕ). AreSoundTables n (database c.in_ok-recovered.recovered.tables)) (sym of_files.commits) sound);
-    }
+    let of_files = c.in_ok-recovered.ensures.recovered in (
+      search rules,
+      record {
+        tables = database c.in_ok-recovered.recovered.tables;
+        rebuilt = of_files.rebuilt;
+        unsound = λ sound. c.admitted.ensures.damaged e
+            (subst (λ (n : ℕ). AreSoundTables n (database c.in_ok-recovered.recovered.tables)) (sym of_files.commits) sound);
+      },
+    )

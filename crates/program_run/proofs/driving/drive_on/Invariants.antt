@@ -1,5 +1,5 @@
 use Rattle.book.proofs.RunNames.{run_named_by, ledger_named_by}
-use Rattle.program_run.proofs.driving.drive.Given as goal
+use Rattle.program_run.proofs.driving.drive_on.Given as goal
 
 abbrev pub ghosts-drive_parts-K-Run : goal.ghosts-drive_parts-K-Run
 ghosts-drive_parts-K-Run g a = run_named_by a.parts

@@ -1,0 +1,29 @@
+use Rattle.std.proofs.Common.{ℕ, refl, subst, sym}
+use Rattle.std.proofs.KnownBytes.{Appends-nil}
+use Rattle.money.specs.declared.refusal.Refusal.{Refusal}
+use Rattle.population.specs.Initial.{initial, seed_of}
+use Rattle.program.specs.Breaks.{IsToldAsUnfinished}
+use Rattle.program.specs.Detail.{cause_of}
+use Rattle.program.specs.Resumed.{IsUnfinishedResumedRun, stopped, unready}
+use Rattle.program.proofs.resuming.go_on.Goals as goal
+
+pub returns-in-Err-clause-failed : goal.returns-in-Err-clause-failed
+returns-in-Err-clause-failed g c = unready c.in-Err.ensures.unready (Appends-nil (g.W.Write.contents c.args.output.now))
+
+pub returns-in-Ok-run_restarted-clause-failed : goal.returns-in-Ok-run_restarted-clause-failed
+returns-in-Ok-run_restarted-clause-failed g c =
+    subst (λ (refusal : Refusal). IsUnfinishedResumedRun c.args.options.now (initial c.args.population) (seed_of c.args.population)
+    (g.W.Write.contents c.args.output.now) (g.W.Write.contents c.run_restarted.new.output) refusal (cause_of c.broken_off.result)) (sym c.broken_off.ensures.refusal)
+    (stopped c.in-Ok-run_restarted.driven.report c.in-Ok-run_restarted.ensures.ran refl c.broken_off.ensures.cause)
+
+pub returns-clause-failed : goal.returns-clause-failed
+returns-clause-failed g c =
+    let t0 = initial c.args.population in
+    let options = c.args.options.now in
+    let old = g.W.Write.contents c.args.output.now in
+    let new = g.W.Write.contents c.run_restarted.new.output in
+    let fault = c.fault_of.result in
+    let told = subst (λ (seed : ℕ). IsToldAsUnfinished options t0 seed old new c.in-Err-run_restarted.broken) (sym c.seed-seed.ensures)
+    c.in-Err-run_restarted.ensures.broken in
+    subst (λ (seed : ℕ). IsUnfinishedResumedRun options t0 seed old new fault.refusal (cause_of fault)) c.seed-seed.ensures
+    (c.fault_of.ensures t0 old new (sym c.scale-scale.ensures) told)

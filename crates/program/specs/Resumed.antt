@@ -1,0 +1,56 @@
+-- What comes of a run that goes on from its log files.
+use Rattle.std.specs.Prelude.{◌≡◌, ◌⊎◌, ◌++◌, ℕ, List, [], Option, codes, IfSome}
+use Rattle.std.specs.Fmt.{decimal}
+use Rattle.std.specs.Io.KnownBytes.{Appends}
+use Rattle.money.specs.declared.refusal.Refusal.{Refusal}
+use Rattle.money.specs.declared.refusal.Refusal.TheVariants.{OutOfMemory, Device, Damaged, Gap, EpochFull}
+use Rattle.tables.specs.Database.{Database}
+use Rattle.conditions.specs.declared.report.Report.{Report}
+use Rattle.book.specs.Parts.{first_of}
+use Rattle.book.specs.declared.parts.Parts.{Parts}
+use Rattle.recover_restart.specs.Restarting.{GoesOnFrom}
+use Rattle.program_options.specs.declared.asked.RunOptions.{RunOptions}
+use Rattle.program_run.specs.Told.{IsRan, IsBroken}
+use Rattle.program.specs.Detail.{CauseView}
+use Rattle.program.specs.Logs.{AreUnready, HasBroken, IsWhy}
+use Rattle.program.specs.declared.fault.Purpose.TheVariants.{Append}
+
+-- the line that is written first: so many commits were recovered, and the run commits in this epoch and later ones
+abbrev pub resumed_line : ℕ → ℕ → List ℕ
+resumed_line commits epoch = codes "resumed " ++ (decimal commits ++ (codes " epoch " ++ (decimal epoch ++ codes "\n")))
+
+-- some bytes of the files are gone on from, with these parts
+abbrev pub IsResumedWith : RunOptions → Database → ℕ → Parts → ℕ → ℕ → Type 0
+IsResumedWith r t0 seed parts commits epoch =
+    (strings : List (List ℕ)) × GoesOnFrom t0 seed r.files.loggers r.terminals strings parts commits epoch
+
+-- a run has gone on from its log files: what they recover to was told, and then all inputs ran from there on, and what
+-- came of them was told
+pub record IsResumedRun (r : RunOptions) (t0 : Database) (seed : ℕ) (old new : Option (List ℕ)) (report : Report)
+    : Type 0 where
+  pub parts : Parts
+  pub commits : ℕ
+  pub epoch : ℕ
+  pub resumed : IsResumedWith r t0 seed parts commits epoch
+  pub between : Option (List ℕ)
+  pub told : Appends old between (resumed_line commits epoch)
+  pub ran : IsRan commits (first_of parts) r.terminals r.count between new report
+
+-- it was refused: its files couldn't be opened; they couldn't be gone on with; the first line wasn't written whole; it was
+-- broken off for want of memory, or a device failed; or it was told whole, and a logger had stopped
+pub data IsUnfinishedResumedRun (r : RunOptions) (t0 : Database) (seed : ℕ) (old new : Option (List ℕ))
+    (refusal : Refusal) (known : Option CauseView) : Type 0 where
+  unready : AreUnready Append r.files refusal known → Appends old new []
+      → IsUnfinishedResumedRun r t0 seed old new refusal known
+  refused : (refusal ≡ OutOfMemory) ⊎ (refusal ≡ Device) ⊎ (refusal ≡ Gap) ⊎ (refusal ≡ EpochFull) ⊎ (refusal ≡ Damaged)
+      → IfSome known (IsWhy Append r.files t0.scale seed refusal) → Appends old new []
+      → IsUnfinishedResumedRun r t0 seed old new refusal known
+  untold : (parts : Parts) (commits epoch : ℕ) (front rest : List ℕ) → IsResumedWith r t0 seed parts commits epoch
+      → front ++ rest ≡ resumed_line commits epoch → Appends old new front
+      → (refusal ≡ OutOfMemory) ⊎ (refusal ≡ Device) → IsUnfinishedResumedRun r t0 seed old new refusal known
+  broken : (parts : Parts) (commits epoch : ℕ) (between : Option (List ℕ)) → IsResumedWith r t0 seed parts commits epoch
+      → Appends old between (resumed_line commits epoch)
+      → IsBroken commits (first_of parts) r.terminals r.count between new refusal
+      → IfSome known (HasBroken Append r.files refusal) → IsUnfinishedResumedRun r t0 seed old new refusal known
+  stopped : (report : Report) → IsResumedRun r t0 seed old new report → refusal ≡ Device
+      → IfSome known (HasBroken Append r.files refusal) → IsUnfinishedResumedRun r t0 seed old new refusal known
