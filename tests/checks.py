@@ -63,19 +63,21 @@ def same(what, seen, wanted):
 Ran = namedtuple("Ran", "status out err")
 
 
-def start(args, **how):
-    """Starts the program on these words, which are text or bytes. Its own name is tpcc, wherever it lies."""
-    return subprocess.Popen(["tpcc", *args], executable=Checks.program, **how)
+def start(args, *, program=None, **how):
+    """Starts the program, or another one, on these words, which are text or bytes. Its own name is tpcc, wherever it
+    lies."""
+    return subprocess.Popen(["tpcc", *args], executable=program or Checks.program, **how)
 
 
-def run(args, input=b"", *, stdin=None, stdout=subprocess.PIPE, before=None, env=None, seconds=SECONDS):
-    """Runs the program on these words to its end. Its input is these bytes, or what `stdin` is; its output is given
-    back, or goes where `stdout` says; `before` is called in the new process."""
+def run(args, input=b"", *, program=None, stdin=None, stdout=subprocess.PIPE, before=None, env=None, seconds=SECONDS):
+    """Runs the program, or another one, on these words to its end. Its input is these bytes, or what `stdin` is; its
+    output is given back, or goes where `stdout` says; `before` is called in the new process."""
     with tempfile.TemporaryFile() as given:
         given.write(input)
         given.seek(0)
         process = start(
             args,
+            program=program,
             stdin=given if stdin is None else stdin,
             stdout=stdout,
             stderr=subprocess.PIPE,

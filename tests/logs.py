@@ -13,16 +13,22 @@ from checks import REPORT, SMALL, brief, run
 # ---- Made by hand
 
 
-def entry(number, epoch, terminal):
-    """The entry of a commit: customer `number` of district 1 pays 1.00 there, after the customers before."""
-    paid = 100 * number
+def payment(number, epoch, terminal, customer, cents, date, before=0):
+    """The entry of a commit: a customer of district 1 pays so many cents there for the first time in this run, and
+    others have paid so many before."""
+    paid = before + cents
     writes = [
         struct.pack("<BIBq", 1, 0, 1, 20_000 + paid),
         struct.pack("<BIBqQ", 2, 0, 1, 10_000 + paid, 11),
-        struct.pack("<BIBqqQQ", 3, number - 1, 1, -1_100, 1_100, 2, 0),
-        struct.pack("<BIB7Q", 4, 0, 1, number, 1, 1, 1, 1, number, 100),
+        struct.pack("<BIBqqQQ", 3, customer - 1, 1, -1_000 - cents, 1_000 + cents, 2, 0),
+        struct.pack("<BIB7Q", 4, 0, 1, customer, 1, 1, 1, 1, date, cents),
     ]
     return struct.pack("<QQHH", number, epoch << 32, terminal, len(writes)) + b"".join(writes)
+
+
+def entry(number, epoch, terminal):
+    """The entry of a commit: customer `number` of district 1 pays 1.00 there, after the customers before."""
+    return payment(number, epoch, terminal, number, 100, number, 100 * (number - 1))
 
 
 def body(mark, *entries):

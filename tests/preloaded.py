@@ -5,6 +5,10 @@ The wrapper is C, made when it is first asked for, by the kit's compiler or by `
 STORY names a file that gets a line for each `pwrite`, as `w PATH`, and for each `fsync` and `fdatasync`, as `s PATH`. A
 sync of the path that UNSYNCED names fails, and so does a read of the path that UNREAD names, by EIO. A read of the path
 that HELD names takes a second and a half more. With THREADLESS no thread can be started.
+
+One call fails, counted from 1 among those of its kind: the `malloc` or `realloc` that GROWTH names, the `pwrite` of
+WRITE (with HALF, behind half of its bytes), the sync of SYNC, the `pthread_create` of THREAD. The story then has a line
+as `f WRITE`.
 """
 
 import os
@@ -24,6 +28,7 @@ extern long syscall(long, ...);
 extern ssize_t readlink(const char *, char *, size_t), write(int, const void *, size_t);
 
 extern void *dlsym(void *, const char *);
+extern void *__libc_malloc(size_t), *__libc_realloc(void *, size_t);
 
 enum { EIO = 5, EAGAIN = 11, PREAD = 17, PWRITE = 18, NANOSLEEP = 35, FSYNC = 74, FDATASYNC = 75 };
 enum { APPEND = 02001, LONGEST = 4096 };
@@ -51,13 +56,9 @@ static int failed(void) {
     return -1;
 }
 
-/* A line of the story: what is done, and to which path. */
-static void note(char what, int file) {
-    char line[LONGEST + 4];
+/* A line of the story, which has a place for its line feed. */
+static void tell(char *line, size_t length) {
     const char *story = getenv("STORY");
-    line[0] = what;
-    line[1] = ' ';
-    size_t length = 2 + path_of(file, line + 2);
     line[length] = '\n';
     int out = story ? open(story, APPEND) : -1;
     if (out >= 0) {
@@ -66,9 +67,40 @@ static void note(char what, int file) {
     }
 }
 
+/* What is done, and to which path. */
+static void note(char what, int file) {
+    char line[LONGEST + 4] = {what, ' '};
+    tell(line, 2 + path_of(file, line + 2));
+}
+
+enum { GROWTH, WRITE, SYNC, THREAD, KINDS };
+
+static const char *const NAMES[KINDS] = {"GROWTH", "WRITE", "SYNC", "THREAD"};
+
+/* Which call of each kind fails, if one does, and how many there were. What is before `begin` isn't counted. */
+static unsigned long chosen[KINDS], calls[KINDS];
+
+__attribute__((constructor)) static void begin(void) {
+    for (int kind = 0; kind < KINDS; kind++)
+        for (const char *digit = getenv(NAMES[kind]); digit && *digit; digit++)
+            chosen[kind] = chosen[kind] * 10 + (unsigned long)(*digit - '0');
+}
+
+/* Whether this call of a kind is the one that fails. */
+static int is_chosen(int kind) {
+    char line[16];
+    if (!chosen[kind] || __atomic_add_fetch(&calls[kind], 1, __ATOMIC_SEQ_CST) != chosen[kind]) return 0;
+    tell(line, (size_t)snprintf(line, sizeof line, "f %s", NAMES[kind]));
+    return 1;
+}
+
+void *malloc(size_t size) { return is_chosen(GROWTH) ? 0 : __libc_malloc(size); }
+
+void *realloc(void *old, size_t size) { return is_chosen(GROWTH) ? 0 : __libc_realloc(old, size); }
+
 static int synced(long call, int file) {
     note('s', file);
-    return is_named("UNSYNCED", file) ? failed() : (int)syscall(call, file);
+    return is_named("UNSYNCED", file) || is_chosen(SYNC) ? failed() : (int)syscall(call, file);
 }
 
 int fsync(int file) { return synced(FSYNC, file); }
@@ -85,13 +117,15 @@ ssize_t pread64(int file, void *into, size_t size, long at) { return pread(file,
 
 ssize_t pwrite(int file, const void *from, size_t size, long at) {
     note('w', file);
-    return syscall(PWRITE, file, from, size, at);
+    if (!is_chosen(WRITE)) return syscall(PWRITE, file, from, size, at);
+    if (getenv("HALF")) syscall(PWRITE, file, from, size / 2, at);
+    return failed();
 }
 
 ssize_t pwrite64(int file, const void *from, size_t size, long at) { return pwrite(file, from, size, at); }
 
 int pthread_create(void *thread, const void *how, void *(*run)(void *), void *with) {
-    if (getenv("THREADLESS")) return EAGAIN;
+    if (getenv("THREADLESS") || is_chosen(THREAD)) return EAGAIN;
     int (*create)(void *, const void *, void *(*)(void *), void *) = dlsym((void *)-1, "pthread_create");
     return create(thread, how, run, with);
 }
@@ -130,8 +164,19 @@ class Wrapper:
         """That of a program which is started with the wrapper."""
         return {**os.environ, "LD_PRELOAD": str(self.library), **names}
 
+    def failing(self, **names):
+        """That of a program one of whose calls fails, and a file to hand to `has_failed`."""
+        story = tempfile.NamedTemporaryFile()
+        return self.environment(STORY=story.name, **{name: str(value) for name, value in names.items()}), story
+
     def close(self):
         self.room.cleanup()
+
+
+def has_failed(story):
+    """Whether the call that was to fail did. The file goes."""
+    with story:
+        return any(line.startswith(b"f ") for line in story)
 
 
 def story_of(story, path):

@@ -22,7 +22,9 @@ sys.dont_write_bytecode = True
 sys.path.insert(0, str(Path(__file__).resolve().parent.parent / "examples"))
 import decks
 import devices
+import failing
 import flaws
+import hostile
 import kills
 import resumed
 import screens

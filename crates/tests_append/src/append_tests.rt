@@ -1,7 +1,6 @@
 //! Log files that are made and appended to: their bytes, and what is read back.
 ghost use Rattle.std.specs.Prelude.{◌≡◌, []};
 
-use crate::filled::{Standing, filled};
 use log_disk::{FileDisk, Memory};
 use log_scan::scan;
 use log_text::{Body, read_file};
@@ -10,6 +9,7 @@ use std::alloc::Global;
 use std::fs;
 use std::test::Fail;
 use tests_log_vectors::{FIRST, NOTHING, PAYMENT};
+use tests_one_logger::{Paid, Standing, filled};
 
 /// Whether these bytes are a header, an open gate, this body, and a closed gate.
 fn is_file_of(bytes: &[u8], body: &[u8]) -> bool {
@@ -21,7 +21,7 @@ fn is_file_of(bytes: &[u8], body: &[u8]) -> bool {
 }
 
 /// Payments of three batches.
-const THREE: [&[i64]; 3] = [&[100, 200], &[], &[300]];
+const THREE: [&[Paid]; 3] = [&[(3, 100), (3, 200)], &[], &[(3, 300)]];
 
 /// Of a body: its mark, how many entries it has, and the commit number of the last (0 without one).
 type Shape = (u64, usize, u64);
@@ -78,7 +78,7 @@ fn a_batch_without_entries_has_its_bytes(rt: HostRuntime) -> Result<(), Fail> {
 #[test]
 fn a_batch_with_a_payment_has_its_bytes(rt: HostRuntime) -> Result<(), Fail> {
     let mut memory = Memory::new(rt.alloc());
-    let standing = filled(&rt, rt.alloc(), &mut memory, &[&[1_234]])?;
+    let standing = filled(&rt, rt.alloc(), &mut memory, &[&[(3, 1_234)]])?;
     assert_eq!(rt;
         standing,
         Standing {

@@ -6,4 +6,4 @@ mod append_tests;
 #[cfg(test)]
 mod failing_tests;
 #[cfg(test)]
-mod filled;
+mod stopped_tests;

@@ -16,6 +16,8 @@ mod engine;
 #[cfg(test)]
 mod epoch_tests;
 #[cfg(test)]
+mod installs_tests;
+#[cfg(test)]
 mod lives;
 #[cfg(test)]
 mod new_order_tests;

@@ -36,7 +36,12 @@ const STOCK: u32 = 1_043;
 type Value = Option<Payload>;
 
 /// Executes what is asked for, and gives what is told.
-fn ask<R: Wait>(rt: &R, alloc: Global, stage: &mut Stage, asked: Asked) -> Result<Told, Refusal>
+pub(crate) fn ask<R: Wait>(
+    rt: &R,
+    alloc: Global,
+    stage: &mut Stage,
+    asked: Asked,
+) -> Result<Told, Refusal>
     requires scale { length stage.old.cells ≡ record_count (initial stage.old.population).scale }
     requires reader { stage.old.reader.cells ≡ stage.old.cells }
 {

@@ -1,13 +1,11 @@
 //! Log files that are opened again, and void bodies that are appended to them.
-ghost use Rattle.std.specs.Prelude.{◌≡◌, ◌+◌, ◌^◌, ◌<◌, [], length, IsOk, OnOk};
-ghost use Rattle.log_disk.specs.Calls.{Counts};
-
 use log_disk::{Disk, Memory};
 use log_scan::scan;
 use logfile::LogFile;
 use money::Refusal;
 use std::alloc::Global;
 use std::test::Fail;
+use tests_disks::{FailingDisk, Fault};
 use tests_log_vectors::{VOID, file_of_payments};
 
 /// A disk in memory with the file of one Payment, of epoch 4 and mark 5, that was never synced.
@@ -108,14 +106,13 @@ fn a_file_with_a_void_body_is_opened(rt: HostRuntime) -> Result<(), Fail> {
 }
 
 /// What two void bodies come to on a disk one of whose writes and syncs fails, and how many bodies are read back then.
-fn failed_at(alloc: Global, call: u32) -> Result<(Outcome, usize), Refusal> {
+fn failed_at(alloc: Global, call: u64) -> Result<(Outcome, usize), Refusal> {
     let mut memory = written(alloc)?;
-    let disk = Strict {
-        memory: &mut memory,
-        others: Some(call),
-        synced: false,
-        failures: 0,
+    let fault = Fault {
+        behind: call,
+        bytes: 0,
     };
+    let disk = FailingDisk::strict(&mut memory, Some(fault));
     let outcome = outcome_on(alloc, disk)?;
     let (_, bodies) = scan(alloc, &mut memory)?;
     Ok((outcome, bodies.len()))
@@ -137,127 +134,10 @@ fn a_device_that_fails_ends_a_file_that_was_opened(rt: HostRuntime) -> Result<()
     Ok(())
 }
 
-/// A disk that can't be read before it was synced, and one of whose writes and syncs fails, and changes nothing then: the
-/// one behind so many others.
-#[derive(Drop)]
-struct Strict<'a> {
-    memory: &'a mut Memory,
-    others: Option<u32>,
-    synced: bool,
-    failures: u64,
-}
-
-impl Strict<'_> {
-    /// Refuses where this is the call that fails.
-    fn call(&mut self) -> Result<(), Refusal>
-        ensures { self.new.failures ≡ self.old.failures }
-    {
-        let others = self.others;
-        self.others = others.and_then(|left| left.checked_sub(1));
-        match others {
-            Some(0) => Err(Refusal::Device),
-            _ => Ok(()),
-        }
-    }
-
-    fn write(&mut self, at: u64, bytes: &[u8]) -> Result<(), Refusal>
-        ensures fits { OnOk result (at + length bytes.now < 2 ^ 63) }
-        ensures failures { self.new.failures ≡ self.old.failures }
-    {
-        self.call()?;
-        if self.memory.len()? < at {
-            return Err(Refusal::Device);
-        }
-        self.memory.write_at(at, bytes)
-    }
-
-    fn size(&mut self) -> Result<u64, Refusal>
-        ensures { self.new.failures ≡ self.old.failures }
-    {
-        if !self.synced {
-            return Err(Refusal::Device);
-        }
-        self.memory.len()
-    }
-
-    fn fill(&mut self, at: u64, into: &mut [u8]) -> Result<(), Refusal>
-        ensures size { length into.new ≡ length into.old }
-        ensures failures { self.new.failures ≡ self.old.failures }
-    {
-        if !self.synced {
-            return Err(Refusal::Device);
-        }
-        self.memory.read_at(at, into)
-    }
-
-    fn keep(&mut self) -> Result<(), Refusal>
-        ensures { self.new.failures ≡ self.old.failures }
-    {
-        self.call()?;
-        self.synced = true;
-        self.memory.sync()
-    }
-
-    /// This answer, as one of a disk that counts its failures.
-    fn counted<T: Drop>(&mut self, answer: Result<T, Refusal>) -> Result<T, Refusal>
-        ensures ok { IsOk result → IsOk answer }
-        ensures cause { Counts result self.old.failures self.new.failures }
-    {
-        match answer {
-            Ok(value) if self.failures < u64::MAX => Ok(value),
-            _ => {
-                self.failures = self.failures.saturating_add(1);
-                Err(Refusal::Device)
-            }
-        }
-    }
-}
-
-impl Disk for Strict<'_> {
-    ghost is_modelled = { ⊥ };
-
-    ghost seen = { λ disk. [] };
-
-    ghost story = { λ disk. [] };
-
-    ghost failed = { λ disk. disk.failures };
-
-    ghost read_gives = { λ disk never. absurd never };
-
-    fn len(&mut self) -> Result<u64, Refusal> {
-        let answer = self.size();
-        self.counted(answer)
-    }
-
-    fn read_at(&mut self, at: u64, into: &mut [u8]) -> Result<(), Refusal> {
-        let answer = self.fill(at, into);
-        self.counted(answer)
-    }
-
-    fn write_at(&mut self, at: u64, bytes: &[u8]) -> Result<(), Refusal> {
-        let answer = self.write(at, bytes);
-        self.counted(answer)
-    }
-
-    fn sync(&mut self) -> Result<(), Refusal> {
-        let answer = self.keep();
-        self.counted(answer)
-    }
-
-    fn failures(&self) -> u64 {
-        self.failures
-    }
-}
-
 #[test]
 fn a_file_is_read_behind_a_sync(rt: HostRuntime) -> Result<(), Fail> {
     let mut memory = written(rt.alloc())?;
-    let disk = Strict {
-        memory: &mut memory,
-        others: None,
-        synced: false,
-        failures: 0,
-    };
+    let disk = FailingDisk::strict(&mut memory, None);
     let file = LogFile::open(rt.alloc(), disk)?;
     assert_eq!(rt; standing_of(&file), OPENED);
     Ok(())

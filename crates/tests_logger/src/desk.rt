@@ -14,12 +14,13 @@ use tables::{Input, PaymentInput, Who};
 use terminals::Outbox;
 use transactions::execute;
 
-/// Executes a Payment of so many cents by customer 3 of the first district, there.
+/// Executes a Payment of so many cents by a customer of the first district, there.
 fn payment<K: Run, R: Wait>(
     rt: &R,
     alloc: Global,
     engine: &Engine<K>,
     reader: &mut Reader,
+    customer: u32,
     cents: i64,
 ) -> Result<Work, Refusal>
     requires { reader.old.cells ≡ K.cells }
@@ -32,7 +33,7 @@ fn payment<K: Run, R: Wait>(
         district: 1,
         customer_warehouse: 1,
         customer_district: 1,
-        who: Who::Id(3),
+        who: Who::Id(customer),
         amount: Cents::new(cents),
     };
     let input = Input::payment(&engine.population().scale(), paid)?;
@@ -97,9 +98,10 @@ impl<K: Run> Desk<K> {
         rt: &R,
         alloc: Global,
         engine: &Engine<K>,
+        customer: u32,
         cents: i64,
     ) -> Result<(), Refusal> {
-        let done = self.commit(rt, alloc, engine, cents)?;
+        let done = self.commit(rt, alloc, engine, customer, cents)?;
         if self.outbox.room() == 0 {
             return Err(Refusal::OutOfMemory);
         }
@@ -112,9 +114,10 @@ impl<K: Run> Desk<K> {
         rt: &R,
         alloc: Global,
         engine: &Engine<K>,
+        customer: u32,
         cents: i64,
     ) -> Result<Done, Refusal> {
-        let work = payment(rt, alloc, engine, &mut self.reader, cents)?;
+        let work = payment(rt, alloc, engine, &mut self.reader, customer, cents)?;
         let (board, cells) = (engine.board(), engine.cells());
         engine
             .lock(rt)

@@ -70,7 +70,7 @@ fn rounds<K: Run, R: Wait>(
 {
     stage.advance()?;
     stage.advance()?;
-    stage.pay(rt, alloc, 1_234)?;
+    stage.pay(rt, alloc, 3, 1_234)?;
     let third = round(rt, stage, both)?;
     stage.advance()?;
     let fourth = round(rt, stage, both)?;

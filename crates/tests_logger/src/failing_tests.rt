@@ -1,20 +1,19 @@
-//! A logger whose disk fails at one of its calls: what is acknowledged is in the file that is read back.
+//! A logger whose disk fails at one of its calls: what is acknowledged is recovered.
 ghost use Rattle.std.specs.Prelude.{◌≡◌, IfOk};
 ghost use Rattle.book.specs.Parts.{IsOpenedAs, base_of, loggers_of};
 
-use crate::failing::Failing;
 use crate::stage::{Stage, parts};
 use crate::turn_tests::open_one;
 use book::{Parts, Run};
 use log_disk::{Disk, Memory};
-use log_scan::scan;
-use log_text::Body;
 use logger::Logger;
 use money::Refusal;
 use std::alloc::Global;
 use std::marker::Brand;
 use std::sync::Wait;
 use std::test::Fail;
+use tests_disks::{FailingDisk, Fault};
+use tests_log_files::{Recovery, recovery_of};
 
 /// What a turn answers, and again with the same batch where it was refused; D; and how many replies are released then.
 #[derive(Clone, Copy, Debug, PartialEq, Eq)]
@@ -43,17 +42,18 @@ fn kept_at(epoch: u64) -> Outcome {
     }
 }
 
-/// The terminal pays, the epoch goes on, and the logger has its turn.
+/// A customer pays, the epoch goes on, and the logger has its turn.
 fn round<K: Run, R: Wait, D: Disk>(
     rt: &R,
     alloc: Global,
     stage: &mut Stage<K>,
     logger: &mut Logger<D>,
+    customer: u32,
 ) -> Result<Outcome, Refusal>
     requires { logger.old.seat.board ≡ K.board }
     ensures { logger.new.seat.board ≡ K.board }
 {
-    stage.pay(rt, alloc, 1_234)?;
+    stage.pay(rt, alloc, customer, 100)?;
     stage.advance()?;
     let batch = stage.take(rt, logger);
     let turn = stage.turn(logger, &batch);
@@ -81,87 +81,92 @@ fn rounds<K: Run, R: Wait, D: Disk + Drop>(
     requires unmodelled { D.is_modelled → ⊥ }
 {
     let (mut stage, mut logger) = open_one::<K, D>(alloc, parts, disk)?;
-    let first = round(rt, alloc, &mut stage, &mut logger)?;
+    let first = round(rt, alloc, &mut stage, &mut logger, 3)?;
     if first.turn.is_err() {
         return Ok((first, None));
     }
-    let second = round(rt, alloc, &mut stage, &mut logger)?;
+    let second = round(rt, alloc, &mut stage, &mut logger, 4)?;
     Ok((first, Some(second)))
 }
 
-/// How many entries the file on a disk has.
-fn entries_of<D: Disk>(alloc: Global, disk: &mut D) -> Result<usize, Refusal> {
-    let (_, bodies) = scan(alloc, disk)?;
-    Ok(bodies.iter().filter(|body| has_entries(body)).count())
+/// What both rounds come to where this call of the disk fails, and what is recovered then.
+fn failed_at<R: Wait>(
+    rt: &R,
+    alloc: Global,
+    fault: Fault,
+) -> Result<(Outcome, Option<Outcome>, Recovery), Refusal> {
+    let parts = parts(rt, alloc, 1)?;
+    let mut disks = [Memory::new(alloc)];
+    let disk = FailingDisk::new(&mut disks[0], Some(fault));
+    let (first, second) = rounds::<Brand, R, _>(rt, alloc, parts, disk)?;
+    let recovered = recovery_of(alloc, &mut disks)?;
+    Ok((first, second, recovered))
 }
 
-fn has_entries(body: &Body) -> bool {
-    match body {
-        Body::Entries(_, entries) => !entries.is_empty(),
-        Body::Void(_, _) => false,
+/// What is recovered of so many bodies of one Payment each, from epoch 1 on.
+fn of_bodies(bodies: u64) -> Recovery {
+    Recovery {
+        durable: bodies,
+        commits: bodies,
     }
 }
 
-/// A disk of which the call fails that comes after so many.
-fn failing_after(alloc: Global, calls: u64) -> Failing {
-    Failing {
-        memory: Memory::new(alloc),
-        left: calls,
-        failures: 0,
-    }
-}
+/// How many bytes of a write are done all the same: none, half of a body's, and all.
+const DONE: [usize; 3] = [0, 86, 173];
 
 #[test]
 fn a_disk_that_fails_as_the_file_is_made(rt: HostRuntime) -> Result<(), Fail> {
-    for calls in 0..2 {
-        let parts = parts(&rt, rt.alloc(), 1)?;
-        let mut disk = failing_after(rt.alloc(), calls);
-        let result = rounds::<Brand, _, _>(&rt, rt.alloc(), parts, &mut disk);
-        assert!(rt; matches!(result, Err(Refusal::Device)));
+    for (behind, bytes) in [(0, 0), (0, 24), (0, 49), (1, 0)] {
+        let outcome = failed_at(&rt, rt.alloc(), Fault { behind, bytes });
+        assert_eq!(rt; outcome, Err(Refusal::Device));
     }
     Ok(())
 }
 
 #[test]
 fn a_disk_that_fails_in_the_first_turn(rt: HostRuntime) -> Result<(), Fail> {
-    for calls in 2..6 {
-        let parts = parts(&rt, rt.alloc(), 1)?;
-        let mut disk = failing_after(rt.alloc(), calls);
-        let result = rounds::<Brand, _, _>(&rt, rt.alloc(), parts, &mut disk)?;
-        assert_eq!(rt; result, (FAILED, None));
-        assert_eq!(rt;
-            entries_of(rt.alloc(), &mut disk)?,
-            if calls == 5 { 1 } else { 0 }
-        );
+    // The body, a sync, its gate, a sync.
+    for (behind, bodies) in [
+        (2, [0, 0, 0]),
+        (3, [0, 0, 0]),
+        (4, [0, 1, 1]),
+        (5, [1, 1, 1]),
+    ] {
+        for (bytes, bodies) in DONE.into_iter().zip(bodies) {
+            let outcome = failed_at(&rt, rt.alloc(), Fault { behind, bytes })?;
+            assert_eq!(rt; outcome, (FAILED, None, of_bodies(bodies)));
+        }
     }
     Ok(())
 }
 
 #[test]
 fn a_disk_that_fails_in_the_second_turn(rt: HostRuntime) -> Result<(), Fail> {
-    for calls in 6..10 {
-        let parts = parts(&rt, rt.alloc(), 1)?;
-        let mut disk = failing_after(rt.alloc(), calls);
-        let result = rounds::<Brand, _, _>(&rt, rt.alloc(), parts, &mut disk)?;
-        let fails = Outcome {
-            durable: 1,
-            ..FAILED
-        };
-        assert_eq!(rt; result, (kept_at(1), Some(fails)));
-        assert_eq!(rt;
-            entries_of(rt.alloc(), &mut disk)?,
-            if calls == 9 { 2 } else { 1 }
-        );
+    let fails = Outcome {
+        durable: 1,
+        ..FAILED
+    };
+    for (behind, bodies) in [
+        (6, [1, 1, 1]),
+        (7, [1, 1, 1]),
+        (8, [1, 2, 2]),
+        (9, [2, 2, 2]),
+    ] {
+        for (bytes, bodies) in DONE.into_iter().zip(bodies) {
+            let outcome = failed_at(&rt, rt.alloc(), Fault { behind, bytes })?;
+            assert_eq!(rt; outcome, (kept_at(1), Some(fails), of_bodies(bodies)));
+        }
     }
     Ok(())
 }
 
 #[test]
 fn a_disk_that_fails_in_no_turn(rt: HostRuntime) -> Result<(), Fail> {
-    let parts = parts(&rt, rt.alloc(), 1)?;
-    let mut disk = failing_after(rt.alloc(), 10);
-    let result = rounds::<Brand, _, _>(&rt, rt.alloc(), parts, &mut disk)?;
-    assert_eq!(rt; result, (kept_at(1), Some(kept_at(2))));
-    assert_eq!(rt; entries_of(rt.alloc(), &mut disk)?, 2);
+    let fault = Fault {
+        behind: 10,
+        bytes: 0,
+    };
+    let outcome = failed_at(&rt, rt.alloc(), fault)?;
+    assert_eq!(rt; outcome, (kept_at(1), Some(kept_at(2)), of_bodies(2)));
     Ok(())
 }

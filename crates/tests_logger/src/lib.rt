@@ -7,8 +7,6 @@ mod desk;
 #[cfg(test)]
 mod durable_tests;
 #[cfg(test)]
-mod failing;
-#[cfg(test)]
 mod failing_tests;
 #[cfg(test)]
 mod stage;

@@ -59,14 +59,15 @@ impl<K: Run> Stage<K> {
         self.engine.board().durable(&mut self.watch)
     }
 
-    /// The terminal commits a Payment of so many cents.
+    /// The terminal commits a Payment of so many cents by this customer.
     pub(crate) fn pay<R: Wait>(
         &mut self,
         rt: &R,
         alloc: Global,
+        customer: u32,
         cents: i64,
     ) -> Result<(), Refusal> {
-        self.desk.pay(rt, alloc, &self.engine, cents)
+        self.desk.pay(rt, alloc, &self.engine, customer, cents)
     }
 
     /// What a logger takes.

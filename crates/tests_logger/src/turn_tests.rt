@@ -46,7 +46,7 @@ fn turn<K: Run, R: Wait, D: Disk + Drop>(
 {
     let (mut stage, mut logger) = open_one::<K, D>(alloc, parts, disk)?;
     if let Some(cents) = cents {
-        stage.pay(rt, alloc, cents)?;
+        stage.pay(rt, alloc, 3, cents)?;
     }
     stage.advance()?;
     stage.take_turn(rt, &mut logger)

@@ -1,7 +1,9 @@
-//! An engine of one logger and one terminal, and the log file to which its commits go: for tests and measurements of
-//! log files.
+//! An engine with a paying terminal, and the log file to which its commits go, of one logger where it is made here: for
+//! tests and measurements of log files.
 #![tactic(auto)]
 
+mod filling;
 mod stage;
 
-pub use stage::{Stage, parts};
+pub use filling::{Paid, Standing, append_payments, filled, small, where_stands};
+pub use stage::{Stage, append_to, parts};

@@ -1,10 +1,10 @@
 //! The engine, and its file.
-ghost use Rattle.std.specs.Prelude.{◌≡◌, [], IfOk};
+ghost use Rattle.std.specs.Prelude.{◌≡◌, ◌<◌, [], IfOk};
 ghost use Rattle.tables.specs.Inputs.{IsInput};
 ghost use Rattle.book.specs.Parts.{IsFresh, IsOpenedAs, loggers_of};
 
 use board::ClockSeat;
-use book::{Batch, Engine, Parts, Run, Seat, Seats, TerminalSeats};
+use book::{Batch, Done, Engine, Parts, Run, Seat, Seats, TerminalSeats};
 use log_disk::Disk;
 use log_header::Header;
 use logfile::LogFile;
@@ -24,7 +24,7 @@ pub fn parts<R: Wait>(rt: &R, alloc: Global, scale: Scale) -> Result<Parts, Refu
     Parts::new(rt, alloc, Population::plain(alloc, scale)?, 1, 1)
 }
 
-/// An engine with its clock, its terminal, and its logger's file.
+/// An engine with its clock, its first terminal, and the file of its first logger.
 #[derive(Drop)]
 pub struct Stage<K: Run, D: Disk + Drop> {
     engine: Engine<K>,
@@ -34,14 +34,14 @@ pub struct Stage<K: Run, D: Disk + Drop> {
 }
 
 impl<K: Run, D: Disk + Drop> Model for Stage<K, D> {
-    ghost use Rattle.std.specs.Prelude.{◌≡◌};
+    ghost use Rattle.std.specs.Prelude.{◌≡◌, ◌<◌};
 
     ghost Value = { Unit {0} };
 
     ghost view = { λ s. tt };
 
     ghost invariant = { λ s. (s.clock.board ≡ K.board) × (s.terminal.reader.cells ≡ K.cells)
-        × (K.board.plan.loggers ≡ 1) };
+        × (0 < K.board.plan.loggers) };
 }
 
 impl<K: Run, D: Disk + Drop> Stage<K, D> {
@@ -52,18 +52,26 @@ impl<K: Run, D: Disk + Drop> Stage<K, D> {
         requires loggers { loggers_of parts ≡ 1 }
         requires empty { D.is_modelled → D.seen disk ≡ [] }
     {
-        let (engine, seats) = Engine::<K>::open(parts);
-        let Seats {
-            clock,
-            loggers: _,
-            terminals,
-        } = seats;
+        let (engine, clock, terminal) = opened::<K>(parts)?;
         let header = Header::new(engine.population().scale(), 0, 0, 1);
         Ok(Stage {
             engine,
             clock,
-            terminal: first_of(terminals)?,
+            terminal,
             file: LogFile::create(alloc, disk, header)?,
+        })
+    }
+
+    /// An engine that opens with these parts, and its first logger's file.
+    pub fn over(parts: Parts, file: LogFile<D>) -> Result<Stage<K, D>, Refusal>
+        requires { IsOpenedAs parts K.population K.first K.past K.cells K.board K.seed K.name K.parts }
+    {
+        let (engine, clock, terminal) = opened::<K>(parts)?;
+        Ok(Stage {
+            engine,
+            clock,
+            terminal,
+            file,
         })
     }
 
@@ -72,36 +80,71 @@ impl<K: Run, D: Disk + Drop> Stage<K, D> {
         self.engine.board().advance(&mut self.clock)
     }
 
-    /// A Payment of so many cents by a customer of district 1 to that district, with date 1. Answers its commit number.
+    /// A Payment of so many cents by a customer of district 1 to that district, with date 1.
     pub fn pay<R: Wait>(
         &mut self,
         rt: &R,
         alloc: Global,
         customer: u32,
         cents: i64,
-    ) -> Result<u32, Refusal> {
+    ) -> Result<Done, Refusal> {
         let input = payment_of(&self.engine, customer, cents)?;
         commit(rt, alloc, &self.engine, &mut self.terminal, &input)
     }
 
-    /// Takes what has committed since the last take.
+    /// Takes what has committed for the first logger since the last take.
     pub fn take<R: Wait>(&self, rt: &R) -> Batch {
-        self.engine.lock(rt).take(self.engine.board(), 0)
+        taken(rt, &self.engine, 0)
     }
 
-    /// Appends a batch to the file. Refuses as `LogFile::append` does, and by `BadInput` a batch that doesn't begin
-    /// where the file ends.
+    /// The same for any logger.
+    pub fn take_of<R: Wait>(&self, rt: &R, logger: u16) -> Batch
+        requires { logger < K.board.plan.loggers }
+    {
+        taken(rt, &self.engine, logger)
+    }
+
+    /// Appends a batch to the first logger's file. Refuses as `append_to`.
     pub fn append(&mut self, batch: &Batch) -> Result<(), Refusal> {
-        if !self.file.is_continued_by(batch) {
-            return Err(Refusal::BadInput);
-        }
-        self.file.append(batch)
+        append_to(&mut self.file, batch)
     }
 
-    /// The logger's file.
+    /// The first logger's file.
     pub fn file(&self) -> &LogFile<D> {
         &self.file
     }
+}
+
+/// What has committed for a logger since the last take.
+fn taken<K: Run, R: Wait>(rt: &R, engine: &Engine<K>, logger: u16) -> Batch
+    requires { logger < K.board.plan.loggers }
+{
+    engine.lock(rt).take(engine.board(), logger)
+}
+
+/// Appends a batch to a logger's file. Refuses as `LogFile::append` does, and by `BadInput` a batch that doesn't begin
+/// where the file ends.
+pub fn append_to<D: Disk>(file: &mut LogFile<D>, batch: &Batch) -> Result<(), Refusal> {
+    if !file.is_continued_by(batch) {
+        return Err(Refusal::BadInput);
+    }
+    file.append(batch)
+}
+
+/// The engine that opens with these parts, its clock and its first terminal.
+fn opened<K: Run>(parts: Parts) -> Result<(Engine<K>, ClockSeat, Seat<K>), Refusal>
+    requires { IsOpenedAs parts K.population K.first K.past K.cells K.board K.seed K.name K.parts }
+    ensures clock { IfOk result (λ x. x.1.board ≡ K.board) }
+    ensures terminal { IfOk result (λ x. x.2.reader.cells ≡ K.cells) }
+    ensures loggers { 0 < K.board.plan.loggers }
+{
+    let (engine, seats) = Engine::<K>::open(parts);
+    let Seats {
+        clock,
+        loggers: _,
+        terminals,
+    } = seats;
+    Ok((engine, clock, first_of(terminals)?))
 }
 
 /// The seat of the first terminal.
@@ -134,22 +177,19 @@ fn commit<K: Run, R: Wait>(
     engine: &Engine<K>,
     terminal: &mut Seat<K>,
     input: &Input,
-) -> Result<u32, Refusal>
+) -> Result<Done, Refusal>
     requires reader { terminal.old.reader.cells ≡ K.cells }
     requires input { IsInput K.first.scale input.now }
     ensures reader { terminal.new.reader.cells ≡ K.cells }
 {
     let (board, cells, population) = (engine.board(), engine.cells(), engine.population());
     let work = execute(rt, alloc, cells, &mut terminal.reader, population, input)?;
-    engine
-        .lock(rt)
-        .commit(
-            rt,
-            board,
-            cells,
-            &mut terminal.reader,
-            &mut terminal.share,
-            work,
-        )
-        .map(|done| done.number())
+    engine.lock(rt).commit(
+        rt,
+        board,
+        cells,
+        &mut terminal.reader,
+        &mut terminal.share,
+        work,
+    )
 }

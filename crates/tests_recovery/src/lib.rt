@@ -2,15 +2,9 @@
 #![tactic(auto)]
 
 #[cfg(test)]
-mod log_bytes;
-#[cfg(test)]
-mod log_files;
-#[cfg(test)]
 mod meeting;
 #[cfg(test)]
 mod recovering_tests;
-#[cfg(test)]
-mod restart_tests;
 #[cfg(test)]
 mod telling_tests;
 #[cfg(test)]

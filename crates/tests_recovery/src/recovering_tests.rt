@@ -1,19 +1,14 @@
 //! What is recovered of log files: of two, of one whose last gate may hold any byte, and of bytes that are none.
 
-use crate::log_bytes::{ENTRY, push_body, push_entry, push_entry_of, push_header};
-use crate::log_files::{disks, one_disk, small, unwatched};
 use money::{Cents, Refusal};
 use recover::recover;
 use std::alloc::{AllocError, Global};
 use std::test::Fail;
 use tables::{CustomerKey, Tables};
-
-/// What recovery comes to.
-#[derive(Clone, Copy, Debug, PartialEq, Eq)]
-pub(crate) struct Recovery {
-    pub(crate) durable: u64,
-    pub(crate) commits: u64,
-}
+use tests_log_files::{
+    ENTRY, Recovery, disks, one_disk, push_body, push_entry_of, push_header, recovery_of, small,
+    unwatched,
+};
 
 /// The balance of a customer of district 1, in cents.
 fn balance(tables: &Tables, customer: u32) -> Option<Cents> {
@@ -39,13 +34,8 @@ fn customers_of_later_epochs_have_not_paid(rt: HostRuntime) -> Result<(), Fail> 
 
 /// What the one file of these bytes recovers to.
 fn outcome(alloc: Global, bytes: &[u8]) -> Result<Recovery, Refusal> {
-    let population = small(alloc)?;
     let mut disks = one_disk(alloc, bytes)?;
-    let found = recover(alloc, &population, &mut disks, &unwatched(alloc))?;
-    Ok(Recovery {
-        durable: found.durable,
-        commits: found.commits,
-    })
+    recovery_of(alloc, &mut disks)
 }
 
 /// One logger's file of two bodies, with this byte in the gate of the second.

@@ -1,6 +1,5 @@
 //! What is told of two log files: five Payments of 1.00 in epochs 4 to 8, the first in the first file.
 
-use crate::log_files::{disks, first_disk, small};
 use log_disk::Memory;
 use money::Refusal;
 use program_recovery::{Manner, checked, recovered};
@@ -10,6 +9,8 @@ use std::sync::Wait;
 use std::test::Fail;
 use std::thread::Threads;
 use std::time::Clock;
+use tests_log_files::{disks, first_disk, one_disk, small};
+use tests_log_vectors::{FIRST, PAYMENT};
 
 /// In how many threads the files are read.
 const THREADS: [usize; 3] = [1, 2, 8];
@@ -95,6 +96,30 @@ fn one_file_of_two_is_damaged(rt: HostRuntime) -> Result<(), Fail> {
         assert_eq!(rt; text.err(), Some(Refusal::Damaged));
         let text = reported(&rt, rt.alloc(), &mut disks, threads);
         assert_eq!(rt; text.err(), Some(Refusal::Damaged));
+    }
+    Ok(())
+}
+
+/// A disk with the file of one Payment of 12.34, in which W_YTD is 0.01 more than it left.
+fn one_cent_more(alloc: Global) -> Result<Vec<Memory>, Refusal> {
+    let mut payment = PAYMENT;
+    payment[42] = 0xf3;
+    let mut bytes = Vec::new(alloc);
+    bytes.extend_from_slice(&FIRST)?;
+    bytes.push(1)?;
+    bytes.extend_from_slice(&payment)?;
+    bytes.push(0)?;
+    one_disk(alloc, &bytes)
+}
+
+#[test]
+fn a_log_that_no_history_made_is_reported(rt: HostRuntime) -> Result<(), Fail> {
+    let mut disks = one_cent_more(rt.alloc())?;
+    let expected = "commits 1\nC1 broken 1\nC2 ok\nC3 ok\nC4 ok\nC5 ok\nC6 ok\nC7 ok\nC8 broken 1\n\
+        C9 ok\nC10 ok\nC12 ok\n";
+    for threads in THREADS {
+        let text = reported(&rt, rt.alloc(), &mut disks, threads)?;
+        assert_eq!(rt; text.as_slice(), expected.as_bytes());
     }
     Ok(())
 }

@@ -1,8 +1,6 @@
 //! Recovery in threads: five Payments of 1.00 in epochs 4 to 8, in two files.
 
-use crate::log_files::{disks, first_disk, small, unwatched};
 use crate::meeting::{Meeting, Met};
-use crate::recovering_tests::Recovery;
 use log_disk::{Disk, Memory};
 use money::Refusal;
 use recover::recover_with;
@@ -10,6 +8,7 @@ use recover_progress::Progress;
 use std::alloc::Global;
 use std::test::Fail;
 use std::thread::Threads;
+use tests_log_files::{Recovery, disks, first_disk, small, unwatched};
 
 /// What these disks recover to in so many threads.
 fn recovery_of<R: Threads + Sync, D: Disk + Send>(
