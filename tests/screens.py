@@ -10,7 +10,7 @@ import tty
 from pathlib import Path
 
 import preloaded
-from checks import SECONDS, SMALL, Ran, ends, fail, run, same, shows, start, whole
+from checks import SECONDS, SMALL, Ran, ends, fail, run, same, shows, shows_runs, start, whole
 from logs import LOGS
 
 SIZES = [len(log) for log in LOGS]
@@ -80,6 +80,20 @@ def a_long_recovery_is_shown_on_a_terminal():
         ends("of a slow one on no terminal", run(words, env=held[0]), 0, output)
         ends("of a quick one on a terminal", on_terminal(words), 0, output)
         ends("of a slow one without threads", on_terminal(words, {**held[0], "THREADLESS": "1"}), 0, output)
+    wrapper.close()
+
+
+@shows_runs
+def a_long_restart_is_shown_on_a_terminal():
+    wrapper = preloaded.Wrapper()
+    with tempfile.TemporaryDirectory() as folder:
+        for logger, text in enumerate(LOGS):
+            (Path(folder) / f"log-{logger}").write_bytes(text)
+        resumed = [*words_of("run", folder), "--terminals", "1", "--count", "0", "--resume"]
+        ran = on_terminal(resumed, wrapper.environment(HELD=f"{folder}/log-1"))
+        same("the status of a slow restart", ran.status, 0)
+        same("what a slow restart says first", ran.out.partition(b"\n")[0], b"resumed 2 epoch 9")
+        has_shown("by a slow restart", ran.err, 0)
     wrapper.close()
 
 
