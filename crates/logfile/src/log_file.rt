@@ -69,9 +69,9 @@ impl<D: Disk> LogFile<D> {
     ///
     /// # Errors
     ///
-    /// `Device`; `OutOfMemory`. After Ok no call of the device has failed. An Err drops the disk, so no clause says more
-    /// of it; by the code alone `Device` comes exactly where a call of the device fails, and `OutOfMemory` before the
-    /// first one.
+    /// `Device`; `OutOfMemory`. After Ok no call of the device has failed. An Err drops the disk, so no clause says
+    /// more of it; by the code alone `Device` comes exactly where a call of the device fails, and `OutOfMemory` before
+    /// the first one.
     pub fn create(alloc: Global, disk: D, header: Header) -> Result<LogFile<D>, Refusal>
     where
         D: Drop,
@@ -125,7 +125,8 @@ impl<D: Disk> LogFile<D> {
         ensures damaged { D.is_modelled → IsErrOf result Damaged → (h : HeaderView) (bodies : List BodyView)
             → IsFile (D.seen disk) h bodies → ⊥ }
         ensures none_failed { IfOk result (λ file. D.failed file.disk ≡ D.failed disk) }
-        ensures others { IfErr result (λ refusal. (refusal ≢ OutOfMemory) → (refusal ≢ Device) → refusal ≡ Damaged) }
+        ensures others { IfErr result (λ refusal. (refusal ≢ OutOfMemory) → (refusal ≢ Device)
+            → refusal ≡ Damaged) }
     {
         let (file, _) = LogFile::open_with_bodies(alloc, disk)?;
         Ok(file)
@@ -157,7 +158,8 @@ impl<D: Disk> LogFile<D> {
         ensures damaged { D.is_modelled → IsErrOf result Damaged → (h : HeaderView) (bodies : List BodyView)
             → IsFile (D.seen disk) h bodies → ⊥ }
         ensures none_failed { IfOk result (λ x. D.failed x.0.disk ≡ D.failed disk) }
-        ensures others { IfErr result (λ refusal. (refusal ≢ OutOfMemory) → (refusal ≢ Device) → refusal ≡ Damaged) }
+        ensures others { IfErr result (λ refusal. (refusal ≢ OutOfMemory) → (refusal ≢ Device)
+            → refusal ≡ Damaged) }
     {
         let mut synced = disk;
         synced.sync()?;

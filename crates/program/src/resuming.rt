@@ -172,7 +172,8 @@ fn restarted<
     screen: Option<S>,
 ) -> Result<Restarted<D>, Refusal>
     requires loggers { length disks.items ≡ options.now.files.loggers }
-    ensures goes_on { IfOk result (λ r. (strings : List (List ℕ)) × GoesOnFrom (initial population) (seed_of population)
+    ensures goes_on { IfOk result (λ r. (strings : List (List ℕ))
+        × GoesOnFrom (initial population) (seed_of population)
         options.now.files.loggers options.now.terminals strings r.parts r.commits r.epoch) }
     ensures stand { IfOk result (λ r. StandAt (initial population).scale (seed_of population)
         options.now.files.loggers (base_of r.parts) r.files.items) }
@@ -188,7 +189,8 @@ fn restarted<
     let work = move || -> Result<Restarted<D>, Refusal>
         requires { ((0 < length disks.items) × (length disks.items ≤ MAX_LOGGERS))
             × ((0 < terminals) × (terminals ≤ MAX_TERMINALS)) }
-        ensures { IfOk result (λ r. ((strings : List (List ℕ)) × GoesOnFrom (initial population) (seed_of population)
+        ensures { IfOk result (λ r. ((strings : List (List ℕ))
+            × GoesOnFrom (initial population) (seed_of population)
             (length disks.items) terminals strings r.parts r.commits r.epoch)
             × StandAt (initial population).scale (seed_of population) (length disks.items) (base_of r.parts)
             r.files.items)
@@ -198,7 +200,8 @@ fn restarted<
     while_shown(rt, alloc, progress, screen, work)
 }
 
-/// The fault of a restart that was refused. The restart has used up the population, so who tells why makes it once more.
+/// The fault of a restart that was refused. The restart has used up the population, so who tells why makes it once
+/// more.
 fn unresumed(
     alloc: Global,
     scale: Scale,

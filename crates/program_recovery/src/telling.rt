@@ -23,10 +23,10 @@ use std::sync::Wait;
 use std::thread::Threads;
 use std::time::Clock;
 
-/// Recovers the tables that log files hold, as `recover_with` does, and writes the durable epoch, the number of commits, and
-/// the rows of the warehouses and districts: `durable 5`, `commits 2`, then for each warehouse
-/// `warehouse 1 ytd 202.00` and, for each of its districts, `district 1 1 ytd 102.00 next 11`. A recovery of more than a
-/// second shows on the screen how far it is, if there is one. May wait, for its threads.
+/// Recovers the tables that log files hold, as `recover_with` does, and writes the durable epoch, the number of
+/// commits, and the rows of the warehouses and districts: `durable 5`, `commits 2`, then for each warehouse `warehouse
+/// 1 ytd 202.00` and, for each of its districts, `district 1 1 ytd 102.00 next 11`. A recovery of more than a second
+/// shows on the screen how far it is, if there is one. May wait, for its threads.
 ///
 /// # Errors
 ///
@@ -62,9 +62,9 @@ pub fn recovered<
     }
 }
 
-/// Recovers the tables that log files hold, as `recover_with` does, and writes the report of the consistency conditions on
-/// them: `commits 2`, then for each condition (TPC-C 3.3.2) a line as `C1 ok`. Shows how far it is, as `recovered` does.
-/// May wait, for its threads.
+/// Recovers the tables that log files hold, as `recover_with` does, and writes the report of the consistency
+/// conditions on them: `commits 2`, then for each condition (TPC-C 3.3.2) a line as `C1 ok`. Shows how far it is, as
+/// `recovered` does. May wait, for its threads.
 ///
 /// # Errors
 ///

@@ -122,9 +122,9 @@ fn recover_watched<R: Threads + Wait + Clock + Sync, D: Disk + Send, S: Write + 
     found
 }
 
-/// Does this work, of which the progress tells how far its recovery is. Where there is a screen, a line there shows that,
-/// once it takes longer than a second, and is erased at its end. The calling thread does the work; may wait, for the
-/// thread that shows it.
+/// Does this work, of which the progress tells how far its recovery is. Where there is a screen, a line there shows
+/// that, once it takes longer than a second, and is erased at its end. The calling thread does the work; may wait, for
+/// the thread that shows it.
 pub fn while_shown<R: Threads + Wait + Clock + Sync, S: Write + Send + Drop, A, F: FnOnce() -> A>(
     rt: &R,
     alloc: Global,

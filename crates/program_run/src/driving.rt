@@ -175,7 +175,8 @@ fn outcome_of<
     requires logs { AreLogsOf (loggers_of parts) (base_of parts) (map (λ log. log.file) logs.items) }
     requires terminals { terminals_of parts ≡ plan.now.terminals }
     requires gates { length gates.items ≡ plan.now.terminals }
-    ensures counted { IfOk result (λ outcome. AreCounts K.past K.first plan.now.terminals plan.now.inputs outcome.closed
+    ensures counted { IfOk result
+        (λ outcome. AreCounts K.past K.first plan.now.terminals plan.now.inputs outcome.closed
         outcome.tallies.items outcome.counts) }
     ensures only_memory { IfErr result (λ refusal. refusal ≡ OutOfMemory) }
 {

@@ -61,7 +61,8 @@ pub fn every_crash_is_recovered()
         → MayStrike (origin_of life) (lives_after_all (origin_of life) (first_world life files) events) by_logger
         → (strings : List (List ℕ)) → AreInTurn life.plan.loggers by_logger strings
         → (r : RecoveredValue) → (is : IsRecovery life.first life.seed strings r)
-        → IsBeginningOf (origin_of life) (lives_after_all (origin_of life) (first_world life files) events) is.files r }
+        → IsBeginningOf (origin_of life)
+        (lives_after_all (origin_of life) (first_world life files) events) is.files r }
 {
     every_crash_is_survived();
 }

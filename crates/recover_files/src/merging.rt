@@ -51,7 +51,8 @@ pub(crate) fn merged_with<R: Threads + Sync>(
         requires { IsSync R.row × IsScale scale.now × All (λ bodies. HaveLawfulWrites scale.now (entries_of bodies))
             (map (λ bodies. bodies_in bodies.items) high.items) }
         ensures { IfOk result (λ part. IsPart scale.entry.now
-            (flat_map (counted (counts_by keeps.entry.now)) (map (λ bodies. bodies_in bodies.items) high.items)) part) }
+            (flat_map (counted (counts_by keeps.entry.now))
+            (map (λ bodies. bodies_in bodies.items) high.items)) part) }
     { merged_with(rt, alloc, scale, high, keeps, others, progress) };
     let (a, b) = join(rt, front, back);
     let mut all = a?;

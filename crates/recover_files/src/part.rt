@@ -40,8 +40,8 @@ impl Part {
         })
     }
 
-    /// The entries of a file's bodies that count. Constant time a write. Those of a body are noted once they were looked
-    /// at.
+    /// The entries of a file's bodies that count. Constant time a write. Those of a body are noted once they were
+    /// looked at.
     pub fn of_file(
         alloc: Global,
         scale: &Scale,
@@ -51,7 +51,8 @@ impl Part {
     ) -> Result<Part, AllocError>
         requires scale { IsScale scale.now }
         requires lawful { HaveLawfulWrites scale.now (entries_of (map body_of bodies.items)) }
-        ensures { IfOk result (λ part. IsPart scale.now (counted (counts_by keeps.now) (map body_of bodies.items)) part) }
+        ensures { IfOk result (λ part. IsPart scale.now (counted (counts_by keeps.now)
+            (map body_of bodies.items)) part) }
     {
         let mut part = Part::new(alloc, scale)?;
         for body in bodies {
@@ -93,7 +94,8 @@ impl Part {
         requires lawful { HaveLawfulWrites scale.now (map logged entries.items) }
         requires records { length self.old.newest.places ≡ count_of_records scale.now }
         ensures part { OnOk result ((es : List EntryView) → IsPart scale.now es self.old
-            → IsPart scale.now (es ++ filter (λ e. counts_by keeps.now (epoch_of e.tid)) (map logged entries.items)) self.new) }
+            → IsPart scale.now (es ++ filter (λ e. counts_by keeps.now (epoch_of e.tid))
+            (map logged entries.items)) self.new) }
         ensures records { length self.new.newest.places ≡ length self.old.newest.places }
     {
         let count = entries.len();

@@ -72,8 +72,8 @@ pub fn recover<D: Disk>(
     recover_bodies(alloc, population, files, progress)
 }
 
-/// What `recover` gives of files that were read: these are their bodies, in the order of the loggers. Costs what it does,
-/// but for the reading. Each body is given up once it was looked at.
+/// What `recover` gives of files that were read: these are their bodies, in the order of the loggers. Costs what it
+/// does, but for the reading. Each body is given up once it was looked at.
 ///
 /// # Errors
 ///
@@ -88,7 +88,8 @@ pub fn recover_bodies(
         (map (λ bodies. bodies_in bodies.items) files.items) }
     ensures recovered { IfOk result (IsOfFiles (initial population.now)
         (map (λ bodies. bodies_in bodies.items) files.items)) }
-    ensures gap { IsErrOf result Gap → HaveNoGap (found (map (λ bodies. bodies_in bodies.items) files.items)) → ⊥ }
+    ensures gap { IsErrOf result Gap → HaveNoGap (found (map (λ bodies. bodies_in bodies.items) files.items))
+        → ⊥ }
     ensures others { IfErr result (λ refusal. (refusal ≢ OutOfMemory) → refusal ≡ Gap) }
 {
     let keeps = Keeps::of(alloc, &files)?;

@@ -31,8 +31,10 @@ impl Model for Keeps {
 impl Keeps {
     /// Which entries of these files count. A pass over their bodies, and a sort of the ranges that they declare void.
     pub fn of(alloc: Global, files: &[Vec<Body>]) -> Result<Keeps, AllocError>
-        ensures durable { IfOk result (λ k. k.durable ≡ durable_epoch (map (λ bodies. bodies_in bodies.items) files.now)) }
-        ensures keeps { IfOk result (λ k. counts_by k ≡ keeps_of (map (λ bodies. bodies_in bodies.items) files.now)) }
+        ensures durable { IfOk result (λ k. k.durable ≡ durable_epoch
+            (map (λ bodies. bodies_in bodies.items) files.now)) }
+        ensures keeps { IfOk result (λ k. counts_by k ≡ keeps_of
+            (map (λ bodies. bodies_in bodies.items) files.now)) }
     {
         let voids = reaching(voids_of(alloc, files)?);
         Ok(Keeps {

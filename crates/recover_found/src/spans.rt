@@ -45,7 +45,8 @@ fn add_voids(spans: &mut Vec<Span>, bodies: &[Body]) -> Result<(), AllocError>
 /// Ranges that hold the same epochs, so that one look finds whether an epoch is in one: by their lows, and each reaches
 /// as far as any up to it. Sorts them, and takes no memory.
 pub(crate) fn reaching(spans: Vec<Span>) -> Vec<Span>
-    ensures same { (epoch : ℕ) → list_any (is_spanned epoch) result.items ≡ list_any (is_spanned epoch) spans.items }
+    ensures same { (epoch : ℕ) → list_any (is_spanned epoch) result.items
+        ≡ list_any (is_spanned epoch) spans.items }
     ensures reaching { AreReaching result.items }
 {
     let mut spans = spans;

@@ -21,11 +21,13 @@ use recover_laws::rebuilt_tables_are_the_replay;
 /// whatever life; and tables that are rebuilt of them are its replay (Silo, section 4.10). So a crash inside a restart
 /// is survived too.
 pub fn every_crash_is_survived()
-    ensures { (life : Life) (files : ℕ → LogFileView DiskView) (events : List LivesEvent) (strings : ℕ → List ℕ)
+    ensures { (life : Life) (files : ℕ → LogFileView DiskView)
+        (events : List LivesEvent) (strings : ℕ → List ℕ)
         → IsFirstDatabase life.first → IsFirst life files
         → MayOccurInTurn (origin_of life) (first_world life files) events
         → MayStrike (origin_of life) (lives_after_all (origin_of life) (first_world life files) events) strings
-        → LeavesTheReplay (origin_of life) (lives_after_all (origin_of life) (first_world life files) events) strings }
+        → LeavesTheReplay (origin_of life)
+        (lives_after_all (origin_of life) (first_world life files) events) strings }
 {
     rebuilt_tables_are_the_replay();
 }
@@ -47,7 +49,8 @@ pub fn durable_epoch_never_falls()
 /// epoch up to D that isn't void stands in its logger's file; while a life runs none is of a void epoch; and an entry
 /// that stands in a file but isn't of the history is of an epoch above D or a void one.
 pub fn durable_epoch_stays_lawful()
-    ensures { (life : Life) (files : ℕ → LogFileView DiskView) (events : List LivesEvent) (strings : ℕ → List ℕ)
+    ensures { (life : Life) (files : ℕ → LogFileView DiskView)
+        (events : List LivesEvent) (strings : ℕ → List ℕ)
         → IsFirstDatabase life.first → IsFirst life files
         → MayOccurInTurn (origin_of life) (first_world life files) events
         → MayStrike (origin_of life) (lives_after_all (origin_of life) (first_world life files) events) strings

@@ -18,9 +18,9 @@ use recover_files::is_of;
 use std::alloc::Global;
 
 /// The log files of a population's database, opened again for appending (`LogFile::open_with_bodies`), and the bodies
-/// that stand in them: disk `l` has the file of logger `l`, of as many loggers as disks. All disks are synced before any
-/// is read, so what was read of some can't be older, after a crash, than what was read of others (Silo, section 4.10).
-/// Writes nothing. Costs two syncs of each disk, and a pass over the files.
+/// that stand in them: disk `l` has the file of logger `l`, of as many loggers as disks. All disks are synced before
+/// any is read, so what was read of some can't be older, after a crash, than what was read of others (Silo, section
+/// 4.10). Writes nothing. Costs two syncs of each disk, and a pass over the files.
 ///
 /// # Errors
 ///
@@ -33,7 +33,8 @@ pub fn open_all<D: Disk + Drop>(
     population: &Population,
     disks: Vec<D>,
 ) -> Result<(Vec<LogFile<D>>, Vec<Vec<Body>>), Refusal>
-    ensures opened { D.is_modelled → IfOk result (λ x. AreOpened (initial population.now).scale (seed_of population.now)
+    ensures opened { D.is_modelled → IfOk result (λ x. AreOpened (initial population.now).scale
+        (seed_of population.now)
         (map (disk_on D.seen D.story) disks.items) (map (file_on D.seen D.story) x.0.items)
         (map (λ bodies. bodies_in bodies.items) x.1.items)) }
     ensures behind { IfOk result (λ x. AreOpenBehind (initial population.now).scale (seed_of population.now)
@@ -45,7 +46,8 @@ pub fn open_all<D: Disk + Drop>(
     ensures none_failed { IfOk result (λ x. map (λ file. D.failed file.disk) x.0.items ≡ map D.failed disks.items) }
     ensures damaged { D.is_modelled → IsErrOf result Damaged
         → AreDamaged (initial population.now).scale (seed_of population.now) (map D.seen disks.items) }
-    ensures others { IfErr result (λ refusal. (refusal ≢ OutOfMemory) → (refusal ≢ Device) → refusal ≡ Damaged) }
+    ensures others { IfErr result (λ refusal. (refusal ≢ OutOfMemory) → (refusal ≢ Device)
+        → refusal ≡ Damaged) }
 {
     let mut synced = disks;
     sync_all(&mut synced)?;
@@ -82,7 +84,8 @@ fn open_synced<D: Disk + Drop>(
         (map (λ bodies. bodies_in bodies.items) x.1.items)) }
     ensures damaged { D.is_modelled → IsErrOf result Damaged
         → AreDamaged (initial population.now).scale (seed_of population.now) (map D.seen disks.items) }
-    ensures others { IfErr result (λ refusal. (refusal ≢ OutOfMemory) → (refusal ≢ Device) → refusal ≡ Damaged) }
+    ensures others { IfErr result (λ refusal. (refusal ≢ OutOfMemory) → (refusal ≢ Device)
+        → refusal ≡ Damaged) }
 {
     let loggers = disks.len();
     let mut files = Vec::new(alloc);
@@ -108,7 +111,8 @@ fn open_one<D: Disk + Drop>(
         (bodies_in x.1.items)) }
     ensures damaged { D.is_modelled → IsErrOf result Damaged → (bodies : List BodyView) → IsFile (D.seen disk)
         (header_view logger loggers (initial population.now).scale (seed_of population.now)) bodies → ⊥ }
-    ensures others { IfErr result (λ refusal. (refusal ≢ OutOfMemory) → (refusal ≢ Device) → refusal ≡ Damaged) }
+    ensures others { IfErr result (λ refusal. (refusal ≢ OutOfMemory) → (refusal ≢ Device)
+        → refusal ≡ Damaged) }
 {
     let (file, bodies) = LogFile::open_with_bodies(alloc, disk)?;
     if !is_of(&file.header(), population, logger, loggers) {

@@ -9,8 +9,9 @@ ghost use Rattle.tables.specs.Sizes.{Sizes};
 use log_text::Body;
 
 /// The last epoch of which log files say anything: the greatest of all marks, epochs of entries, and epochs that void
-/// bodies declare void, and 0 where there is none. What comes behind it is new to every file. In a log file neither marks
-/// nor epochs fall, so the last mark and the last entry are asked: a pass over the bodies, none over the entries.
+/// bodies declare void, and 0 where there is none. What comes behind it is new to every file. In a log file neither
+/// marks nor epochs fall, so the last mark and the last entry are asked: a pass over the bodies, none over the
+/// entries.
 pub fn top_epoch(files: &[Vec<Body>]) -> u64
     requires { (s : Sizes) × (seed : ℕ) × (strings : List (List ℕ))
         × AreFiles s seed strings (map (λ bodies. bodies_in bodies.items) files.now) }

@@ -22,13 +22,13 @@ use std::alloc::{AllocError, Global};
 use tables::limits::LAST_EPOCH;
 use tables::{History, Tables};
 
-/// What a database goes on from whose log files have these bodies: the tables that they recover to, the HISTORY rows that
-/// these have behind the population's, how many commits made them, and `top` as the last epoch.
+/// What a database goes on from whose log files have these bodies: the tables that they recover to, the HISTORY rows
+/// that these have behind the population's, how many commits made them, and `top` as the last epoch.
 ///
 /// # Errors
 ///
-/// `Gap`, as `recover`. Else `EpochFull` exactly where `top` is the last epoch that there is. Else `Damaged` exactly where
-/// the tables aren't such as the commits can have made (`AreSoundTables`). `OutOfMemory`.
+/// `Gap`, as `recover`. Else `EpochFull` exactly where `top` is the last epoch that there is. Else `Damaged` exactly
+/// where the tables aren't such as the commits can have made (`AreSoundTables`). `OutOfMemory`.
 pub(crate) fn base_of(
     alloc: Global,
     population: &Population,
@@ -40,13 +40,14 @@ pub(crate) fn base_of(
         (map (λ bodies. bodies_in bodies.items) files.items) }
     ensures base { IfOk result (IsBaseOf (initial population.now) (map (λ bodies. bodies_in bodies.items) files.items)
         top) }
-    ensures gap { IsErrOf result Gap → HaveNoGap (found (map (λ bodies. bodies_in bodies.items) files.items)) → ⊥ }
-    ensures full { IsErrOf result EpochFull → (HaveNoGap (found (map (λ bodies. bodies_in bodies.items) files.items)))
+    ensures gap { IsErrOf result Gap → HaveNoGap (found (map (λ bodies. bodies_in bodies.items) files.items))
+        → ⊥ }
+    ensures full { IsErrOf result EpochFull → HaveNoGap (found (map (λ bodies. bodies_in bodies.items) files.items))
         × (last_epoch ≤ top) }
     ensures damaged { IsErrOf result Damaged → (top < last_epoch) × AreUnsound (initial population.now)
         (map (λ bodies. bodies_in bodies.items) files.items) }
-    ensures others { IfErr result (λ refusal. (refusal ≢ OutOfMemory) → (refusal ≢ Gap) → (refusal ≢ EpochFull)
-        → refusal ≡ Damaged) }
+    ensures others { IfErr result (λ refusal. (refusal ≢ OutOfMemory) → (refusal ≢ Gap)
+        → (refusal ≢ EpochFull) → refusal ≡ Damaged) }
 {
     // Who asks for a scale knows its limits.
     let _scale = population.scale();

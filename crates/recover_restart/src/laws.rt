@@ -17,10 +17,10 @@ ghost use Rattle.recover_restart.specs.Lives.{origin_behind, life_behind, IsSync
 use recover_lives::every_crash_is_survived;
 use recover_sound::{recovered_commits_are_within_the_cap, replays_are_reached};
 
-/// What `restart` gives is what may happen over the lives of a database, event for event (`recover_lives`): each disk is
-/// synced before any is read, and once more; all files are read; where the last epoch of which they have anything is
-/// above the durable one, each file gets the void body by the four calls of an append; and a life may open behind it.
-/// The function does nothing: its contract is the law.
+/// What `restart` gives is what may happen over the lives of a database, event for event (`recover_lives`): each disk
+/// is synced before any is read, and once more; all files are read; where the last epoch of which they have anything
+/// is above the durable one, each file gets the void body by the four calls of an append; and a life may open behind
+/// it. The function does nothing: its contract is the law.
 pub fn restart_goes_on()
     ensures syncs { (t0 : Database) (seed terminals : ℕ) (disks : List DiskView) (parts : Parts)
         (files : List (LogFileView DiskView)) (commits epoch : ℕ)
@@ -41,7 +41,8 @@ pub fn restart_goes_on()
     ensures opens { (t0 : Database) (seed terminals : ℕ) (disks : List DiskView) (parts : Parts)
         (files : List (LogFileView DiskView)) (commits epoch : ℕ)
         → (r : IsRestart t0 seed terminals disks parts files commits epoch) → 0 < length disks
-        → (steps : ℕ → Declaring) → ((l : ℕ) → l < length disks → r.durable < r.top → steps l ≡ Declared)
+        → (steps : ℕ → Declaring)
+        → ((l : ℕ) → l < length disks → r.durable < r.top → steps l ≡ Declared)
         → MayOpen (origin_behind t0 seed (length disks)) (λ l. slice_index_or r.bodies l []) r.durable r.top steps
         (life_behind (first_of parts) commits seed (length disks) r.top) }
 {}
@@ -53,7 +54,8 @@ pub fn restart_goes_on()
 /// The database began with tables that no commit had moved, as those of a population are (`IsInReach 0`). The function
 /// does nothing: its contract is the law.
 pub fn restart_takes_what_a_crash_leaves()
-    ensures { (life : Life) (files : ℕ → LogFileView DiskView) (events : List LivesEvent) (strings : ℕ → List ℕ)
+    ensures { (life : Life) (files : ℕ → LogFileView DiskView)
+        (events : List LivesEvent) (strings : ℕ → List ℕ)
         → IsFirstDatabase life.first → IsInReach 0 life.first → IsFirst life files
         → MayOccurInTurn (origin_of life) (first_world life files) events
         → MayStrike (origin_of life) (lives_after_all (origin_of life) (first_world life files) events) strings

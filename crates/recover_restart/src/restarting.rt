@@ -79,9 +79,9 @@ pub fn restart<R: Wait, D: Disk + Drop>(
 ) -> Result<Restarted<D>, Refusal>
     requires loggers { (0 < length disks.items) × (length disks.items ≤ MAX_LOGGERS) }
     requires terminals { (0 < terminals) × (terminals ≤ MAX_TERMINALS) }
-    ensures restarted { D.is_modelled → IfOk result (λ r. IsRestart (initial population) (seed_of population) terminals
-        (map (disk_on D.seen D.story) disks.items) r.parts (map (file_on D.seen D.story) r.files.items) r.commits
-        r.epoch) }
+    ensures restarted { D.is_modelled → IfOk result (λ r. IsRestart (initial population) (seed_of population)
+        terminals (map (disk_on D.seen D.story) disks.items) r.parts (map (file_on D.seen D.story) r.files.items)
+        r.commits r.epoch) }
     ensures goes_on { IfOk result (λ r. (strings : List (List ℕ))
         × AreOnDisks D.is_modelled (map D.seen disks.items) strings
         × GoesOnFrom (initial population) (seed_of population) (length disks.items) terminals strings r.parts r.commits
@@ -139,12 +139,13 @@ fn behind_files<R: Wait>(
     requires terminals { (0 < terminals) × (terminals ≤ MAX_TERMINALS) }
     ensures goes_on { IfOk result (λ r. GoesOnBehind (initial population) (seed_of population) loggers terminals
         (map (λ bodies. bodies_in bodies.items) files.items) r.parts r.durable r.top r.commits) }
-    ensures gap { IsErrOf result Gap → HaveNoGap (found (map (λ bodies. bodies_in bodies.items) files.items)) → ⊥ }
+    ensures gap { IsErrOf result Gap → HaveNoGap (found (map (λ bodies. bodies_in bodies.items) files.items))
+        → ⊥ }
     ensures full { IsErrOf result EpochFull → HaveLastEpoch (map (λ bodies. bodies_in bodies.items) files.items) }
     ensures damaged { IsErrOf result Damaged → GiveUnsoundTables (initial population)
         (map (λ bodies. bodies_in bodies.items) files.items) }
-    ensures others { IfErr result (λ refusal. (refusal ≢ OutOfMemory) → (refusal ≢ Gap) → (refusal ≢ EpochFull)
-        → refusal ≡ Damaged) }
+    ensures others { IfErr result (λ refusal. (refusal ≢ OutOfMemory) → (refusal ≢ Gap)
+        → (refusal ≢ EpochFull) → refusal ≡ Damaged) }
 {
     // Who asks for a scale knows its limits.
     let _scale = population.scale();

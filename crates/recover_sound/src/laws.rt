@@ -47,7 +47,8 @@ pub fn rebuilt_tables_become()
 /// are no more than the cap: there is room for the commits that are left, up to 600,000.
 pub fn reached_tables_may_begin()
     ensures { (t0 t : Database) (rows : List HistoryRow) (commits : ℕ) → IsScale t0.scale
-        → commits ≤ t0.scale.commits → HasBecome t0 t rows → AreReached commits t → MayBegin t0 t rows commits }
+        → commits ≤ t0.scale.commits → HasBecome t0 t rows → AreReached commits t
+        → MayBegin t0 t rows commits }
 {}
 
 /// So a run may begin with sound tables that are rebuilt of a database's log files, behind as many commits as count in

@@ -107,8 +107,8 @@ fn no_epoch_is_behind_the_last(rt: HostRuntime) -> Result<(), Fail> {
     Ok(())
 }
 
-/// A file of one logger whose first entry these bytes are, of commit 1 and epoch 1, which is durable; a Payment of epoch
-/// 2 behind it isn't.
+/// A file of one logger whose first entry these bytes are, of commit 1 and epoch 1, which is durable; a Payment of
+/// epoch 2 behind it isn't.
 fn begun(alloc: Global, entry: &[u8]) -> Result<Vec<u8>, AllocError> {
     let mut bytes = Vec::new(alloc);
     push_header(&mut bytes, 0, 1)?;
