@@ -200,8 +200,8 @@ fn restarted<
     while_shown(rt, alloc, progress, screen, work)
 }
 
-/// The fault of a restart that was refused. The restart has used up the population, so who tells why makes it once
-/// more.
+/// The fault of a restart that was refused. What is wrong with the files is told by the population's scale and seed; the
+/// restart has used up the population, so it is made once more for that.
 fn unresumed(
     alloc: Global,
     scale: Scale,
@@ -214,6 +214,9 @@ fn unresumed(
     ensures refusal { result.refusal ≡ refusal }
     ensures cause { IfSome (cause_of result) (IsWhy Append options.now.files scale seed refusal) }
 {
+    if !matches!(refusal, Refusal::Damaged | Refusal::Gap) {
+        return broken_off(alloc, &options.files, Purpose::Append, refusal, disks);
+    }
     match population_of(alloc, scale, seed) {
         Ok(population) => {
             let purpose = Purpose::Append;

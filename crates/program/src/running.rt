@@ -4,7 +4,7 @@ ghost use Rattle.std.specs.Io.KnownBytes.{Appends};
 ghost use Rattle.money.specs.declared.refusal.Refusal.TheVariants.{OutOfMemory};
 ghost use Rattle.population.specs.Initial.{initial, seed_of};
 ghost use Rattle.program.specs.Run.{IsRun, IsWholeRun, IsRefusedRun, IsPopulation, scale_of};
-ghost use Rattle.program.specs.Run.{IsDone, IsFailed, IsAnswered, IsBrokenOff, IsUnfinishedAsAsked, IsRunAsAsked};
+ghost use Rattle.program.specs.Run.{IsDone, IsFailed, IsAnswered, IsBrokenOff};
 ghost use Rattle.program.specs.Detail.{IsDetail, cause_of};
 ghost use Rattle.program.specs.Status.{IsRefusedStatus, refusal_line, WritesBeginning};
 
@@ -19,7 +19,7 @@ use clap::Error;
 use conditions::Report;
 use money::Refusal;
 use population::Population;
-use program_options::{Options, RunOptions, Subcommand, options};
+use program_options::{Options, Subcommand, options};
 use program_script::script;
 use program_streams::write_text;
 use std::alloc::Global;
@@ -152,34 +152,13 @@ fn answer_over<
 {
     match subcommand {
         Subcommand::Script => answer_script(rt, alloc, population, input, output),
-        Subcommand::Run(options) => answer_run(rt, alloc, population, options, output, screen),
+        Subcommand::Run(options) if options.resume => {
+            go_on(rt, alloc, population, options, output, screen)
+        }
+        Subcommand::Run(options) => live(rt, alloc, population, options, output, screen),
         Subcommand::Recover(options) => show(rt, alloc, &population, options, output, screen),
         Subcommand::Check(options) => report(rt, alloc, &population, options, output, screen),
     }
-}
-
-/// Runs terminals, from the population on, or from what log files hold that are there.
-fn answer_run<
-    T: Wait + Threads + Clock + Files<File = File> + Sync,
-    W: Write,
-    S: Write + Send + Drop,
->(
-    rt: &T,
-    alloc: Global,
-    population: Population,
-    options: &RunOptions,
-    output: &mut W,
-    screen: Option<S>,
-) -> Result<Report, Fault>
-    ensures done { IfOk result (IsRunAsAsked (initial population) (seed_of population) options.now
-        (W.contents output.old) (W.contents output.new)) }
-    ensures failed { IfErr result (λ fault. IsUnfinishedAsAsked (initial population) (seed_of population) options.now
-        (W.contents output.old) (W.contents output.new) fault.refusal (cause_of fault)) }
-{
-    if options.resume {
-        return go_on(rt, alloc, population, options, output, screen);
-    }
-    live(rt, alloc, population, options, output, screen)
 }
 
 /// Answers a script over a population.

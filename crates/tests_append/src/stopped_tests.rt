@@ -1,6 +1,6 @@
 //! A process that is stopped in its second append, within each write and between the calls of its device.
 
-use log_disk::{Memory, MemoryCall};
+use log_disk::{Disk, Memory, MemoryCall};
 use money::Refusal;
 use std::alloc::{AllocError, Global};
 use std::sync::Wait;
@@ -46,6 +46,34 @@ fn recovered_behind(
 /// Whether the one byte of a write is written as 1.
 fn opens(torn: Torn) -> bool {
     matches!(torn, Torn::New | Torn::SecondHalf | Torn::Filled(1))
+}
+
+/// A disk whose four bytes were synced, and then the last two written over, with two more behind them.
+fn written_over(alloc: Global) -> Result<Memory, Refusal> {
+    let mut disk = Memory::new(alloc);
+    disk.write_at(0, b"abcd")?;
+    disk.sync()?;
+    disk.write_at(2, b"WXYZ")?;
+    Ok(disk)
+}
+
+#[test]
+fn a_stop_leaves_of_a_write_what_its_kind_says(rt: HostRuntime) -> Result<(), Fail> {
+    let disk = written_over(rt.alloc())?;
+    let wanted: [&[u8]; 7] = [
+        b"abcd",
+        b"abWXYZ",
+        b"abWX",
+        b"abcdYZ",
+        b"ab\0\0\0\0",
+        b"ab\x01\x01\x01\x01",
+        b"ab\xff\xff\xff\xff",
+    ];
+    for (torn, wanted) in ALL_TORN.into_iter().zip(wanted) {
+        let bytes = left_by(rt.alloc(), disk.calls(), torn)?;
+        assert_eq!(rt; bytes.as_slice(), wanted);
+    }
+    Ok(())
 }
 
 #[test]

@@ -1,5 +1,5 @@
 //! A disk one of whose calls fails.
-ghost use Rattle.std.specs.Prelude.{◌≡◌, ◌+◌, ◌^◌, ◌<◌, [], length, IsOk, OnOk};
+ghost use Rattle.std.specs.Prelude.{◌≡◌, ◌+◌, ◌^◌, ◌<◌, [], false, true, length, IsOk, OnOk};
 ghost use Rattle.log_disk.specs.Calls.{Counts};
 
 use log_disk::{Disk, Memory};
@@ -26,21 +26,26 @@ pub struct FailingDisk<'a> {
 
 impl<'a> FailingDisk<'a> {
     /// A disk none of whose calls has failed.
-    pub fn new(memory: &'a mut Memory, fault: Option<Fault>) -> FailingDisk<'a> {
-        FailingDisk {
-            memory,
-            fault,
-            is_open: true,
-            failures: 0,
-        }
+    pub fn new(memory: &'a mut Memory, fault: Option<Fault>) -> FailingDisk<'a>
+        ensures { (result.is_open ≡ true) × (result.failures ≡ 0) }
+    {
+        FailingDisk::of(memory, fault, true)
     }
 
     /// The same, of which also each look at its length or its bytes fails until it was synced.
-    pub fn strict(memory: &'a mut Memory, fault: Option<Fault>) -> FailingDisk<'a> {
+    pub fn strict(memory: &'a mut Memory, fault: Option<Fault>) -> FailingDisk<'a>
+        ensures { (result.is_open ≡ false) × (result.failures ≡ 0) }
+    {
+        FailingDisk::of(memory, fault, false)
+    }
+
+    fn of(memory: &'a mut Memory, fault: Option<Fault>, is_open: bool) -> FailingDisk<'a>
+        ensures { (result.is_open ≡ is_open) × (result.failures ≡ 0) }
+    {
         FailingDisk {
             memory,
             fault,
-            is_open: false,
+            is_open,
             failures: 0,
         }
     }

@@ -1,6 +1,8 @@
 //! Bytes of log files that are known from outside the code, for tests.
 #![tactic(auto)]
 
+ghost use Rattle.std.specs.Prelude.{◌≡◌, ◌≤◌, length, set, slice_index_or, IfOk};
+
 use std::alloc::{AllocError, Global};
 
 /// The header of logger 0 of 1, over 1 warehouse, 2 districts, 10 customers, 20 items, orders up to 30, 1,000 commits
@@ -54,7 +56,10 @@ pub fn file_of_payments(
     logger: u8,
     mark: u64,
     commits: (u8, u8),
-) -> Result<Vec<u8>, AllocError> {
+) -> Result<Vec<u8>, AllocError>
+    ensures { IfOk result (λ file. (48 ≤ length file.items) × (slice_index_or file.items 12 0 ≡ logger)
+        × (slice_index_or file.items 14 0 ≡ 2)) }
+{
     let mut file = Vec::new(alloc);
     file.extend_from_slice(&FIRST)?;
     let mut content = Vec::new(alloc);
@@ -70,12 +75,11 @@ pub fn file_of_payments(
 }
 
 /// The same file, of this logger of 2.
-fn with_logger(mut file: Vec<u8>, logger: u8) -> Vec<u8> {
-    if let Some(byte) = file.get_mut(12) {
-        *byte = logger;
-    }
-    if let Some(byte) = file.get_mut(14) {
-        *byte = 2;
-    }
+fn with_logger(mut file: Vec<u8>, logger: u8) -> Vec<u8>
+    requires { 48 ≤ length file.items }
+    ensures { result.items ≡ set (set file.items 12 logger) 14 2 }
+{
+    file[12] = logger;
+    file[14] = 2;
     file
 }

@@ -6,4 +6,4 @@ mod filling;
 mod stage;
 
 pub use filling::{Paid, Standing, append_payments, filled, small, where_stands};
-pub use stage::{Stage, append_to, parts};
+pub use stage::{Stage, append_to, commit, parts};

@@ -170,8 +170,8 @@ fn payment_of<K: Run>(engine: &Engine<K>, customer: u32, cents: i64) -> Result<I
     Input::payment(&engine.population().scale(), payment)
 }
 
-/// Executes an input, and commits it.
-fn commit<K: Run, R: Wait>(
+/// Executes an input at a terminal's seat, and commits it. Refuses as `execute` and `Book::commit` do.
+pub fn commit<K: Run, R: Wait>(
     rt: &R,
     alloc: Global,
     engine: &Engine<K>,
