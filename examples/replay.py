@@ -38,6 +38,10 @@ class Damaged(Exception):
     """Why files are no log files of one database."""
 
 
+class Gap(Damaged):
+    """Which commit is missing, or stands twice."""
+
+
 def epoch_of(tid):
     return tid >> 32
 
@@ -160,15 +164,19 @@ class LogFile:
         self.mark, self.entries, self.voids = 0, [], []
         # The commit number of the last entry in the same body, and the epoch of the last one in the file.
         self.number, self.epoch = 0, 1
-        while source.take(BYTE)[0] == OPEN:
+        while self.read_gate(source) == OPEN:
             self.read_body(source)
+
+    def read_gate(self, source):
+        """What stands in the gate that comes next."""
+        return source.take(BYTE)[0]
 
     def read_body(self, source):
         """A body, which ends in front of the next gate."""
         at = source.at
         (length,) = source.take(LENGTH)
         end = source.at + length - 1
-        if length < 9 or end >= len(source.data):
+        if length < 9 or end > len(source.data):
             raise source.damaged(at, f"a body of {length} bytes, the gate behind it included")
         source.end = end
         (mark,) = source.take(LENGTH)
@@ -215,12 +223,13 @@ class LogFile:
 # ---- What several files say
 
 
-def read_files(folder, loggers):
-    """The log files of so many loggers, which are to be of one database of the plain population."""
+def read_files(folder, loggers, shown=SHOWN):
+    """The log files of so many loggers, which are to be of one database of the plain population, with the writes to
+    these tables."""
     files = []
     for logger in range(loggers):
         path = Path(folder) / f"log-{logger}"
-        file = LogFile(path, path.read_bytes())
+        file = LogFile(path, path.read_bytes(), shown)
         wanted = Header(logger, loggers, files[0].header.scale if files else file.header.scale, 0)
         if file.header != wanted:
             raise Damaged(f"{path}: {file.header}, and not {wanted}")
@@ -233,20 +242,34 @@ def counts(epoch, durable, voids):
     return epoch <= durable and not any(low <= epoch <= high for low, high in voids)
 
 
-def replay(folder, loggers):
-    """The durable epoch, how many commits count, and the newest columns that they leave, by table and place."""
-    files = read_files(folder, loggers)
+def counted(files):
+    """The durable epoch, and the entries that count, by their commit numbers, which are to be 1, 2, 3 and so on."""
     durable = min(file.mark for file in files)
     voids = [span for file in files for span in file.voids]
     entries = [entry for file in files for entry in file.entries if counts(epoch_of(entry.tid), durable, voids)]
-    for wanted, number in enumerate(sorted(entry.number for entry in entries), 1):
-        if number != wanted:
-            raise Damaged(f"{folder}: commit {number} stands where commit {wanted} is to be")
+    entries.sort(key=lambda entry: entry.number)
+    for wanted, entry in enumerate(entries, 1):
+        if entry.number > wanted:
+            raise Gap(f"commit {wanted} is missing")
+        if entry.number < wanted:
+            raise Gap(f"commit {entry.number} stands twice")
+    return durable, entries
+
+
+def newest_of(entries):
+    """The columns that the newest write of each record leaves, by table and place."""
     newest = {}
     for entry in sorted(entries, key=lambda entry: (entry.tid, entry.number)):
         for table, place, columns in entry.writes:
             newest[table, place] = columns
-    return Replay(files[0].header.scale, durable, len(entries), newest)
+    return newest
+
+
+def replay(folder, loggers):
+    """The durable epoch, how many commits count, and the newest columns that they leave, by table and place."""
+    files = read_files(folder, loggers)
+    durable, entries = counted(files)
+    return Replay(files[0].header.scale, durable, len(entries), newest_of(entries))
 
 
 # ---- Texts

@@ -2,7 +2,7 @@
 
 use crate::scale::Scale;
 use crate::tables::{Cents, District, Order, Tables};
-use std::fmt::{self, Write};
+use crate::text::Text;
 
 /// The conditions that are checked, by their numbers.
 const CONDITIONS: [usize; 11] = [1, 2, 3, 4, 5, 6, 7, 8, 9, 10, 12];
@@ -30,20 +30,23 @@ struct Paid {
 }
 
 /// Writes how many transactions were committed, and for each condition whether it holds. Tells whether all do.
-pub fn report(scale: &Scale, tables: &Tables, commits: u32, text: &mut String) -> Result<bool, fmt::Error> {
+pub fn report(scale: &Scale, tables: &Tables, commits: u32, text: &mut Text) -> bool {
     let broken = check(scale, tables);
-    writeln!(text, "commits {commits}")?;
+    text.words("commits ").number(commits).words("\n");
     for condition in CONDITIONS {
+        text.words("C").number(condition as u32);
         match &broken.keys[condition] {
-            None => writeln!(text, "C{condition} ok")?,
+            None => text.words(" ok\n"),
             Some(key) => {
-                write!(text, "C{condition} broken")?;
-                key.iter().try_for_each(|number| write!(text, " {number}"))?;
-                writeln!(text)?;
+                text.words(" broken");
+                for number in key {
+                    text.words(" ").number(*number);
+                }
+                text.words("\n")
             }
-        }
+        };
     }
-    Ok(broken.keys.iter().all(Option::is_none))
+    broken.keys.iter().all(Option::is_none)
 }
 
 fn check(scale: &Scale, tables: &Tables) -> Broken {

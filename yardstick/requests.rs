@@ -3,9 +3,9 @@
 use crate::scale::Scale;
 use crate::tables::{Cents, LAST_NAMES};
 
-pub enum Request {
+pub enum Request<'a> {
     Payment(Payment),
-    NewOrder(NewOrder),
+    NewOrder(NewOrder<'a>),
     Delivery { warehouse: u32, carrier: u32 },
     OrderStatus { warehouse: u32, district: u32, who: Who },
     StockLevel { warehouse: u32, district: u32, threshold: u32 },
@@ -21,11 +21,11 @@ pub struct Payment {
     pub amount: Cents,
 }
 
-pub struct NewOrder {
+pub struct NewOrder<'a> {
     pub warehouse: u32,
     pub district: u32,
     pub customer: u32,
-    pub lines: Vec<RequestedLine>,
+    pub lines: &'a [RequestedLine],
 }
 
 pub struct RequestedLine {
@@ -50,128 +50,195 @@ pub enum Key {
     Order { warehouse: u32, district: u32, order: u32 },
 }
 
-/// The request of a line, or nothing where it is in none of the forms.
-pub fn read_request(line: &[u8]) -> Option<Request> {
-    let mut words = line.split(|&byte| byte == b' ');
-    let request = match words.next()? {
-        b"payment" => Request::Payment(Payment {
-            warehouse: number(&mut words)?,
-            district: number(&mut words)?,
-            customer_warehouse: number(&mut words)?,
-            customer_district: number(&mut words)?,
-            who: read_who(words.next()?)?,
-            amount: read_amount(words.next()?)?,
-        }),
-        b"neworder" => Request::NewOrder(NewOrder {
-            warehouse: number(&mut words)?,
-            district: number(&mut words)?,
-            customer: number(&mut words)?,
-            lines: words.by_ref().map(read_line).collect::<Option<_>>()?,
-        }),
-        b"delivery" => Request::Delivery { warehouse: number(&mut words)?, carrier: number(&mut words)? },
-        b"status" => Request::OrderStatus {
-            warehouse: number(&mut words)?,
-            district: number(&mut words)?,
-            who: read_who(words.next()?)?,
-        },
-        b"level" => Request::StockLevel {
-            warehouse: number(&mut words)?,
-            district: number(&mut words)?,
-            threshold: number(&mut words)?,
-        },
-        b"show" => Request::Show(read_key(&mut words)?),
-        _ => return None,
-    };
-    match words.next() {
-        None => Some(request),
-        Some(_) => None,
+/// Why a line isn't done.
+pub enum Refusal {
+    BadInput,
+    ItemNotValid { item: u32 },
+    OrdersFull,
+    CommitsFull,
+    BadLine,
+}
+
+/// What a line asks, with room for the lines of an order. No line is one that is too long.
+pub fn read_request<'a>(
+    line: Option<&[u8]>,
+    scale: &Scale,
+    room: &'a mut Vec<RequestedLine>,
+) -> Result<Request<'a>, Refusal> {
+    let request = line.and_then(|line| Words { rest: line }.request(room)).ok_or(Refusal::BadLine)?;
+    if !request.is_in_range(scale) {
+        return Err(Refusal::BadInput);
+    }
+    if let Request::NewOrder(order) = &request
+        && let Some(line) = order.lines.iter().find(|line| line.item > scale.items)
+    {
+        return Err(Refusal::ItemNotValid { item: line.item });
+    }
+    Ok(request)
+}
+
+/// What is left of a line. Each word is read with the space before it.
+struct Words<'a> {
+    rest: &'a [u8],
+}
+
+impl Words<'_> {
+    /// The request of a line, or nothing where it is in none of the forms.
+    fn request<'a>(&mut self, room: &'a mut Vec<RequestedLine>) -> Option<Request<'a>> {
+        let request = match self.rest {
+            [b'n', ..] => Request::NewOrder(self.new_order(room)?),
+            [b'p', ..] => Request::Payment(self.payment()?),
+            [b'd', ..] => {
+                self.word(b"delivery")?;
+                Request::Delivery { warehouse: self.number()?, carrier: self.number()? }
+            }
+            [b's', b't', ..] => {
+                self.word(b"status")?;
+                Request::OrderStatus { warehouse: self.number()?, district: self.number()?, who: self.who()? }
+            }
+            [b'l', ..] => {
+                self.word(b"level")?;
+                Request::StockLevel { warehouse: self.number()?, district: self.number()?, threshold: self.number()? }
+            }
+            _ => Request::Show(self.key()?),
+        };
+        self.rest.is_empty().then_some(request)
+    }
+
+    fn payment(&mut self) -> Option<Payment> {
+        self.word(b"payment")?;
+        Some(Payment {
+            warehouse: self.number()?,
+            district: self.number()?,
+            customer_warehouse: self.number()?,
+            customer_district: self.number()?,
+            who: self.who()?,
+            amount: self.amount()?,
+        })
+    }
+
+    fn new_order<'a>(&mut self, room: &'a mut Vec<RequestedLine>) -> Option<NewOrder<'a>> {
+        self.word(b"neworder")?;
+        let (warehouse, district, customer) = (self.number()?, self.number()?, self.number()?);
+        room.clear();
+        while !self.rest.is_empty() {
+            self.word(b" ")?;
+            let item = self.digits()?;
+            self.word(b":")?;
+            let supply_warehouse = self.digits()?;
+            self.word(b":")?;
+            room.push(RequestedLine { item, supply_warehouse, quantity: self.digits()? });
+        }
+        Some(NewOrder { warehouse, district, customer, lines: room })
+    }
+
+    fn key(&mut self) -> Option<Key> {
+        self.word(b"show ")?;
+        let end = self.rest.iter().position(|&byte| byte == b' ')?;
+        let (table, behind) = self.rest.split_at(end);
+        self.rest = behind;
+        let warehouse = self.number()?;
+        match table {
+            b"warehouse" => Some(Key::Warehouse { warehouse }),
+            b"district" => Some(Key::District { warehouse, district: self.number()? }),
+            b"customer" => Some(Key::Customer { warehouse, district: self.number()?, customer: self.number()? }),
+            b"stock" => Some(Key::Stock { warehouse, item: self.number()? }),
+            b"order" => Some(Key::Order { warehouse, district: self.number()?, order: self.number()? }),
+            _ => None,
+        }
+    }
+
+    #[inline(always)]
+    fn word(&mut self, word: &[u8]) -> Option<()> {
+        self.rest = self.rest.strip_prefix(word)?;
+        Some(())
+    }
+
+    #[inline(always)]
+    fn number(&mut self) -> Option<u32> {
+        self.word(b" ")?;
+        self.digits()
+    }
+
+    /// Digits without a leading zero, or 0 alone, as a number of 32 bits.
+    #[inline(always)]
+    fn digits(&mut self) -> Option<u32> {
+        let (number, count) = self.numeral()?;
+        if count > 10 {
+            return None;
+        }
+        u32::try_from(number).ok()
+    }
+
+    /// Digits without a leading zero, or 0 alone, and how many they are: the number is right where they are at most 19.
+    #[inline(always)]
+    fn numeral(&mut self) -> Option<(u64, usize)> {
+        let (mut number, mut count) = (0_u64, 0);
+        while let Some(byte @ b'0'..=b'9') = self.rest.get(count) {
+            number = number.wrapping_mul(10).wrapping_add(u64::from(byte - b'0'));
+            count += 1;
+        }
+        if count == 0 || count > 1 && self.rest[0] == b'0' {
+            return None;
+        }
+        self.rest = &self.rest[count..];
+        Some((number, count))
+    }
+
+    /// An amount, as `12.34` or `-12.34`. One that is too large for the type is read as one that is too large to be
+    /// paid.
+    fn amount(&mut self) -> Option<Cents> {
+        self.word(b" ")?;
+        let is_negative = self.word(b"-").is_some();
+        let (units, count) = self.numeral()?;
+        let [b'.', tens @ b'0'..=b'9', ones @ b'0'..=b'9', rest @ ..] = self.rest else {
+            return None;
+        };
+        self.rest = rest;
+        let units = if count > 15 { 1_000_000_000_000_000 } else { units as i64 };
+        let cents = units * 100 + i64::from((tens - b'0') * 10 + (ones - b'0'));
+        match (is_negative, cents) {
+            (true, 0) => None,
+            (true, cents) => Some(Cents(-cents)),
+            (false, cents) => Some(Cents(cents)),
+        }
+    }
+
+    /// A customer's number, or a last name: the syllables of three digits (TPC-C 4.3.2.3).
+    #[inline(always)]
+    fn who(&mut self) -> Option<Who> {
+        match self.rest {
+            [b' ', b'0'..=b'9', ..] => Some(Who::Id(self.number()?)),
+            _ => {
+                self.word(b" ")?;
+                let (hundreds, tens, ones) = (self.syllable()?, self.syllable()?, self.syllable()?);
+                Some(Who::Last(hundreds * 100 + tens * 10 + ones))
+            }
+        }
+    }
+
+    fn syllable(&mut self) -> Option<u32> {
+        let (digit, rest) = match self.rest {
+            [b'B', b'A', b'R', rest @ ..] => (0, rest),
+            [b'O', b'U', b'G', b'H', b'T', rest @ ..] => (1, rest),
+            [b'A', b'B', b'L', b'E', rest @ ..] => (2, rest),
+            [b'P', b'R', b'I', rest @ ..] => (3, rest),
+            [b'P', b'R', b'E', b'S', rest @ ..] => (4, rest),
+            [b'E', b'S', b'E', rest @ ..] => (5, rest),
+            [b'A', b'N', b'T', b'I', rest @ ..] => (6, rest),
+            [b'C', b'A', b'L', b'L', b'Y', rest @ ..] => (7, rest),
+            [b'A', b'T', b'I', b'O', b'N', rest @ ..] => (8, rest),
+            [b'E', b'I', b'N', b'G', rest @ ..] => (9, rest),
+            _ => return None,
+        };
+        self.rest = rest;
+        Some(digit)
     }
 }
 
-fn read_key<'a>(words: &mut impl Iterator<Item = &'a [u8]>) -> Option<Key> {
-    let table = words.next()?;
-    let warehouse = number(words)?;
-    match table {
-        b"warehouse" => Some(Key::Warehouse { warehouse }),
-        b"district" => Some(Key::District { warehouse, district: number(words)? }),
-        b"customer" => Some(Key::Customer { warehouse, district: number(words)?, customer: number(words)? }),
-        b"stock" => Some(Key::Stock { warehouse, item: number(words)? }),
-        b"order" => Some(Key::Order { warehouse, district: number(words)?, order: number(words)? }),
-        _ => None,
-    }
-}
-
-fn read_line(word: &[u8]) -> Option<RequestedLine> {
-    let mut parts = word.split(|&byte| byte == b':');
-    let line = RequestedLine {
-        item: number(&mut parts)?,
-        supply_warehouse: number(&mut parts)?,
-        quantity: number(&mut parts)?,
-    };
-    match parts.next() {
-        None => Some(line),
-        Some(_) => None,
-    }
-}
-
-fn number<'a>(words: &mut impl Iterator<Item = &'a [u8]>) -> Option<u32> {
-    read_number(words.next()?)
-}
-
-/// Digits without a leading zero, or 0 alone.
-fn read_number(word: &[u8]) -> Option<u32> {
-    if !is_numeral(word) {
-        return None;
-    }
-    word.iter().try_fold(0_u32, |number, digit| number.checked_mul(10)?.checked_add(u32::from(digit - b'0')))
-}
-
-fn is_numeral(word: &[u8]) -> bool {
-    match word {
-        [] | [b'0', _, ..] => false,
-        digits => digits.iter().all(u8::is_ascii_digit),
-    }
-}
-
-/// An amount, as `12.34` or `-12.34`. One that is too large for the type is read as one that is too large to be paid.
-fn read_amount(word: &[u8]) -> Option<Cents> {
-    let unsigned = word.strip_prefix(b"-").unwrap_or(word);
-    let [units @ .., b'.', tens @ b'0'..=b'9', ones @ b'0'..=b'9'] = unsigned else {
-        return None;
-    };
-    if !is_numeral(units) {
-        return None;
-    }
-    let with_digit = |amount: i64, digit: &u8| amount.saturating_mul(10).saturating_add(i64::from(digit - b'0'));
-    let cents = units.iter().chain([tens, ones]).fold(0, with_digit);
-    match word[0] {
-        b'-' if cents == 0 => None,
-        b'-' => Some(Cents(-cents)),
-        _ => Some(Cents(cents)),
-    }
-}
-
-const SYLLABLES: [&str; 10] = ["BAR", "OUGHT", "ABLE", "PRI", "PRES", "ESE", "ANTI", "CALLY", "ATION", "EING"];
-
-/// A customer's number, or a last name: the syllables of three digits (TPC-C 4.3.2.3).
-fn read_who(word: &[u8]) -> Option<Who> {
-    if let Some(customer) = read_number(word) {
-        return Some(Who::Id(customer));
-    }
-    let (mut rest, mut name) = (word, 0);
-    for _ in 0..3 {
-        let (digit, after) = (0..).zip(SYLLABLES).find_map(|(digit, syllable)| {
-            let after = rest.strip_prefix(syllable.as_bytes())?;
-            Some((digit, after))
-        })?;
-        (rest, name) = (after, name * 10 + digit);
-    }
-    rest.is_empty().then_some(Who::Last(name))
-}
-
-impl Request {
+impl Request<'_> {
     /// Whether each number is in its range.
-    pub fn is_in_range(&self, scale: &Scale) -> bool {
+    fn is_in_range(&self, scale: &Scale) -> bool {
         match self {
             Request::Payment(payment) => payment.is_in_range(scale),
             Request::NewOrder(order) => order.is_in_range(scale),
@@ -198,7 +265,7 @@ impl Payment {
     }
 }
 
-impl NewOrder {
+impl NewOrder<'_> {
     fn is_in_range(&self, scale: &Scale) -> bool {
         scale.has_district(self.warehouse, self.district)
             && (1..=scale.customers).contains(&self.customer)

@@ -2,7 +2,6 @@
 
 use crate::scale::Scale;
 use std::collections::VecDeque;
-use std::fmt;
 use std::ops::{AddAssign, Index, IndexMut, Range, SubAssign};
 
 /// How many last names there are (TPC-C 4.3.2.3).
@@ -13,7 +12,7 @@ pub struct Rows<T>(pub Vec<T>);
 
 impl<T> Rows<T> {
     /// A row for each number up to this one.
-    fn numbered(count: u32, row: impl FnMut(u32) -> T) -> Rows<T> {
+    pub fn numbered(count: u32, row: impl FnMut(u32) -> T) -> Rows<T> {
         Rows((1..=count).map(row).collect())
     }
 }
@@ -48,15 +47,6 @@ impl SubAssign for Cents {
     }
 }
 
-/// Units, a point and two digits, as `-12.34`.
-impl fmt::Display for Cents {
-    fn fmt(&self, f: &mut fmt::Formatter<'_>) -> fmt::Result {
-        let sign = if self.0 < 0 { "-" } else { "" };
-        let cents = self.0.unsigned_abs();
-        write!(f, "{sign}{}.{:02}", cents / 100, cents % 100)
-    }
-}
-
 pub struct Tables {
     pub warehouses: Rows<Warehouse>,
     pub items: Rows<Item>,
@@ -85,6 +75,7 @@ pub struct District {
     pub named: Vec<Vec<u32>>,
 }
 
+#[derive(Clone, Copy)]
 pub struct Customer {
     pub first_name: u32,
     pub last_name: u32,
@@ -97,6 +88,7 @@ pub struct Customer {
     pub last_order: Option<u32>,
 }
 
+#[derive(Clone, Copy)]
 pub struct Order {
     pub customer: u32,
     pub entry_date: u32,
@@ -107,6 +99,7 @@ pub struct Order {
     pub first_line: usize,
 }
 
+#[derive(Clone, Copy)]
 pub struct OrderLine {
     pub item: u32,
     pub supply_warehouse: u32,
@@ -115,10 +108,12 @@ pub struct OrderLine {
     pub amount: Cents,
 }
 
+#[derive(Clone, Copy)]
 pub struct Item {
     pub price: Cents,
 }
 
+#[derive(Clone, Copy)]
 pub struct Stock {
     pub quantity: u32,
     pub year_to_date: u32,
@@ -126,6 +121,7 @@ pub struct Stock {
     pub remote_orders: u32,
 }
 
+#[derive(Clone, Copy)]
 pub struct History {
     pub warehouse: u32,
     pub district: u32,
@@ -137,6 +133,11 @@ pub struct History {
     pub date: u32,
     pub amount: Cents,
 }
+
+/// The least stock that a line may leave, and what the stock rises by where it would leave less (TPC-C 2.4.2.2).
+pub const LEAST_STOCK: u32 = 10;
+
+pub const RESTOCK: u32 = 91;
 
 /// What each customer has paid at first.
 const FIRST_PAYMENT: Cents = Cents(1_000);
@@ -245,6 +246,19 @@ impl Order {
     /// The places of its lines among those of the district.
     pub fn line_places(&self) -> Range<usize> {
         self.first_line..self.first_line + self.line_count as usize
+    }
+}
+
+impl Stock {
+    /// Draws a line's quantity (TPC-C 2.4.2.2).
+    pub fn draw(&mut self, quantity: u32, is_remote: bool) {
+        if self.quantity < quantity + LEAST_STOCK {
+            self.quantity += RESTOCK;
+        }
+        self.quantity -= quantity;
+        self.year_to_date += quantity;
+        self.orders += 1;
+        self.remote_orders += u32::from(is_remote);
     }
 }
 

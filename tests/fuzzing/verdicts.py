@@ -1,0 +1,81 @@
+"""What `tpcc recover` and `tpcc check` are to say of log files, by a replay of them and by the conditions."""
+
+from collections import namedtuple
+from pathlib import Path
+
+import replay
+import scripts
+from fuzzing import conditions
+from fuzzing.cases import options_of, run, same
+from fuzzing.damage import Flaw, examined
+
+# What a command line asks for: the numbers of a scale, how many loggers, and a population.
+Asked = namedtuple("Asked", "scale loggers population")
+
+# What each subcommand is to write and to end with; and what was recovered, or None.
+Verdict = namedtuple("Verdict", "recover check status error left")
+
+# The durable epoch, how many commits count, and the last epoch of which the files have anything, 0 where there is none.
+Left = namedtuple("Left", "durable commits top")
+
+
+def refused(error):
+    return Verdict(b"", b"", 1, error.encode(), None)
+
+
+def options(asked):
+    population = ["--population", asked.population] if asked.population else []
+    return [*options_of(scripts.OPTIONS, asked.scale), "--loggers", asked.loggers, *population]
+
+
+def words_of(asked, folder):
+    return ["--logs", folder, *options(asked)]
+
+
+def files_of(folder, asked):
+    """The log files that are asked for. Raises the flaw of the first that isn't one."""
+    files, scale = [], replay.Scale(*asked.scale)
+    for logger in range(asked.loggers):
+        path = Path(folder) / f"log-{logger}"
+        header = replay.Header(logger, asked.loggers, scale, asked.population)
+        try:
+            files.append(examined(path.read_bytes(), header, conditions.WANTED))
+        except Flaw as why:
+            raise Flaw(f"{path}: {why}") from why
+    return files
+
+
+def top_of(file):
+    """The last epoch of which a file has anything."""
+    return max(file.mark, *(replay.epoch_of(entry.tid) for entry in file.entries), 0)
+
+
+def verdict(folder, asked):
+    """What is to be said of the files in a folder, which are of the plain population where they are those asked for."""
+    paths = [Path(folder) / f"log-{logger}" for logger in range(asked.loggers)]
+    if missing := next((path for path in paths if not path.exists()), None):
+        return refused(f"9 Device\n{missing}: can't be opened: No such file or directory (os error 2)\n")
+    try:
+        files = files_of(folder, asked)
+        durable, entries = replay.counted(files)
+    except Flaw as why:
+        return refused(f"10 Damaged\n{why}\n")
+    except replay.Gap as why:
+        return refused(f"11 Gap\n{why}\n")
+    scale = replay.Scale(*asked.scale)
+    shown = replay.text_of(replay.Replay(scale, durable, len(entries), replay.newest_of(entries)))
+    report, holds = conditions.report(scale, entries)
+    checked = f"commits {len(entries)}\n{report}"
+    left = Left(durable, len(entries), max(top_of(file) for file in files))
+    return Verdict(shown.encode(), checked.encode(), 0 if holds else 1, b"", left)
+
+
+def examine(tpcc, folder, asked, threads=1):
+    """Recovers and checks the log files in a folder, which is to come to the verdict. Gives the verdict."""
+    wanted, words = verdict(folder, asked), words_of(asked, folder)
+    for subcommand, output in (("recover", wanted.recover), ("check", wanted.check)):
+        ran = run(tpcc, subcommand, *words, "--threads", threads)
+        same(f"what standard error gets of {subcommand}", ran.err, wanted.error)
+        same(f"the output of {subcommand}", ran.out, output)
+        same(f"the status of {subcommand}", ran.status, wanted.status)
+    return wanted
