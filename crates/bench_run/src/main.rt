@@ -2,7 +2,7 @@
 //! beside loggers, as `tpcc run` does, at the usual mix, so many inputs a terminal and so many milliseconds between
 //! the turns of a logger, on disks in memory or on the files `run-bench-L` of the folder that it runs in, which aren't
 //! to be there and are removed at the end. It prints commits a second and how long a commit waits for its
-//! acknowledgement.
+//! acknowledgement, and in a second line how often a commit's input was tried, on average, by kind.
 //! `bench_run session WAREHOUSES TERMINALS INPUTS` commits the same inputs one after another, by one terminal without
 //! logs that has the book to itself. With no words it does nothing.
 #![tactic(auto)]
@@ -13,9 +13,11 @@ ghost use Rattle.log_disk.specs.Memory.{replayed_calls};
 
 mod gauge;
 mod single;
+mod tries;
 
 use crate::gauge::{Dial, Gauge};
 use crate::single::session;
+use crate::tries::{Counter, Tries};
 use anyhow::bail;
 use log_disk::{Disk, FileDisk, Memory};
 use money::Refusal;
@@ -29,7 +31,6 @@ use std::thread::Threads;
 use std::time::Duration;
 use std::{env, fs};
 use tables::Scale;
-use terminals::Calls;
 
 /// The draws of the decks.
 pub(crate) const SEED: u64 = 1;
@@ -102,6 +103,17 @@ fn pace<'a, C: Clock>(clock: &'a C, dial: &'a Dial, load: Load, logger: u16) -> 
     )
 }
 
+/// A gate for each terminal.
+fn gates<'a>(alloc: Global, tries: &'a Tries, terminals: u16) -> Result<Vec<Counter<'a>>, Refusal>
+    ensures { IfOk result (λ gates. length gates.items ≡ terminals) }
+{
+    let mut gates = Vec::new(alloc);
+    for _ in 0..terminals {
+        gates.push(Counter::new(alloc, tries))?;
+    }
+    Ok(gates)
+}
+
 /// Runs the load on these disks, and prints what was seen.
 fn run_on<
     D: Disk + Send + Drop,
@@ -119,7 +131,8 @@ fn run_on<
     };
     let population = population(rt.alloc(), load.warehouses)?;
     let mut told = Vec::new(rt.alloc());
-    let gates = vec![in rt.alloc(); Calls::default(); load.terminals as usize]?;
+    let tries = Tries::new();
+    let gates = gates(rt.alloc(), &tries, load.terminals)?;
     drive(rt, rt.alloc(), population, slots, gates, &plan, &mut told)?;
     let seen = dial.seen();
     println!(rt;
@@ -128,6 +141,7 @@ fn run_on<
         seen.speed(),
         seen.latency()
     )?;
+    println!(rt; "tries a commit{}", tries.text(rt.alloc())?)?;
     Ok(())
 }
 

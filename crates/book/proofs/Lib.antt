@@ -11,7 +11,6 @@ mod Streams
 mod Runs
 mod Showing
 pub mod Replaying
-mod Committed
 mod NextCommit
 mod Loggable
 mod Batched

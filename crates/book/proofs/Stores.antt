@@ -12,10 +12,9 @@ use Rattle.std.specs.List.Sorted.{IsStrictlySortedBy}
 use Rattle.std.specs.declared.cmp.Ordering.{Ordering}
 use Rattle.std.specs.declared.cmp.Ordering.TheVariants.{Less}
 use Rattle.tidword.specs.TidWord.{tid_of}
-use Rattle.cells.specs.Versions.{Has, last_tid}
-use Rattle.cells.specs.Records.{PenView, ReaderView, at, words_of, StoresVersion, LearnsRecord, HasGrown}
+use Rattle.cells.specs.Versions.{last_tid}
+use Rattle.cells.specs.Records.{PenView, ReaderView, at, StoresVersion, LearnsRecord, HasGrown}
 use Rattle.cells.specs.declared.cells.Version.{Version}
-use Rattle.cells.proofs.Rising.{has_more}
 use Rattle.cells.proofs.Grown.{grown_itself, learns_grown}
 use Rattle.readset.specs.Reads.{ReadSetView, held}
 use Rattle.readset.specs.Writes.{WriteSetView, value_for}
@@ -75,8 +74,17 @@ begins tid pen0 r0 writes rest e found sorted = record {
   seen = λ n h s. absurd (never_none (find n rest) h (subst (λ (q : Values). IsSome (find n q)) (sym e) s));
 }
 
-module _ (cells : ℕ) (tid : ℕ) (pen0 : PenView) (r0 : ReaderView) (reads : ReadSetView) (writes : WriteSetView) (by : IsReadBy cells r0 reads)
-    (are_read : WritesAreRead writes reads)
+held_version : (w : Option Version) → IsSome w → (v : Version) × (w ≡ Some v)
+held_version None h = absurd (true≢false (sym h))
+held_version (Some v) h = (v, refl)
+
+-- what is written has a cell, since it was read
+pub written_within : (cells : ℕ) (r : ReaderView) (reads : ReadSetView) (writes : WriteSetView) → IsReadBy cells r reads → WritesAreRead writes reads
+    → (n : ℕ) (value : Option (List ℕ)) → value_for writes n ≡ Some value → n < cells
+written_within cells r reads writes by are_read n value e = let v = held_version (held reads n) (are_read n value e) in by.within n v.0 v.1
+
+module _ (cells : ℕ) (tid : ℕ) (pen0 : PenView) (r0 : ReaderView) (writes : WriteSetView)
+    (all_within : (n : ℕ) (value : Option (List ℕ)) → value_for writes n ≡ Some value → n < cells)
     (above : (n : ℕ) (value : Option (List ℕ)) → value_for writes n ≡ Some value → last_tid (at pen0.all n) < tid)
     (pen : PenView) (r : ReaderView) (rest : Values) (c : AreStored tid pen0 r0 writes pen r rest)
     (m : ℕ) (value : Option (List ℕ)) (next : Values) (steps : rest ≡ (m, value) ∷ next) where
@@ -86,15 +94,8 @@ module _ (cells : ℕ) (tid : ℕ) (pen0 : PenView) (r0 : ReaderView) (reads : R
   pub here : value_for writes m ≡ Some value
   here = All-head (λ e. value_for writes e.0 ≡ Some e.1) (m, value) next (subst (All (λ e. value_for writes e.0 ≡ Some e.1)) steps c.found)
 
-  pub is_held : IsSome (held reads m)
-  is_held = are_read m value here
-
-  held_version : (w : Option Version) → IsSome w → (v : Version) × (w ≡ Some v)
-  held_version None h = absurd (true≢false (sym h))
-  held_version (Some v) h = (v, refl)
-
   pub within : m < cells
-  within = let v = held_version (held reads m) is_held in by.within m v.0 v.1
+  within = all_within m value here
 
   fresh : at pen.all m ≡ at pen0.all m
   fresh = c.waiting m (ap is_some (ap (find m) steps ∙ found_first m m value next refl))
@@ -102,53 +103,41 @@ module _ (cells : ℕ) (tid : ℕ) (pen0 : PenView) (r0 : ReaderView) (reads : R
   pub larger : (word : ℕ) → tid_of word ≡ tid → last_tid (at pen.all m) < tid_of word
   larger word e = subst (λ (q : List (List ℕ) × ℕ). last_tid q.0 < q.1) (λ i. (sym fresh i, sym e i)) (above m value here)
 
-  -- what `meet` asks for, of the version held
-  module _ (v : Version) (v_is : held reads m ≡ Some v) where
-    pub record_is : v.record ≡ m
-    record_is = by.records m v v_is
+  module _ (version : List ℕ) (version_is : version ≡ committed_version tid value) (pen' pen'' : PenView) (r' : ReaderView)
+      (wrote : StoresVersion pen pen' m version) (same : pen'' ≡ pen') (learns : LearnsRecord pen' r r' m) where
+    other : (n : ℕ) → n ≢ m → at pen''.all n ≡ at pen.all n
+    other n e = ap (λ (w : PenView). at w.all n) same ∙ ap (λ (l : List (List (List ℕ))). at l n) wrote.others
+        ∙ get_or-set_other pen.all m n (at pen'.all m) [] e
 
-    pub record_within : v.record < cells
-    record_within = subst (λ q. q < cells) (sym record_is) within
+    other_seen : (n : ℕ) → n ≢ m → at r'.seen n ≡ at r.seen n
+    other_seen n e = ap (λ (l : List (List (List ℕ))). at l n) learns.others ∙ get_or-set_other r.seen m n (at r'.seen m) [] e
 
-    pub has : Has (at r.seen v.record) (words_of v)
-    has = subst (λ q. Has (at r.seen q) (words_of v)) (sym record_is) (has_more (at r.seen m) (at r0.seen m) (words_of v) (c.grown.grows m) (by.seen m v v_is))
+    here_now : at pen''.all m ≡ at pen0.all m ++ committed_version tid value ∷ []
+    here_now = ap (λ (w : PenView). at w.all m) same ∙ wrote.last ∙ (λ i. fresh i ++ version_is i ∷ [])
 
-    module _ (version : List ℕ) (version_is : version ≡ committed_version tid value) (pen' pen'' : PenView) (r' : ReaderView)
-        (wrote : StoresVersion pen pen' m version) (same : pen'' ≡ pen') (learns : LearnsRecord pen' r r' v.record) where
-      other : (n : ℕ) → n ≢ m → at pen''.all n ≡ at pen.all n
-      other n e = ap (λ (w : PenView). at w.all n) same ∙ ap (λ (l : List (List (List ℕ))). at l n) wrote.others
-          ∙ get_or-set_other pen.all m n (at pen'.all m) [] e
+    later : (n : ℕ) → n ≢ m → find n next ≡ find n rest
+    later n e = sym (ap (find n) steps ∙ found_later n m value next e)
 
-      other_seen : (n : ℕ) → n ≢ m → at r'.seen n ≡ at r.seen n
-      other_seen n e = ap (λ (l : List (List (List ℕ))). at l n) learns.others
-          ∙ get_or-set_other r.seen v.record n (at r'.seen v.record) [] (λ q. e (q ∙ record_is))
-
-      here_now : at pen''.all m ≡ at pen0.all m ++ committed_version tid value ∷ []
-      here_now = ap (λ (w : PenView). at w.all m) same ∙ wrote.last ∙ (λ i. fresh i ++ version_is i ∷ [])
-
-      later : (n : ℕ) → n ≢ m → find n next ≡ find n rest
-      later n e = sym (ap (find n) steps ∙ found_later n m value next e)
-
-      pub goes_on : AreStored tid pen0 r0 writes pen'' r' next
-      goes_on = record {
-        own = ap (λ (w : PenView). w.cells) same ∙ wrote.cells ∙ c.own;
-        grown = learns_grown pen' r0 r r' v.record c.grown learns;
-        found = All-tail (λ e. value_for writes e.0 ≡ Some e.1) (m, value) next (subst (All (λ e. value_for writes e.0 ≡ Some e.1)) steps c.found);
-        sorted = rest_sorted m value next sorted;
-        waiting = λ n h. ⊎_elim
-            (λ (e : n ≡ m). absurd (never_none (find n next) (ap (λ q. find q next) e ∙ first_absent m value next sorted) h))
-            (λ (e : n ≢ m). other n e ∙ c.waiting n (subst IsSome (later n e) h))
-            (cases_eq n m);
-        done = λ n h. ⊎_elim
-            (λ (e : n ≡ m). subst (λ q. at pen''.all q ≡ at pen0.all q ++ new_versions tid writes.values q) (sym e)
-            (here_now ∙ sym (ap (λ (w : Option (Option (List ℕ))). at pen0.all m ++ option_map_or (λ x. committed_version tid x ∷ []) w []) here)))
-            (λ (e : n ≢ m). other n e ∙ c.done n (sym (later n e) ∙ h))
-            (cases_eq n m);
-        seen = λ n h s. ⊎_elim
-            (λ (e : n ≡ m). subst (λ q. at r'.seen q ≡ at pen''.all q) (record_is ∙ sym e) (learns.learnt ∙ ap (λ (w : PenView). at w.all v.record) (sym same)))
-            (λ (e : n ≢ m). other_seen n e ∙ c.seen n (sym (later n e) ∙ h) s ∙ sym (other n e))
-            (cases_eq n m);
-      }
+    pub goes_on : AreStored tid pen0 r0 writes pen'' r' next
+    goes_on = record {
+      own = ap (λ (w : PenView). w.cells) same ∙ wrote.cells ∙ c.own;
+      grown = learns_grown pen' r0 r r' m c.grown learns;
+      found = All-tail (λ e. value_for writes e.0 ≡ Some e.1) (m, value) next (subst (All (λ e. value_for writes e.0 ≡ Some e.1)) steps c.found);
+      sorted = rest_sorted m value next sorted;
+      waiting = λ n h. ⊎_elim
+          (λ (e : n ≡ m). absurd (never_none (find n next) (ap (λ q. find q next) e ∙ first_absent m value next sorted) h))
+          (λ (e : n ≢ m). other n e ∙ c.waiting n (subst IsSome (later n e) h))
+          (cases_eq n m);
+      done = λ n h. ⊎_elim
+          (λ (e : n ≡ m). subst (λ q. at pen''.all q ≡ at pen0.all q ++ new_versions tid writes.values q) (sym e)
+          (here_now ∙ sym (ap (λ (w : Option (Option (List ℕ))). at pen0.all m ++ option_map_or (λ x. committed_version tid x ∷ []) w []) here)))
+          (λ (e : n ≢ m). other n e ∙ c.done n (sym (later n e) ∙ h))
+          (cases_eq n m);
+      seen = λ n h s. ⊎_elim
+          (λ (e : n ≡ m). subst (λ q. at r'.seen q ≡ at pen''.all q) (sym e) (learns.learnt ∙ ap (λ (w : PenView). at w.all m) (sym same)))
+          (λ (e : n ≢ m). other_seen n e ∙ c.seen n (sym (later n e) ∙ h) s ∙ sym (other n e))
+          (cases_eq n m);
+    }
 
 pub all_done : (tid : ℕ) (pen0 : PenView) (r0 : ReaderView) (writes : WriteSetView) (pen : PenView) (r : ReaderView) (rest : Values)
     → AreStored tid pen0 r0 writes pen r rest → rest ≡ []

@@ -9,10 +9,8 @@ use Rattle.tidword.specs.Lawful.{IsLawful, next}
 use Rattle.cells.specs.Versions.{last_tid}
 use Rattle.cells.specs.Records.{PenView, ReaderView, HasGrown, at}
 use Rattle.cells.specs.declared.cells.Newest.{Newest}
-use Rattle.readset.specs.Reads.{ReadSetView}
 use Rattle.readset.specs.Writes.{WriteSetView, value_for}
-use Rattle.readset.specs.Explains.{WritesAreRead}
-use Rattle.book.specs.Book.{IsReadBy, HasSeen}
+use Rattle.book.specs.Book.{HasSeen}
 use Rattle.book.specs.History.{new_versions}
 use Rattle.book.specs.Ready.{AreNewest}
 use Rattle.book.specs.declared.entry.Entry.{Entry}
@@ -37,13 +35,12 @@ pub record IsPrepared (place : Place) (count : ℕ) (input : Input) (reply : Rep
   pub waiting : arc_value made.waiting ≡ arc_value made.entry
   pub done : made.done ≡ record { number = place.past + count + 1; tid = made.tid; reply = reply }
 
--- an entry's writes may be stored: pen and reader are of these cells, what is written was read by this reader, and the
--- TID has no status bits and is larger than the last one of each record written; these are the newest versions
-pub record MayStore (cells : List TableId) (pen : PenView) (reader : ReaderView) (reads : ReadSetView) (entry : Entry)
-    (kept : List Newest) : Type 0 where
+-- an entry's writes may be stored: pen and reader are of these cells, what is written has a cell, and the TID has no
+-- status bits and is larger than the last one of each record written; these are the newest versions
+pub record MayStore (cells : List TableId) (pen : PenView) (reader : ReaderView) (entry : Entry) (kept : List Newest)
+    : Type 0 where
   pub own : (pen.cells ≡ cells) × (reader.cells ≡ cells)
-  pub read : IsReadBy (length cells) reader reads
-  pub written_read : WritesAreRead entry.writes reads
+  pub within : (n : ℕ) (value : Option (List ℕ)) → value_for entry.writes n ≡ Some value → n < length cells
   pub no_bits : entry.tid % 8 ≡ 0
   pub larger : (n : ℕ) (value : Option (List ℕ)) → value_for entry.writes n ≡ Some value
       → last_tid (at pen.all n) < entry.tid

@@ -111,7 +111,6 @@ impl<K: Run> Book<K> {
             reader,
             &mut self.newest,
             &mut self.totals,
-            &reads,
             &entry,
         );
         stream.add(waiting);

@@ -10,7 +10,6 @@ ghost use Rattle.book.specs.Storing.{MayStore, StoresEntry};
 use crate::entry::Entry;
 use crate::steps::store;
 use cells::{Cells, Newest, Pen, Reader};
-use readset::ReadSet;
 use std::sync::Wait;
 use totals::Totals;
 
@@ -22,10 +21,9 @@ pub(crate) fn store_counted<R: Wait>(
     reader: &mut Reader,
     newest: &mut [Newest],
     totals: &mut Totals,
-    reads: &ReadSet,
     entry: &Entry,
 )
-    requires may { MayStore cells.now pen.old reader.old reads.now entry.now newest.old }
+    requires may { MayStore cells.now pen.old reader.old entry.now newest.old }
     requires counted { (t : Database) × (x : Input) × (reply : Reply)
         × MayFollow t x reply totals.old newest.old entry.now.writes }
     ensures stores { StoresEntry pen.old pen.new reader.old reader.new entry.now newest.new }
@@ -34,6 +32,6 @@ pub(crate) fn store_counted<R: Wait>(
         → AreTotals (after t x) totals.new }
 {
     totals.follow(newest, &entry.writes);
-    store(rt, cells, pen, reader, newest, reads, entry);
+    store(rt, cells, pen, reader, newest, entry);
     totals.follow_stores(newest, &entry.writes);
 }

@@ -58,22 +58,16 @@ pub(crate) fn store<R: Wait>(
     pen: &mut Pen,
     reader: &mut Reader,
     newest: &mut [Newest],
-    reads: &ReadSet,
     entry: &Entry,
 )
-    requires { MayStore cells.now pen.old reader.old reads.now entry.now newest.old }
+    requires { MayStore cells.now pen.old reader.old entry.now newest.old }
     ensures { StoresEntry pen.old pen.new reader.old reader.new entry.now newest.new }
 {
     for (record, value) in entry.writes.values() {
         let version = version(entry.tid, value);
         cells.store(rt, pen, *record, version.word, version.payload);
+        cells.learn(rt, pen, reader, *record);
         newest[*record as usize] = version;
-        match reads.held(*record) {
-            Some(held) => {
-                cells.meet(rt, pen, reader, held);
-            }
-            None => unreachable!(),
-        }
     }
 }
 

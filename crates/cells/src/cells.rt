@@ -198,6 +198,17 @@ impl Cells {
         let latest = pen.meet(page, version.record as usize, reader);
         TidWord::new(latest).tid() == version.word.tid()
     }
+
+    /// Lets a reader see all versions of a record, as one that has just stored the last of them. Takes no memory.
+    /// Constant time: four loads, and it never waits.
+    pub fn learn<R: Wait>(&self, _rt: &R, pen: &mut Pen, reader: &mut Reader, number: u32)
+        requires own { (pen.old.cells ≡ self.now) × (reader.old.cells ≡ self.now) }
+        requires is_record { number < length self.now }
+        ensures pen { pen.new ≡ pen.old }
+        ensures reader { LearnsRecord pen.old reader.old reader.new number }
+    {
+        pen.meet(self.page(number), number as usize, reader);
+    }
 }
 
 // The words of a version.

@@ -1,14 +1,22 @@
 -- The oldest order that waits in a district, and the next: without gaps it has the number after.
-use Rattle.std.proofs.Common.{◌≡◌, ℕ, ◌+◌, ◌<◌, ◌≤◌, List, [], ◌∷◌, length, Option, Some, None, refl, sym, ap, ◌∙◌, subst, arith}
+use Rattle.std.proofs.Common.{◌≡◌, ℕ, ◌+◌, ◌<◌, ◌≤◌, true, false, true≢false, cond, ◌&&◌, List, [], ◌∷◌, length, map, filter, refl, sym, ap, ◌∙◌}
+use Rattle.std.proofs.Common.{Option, Some, None, IsSome, is_some, arith}
 use Rattle.std.proofs.lemmas.Option.{same_Some}
-use Rattle.std.specs.Option.{ForSome, unwrap_or}
+use Rattle.std.specs.Option.{unwrap_or}
+use Rattle.std.specs.Ordering.{eq_by_cmp}
+use Rattle.std.specs.FinMap.{FinMap, get, entries, get-entries, find}
+use Rattle.tables.specs.Keys.{order_cmp, is_district, order_key}
 use Rattle.tables.specs.OrderNumbers.{least, greatest, next_order, numbers_in}
 use Rattle.tables.specs.Database.{Database}
+use Rattle.tables.specs.WellFormed.{IsWellFormed}
 use Rattle.tables.specs.Rows.{oldest}
-use Rattle.tables.specs.Conditions.{Condition2At}
 use Rattle.tables.specs.Delivery.{waiting}
 use Rattle.tables.specs.declared.keys.DistrictKey.{DistrictKey}
-use Rattle.tables_laws.proofs.RisingNumbers.{Rises, least_first}
+use Rattle.tables.specs.declared.keys.OrderKey.{OrderKey}
+use Rattle.tables.proofs.Orders.{exact_order}
+use Rattle.tables.proofs.Entries.{tied}
+use Rattle.tables_laws.proofs.Touched.{self}
+use Rattle.tables_laws.proofs.RisingNumbers.{Rises, least_first, least_row}
 use Rattle.tables_laws.proofs.NumbersLeft.{IsGapless, left_of, rest_left, no_more}
 
 next_of_rest : (next n : ℕ) (ns : List ℕ) → Rises (n ∷ ns) → IsGapless next (n ∷ ns) → unwrap_or (least ns) next ≡ n + 1
@@ -27,34 +35,56 @@ next_least next o (n ∷ ns) rise gapless is =
     ap (λ w. unwrap_or (least (left_of w (n ∷ ns))) next) (sym is) ∙ ap (λ l. unwrap_or (least l) next) (rest_left n ns rise)
     ∙ next_of_rest next n ns rise gapless ∙ ap (λ a. a + 1) first
 
--- OLDEST tells whether an order waits: it is below D_NEXT_O_ID exactly where one does
+-- a district's numbers are those of its rows
+least_none : (ns : List ℕ) → least ns ≡ None → ns ≡ []
+least_none [] e = refl
+least_none (n ∷ ns) e = absurd cc
+
+module _ {X : Type 0} (k : DistrictKey) (o : ℕ) where
+  none_listed : (es : List (OrderKey × X)) → map (λ (e : OrderKey × X). e.0.order) (filter (λ (e : OrderKey × X). is_district e.0.warehouse e.0.district k) es) ≡ []
+      → find order_cmp (order_key k o) es ≡ None
+  none_listed [] none = refl
+  none_listed (e ∷ es) none =
+      elim (is_district e.0.warehouse e.0.district k) as (λ b. is_district e.0.warehouse e.0.district k ≡ b
+      → map (λ (e : OrderKey × X). e.0.order) (cond b (e ∷ filter (λ (e : OrderKey × X). is_district e.0.warehouse e.0.district k) es)
+      (filter (λ (e : OrderKey × X). is_district e.0.warehouse e.0.district k) es)) ≡ []
+      → find order_cmp (order_key k o) (e ∷ es) ≡ None) [
+        | true ↦ λ within listed. absurd (no_first listed)
+        | false ↦ λ within rest.
+            elim (eq_by_cmp order_cmp (order_key k o) e.0) as (λ b. eq_by_cmp order_cmp (order_key k o) e.0 ≡ b
+            → cond b (Some e.1) (find order_cmp (order_key k o) es) ≡ None) [
+              | true ↦ λ at. absurd (true≢false (sym (λ i. self k.warehouse i && self k.district i)
+                  ∙ ap (λ (j : OrderKey). is_district j.warehouse j.district k) (exact_order.same (order_key k o) e.0 (tied _ at)) ∙ within))
+              | false ↦ λ at. none_listed es rest
+            ] refl
+      ] refl none
+    where
+      no_first : {n : ℕ} {ns : List ℕ} → n ∷ ns ≡ [] → ⊥
+      no_first e = cc
+
+  none_there : (m : FinMap order_cmp X) → least (numbers_in k m) ≡ None → get m (order_key k o) ≡ None
+  none_there m none = get-entries m (order_key k o) ∙ none_listed (entries m) (least_none (numbers_in k m) none)
+
+-- OLDEST tells which order waits: the one of its number, where it has a NEW-ORDER row
 module _ (t : Database) (k : DistrictKey) where
-  pub one_waits : oldest t k < next_order t k → waiting t k ≡ Some (oldest t k)
-  one_waits below = go (least (numbers_in k t.new_orders)) refl
+  by_waiting : (P : Option ℕ → ℕ → Type 0) → ((o : ℕ) → waiting t k ≡ Some o → P (Some o) o) → (waiting t k ≡ None → P None (next_order t k))
+      → P (waiting t k) (oldest t k)
+  by_waiting P some none = go (waiting t k) refl
     where
-      go : (o : Option ℕ) → waiting t k ≡ o → waiting t k ≡ Some (oldest t k)
-      go None e = absurd (let same : oldest t k ≡ next_order t k = ap (λ (w : Option ℕ). unwrap_or w (next_order t k)) e in omega arith)
-      go (Some o) e = e ∙ ap Some (sym (ap (λ (w : Option ℕ). unwrap_or w (next_order t k)) e))
+      go : (w : Option ℕ) → waiting t k ≡ w → P w (unwrap_or w (next_order t k))
+      go None e = none e
+      go (Some o) e = some o e
 
-  pub none_waits : Condition2At t k → next_order t k ≤ oldest t k → waiting t k ≡ None
-  none_waits second above = go (numbers_in k t.new_orders) refl
-    where
-      least_within : (ns : List ℕ) (o : ℕ) → least ns ≡ Some o → o ≤ greatest ns
-      least_within [] o e = absurd cc
-      least_within (n ∷ ns) o e = reached n (least ns) refl (same_Some _ _ e)
-        where
-          reached : (n : ℕ) (w : Option ℕ) → least ns ≡ w → Rattle.std.specs.Option.option_map_or (Rattle.std.proofs.Common.min n) w n ≡ o
-              → o ≤ greatest (n ∷ ns)
-          reached n None is same = omega (arith, same)
-          reached n (Some m) is same = omega (arith, same)
+  pub one_waits : IsSome (get t.new_orders (order_key k (oldest t k))) → waiting t k ≡ Some (oldest t k)
+  one_waits = by_waiting (λ w o. IsSome (get t.new_orders (order_key k o)) → w ≡ Some o) (λ o e there. refl)
+      (λ e there. absurd (true≢false (sym there ∙ ap is_some (none_there k (next_order t k) t.new_orders e))))
 
-      go : (ns : List ℕ) → numbers_in k t.new_orders ≡ ns → waiting t k ≡ None
-      go [] e = ap least e
-      go (n ∷ ns) e = absurd (
-          let first : ℕ = Rattle.std.specs.Option.option_map_or (Rattle.std.proofs.Common.min n) (least ns) n in
-          let is : waiting t k ≡ Some first = ap least e in
-          let last : greatest (numbers_in k t.new_orders) + 1 ≡ next_order t k = second.1 first is in
-          let here : oldest t k ≡ first = ap (λ (w : Option ℕ). unwrap_or w (next_order t k)) is in
-          let within : first ≤ greatest (n ∷ ns) = least_within (n ∷ ns) first refl in
-          let same : greatest (numbers_in k t.new_orders) ≡ greatest (n ∷ ns) = ap greatest e in
-          omega arith)
+  pub none_waits : get t.new_orders (order_key k (oldest t k)) ≡ None → waiting t k ≡ None
+  none_waits = by_waiting (λ w o. get t.new_orders (order_key k o) ≡ None → w ≡ None)
+      (λ o e absent. absurd (true≢false (sym (least_row k t.new_orders o e) ∙ ap is_some absent))) (λ e absent. refl)
+
+  -- no number above the order cap has one
+  pub none_above : IsWellFormed t → t.scale.orders < oldest t k → waiting t k ≡ None
+  none_above wf = by_waiting (λ w o. t.scale.orders < o → w ≡ None)
+      (λ o e above. absurd (let within : o ≤ t.scale.orders = (wf.new_orders (order_key k o) (least_row k t.new_orders o e)).2.1 in omega (arith, above, within)))
+      (λ e above. refl)

@@ -1,8 +1,8 @@
 //! The districts of a Delivery, on record cells (TPC-C 2.7.4.2).
-ghost use Rattle.std.specs.Prelude.{◌≡◌, ◌+◌, ◌-◌, ◌*◌, ◌^◌, ◌<◌, ◌≤◌, Some, None, IsSome, IfOk, IfErr, OnOk};
+ghost use Rattle.std.specs.Prelude.{◌≡◌, ◌+◌, ◌-◌, ◌*◌, ◌^◌, ◌<◌, ◌≤◌, IsSome, IfOk, IfErr, OnOk};
 ghost use Rattle.std.specs.Option.{ForSome};
 ghost use Rattle.tables.specs.Sizes.{IsNumber};
-ghost use Rattle.tables.specs.Keys.{IsDistrictKey};
+ghost use Rattle.tables.specs.Keys.{IsDistrictKey, order_key};
 ghost use Rattle.tables.specs.Records.{number_of_key};
 ghost use Rattle.tables.specs.Delivery.{IsDelivery, waiting};
 ghost use Rattle.tables.specs.declared.limits.TheConstants.{MAX_DISTRICTS};
@@ -15,10 +15,10 @@ ghost use Rattle.delivery.specs.Steps.{AreDone, AreTold};
 use crate::order::deliver_order;
 use money::Refusal;
 use readset::{Start, Transaction, read_present};
-use rows::{DistrictColumns, Oldest};
+use rows::Oldest;
 use std::alloc::Global;
 use std::sync::Wait;
-use tables::{DeliveredOrder, DeliveryInput, DistrictKey};
+use tables::{DeliveredOrder, DeliveryInput, DistrictKey, RecordKey};
 
 /// Does all districts of the warehouse, from the first on, and gives the order taken in each. Costs what each costs,
 /// and memory for the orders.
@@ -39,7 +39,7 @@ pub(crate) fn deliver_districts<R: Wait, K: Start>(
     ensures told { IfOk result (λ orders.
         AreTold K.tables delivery.now K.tables.scale.districts transaction.new orders.items) }
     ensures refused { IfErr result (IsStepRefusal K.tables transaction.new) }
-    ensures goes_on { GoesOn (20 * K.tables.scale.districts) (19 * K.tables.scale.districts) transaction.old
+    ensures goes_on { GoesOn (19 * K.tables.scale.districts) (19 * K.tables.scale.districts) transaction.old
         transaction.new }
     ensures few { K.tables.scale.districts ≤ MAX_DISTRICTS }
 {
@@ -52,7 +52,7 @@ pub(crate) fn deliver_districts<R: Wait, K: Start>(
     Ok(orders)
 }
 
-/// Does one district: takes the order that waits longest there, if one does. Costs at most twenty loads.
+/// Does one district: takes the order that waits longest there, if one does. Costs at most nineteen loads.
 fn deliver_district<R: Wait, K: Start>(
     rt: &R,
     transaction: &mut Transaction<'_, K>,
@@ -67,7 +67,7 @@ fn deliver_district<R: Wait, K: Start>(
       district = district;
       order = waiting t (record { warehouse = delivery.now.warehouse; district = district });
     }) }
-    ensures goes_on { GoesOn 20 19 transaction.old transaction.new }
+    ensures goes_on { GoesOn 19 19 transaction.old transaction.new }
 {
     let home = delivery.district_key(district);
     let Some(number) = read_waiting(rt, transaction, home)? else {
@@ -83,7 +83,8 @@ fn deliver_district<R: Wait, K: Start>(
     })
 }
 
-/// Reads a district's OLDEST and its own record, and says which order waits longest there, if one does.
+/// Reads a district's OLDEST and the NEW-ORDER record of that number, and says which order waits longest there, if one
+/// does: that one, where it has its row. A number above the order cap, which OLDEST may have, has no record.
 fn read_waiting<R: Wait, K: Start>(
     rt: &R,
     transaction: &mut Transaction<'_, K>,
@@ -96,18 +97,17 @@ fn read_waiting<R: Wait, K: Start>(
         IsNumber K.tables.scale.orders o × (o + 1 < 2 ^ 32))) }
     ensures holds { OnOk result
         (IsSome (held transaction.new.reads (number_of_key K.tables.scale (key_variants.Oldest home)))) }
+    ensures holds_new_order { IfOk result (λ order. ForSome order (λ o. IsSome
+        (held transaction.new.reads (number_of_key K.tables.scale (key_variants.NewOrder (order_key home o)))))) }
     ensures reads { ReadsMore 2 transaction.old transaction.new }
 {
     let oldest: Oldest = read_present(rt, transaction, home)?;
-    let district: DistrictColumns = read_present(rt, transaction, home)?;
-    Ok(first_waiting(oldest.order, district.next_order))
-}
-
-/// The order that waits longest, by OLDEST and D_NEXT_O_ID: OLDEST where it is below that, and else none.
-fn first_waiting(oldest: u32, next: u32) -> Option<u32>
-    ensures waits { oldest < next → result ≡ Some oldest }
-    ensures none { next ≤ oldest → result ≡ None }
-    ensures below { ForSome result (λ o. (o ≡ oldest) × (o < next)) }
-{
-    if oldest < next { Some(oldest) } else { None }
+    if oldest.order > transaction.scale().orders() {
+        return Ok(None);
+    }
+    let row = transaction.read(rt, RecordKey::NewOrder(home.order_key(oldest.order)))?;
+    match row {
+        Some(_) => Ok(Some(oldest.order)),
+        None => Ok(None),
+    }
 }

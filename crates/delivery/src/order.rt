@@ -22,8 +22,9 @@ use rows::{CustomerColumns, Oldest};
 use std::sync::Wait;
 use tables::{CustomerKey, DeliveryInput, Order, OrderKey, RecordKey};
 
-/// Takes the order of this key, which waits longest in its district: reads its two records, its lines and its
-/// customer's, and says what these and OLDEST are to hold. Costs at most eighteen loads and some forty look-ups.
+/// Takes the order of this key, which waits longest in its district: reads its ORDER record, its lines and its
+/// customer's, and says what these, its NEW-ORDER record and OLDEST are to hold. Costs at most seventeen loads and some
+/// forty look-ups.
 ///
 /// # Errors
 ///
@@ -38,14 +39,16 @@ pub(crate) fn deliver_order<R: Wait, K: Start>(
     requires key { IsOrderKey K.tables.scale key }
     requires next { key.order + 1 < 2 ^ 32 }
     requires home { key.warehouse ≡ delivery.now.warehouse }
-    requires oldest { IsSome (held transaction.old.reads (number_of_key K.tables.scale
+    requires holds_new_order { IsSome (held transaction.old.reads
+        (number_of_key K.tables.scale (key_variants.NewOrder key))) }
+    requires holds_oldest { IsSome (held transaction.old.reads (number_of_key K.tables.scale
         (key_variants.Oldest (record { warehouse = key.warehouse; district = key.district })))) }
     requires waits { AtAll K.tables transaction.old (λ t. Waits t delivery.now (key.district - 1) key.order) }
     requires done { AreDone K.tables delivery.now (key.district - 1) transaction.old }
     ensures done { OnOk result
         (AreDone K.tables delivery.now key.district transaction.new) }
     ensures refused { IfErr result (IsStepRefusal K.tables transaction.new) }
-    ensures goes_on { GoesOn 18 19 transaction.old transaction.new }
+    ensures goes_on { GoesOn 17 19 transaction.old transaction.new }
 {
     let order = read_order(rt, transaction, key)?;
     let sum = date_lines(rt, transaction, delivery, key, order.line_count)?;
@@ -54,7 +57,7 @@ pub(crate) fn deliver_order<R: Wait, K: Start>(
     end_order(transaction, delivery, key, &order, &customer)
 }
 
-/// Reads the order's two records, of which the NEW-ORDER one has no words, and gives the order's row.
+/// Reads the order's row, which an order that waits has.
 fn read_order<R: Wait, K: Start>(
     rt: &R,
     transaction: &mut Transaction<'_, K>,
@@ -65,13 +68,10 @@ fn read_order<R: Wait, K: Start>(
     ensures order { Finds K.tables transaction.new result (λ order t. get t.orders key ≡ Some order) }
     ensures range { IfOk result (λ order. IsNumber K.tables.scale.customers order.customer
         × (order.line_count ≤ MAX_ORDER_LINES)) }
-    ensures holds_new_order { OnOk result
-        (IsSome (held transaction.new.reads (number_of_key K.tables.scale (key_variants.NewOrder key)))) }
-    ensures holds_order { OnOk result
+    ensures holds { OnOk result
         (IsSome (held transaction.new.reads (number_of_key K.tables.scale (key_variants.Order key)))) }
-    ensures reads { ReadsMore 2 transaction.old transaction.new }
+    ensures reads { ReadsMore 1 transaction.old transaction.new }
 {
-    transaction.read(rt, RecordKey::NewOrder(key))?;
     let order: Option<Order> = read_row(rt, transaction, key)?;
     match order {
         Some(order) => Ok(order),

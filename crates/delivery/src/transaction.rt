@@ -16,7 +16,7 @@ use tables::{DeliveryInput, DeliveryReply, Input, Lines, Reply};
 
 /// Executes a Delivery (TPC-C 2.7.4.2) in all districts of its warehouse, in a transaction that has read nothing: reads
 /// its records once each, and says what it is to write and to reply if it commits. No cell changes. Gives back the
-/// reader. Costs two loads a district, at most eighteen more where an order waits there, and memory for what it reads,
+/// reader. Costs two loads a district, at most seventeen more where an order waits there, and memory for what it reads,
 /// writes and replies, whatever the tables' size.
 ///
 /// # Errors
@@ -49,7 +49,7 @@ fn deliver<R: Wait, K: Start>(
     requires begun { transaction.old ≡ record { reads = []; writes = no_writes } }
     ensures reply { Finds K.tables transaction.new result (λ reply t.
         IsCommitOf t (input_variants.Delivery delivery.now) transaction.new.writes reply) }
-    ensures reads { length transaction.new.reads ≤ 200 }
+    ensures reads { length transaction.new.reads ≤ 190 }
     ensures writes { length transaction.new.writes.values ≤ 190 }
 {
     let orders = deliver_districts(rt, alloc, transaction, delivery)?;

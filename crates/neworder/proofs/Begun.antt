@@ -1,5 +1,5 @@
 -- An order that is opened has D_NEXT_O_ID for its number, and none of its lines is taken yet.
-use Rattle.std.proofs.Common.{◌≡◌, ℕ, ◌≤◌, [], Some, IsSome, refl, sym, subst}
+use Rattle.std.proofs.Common.{◌≡◌, inl, ℕ, ◌≤◌, [], Some, IsSome, refl, sym, subst}
 use Rattle.std.proofs.lemmas.List.Elements.{All-nil}
 use Rattle.std.specs.Option.{option_map}
 use Rattle.std.specs.FinMap.{get}
@@ -39,7 +39,7 @@ module _ (t0 : Database) (x : NewOrderInput) (c : DistrictColumns) (valid : IsNe
         columns = found t h;
         next = column_read district_columns (λ (d : DistrictColumns). d.next_order) 0 (get t.districts (home x)) c (found t h);
         condition_2 = (h.numbered (home x) at_home
-            (subst (λ (q : Sizes). IsSome (held under_way.reads (number_of_key q (key.District (home x))))) (sym s) is_held)).condition_2;
+            (inl (subst (λ (q : Sizes). IsSome (held under_way.reads (number_of_key q (key.District (home x))))) (sym s) is_held))).condition_2;
       }
 
   -- an order is opened by the writes of its four records

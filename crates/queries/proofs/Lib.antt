@@ -3,6 +3,7 @@ mod ToldOrder
 mod StatusExplained
 mod AnyRow
 mod EachOnce
+mod LineCounts
 mod LookedAt
 mod Pushed
 mod Counted

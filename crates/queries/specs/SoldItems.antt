@@ -1,9 +1,9 @@
 -- How far a Stock-Level has come through a district's last orders (TPC-C 2.8.2.2).
-use Rattle.std.specs.Prelude.{◌≡◌, ℕ, ◌+◌, nat_le, Bool, ◌==◌, ◌&&◌, ◌||◌, List}
-use Rattle.std.specs.List.{list_any}
+use Rattle.std.specs.Prelude.{◌≡◌, ℕ, ◌+◌, nat_le, Bool, ◌==◌, ◌&&◌, ◌||◌, List, map}
+use Rattle.std.specs.List.{list_any, range_with_len}
 use Rattle.std.specs.Option.{option_map_or}
 use Rattle.std.specs.FinMap.{entries, get}
-use Rattle.tables.specs.Keys.{is_district}
+use Rattle.tables.specs.Keys.{is_district, order_key}
 use Rattle.tables.specs.Database.{Database}
 use Rattle.tables.specs.declared.keys.DistrictKey.{DistrictKey}
 use Rattle.tables.specs.declared.keys.OrderKey.{OrderKey}
@@ -15,6 +15,10 @@ use Rattle.readset.specs.Explains.{IsCandidate}
 -- O_OL_CNT of an order, or 0 where there is no such order
 abbrev pub order_line_count : Database → OrderKey → ℕ
 order_line_count t k = option_map_or (λ r. r.line_count) (get t.orders k) 0
+
+-- of so many orders of a district, from this number on
+abbrev pub order_line_counts : Database → DistrictKey → ℕ → ℕ → List ℕ
+order_line_counts t d first count = map (λ o. order_line_count t (order_key d o)) (range_with_len first count)
 
 -- whether a line is of a district's orders from the first on and before order o, or one of the first m of order o
 abbrev pub is_looked_at : DistrictKey → ℕ → ℕ → ℕ → LineKey → Bool

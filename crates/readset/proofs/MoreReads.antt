@@ -1,6 +1,6 @@
 -- More reads: what is so at all tables that agree with some reads is so at all that agree with more. A record is read
 -- once.
-use Rattle.std.proofs.Common.{◌≡◌, ℕ, Some, None, Option, IsSome, is_some, true≢false, List, [], refl, sym, ap, ◌∙◌}
+use Rattle.std.proofs.Common.{◌≡◌, ⊎_elim, inl, inr, ℕ, Some, None, Option, IsSome, is_some, true≢false, List, [], refl, sym, ap, ◌∙◌}
 use Rattle.std.proofs.lemmas.Option.{same_Some}
 use Rattle.tables.specs.Database.{Database}
 use Rattle.cells.specs.Records.{ReaderView}
@@ -38,7 +38,8 @@ pub candidate_before : (t0 : Database) (reads more : ReadSetView) (t : Database)
 candidate_before t0 reads more t keeps h = record {
   of_population = h.of_population;
   well_formed = h.well_formed;
-  numbered = λ k here read. h.numbered k here (still_read reads more _ keeps read);
+  numbered = λ k here read. h.numbered k here
+      (⊎_elim (λ own. inl (still_read reads more _ keeps own)) (λ oldest. inr (still_read reads more _ keeps oldest)) read);
   agrees = λ n v found. h.agrees n v (keeps n v found);
 }
 

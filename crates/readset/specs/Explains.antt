@@ -1,5 +1,6 @@
 -- When what a transaction read explains what it is to write and reply.
-use Rattle.std.specs.Prelude.{◌≡◌, ℕ, ◌<◌, ◌≤◌, true, Option, Some, IsSome, List, length}
+use Rattle.std.specs.Prelude.{◌≡◌, ◌⊎◌, ℕ, ◌<◌, ◌≤◌, true, Option, Some, IsSome, List, length}
+use Rattle.tables.specs.Sizes.{Sizes}
 use Rattle.tables.specs.Database.{Database}
 use Rattle.tables.specs.Keys.{IsDistrictKey, is_district}
 use Rattle.tables.specs.Records.{number_of_key}
@@ -28,13 +29,17 @@ pub record HasOrderConditions (t : Database) (k : DistrictKey) : Type 0 where
   pub condition_3 : Condition3At t k
   pub condition_6 : (j : OrderKey) → is_district j.warehouse j.district k ≡ true → Condition6At t j
 
+-- a record of the district was read: its DISTRICT row's, or OLDEST's
+abbrev pub IsDistrictRead : Sizes → ReadSetView → DistrictKey → Type 0
+IsDistrictRead s reads k =
+    IsSome (held reads (number_of_key s (key.District k))) ⊎ IsSome (held reads (number_of_key s (key.Oldest k)))
+
 -- the tables at which a transaction may have read: the population's, well-formed, as read, and with these conditions of
 -- each district read. All consistent, well-formed tables that agree with what was read are among them
 pub record IsCandidate (t0 : Database) (reads : ReadSetView) (t : Database) : Type 0 where
   pub of_population : IsOf t0 t
   pub well_formed : IsWellFormed t
-  pub numbered : (k : DistrictKey) → IsDistrictKey t.scale k
-      → IsSome (held reads (number_of_key t.scale (key.District k))) → HasOrderConditions t k
+  pub numbered : (k : DistrictKey) → IsDistrictKey t.scale k → IsDistrictRead t.scale reads k → HasOrderConditions t k
   pub agrees : Agrees t reads
 
 -- at all such tables, the transaction has this reply and these writes

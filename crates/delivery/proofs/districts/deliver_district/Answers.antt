@@ -27,18 +27,18 @@ deliver_order-requires-clause-done g c =
 
 pub returns-in_err-deliver_order-clause-goes_on : goal.returns-in_err-deliver_order-clause-goes_on
 returns-in_err-deliver_order-clause-goes_on g c =
-    goes_on_twice c.args.transaction.now c.read_waiting.new.transaction c.deliver_order.new.transaction 2 0 18 19 20 19
+    goes_on_twice c.args.transaction.now c.read_waiting.new.transaction c.deliver_order.new.transaction 2 0 17 19 19 19
     (goes_on 2 0 c.args.transaction.now c.read_waiting.new.transaction c.read_waiting.ensures.reads) c.deliver_order.ensures.goes_on (omega arith) (omega arith)
 
 pub returns-clause-told : goal.returns-clause-told
 returns-clause-told g c = λ t h.
     let waits = c.in_ok-number.ensures.waits t
-    (candidate_then g.K.Start.tables c.read_waiting.new.transaction c.deliver_order.new.transaction 18 19 c.deliver_order.ensures.goes_on t h) in
+    (candidate_then g.K.Start.tables c.read_waiting.new.transaction c.deliver_order.new.transaction 17 19 c.deliver_order.ensures.goes_on t h) in
     ap {B = DeliveredOrder} (λ (o : Option ℕ). record { district = c.args.district; order = o }) (sym (ap (waiting t) (sym c.district_key-home.ensures) ∙ waits.0 ∙ c.in-Some.is))
 
 pub returns-clause-goes_on : goal.returns-clause-goes_on
 returns-clause-goes_on g c =
-    goes_on_twice c.args.transaction.now c.read_waiting.new.transaction c.deliver_order.new.transaction 2 0 18 19 20 19
+    goes_on_twice c.args.transaction.now c.read_waiting.new.transaction c.deliver_order.new.transaction 2 0 17 19 19 19
     (goes_on 2 0 c.args.transaction.now c.read_waiting.new.transaction c.read_waiting.ensures.reads) c.deliver_order.ensures.goes_on (omega arith) (omega arith)
 
 pub returns-clause-done : goal.returns-clause-done

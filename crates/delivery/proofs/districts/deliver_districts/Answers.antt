@@ -23,7 +23,7 @@ loop-done-preserved g c =
       told = subst (λ (os : List DeliveredOrder). AreTold t0 x (done + 1) c.deliver_district.new.transaction os) (sym c.in_ok-push.ensures.items)
           (told_next t0 x done c.loop-done.transaction c.deliver_district.new.transaction c.loop-done.orders.items c.in_ok-order.order i.told
           c.deliver_district.ensures.goes_on c.in_ok-order.ensures.told);
-      goes_on = goes_on_twice c.args.transaction.now c.loop-done.transaction c.deliver_district.new.transaction (20 * done) (19 * done) 20 19 (20 * (done + 1))
+      goes_on = goes_on_twice c.args.transaction.now c.loop-done.transaction c.deliver_district.new.transaction (19 * done) (19 * done) 19 19 (19 * (done + 1))
           (19 * (done + 1)) i.goes_on c.deliver_district.ensures.goes_on
           (omega arith) (omega arith);
     }

@@ -8,5 +8,5 @@ abbrev pub invariant-loop-done : goal.invariant-loop-done
 invariant-loop-done g l = record {
   done : AreDone g.K.Start.tables l.delivery l.done l.transaction;
   told : AreTold g.K.Start.tables l.delivery l.done l.transaction l.orders.items;
-  goes_on : GoesOn (20 * l.done) (19 * l.done) l.fn.transaction l.transaction;
+  goes_on : GoesOn (19 * l.done) (19 * l.done) l.fn.transaction l.transaction;
 }

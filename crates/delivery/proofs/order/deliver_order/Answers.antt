@@ -18,36 +18,37 @@ read_order-requires-clause-there g c = λ t h.
 
 pub date_lines-requires-clause-dated : goal.date_lines-requires-clause-dated
 date_lines-requires-clause-dated g c =
-    none_dated_yet g.K.Start.tables c.args.delivery.now (c.args.key.district - 1) c.args.key.order c.args.transaction.now c.read_order.new.transaction 2
+    none_dated_yet g.K.Start.tables c.args.delivery.now (c.args.key.district - 1) c.args.key.order c.args.transaction.now c.read_order.new.transaction 1
     c.requires.done c.read_order.ensures.reads
 
 pub returns-in_err-sum-clause-goes_on : goal.returns-in_err-sum-clause-goes_on
 returns-in_err-sum-clause-goes_on g c =
     let count = c.in_ok-order.ensures.range.1 in
-    goes_on_twice c.args.transaction.now c.read_order.new.transaction c.date_lines.new.transaction 2 0 _ _ 18 19
-    (goes_on 2 0 c.args.transaction.now c.read_order.new.transaction c.read_order.ensures.reads) c.date_lines.ensures.goes_on
+    goes_on_twice c.args.transaction.now c.read_order.new.transaction c.date_lines.new.transaction 1 0 _ _ 17 19
+    (goes_on 1 0 c.args.transaction.now c.read_order.new.transaction c.read_order.ensures.reads) c.date_lines.ensures.goes_on
     (omega (arith, count)) (omega (arith, count))
 
 pub returns-in_err-customer-clause-goes_on : goal.returns-in_err-customer-clause-goes_on
 returns-in_err-customer-clause-goes_on g c =
     let count = c.in_ok-order.ensures.range.1 in
-    goes_on_twice c.args.transaction.now c.date_lines.new.transaction c.credit_buyer.new.transaction 17 15 1 0 18 19
-    (goes_on_twice c.args.transaction.now c.read_order.new.transaction c.date_lines.new.transaction 2 0 _ _ 17 15
-    (goes_on 2 0 c.args.transaction.now c.read_order.new.transaction c.read_order.ensures.reads) c.date_lines.ensures.goes_on
+    goes_on_twice c.args.transaction.now c.date_lines.new.transaction c.credit_buyer.new.transaction 16 15 1 0 17 19
+    (goes_on_twice c.args.transaction.now c.read_order.new.transaction c.date_lines.new.transaction 1 0 _ _ 16 15
+    (goes_on 1 0 c.args.transaction.now c.read_order.new.transaction c.read_order.ensures.reads) c.date_lines.ensures.goes_on
     (omega (arith, count)) (omega (arith, count)))
     (goes_on 1 0 c.date_lines.new.transaction c.credit_buyer.new.transaction c.credit_buyer.ensures.reads) (omega arith) (omega arith)
 
 pub end_order-requires-clause-holds_new_order : goal.end_order-requires-clause-holds_new_order
 end_order-requires-clause-holds_new_order g c =
-    still_read c.read_order.new.transaction.reads c.credit_buyer.new.transaction.reads _
+    still_read c.args.transaction.now.reads c.credit_buyer.new.transaction.reads _
+    (keeps_twice c.args.transaction.now.reads c.read_order.new.transaction.reads c.credit_buyer.new.transaction.reads c.read_order.ensures.reads.keeps
     (keeps_twice c.read_order.new.transaction.reads c.date_lines.new.transaction.reads c.credit_buyer.new.transaction.reads c.date_lines.ensures.goes_on.keeps
-    c.credit_buyer.ensures.reads.keeps) c.in_ok-order.ensures.holds_new_order
+    c.credit_buyer.ensures.reads.keeps)) c.requires.holds_new_order
 
 pub end_order-requires-clause-holds_order : goal.end_order-requires-clause-holds_order
 end_order-requires-clause-holds_order g c =
     still_read c.read_order.new.transaction.reads c.credit_buyer.new.transaction.reads _
     (keeps_twice c.read_order.new.transaction.reads c.date_lines.new.transaction.reads c.credit_buyer.new.transaction.reads c.date_lines.ensures.goes_on.keeps
-    c.credit_buyer.ensures.reads.keeps) c.in_ok-order.ensures.holds_order
+    c.credit_buyer.ensures.reads.keeps) c.in_ok-order.ensures.holds
 
 pub returns-clause-done : goal.returns-clause-done
 returns-clause-done g c = on_ok c.end_order.result ended c.end_order.ensures.written
@@ -73,16 +74,16 @@ returns-clause-done g c = on_ok c.end_order.result ended c.end_order.ensures.wri
         (c.customer_key-buyer.ensures ∙ ap (λ (h : DistrictKey). customer_key h order.customer) c.district_key.ensures)
         c.in_ok-customer.ensures.credited)
         (λ t h. c.requires.waits t
-        (candidate_still t0 c.args.transaction.now read 2 c.read_order.ensures.reads t (candidate_then t0 read dated _ _ c.date_lines.ensures.goes_on t h)))
+        (candidate_still t0 c.args.transaction.now read 1 c.read_order.ensures.reads t (candidate_then t0 read dated _ _ c.date_lines.ensures.goes_on t h)))
         c.end_order.new.transaction c.end_order.ensures.reads written)
 
 pub returns-clause-goes_on : goal.returns-clause-goes_on
 returns-clause-goes_on g c =
     let count = c.in_ok-order.ensures.range.1 in
-    goes_on_twice c.args.transaction.now c.credit_buyer.new.transaction c.end_order.new.transaction 18 15 0 4 18 19
-    (goes_on_twice c.args.transaction.now c.date_lines.new.transaction c.credit_buyer.new.transaction 17 15 1 0 18 15
-    (goes_on_twice c.args.transaction.now c.read_order.new.transaction c.date_lines.new.transaction 2 0 _ _ 17 15
-    (goes_on 2 0 c.args.transaction.now c.read_order.new.transaction c.read_order.ensures.reads) c.date_lines.ensures.goes_on
+    goes_on_twice c.args.transaction.now c.credit_buyer.new.transaction c.end_order.new.transaction 17 15 0 4 17 19
+    (goes_on_twice c.args.transaction.now c.date_lines.new.transaction c.credit_buyer.new.transaction 16 15 1 0 17 15
+    (goes_on_twice c.args.transaction.now c.read_order.new.transaction c.date_lines.new.transaction 1 0 _ _ 16 15
+    (goes_on 1 0 c.args.transaction.now c.read_order.new.transaction c.read_order.ensures.reads) c.date_lines.ensures.goes_on
     (omega (arith, count)) (omega (arith, count)))
     (goes_on 1 0 c.date_lines.new.transaction c.credit_buyer.new.transaction c.credit_buyer.ensures.reads) (omega arith) (omega arith))
     c.end_order.ensures.goes_on (omega arith) (omega arith)

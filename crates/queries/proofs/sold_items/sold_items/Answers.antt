@@ -1,12 +1,13 @@
-use Rattle.std.proofs.Common.{◌≡◌, ◌≤◌, ℕ, ◌-◌, ◌*◌, ◌+◌, max, List, length, All, sym, ap, ◌∙◌, subst, arith}
+use Rattle.std.proofs.Common.{◌≡◌, ◌≤◌, ℕ, ◌-◌, ◌*◌, ◌+◌, max, List, get_or, length, All, sym, ap, ◌∙◌, subst, arith}
 use Rattle.std.proofs.lemmas.List.Elements.{All-nil}
 use Rattle.tables.specs.Keys.{IsItemKey}
 use Rattle.tables.specs.declared.limits.TheConstants.{MAX_ORDER_LINES, RECENT_ORDERS}
-use Rattle.readset.proofs.UnderWay.{reads_none, reads_twice}
+use Rattle.readset.proofs.UnderWay.{reads_none, reads_twice, candidate_still}
 use Rattle.tables.specs.declared.keys.OrderKey.{OrderKey}
 use Rattle.tables.specs.Keys.{district_of_order}
-use Rattle.queries.specs.SoldItems.{AreItems}
+use Rattle.queries.specs.SoldItems.{order_line_count, AreItems}
 use Rattle.queries.proofs.LookedAt.{none_before, all_sold}
+use Rattle.queries.proofs.LineCounts.{count_at}
 use Rattle.queries.proofs.sold_items.sold_items.Goals as goal
 
 pub loop-order-init : goal.loop-order-init
@@ -17,12 +18,22 @@ loop-order-init g c =
     record {
       low = omega arith;
       high = omega (arith, first, c.requires.next.0);
-      sold = subst (λ (items : List ℕ). AreItems t0 c.args.home low low 0 c.args.transaction.now.reads items) (sym c.new-items.ensures.items)
-          (none_before t0 c.args.home low c.args.transaction.now.reads);
+      counted = c.in_ok-counts.ensures.counts;
+      sold = subst (λ (items : List ℕ). AreItems t0 c.args.home low low 0 c.line_counts.new.transaction.reads items) (sym c.new-items.ensures.items)
+          (none_before t0 c.args.home low c.line_counts.new.transaction.reads);
       keys = subst (All (IsItemKey t0.scale)) (sym c.new-items.ensures.items) (All-nil (IsItemKey t0.scale));
       count = let empty = ap length c.new-items.ensures.items in omega (arith, empty);
-      reads = reads_none _ c.args.transaction.now;
+      reads = reads_twice c.args.transaction.now c.line_counts.new.transaction c.line_counts.new.transaction (c.args.next - low) 0 (c.args.next - low + (low - low) * MAX_ORDER_LINES)
+          c.line_counts.ensures.reads (reads_none 0 c.line_counts.new.transaction) (omega arith);
     }
+
+pub order_items-requires-clause-counted : goal.order_items-requires-clause-counted
+order_items-requires-clause-counted g c = λ t h.
+    let i = c.loop-order.invariant in
+    let low = c.first_recent-first.result in
+    let count = c.index-count.result.now in
+    ap (order_line_count t) c.order_key.ensures ∙ sym (count_at t c.args.home low c.loop-order.order i.low c.args.next count c.loop-order-test.true)
+    ∙ ap (λ (counts : List ℕ). get_or counts (c.loop-order.order - low) count) (i.counted t h) ∙ sym c.index-count.ensures
 
 pub loop-order-preserved : goal.loop-order-preserved
 loop-order-preserved g c =
@@ -32,14 +43,15 @@ loop-order-preserved g c =
     record {
       low = omega (arith, i.low);
       high = omega (arith, c.loop-order-test.true);
+      counted = λ t h. i.counted t (candidate_still t0 c.loop-order.transaction c.order_items.new.transaction MAX_ORDER_LINES c.order_items.ensures.reads t h);
       sold = subst (λ (k : OrderKey). (first : ℕ) → first ≤ k.order
           → AreItems t0 (district_of_order k) first k.order 0 c.loop-order.transaction.reads c.loop-order.items.items
           → AreItems t0 (district_of_order k) first (k.order + 1) 0 c.order_items.new.transaction.reads c.order_items.new.items.items)
           c.order_key.ensures c.in_ok-order_items.ensures.sold low i.low i.sold;
       keys = c.order_items.ensures.items i.keys;
       count = omega (arith, c.order_items.ensures.count, i.count, i.low);
-      reads = reads_twice c.args.transaction.now c.loop-order.transaction c.order_items.new.transaction ((c.loop-order.order - low) * (MAX_ORDER_LINES + 1))
-          (MAX_ORDER_LINES + 1) ((c.loop-order.order + 1 - low) * (MAX_ORDER_LINES + 1))
+      reads = reads_twice c.args.transaction.now c.loop-order.transaction c.order_items.new.transaction (c.args.next - low + (c.loop-order.order - low) * MAX_ORDER_LINES)
+          MAX_ORDER_LINES (c.args.next - low + (c.loop-order.order + 1 - low) * MAX_ORDER_LINES)
           i.reads c.order_items.ensures.reads (omega (arith, i.low));
     }
 

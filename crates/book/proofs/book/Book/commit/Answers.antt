@@ -3,6 +3,7 @@ use Rattle.std.specs.Prelude.{slice_set}
 use Rattle.std.specs.Arc.{arc_value}
 use Rattle.std.proofs.lemmas.List.{length-map, map-append}
 use Rattle.money.specs.declared.refusal.Refusal.TheVariants.{Conflict, EpochFull}
+use Rattle.atomic_table.specs.Seated.{TableId}
 use Rattle.population.specs.Initial.{initial}
 use Rattle.population.specs.declared.population.Population.{Population}
 use Rattle.cells.specs.Versions.{last_tid}
@@ -14,7 +15,7 @@ use Rattle.board.specs.Steps.{counted_epochs}
 use Rattle.board.specs.Seats.{SeatView, noted}
 use Rattle.board.specs.declared.rule.WordStep.TheVariants.{LoadEpoch, CountCommit}
 use Rattle.totals.specs.Counts.{MayFollow}
-use Rattle.book.specs.Book.{BookView, IsAsBefore, IsReadBy, HasSeen, entry_of}
+use Rattle.book.specs.Book.{BookView, IsAsBefore, HasSeen, entry_of}
 use Rattle.book.specs.Committing.{CommitsWork, IsDeclined, IsHindered}
 use Rattle.book.specs.Done.{Done}
 use Rattle.book.specs.Epochs.{found_epoch}
@@ -24,7 +25,6 @@ use Rattle.book.specs.Shows.{Mirrors, IsCommitRun, reads_of}
 use Rattle.book.specs.Stamps.{tid_for}
 use Rattle.book.specs.declared.entry.Entry.{Entry}
 use Rattle.book.specs.declared.untaken.Untaken.{Untaken}
-use Rattle.book.proofs.Committed.{read_by_more}
 use Rattle.book.proofs.Found.{view_here, kept_loaded, cap_of, count_of, never_full, no_conflict, none_taken, declined_by, found_of, is_due, same_tid}
 use Rattle.book.proofs.Found.{has_tid, follows, kept_reserved, larger, kept_committed, may_count_one}
 use Rattle.book.proofs.Loaded.{ready_loaded}
@@ -32,6 +32,7 @@ use Rattle.book.proofs.Newest.{given_back}
 use Rattle.book.proofs.NextCommit.{is_next}
 use Rattle.book.proofs.RefusedThere.{refused_there}
 use Rattle.book.proofs.Runs.{stale_run, full_run, run}
+use Rattle.book.proofs.Stores.{written_within}
 use Rattle.book.proofs.Streams.{same_parts}
 use Rattle.book.proofs.book.Book.commit.Goals as goal
 
@@ -119,9 +120,10 @@ store_counted-requires-clause-may g c =
     c.deref-2.ensures ∙ c.in-Ok.ensures.prepared.entry in
     record {
       own = search rules;
-      read = subst (λ (cells : List _). IsReadBy (length cells) c.validate.new.reader c.args.work.reads) (sym c.requires.cells)
-          (read_by_more (length g.K.Run.cells) c.args.reader.now c.validate.new.reader c.args.work.reads c.requires.work.read c.validate.ensures.reader);
-      written_read = search rules;
+      within = subst (λ (q : List TableId × Entry). (n : ℕ) (value : Option (List ℕ)) → value_for q.1.writes n ≡ Some value → n < length q.0)
+          (λ i. (sym c.requires.cells i, sym stored i))
+          (written_within (length g.K.Run.cells) c.args.reader.now c.args.work.reads c.args.work.writes c.requires.work.read
+          c.requires.work.limits.writes_read);
       no_bits = search rules;
       larger = subst (λ (q : PenView × Entry). (n : ℕ) (value : Option (List ℕ)) → value_for q.1.writes n ≡ Some value
           → last_tid (at q.0.all n) < q.1.tid) (λ i. (sym c.validate.ensures.pen i, sym stored i))
