@@ -60,12 +60,12 @@ Progress = namedtuple("Progress", "inputs commits rate acknowledged epoch durabl
 
 PROGRESS = re.compile(rb"inputs (\d+) commits (\d+) \((\d+)/s\) acknowledged (\d+) epoch (\d+) durable (\d+) *")
 
-# What is left at the end: seconds, commits a second, the mean wait for an acknowledgement and that of 99 of 100 in
-# milliseconds, and how many of each kind of transaction.
-Summary = namedtuple("Summary", "seconds rate mean most kinds")
+# What is left at the end: seconds, commits a second, the mean wait for an acknowledgement, in how many milliseconds a
+# half and 99 of 100 were over, and how many of each kind of transaction.
+Summary = namedtuple("Summary", "seconds rate mean half most kinds")
 
 SUMMARY = re.compile(
-    rb"(\d+\.\d) s, (\d+) commits/s, acknowledged after (\d+) ms, 99 of 100 within (\d+) ms; "
+    rb"(\d+\.\d) s, (\d+) commits/s, acknowledged after (\d+) ms, half within (\d+) ms, 99 of 100 within (\d+) ms; "
     rb"New-Order (\d+), Payment (\d+), Order-Status (\d+), Delivery (\d+), Stock-Level (\d+) *"
 )
 
@@ -76,8 +76,8 @@ def summary_of(line):
     if not match:
         raise Failed(f"no summary at the end: {line!r}")
     seconds, *numbers = match.groups()
-    rate, mean, most, *kinds = map(int, numbers)
-    return Summary(float(seconds), rate, mean, most, kinds)
+    rate, mean, half, most, *kinds = map(int, numbers)
+    return Summary(float(seconds), rate, mean, half, most, kinds)
 
 
 def progress_of(shown):

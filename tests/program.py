@@ -536,8 +536,9 @@ def progress_of_a_run(inputs):
             least, most = (counts.commits / (summary.seconds + off) for off in (0.1, 0))
             same("whether the commits a second are so many", least <= summary.rate + 1 and summary.rate <= most, True)
             same("whether the mean wait is above most", summary.mean > summary.most, False)
-            # A logger's turns begin 40 ms apart.
-            same("whether the waits are too short", summary.most < 20, False)
+            same("whether the half of them waits longer than most", summary.half > summary.most, False)
+            # An epoch is 5 ms long.
+            same("whether the waits are too short", summary.most < 4, False)
     return lines, seconds
 
 

@@ -1,6 +1,7 @@
 //! How a run is looked at while it lasts.
 
 use run_threads::{Pace, Progress};
+use std::sync::Wait;
 use std::sync::atomic::{AtomicU64, Ordering};
 use std::thread;
 use std::time::{Clock, Duration};
@@ -10,6 +11,9 @@ const SLICE: u64 = 1_000;
 
 /// The shortest pause, in which a look can tell what the turn before it has acknowledged. In microseconds.
 const LEAST: u64 = 200;
+
+/// How far apart the turns of another logger than the first begin at the most, in milliseconds.
+const LONGEST: u64 = 100;
 
 /// What was seen of a run, from the first look at it to the last before its terminals were done.
 #[derive(Clone, Copy)]
@@ -74,11 +78,11 @@ struct Look {
     waiting: u64,
 }
 
-/// A logger's turns begin an interval apart, or at once where one takes longer. In between, the first logger looks at
-/// the run each millisecond: the sum of how many commits waited, each look's times the time until the next, is what all
-/// of them waited.
+/// The first logger's turns begin an interval apart, or at once where one takes longer; others' follow it. In between,
+/// the first looks at the run each millisecond: the sum of how many commits waited, each look's times the time until the
+/// next, is what all of them waited.
 #[derive(Drop)]
-pub(crate) struct Gauge<'a, C: Clock> {
+pub(crate) struct Gauge<'a, C: Clock + Wait> {
     clock: &'a C,
     interval: Duration,
     due: Duration,
@@ -87,7 +91,7 @@ pub(crate) struct Gauge<'a, C: Clock> {
     waited: u64,
 }
 
-impl<'a, C: Clock> Gauge<'a, C> {
+impl<'a, C: Clock + Wait> Gauge<'a, C> {
     pub(crate) fn new(clock: &'a C, interval: Duration, dial: Option<&'a Dial>) -> Gauge<'a, C> {
         Gauge {
             clock,
@@ -133,8 +137,12 @@ fn micros(from: Duration, to: Duration) -> u64 {
     u64::try_from(to.saturating_sub(from).as_micros()).unwrap_or(u64::MAX)
 }
 
-impl<'a, C: Clock> Pace for Gauge<'a, C> {
-    fn pause(&mut self, progress: &Progress) {
+impl<'a, C: Clock + Wait> Pace for Gauge<'a, C> {
+    fn pause(&mut self, progress: &Progress, signals: u64) {
+        if self.dial.is_none() {
+            progress.wait(self.clock, signals, Duration::from_millis(LONGEST));
+            return;
+        }
         let Ok(begun) = self.clock.monotonic() else {
             thread::sleep(self.clock, self.interval);
             return;

@@ -1,8 +1,8 @@
 //! Measures runs. `bench_run memory|files WAREHOUSES TERMINALS LOGGERS INPUTS INTERVAL` runs terminals in threads
-//! beside loggers, as `tpcc run` does, at the usual mix, so many inputs a terminal and so many milliseconds between
-//! the turns of a logger, on disks in memory or on the files `run-bench-L` of the folder that it runs in, which aren't
-//! to be there and are removed at the end. It prints commits a second and how long a commit waits for its
-//! acknowledgement, and in a second line how often a commit's input was tried, on average, by kind.
+//! beside loggers, as `tpcc run` does, at the usual mix, so many inputs a terminal and so many milliseconds between the
+//! turns of the first logger, which the others follow, on disks in memory or on the files `run-bench-L` of the folder
+//! that it runs in, which aren't to be there and are removed at the end. It prints commits a second and how long a
+//! commit waits for its acknowledgement, and in a second line how often a commit's input was tried, on average, by kind.
 //! `bench_run session WAREHOUSES TERMINALS INPUTS` commits the same inputs one after another, by one terminal without
 //! logs that has the book to itself. With no words it does nothing.
 #![tactic(auto)]
@@ -57,7 +57,7 @@ fn path(alloc: Global, logger: u16) -> Result<String, Refusal> {
 }
 
 /// A new disk in memory for each logger, and its pace. The first has the dial.
-fn memories<'a, C: Clock>(
+fn memories<'a, C: Clock + Wait>(
     clock: &'a C,
     alloc: Global,
     dial: &'a Dial,
@@ -77,7 +77,7 @@ fn memories<'a, C: Clock>(
 }
 
 /// A new file for each logger, and its pace. The first has the dial.
-fn files<'a, C: Clock + Files<File = fs::File>>(
+fn files<'a, C: Clock + Wait + Files<File = fs::File>>(
     rt: &'a C,
     alloc: Global,
     dial: &'a Dial,
@@ -95,7 +95,12 @@ fn files<'a, C: Clock + Files<File = fs::File>>(
     Ok(slots)
 }
 
-fn pace<'a, C: Clock>(clock: &'a C, dial: &'a Dial, load: Load, logger: u16) -> Gauge<'a, C> {
+fn pace<'a, C: Clock + Wait>(
+    clock: &'a C,
+    dial: &'a Dial,
+    load: Load,
+    logger: u16,
+) -> Gauge<'a, C> {
     Gauge::new(
         clock,
         Duration::from_millis(load.interval),

@@ -23,9 +23,13 @@ use std::sync::Wait;
 use std::thread::Threads;
 use std::time::{Clock, Duration};
 
-/// How far apart a logger's turns begin, in milliseconds: what an acknowledgement waits for, beside a batch and its
-/// syncs.
-const INTERVAL: u64 = 40;
+/// How long an epoch is, in milliseconds (Silo, section 4.1: 40): what an acknowledgement waits for, beside a batch and
+/// its syncs.
+const INTERVAL: u64 = 5;
+
+/// How far apart the turns of a logger that follows the clock begin at the most, in milliseconds: it takes them even
+/// where E stays, as in the last epoch.
+const LONGEST: u64 = 100;
 
 /// Runs terminals over a population, with new log files, and writes what came of it. Answers the report of the
 /// committed tables. How far the run is goes to the screen, if there is one.
@@ -111,7 +115,7 @@ pub(crate) fn gates<'a, C: Clock>(
 }
 
 /// What loggers of new log files are given: each a disk, which it borrows, and its beat.
-fn slots<'a, 'd, C: Clock, S: Write + Drop>(
+fn slots<'a, 'd, C: Clock + Wait, S: Write + Drop>(
     clock: &'a C,
     alloc: Global,
     disks: &'d mut [FileDisk],
@@ -123,14 +127,14 @@ fn slots<'a, 'd, C: Clock, S: Write + Drop>(
     let mut screen = screen_of(clock, alloc, screen, waits);
     let mut slots = Vec::new(alloc);
     for disk in disks.iter_mut() {
-        let pace = Beat::new(clock, Duration::from_millis(INTERVAL), screen.take());
+        let pace = beat_of(clock, slots.len(), &mut screen);
         slots.push(Slot { disk, pace })?;
     }
     Ok(slots)
 }
 
 /// What loggers of open log files are given: each its file, and its beat.
-pub(crate) fn paced<'a, D: Disk + Drop, C: Clock, S: Write + Drop>(
+pub(crate) fn paced<'a, D: Disk + Drop, C: Clock + Wait, S: Write + Drop>(
     clock: &'a C,
     alloc: Global,
     files: Vec<LogFile<D>>,
@@ -142,13 +146,24 @@ pub(crate) fn paced<'a, D: Disk + Drop, C: Clock, S: Write + Drop>(
     let mut screen = screen_of(clock, alloc, screen, waits);
     let mut logs = Vec::new(alloc);
     for file in files {
-        let pace = Beat::new(clock, Duration::from_millis(INTERVAL), screen.take());
+        let pace = beat_of(clock, logs.len(), &mut screen);
         logs.push(OpenLog { file, pace })?;
     }
     Ok(logs)
 }
 
-/// The screen of a run, which the first logger's beat gets: the beats make turns an interval apart.
+/// The beat of the logger behind so many others: the first, which has the clock, gets the screen, if there is one; all
+/// others follow it.
+fn beat_of<'a, C: Clock + Wait, S: Write + Drop>(
+    clock: &'a C,
+    others: usize,
+    screen: &mut Option<Screen<'a, S>>,
+) -> Beat<'a, C, S> {
+    let interval = if others == 0 { INTERVAL } else { LONGEST };
+    Beat::new(clock, Duration::from_millis(interval), screen.take())
+}
+
+/// The screen of a run, which its first logger's beat gets.
 fn screen_of<'a, C: Clock, S: Write + Drop>(
     clock: &C,
     alloc: Global,

@@ -284,7 +284,7 @@ fn drive_restarted<
 }
 
 /// What terminals and loggers are given: gates, and open log files with their beats.
-fn outfit<'a, D: Disk + Drop, C: Clock, S: Write + Drop>(
+fn outfit<'a, D: Disk + Drop, C: Clock + Wait, S: Write + Drop>(
     clock: &'a C,
     alloc: Global,
     files: Vec<LogFile<D>>,

@@ -3,45 +3,49 @@
 use crate::screen::Screen;
 use run_threads::{Pace, Progress};
 use std::io::Write;
-use std::thread;
+use std::sync::Wait;
 use std::time::{Clock, Duration};
 
-/// A logger's turns begin an interval apart, or at once where one takes longer (Silo, section 4.1: 40 ms). The first
-/// logger's also has the screen, if there is one.
+/// A logger's turn begins once E has changed since the one before, and an interval after that one's beginning at the
+/// latest, or at once where it took longer. So the logger with the clock, which alone advances E, has turns, and epochs,
+/// of its interval (Silo, section 4.1), and others follow it. The first logger's also has the screen, if there is one.
 #[derive(Drop)]
-pub struct Beat<'a, C: Clock, S: Write> {
+pub struct Beat<'a, C: Clock + Wait, S: Write> {
     clock: &'a C,
     interval: Duration,
     due: Duration,
     screen: Option<Screen<'a, S>>,
 }
 
-impl<'a, C: Clock, S: Write> Beat<'a, C, S> {
+impl<'a, C: Clock + Wait, S: Write> Beat<'a, C, S> {
     /// The pace of this interval by a clock.
     pub fn new(clock: &'a C, interval: Duration, screen: Option<Screen<'a, S>>) -> Beat<'a, C, S> {
         Beat {
             clock,
             interval,
-            due: Duration::ZERO,
+            due: Duration::MAX,
             screen,
         }
     }
 
     /// Waits until the next turn is due: an interval at the longest, and a whole one where the clock can't be read.
-    fn wait(&mut self) {
-        let Ok(now) = self.clock.monotonic() else {
-            thread::sleep(self.clock, self.interval);
-            return;
+    fn wait(&mut self, progress: &Progress, signals: u64) {
+        let left = match self.clock.monotonic() {
+            Ok(now) => self.due.saturating_sub(now).min(self.interval),
+            Err(_) => self.interval,
         };
-        thread::sleep(self.clock, self.due.saturating_sub(now).min(self.interval));
-        self.due = self.due.max(now).saturating_add(self.interval);
+        progress.wait(self.clock, signals, left);
     }
 }
 
-impl<'a, C: Clock, S: Write> Pace for Beat<'a, C, S> {
-    fn pause(&mut self, progress: &Progress) {
-        self.wait();
-        if let (Some(screen), Ok(now)) = (&mut self.screen, self.clock.monotonic()) {
+impl<'a, C: Clock + Wait, S: Write> Pace for Beat<'a, C, S> {
+    fn pause(&mut self, progress: &Progress, signals: u64) {
+        self.wait(progress, signals);
+        let Ok(now) = self.clock.monotonic() else {
+            return;
+        };
+        self.due = now.saturating_add(self.interval);
+        if let Some(screen) = &mut self.screen {
             screen.show(now, progress);
         }
     }

@@ -76,9 +76,8 @@ impl Waits {
         self.micros.load(Ordering::SeqCst) / noted.max(1) / 1000
     }
 
-    /// In how many milliseconds 99 of 100 of so many waits were over.
-    fn most(&self, noted: u64) -> u64 {
-        let least = noted - noted / 100;
+    /// In how many milliseconds at least so many waits were over.
+    fn within(&self, least: u64) -> u64 {
         let mut over: u64 = 0;
         for millis in 0..LONGEST {
             if let Some(waits) = self.by_millis.get(millis as usize) {
@@ -94,9 +93,10 @@ impl Waits {
     /// What is told of them: how long commits waited, and how many there are of each kind.
     pub(crate) fn text(&self, alloc: Global) -> Result<String, AllocError> {
         let noted = self.noted();
-        let (mean, most) = (self.mean(noted), self.most(noted));
+        let mean = self.mean(noted);
+        let (half, most) = (self.within(noted - noted / 2), self.within(noted - noted / 100));
         let mut text = format!(in alloc;
-            "acknowledged after {mean} ms, 99 of 100 within {most} ms; "
+            "acknowledged after {mean} ms, half within {half} ms, 99 of 100 within {most} ms; "
         )?;
         self.print_kinds(&mut text)?;
         Ok(text)

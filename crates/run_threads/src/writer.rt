@@ -44,17 +44,20 @@ impl<K: Run, D: Disk, P: Pace + Drop> Writer<K, D, P> {
             if progress.has_ended() {
                 break;
             }
-            self.turn(rt, engine, progress);
-            self.pace.pause(progress);
+            let signals = self.turn(rt, engine, progress);
+            self.pace.pause(progress, signals);
         }
     }
 
-    /// One turn: the clock's advances E first, so that the mark of the take is the epoch before.
-    fn turn<R: Wait>(&mut self, rt: &R, engine: &Engine<K>, progress: &Progress)
+    /// One turn: the clock's advances E first, so that the mark of the take is the epoch before. Answers how many signals
+    /// there were before the take: an advance that comes later, and that the take may have missed, is one more.
+    fn turn<R: Wait>(&mut self, rt: &R, engine: &Engine<K>, progress: &Progress) -> u64
         ensures { self.new.appender.has_stopped ≡ false → self.new.appender.logger.file.failed ≡ false }
     {
         self.advance(engine, progress);
+        let signals = progress.signals();
         self.appender.turn(rt, engine, progress);
+        signals
     }
 
     /// Advances E, if this logger has the clock. In the last epoch E stays.

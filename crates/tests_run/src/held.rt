@@ -26,6 +26,21 @@ impl Passing {
         self.held.load(Ordering::SeqCst)
     }
 
+    /// The next sync is to be held.
+    pub(crate) fn ask(&self) {
+        self.answered.fetch_add(1, Ordering::SeqCst);
+    }
+
+    /// Waits until a sync is held.
+    pub(crate) fn wait_for_sync(&self) {
+        self.wait(&self.held, 1);
+    }
+
+    /// The sync that is held goes on.
+    pub(crate) fn release(&self) {
+        self.answered.fetch_add(BESIDE, Ordering::SeqCst);
+    }
+
     /// How often one has waited in vain.
     pub(crate) fn in_vain(&self) -> u32 {
         self.in_vain.load(Ordering::SeqCst)
@@ -67,13 +82,13 @@ impl<'a> Gate for Follower<'a> {
 
     fn before_commit(&mut self) {
         if self.calls.committed == 1 {
-            self.passing.wait(&self.passing.held, 1);
+            self.passing.wait_for_sync();
         }
         self.calls.before_commit();
     }
 
     fn after_commit(&mut self) {
-        self.passing.answered.fetch_add(1, Ordering::SeqCst);
+        self.passing.ask();
         self.calls.after_commit();
     }
 }

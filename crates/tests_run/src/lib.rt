@@ -7,6 +7,10 @@ mod books;
 #[cfg(test)]
 mod deck_tests;
 #[cfg(test)]
+mod following;
+#[cfg(test)]
+mod following_tests;
+#[cfg(test)]
 mod held;
 #[cfg(test)]
 mod held_tests;

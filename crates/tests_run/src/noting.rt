@@ -40,7 +40,7 @@ pub(crate) struct Noting<'a> {
 }
 
 impl<'a> Pace for Noting<'a> {
-    fn pause(&mut self, _progress: &Progress) {
+    fn pause(&mut self, _progress: &Progress, _signals: u64) {
         thread::yield_now();
     }
 
