@@ -17,7 +17,7 @@ AMOUNT = re.compile(rb"(-?)((?:0|[1-9][0-9]*)\.[0-9]{2})")
 SYLLABLE = "|".join(scripts.SYLLABLES).encode()
 NAME = re.compile(b"(%s)(%s)(%s)" % (SYLLABLE, SYLLABLE, SYLLABLE))
 
-COUNTS = (0, 1, 10, 100, 300, 1_000, 3_000)
+COUNTS = (0, 1, 10, 100, 300, 1_000, 3_000, 3_000)
 
 
 class NoForm(Exception):
@@ -172,7 +172,10 @@ def check(scale, text, output):
 
 
 def scale_of(draws):
-    """A small scale, which is soon at a cap or not."""
+    """A small scale, which is soon at a cap or not; or one of a busy district or two, in which stocks run low."""
+    if draws.random() < 0.3:
+        customers = draws.randint(10, 40)
+        return (1, draws.choice((1, 2)), customers, draws.randint(60, 400), customers + 3_000, 600_000)
     customers = draws.choice((10, draws.randint(10, 40), draws.randint(10, 300), draws.randint(990, 1_100)))
     return (
         draws.choice((1, 1, 2, 3, 8)),

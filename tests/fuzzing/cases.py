@@ -9,7 +9,7 @@ from contextlib import contextmanager
 from pathlib import Path
 
 # How long one run of a program may take, with room for a slow machine.
-SECONDS = 120
+SECONDS = 60
 
 # The programs that a case runs: the one that is tried, and the yardstick.
 Programs = namedtuple("Programs", "tpcc yardstick")

@@ -18,7 +18,8 @@ def entry_at_edge(draws, log):
     full = [at for at, body in enumerate(log.bodies) if body.entries]
     if not full:
         return
-    at, beyond = draws.choice(full), draws.randrange(2)
+    # Behind the last one nothing is to fit what is changed.
+    at, beyond = draws.choice((full[-1], draws.choice(full))), draws.choice((0, 1, 1))
     before, body = max((mark_of(body) for body in log.bodies[:at]), default=0), log.bodies[at]
     place = draws.randrange(len(body.entries))
     first, one, last = body.entries[0], body.entries[place], body.entries[-1]
@@ -37,12 +38,13 @@ def entry_at_edge(draws, log):
         case 5:
             one.tid = with_epoch(one.tid, (ahead.tid >> 32) - beyond)
         case 6:
-            one.terminal = 15 - (15 - one.terminal) % log.numbers[2] + beyond * log.numbers[2]
+            own = 15 - (15 - one.terminal) % log.numbers[2]
+            one.terminal = draws.choice((one.terminal + beyond, own + beyond * log.numbers[2]))
 
 
 def body_at_edge(draws, log):
     """A mark, or a void body more behind all others."""
-    beyond, known = draws.randrange(2), epochs(log) or [1]
+    beyond, known = draws.choice((0, 1, 1)), epochs(log) or [1]
     top, some = max(known), draws.choice(known)
     if log.bodies and draws.random() < 0.4:
         at = draws.randrange(len(log.bodies))

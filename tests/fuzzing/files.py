@@ -10,7 +10,7 @@ from fuzzing.bodies import log_of
 from fuzzing.cases import Differs, brief, draws_of, room, run, same
 from fuzzing.verdicts import Asked, examine, words_of
 
-KIND, GROUP = "files", 40
+KIND, GROUP = "files", 25
 
 
 def scale_of(draws):

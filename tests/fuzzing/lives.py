@@ -82,7 +82,7 @@ def behind_progress(draws, folder):
     return wait
 
 
-MOMENTS = at_once, behind_growth, behind_growth, behind_progress
+MOMENTS = at_once, behind_growth, behind_growth, behind_progress, behind_progress
 
 
 # ---- Lives

@@ -7,9 +7,9 @@ from fuzzing.records import column, filled, order_of_writes, row, write
 
 # What is changed, some of it oftener.
 PARTS = (
-    header, magic, length, mark, order_of_bodies, order_of_bodies, void, void, void, order_of_entries, order_of_entries,
-    entry, entry, order_of_writes, write, write, *[column] * 8, *[row] * 20,
-    *[entry_at_edge] * 8, *[body_at_edge] * 4, filled, filled, added,
+    header, magic, length, mark, order_of_bodies, order_of_bodies, void, void, order_of_entries, order_of_entries,
+    entry, order_of_writes, write, write, filled, filled, added, *[column] * 6, *[row] * 14, *[entry_at_edge] * 14,
+    *[body_at_edge] * 6,
 )
 
 
@@ -60,7 +60,8 @@ def files_exchanged(draws, files, others):
 def damaged(draws, files, others):
     """Log files with random damage, or none; None stands for one that isn't there. `others` are of other databases."""
     files = list(files)
-    one, kind = draws.randrange(len(files)), draws.random()
+    # Of two, the longer one: some loggers have no terminal.
+    one, kind = max((draws.randrange(len(files)) for _ in range(2)), key=lambda at: len(files[at])), draws.random()
     if kind < 0.04:
         return files
     if kind < 0.1:
