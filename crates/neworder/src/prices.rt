@@ -31,7 +31,7 @@ pub(crate) enum Pricing {
 }
 
 /// OL_AMOUNT of each line: the item's price times the quantity. ITEM never changes, so the population's rows are those
-/// of any later tables. No cell is read. Costs a look-up a line, and memory for the amounts.
+/// of any later tables. No cell is read. Takes memory for the amounts.
 pub(crate) fn price_lines(
     alloc: Global,
     population: &Population,
@@ -65,8 +65,8 @@ fn price_line(population: &Population, line: &RequestedLine) -> Option<Cents>
     ensures there { IfSome result (λ _. is_some (get (initial population.now).items line.now.item) ≡ true) }
     ensures missing { IfNone result (is_some (get (initial population.now).items line.now.item) ≡ false) }
 {
-    let item = population.tables().items.get(&line.item)?;
-    Some(times(line.quantity, item.price))
+    let price = population.price(line.item)?;
+    Some(times(line.quantity, price))
 }
 
 /// So many items at this price.

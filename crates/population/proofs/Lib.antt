@@ -1,2 +1,3 @@
 mod NameIndexMade
 mod NameRange
+mod Listed

@@ -3,6 +3,7 @@
 
 mod name_index;
 mod population;
+mod prices;
 
 pub use population::Population;
 pub use population_draws::nurand;

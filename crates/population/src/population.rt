@@ -4,6 +4,7 @@ ghost use Rattle.std.specs.Prelude.{◌≡◌};
 ghost use Rattle.std.proofs.Props.{props};
 ghost use Rattle.tables.specs.Names.{names as names_of};
 ghost use Rattle.population.specs.Unique.{line_order-prop};
+ghost use Rattle.population.specs.Prices.{prices_of};
 ghost use Rattle.tables.specs.Conditions.{IsConsistent};
 ghost use Rattle.tables.specs.Database.{database};
 ghost use Rattle.tables.specs.WellFormed.{IsWellFormed, HasRoom};
@@ -11,22 +12,25 @@ ghost use Rattle.tables.specs.Reach.{IsInReach};
 ghost use Rattle.tables.specs.declared.limits.TheConstants.{MAX_COMMITS};
 
 use crate::name_index::NameIndex;
-use money::Refusal;
+use crate::prices::prices;
+use money::{Cents, Refusal};
 use population_tables::{plain_tables, seeded_tables};
 use std::alloc::{AllocError, Global};
-use tables::{DistrictKey, Scale, Tables, Who};
+use tables::{DistrictKey, Scale, Tables, Who, is_between};
 
-/// The rows that a database begins with, and its customers by name. Its type keeps that the rows are well-formed and
-/// consistent, have room for 600,000 commits, and are in reach of none.
+/// The rows that a database begins with, its customers by name and its prices by item. Its type keeps that the rows are
+/// well-formed and consistent, have room for 600,000 commits, and are in reach of none.
 #[derive(Debug, Drop)]
 pub struct Population {
     tables: Tables,
     names: NameIndex,
+    prices: Vec<Option<Cents>>,
     seed: u64,
     pub ghost room: { HasRoom MAX_COMMITS (database tables) } by { Prim.hlevel props },
     pub ghost reach: { IsInReach 0 (database tables) } by { Prim.hlevel props },
     pub ghost well_formed: { IsWellFormed (database tables) } by { Prim.hlevel (props, line_order-prop) },
     pub ghost named: { names ≡ names_of (database tables).customers } by { Prim.hlevel props },
+    pub ghost priced: { prices.items ≡ prices_of (database tables) } by { Prim.hlevel props },
     pub ghost consistent: { IsConsistent (database tables) } by { Prim.hlevel props },
 }
 
@@ -36,6 +40,7 @@ impl Population {
     ghost use Rattle.population_tables.specs.Plain.{IsPlain};
     ghost use Rattle.population_tables.specs.First.{IsSeeded};
     ghost use Rattle.population.specs.Initial.{initial, seed_of};
+    ghost use Rattle.population.specs.Prices.{price_of};
     ghost use Rattle.tables.specs.Customer.{IsWho, customer_number};
 
     /// The plain population of a scale, in which no column is drawn. Its seed is 0.
@@ -81,9 +86,11 @@ impl Population {
         ensures seed { IfOk result (λ population. seed_of population ≡ seed) }
     {
         let names = NameIndex::new(alloc, &tables.customers)?;
+        let prices = prices(alloc, &tables)?;
         Ok(Population {
             tables,
             names,
+            prices,
             seed,
         })
     }
@@ -112,6 +119,16 @@ impl Population {
             Who::Id(customer) => customer,
             Who::Last(number) => self.names.customer(district, number).unwrap_or(0),
         }
+    }
+
+    /// I_PRICE of an item, or None exactly where it isn't in ITEM.
+    pub fn price(&self, item: u32) -> Option<Cents>
+        ensures { result ≡ price_of (initial self.now) item }
+    {
+        if !is_between(1, self.scale().items(), item) {
+            return None;
+        }
+        self.prices[(item - 1) as usize]
     }
 
     /// The tables.

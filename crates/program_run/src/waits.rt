@@ -94,7 +94,10 @@ impl Waits {
     pub(crate) fn text(&self, alloc: Global) -> Result<String, AllocError> {
         let noted = self.noted();
         let mean = self.mean(noted);
-        let (half, most) = (self.within(noted - noted / 2), self.within(noted - noted / 100));
+        let (half, most) = (
+            self.within(noted - noted / 2),
+            self.within(noted - noted / 100),
+        );
         let mut text = format!(in alloc;
             "acknowledged after {mean} ms, half within {half} ms, 99 of 100 within {most} ms; "
         )?;

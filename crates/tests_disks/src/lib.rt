@@ -5,4 +5,4 @@ mod failing;
 mod stopping;
 
 pub use failing::{FailingDisk, Fault};
-pub use stopping::{ALL_TORN, Torn, left_by};
+pub use stopping::{ALL_TORN, Torn, leave, left_by};

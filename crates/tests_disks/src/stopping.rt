@@ -50,12 +50,17 @@ pub fn left_by(alloc: Global, calls: &[MemoryCall], torn: Torn) -> Result<Vec<u8
     let synced = calls.len().saturating_sub(unsynced);
     let mut bytes = Vec::new(alloc);
     for (n, call) in calls.iter().enumerate() {
-        if let MemoryCall::Write { at, bytes: text } = call {
-            let torn = if n < synced { Torn::New } else { torn };
-            put(&mut bytes, *at as usize, text, torn)?;
-        }
+        leave(&mut bytes, call, if n < synced { Torn::New } else { torn })?;
     }
     Ok(bytes)
+}
+
+/// Puts a disk's next call on its bytes, torn so, if it is a write.
+pub fn leave(bytes: &mut Vec<u8>, call: &MemoryCall, torn: Torn) -> Result<(), AllocError> {
+    match call {
+        MemoryCall::Write { at, bytes: text } => put(bytes, *at as usize, text, torn),
+        MemoryCall::Sync => Ok(()),
+    }
 }
 
 fn is_sync(call: &MemoryCall) -> bool {

@@ -3,4 +3,4 @@ use Rattle.bench_run.proofs.gates.Given as goal
 
 -- each terminal so far has a gate
 abbrev pub invariant-loop : goal.invariant-loop
-invariant-loop g l = length l.gates.items ≡ l.counter
+invariant-loop l = length l.gates.items ≡ l.counter

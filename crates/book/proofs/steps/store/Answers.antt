@@ -37,8 +37,8 @@ bounds-newest-record g c =
 pub loop-record-preserved : goal.loop-record-preserved
 loop-record-preserved g c = (
   goes_on (length c.args.cells.now) c.args.entry.now.tid c.args.pen.now c.args.reader.now c.args.entry.now.writes
-    c.requires.within c.requires.larger c.loop-record.pen c.loop-record.reader (drop c.loop-record.record-index c.values-record-items.result.now) c.loop-record.invariant.0
-    (get_or c.values-record-items.result.now c.loop-record.record-index (0, None)).0 (get_or c.values-record-items.result.now c.loop-record.record-index (0, None)).1 (drop (c.loop-record.record-index + 1) c.values-record-items.result.now) (drop_more c.values-record-items.result.now c.loop-record.record-index (0, None) c.loop-record-test.true)
+      c.requires.within c.requires.larger c.loop-record.pen c.loop-record.reader (drop c.loop-record.record-index c.values-record-items.result.now) c.loop-record.invariant.0
+      (get_or c.values-record-items.result.now c.loop-record.record-index (0, None)).0 (get_or c.values-record-items.result.now c.loop-record.record-index (0, None)).1 (drop (c.loop-record.record-index + 1) c.values-record-items.result.now) (drop_more c.values-record-items.result.now c.loop-record.record-index (0, None) c.loop-record-test.true)
       (c.version-version.result.word ∷ c.version-version.result.payload) c.version-version.ensures.words
       c.store.new.pen c.learn.new.pen c.learn.new.reader (record { cells = c.store.ensures.cells; others = c.store.ensures.others; last = c.store.ensures.last })
       c.learn.ensures.pen c.learn.ensures.reader,
