@@ -6,14 +6,39 @@ from pathlib import Path
 TOP = Path(__file__).resolve().parent.parent
 
 
+# The stores that the yardstick's transactions run over, each with the header that says that its library is there.
+HEADERS = {"lmdb": "lmdb.h", "sqlite": "sqlite3.h"}
+
+
 def yardstick():
     """The yardstick, built again where a source is newer."""
-    sources, program = TOP / "yardstick", TOP / "yardstick" / "out" / "yardstick"
-    newest = max(path.stat().st_mtime for path in sources.glob("*.rs"))
+    return built(TOP / "yardstick" / "main.rs", "yardstick", [])
+
+
+def stores():
+    """The names of the stores whose libraries are there, and the program over them."""
+    names = [name for name, header in HEADERS.items() if is_there(header)]
+    if not names:
+        sys.exit(f"none of {', '.join(HEADERS.values())} is here (apt-get install liblmdb-dev libsqlite3-dev)")
+    words = [word for name in names for word in ("--cfg", name)]
+    known = f"cfg({', '.join(HEADERS)})"
+    source = TOP / "yardstick" / "stores" / "main.rs"
+    return names, built(source, "-".join(["stores", *names]), ["--check-cfg", known, *words])
+
+
+def is_there(header):
+    """Whether a header of C can be had."""
+    words = ["cc", "-fsyntax-only", "-include", header, "-x", "c", "/dev/null"]
+    return subprocess.run(words, stderr=subprocess.DEVNULL).returncode == 0
+
+
+def built(source, name, flags):
+    """The program of this name, built again where a source is newer."""
+    sources, program = TOP / "yardstick", TOP / "yardstick" / "out" / name
+    newest = max(path.stat().st_mtime for path in sources.rglob("*.rs"))
     if not program.exists() or program.stat().st_mtime < newest:
         program.parent.mkdir(exist_ok=True)
-        words = ["rustc", "-O", "--edition", "2024", "-o", program, sources / "main.rs"]
-        subprocess.run(words, check=True)
+        subprocess.run(["rustc", "-O", "--edition", "2024", *flags, "-o", program, source], check=True)
     return program
 
 
