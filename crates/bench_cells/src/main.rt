@@ -7,9 +7,7 @@ ghost use Rattle.cells.specs.Versions.{last_tid};
 ghost use Rattle.cells.specs.Records.{at};
 
 use anyhow::bail;
-use cells::{Cells, Newest, Pen, Reader};
-use money::NO_PAYLOAD;
-use std::alloc::Global;
+use cells::{Cells, FirstVersions, Pen, Reader};
 use std::rt::{Clock, Env, Files};
 use std::sync::Wait;
 use std::time::Instant;
@@ -104,19 +102,6 @@ fn resident<R: Files + AllocGlobal>(rt: &R) -> anyhow::Result<u64> {
     Ok(pages.saturating_mul(PAGE))
 }
 
-/// This many versions to begin with.
-fn firsts(alloc: Global, count: u32) -> anyhow::Result<Vec<Newest>>
-    ensures { IfOk result (λ first. length first.items ≡ count) }
-{
-    let zeros = Newest {
-        word: TidWord::POPULATED,
-        payload: NO_PAYLOAD,
-    };
-    let mut first = Vec::new(alloc);
-    first.resize(count as usize, zeros)?;
-    Ok(first)
-}
-
 /// An eighth of the TID after record 0's last one.
 fn next_turn<R: Wait>(
     rt: &R,
@@ -141,9 +126,9 @@ fn bench_of<R: Wait + Files + AllocGlobal>(rt: &R, count: u32) -> anyhow::Result
     if count == 0 || count > MAX_CELLS {
         bail!("CELLS is from 1 to {MAX_CELLS}");
     }
-    let first = firsts(rt.alloc(), count)?;
+    let first = FirstVersions::absent(rt.alloc(), count as usize)?;
     let before = resident(rt)?;
-    let (cells, mut pen, mut readers) = Cells::new(rt, rt.alloc(), &first, 1)?;
+    let (cells, mut pen, mut readers) = Cells::new(rt, rt.alloc(), first, 1)?;
     let bytes = resident(rt)?.saturating_sub(before);
     let Some(mut reader) = readers.pop() else {
         bail!("no reader");

@@ -79,8 +79,8 @@ struct Look {
 }
 
 /// The first logger's turns begin an interval apart, or at once where one takes longer; others' follow it. In between,
-/// the first looks at the run each millisecond: the sum of how many commits waited, each look's times the time until the
-/// next, is what all of them waited.
+/// the first looks at the run each millisecond: the sum of how many commits waited, each look's times the time until
+/// the next, is what all of them waited.
 #[derive(Drop)]
 pub(crate) struct Gauge<'a, C: Clock + Wait> {
     clock: &'a C,

@@ -1,10 +1,10 @@
 //! Measures runs. `bench_run memory|files WAREHOUSES TERMINALS LOGGERS INPUTS INTERVAL` runs terminals in threads
-//! beside loggers, as `tpcc run` does, at the usual mix, so many inputs a terminal and so many milliseconds between the
-//! turns of the first logger, which the others follow, on disks in memory or on the files `run-bench-L` of the folder
-//! that it runs in, which aren't to be there and are removed at the end. It prints commits a second and how long a
-//! commit waits for its acknowledgement, and in a second line how often a commit's input was tried, on average, by kind.
-//! `bench_run session WAREHOUSES TERMINALS INPUTS` commits the same inputs one after another, by one terminal without
-//! logs that has the book to itself. With no words it does nothing.
+//! beside loggers, as `tpcc run` does, at the usual mix, so many inputs a terminal and so many milliseconds between
+//! the turns of the first logger, which the others follow, on disks in memory or on the files `run-bench-L` of the
+//! folder that it runs in, which aren't to be there and are removed at the end. It prints commits a second and how
+//! long a commit waits for its acknowledgement, and in a second line how often a commit's input was tried, on average,
+//! by kind. `bench_run session WAREHOUSES TERMINALS INPUTS` commits the same inputs one after another, by one terminal
+//! without logs that has the book to itself. With no words it does nothing.
 #![tactic(auto)]
 
 ghost use Rattle.std.specs.Prelude.{◌≡◌, ◌<◌, ◌≤◌, [], length, IfOk};

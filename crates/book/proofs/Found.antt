@@ -13,7 +13,6 @@ use Rattle.tidword.specs.TidWord.{tid_of}
 use Rattle.tidword.specs.Lawful.{IsLawful, next}
 use Rattle.cells.specs.Versions.{last_tid}
 use Rattle.cells.specs.Records.{PenView, ReaderView, at}
-use Rattle.cells.specs.declared.cells.Newest.{Newest}
 use Rattle.readset.specs.Writes.{value_for}
 use Rattle.readset.specs.declared.work.Work.{Work}
 use Rattle.board.specs.Steps.{known_epoch, counted_epochs}
@@ -26,7 +25,7 @@ use Rattle.book.specs.Committing.{IsDue, IsDeclined, IsHindered}
 use Rattle.book.specs.Epochs.{found_epoch}
 use Rattle.book.specs.History.{replay, new_versions}
 use Rattle.book.specs.Keeps.{RunView, BookParts, KeepsBook}
-use Rattle.book.specs.Ready.{IsReady, AreNewest}
+use Rattle.book.specs.Ready.{IsReady}
 use Rattle.book.specs.Stamps.{last_of, greatest_tid, tid_for}
 use Rattle.book.specs.Streams.{IsSameUntaken}
 use Rattle.book.specs.declared.entry.Entry.{Entry}
@@ -64,7 +63,6 @@ kept_loaded {run} {book} kept same {epoch} later pen seat = subst (KeepsBook run
   become = kept.become;
   sound = kept.sound;
   ready = ready_loaded book.seat kept.board same later kept.ready;
-  newest = kept.newest;
   totals = kept.totals;
   shares = kept.shares;
   lasts = kept.lasts;
@@ -166,8 +164,8 @@ module _ {run : RunView} {book : BookParts} {reader : ReaderView} {work : Work} 
 
   -- the totals may follow what it writes
   pub follows : run.past + length book.history < run.first.scale.commits
-      → MayFollow (replay run.first book.history) work.input work.reply book.totals book.newest work.writes
-  follows below = may_follow f.kept.sound f.ready f.kept.newest f.kept.totals f.is_work f.latest f.ordered below
+      → MayFollow (replay run.first book.history) work.input work.reply book.totals book.pen work.writes
+  follows below = may_follow f.kept.sound f.ready f.kept.totals f.is_work f.latest f.ordered below
 
   -- room is made in the terminal's stream
   pub kept_reserved : {n : ℕ} → n ≡ length book.streams → (s t : Untaken) → s ≡ slice_index_or book.streams (terminal % n) s → IsSameUntaken s t
@@ -185,7 +183,6 @@ module _ {run : RunView} {book : BookParts} {reader : ReaderView} {work : Work} 
     become = f.kept.become;
     sound = f.kept.sound;
     ready = f.ready;
-    newest = f.kept.newest;
     totals = f.kept.totals;
     shares = f.kept.shares;
     lasts = f.kept.lasts;
@@ -209,16 +206,13 @@ module _ {run : RunView} {book : BookParts} {reader : ReaderView} {work : Work} 
     -- the commit is stored, counted and put into its stream
     pub kept_committed : run.past + length book.history < run.first.scale.commits → (pen : PenView) → pen.cells ≡ book.pen.cells
         → ((n : ℕ) → at pen.all n ≡ at book.pen.all n ++ new_versions tid work.writes.values n)
-        → (newest : List Newest) → AreNewest pen newest
-        → (totals : TotalsView) → (AreHeld newest (after t work.input) → AreTotals (after t work.input) totals)
+        → (totals : TotalsView) → (AreHeld pen (after t work.input) → AreTotals (after t work.input) totals)
         → {n : ℕ} → n ≡ length book.streams → (s u : Untaken) → s ≡ slice_index_or book.streams (terminal % n) s
         → u.taken ≡ s.taken → u.last_taken ≡ s.last_taken → u.mark ≡ s.mark
         → map arc_value u.waiting.items ≡ map arc_value s.waiting.items ++ entry ∷ []
-        → {newest' : List Newest} {history' : List Entry} {shares' : ℕ} {seat' : SeatView} → newest' ≡ newest → history' ≡ book.history ++ entry ∷ []
-        → shares' ≡ book.shares + 1 → seat' ≡ noted (noted book.seat (LoadEpoch epoch)) (CountCommit epoch)
+        → {history' : List Entry} {shares' : ℕ} {seat' : SeatView} → history' ≡ book.history ++ entry ∷ [] → shares' ≡ book.shares + 1 → seat' ≡ noted (noted book.seat (LoadEpoch epoch)) (CountCommit epoch)
         → KeepsBook run (record book {
           pen = pen;
-          newest = newest';
           totals = totals;
           history = history';
           streams = slice_set book.streams (terminal % n) u;
@@ -226,13 +220,11 @@ module _ {run : RunView} {book : BookParts} {reader : ReaderView} {work : Work} 
           shares = shares';
           seat = seat';
         })
-    kept_committed below pen cells stores newest are totals totals_of {n} many s u is same_taken same_last same_mark waiting newest_is history_is shares_is
-        seat_is =
+    kept_committed below pen cells stores totals totals_of {n} many s u is same_taken same_last same_mark waiting history_is shares_is seat_is =
         let made = next_kept f.kept.sound f.ready f.is_work f.latest terminal f.is_read f.greatest f.last_is tid lawful taken pen below cells stores in
         let led : after t work.input ≡ replay run.first (book.history ++ entry ∷ []) = sym (replay_push run.first book.history entry) in
         subst (KeepsBook run) (λ i. record book {
           pen = pen;
-          newest = sym newest_is i;
           totals = totals;
           history = sym history_is i;
           streams = slice_set book.streams (terminal % n) u;
@@ -246,9 +238,8 @@ module _ {run : RunView} {book : BookParts} {reader : ReaderView} {work : Work} 
           become = f.kept.become;
           sound = subst (IsSound run.past run.first pen (book.history ++ entry ∷ [])) led made.0;
           ready = subst (IsReady run.past run.first run.cells epoch pen (book.history ++ entry ∷ [])) led made.1;
-          newest = are;
           totals = subst (λ d. AreTotals d totals) led
-              (totals_of (held_there made.0 are made.1.of_population.scale (ap length made.1.cells ∙ made.1.count)));
+              (totals_of (held_there made.0 made.1.of_population.scale));
           shares = ap (λ m. m + 1) f.kept.shares ∙ sym (length-append book.history (entry ∷ []));
           lasts = lasts_next run.parts book.history book.lasts entry f.kept.lasts (subst (λ m. terminal < m) (sym f.kept.lasts.count) f.own);
           board = f.kept.board;

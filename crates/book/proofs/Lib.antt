@@ -1,6 +1,5 @@
 pub mod RunNames
 mod Checks
-mod Newest
 mod Held
 mod Stores
 pub mod Stamped

@@ -3,26 +3,21 @@ use Rattle.std.proofs.Common.{◌≡◌, ℕ, ◌+◌, ◌-◌, ◌<◌, ◌≤�
 use Rattle.std.proofs.lemmas.List.Elements.{All-nil}
 use Rattle.std.proofs.lemmas.List.{length-replicate, get_or-replicate}
 use Rattle.std.specs.Prelude.{slice_index}
-use Rattle.atomic_table.specs.Seated.{TableId}
 use Rattle.tables.specs.Database.{Database}
 use Rattle.tables.specs.Rows.{rows}
 use Rattle.tables.specs.Conditions.{IsConsistent}
 use Rattle.tables.specs.WellFormed.{IsWellFormed, HasRoom}
 use Rattle.tables.specs.declared.limits.TheConstants.{MAX_COMMITS}
-use Rattle.cells.specs.First.{first_version, firsts}
+use Rattle.cells.specs.First.{first_version}
 use Rattle.cells.specs.Versions.{tid, last_tid, value_in}
-use Rattle.cells.specs.Records.{PenView, at}
-use Rattle.cells.specs.declared.cells.Newest.{Newest}
-use Rattle.encoding.specs.Newest.{words_at, AreFirst}
+use Rattle.cells.specs.Records.{at}
 use Rattle.tables_laws.proofs.NamesKept.{IsOf-itself}
 use Rattle.book.specs.Book.{IsSound}
-use Rattle.book.specs.Ready.{IsTidWithin, IsPassed, IsFree, IsReady, AreLast, AreNewest}
-use Rattle.encoding.proofs.Positions.{at_first}
+use Rattle.book.specs.Ready.{IsTidWithin, IsPassed, IsFree, IsReady, AreLast}
+use Rattle.book.specs.Parts.{AreUnwritten}
+use Rattle.book.specs.declared.parts.Records.{Records}
+use Rattle.encoding.proofs.Positions.{first_value}
 use Rattle.book.proofs.Sound.{last_one}
-
-pub first_value : (w : Option (List ℕ)) → value_in (first_version w) ≡ w
-first_value (Some words) = refl
-first_value None = refl
 
 first_free : (w : Option (List ℕ)) → IsFree (slice_index (first_version w) 0)
 first_free (Some words) = record { unlocked = refl; latest = refl }
@@ -46,44 +41,32 @@ first_lasts {count = count} none all = record {
       (get_or-replicate count terminal 0 _ (subst (λ n. terminal < n) (ap length none ∙ length-replicate count 0) h));
 }
 
-module _ {t0 : Database} {run_cells : List TableId} {pen : PenView} {newest : List Newest} (are : AreFirst t0 newest) (count : length run_cells ≡ length newest)
-    (fresh : pen ≡ record { cells = run_cells; all = firsts newest })
-  where
-    only : (n : ℕ) → n < length newest → at pen.all n ≡ words_at newest n ∷ []
-    only n h = ap (λ (w : PenView). at w.all n) fresh ∙ at_first newest n h
+module _ {t0 : Database} {made : Records} {terminals : ℕ} (are : AreUnwritten t0 terminals made) where
+  first : (n : ℕ) → n < length made.cells → at made.pen.all n ≡ first_version (rows t0 n) ∷ []
+  first n h = are.versions n (subst (λ m. n < m) are.count h)
 
-    first : (n : ℕ) → n < length run_cells → at pen.all n ≡ first_version (rows t0 n) ∷ []
-    first n h = only n (subst (λ m. n < m) count h) ∙ ap (λ w. w ∷ []) (are.words n (subst (λ m. n < m) (count ∙ are.count) h))
+  pub first_sound : (past : ℕ) → IsWellFormed t0 → IsConsistent t0 → IsSound past t0 made.pen [] t0
+  first_sound past well_formed consistent = record {
+    legal = record { replays = tt; end = refl };
+    stamped = tt;
+    well_formed = well_formed;
+    consistent = consistent;
+    versions = are.versions;
+    latest = λ n h v e. ap value_in (last_one e.0 [] v (first_version (rows t0 n)) (sym e.1 ∙ are.versions n h)) ∙ first_value (rows t0 n);
+  }
 
-    pub first_newest : AreNewest pen newest
-    first_newest = record {
-      count = sym count ∙ ap (λ (w : PenView). length w.cells) (sym fresh);
-      last = λ n h. ([], only n h);
-    }
-
-    pub first_sound : (past : ℕ) → IsWellFormed t0 → IsConsistent t0 → IsSound past t0 pen [] t0
-    first_sound past well_formed consistent = record {
-      legal = record { replays = tt; end = refl };
-      stamped = tt;
-      well_formed = well_formed;
-      consistent = consistent;
-      versions = λ n h. first n (subst (λ m. n < m) (sym (count ∙ are.count)) h);
-      latest = λ n h v e. ap value_in (last_one e.0 [] v (first_version (rows t0 n)) (sym e.1 ∙ first n (subst (λ m. n < m) (sym (count ∙ are.count)) h)))
-          ∙ first_value (rows t0 n);
-    }
-
-    pub first_ready : (past epoch : ℕ) → HasRoom (MAX_COMMITS - past) t0 → past ≤ t0.scale.commits → t0.scale.commits ≤ MAX_COMMITS
-        → IsReady past t0 run_cells epoch pen [] t0
-    first_ready past epoch room cap few = record {
-      of_population = IsOf-itself t0;
-      cells = ap (λ (w : PenView). w.cells) fresh;
-      count = count ∙ are.count;
-      passed = All-nil (IsPassed epoch pen []);
-      records = λ n h. within_first epoch (last_tid (at pen.all n)) (ap last_tid (first n h) ∙ first_tid (rows t0 n));
-      terminals = λ terminal. within_first epoch 0 refl;
-      free = λ n h v e. subst (λ (u : List ℕ). IsFree (slice_index u 0)) (sym (last_one e.0 [] v (first_version (rows t0 n)) (sym e.1 ∙ first n h)))
-          (first_free (rows t0 n));
-      cap = omega (arith, cap);
-      few = few;
-      room = subst (λ n. HasRoom (MAX_COMMITS - n) t0) (none past) room;
-    }
+  pub first_ready : (past epoch : ℕ) → HasRoom (MAX_COMMITS - past) t0 → past ≤ t0.scale.commits → t0.scale.commits ≤ MAX_COMMITS
+      → IsReady past t0 made.cells epoch made.pen [] t0
+  first_ready past epoch room cap few = record {
+    of_population = IsOf-itself t0;
+    cells = are.cells;
+    count = are.count;
+    passed = All-nil (IsPassed epoch made.pen []);
+    records = λ n h. within_first epoch (last_tid (at made.pen.all n)) (ap last_tid (first n h) ∙ first_tid (rows t0 n));
+    terminals = λ terminal. within_first epoch 0 refl;
+    free = λ n h v e. subst (λ (u : List ℕ). IsFree (slice_index u 0)) (sym (last_one e.0 [] v (first_version (rows t0 n)) (sym e.1 ∙ first n h)))
+        (first_free (rows t0 n));
+    cap = omega (arith, cap);
+    few = few;
+    room = subst (λ n. HasRoom (MAX_COMMITS - n) t0) (none past) room;
+  }

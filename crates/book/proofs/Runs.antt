@@ -27,9 +27,7 @@ use Rattle.commit.proofs.OwnEvents.{section_own, full_section_own, stale_section
 use Rattle.commit.proofs.Current.{current_or_stale, next_of_reads}
 use Rattle.atomic_table.specs.Seated.{TableId}
 use Rattle.tables.specs.Database.{Database}
-use Rattle.tables.specs.Rows.{rows}
-use Rattle.cells.specs.First.{first_version}
-use Rattle.cells.specs.Versions.{EndsWith, last_tid, value_in}
+use Rattle.cells.specs.Versions.{EndsWith, last_tid, value_in, newest as newest_of}
 use Rattle.cells.specs.Records.{PenView, ReaderView, at, words_of}
 use Rattle.cells.specs.declared.cells.Version.{Version}
 use Rattle.cells.proofs.Rising.{last_tid-last}
@@ -37,11 +35,12 @@ use Rattle.readset.specs.Reads.{ReadSetView, held}
 use Rattle.readset.specs.Writes.{value_for}
 use Rattle.readset.specs.declared.work.Work.{Work}
 use Rattle.readset.proofs.Numbers.{same_test, other_test, same_number as same_key}
-use Rattle.book.specs.History.{committed_version, new_versions, later_versions}
+use Rattle.book.specs.History.{committed_version, new_versions}
 use Rattle.book.specs.Stamps.{last_of, greatest_tid, tid_for}
 use Rattle.book.specs.Book.{BookView, IsSound, IsWorkOf, AreInRecordOrder, AreLatest, HasConflict}
 use Rattle.book.specs.Ready.{IsReady, IsFree}
 use Rattle.book.specs.Shows.{reads_of, Mirrors, IsCommitRun, IsFullRun, IsStaleRun}
+use Rattle.book.proofs.Held.{has_newest}
 use Rattle.book.proofs.Sound.{value_in_version, last_one}
 use Rattle.book.proofs.Taken.{whole}
 
@@ -82,11 +81,6 @@ greatest_bits (read ∷ reads) = max_is (λ n. n % 8 ≡ 0) (tid_of read.1.word)
     no_bits : (word : ℕ) → tid_of word % 8 ≡ 0
     no_bits word = omega arith
 
--- of some versions, one is the last
-last_version : (v : List ℕ) (vs : List (List ℕ)) → (last : List ℕ) × EndsWith (v ∷ vs) last
-last_version v [] = (v, ([], refl))
-last_version v (w ∷ vs) = let it = last_version w vs in (it.0, (v ∷ it.1.0, ap (λ (l : List (List ℕ)). v ∷ l) it.1.1))
-
 -- a version as a record of the machine
 abbrev cell_of : List ℕ → Cell
 cell_of v = record { word = slice_index v 0; value = value_in v }
@@ -122,9 +116,7 @@ module _ {past : ℕ} {t0 : Database} {run_cells : List TableId} {epoch : ℕ} (
 
   -- each record has a newest version, which the machine shows
   newest : (n : ℕ) → n < length run_cells → (v : List ℕ) × EndsWith (at k.written.all n) v
-  newest n h =
-      let it = last_version (first_version (rows t0 n)) (later_versions k.history n) in
-      (it.0, subst (λ (l : List (List ℕ)). EndsWith l it.0) (sym (sound.versions n (subst (λ m. n < m) ready.count h))) it.1)
+  newest n h = (newest_of (at k.written.all n), has_newest sound n (subst (λ m. n < m) ready.count h))
 
   shown : (n : ℕ) → n < length run_cells → (v : List ℕ) → EndsWith (at k.written.all n) v → cell m n ≡ cell_of v
   shown n h = shows.records.newest n (subst (λ (l : List TableId). n < length l) (sym ready.cells) h)

@@ -8,23 +8,13 @@ use Rattle.std.proofs.lemmas.List.FromFn.{get_or-map-range_with_len, length-map-
 use Rattle.commit.specs.Machine.{Machine, Worker, idle_worker, note_at, worker}
 use Rattle.commit.specs.declared.worker.Cell.{Cell}
 use Rattle.commit.specs.declared.worker.Phase.TheVariants.{Begun}
-use Rattle.cells.specs.Versions.{value_in}
+use Rattle.cells.specs.Versions.{newest, value_in}
 use Rattle.cells.specs.Records.{at}
+use Rattle.cells.proofs.Rising.{newest-push}
 use Rattle.readset.specs.Reads.{ReadSetView}
 use Rattle.book.specs.Stamps.{last_of}
 use Rattle.book.specs.Book.{BookView}
 use Rattle.book.specs.Shows.{reads_of, Mirrors}
-
--- the last of some versions
-abbrev newest_of : List (List ℕ) → List ℕ
-newest_of [] = []
-newest_of (v ∷ []) = v
-newest_of (v ∷ w ∷ vs) = newest_of (w ∷ vs)
-
-newest_push : (front : List (List ℕ)) (v : List ℕ) → newest_of (front ++ v ∷ []) ≡ v
-newest_push [] v = refl
-newest_push (w ∷ []) v = refl
-newest_push (w ∷ x ∷ front) v = newest_push (x ∷ front) v
 
 abbrev cell_of : List ℕ → Cell
 cell_of v = record { word = slice_index v 0; value = value_in v }
@@ -37,7 +27,7 @@ module _ (k : BookView) (terminal epoch : ℕ) (read : ReadSetView) (w : ℕ) wh
   begun = record { phase = Begun; reads = reads_of read; validated = []; locks = []; epoch = 0; last = last_of terminal k.history }
 
   abbrev record_of : ℕ → Cell
-  record_of n = cell_of (newest_of (at k.written.all n))
+  record_of n = cell_of (newest (at k.written.all n))
 
   abbrev machine : Machine
   machine = record {
@@ -64,7 +54,7 @@ module _ (k : BookView) (terminal epoch : ℕ) (read : ReadSetView) (w : ℕ) wh
       records = record {
         count = length-map-range_with_len record_of 0 (length k.written.cells);
         newest = λ n h v e. get_or-map-range_with_len record_of 0 (length k.written.cells) n n _ h (from_zero n)
-            ∙ ap (λ (l : List (List ℕ)). cell_of (newest_of l)) e.1 ∙ ap cell_of (newest_push e.0 v);
+            ∙ ap (λ (l : List (List ℕ)). cell_of (newest l)) e.1 ∙ ap cell_of (newest-push e.0 v);
       };
       present = small;
       begun = ap (λ (x : Worker). x.phase) own;

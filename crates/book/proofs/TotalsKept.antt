@@ -11,9 +11,8 @@ use Rattle.tables.specs.declared.limits.TheConstants.{MAX_COMMITS}
 use Rattle.tables.specs.declared.input.Input.{Input}
 use Rattle.tables.specs.declared.reply.Reply.{Reply}
 use Rattle.cells.specs.Records.{PenView, ReaderView}
-use Rattle.cells.specs.Versions.{value_in}
-use Rattle.cells.specs.declared.cells.Newest.{Newest}
-use Rattle.encoding.specs.Newest.{words_at, AreFirst}
+use Rattle.cells.specs.Versions.{newest, value_in}
+use Rattle.encoding.proofs.Positions.{first_value}
 use Rattle.tables_laws.proofs.Kept.{after-scale, after-IsWellFormed}
 use Rattle.readset.specs.Writes.{WriteSetView}
 use Rattle.readset.specs.declared.work.Work.{Work}
@@ -24,32 +23,32 @@ use Rattle.totals.specs.Written.{AreWrites}
 use Rattle.totals.specs.Counts.{AreHeld, AreRecords, MayFollow}
 use Rattle.book.specs.Book.{IsSound, IsWorkOf, AreInRecordOrder, AreLatest}
 use Rattle.book.specs.History.{CommitsAt}
-use Rattle.book.specs.Ready.{AreNewest, IsReady}
+use Rattle.book.specs.Parts.{AreUnwritten}
+use Rattle.book.specs.Ready.{IsReady}
+use Rattle.book.specs.declared.parts.Records.{Records}
 use Rattle.book.specs.declared.entry.Entry.{Entry}
-use Rattle.book.proofs.Opened.{first_value}
+use Rattle.book.proofs.Held.{value_held}
 use Rattle.book.proofs.Sound.{done_there}
 
 -- what the newest versions of a sound book hold
-pub held_there : {past : ℕ} {t0 : Database} {pen : PenView} {history : List Entry} {t : Database} {newest : List Newest}
-    → IsSound past t0 pen history t → AreNewest pen newest → t.scale ≡ t0.scale → length pen.cells ≡ record_count t0.scale → AreHeld newest t
-held_there {t0 = t0} {newest = newest} sound are scale count n below =
-    let here : n < record_count t0.scale = subst (λ s. n < record_count s) scale below in
-    sound.latest n here (words_at newest n) (are.last n (subst (λ m. n < m) (sym (are.count ∙ count)) here))
+pub held_there : {past : ℕ} {t0 : Database} {pen : PenView} {history : List Entry} {t : Database} → IsSound past t0 pen history t → t.scale ≡ t0.scale
+    → AreHeld pen t
+held_there sound scale n below = value_held sound n (subst (λ s. n < record_count s) scale below)
 
-pub records_there : {past : ℕ} {t0 : Database} {pen : PenView} {history : List Entry} {t : Database} {newest : List Newest}
-    → IsSound past t0 pen history t → AreNewest pen newest → t.scale ≡ t0.scale → length pen.cells ≡ record_count t0.scale → AreRecords newest t
-records_there sound are scale count = record {
-  count = are.count ∙ count ∙ ap record_count (sym scale);
-  held = held_there sound are scale count;
+pub records_there : {past : ℕ} {t0 : Database} {pen : PenView} {history : List Entry} {t : Database} → IsSound past t0 pen history t → t.scale ≡ t0.scale
+    → length pen.cells ≡ record_count t0.scale → AreRecords pen t
+records_there sound scale count = record {
+  count = count ∙ ap record_count (sym scale);
+  held = held_there sound scale;
   well_formed = sound.well_formed;
   consistent = sound.consistent;
 }
 
--- those of a population
-pub first_records : (t0 : Database) (newest : List Newest) → AreFirst t0 newest → IsWellFormed t0 → IsConsistent t0 → AreRecords newest t0
-first_records t0 newest are well_formed consistent = record {
-  count = are.count;
-  held = λ n below. ap value_in (are.words n below) ∙ first_value (rows t0 n);
+-- those of tables that a run begins with
+pub first_records : (t0 : Database) (made : Records) (terminals : ℕ) → AreUnwritten t0 terminals made → IsWellFormed t0 → IsConsistent t0 → AreRecords made.pen t0
+first_records t0 made terminals are well_formed consistent = record {
+  count = ap length are.cells ∙ are.count;
+  held = λ n below. ap (λ (l : List (List ℕ)). value_in (newest l)) (are.versions n below) ∙ first_value (rows t0 n);
   well_formed = well_formed;
   consistent = consistent;
 }
@@ -65,10 +64,10 @@ writes_there t0 t cells reader work is_work count scale ordered = record {
 }
 
 -- totals that have followed a commit's writes, and then its stores
-pub totals_after : (t : Database) (x : Input) (reply : Reply) (v v' : TotalsView) (newest : List Newest) (writes : WriteSetView) → MayFollow t x reply v newest writes
+pub totals_after : (t : Database) (x : Input) (reply : Reply) (v v' : TotalsView) (pen : PenView) (writes : WriteSetView) → MayFollow t x reply v pen writes
     → v'.sums.scale ≡ v.sums.scale → v'.bounds.scale ≡ v.bounds.scale → AreSums (after t x).scale (after t x) v'.sums
     → AreBounds (after t x).scale (after t x) v'.bounds → AreTotals (after t x) v'
-totals_after t x reply v v' newest writes may sums_scale bounds_scale sums bounds = record {
+totals_after t x reply v v' pen writes may sums_scale bounds_scale sums bounds = record {
   sums_scale = sums_scale ∙ may.totals.sums_scale ∙ sym (after-scale t x);
   bounds_scale = bounds_scale ∙ may.totals.bounds_scale ∙ sym (after-scale t x);
   sums = sums;
@@ -84,16 +83,15 @@ module _ {past : ℕ} {t0 : Database} {run_cells : List TableId} {epoch : ℕ} {
   rest : (n cap : ℕ) → n < cap → cap ≤ MAX_COMMITS → MAX_COMMITS - n ≡ MAX_COMMITS - (n + 1) + 1
   rest n cap h few = omega (arith, h, few)
 
-  pub may_follow : {newest : List Newest} → AreNewest written newest → {v : TotalsView} → AreTotals t v → {reader : ReaderView} {work : Work}
-      → IsWorkOf t0 (length run_cells) reader work → AreLatest written.all work.reads → AreInRecordOrder work.reads work.writes
-      → past + length history < t0.scale.commits → MayFollow t work.input work.reply v newest work.writes
-  may_follow are totals {reader = reader} {work = work} is_work latest ordered below =
+  pub may_follow : {v : TotalsView} → AreTotals t v → {reader : ReaderView} {work : Work} → IsWorkOf t0 (length run_cells) reader work → AreLatest written.all work.reads → AreInRecordOrder work.reads work.writes
+      → past + length history < t0.scale.commits → MayFollow t work.input work.reply v written work.writes
+  may_follow totals {reader = reader} {work = work} is_work latest ordered below =
       let done : CommitsAt t work.input work.writes work.reply = subst (λ s. CommitsAt s work.input work.writes work.reply) sound.legal.end
       (done_there sound ready is_work latest) in
       let room = subst (λ n. HasRoom n t) (rest (past + length history) t0.scale.commits below ready.few) ready.room in
       record {
         totals = totals;
-        records = records_there sound are ready.of_population.scale (ap length ready.cells ∙ ready.count);
+        records = records_there sound ready.of_population.scale (ap length ready.cells ∙ ready.count);
         input = done.input;
         commit = done.commit;
         ordered = writes_there t0 t (length run_cells) reader work is_work ready.count ready.of_population.scale ordered;

@@ -7,8 +7,6 @@ use Rattle.tables.specs.Reach.{IsInReach}
 use Rattle.tables.specs.WellFormed.{IsWellFormed, HasRoom}
 use Rattle.tables.specs.declared.limits.TheConstants.{MAX_COMMITS}
 use Rattle.tables.specs.declared.rows.History.{History}
-use Rattle.cells.specs.declared.cells.Newest.{Newest}
-use Rattle.encoding.specs.Newest.{AreFirst}
 use Rattle.totals.specs.Totals.{TotalsView, AreTotals}
 
 -- tables that a population may have become, with these rows behind its own in HISTORY
@@ -25,11 +23,9 @@ pub record MayBegin (population first : Database) (rows : List History) (past : 
   pub room : HasRoom (MAX_COMMITS - past) first
   pub cap : past ≤ first.scale.commits
 
--- it may, and these are the first versions of their records, and their totals
-pub record IsStart (population first : Database) (rows : List History) (past : ℕ) (records : List Newest)
-    (sums : TotalsView) : Type 0 where
+-- it may, and these are their totals
+pub record IsStart (population first : Database) (rows : List History) (past : ℕ) (sums : TotalsView) : Type 0 where
   pub tables : MayBegin population first rows past
-  pub newest : AreFirst first records
   pub totals : AreTotals first sums
 
 -- well-formed and consistent tables in reach of so many commits, and so with room for the rest of the largest cap

@@ -7,7 +7,6 @@ use Rattle.tables.specs.Constant.{IsOf}
 use Rattle.tables.specs.Records.{record_count}
 use Rattle.tables.specs.declared.rows.History.{History}
 use Rattle.cells.specs.Records.{PenView, ReaderView}
-use Rattle.cells.specs.declared.cells.Newest.{Newest}
 use Rattle.board.specs.Seats.{BoardView, SeatView, new_seat}
 use Rattle.board.specs.declared.rule.Role.TheVariants.{Terminal}
 use Rattle.totals.specs.Totals.{TotalsView, AreTotals}
@@ -16,7 +15,7 @@ use Rattle.book.specs.Book.{IsSound}
 use Rattle.book.specs.Epochs.{HasCounted, found_epoch}
 use Rattle.book.specs.History.{replay}
 use Rattle.book.specs.Loggable.{AreLoggable}
-use Rattle.book.specs.Ready.{IsReady, AreLast, AreNewest}
+use Rattle.book.specs.Ready.{IsReady, AreLast}
 use Rattle.book.specs.Streams.{AreStreams}
 use Rattle.book.specs.declared.entry.Entry.{Entry}
 use Rattle.book.specs.declared.untaken.Untaken.{Untaken}
@@ -32,15 +31,14 @@ pub record RunView : Type 0 where
   pub parts : ℕ
 
 -- what a book has: its population and that one's seed, how many past commits there are, the HISTORY rows that they
--- added to the population's, its pen, the newest versions, the totals, the history, the streams, the terminals' last
--- TIDs, what their shares sum to, and its seat of the board
+-- added to the population's, its pen, the totals, the history, the streams, the terminals' last TIDs, what their shares
+-- sum to, and its seat of the board
 pub record BookParts : Type 0 where
   pub population : Database
   pub seed : ℕ
   pub past : ℕ
   pub rows : List History
   pub pen : PenView
-  pub newest : List Newest
   pub totals : TotalsView
   pub history : List Entry
   pub streams : List Untaken
@@ -58,7 +56,6 @@ pub record KeepsBook (run : RunView) (book : BookParts) : Type 0 where
   pub sound : IsSound run.past run.first book.pen book.history (replay run.first book.history)
   pub ready : IsReady run.past run.first run.cells (found_epoch book.seat) book.pen book.history
       (replay run.first book.history)
-  pub newest : AreNewest book.pen book.newest
   pub totals : AreTotals (replay run.first book.history) book.totals
   -- the shares sum to the history's length, and the seat has counted each commit, with its epoch
   pub shares : book.shares ≡ length book.history

@@ -1,19 +1,22 @@
 -- What an engine is opened with.
-use Rattle.std.specs.Prelude.{◌≡◌, ℕ, ◌<◌, ◌≤◌, List, [], length, replicate, All}
+use Rattle.std.specs.Prelude.{◌≡◌, ℕ, ◌<◌, ◌≤◌, List, [], ◌∷◌, length, replicate, All}
 use Rattle.std.specs.Option.{option_map_or}
 use Rattle.std.specs.Arc.{arc_value}
 use Rattle.atomic_table.specs.Seated.{TableId}
 use Rattle.tables.specs.Database.{Database, database}
+use Rattle.tables.specs.Records.{record_count}
+use Rattle.tables.specs.Rows.{rows}
 use Rattle.population.specs.Initial.{initial, seed_of}
-use Rattle.cells.specs.First.{firsts}
+use Rattle.cells.specs.First.{first_version}
 use Rattle.cells.specs.Opening.{seen_all}
+use Rattle.cells.specs.Records.{at}
 use Rattle.board.specs.Seats.{BoardView}
 use Rattle.board.specs.Opening.{Opens}
 use Rattle.book.specs.Base.{IsStart}
 use Rattle.book.specs.declared.untaken.Untaken.{Untaken}
-use Rattle.cells.specs.declared.cells.Newest.{Newest}
 use Rattle.book.specs.declared.parts.Fresh.{Fresh}
 use Rattle.book.specs.declared.parts.Parts.{Parts}
+use Rattle.book.specs.declared.parts.Records.{Records}
 use Rattle.tables.specs.declared.limits.TheConstants.{MAX_LOGGERS, MAX_TERMINALS}
 
 -- the population of a run of these parts, the tables that it begins with, which are the population's own where no
@@ -32,7 +35,7 @@ abbrev pub population_seed : Parts → ℕ
 population_seed p = seed_of (arc_value p.population)
 
 abbrev pub cells_of : Parts → List TableId
-cells_of p = p.fresh.cells
+cells_of p = p.fresh.records.cells
 
 abbrev pub board_of : Parts → BoardView
 board_of p = p.fresh.board
@@ -50,20 +53,25 @@ abbrev pub loggers_of : Parts → ℕ
 loggers_of p = p.fresh.board.plan.loggers
 
 abbrev pub terminals_of : Parts → ℕ
-terminals_of p = length p.fresh.readers.items
+terminals_of p = length p.fresh.records.readers.items
 
 -- these are the streams of so many loggers, of which nothing was taken and nothing waits, at this mark
 pub record AreEmpty (loggers mark : ℕ) (streams : List Untaken) : Type 0 where
   pub count : length streams ≡ loggers
   pub empty : All (λ s. (s.taken ≡ 0) × (s.last_taken ≡ 0) × (s.waiting.items ≡ []) × (s.mark ≡ mark)) streams
 
--- nobody has read, stepped, committed or taken anything yet: the cells have these first versions, which so many readers
--- have seen, the board is behind this epoch, the streams are empty at it, and no terminal has a TID
-pub record IsUnused (newest : List Newest) (epoch loggers terminals : ℕ) (f : Fresh) : Type 0 where
-  pub count : length f.cells ≡ length newest
-  pub pen : f.pen ≡ record { cells = f.cells; all = firsts newest }
-  pub readers : All (λ reader. reader ≡ seen_all f.pen) f.readers.items
-  pub as_many : length f.readers.items ≡ terminals
+-- each record of tables has a cell, whose only version is the one that it begins with, which a reader a terminal has seen
+pub record AreUnwritten (first : Database) (terminals : ℕ) (r : Records) : Type 0 where
+  pub cells : r.pen.cells ≡ r.cells
+  pub count : length r.cells ≡ record_count first.scale
+  pub versions : (n : ℕ) → n < record_count first.scale → at r.pen.all n ≡ first_version (rows first n) ∷ []
+  pub readers : All (λ reader. reader ≡ seen_all r.pen) r.readers.items
+  pub as_many : length r.readers.items ≡ terminals
+
+-- nobody has read, stepped, committed or taken anything yet: the records of these tables have one version, the board is
+-- behind this epoch, the streams are empty at it, and no terminal has a TID
+pub record IsUnused (first : Database) (epoch loggers terminals : ℕ) (f : Fresh) : Type 0 where
+  pub records : AreUnwritten first terminals f.records
   pub board : Opens (record { loggers = loggers; base = epoch }) terminals f.board f.seats
   pub streams : AreEmpty loggers epoch f.streams.items
   pub lasts : f.lasts.items ≡ replicate terminals 0
@@ -72,9 +80,9 @@ pub record IsUnused (newest : List Newest) (epoch loggers terminals : ℕ) (f : 
 -- have the population have the same
 pub record IsFresh (p : Parts) : Type 0 where
   pub lent : arc_value p.lent ≡ arc_value p.population
-  pub start : IsStart (population_of p) (first_of p) p.begun.rows.items p.begun.past p.begun.newest.items p.begun.totals
+  pub start : IsStart (population_of p) (first_of p) p.begun.rows.items p.begun.past p.begun.totals
   pub history : p.history.items ≡ []
-  pub unused : IsUnused p.begun.newest.items (base_of p) (loggers_of p) (terminals_of p) p.fresh
+  pub unused : IsUnused (first_of p) (base_of p) (loggers_of p) (terminals_of p) p.fresh
   pub parts : ledger_parts p ≡ terminals_of p
   pub some : 0 < terminals_of p
   pub few : terminals_of p ≤ MAX_TERMINALS

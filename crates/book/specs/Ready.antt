@@ -9,8 +9,6 @@ use Rattle.tables.specs.declared.limits.TheConstants.{MAX_COMMITS}
 use Rattle.tables.specs.Records.{record_count}
 use Rattle.tidword.specs.TidWord.{is_locked, is_latest, epoch_of}
 use Rattle.cells.specs.Versions.{EndsWith, last_tid, word_in}
-use Rattle.cells.specs.declared.cells.Newest.{Newest}
-use Rattle.encoding.specs.Newest.{words_at}
 use Rattle.cells.specs.Records.{PenView, at}
 use Rattle.readset.specs.Writes.{value_for}
 use Rattle.book.specs.Stamps.{last_of}
@@ -57,8 +55,3 @@ pub record IsReady (past : ℕ) (t0 : Database) (run_cells : List TableId) (epoc
 pub record AreLast (terminals : ℕ) (history : List Entry) (lasts : List ℕ) : Type 0 where
   pub count : length lasts ≡ terminals
   pub last : (terminal : ℕ) → terminal < length lasts → slice_index lasts terminal ≡ last_of terminal history
-
--- these are the newest versions of all records
-pub record AreNewest (pen : PenView) (newest : List Newest) : Type 0 where
-  pub count : length newest ≡ length pen.cells
-  pub last : (n : ℕ) → n < length newest → EndsWith (at pen.all n) (words_at newest n)

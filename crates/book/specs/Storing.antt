@@ -8,11 +8,9 @@ use Rattle.tidword.specs.TidWord.{tid_of}
 use Rattle.tidword.specs.Lawful.{IsLawful, next}
 use Rattle.cells.specs.Versions.{last_tid}
 use Rattle.cells.specs.Records.{PenView, ReaderView, HasGrown, at}
-use Rattle.cells.specs.declared.cells.Newest.{Newest}
 use Rattle.readset.specs.Writes.{WriteSetView, value_for}
 use Rattle.book.specs.Book.{HasSeen}
 use Rattle.book.specs.History.{new_versions}
-use Rattle.book.specs.Ready.{AreNewest}
 use Rattle.book.specs.declared.entry.Entry.{Entry}
 use Rattle.book.specs.declared.prepare.Place.{Place}
 use Rattle.book.specs.declared.prepare.Prepared.{Prepared}
@@ -36,21 +34,17 @@ pub record IsPrepared (place : Place) (count : ℕ) (input : Input) (reply : Rep
   pub done : made.done ≡ record { number = place.past + count + 1; tid = made.tid; reply = reply }
 
 -- an entry's writes may be stored: pen and reader are of these cells, what is written has a cell, and the TID has no
--- status bits and is larger than the last one of each record written; these are the newest versions
-pub record MayStore (cells : List TableId) (pen : PenView) (reader : ReaderView) (entry : Entry) (kept : List Newest)
-    : Type 0 where
+-- status bits and is larger than the last one of each record written
+pub record MayStore (cells : List TableId) (pen : PenView) (reader : ReaderView) (entry : Entry) : Type 0 where
   pub own : (pen.cells ≡ cells) × (reader.cells ≡ cells)
   pub within : (n : ℕ) (value : Option (List ℕ)) → value_for entry.writes n ≡ Some value → n < length cells
   pub no_bits : entry.tid % 8 ≡ 0
   pub larger : (n : ℕ) (value : Option (List ℕ)) → value_for entry.writes n ≡ Some value
       → last_tid (at pen.all n) < entry.tid
-  pub newest : AreNewest pen kept
 
--- they are stored: each record has its versions more, which the reader has seen, and these are then the newest
-pub record StoresEntry (old new : PenView) (before after : ReaderView) (entry : Entry) (kept : List Newest) : Type 0
-  where
-    pub cells : new.cells ≡ old.cells
-    pub versions : (n : ℕ) → at new.all n ≡ at old.all n ++ new_versions entry.tid entry.writes.values n
-    pub reader : HasGrown before after
-    pub seen : HasSeen after new entry.writes
-    pub newest : AreNewest new kept
+-- they are stored: each record has its versions more, which the reader has seen
+pub record StoresEntry (old new : PenView) (before after : ReaderView) (entry : Entry) : Type 0 where
+  pub cells : new.cells ≡ old.cells
+  pub versions : (n : ℕ) → at new.all n ≡ at old.all n ++ new_versions entry.tid entry.writes.values n
+  pub reader : HasGrown before after
+  pub seen : HasSeen after new entry.writes

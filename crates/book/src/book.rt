@@ -6,7 +6,7 @@ use crate::run::Run;
 use crate::share::Share;
 use crate::untaken::Untaken;
 use board::BookSeat;
-use cells::{Newest, Pen};
+use cells::{Cells, Pen};
 use conditions::Report;
 use encoding::tables_of;
 use money::{Payload, Refusal};
@@ -19,9 +19,9 @@ use tidword::TidWord;
 use totals::{DistrictTotals, Totals};
 use totals_report::report_of;
 
-/// The committed state, which stands under the engine's lock: the newest version of each record, by record number, what
-/// has committed, and the HISTORY rows that past commits added to the population's. The committed tables are what these
-/// tell, and are kept nowhere. Its type keeps `KeepsBook`: `IsSound` of what contracts see of it, that it is ready for
+/// The committed state, which stands under the engine's lock: the pen of the cells, which have the newest version of
+/// each record, what has committed, and the HISTORY rows that past commits added to the population's. The committed
+/// tables are what these tell, and are kept nowhere. Its type keeps `KeepsBook`: `IsSound` of what contracts see of it, that it is ready for
 /// the next commit, that it has each terminal's last TID, that the terminals' shares sum to the length of the history,
 /// that its seat of the board has counted each commit of the history, with its epoch, that what waits for a logger is
 /// what of its stream was not taken, each entry above the mark of the last take, that each entry may be written to a
@@ -32,7 +32,6 @@ pub struct Book<K: Run> {
     pub(crate) population: Arc<Population, Global>,
     pub(crate) past: u32,
     pub(crate) rows: Vec<History>,
-    pub(crate) newest: Vec<Newest>,
     pub(crate) totals: Totals,
     pub(crate) history: Vec<Arc<Entry, Global>>,
     pub(crate) streams: Vec<Untaken>,
@@ -74,7 +73,6 @@ impl<K: Run> Model for Book<K> {
           past = b.past;
           rows = b.rows.items;
           pen = b.pen;
-          newest = b.newest.items;
           totals = b.totals;
           history = map arc_value b.history.items;
           streams = b.streams.items;
@@ -126,37 +124,44 @@ impl<K: Run> Book<K> {
 
     /// What a record holds in the committed tables: the columns of its row that change, or an index record's number,
     /// and nothing where it is absent. Constant time, no memory.
-    pub fn record(&self, number: u32) -> Option<Payload>
-        requires { number < record_count K.first.scale }
-        ensures { result ≡ rows (replay K.first self.now.history) number }
+    pub fn record(&mut self, cells: &Cells, number: u32) -> Option<Payload>
+        requires cells { cells.now ≡ K.cells }
+        requires is_record { number < record_count K.first.scale }
+        ensures same { self.new ≡ self.old }
+        ensures held { result ≡ rows (replay K.first self.old.history) number }
     {
-        self.newest[number as usize].value()
+        cells.held(&mut self.pen, number)
     }
 
     /// The committed tables, made of their records. Costs what populating costs, a look at each record, and a pass over
     /// the history. `OutOfMemory` is the only refusal.
-    pub fn tables(&self) -> Result<Tables, Refusal>
-        ensures tables { IfOk result (λ tables. database tables ≡ replay K.first self.now.history) }
+    pub fn tables(&mut self, cells: &Cells) -> Result<Tables, Refusal>
+        requires { cells.now ≡ K.cells }
+        ensures same { self.new ≡ self.old }
+        ensures tables { IfOk result (λ tables. database tables ≡ replay K.first self.old.history) }
         ensures sound { IfOk result (λ tables.
-            IsSound K.past K.first self.now.written self.now.history (database tables)) }
+            IsSound K.past K.first self.old.written self.old.history (database tables)) }
         ensures only_memory { IfErr result (λ refusal. refusal ≡ OutOfMemory) }
     {
         let alloc = *self.history.allocator();
         let added = joined_rows(alloc, &self.rows, &self.history)?;
-        tables_of(alloc, &self.population, &self.newest, &added)
+        tables_of(alloc, &self.population, cells, &mut self.pen, &added)
     }
 
     /// Which conditions the committed tables meet: all, as the type keeps. Costs one pass over the records, each of which
     /// is compared with the running totals, and takes no memory; no clause can ask that it looks at any.
-    pub fn report(&self, _alloc: Global) -> Result<Report, Refusal>
-        ensures report { IfOk result (IsReportOf (replay K.first self.now.history)) }
+    pub fn report(&mut self, cells: &Cells, _alloc: Global) -> Result<Report, Refusal>
+        requires { cells.now ≡ K.cells }
+        ensures same { self.new ≡ self.old }
+        ensures report { IfOk result (IsReportOf (replay K.first self.old.history)) }
         ensures good { IfOk result IsGood }
         ensures only_memory { IfErr result (λ refusal. refusal ≡ OutOfMemory) }
     {
         let scale = self.population.scale();
         Ok(report_of(
             &scale,
-            &self.newest,
+            cells,
+            &mut self.pen,
             self.totals.sums(),
             self.totals.bounds(),
         ))

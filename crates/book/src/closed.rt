@@ -17,6 +17,7 @@ use crate::engine::Engine;
 use crate::entry::Entry;
 use crate::run::Run;
 use crate::share::Share;
+use cells::Cells;
 use conditions::Report;
 use money::Refusal;
 use std::alloc::Global;
@@ -27,16 +28,19 @@ use tables::Tables;
 /// What a run has committed, once all of its terminals have given back their shares. Contracts see the history.
 #[derive(Drop)]
 pub struct Closed<K: Run> {
+    cells: Cells,
     book: Book<K>,
 }
 
 impl<K: Run> Model for Closed<K> {
-    ghost use Rattle.std.specs.Prelude.{List};
+    ghost use Rattle.std.specs.Prelude.{◌≡◌, List};
     ghost use Rattle.book.specs.declared.entry.Entry.{Entry};
 
     ghost Value = { List Entry };
 
     ghost view = { λ c. c.book.history };
+
+    ghost invariant = { λ c. c.cells ≡ K.cells };
 }
 
 impl<K: Run> Closed<K> {
@@ -63,23 +67,25 @@ impl<K: Run> Closed<K> {
 
     /// The committed tables: the history's serial replay, which is well-formed and consistent. Costs what
     /// `Book::tables` does. `OutOfMemory` is the only refusal.
-    pub fn tables(&self) -> Result<Tables, Refusal>
-        ensures tables { IfOk result (λ tables. database tables ≡ replay K.first self.now) }
+    pub fn tables(&mut self) -> Result<Tables, Refusal>
+        ensures same { self.new ≡ self.old }
+        ensures tables { IfOk result (λ tables. database tables ≡ replay K.first self.old) }
         ensures well_formed { IfOk result (λ tables. IsWellFormed (database tables)) }
         ensures consistent { IfOk result (λ tables. IsConsistent (database tables)) }
         ensures only_memory { IfErr result (λ refusal. refusal ≡ OutOfMemory) }
     {
-        self.book.tables()
+        self.book.tables(&self.cells)
     }
 
     /// Which conditions the committed tables meet: all. Costs what `Book::report` does. `OutOfMemory` is the only
     /// refusal.
-    pub fn report(&self, alloc: Global) -> Result<Report, Refusal>
-        ensures report { IfOk result (IsReportOf (replay K.first self.now)) }
+    pub fn report(&mut self, alloc: Global) -> Result<Report, Refusal>
+        ensures same { self.new ≡ self.old }
+        ensures report { IfOk result (IsReportOf (replay K.first self.old)) }
         ensures good { IfOk result IsGood }
         ensures only_memory { IfErr result (λ refusal. refusal ≡ OutOfMemory) }
     {
-        self.book.report(alloc)
+        self.book.report(&self.cells, alloc)
     }
 }
 
@@ -92,7 +98,7 @@ impl<K: Run> Engine<K> {
     {
         let Engine {
             population: _,
-            cells: _,
+            cells,
             board: _,
             book,
         } = self;
@@ -101,7 +107,7 @@ impl<K: Run> Engine<K> {
             unreachable!()
         };
         book.audit(&mut whole);
-        Closed { book }
+        Closed { cells, book }
     }
 }
 

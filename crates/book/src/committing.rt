@@ -25,7 +25,7 @@ use std::sync::Wait;
 
 impl<K: Run> Book<K> {
     /// Commits a transaction that this reader has executed, as the next in the history (Silo, section 4.4). Costs a
-    /// comparison a record read; a store, a comparison, two copies and a step of the totals a record written; and
+    /// comparison a record read; a store, a comparison, a copy, a load and a step of the totals a record written; and
     /// constant time, amortized, for the history and the logger's stream. May wait, at a record's cell alone.
     ///
     /// Where the versions read are the latest, the transaction is done at the committed tables: its reply and its
@@ -104,15 +104,7 @@ impl<K: Run> Book<K> {
             Ok(prepared) => prepared,
             Err(refusal) => return Err(refusal),
         };
-        store_counted(
-            rt,
-            cells,
-            &mut self.pen,
-            reader,
-            &mut self.newest,
-            &mut self.totals,
-            &entry,
-        );
+        store_counted(rt, cells, &mut self.pen, reader, &mut self.totals, &entry);
         stream.add(waiting);
         self.history.push_reserved(entry);
         self.lasts[share.terminal as usize] = tid;

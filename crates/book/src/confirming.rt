@@ -11,6 +11,7 @@ ghost use Rattle.book.specs.Next.{IsRefusedAt};
 
 use crate::book::Book;
 use crate::run::Run;
+use cells::Cells;
 use money::Refusal;
 use rows::column::D_NEXT_O_ID;
 use tables::{Input, NewOrderInput, RecordKey, Scale, number_of_key};
@@ -18,18 +19,21 @@ use tables::{Input, NewOrderInput, RecordKey, Scale, number_of_key};
 impl<K: Run> Book<K> {
     /// A refusal of an execution as it is at the committed tables. That no order number is left may have been read at
     /// older ones, so it is looked up there: where one is left, what was read is stale. Constant time, no memory.
-    pub fn confirmed(&self, input: &Input, refusal: Refusal) -> Refusal
+    pub fn confirmed(&mut self, cells: &Cells, input: &Input, refusal: Refusal) -> Refusal
+        requires cells { cells.now ≡ K.cells }
         requires input { IsInput K.first.scale input.now }
         requires refusal { (old : ReaderView) × ((new : ReaderView) × IsRefusal K.first input.now old new refusal) }
+        ensures same { self.new ≡ self.old }
         ensures there { (result ≡ Stale) ⊎ (result ≡ OutOfMemory)
-            ⊎ IsRefusedAt (replay K.first self.now.history) (K.past + length self.now.history) input.now result }
+            ⊎ IsRefusedAt (replay K.first self.old.history) (K.past + length self.old.history) input.now result }
         ensures stale { result ≡ Stale → (refusal ≡ Stale)
-            ⊎ ((refusal ≡ OrdersFull) × HasOrderNumber (replay K.first self.now.history) input.now) }
+            ⊎ ((refusal ≡ OrdersFull) × HasOrderNumber (replay K.first self.old.history) input.now) }
         ensures memory { result ≡ OutOfMemory → refusal ≡ OutOfMemory }
     {
         match refusal {
             Refusal::OrdersFull => {
-                if has_order_number(self, &self.scale(), input) {
+                let scale = self.scale();
+                if has_order_number(self, cells, &scale, input) {
                     Refusal::Stale
                 } else {
                     Refusal::OrdersFull
@@ -48,29 +52,39 @@ impl<K: Run> Book<K> {
 }
 
 /// Whether a transaction has an order number at the committed tables, where it makes an order.
-fn has_order_number<K: Run>(book: &Book<K>, scale: &Scale, input: &Input) -> bool
+fn has_order_number<K: Run>(book: &mut Book<K>, cells: &Cells, scale: &Scale, input: &Input) -> bool
+    requires cells { cells.now ≡ K.cells }
     requires scale { scale.now ≡ K.first.scale }
     requires input { IsInput K.first.scale input.now }
-    ensures { MatchBool result
-        (HasOrderNumber (replay K.first book.now.history) input.now)
-        (¬ HasOrderNumber (replay K.first book.now.history) input.now) }
+    ensures same { book.new ≡ book.old }
+    ensures number { MatchBool result
+        (HasOrderNumber (replay K.first book.old.history) input.now)
+        (¬ HasOrderNumber (replay K.first book.old.history) input.now) }
 {
     match input {
-        Input::NewOrder(order) => has_number(book, scale, order),
+        Input::NewOrder(order) => has_number(book, cells, scale, order),
         Input::Payment(_) | Input::Delivery(_) | Input::OrderStatus(_) | Input::StockLevel(_) =>
             true,
     }
 }
 
 /// Whether D_NEXT_O_ID of an order's district is within the order cap.
-fn has_number<K: Run>(book: &Book<K>, scale: &Scale, order: &NewOrderInput) -> bool
+fn has_number<K: Run>(
+    book: &mut Book<K>,
+    cells: &Cells,
+    scale: &Scale,
+    order: &NewOrderInput,
+) -> bool
+    requires cells { cells.now ≡ K.cells }
     requires scale { scale.now ≡ K.first.scale }
     requires input { IsNewOrder K.first.scale order.now }
-    ensures { MatchBool result
-        (HasNumber (replay K.first book.now.history) order.now)
-        (¬ HasNumber (replay K.first book.now.history) order.now) }
+    ensures same { book.new ≡ book.old }
+    ensures number { MatchBool result
+        (HasNumber (replay K.first book.old.history) order.now)
+        (¬ HasNumber (replay K.first book.old.history) order.now) }
 {
-    match book.record(number_of_key(scale, RecordKey::District(order.home()))) {
+    let number = number_of_key(scale, RecordKey::District(order.home()));
+    match book.record(cells, number) {
         Some(words) => words[D_NEXT_O_ID] <= u64::from(scale.orders()),
         None => true,
     }

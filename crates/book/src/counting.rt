@@ -9,7 +9,7 @@ ghost use Rattle.book.specs.Storing.{MayStore, StoresEntry};
 
 use crate::entry::Entry;
 use crate::steps::store;
-use cells::{Cells, Newest, Pen, Reader};
+use cells::{Cells, Pen, Reader};
 use std::sync::Wait;
 use totals::Totals;
 
@@ -19,19 +19,18 @@ pub(crate) fn store_counted<R: Wait>(
     cells: &Cells,
     pen: &mut Pen,
     reader: &mut Reader,
-    newest: &mut [Newest],
     totals: &mut Totals,
     entry: &Entry,
 )
-    requires may { MayStore cells.now pen.old reader.old entry.now newest.old }
+    requires may { MayStore cells.now pen.old reader.old entry.now }
     requires counted { (t : Database) × (x : Input) × (reply : Reply)
-        × MayFollow t x reply totals.old newest.old entry.now.writes }
-    ensures stores { StoresEntry pen.old pen.new reader.old reader.new entry.now newest.new }
+        × MayFollow t x reply totals.old pen.old entry.now.writes }
+    ensures stores { StoresEntry pen.old pen.new reader.old reader.new entry.now }
     ensures totals { (t : Database) (x : Input) (reply : Reply)
-        → MayFollow t x reply totals.old newest.old entry.now.writes → AreHeld newest.new (after t x)
+        → MayFollow t x reply totals.old pen.old entry.now.writes → AreHeld pen.new (after t x)
         → AreTotals (after t x) totals.new }
 {
-    totals.follow(newest, &entry.writes);
-    store(rt, cells, pen, reader, newest, entry);
-    totals.follow_stores(newest, &entry.writes);
+    totals.follow(cells, pen, &entry.writes);
+    store(rt, cells, pen, reader, entry);
+    totals.follow_stores(cells, pen, &entry.writes);
 }

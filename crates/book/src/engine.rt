@@ -9,7 +9,7 @@ ghost use Rattle.board.specs.Opening.{logger_seats};
 ghost use Rattle.book.specs.Parts.{IsOpenedAs, terminals_of};
 
 use crate::book::Book;
-use crate::parts::{Begun, Fresh, Parts};
+use crate::parts::{Begun, Fresh, Parts, Records};
 use crate::run::Run;
 use crate::share::Share;
 use board::{Board, BoardSeats, ClockSeat, LoggerSeat, TerminalSeat};
@@ -64,18 +64,20 @@ impl<K: Run> Engine<K> {
             base: _,
             rows,
             past,
-            newest,
             totals,
         } = begun;
         let Fresh {
-            cells,
-            pen,
-            readers,
+            records,
             board,
             seats,
             streams,
             lasts,
         } = fresh;
+        let Records {
+            cells,
+            pen,
+            readers,
+        } = records;
         let BoardSeats {
             book: seat,
             clock,
@@ -90,7 +92,6 @@ impl<K: Run> Engine<K> {
             population: lent,
             past,
             rows,
-            newest,
             totals,
             history,
             streams,

@@ -4,21 +4,20 @@ ghost use Rattle.std.specs.Arc.{arc_value};
 ghost use Rattle.std.specs.Option.{option_map_or};
 ghost use Rattle.money.specs.declared.refusal.Refusal.TheVariants.{OutOfMemory};
 ghost use Rattle.tables.specs.Conditions.{IsConsistent};
-ghost use Rattle.tables.specs.Database.{database};
+ghost use Rattle.tables.specs.Database.{Database, database};
 ghost use Rattle.tables.specs.WellFormed.{IsWellFormed};
 ghost use Rattle.tables.specs.declared.limits.TheConstants.{MAX_LOGGERS, MAX_TERMINALS};
 ghost use Rattle.population.specs.Initial.{initial, seed_of};
-ghost use Rattle.encoding.specs.Newest.{AreFirst};
 ghost use Rattle.totals.specs.Totals.{AreTotals};
 ghost use Rattle.board.specs.Words.{last_epoch};
 ghost use Rattle.book.specs.Base.{MayBegin, IsStart};
-ghost use Rattle.book.specs.Parts.{ArePartsOf, AreEmpty, IsUnused};
+ghost use Rattle.book.specs.Parts.{ArePartsOf, AreEmpty, AreUnwritten, IsUnused};
 
 use crate::entry::Entry;
 use crate::shared::shared;
 use crate::untaken::Untaken;
 use board::{Board, BoardSeats};
-use cells::{Cells, Newest, Pen, Reader};
+use cells::{Cells, Pen, Reader};
 use encoding::first_versions;
 use money::Refusal;
 use population::Population;
@@ -41,24 +40,30 @@ pub struct Parts {
 }
 
 /// What is committed as a run begins: the tables, where they aren't the population's, the HISTORY rows that they have
-/// behind its own, how many commits made them, the first versions of their records, and their totals.
+/// behind its own, how many commits made them, and their totals.
 #[derive(Drop)]
 pub(crate) struct Begun {
     /// Opening gives up their memory: the records have them. Until then they say what the run is named by.
     pub(crate) base: Option<Tables>,
     pub(crate) rows: Vec<History>,
     pub(crate) past: u32,
-    pub(crate) newest: Vec<Newest>,
     pub(crate) totals: Totals,
 }
 
-/// What a run begins with in which nothing has committed: cells with first versions alone, a board at which nobody has
-/// stepped, the loggers' streams, and the terminals' last TIDs.
+/// The records of tables as a run begins with them: their cells, with first versions alone, and the pen and the readers
+/// of these.
 #[derive(Drop)]
-pub(crate) struct Fresh {
+pub(crate) struct Records {
     pub(crate) cells: Cells,
     pub(crate) pen: Pen,
     pub(crate) readers: Vec<Reader>,
+}
+
+/// What a run begins with in which nothing has committed: its records, a board at which nobody has stepped, the loggers'
+/// streams, and the terminals' last TIDs.
+#[derive(Drop)]
+pub(crate) struct Fresh {
+    pub(crate) records: Records,
     pub(crate) board: Board,
     pub(crate) seats: BoardSeats,
     pub(crate) streams: Vec<Untaken>,
@@ -77,7 +82,7 @@ pub struct Base {
 
 impl Parts {
     /// The parts of an engine over this population, for 1 to 8 loggers and 1 to 16 terminals, of which each gets a
-    /// seat, with a board at epoch 1. Costs what `first_versions`, `Totals::of` and `Cells::new` cost: passes over the
+    /// seat, with a board at epoch 1. Costs what `first_versions`, `Cells::new` and `Totals::of` cost: passes over the
     /// tables and the records, and a step a record and terminal. May wait, at a record's cell alone.
     ///
     /// # Errors
@@ -96,15 +101,14 @@ impl Parts {
             loggers terminals) }
         ensures only_memory { IfErr result (λ refusal. refusal ≡ OutOfMemory) }
     {
-        let (newest, totals) = records_of(alloc, population.tables())?;
+        let (records, totals) = records_of(rt, alloc, population.tables(), terminals)?;
         let begun = Begun {
             base: None,
             rows: Vec::new(alloc),
             past: 0,
-            newest,
             totals,
         };
-        assembled(rt, alloc, population, begun, 0, loggers, terminals)
+        assembled(alloc, population, begun, records, 0, loggers, terminals)
     }
 
     /// The parts of an engine that goes on behind a base: numbers of commits go on from its own, and the board opens at
@@ -136,42 +140,71 @@ impl Parts {
             commits,
             epoch,
         } = base;
-        let (newest, totals) = records_of(alloc, &tables)?;
+        let (records, totals) = records_of(rt, alloc, &tables, terminals)?;
         let begun = Begun {
             base: Some(tables),
             rows,
             past: commits,
-            newest,
             totals,
         };
-        assembled(rt, alloc, population, begun, epoch, loggers, terminals)
+        assembled(alloc, population, begun, records, epoch, loggers, terminals)
     }
 }
 
-/// The first versions of tables' records, and the tables' totals.
-fn records_of(alloc: Global, tables: &Tables) -> Result<(Vec<Newest>, Totals), AllocError>
+/// The records of tables, with a reader a terminal, and the tables' totals. `OutOfMemory` is the only refusal.
+fn records_of<R: Wait>(
+    rt: &R,
+    alloc: Global,
+    tables: &Tables,
+    terminals: u16,
+) -> Result<(Records, Totals), Refusal>
     requires well_formed { IsWellFormed (database tables.now) }
     requires consistent { IsConsistent (database tables.now) }
-    ensures newest { IfOk result (λ made. AreFirst (database tables.now) made.0.items) }
+    ensures records { IfOk result (λ made. AreUnwritten (database tables.now) terminals made.0) }
     ensures totals { IfOk result (λ made. AreTotals (database tables.now) made.1) }
+    ensures only_memory { IfErr result (λ refusal. refusal ≡ OutOfMemory) }
 {
-    let newest = first_versions(alloc, tables)?;
-    let totals = Totals::of(alloc, &tables.scale, &newest, &tables.history)?;
-    Ok((newest, totals))
+    let mut records = unwritten(rt, alloc, tables, terminals)?;
+    let (cells, pen) = (&records.cells, &mut records.pen);
+    let totals = Totals::of(alloc, &tables.scale, cells, pen, &tables.history)?;
+    Ok((records, totals))
 }
 
-/// The parts of an engine that begins so, with a board behind this epoch. `OutOfMemory` is the only refusal.
-fn assembled<R: Wait>(
+/// The records of tables, with a reader a terminal. `OutOfMemory` is the only refusal.
+fn unwritten<R: Wait>(
     rt: &R,
+    alloc: Global,
+    tables: &Tables,
+    terminals: u16,
+) -> Result<Records, Refusal>
+    requires well_formed { IsWellFormed (database tables.now) }
+    requires consistent { IsConsistent (database tables.now) }
+    ensures records { IfOk result (AreUnwritten (database tables.now) terminals) }
+    ensures only_memory { IfErr result (λ refusal. refusal ≡ OutOfMemory) }
+{
+    let first = first_versions(alloc, tables)?;
+    let (cells, pen, readers) = Cells::new(rt, alloc, first, terminals as usize)?;
+    Ok(Records {
+        cells,
+        pen,
+        readers,
+    })
+}
+
+/// The parts of an engine that begins so, at these records, with a board behind this epoch. `OutOfMemory` is the only
+/// refusal.
+fn assembled(
     alloc: Global,
     population: Population,
     begun: Begun,
+    records: Records,
     epoch: u64,
     loggers: u16,
     terminals: u16,
 ) -> Result<Parts, Refusal>
     requires start { IsStart (initial population) (option_map_or database begun.base (initial population))
-        begun.rows.items begun.past begun.newest.items begun.totals }
+        begun.rows.items begun.past begun.totals }
+    requires records { AreUnwritten (option_map_or database begun.base (initial population)) terminals records }
     requires epoch { epoch < last_epoch }
     requires loggers { (0 < loggers) × (loggers ≤ MAX_LOGGERS) }
     requires terminals { (0 < terminals) × (terminals ≤ MAX_TERMINALS) }
@@ -181,7 +214,7 @@ fn assembled<R: Wait>(
     ensures only_memory { IfErr result (λ refusal. refusal ≡ OutOfMemory) }
 {
     let (population, lent) = shared(alloc, population)?;
-    let fresh = fresh_of(rt, alloc, &begun.newest, epoch, loggers, terminals)?;
+    let fresh = fresh_of(alloc, records, epoch, loggers, terminals)?;
     Ok(Parts {
         population,
         lent,
@@ -192,30 +225,25 @@ fn assembled<R: Wait>(
     })
 }
 
-/// What a run begins with in which nothing has committed, of these first versions, with a board behind this epoch.
+/// What a run begins with in which nothing has committed, of these records, with a board behind this epoch.
 /// `OutOfMemory` is the only refusal.
-fn fresh_of<R: Wait>(
-    rt: &R,
+fn fresh_of(
     alloc: Global,
-    newest: &[Newest],
+    records: Records,
     epoch: u64,
     loggers: u16,
     terminals: u16,
 ) -> Result<Fresh, Refusal>
     requires epoch { epoch < last_epoch }
     requires loggers { (0 < loggers) × (loggers ≤ MAX_LOGGERS) }
-    ensures fresh { IfOk result (IsUnused newest.now epoch loggers terminals) }
+    ensures fresh { IfOk result (λ fresh. (first : Database) → AreUnwritten first terminals records
+        → IsUnused first epoch loggers terminals fresh) }
     ensures only_memory { IfErr result (λ refusal. refusal ≡ OutOfMemory) }
 {
     let (streams, lasts) = lists_of(alloc, loggers, terminals, epoch)?;
-    let board = Board::behind(alloc, epoch, u64::from(loggers), u64::from(terminals))?;
-    let cells = Cells::new(rt, alloc, newest, terminals as usize)?;
-    let (board, seats) = board;
-    let (cells, pen, readers) = cells;
+    let (board, seats) = Board::behind(alloc, epoch, u64::from(loggers), u64::from(terminals))?;
     Ok(Fresh {
-        cells,
-        pen,
-        readers,
+        records,
         board,
         seats,
         streams,

@@ -50,24 +50,22 @@ pub(crate) fn validate<R: Wait>(
     Some(TidWord::new(seen))
 }
 
-/// Stores the versions that this commit writes (phase 3), each in one store with its TID word, and keeps them as the
-/// newest of their records. The reader has then seen them.
+/// Stores the versions that this commit writes (phase 3), each in one store with its TID word. The reader has then seen
+/// them.
 pub(crate) fn store<R: Wait>(
     rt: &R,
     cells: &Cells,
     pen: &mut Pen,
     reader: &mut Reader,
-    newest: &mut [Newest],
     entry: &Entry,
 )
-    requires { MayStore cells.now pen.old reader.old entry.now newest.old }
-    ensures { StoresEntry pen.old pen.new reader.old reader.new entry.now newest.new }
+    requires { MayStore cells.now pen.old reader.old entry.now }
+    ensures { StoresEntry pen.old pen.new reader.old reader.new entry.now }
 {
     for (record, value) in entry.writes.values() {
         let version = version(entry.tid, value);
         cells.store(rt, pen, *record, version.word, version.payload);
         cells.learn(rt, pen, reader, *record);
-        newest[*record as usize] = version;
     }
 }
 

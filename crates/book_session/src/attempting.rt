@@ -69,6 +69,6 @@ fn attempt<K: Run, R: Wait>(
     let (board, cells, population) = (engine.board(), engine.cells(), engine.population());
     match execute(rt, alloc, cells, &mut seat.reader, population, input) {
         Ok(work) => book.commit(rt, board, cells, &mut seat.reader, &mut seat.share, work),
-        Err(refusal) => Err(book.confirmed(input, refusal)),
+        Err(refusal) => Err(book.confirmed(cells, input, refusal)),
     }
 }

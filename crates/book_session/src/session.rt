@@ -78,14 +78,16 @@ impl<'e, K: Run> Session<'e, K> {
 
     /// What one record holds in the committed tables, which are well-formed: its row's columns that change, as
     /// words, or nothing where it is absent. Constant time, no memory.
-    pub fn record(&self, number: u32) -> Option<Payload>
+    pub fn record(&mut self, number: u32) -> Option<Payload>
         requires { number < record_count K.first.scale }
-        ensures words { result ≡ rows (replay K.first self.now.history) number }
-        ensures well_formed { IsWellFormed (replay K.first self.now.history) }
+        ensures same { self.new ≡ self.old }
+        ensures words { result ≡ rows (replay K.first self.old.history) number }
+        ensures well_formed { IsWellFormed (replay K.first self.old.history) }
     {
         // The history's contract says that the committed tables are well-formed.
         let _ = self.book.history();
-        self.book.record(number)
+        let engine = self.engine;
+        self.book.record(engine.cells(), number)
     }
 
     /// Commits a transaction, and tries again for as long as what it read isn't the latest. What the terminal is told
@@ -128,12 +130,12 @@ impl<'e, K: Run> Session<'e, K> {
     {
         let Session {
             alloc,
-            engine: _,
-            book,
+            engine,
+            mut book,
             seat: _,
             dones,
         } = self;
-        let report = book.report(alloc)?;
+        let report = book.report(engine.cells(), alloc)?;
         Ok((report, dones))
     }
 }

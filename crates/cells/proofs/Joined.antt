@@ -20,6 +20,14 @@ use Rattle.cells.proofs.Paged.{paged_as, same_length, found, set_in, set_same, i
 abbrev pub IsWide : ℕ → PageSeat → Type 0
 IsWide n s = s.table_id.words ≡ length s.me.0.seen * n
 
+seen_size : (n : ℕ) → 0 < n → (s : PageSeat) → IsWide n s → length s.me.0.seen ≡ length (ids_of n s.table_id)
+seen_size n some s is_wide = sym (mul-div_cancel (length s.me.0.seen) some) ∙ ap (λ w. w / n) (sym is_wide) ∙ sym (length-replicate (size_of n s.table_id) s.table_id)
+
+-- all together have as many
+pub seen_count : (n : ℕ) → 0 < n → (seats : List PageSeat) → All (IsWide n) seats → length (written_of n seats).all ≡ length (written_of n seats).cells
+seen_count n some seats wide = same_length (λ (s : PageSeat). s.me.0.seen) (λ s. ids_of n s.table_id) seats
+    (All-weaker (IsWide n) (λ (s : PageSeat). length s.me.0.seen ≡ length (ids_of n s.table_id)) (seen_size n some) seats wide)
+
 module _ (n : ℕ) (some : 0 < n) (seats : List PageSeat) (paged : IsPaged (map (λ s. size_of n s.table_id) seats)) where
   -- a record that has a page has a seat
   pub has_seat : (number : ℕ) (page : TableId) → slice_get (flat_map (λ s. ids_of n s.table_id) seats) number ≡ Some page → number / 4096 < length seats
@@ -50,14 +58,11 @@ module _ (n : ℕ) (some : 0 < n) (seats : List PageSeat) (paged : IsPaged (map 
         sym (get_or_from_slice_get ids number p.table_id page (page_is (λ (s : PageSeat). s.table_id) n seats paged number listed p is))
         ∙ get_or_from_slice_get ids number page page has
 
-    size : (s : PageSeat) → IsWide n s → length s.me.0.seen ≡ length (ids_of n s.table_id)
-    size s is_wide = sym (mul-div_cancel (length s.me.0.seen) some) ∙ ap (λ w. w / n) (sym is_wide) ∙ sym (length-replicate (size_of n s.table_id) s.table_id)
-
     pub wide_here : IsWide n p
     wide_here = subst (IsWide n) (sym is) (All-get_or (IsWide n) seats (number / 4096) p within wide)
 
     pub inside : number % 4096 < length p.me.0.seen
-    inside = subst (λ k. number % 4096 < k) (sym (size p wide_here)) stand
+    inside = subst (λ k. number % 4096 < k) (sym (seen_size n some p wide_here)) stand
 
     pub is_of : n ≤ 4096 → IsSeatOf n page p (number % 4096)
     is_of narrow = record {
@@ -70,7 +75,7 @@ module _ (n : ℕ) (some : 0 < n) (seats : List PageSeat) (paged : IsPaged (map 
     }
 
     sizes : All (λ s. length s.me.0.seen ≡ length (ids_of n s.table_id)) seats
-    sizes = All-weaker (IsWide n) (λ (s : PageSeat). length s.me.0.seen ≡ length (ids_of n s.table_id)) size seats wide
+    sizes = All-weaker (IsWide n) (λ (s : PageSeat). length s.me.0.seen ≡ length (ids_of n s.table_id)) (seen_size n some) seats wide
 
     seen_paged : IsPaged (map (λ s. length s.me.0.seen) seats)
     seen_paged = paged_as (λ (s : PageSeat). length (ids_of n s.table_id)) (λ s. length s.me.0.seen) seats sizes (ids_paged (λ (s : PageSeat). s.table_id) n seats paged)

@@ -3,5 +3,6 @@ mod Paged
 mod Joined
 mod Stepping
 mod Told
+mod FirstPaged
 pub mod Records
 pub mod Grown

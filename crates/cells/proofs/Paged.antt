@@ -17,12 +17,12 @@ paged_as f g [] same h = tt
 paged_as f g (s ∷ []) same h = subst (λ k. (0 < k) × (k ≤ 4096)) (sym (All-head (λ s. g s ≡ f s) s [] same)) h
 paged_as f g (s ∷ t ∷ ss) same h = (All-head (λ s. g s ≡ f s) s (t ∷ ss) same ∙ h.0, paged_as f g (t ∷ ss) (All-tail (λ s. g s ≡ f s) s (t ∷ ss) same) h.1)
 
-abbrev total : List ℕ → ℕ
+abbrev pub total : List ℕ → ℕ
 total [] = 0
 total (a ∷ sizes) = a + total sizes
 
 -- a page more, where those so far are full
-paged_more : (sizes : List ℕ) (size : ℕ) → IsPaged sizes → total sizes % 4096 ≡ 0 → 0 < size → size ≤ 4096 → IsPaged (sizes ++ size ∷ [])
+pub paged_more : (sizes : List ℕ) (size : ℕ) → IsPaged sizes → total sizes % 4096 ≡ 0 → 0 < size → size ≤ 4096 → IsPaged (sizes ++ size ∷ [])
 paged_more [] size paged full some few = (some, few)
 paged_more (a ∷ []) size paged full some few = let h : 0 < a = paged.0 in let l : a ≤ 4096 = paged.1 in let f : (a + 0) % 4096 ≡ 0 = full in (omega arith, (some, few))
 paged_more (a ∷ b ∷ sizes) size paged full some few =

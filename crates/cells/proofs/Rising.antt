@@ -5,6 +5,7 @@ use lib.Dec.{eqb}
 use Rattle.std.proofs.lemmas.Bool.{eqb-true, eqb-false}
 use Rattle.cells.specs.Versions.{tid, last_tid, RisesFrom, IsRising, StartsWith, EndsWith, Has}
 pub use Rattle.cells_pages.proofs.Rising.{last_tid-push, larger, starts_self}
+pub use Rattle.cells_pages.proofs.Lists.{ends_newest, newest-push}
 
 -- of versions that rise, one with the last TID is the last
 pub last_by_tid : (n : ℕ) (all front rest : List (List ℕ)) (v : List ℕ) → RisesFrom n all → all ≡ front ++ v ∷ rest → tid v ≡ last_tid all → EndsWith all v

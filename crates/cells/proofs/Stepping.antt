@@ -10,7 +10,11 @@ use Rattle.cells_pages.specs.Views.{pen_view, sight, IsPen}
 use Rattle.cells_pages.specs.Plays.{IsLoaded}
 use Rattle.cells_pages.specs.Seats.{PageSeat, IsSeatOf}
 use Rattle.cells.specs.Pages.{IsRecordSize, IsPenSeat, IsReaderSeat, ArePenSeats, AreReaderSeats, written_of, sights_of}
-use Rattle.cells.proofs.Joined.{IsWide, has_seat, wide_here, is_of, versions_here, paged_after, written_same, written_writes, sights_read, sights_learn}
+use Rattle.cells.proofs.Joined.{IsWide, seen_count, has_seat, wide_here, is_of, versions_here, paged_after, written_same, written_writes, sights_read, sights_learn}
+
+-- the pen knows the versions of as many records as have cells
+pub pen_count : (n : ℕ) → IsRecordSize n → (seats : List PageSeat) → ArePenSeats n seats → length (written_of n seats).all ≡ length (written_of n seats).cells
+pen_count n right_size seats are = seen_count n right_size.0 seats (All-weaker (IsPenSeat n) (IsWide n) (λ s h. h.1) seats are.0)
 
 -- the pen
 module _ (n : ℕ) (right_size : IsRecordSize n) (seats : List PageSeat) (are : ArePenSeats n seats) (number : ℕ) (page : TableId)

@@ -1,5 +1,5 @@
 -- The versions that cells begin with.
-use Rattle.std.specs.Prelude.{ℕ, true, false, Option, Some, None, List, [], ◌∷◌, map}
+use Rattle.std.specs.Prelude.{ℕ, true, false, Option, Some, None, List, [], ◌∷◌, map, replicate}
 use Rattle.money.specs.Payload.{no_payload}
 use Rattle.cells_pages.specs.Versions.{AllVersions}
 use Rattle.cells.specs.Records.{newest_words}
@@ -17,6 +17,15 @@ absent_word = tid_word 0 0 (record { latest = true; absent = true; locked = fals
 abbrev pub first_version : Option (List ℕ) → List ℕ
 first_version (Some words) = populated_word ∷ words
 first_version None = absent_word ∷ no_payload
+
+-- that of a record that isn't there
+abbrev pub absent_version : Newest
+absent_version = record { word = absent_word; payload = no_payload }
+
+-- the first versions of a page of so many records, of which each is given, or none where all are absent
+abbrev pub page_versions : ℕ → List Newest → List Newest
+page_versions count [] = replicate count absent_version
+page_versions count (version ∷ versions) = version ∷ versions
 
 -- these versions, each the only one of its record
 abbrev pub firsts : List Newest → AllVersions

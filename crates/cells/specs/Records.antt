@@ -1,10 +1,10 @@
 -- What the holder of the pen and a reader know of all records, by record number, and what each call does to it.
-use Rattle.std.specs.Prelude.{◌≡◌, ℕ, ◌+◌, List, [], ◌∷◌, ◌++◌, slice_index, slice_set}
+use Rattle.std.specs.Prelude.{◌≡◌, ℕ, ◌+◌, Option, List, [], ◌∷◌, ◌++◌, slice_index, slice_set}
 use Rattle.atomic_table.specs.Seated.{TableId}
 use Rattle.cells.specs.declared.cells.Version.{Version}
 use Rattle.cells.specs.declared.cells.Newest.{Newest}
 pub use Rattle.cells_pages.specs.Versions.{at}
-use Rattle.cells.specs.Versions.{AllVersions, StartsWith, EndsWith, IsRising}
+use Rattle.cells.specs.Versions.{AllVersions, StartsWith, EndsWith, IsRising, newest, value_in}
 
 -- the pen's: which cell a record has, and all its versions
 pub record PenView : Type 0 where
@@ -25,6 +25,10 @@ words_of version = version.word ∷ version.payload
 -- the words of a record's newest version
 abbrev pub newest_words : Newest → List ℕ
 newest_words newest = newest.word ∷ newest.payload
+
+-- what record n holds by its newest version: its data, or nothing where it is absent
+abbrev pub held_by : PenView → ℕ → Option (List ℕ)
+held_by pen n = value_in (newest (at pen.all n))
 
 -- a version is stored in record n
 pub record StoresVersion (old new : PenView) (n : ℕ) (version : List ℕ) : Type 0 where

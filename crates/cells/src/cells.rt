@@ -1,11 +1,11 @@
 //! The cells of all records.
 ghost use Rattle.std.specs.Prelude.{◌≡◌, ◌≢◌, ◌<◌, Some, List, [], ◌∷◌, ◌++◌, length, slice_get, MatchBool};
-ghost use Rattle.std.specs.Prelude.{OnOk, OnErr, IfErr};
+ghost use Rattle.std.specs.Prelude.{OnOk, OnErr, IfErr, is_some};
 ghost use Rattle.money.specs.declared.refusal.Refusal.TheVariants.{OutOfMemory};
 ghost use Rattle.atomic_table.specs.Seated.{TableId};
 ghost use Rattle.tidword.specs.TidWord.{tid_of};
 ghost use Rattle.cells.specs.Versions.{EndsWith, Has, last_tid, value_in};
-ghost use Rattle.cells.specs.Records.{at, newest_words, StoresVersion, LoadsRecord, LearnsRecord};
+ghost use Rattle.cells.specs.Records.{at, newest_words, held_by, StoresVersion, LoadsRecord, LearnsRecord};
 ghost use Rattle.cells.specs.Pages.{ids_of};
 ghost use Rattle.cells.specs.Opening.{AreFull, IsNext};
 
@@ -45,6 +45,7 @@ pub struct Newest {
 
 impl Newest {
     /// What the version says that its record holds: its data, or nothing where the record is absent.
+    #[inline(always)]
     pub fn value(&self) -> Option<Payload>
         ensures { result ≡ value_in (newest_words self.now) }
     {
@@ -110,22 +111,26 @@ impl<const N: usize> PageList<N> {
 #[derive(Drop)]
 pub struct Cells {
     list: PageList<CELL_WORDS>,
+    count: usize,
 }
 
 impl Model for Cells {
     ghost Value = { List TableId };
 
     ghost view = { λ c. c.list };
+
+    ghost invariant = { λ c. c.count ≡ length c.list };
 }
 
 impl Cells {
     ghost use Rattle.cells.specs.Records.{words_of};
 
-    // The cells of a list, by record number.
-    pub(crate) fn of_list(list: PageList<CELL_WORDS>) -> Cells
+    // The cells of a list, by record number, of which there are so many.
+    pub(crate) fn of_list(list: PageList<CELL_WORDS>, count: usize) -> Cells
+        requires { count ≡ length list }
         ensures { result ≡ list }
     {
-        Cells { list }
+        Cells { list, count }
     }
 
     // The page of a record.
@@ -209,6 +214,50 @@ impl Cells {
     {
         pen.meet(self.page(number), number as usize, reader);
     }
+
+    /// What a record holds by its newest version: its data, or nothing where it is absent. Only the pen knows that:
+    /// nobody else stores. Takes no memory. Constant time: one load where the record is absent, and it never waits.
+    #[inline(always)]
+    pub fn held(&self, pen: &mut Pen, number: u32) -> Option<Payload>
+        requires own { pen.old.cells ≡ self.now }
+        requires is_record { number < length self.now }
+        ensures pen { pen.new ≡ pen.old }
+        ensures held { result ≡ held_by pen.old number }
+    {
+        let page = self.page(number);
+        if TidWord::new(pen.head(page, number as usize)).is_absent() {
+            return None;
+        }
+        newest_of(pen.held(page, number as usize)).value()
+    }
+
+    /// Whether a record is there, by its newest version: one load.
+    #[inline(always)]
+    pub fn is_present(&self, pen: &mut Pen, number: u32) -> bool
+        requires own { pen.old.cells ≡ self.now }
+        requires is_record { number < length self.now }
+        ensures pen { pen.new ≡ pen.old }
+        ensures present { result ≡ is_some (held_by pen.old number) }
+    {
+        let word = TidWord::new(pen.head(self.page(number), number as usize));
+        !word.is_absent()
+    }
+
+    /// How many records there are.
+    pub fn len(&self) -> usize
+        ensures { result ≡ length self.now }
+    {
+        self.count
+    }
+}
+
+impl PenOf<CELL_WORDS> {
+    /// The pen knows the versions of the records that have cells, and of no others: a law. The function does nothing.
+    pub fn knows_its_cells(&self)
+        ensures { length self.now.all ≡ length self.now.cells }
+    {
+        let _seats = &self.seats;
+    }
 }
 
 // The words of a version.
@@ -217,4 +266,16 @@ pub(crate) fn words(word: TidWord, payload: Payload) -> [u64; CELL_WORDS]
 {
     let [a, b, c, d, e, f, g] = payload;
     [word.word(), a, b, c, d, e, f, g]
+}
+
+// The version that has these words.
+#[inline(always)]
+fn newest_of(words: [u64; CELL_WORDS]) -> Newest
+    ensures { newest_words result ≡ words }
+{
+    let [word, a, b, c, d, e, f, g] = words;
+    Newest {
+        word: TidWord::new(word),
+        payload: [a, b, c, d, e, f, g],
+    }
 }

@@ -1,12 +1,12 @@
 //! The pen and the readers of all records: one seat a page, in the order of pages. A seat has no bytes.
-ghost use Rattle.std.specs.Prelude.{◌≡◌, ◌≢◌, ◌<◌, ◌≤◌, Some, [], slice_get, OnOk, OnErr, IfErr};
+ghost use Rattle.std.specs.Prelude.{◌≡◌, ◌≢◌, ◌<◌, ◌≤◌, Some, [], length, slice_get, OnOk, OnErr, IfErr};
 ghost use Rattle.cells_pages.specs.Versions.{AreVersions, last_tid, newest, tid, word_in};
 ghost use Rattle.cells.specs.Records.{at, StoresVersion, LoadsRecord, LearnsRecord};
 ghost use Rattle.cells.specs.Pages.{IsRecordSize, IsPenSeat, IsReaderSeat, written_and, sights_and};
 ghost use Rattle.cells.specs.Opening.{AreFull, IsNext};
 ghost use Rattle.money.specs.declared.refusal.Refusal.TheVariants.{OutOfMemory};
 
-use cells_pages::{PAGE_RECORDS, PageSeat, PageWords, meet, read, store};
+use cells_pages::{PAGE_RECORDS, PageSeat, PageWords, head, held, meet, read, store};
 use money::Refusal;
 use std::alloc::Global;
 use std::marker::Model;
@@ -130,5 +130,29 @@ impl<const N: usize> PenOf<N> {
         let k = number / PAGE_RECORDS;
         let pen = &mut self.seats[k];
         meet(page, pen, &mut reader.seats[k], number % PAGE_RECORDS)
+    }
+    // The words of the newest version of a record, whose page this is.
+    #[inline(always)]
+    pub(crate) fn held(&mut self, page: &PageWords<N>, number: usize) -> [u64; N]
+        requires size { IsRecordSize N }
+        requires own { slice_get self.old.cells number ≡ Some page.now.table_id }
+        ensures same { self.new ≡ self.old }
+        ensures held { result ≡ newest (at self.old.all number) }
+    {
+        let seat = &mut self.seats[number / PAGE_RECORDS];
+        held(page, seat, number % PAGE_RECORDS)
+    }
+
+    // The first of them, the TID word.
+    #[inline(always)]
+    pub(crate) fn head(&mut self, page: &PageWords<N>, number: usize) -> u64
+        requires size { IsRecordSize N }
+        requires own { slice_get self.old.cells number ≡ Some page.now.table_id }
+        ensures same { self.new ≡ self.old }
+        ensures wide { length (newest (at self.old.all number)) ≡ N }
+        ensures head { result ≡ word_in (newest (at self.old.all number)) }
+    {
+        let seat = &mut self.seats[number / PAGE_RECORDS];
+        head(page, seat, number % PAGE_RECORDS)
     }
 }

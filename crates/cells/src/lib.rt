@@ -3,8 +3,10 @@
 #![tactic(auto)]
 
 mod cells;
+mod first;
 mod holders;
 mod opening;
 mod populate;
 
 pub use cells::{Cells, Newest, Pen, Reader, Version};
+pub use first::FirstVersions;

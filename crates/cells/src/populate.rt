@@ -1,11 +1,13 @@
 //! The cells that a run begins with.
-ghost use Rattle.std.specs.Prelude.{◌≡◌, ◌*◌, ◌≤◌, All, length, OnOk, IfOk, IfErr};
+ghost use Rattle.std.specs.Prelude.{◌≡◌, ◌*◌, ◌<◌, ◌≤◌, All, List, length, replicate, OnOk, IfOk, IfErr};
 ghost use Rattle.money.specs.declared.refusal.Refusal.TheVariants.{OutOfMemory};
+ghost use Rattle.atomic_table.specs.Seated.{TableId};
 ghost use Rattle.cells_pages.specs.Rule.{first_versions};
-ghost use Rattle.cells.specs.Opening.{seen_all};
-ghost use Rattle.cells.specs.First.{firsts};
+ghost use Rattle.cells.specs.Opening.{seen_all, opened_with, AreFull};
+ghost use Rattle.cells.specs.First.{absent_version, firsts};
 
 use crate::cells::{CELL_WORDS, Cells, Newest, Pen, Reader, words};
+use crate::first::{FirstPage, FirstVersions};
 use crate::opening::OpeningOf;
 use cells_pages::PAGE_RECORDS;
 use money::Refusal;
@@ -14,7 +16,8 @@ use std::sync::Wait;
 
 impl Cells {
     /// A cell for each of these versions, in their order, with the pen and this many readers. Each reader has seen
-    /// the version. Costs a step a cell, and a step a reader and page of 4,096 cells.
+    /// the version. Costs a step a cell, and a step a reader and page of 4,096 cells. The versions are spent a page at
+    /// a time: a page's memory is given back before its cells take theirs.
     ///
     /// # Errors
     ///
@@ -22,39 +25,84 @@ impl Cells {
     pub fn new<R: Wait>(
         _rt: &R,
         alloc: Global,
-        first: &[Newest],
+        first: FirstVersions,
         readers: usize,
     ) -> Result<(Cells, Pen, Vec<Reader>), Refusal>
-        ensures cells { IfOk result (λ made. length made.0 ≡ length first.now) }
-        ensures pen { IfOk result (λ made. made.1 ≡ record { cells = made.0; all = firsts first.now }) }
+        ensures cells { IfOk result (λ made. length made.0 ≡ length first) }
+        ensures pen { IfOk result (λ made. made.1 ≡ record { cells = made.0; all = firsts first }) }
         ensures readers { IfOk result (λ made. (length made.2.items ≡ readers)
             × All (λ reader. reader ≡ seen_all made.1) made.2.items) }
         ensures only_memory { IfErr result (λ refusal. refusal ≡ OutOfMemory) }
     {
+        let count = first.len();
         let opening = open_all(alloc, first, readers)?;
         let (list, pen, readers) = opening.finish();
-        Ok((Cells::of_list(list), pen, readers))
+        Ok((Cells::of_list(list, count), pen, readers))
     }
 }
 
 // The pages, in the order of the versions.
 fn open_all(
     alloc: Global,
-    first: &[Newest],
+    first: FirstVersions,
     readers: usize,
 ) -> Result<OpeningOf<CELL_WORDS>, Refusal>
-    ensures cells { IfOk result (λ made. length made.written.cells ≡ length first.now) }
-    ensures all { IfOk result (λ made. made.written.all ≡ firsts first.now) }
+    ensures cells { IfOk result (λ made. length made.written.cells ≡ length first) }
+    ensures all { IfOk result (λ made. made.written.all ≡ firsts first) }
     ensures readers { IfOk result (λ made. made.readers ≡ readers) }
     ensures only_memory { IfErr result (λ refusal. refusal ≡ OutOfMemory) }
 {
     let mut opening = OpeningOf::new(alloc, readers)?;
+    let blank = blank(alloc)?;
     let mut laid = Vec::new(alloc);
-    for block in first.chunks(PAGE_RECORDS) {
-        lay(block, &mut laid)?;
-        opening = opening.add(alloc, &laid)?;
+    for page in first.into_pages() {
+        opening = add(alloc, opening, page, &blank, &mut laid)?;
     }
     Ok(opening)
+}
+
+// Adds a page of cells, which begin with these versions: where all are absent, by a block that was laid before.
+fn add(
+    alloc: Global,
+    opening: OpeningOf<CELL_WORDS>,
+    page: FirstPage,
+    blank: &Vec<u64>,
+    laid: &mut Vec<u64>,
+) -> Result<OpeningOf<CELL_WORDS>, Refusal>
+    requires full { AreFull opening.written.cells }
+    requires page { (0 < length page) × (length page ≤ 4096) }
+    requires wide { length blank.now.items ≡ 4096 * 8 }
+    requires blank { first_versions 8 blank.now.items ≡ firsts (replicate 4096 absent_version) }
+    ensures ok { IfOk result (λ made. (cells : List TableId) × (length cells ≡ length (firsts page))
+        × (made ≡ opened_with opening cells (firsts page))) }
+    ensures only_memory { IfErr result (λ refusal. refusal ≡ OutOfMemory) }
+{
+    if page.is_blank() {
+        return opening.add(alloc, blank);
+    }
+    lay_page(page, laid)?;
+    opening.add(alloc, laid)
+}
+
+// The words of a page of absent records.
+fn blank(alloc: Global) -> Result<Vec<u64>, Refusal>
+    ensures wide { IfOk result (λ laid. length laid.items ≡ 4096 * 8) }
+    ensures blank { IfOk result (λ laid. first_versions 8 laid.items ≡ firsts (replicate 4096 absent_version)) }
+    ensures memory { IfErr result (λ refusal. refusal ≡ OutOfMemory) }
+{
+    let mut laid = Vec::new(alloc);
+    lay_page(FirstPage::absent(alloc, PAGE_RECORDS), &mut laid)?;
+    Ok(laid)
+}
+
+// The words of a page's versions, in place of what was laid before. The page is spent.
+fn lay_page(page: FirstPage, laid: &mut Vec<u64>) -> Result<(), Refusal>
+    ensures wide { OnOk result (length laid.new.items ≡ length page * 8) }
+    ensures ok { OnOk result (first_versions 8 laid.new.items ≡ firsts page) }
+    ensures memory { IfErr result (λ refusal. refusal ≡ OutOfMemory) }
+{
+    let versions = page.into_versions()?;
+    lay(&versions, laid)
 }
 
 // The words of these versions, one after another, in place of what was laid before.

@@ -10,7 +10,7 @@ use Rattle.cells_pages.specs.Versions.{StartsWith, AreVersions, newest}
 use Rattle.cells_pages.specs.Versions.{at}
 use Rattle.cells_pages.specs.Views.{pen_view, writing, IsWriting}
 use Rattle.cells_pages.specs.Rule.{Content, HasWords, IsContent, Fits, KeepsPage}
-use Rattle.cells_pages.specs.Plays.{OpensOf, LooksOf, PutsOf, PublishesOf}
+use Rattle.cells_pages.specs.Plays.{ShowsOf, OpensOf, LooksOf, PutsOf, PublishesOf}
 use Rattle.cells_pages.proofs.Rising.{starts_self}
 use Rattle.cells_pages.proofs.Lists.{newest-push, never_longer}
 use Rattle.cells_pages.proofs.Words.{word_below, elsewhere, changed}
@@ -34,6 +34,31 @@ module _ (n : ℕ) (some : 0 < n) where
   -- the first word of a record, in a page with this content
   first_within : (words : List ℕ) (c : Content) (p : ℕ) → IsContent n words c → p < length c.all → (j : ℕ) → j < n → p * n + j < length words
   first_within words c p k within j l = subst (λ x. p * n + j < x) (sym k.wide) (word_below n p (length c.all) j within l)
+
+  -- the pen, which stores no version, loads word i of the record at place p
+  show_tells : (words : List ℕ) (c : Content) (p i : ℕ) (v : View) → c.busy ≡ false → IsContent n words c → c.all ≡ v.seen → p < length v.seen → i < n
+      → ShowsOf n (p * n + i) v (slice_index words (p * n + i)) v
+  show_tells words c p i v idle k same within l =
+      let here : p ≡ (p * n + i) / n = sym (div-mul-add p n i l) in
+      let inside : p < length c.all = subst (λ (all : List (List (List ℕ))). p < length all) (sym same) within in
+      let all : at c.all p ≡ at v.seen p = ap (λ (all : List (List (List ℕ))). at all p) same in (
+        refl,
+        k.rests p inside (λ busy. off (sym idle ∙ busy)) i l
+            ∙ ap (λ (vs : List (List ℕ)). slice_index (newest vs) i) all
+            ∙ (λ h. slice_index (newest (at v.seen (here h))) (sym (mod-mul-add p n i l) h)),
+        subst (λ q. AreVersions n (at v.seen q)) here (subst (AreVersions n) all (k.sound p inside)),
+      )
+
+  pub shows : (slots by word p i : ℕ) (me : Me (Unit {0}) View) → me.0 ≡ pen_view me.0.seen → word ≡ p * n + i → p < length me.0.seen → i < n
+      → Allows (KeepsPage n) slots by me word (λ x. x) (λ found after. ShowsOf n word me.0 found after.0)
+  shows slots by word p i me is stands within l = subst (λ w. Allows (KeepsPage n) slots by me w (λ x. x) (λ found after. ShowsOf n w me.0 found after.0)) (sym stands)
+      (loads n slots by (p * n + i) me (ShowsOf n (p * n + i) me.0)
+      (λ s k f.
+      let knows = pen_knows n k.seat k.content by me.0 f is in (
+        me.0,
+        f,
+        show_tells s.words k.content p i me.0 knows.2 k.words (sym (ap (λ (v : View). v.seen) knows.1)) within l,
+      )))
 
   -- the pen marks the record at place p
   abbrev marked : Content → ℕ → ℕ → Content

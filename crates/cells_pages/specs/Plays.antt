@@ -28,6 +28,11 @@ abbrev pub ChecksOf : ℕ → View → ℕ → View → Type 0
 ChecksOf n v found w = (found ≡ word_in v.bits → IsLoaded n v.place v.seen v.loads v.bits w)
     × (found ≢ word_in v.bits → w ≡ sight v.seen v.loads)
 
+-- the pen, which stores no version, loads a word of a record
+abbrev pub ShowsOf : ℕ → ℕ → View → ℕ → View → Type 0
+ShowsOf n word v found w = let versions = at v.seen (word / n) in
+    (w ≡ v) × (found ≡ slice_index (newest versions) (word % n)) × AreVersions n versions
+
 -- the pen marks the record at a place
 abbrev pub OpensOf : ℕ → ℕ → View → ℕ → View → Type 0
 OpensOf n word v stored w = let versions = at v.seen (word / n) in

@@ -7,9 +7,11 @@ mod loading;
 mod meeting;
 mod page;
 mod rule;
+mod showing;
 mod storing;
 
 pub use loading::read;
 pub use meeting::meet;
 pub use page::{PAGE_RECORDS, Page, PageSeat, PageWords, open, start};
+pub use showing::{head, held};
 pub use storing::store;

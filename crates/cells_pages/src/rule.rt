@@ -61,6 +61,15 @@ impl<const N: usize> Play<(), View> for Checks<N> {
     ghost then = { λ _ v found w. ChecksOf N v.0 found w.0 };
 }
 
+/// The pen, which stores no version, loads a word of a record.
+pub(crate) struct Shows<const N: usize>;
+
+impl<const N: usize> Play<(), View> for Shows<N> {
+    ghost use Rattle.cells_pages.specs.Plays.{ShowsOf};
+
+    ghost then = { λ s v found w. ShowsOf N s.word v.0 found w.0 };
+}
+
 /// The pen marks a record, by an odd first word.
 pub(crate) struct Opens<const N: usize>;
 

@@ -29,7 +29,7 @@ use Rattle.tables_laws.proofs.NumbersLeft.{IsGapless, left_of}
 use Rattle.tables_laws.proofs.OrderAmount.{order_named}
 use Rattle.tables_laws.proofs.RisingNumbers.{numbers_rise}
 use Rattle.readset.specs.Changes.{Changes, Says, Apart}
-use Rattle.delivery.specs.Steps.{next_home, next_key, is_early_line, with_dates, taken_by, is_taken_by, after_districts}
+use Rattle.delivery.specs.Steps.{next_home, next_key, is_early_line, with_dates, with_oldest, taken_by, is_taken_by, after_districts}
 use Rattle.delivery.proofs.Taking.{taken_other, taken_before, taken_now, is_taken_before, is_taken_now}
 use Rattle.delivery.proofs.Rows.{customer_home, order_home, customer_row, new_order_row, order_row, line_row_after, oldest_left, same_customer, same_new_order}
 use Rattle.delivery.proofs.Rows.{same_order, same_line, same_oldest}
@@ -75,19 +75,26 @@ module _ (t : Database) (x : DeliveryInput) (n o : ℕ) (waits : waiting t (next
   abbrev buyer_of : Order → CustomerKey
   buyer_of r = record { warehouse = x.warehouse; district = n + 1; customer = r.customer }
 
-  -- what is changed at last: the order's rows, where it was r, its customer's, which was s, and the next order that waits
+  -- what is changed at last: the order's rows, where it was r, and its customer's, which was s
   abbrev pub ending : Order → Customer → Changes
   ending r s = (key.NewOrder k, None)
       ∷ (key.Order k, Some (order_words (carried x r)))
-      ∷ (key.Customer (buyer_of r), Some (customer_words (credited t k s)))
-      ∷ (key.Oldest (next_home x n), Some (number_words (o + 1))) ∷ []
+      ∷ (key.Customer (buyer_of r), Some (customer_words (credited t k s))) ∷ []
 
   now_taken : (m : ℕ) → is_taken_by t x (n + 1) (next_key x n m) ≡ (o == m)
   now_taken m = is_taken_now t x n (Some o) m waits
 
-  module _ (r : Order) (s : Customer) (found : get t.orders k ≡ Some r) (buyer : get t.customers (buyer_of r) ≡ Some s)
-      (gapless : IsGapless (next_order t (next_home x n)) (numbers_in (next_home x n) t.new_orders)) where
-    pub ended : Says (row_at (after_districts t x (n + 1))) (ending r s)
+  -- OLDEST becomes the next number, where the district's numbers have no gaps
+  pub oldest_next : IsGapless (next_order t (next_home x n)) (numbers_in (next_home x n) t.new_orders)
+      → row_at (after_districts t x (n + 1)) (key.Oldest (next_home x n)) ≡ Some (number_words (o + 1))
+  oldest_next gapless =
+      ap (λ a. Some (number_words a)) (oldest_left t x (n + 1) (next_home x n)
+      ∙ ap (λ w. unwrap_or (Rattle.tables.specs.OrderNumbers.least (left_of w (numbers_in (next_home x n) t.new_orders)))
+      (next_order t (next_home x n))) (taken_now t x n ∙ waits)
+      ∙ next_least (next_order t (next_home x n)) o (numbers_in (next_home x n) t.new_orders) (numbers_rise (next_home x n) t.new_orders) gapless waits)
+
+  module _ (r : Order) (s : Customer) (found : get t.orders k ≡ Some r) (buyer : get t.customers (buyer_of r) ≡ Some s) (base : Database) where
+    pub ended : Says (with_oldest base (after_districts t x (n + 1))) (ending r s)
     ended = (
       ap (option_map new_order_words) (new_order_row t x (n + 1) k ∙ ap (λ b. cond (not b) (get t.new_orders k) None) (now_taken o ∙ self o)),
       (
@@ -97,14 +104,7 @@ module _ (t : Database) (x : DeliveryInput) (n o : ℕ) (waits : waiting t (next
               ∙ (λ i. option_map (after_taken t (buyer_of r) ((taken_now t x n ∙ waits) i)) (buyer i))
               ∙ ap (λ b. Some (cond b (credited t k s) s)) (ap (λ (w : Option Order). option_map_or (λ order. order.customer == r.customer) w false) found
               ∙ self r.customer)),
-          (
-            ap (λ a. Some (number_words a)) (oldest_left t x (n + 1) (next_home x n)
-                ∙ ap (λ w. unwrap_or (Rattle.tables.specs.OrderNumbers.least (left_of w (numbers_in (next_home x n) t.new_orders)))
-                (next_order t (next_home x n))) (taken_now t x n ∙ waits)
-                ∙ next_least (next_order t (next_home x n)) o (numbers_in (next_home x n) t.new_orders) (numbers_rise (next_home x n) t.new_orders) gapless
-                waits),
-            tt,
-          ),
+          tt,
         ),
       ),
     )
@@ -188,7 +188,8 @@ module _ (t : Database) (x : DeliveryInput) (n o : ℕ) (waits : waiting t (next
           ] refl
           ∙ sym (ap (is_taken_by t x n) at ∙ is_taken_before t x n j.order)
 
-      pub ended_others : (j : RecordKey) → Apart j (ending r s) → row_at (after_districts t x (n + 1)) j ≡ row_at (with_dates t x n k r.line_count) j
+      pub ended_others : (j : RecordKey) → Apart j (ending r s)
+          → with_oldest base (after_districts t x (n + 1)) j ≡ with_oldest base (with_dates t x n k r.line_count) j
       ended_others (key.Warehouse w) apart = refl
       ended_others (key.District h) apart = refl
       ended_others (key.Customer c) apart =
@@ -209,6 +210,5 @@ module _ (t : Database) (x : DeliveryInput) (n o : ℕ) (waits : waiting t (next
           (λ away. same_order t x (n + 1) n j (taken_other t x n (order_home j) away))
       ended_others (key.OrderLine j) apart = lines_same j
       ended_others (key.Stock h) apart = refl
-      ended_others (key.Oldest h) apart =
-          ap (λ a. Some (number_words a)) (same_oldest t x (n + 1) n h (taken_other t x n h (λ same. apart.1.1.1.0 (ap key.Oldest same))))
+      ended_others (key.Oldest h) apart = refl
       ended_others (key.Last c) apart = ap (λ a. Some (number_words a)) (last_kept t x (n + 1) c ∙ sym (last_kept t x n c))

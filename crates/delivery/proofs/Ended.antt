@@ -4,18 +4,16 @@ use Rattle.std.proofs.Common.{arith}
 use Rattle.std.specs.FinMap.{get}
 use Rattle.tables.specs.Sizes.{Sizes}
 use Rattle.tables.specs.Keys.{IsOrderKey, IsCustomerKey}
-use Rattle.tables.specs.OrderNumbers.{next_order, numbers_in}
 use Rattle.tables.specs.Database.{Database}
 use Rattle.tables.specs.Conditions.{Condition2At, Condition3At}
 use Rattle.tables.specs.Records.{number_of_key}
-use Rattle.tables.specs.Rows.{row_at, order_words, customer_words, number_words}
+use Rattle.tables.specs.Rows.{order_words, customer_words}
 use Rattle.tables.specs.Delivery.{order_amount, carried, credited}
 use Rattle.tables.specs.declared.keys.DistrictKey.{DistrictKey}
 use Rattle.tables.specs.declared.keys.OrderKey.{OrderKey}
 use Rattle.tables.specs.declared.delivery.DeliveryInput.{DeliveryInput}
 use Rattle.tables.specs.declared.records.RecordKey.TheVariants as key
 use Rattle.tables_laws.proofs.OrderAmount.{amount_to, order_amount-counted}
-use Rattle.tables_laws.proofs.NumbersLeft.{IsGapless}
 use Rattle.tables_laws.proofs.RisingNumbers.{least_row}
 use Rattle.readset.specs.Reads.{ReadSetView}
 use Rattle.readset.specs.Writes.{WriteSetView, puts}
@@ -24,7 +22,8 @@ use Rattle.readset.specs.Explains.{IsCandidate, HasOrderConditions}
 use Rattle.readset.proofs.HoldsChanges.{holds-changes, not_taken}
 use Rattle.readset.specs.Transaction.{TransactionView, AtAll, ReadsMore}
 use Rattle.readset.proofs.UnderWay.{candidate_still}
-use Rattle.delivery.specs.Steps.{next_home, next_key, with_dates, amount_up_to, AreDone, AreDated, after_districts}
+use Rattle.delivery.specs.Steps.{next_home, next_key, with_dates, with_oldest, amount_up_to, AreDone, AreDated, after_districts}
+use Rattle.delivery.proofs.WithOldest.{of_other}
 use Rattle.delivery.specs.Ending.{Waits, IsCredited, buyer_of, credited_columns, ending_changes}
 use Rattle.rows.specs.Columns.{customer_columns, customer_columns_words}
 use Rattle.rows.specs.declared.columns.CustomerColumns.{CustomerColumns}
@@ -34,26 +33,33 @@ use Rattle.delivery.proofs.Dated.{begun}
 use Rattle.delivery.proofs.Done.{ending, ended, ended_others, none_changed}
 
 -- more reads leave what is done
-pub done_with_more : (t0 : Database) (x : DeliveryInput) (n : ℕ) (old new : TransactionView) (most : ℕ) → AreDone t0 x n old → ReadsMore most old new
-    → AreDone t0 x n new
+pub done_with_more : (t0 : Database) (x : DeliveryInput) (n : ℕ) (old new : TransactionView) (most : ℕ) → AreDone t0 x n 0 old → ReadsMore most old new
+    → AreDone t0 x n 0 new
 done_with_more t0 x n old new most done more t h =
-    subst (λ (w : WriteSetView). Holds t w (row_at (after_districts t x n))) (sym more.writes) (done t (candidate_still t0 old new most more t h))
+    subst (λ (w : WriteSetView). Holds t w (with_oldest (after_districts t x 0) (after_districts t x n))) (sym more.writes)
+    (done t (candidate_still t0 old new most more t h))
 
 -- before the first line of an order
-pub none_dated_yet : (t0 : Database) (x : DeliveryInput) (n o : ℕ) (old new : TransactionView) (most : ℕ) → AreDone t0 x n old → ReadsMore most old new
+pub none_dated_yet : (t0 : Database) (x : DeliveryInput) (n o : ℕ) (old new : TransactionView) (most : ℕ) → AreDone t0 x n 0 old → ReadsMore most old new
     → AreDated t0 x n o 0 new (pos 0)
 none_dated_yet t0 x n o old new most done more = record {
-  holds = λ t h. holds-changes t [] new.writes (row_at (after_districts t x n)) (row_at (with_dates t x n (next_key x n o) 0))
-      (done_with_more t0 x n old new most done more t h) tt tt tt (λ j is _. begun t x n o j is);
+  holds = λ t h.
+      let first = after_districts t x 0 in
+      let some = with_dates t x n (next_key x n o) 0 in
+      let more_rows = after_districts t x n in
+      holds-changes t [] new.writes (with_oldest first more_rows) (with_oldest first some) (done_with_more t0 x n old new most done more t h) tt tt tt
+      (λ j is _. of_other first some more_rows j (begun t x n o j is));
   sum_is = λ t h. refl;
 }
 
 -- where no order waits, a district is done by that
-pub none_to_do : (t0 : Database) (x : DeliveryInput) (n : ℕ) (old new : TransactionView) (most : ℕ) → AreDone t0 x n old → ReadsMore most old new
-    → AtAll t0 new (λ t. Rattle.tables.specs.Delivery.waiting t (next_home x n) ≡ None) → AreDone t0 x (n + 1) new
+pub none_to_do : (t0 : Database) (x : DeliveryInput) (n : ℕ) (old new : TransactionView) (most : ℕ) → AreDone t0 x n 0 old → ReadsMore most old new
+    → AtAll t0 new (λ t. Rattle.tables.specs.Delivery.waiting t (next_home x n) ≡ None) → AreDone t0 x (n + 1) 0 new
 none_to_do t0 x n old new most done more none t h =
-    holds-changes t [] new.writes (row_at (after_districts t x n)) (row_at (after_districts t x (n + 1))) (done_with_more t0 x n old new most done more t h) tt
-    tt tt (λ j is _. none_changed t x n (none t h) j)
+    let first = after_districts t x 0 in
+    holds-changes t [] new.writes (with_oldest first (after_districts t x n)) (with_oldest first (after_districts t x (n + 1)))
+    (done_with_more t0 x n old new most done more t h) tt tt tt
+    (λ j is _. of_other first (after_districts t x (n + 1)) (after_districts t x n) j (none_changed t x n (none t h) j))
 
 same_amount : (t : Database) (k : OrderKey) (m : ℕ) → amount_up_to t k m ≡ amount_to t.lines k m
 same_amount t k zero = refl
@@ -72,43 +78,43 @@ module _ (t0 : Database) (x : DeliveryInput) (n : ℕ) (k : OrderKey) (named : k
     o = k.order
 
     held_rows : (t : Database) → IsCandidate t0 new.reads t → Holds t (puts_all t0.scale new.writes (ending_changes x (next_key x n o) order columns))
-        (row_at (after_districts t x (n + 1)))
+        (with_oldest (after_districts t x 0) (after_districts t x (n + 1)))
     held_rows t h =
         let before : IsCandidate t0 old.reads t = candidate_still t0 old new 1 more t h in
         let s : t.scale ≡ t0.scale = h.of_population.scale in
         let w = waits t before in
         let j = next_key x n o in
+        let first = after_districts t x 0 in
         let found : get t.orders j ≡ Some order = subst (λ (q : OrderKey). get t.orders q ≡ Some order) named (order_at t before) in
         let c = subst (λ (q : OrderKey). IsCredited (buyer_of q order) sum columns t) named (credited_at t h) in
         let his = found_row customer_columns (get t.customers (buyer_of j order)) c.0 c.1 in
-        let gapless : IsGapless (next_order t (next_home x n)) (numbers_in (next_home x n) t.new_orders) = (w.condition_2.1, w.condition_3) in
         let key_there : IsOrderKey t.scale j = subst (λ (q : Sizes × OrderKey). IsOrderKey q.0 q.1) (λ i. (sym s i, named i)) is_key in
         let buyer_there : IsCustomerKey t.scale (buyer_of j order) =
         subst (λ (q : Sizes × OrderKey). IsCustomerKey q.0 (buyer_of q.1 order)) (λ i. (sym s i, named i)) buyer_key in
-        let so_far = subst (λ (q : WriteSetView). Holds t q (row_at (with_dates t x n j order.line_count))) (sym more.writes) (dated.holds t before) in
-        let rows : Holds t (puts_all t.scale new.writes (ending t x n o w.first order his.0)) (row_at (after_districts t x (n + 1))) =
-        holds-changes t (ending t x n o w.first order his.0) new.writes (row_at (with_dates t x n j order.line_count)) (row_at (after_districts t x (n + 1)))
+        let so_far = subst (λ (q : WriteSetView). Holds t q (with_oldest first (with_dates t x n j order.line_count))) (sym more.writes) (dated.holds t before) in
+        let rows : Holds t (puts_all t.scale new.writes (ending t x n o w.first order his.0)) (with_oldest first (after_districts t x (n + 1))) =
+        holds-changes t (ending t x n o w.first order his.0) new.writes (with_oldest first (with_dates t x n j order.line_count))
+        (with_oldest first (after_districts t x (n + 1)))
         so_far
-        (key_there, (key_there, (buyer_there, ((key_there.0, key_there.1), tt))))
-        ((λ _. (j, refl)), (not_taken _ _, (not_taken _ _, (not_taken _ _, tt))))
-        (ended t x n o w.first order his.0 found his.1 gapless)
-        (λ i _ apart. ended_others t x n o w.first order his.0 found his.1 gapless h.well_formed i apart) in
+        (key_there, (key_there, (buyer_there, tt)))
+        ((λ _. (j, refl)), (not_taken _ _, (not_taken _ _, tt)))
+        (ended t x n o w.first order his.0 found his.1 first)
+        (λ i _ apart. ended_others t x n o w.first order his.0 found his.1 first h.well_formed i apart) in
         let amount : order_amount t j ≡ sum = order_amount-counted t h.well_formed j order found ∙ sym (same_amount t j order.line_count)
         ∙ dated.sum_is t before in
         let buyer_is : customer_words (credited t j his.0) ≡ customer_columns_words columns =
         ap (λ a. customer_words (record his.0 { balance = his.0.balance +ℤ a; deliveries = his.0.deliveries + 1 })) amount
         ∙ ap (λ (q : CustomerColumns). customer_columns_words (credited_columns sum q)) his.2 ∙ ap customer_columns_words (sym c.2) in
-        subst (λ (q : WriteSetView). Holds t q (row_at (after_districts t x (n + 1))))
-        (λ i. puts (puts (puts (puts new.writes (number_of_key (s i) (key.NewOrder j)) None) (number_of_key (s i) (key.Order j))
+        subst (λ (q : WriteSetView). Holds t q (with_oldest first (after_districts t x (n + 1))))
+        (λ i. puts (puts (puts new.writes (number_of_key (s i) (key.NewOrder j)) None) (number_of_key (s i) (key.Order j))
         (Some (order_words (carried x order))))
         (number_of_key (s i) (key.Customer (buyer_of j order))) (Some (buyer_is i)))
-        (number_of_key (s i) (key.Oldest (next_home x n))) (Some (number_words (o + 1))))
         rows
 
     pub done_next : (last : TransactionView) → last.reads ≡ new.reads → last.writes ≡ puts_all t0.scale new.writes (ending_changes x k order columns)
-        → AreDone t0 x (n + 1) last
+        → AreDone t0 x (n + 1) 0 last
     done_next last same written t h =
-        subst (λ (w : WriteSetView). Holds t w (row_at (after_districts t x (n + 1))))
+        subst (λ (w : WriteSetView). Holds t w (with_oldest (after_districts t x 0) (after_districts t x (n + 1))))
         (ap (λ (j : OrderKey). puts_all t0.scale new.writes (ending_changes x j order columns)) (sym named) ∙ sym written)
         (held_rows t (subst (λ (r : ReadSetView). IsCandidate t0 r t) same h))
 

@@ -1,5 +1,5 @@
 -- A Delivery that has done all districts is explained by what was read.
-use Rattle.std.proofs.Common.{◌≡◌, ℕ, List, None, ◌++◌, map, sym, ap, ◌∙◌, subst}
+use Rattle.std.proofs.Common.{◌≡◌, ℕ, List, [], None, ◌++◌, map, sym, ap, ◌∙◌, subst}
 use Rattle.std.specs.List.{range_with_len}
 use Rattle.std.proofs.lemmas.List.{append-nil}
 use Rattle.tables.specs.Sizes.{Sizes}
@@ -17,11 +17,13 @@ use Rattle.readset.specs.Changes.{Holds}
 use Rattle.readset.specs.Explains.{IsCandidate}
 use Rattle.readset.specs.Transaction.{TransactionView, AtAll}
 use Rattle.tables.specs.Rows.{row_at}
-use Rattle.delivery.specs.Steps.{AreDone, AreTold, after_districts}
+use Rattle.readset.proofs.HoldsChanges.{holds-changes}
+use Rattle.delivery.specs.Steps.{AreDone, AreTold, after_districts, with_oldest}
+use Rattle.delivery.proofs.WithOldest.{of_one}
 use Rattle.delivery.proofs.AllDone.{all_done}
 
 module _ (t0 : Database) (x : DeliveryInput) (under_way : TransactionView) (orders : List DeliveredOrder)
-    (done : AreDone t0 x t0.scale.districts under_way) (no_history : under_way.writes.history_row ≡ None)
+    (done : AreDone t0 x t0.scale.districts t0.scale.districts under_way) (no_history : under_way.writes.history_row ≡ None)
     (told : AreTold t0 x t0.scale.districts under_way orders)
   where
     module _ (t : Database) (h : IsCandidate t0 under_way.reads t) where
@@ -32,9 +34,14 @@ module _ (t0 : Database) (x : DeliveryInput) (under_way : TransactionView) (orde
           ∙ told t h in
           ap (λ (os : List DeliveredOrder). record { warehouse = x.warehouse; orders = os }) same
 
+      all_rows : Holds t under_way.writes (row_at (after_districts t x t0.scale.districts))
+      all_rows =
+          let last = after_districts t x t0.scale.districts in
+          holds-changes t [] under_way.writes (with_oldest last last) (row_at last) (done t h) tt tt tt (λ j _ _. sym (of_one last j))
+
       holds : Holds t under_way.writes (row_at (after_delivery t x))
       holds = subst (λ (d : Database). Holds t under_way.writes (row_at d)) (all_done t x h.well_formed)
-          (subst (λ (s : Sizes). Holds t under_way.writes (row_at (after_districts t x s.districts))) (sym h.of_population.scale) (done t h))
+          (subst (λ (s : Sizes). Holds t under_way.writes (row_at (after_districts t x s.districts))) (sym h.of_population.scale) all_rows)
 
     pub commits : AtAll t0 under_way
         (λ t. IsCommitOf t (input.Delivery x) under_way.writes (reply.Delivery (record { warehouse = x.warehouse; orders = orders })))

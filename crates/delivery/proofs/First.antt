@@ -18,7 +18,8 @@ use Rattle.tables_laws.proofs.NumbersLeft.{left_of, all_left}
 use Rattle.readset.specs.Reads.{ReadSetView}
 use Rattle.readset.specs.Writes.{no_writes}
 use Rattle.readset.proofs.HoldsChanges.{holds-changes, holds_first}
-use Rattle.delivery.specs.Steps.{AreDone, taken_by, is_taken_by, after_districts}
+use Rattle.delivery.specs.Steps.{AreDone, taken_by, is_taken_by, after_districts, with_oldest}
+use Rattle.delivery.proofs.WithOldest.{of_one}
 use Rattle.delivery.proofs.Rows.{customer_home, order_home, customer_row, new_order_row, order_row, line_row_after, oldest_left}
 use Rattle.delivery.proofs.LastKept.{last_kept}
 
@@ -57,6 +58,6 @@ module _ (t : Database) (x : DeliveryInput) where
   none_taken_yet (key.Last c) is = ap (λ o. Some (number_words o)) (last_kept t x 0 c)
 
 -- before the first district
-pub none_done : (t0 : Database) (x : DeliveryInput) (reads : ReadSetView) → AreDone t0 x 0 (record { reads = reads; writes = no_writes })
-none_done t0 x reads t h = holds-changes t [] no_writes (row_at t) (row_at (after_districts t x 0)) (holds_first t) tt tt tt
-    (λ j is _. none_taken_yet t x j is)
+pub none_done : (t0 : Database) (x : DeliveryInput) (reads : ReadSetView) → AreDone t0 x 0 0 (record { reads = reads; writes = no_writes })
+none_done t0 x reads t h = holds-changes t [] no_writes (row_at t) (with_oldest (after_districts t x 0) (after_districts t x 0)) (holds_first t) tt tt tt
+    (λ j is _. of_one (after_districts t x 0) j ∙ none_taken_yet t x j is)

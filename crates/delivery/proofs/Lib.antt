@@ -11,3 +11,5 @@ mod First
 mod Told
 mod Explained
 mod AllDone
+mod WithOldest
+mod RaisedOldest

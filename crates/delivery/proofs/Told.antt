@@ -18,7 +18,7 @@ range_push a (suc n) =
     ap (λ l. a ∷ l) (range_push (a + 1) n ∙ ap (λ b. range_with_len (a + 1) n ++ b ∷ []) same)
 
 pub told_next : (t0 : Database) (x : DeliveryInput) (n : ℕ) (old more : TransactionView) (orders : List DeliveredOrder) (o : DeliveredOrder)
-    → AreTold t0 x n old orders → GoesOn 19 19 old more
+    → AreTold t0 x n old orders → GoesOn 19 18 old more
     → ((t : Database) → IsCandidate t0 more.reads t → o ≡ record { district = n + 1; order = waiting t (record { warehouse = x.warehouse; district = n + 1 }) })
     → AreTold t0 x (n + 1) more (orders ++ o ∷ [])
 told_next t0 x n old more orders o told keeps is t h =
@@ -27,4 +27,4 @@ told_next t0 x n old more orders o told keeps is t h =
     let last : 1 + n ≡ n + 1 = omega arith in
     ap (λ m. map f (range_with_len 1 m)) next ∙ ap (map f) (range_push 1 n ∙ ap (λ b. range_with_len 1 n ++ b ∷ []) last)
     ∙ map-append f (range_with_len 1 n) ((n + 1) ∷ [])
-    ∙ (λ i. told t (candidate_then t0 old more 19 19 keeps t h) i ++ sym (is t h) i ∷ [])
+    ∙ (λ i. told t (candidate_then t0 old more 19 18 keeps t h) i ++ sym (is t h) i ∷ [])

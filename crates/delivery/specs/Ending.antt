@@ -1,5 +1,5 @@
 -- How a Delivery ends a district (TPC-C 2.7.4.2): the order that it takes, its customer, and the next order that waits.
-use Rattle.std.specs.Prelude.{◌≡◌, ℕ, ◌+◌, ℤ, ◌+ℤ◌, None, Some, [], ◌∷◌}
+use Rattle.std.specs.Prelude.{◌≡◌, ℕ, ◌+◌, ℤ, ◌+ℤ◌, Option, None, Some, [], ◌∷◌}
 use Rattle.std.specs.Option.{option_map}
 use Rattle.std.specs.FinMap.{get}
 use Rattle.tables.specs.Database.{Database}
@@ -7,6 +7,7 @@ use Rattle.tables.specs.Conditions.{Condition2At, Condition3At}
 use Rattle.tables.specs.Rows.{order_words, number_words}
 use Rattle.tables.specs.Delivery.{waiting, carried}
 use Rattle.tables.specs.declared.keys.CustomerKey.{CustomerKey}
+use Rattle.tables.specs.declared.keys.DistrictKey.{DistrictKey}
 use Rattle.tables.specs.declared.keys.OrderKey.{OrderKey}
 use Rattle.tables.specs.declared.rows.Order.{Order}
 use Rattle.tables.specs.declared.delivery.DeliveryInput.{DeliveryInput}
@@ -36,10 +37,13 @@ IsCredited k sum columns t =
 abbrev pub buyer_of : OrderKey → Order → CustomerKey
 buyer_of k order = record { warehouse = k.warehouse; district = k.district; customer = order.customer }
 
--- what changes at the end: the NEW-ORDER row goes, the order has its carrier, the customer's row, and the next number in
--- OLDEST
+-- what changes at the end: the NEW-ORDER row goes, the order has its carrier, and the customer's row
 abbrev pub ending_changes : DeliveryInput → OrderKey → Order → CustomerColumns → Changes
 ending_changes x k order customer =
     (key.NewOrder k, None) ∷ (key.Order k, Some (order_words (carried x order)))
-    ∷ (key.Customer (buyer_of k order), Some (customer_columns_words customer))
-    ∷ (key.Oldest (record { warehouse = k.warehouse; district = k.district }), Some (number_words (k.order + 1))) ∷ []
+    ∷ (key.Customer (buyer_of k order), Some (customer_columns_words customer)) ∷ []
+
+-- what changes in OLDEST, where this order was taken: its number becomes the next
+abbrev pub oldest_changes : DistrictKey → Option ℕ → Changes
+oldest_changes k None = []
+oldest_changes k (Some o) = (key.Oldest k, Some (number_words (o + 1))) ∷ []

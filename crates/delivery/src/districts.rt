@@ -1,5 +1,5 @@
 //! The districts of a Delivery, on record cells (TPC-C 2.7.4.2).
-ghost use Rattle.std.specs.Prelude.{◌≡◌, ◌+◌, ◌-◌, ◌*◌, ◌^◌, ◌<◌, ◌≤◌, IsSome, IfOk, IfErr, OnOk};
+ghost use Rattle.std.specs.Prelude.{◌≡◌, ◌+◌, ◌-◌, ◌*◌, ◌^◌, ◌<◌, ◌≤◌, All, IsSome, IfOk, IfErr, OnOk, length};
 ghost use Rattle.std.specs.Option.{ForSome};
 ghost use Rattle.tables.specs.Sizes.{IsNumber};
 ghost use Rattle.tables.specs.Keys.{IsDistrictKey, order_key};
@@ -10,7 +10,7 @@ ghost use Rattle.tables.specs.declared.records.RecordKey.TheVariants as key_vari
 ghost use Rattle.readset.specs.Reads.{held};
 ghost use Rattle.readset.specs.Explains.{HasOrderConditions};
 ghost use Rattle.readset.specs.Transaction.{Finds, GoesOn, IsStepRefusal, ReadsMore};
-ghost use Rattle.delivery.specs.Steps.{AreDone, AreTold};
+ghost use Rattle.delivery.specs.Steps.{AreDone, AreOldestRead, AreTold};
 
 use crate::order::deliver_order;
 use money::Refusal;
@@ -20,8 +20,8 @@ use std::alloc::Global;
 use std::sync::Wait;
 use tables::{DeliveredOrder, DeliveryInput, DistrictKey, RecordKey};
 
-/// Does all districts of the warehouse, from the first on, and gives the order taken in each. Costs what each costs,
-/// and memory for the orders.
+/// Does all districts of the warehouse, from the first on, but for OLDEST, and gives the order taken in each. Costs
+/// what each costs, and memory for the orders.
 ///
 /// # Errors
 ///
@@ -33,13 +33,16 @@ pub(crate) fn deliver_districts<R: Wait, K: Start>(
     delivery: &DeliveryInput,
 ) -> Result<Vec<DeliveredOrder>, Refusal>
     requires input { IsDelivery K.tables.scale delivery.now }
-    requires done { AreDone K.tables delivery.now 0 transaction.old }
+    requires done { AreDone K.tables delivery.now 0 0 transaction.old }
     ensures done { OnOk result
-        (AreDone K.tables delivery.now K.tables.scale.districts transaction.new) }
+        (AreDone K.tables delivery.now K.tables.scale.districts 0 transaction.new) }
     ensures told { IfOk result (λ orders.
         AreTold K.tables delivery.now K.tables.scale.districts transaction.new orders.items) }
+    ensures all { IfOk result (λ orders. length orders.items ≡ K.tables.scale.districts) }
+    ensures range { IfOk result (λ orders. All (λ o. ForSome o.order (λ n. n + 1 < 2 ^ 32)) orders.items) }
+    ensures oldest { OnOk result (AreOldestRead K.tables delivery.now K.tables.scale.districts transaction.new) }
     ensures refused { IfErr result (IsStepRefusal K.tables transaction.new) }
-    ensures goes_on { GoesOn (19 * K.tables.scale.districts) (19 * K.tables.scale.districts) transaction.old
+    ensures goes_on { GoesOn (19 * K.tables.scale.districts) (18 * K.tables.scale.districts) transaction.old
         transaction.new }
     ensures few { K.tables.scale.districts ≤ MAX_DISTRICTS }
 {
@@ -52,7 +55,8 @@ pub(crate) fn deliver_districts<R: Wait, K: Start>(
     Ok(orders)
 }
 
-/// Does one district: takes the order that waits longest there, if one does. Costs at most nineteen loads.
+/// Does one district, but for OLDEST: takes the order that waits longest there, if one does. Costs at most nineteen
+/// loads.
 fn deliver_district<R: Wait, K: Start>(
     rt: &R,
     transaction: &mut Transaction<'_, K>,
@@ -61,13 +65,16 @@ fn deliver_district<R: Wait, K: Start>(
 ) -> Result<DeliveredOrder, Refusal>
     requires input { IsDelivery K.tables.scale delivery.now }
     requires district { IsNumber K.tables.scale.districts district }
-    requires done { AreDone K.tables delivery.now (district - 1) transaction.old }
-    ensures done { OnOk result (AreDone K.tables delivery.now district transaction.new) }
+    requires done { AreDone K.tables delivery.now (district - 1) 0 transaction.old }
+    ensures done { OnOk result (AreDone K.tables delivery.now district 0 transaction.new) }
     ensures told { Finds K.tables transaction.new result (λ o t. o ≡ record {
       district = district;
       order = waiting t (record { warehouse = delivery.now.warehouse; district = district });
     }) }
-    ensures goes_on { GoesOn 19 19 transaction.old transaction.new }
+    ensures range { IfOk result (λ o. ForSome o.order (λ n. n + 1 < 2 ^ 32)) }
+    ensures holds { OnOk result (IsSome (held transaction.new.reads (number_of_key K.tables.scale
+        (key_variants.Oldest (record { warehouse = delivery.now.warehouse; district = district }))))) }
+    ensures goes_on { GoesOn 19 18 transaction.old transaction.new }
 {
     let home = delivery.district_key(district);
     let Some(number) = read_waiting(rt, transaction, home)? else {

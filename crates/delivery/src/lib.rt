@@ -3,6 +3,7 @@
 
 mod districts;
 mod lines;
+mod oldest;
 mod order;
 mod transaction;
 

@@ -1,5 +1,5 @@
 //! The order that a Delivery takes in a district, on record cells (TPC-C 2.7.4.2).
-ghost use Rattle.std.specs.Prelude.{◌≡◌, ◌+◌, ◌-◌, ◌^◌, ◌<◌, ◌≤◌, ◌≤ℤ◌, pos, IsSome, IfOk, IfErr, OnOk};
+ghost use Rattle.std.specs.Prelude.{◌≡◌, ◌-◌, ◌≤◌, ◌≤ℤ◌, pos, IsSome, IfOk, IfErr, OnOk};
 ghost use Rattle.std.specs.FinMap.{get};
 ghost use Rattle.tables.specs.Sizes.{IsNumber};
 ghost use Rattle.tables.specs.Keys.{IsOrderKey, IsCustomerKey};
@@ -18,13 +18,13 @@ ghost use Rattle.delivery.specs.Ending.{Waits, IsCredited, buyer_of, credited_co
 use crate::lines::date_lines;
 use money::{Cents, Refusal};
 use readset::{Start, Transaction, put_row, read_present, read_row};
-use rows::{CustomerColumns, Oldest};
+use rows::CustomerColumns;
 use std::sync::Wait;
 use tables::{CustomerKey, DeliveryInput, Order, OrderKey, RecordKey};
 
 /// Takes the order of this key, which waits longest in its district: reads its ORDER record, its lines and its
-/// customer's, and says what these, its NEW-ORDER record and OLDEST are to hold. Costs at most seventeen loads and some
-/// forty look-ups.
+/// customer's, and says what these and its NEW-ORDER record are to hold. Costs at most seventeen loads and some forty
+/// look-ups.
 ///
 /// # Errors
 ///
@@ -37,18 +37,15 @@ pub(crate) fn deliver_order<R: Wait, K: Start>(
 ) -> Result<(), Refusal>
     requires input { IsDelivery K.tables.scale delivery.now }
     requires key { IsOrderKey K.tables.scale key }
-    requires next { key.order + 1 < 2 ^ 32 }
     requires home { key.warehouse ≡ delivery.now.warehouse }
     requires holds_new_order { IsSome (held transaction.old.reads
         (number_of_key K.tables.scale (key_variants.NewOrder key))) }
-    requires holds_oldest { IsSome (held transaction.old.reads (number_of_key K.tables.scale
-        (key_variants.Oldest (record { warehouse = key.warehouse; district = key.district })))) }
     requires waits { AtAll K.tables transaction.old (λ t. Waits t delivery.now (key.district - 1) key.order) }
-    requires done { AreDone K.tables delivery.now (key.district - 1) transaction.old }
+    requires done { AreDone K.tables delivery.now (key.district - 1) 0 transaction.old }
     ensures done { OnOk result
-        (AreDone K.tables delivery.now key.district transaction.new) }
+        (AreDone K.tables delivery.now key.district 0 transaction.new) }
     ensures refused { IfErr result (IsStepRefusal K.tables transaction.new) }
-    ensures goes_on { GoesOn 17 19 transaction.old transaction.new }
+    ensures goes_on { GoesOn 17 18 transaction.old transaction.new }
 {
     let order = read_order(rt, transaction, key)?;
     let sum = date_lines(rt, transaction, delivery, key, order.line_count)?;
@@ -112,8 +109,8 @@ fn credited(customer: &CustomerColumns, sum: Cents) -> CustomerColumns
     }
 }
 
-/// Says what the records at a district's end are to hold: no NEW-ORDER row, the order with its carrier, the customer's
-/// row, and the next number in OLDEST.
+/// Says what the records at a district's end are to hold: no NEW-ORDER row, the order with its carrier, and the
+/// customer's row.
 fn end_order<K: Start>(
     transaction: &mut Transaction<'_, K>,
     delivery: &DeliveryInput,
@@ -122,19 +119,16 @@ fn end_order<K: Start>(
     customer: &CustomerColumns,
 ) -> Result<(), Refusal>
     requires key { IsOrderKey K.tables.scale key }
-    requires next { key.order + 1 < 2 ^ 32 }
     requires customer { IsNumber K.tables.scale.customers order.now.customer }
     requires holds_new_order { IsSome (held transaction.old.reads
         (number_of_key K.tables.scale (key_variants.NewOrder key))) }
     requires holds_order { IsSome (held transaction.old.reads (number_of_key K.tables.scale (key_variants.Order key))) }
     requires holds_buyer { IsSome
         (held transaction.old.reads (number_of_key K.tables.scale (key_variants.Customer (buyer_of key order.now)))) }
-    requires holds_oldest { IsSome (held transaction.old.reads (number_of_key K.tables.scale
-        (key_variants.Oldest (record { warehouse = key.warehouse; district = key.district })))) }
     ensures written { OnOk result (transaction.new.writes
         ≡ puts_all K.tables.scale transaction.old.writes (ending_changes delivery.now key order.now customer.now)) }
     ensures reads { transaction.new.reads ≡ transaction.old.reads }
-    ensures goes_on { GoesOn 0 4 transaction.old transaction.new }
+    ensures goes_on { GoesOn 0 3 transaction.old transaction.new }
     ensures only_memory { IfErr result (λ refusal. refusal ≡ OutOfMemory) }
 {
     let home = key.district_key();
@@ -142,11 +136,7 @@ fn end_order<K: Start>(
         carrier: Some(delivery.carrier),
         ..*order
     };
-    let next = Oldest {
-        order: key.order + 1,
-    };
     transaction.put(RecordKey::NewOrder(key), None)?;
     put_row(transaction, key, &carried)?;
-    put_row(transaction, home.customer_key(order.customer), customer)?;
-    put_row(transaction, home, &next)
+    put_row(transaction, home.customer_key(order.customer), customer)
 }

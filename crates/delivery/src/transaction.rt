@@ -7,6 +7,7 @@ ghost use Rattle.readset.specs.Commit.{IsCommitOf};
 ghost use Rattle.readset.specs.Transaction.{Finds, IsExecuted};
 
 use crate::districts::deliver_districts;
+use crate::oldest::raise_oldest;
 use cells::Reader;
 use money::Refusal;
 use readset::{Start, Transaction, Work};
@@ -52,7 +53,9 @@ fn deliver<R: Wait, K: Start>(
     ensures reads { length transaction.new.reads ≤ 190 }
     ensures writes { length transaction.new.writes.values ≤ 190 }
 {
+    transaction.reserve(190, 190)?;
     let orders = deliver_districts(rt, alloc, transaction, delivery)?;
+    raise_oldest(transaction, delivery, &orders)?;
     Ok(Reply::Delivery(DeliveryReply {
         warehouse: delivery.warehouse,
         orders: Lines::new(orders),

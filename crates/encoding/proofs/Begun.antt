@@ -1,4 +1,4 @@
--- What a pass over a table's entries leaves of newest versions.
+-- What a pass over a table's entries leaves of first versions.
 use Rattle.std.proofs.Common.{◌≡◌, ◌≢◌, ℕ, ◌<◌, ◌==◌, true, false, cond, Option, Some, List, [], ◌∷◌, length, get_or, set, refl, sym, ap, ◌∙◌, arith}
 use Rattle.std.proofs.Common.{length-set, get_or-set_other}
 use Rattle.std.specs.List.{fold}

@@ -1,6 +1,6 @@
 -- What the tables' rows let records begin with, by key.
-use Rattle.std.proofs.Common.{◌≡◌, ◌≢◌, ℕ, ◌-◌, ◌<◌, ◌+◌, ◌==◌, Bool, true, false, true≢false, cond, Option, Some, None, List, [], ◌∷◌, ◌++◌, length, take}
-use Rattle.std.proofs.Common.{get_or, replicate, refl, sym, ap, ◌∙◌, subst, arith, take_all}
+use Rattle.std.proofs.Common.{◌≡◌, ◌≢◌, ℕ, ◌-◌, ◌<◌, ◌+◌, ◌==◌, Bool, true, false, true≢false, cond, Option, Some, None, List, [], ◌∷◌, length}
+use Rattle.std.proofs.Common.{get_or, replicate, refl, sym, ap, ◌∙◌, subst, arith}
 use Rattle.std.specs.List.{AllByRecursion, fold}
 use Rattle.std.specs.Option.{option_map, option_map_or}
 use Rattle.std.specs.List.Sorted.{IsStrictlySortedBy}
@@ -41,15 +41,12 @@ module _ (s : Sizes) (absent : Newest) (is_absent : newest_words absent ≡ firs
       ap (λ (o : Option Newest). option_map_or newest_words o [])
       (slice_get-get_or (replicate count absent) n absent longer ∙ ap Some (get_or-replicate count n absent absent h)) ∙ is_absent
 
-  pub absent_begun : (count len : ℕ) (old newest : List Newest) → old ≡ [] → len ≡ 0 → newest ≡ take count old ++ replicate (count - len) absent
-      → count ≡ record_count s → AreBegun s (λ k. None) newest
-  absent_begun count len old newest none zero grown all =
-      let whole : count - 0 ≡ record_count s = omega (arith, all) in
-      let is : newest ≡ replicate (record_count s) absent = grown ∙ (λ i. take count (none i) ++ replicate (count - zero i) absent)
-      ∙ (λ i. take_all count [] (omega arith) i ++ replicate (whole i) absent) in record {
-        count = ap length is ∙ length-replicate (record_count s) absent;
-        words = λ k h. ap (λ (ns : List Newest). words_at ns (number_of_key s k)) is ∙ replicated (record_count s) (number_of_key s k) (named s k h).0;
-      }
+  pub absent_begun : (count : ℕ) (first : List Newest) → first ≡ replicate count absent → count ≡ record_count s → AreBegun s (λ k. None) first
+  absent_begun count first is all = record {
+    count = ap length is ∙ length-replicate count absent ∙ all;
+    words = λ k h. ap (λ (ns : List Newest). words_at ns (number_of_key s k)) is
+        ∙ replicated count (number_of_key s k) (subst (λ m. number_of_key s k < m) (sym all) (named s k h).0);
+  }
 
 -- ---- records and their tables
 -- a table by its number

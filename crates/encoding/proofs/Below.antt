@@ -1,10 +1,10 @@
 -- Tables that are built record by record: the records below a number hold their values, and the others nothing yet.
-use Rattle.std.proofs.Common.{◌≡◌, ◌≢◌, ℕ, ◌+◌, ◌<◌, ◌≤◌, nat_lt, cond, IsSome, List, [], length, get_or, Option, Some, None, true≢false, refl, sym, ap, ◌∙◌}
+use Rattle.std.proofs.Common.{◌≡◌, ◌≢◌, ℕ, ◌+◌, ◌<◌, ◌≤◌, nat_lt, cond, IsSome, List, Option, Some, None, true≢false, refl, sym, ap, ◌∙◌}
 use Rattle.std.proofs.Common.{subst, arith}
-use Rattle.std.specs.Option.{option_map, option_map_or}
+use Rattle.std.specs.Option.{option_map}
 use Rattle.std.specs.FinMap.{empty, get-empty}
 use Rattle.std.specs.declared.cmp.Ordering.{Ordering}
-use Rattle.std.proofs.lemmas.Option.{none-some, slice_get_read}
+use Rattle.std.proofs.lemmas.Option.{none-some}
 use Rattle.std.proofs.lemmas.Bool.Decides.{nat_tests}
 use Rattle.std.specs.Ordering.{nat_cmp}
 use Rattle.tables.specs.Sizes.{Sizes}
@@ -20,10 +20,7 @@ use Rattle.tables.specs.declared.records.RecordKey.TheVariants as key
 use Rattle.tables.proofs.Numbers.{named, numbered}
 use Rattle.rows.specs.Columns.{IsOrderOfScale}
 use Rattle.encoding.specs.Held.{row_count, by_key, IsTableOf, IsWarehouseOf, IsDistrictOf, IsCustomerOf, AreTables}
-use Rattle.cells.specs.Versions.{value_in}
-use Rattle.cells.specs.Records.{newest_words}
-use Rattle.cells.specs.declared.cells.Newest.{Newest}
-use Rattle.encoding.specs.Newest.{value_at, AreLawful}
+use Rattle.encoding.specs.Newest.{AreLawful}
 use Rattle.encoding.specs.Puts.{MayHold, Puts}
 use Rattle.encoding.proofs.Numbered.{row_below}
 use Rattle.encoding.proofs.Puts.{same_values}
@@ -128,7 +125,3 @@ lawful_by_key s values lawful = by_kind
     by_kind (key.Order k) is = row (key.Order k) is tt
     by_kind (key.OrderLine k) is = row (key.OrderLine k) is tt
     by_kind (key.Stock k) is = row (key.Stock k) is tt
-
--- the value of a newest version that was read
-pub value_read : (newest : List Newest) (n : ℕ) (x : Newest) → n < length newest → x ≡ get_or newest n x → value_at newest n ≡ value_in (newest_words x)
-value_read newest n x h e = ap (λ found. value_in (option_map_or newest_words found [])) (slice_get_read newest (length newest) n x refl h e)

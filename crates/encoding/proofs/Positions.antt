@@ -1,11 +1,12 @@
--- The newest versions of records, as a list by record number.
-use Rattle.std.proofs.Common.{◌≡◌, ◌≢◌, ℕ, ◌<◌, zero, suc, Option, Some, List, [], ◌∷◌, length, refl, sym, ap, ◌∙◌, subst, arith}
+-- The first versions of records, as a list by record number.
+use Rattle.std.proofs.Common.{◌≡◌, ◌≢◌, ℕ, ◌<◌, zero, suc, Option, Some, None, List, [], ◌∷◌, length, refl, sym, ap, ◌∙◌, subst, arith}
 use Rattle.std.proofs.lemmas.List.{get_or-set_same, length-set}
 use Rattle.std.proofs.lemmas.Option.{slice_get-get_or}
 use Rattle.std.specs.Option.{option_map_or}
 use Rattle.std.specs.List.{slice_get, slice_set, slice_index_or}
-use Rattle.cells.specs.First.{firsts}
-use Rattle.cells.specs.Records.{at, newest_words}
+use Rattle.cells.specs.First.{first_version, firsts}
+use Rattle.cells.specs.Versions.{AllVersions, newest as newest_of, value_in}
+use Rattle.cells.specs.Records.{PenView, at, held_by, newest_words}
 use Rattle.cells.specs.declared.cells.Newest.{Newest}
 use Rattle.encoding.specs.Newest.{words_at}
 
@@ -29,3 +30,12 @@ pub at_first : (newest : List Newest) (n : ℕ) → n < length newest → at (fi
 at_first [] n h = absurd (omega (arith, h))
 at_first (v ∷ vs) zero h = refl
 at_first (v ∷ vs) (suc n) h = at_first vs n (omega (arith, h))
+
+-- and what it holds
+pub held_first : (first : List Newest) (pen : PenView) → pen.all ≡ firsts first → (n : ℕ) → n < length first → held_by pen n ≡ value_in (words_at first n)
+held_first first pen is n h = ap (λ (l : List (List ℕ)). value_in (newest_of l)) (ap (λ (all : AllVersions). at all n) is ∙ at_first first n h)
+
+-- what a first version says is what it begins with
+pub first_value : (w : Option (List ℕ)) → value_in (first_version w) ≡ w
+first_value (Some words) = refl
+first_value None = refl

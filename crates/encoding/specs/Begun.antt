@@ -1,4 +1,4 @@
--- Newest versions that are being filled, a table at a time. No public clause cites them.
+-- First versions that are being filled, a table at a time. No public clause cites them.
 use Rattle.std.specs.Prelude.{◌≡◌, ℕ, ◌==◌, cond, Option, None, List, [], ◌∷◌, length}
 use Rattle.tables.specs.Sizes.{Sizes}
 use Rattle.tables.specs.Database.{Database}

@@ -1,4 +1,4 @@
-//! Tables from the newest versions of their records.
+//! Tables of what their records hold.
 
 ghost use Rattle.std.specs.Prelude.{◌≡◌, ℕ, ◌<◌, ◌≤◌, ◌++◌, length, None, IfOk, IfErr, OnOk};
 ghost use Rattle.money.specs.declared.refusal.Refusal.TheVariants.{OutOfMemory};
@@ -9,19 +9,20 @@ ghost use Rattle.tables.specs.Rows.{rows};
 ghost use Rattle.tables.specs.Sizes.{IsScale};
 ghost use Rattle.tables.specs.WellFormed.{IsWellFormed};
 ghost use Rattle.population.specs.Initial.{initial};
+ghost use Rattle.cells.specs.Records.{held_by};
 ghost use Rattle.encoding.specs.Held.{row_count, by_key, AreTables};
-ghost use Rattle.encoding.specs.Newest.{value_at, AreLawful};
+ghost use Rattle.encoding.specs.Newest.{AreLawful};
 
 use crate::putting::put;
-use cells::Newest;
+use cells::{Cells, Pen};
 use money::Refusal;
 use population::Population;
 use std::alloc::{AllocError, Global};
 use tables::{History, Scale, Table, Tables, key_of};
 
-/// Tables whose records of rows hold what these newest versions say, with these rows added to the population's
-/// HISTORY, and the population's columns that never change. A record whose newest version is absent has no row. The
-/// versions stand by record number; those of the index records may follow, and aren't read.
+/// Tables whose records of rows hold what these cells do, by the pen of them, with these rows added to the population's
+/// HISTORY, and the population's columns that never change. A record whose newest version is absent has no row. There
+/// may be cells of the index records too, which aren't read.
 ///
 /// Costs what populating costs, and a look at each record.
 ///
@@ -31,26 +32,29 @@ use tables::{History, Scale, Table, Tables, key_of};
 pub fn tables_of(
     alloc: Global,
     population: &Population,
-    newest: &[Newest],
+    cells: &Cells,
+    pen: &mut Pen,
     added: &[History],
 ) -> Result<Tables, Refusal>
-    requires count { row_count (initial population.now).scale ≤ length newest.now }
-    requires lawful { AreLawful (initial population.now).scale (value_at newest.now) }
+    requires own { pen.old.cells ≡ cells.now }
+    requires count { row_count (initial population.now).scale ≤ length cells.now }
+    requires lawful { AreLawful (initial population.now).scale (held_by pen.old) }
+    ensures pen { pen.new ≡ pen.old }
     ensures tables { IfOk result (λ tables. AreTables (initial population.now)
-        (by_key (initial population.now).scale (value_at newest.now)) (database tables)) }
+        (by_key (initial population.now).scale (held_by pen.old)) (database tables)) }
     ensures rows { IfOk result (λ tables. (n : ℕ) → n < row_count (initial population.now).scale
-        → rows (database tables) n ≡ value_at newest.now n) }
+        → rows (database tables) n ≡ held_by pen.old n) }
     ensures population { IfOk result (λ tables. IsOf (initial population.now) (database tables)) }
     ensures history { IfOk result (λ tables. (database tables).history
         ≡ (initial population.now).history ++ added.now) }
     ensures is { IfOk result (λ tables. (t : Database) → IsOf (initial population.now) t → IsWellFormed t
-        → ((n : ℕ) → n < row_count (initial population.now).scale → rows t n ≡ value_at newest.now n)
+        → ((n : ℕ) → n < row_count (initial population.now).scale → rows t n ≡ held_by pen.old n)
         → t.history ≡ (initial population.now).history ++ added.now → database tables ≡ t) }
     ensures only_memory { IfErr result (λ refusal. refusal ≡ OutOfMemory) }
 {
     let first = population.tables();
     let mut tables = without_rows(alloc, first, added)?;
-    put_rows(&mut tables, first, newest)?;
+    put_rows(&mut tables, first, cells, pen)?;
     Ok(tables)
 }
 
@@ -69,18 +73,25 @@ fn without_rows(alloc: Global, population: &Tables, added: &[History]) -> Result
 }
 
 /// Puts what each record of a row holds into tables that have no row of a record.
-fn put_rows(tables: &mut Tables, population: &Tables, newest: &[Newest]) -> Result<(), AllocError>
+fn put_rows(
+    tables: &mut Tables,
+    population: &Tables,
+    cells: &Cells,
+    pen: &mut Pen,
+) -> Result<(), AllocError>
+    requires own { pen.old.cells ≡ cells.now }
     requires population { IsWellFormed (database population.now) }
     requires lawful_scale { IsScale (database population.now).scale }
     requires none { AreTables (database population.now) (λ key. None) (database tables.old) }
-    requires count { row_count (database population.now).scale ≤ length newest.now }
-    requires lawful { AreLawful (database population.now).scale (value_at newest.now) }
+    requires count { row_count (database population.now).scale ≤ length cells.now }
+    requires lawful { AreLawful (database population.now).scale (held_by pen.old) }
+    ensures pen { pen.new ≡ pen.old }
     ensures tables { OnOk result (AreTables (database population.now)
-        (by_key (database population.now).scale (value_at newest.now)) (database tables.new)) }
+        (by_key (database population.now).scale (held_by pen.old)) (database tables.new)) }
     ensures history { OnOk result ((database tables.new).history ≡ (database tables.old).history) }
 {
     for number in 0..row_count(&population.scale) {
-        if let Some(words) = newest[number as usize].value() {
+        if let Some(words) = cells.held(pen, number) {
             let key = key_of(&population.scale, number);
             put(tables, population, key, &words)?;
         }

@@ -23,8 +23,9 @@ use Rattle.readset.specs.Explains.{IsCandidate}
 use Rattle.readset.specs.Transaction.{TransactionView, AtAll}
 use Rattle.readset.proofs.HoldsChanges.{holds_first}
 use Rattle.readset.proofs.MoreReads.{candidate_before}
-use Rattle.neworder.specs.Steps.{after_lines, numbered_columns, opening_changes, AreTaken}
+use Rattle.neworder.specs.Steps.{after_lines, numbered_columns, opening_changes, with_last, AreTaken}
 use Rattle.neworder.specs.Opening.{IsHomeTaken}
+use Rattle.neworder.proofs.Opened.{all_changes}
 use Rattle.neworder.proofs.HoldsSteps.{holds_opened}
 
 module _ (t0 : Database) (x : NewOrderInput) (c : DistrictColumns) (valid : IsNewOrder t0.scale x) where
@@ -51,7 +52,7 @@ module _ (t0 : Database) (x : NewOrderInput) (c : DistrictColumns) (valid : IsNe
     named t h = let e = (homes t h).next in λ i. record { warehouse = x.warehouse; district = x.district; order = e i }
 
     held_rows : (t : Database) → IsCandidate t0 first.reads t
-        → Holds t (puts_all t0.scale no_writes (opening_changes x k (numbered_columns c))) (row_at (after_lines t x []))
+        → Holds t (puts_all t0.scale no_writes (all_changes x k (numbered_columns c))) (row_at (after_lines t x [] []))
     held_rows t h =
         let s : t.scale ≡ t0.scale = h.of_population.scale in
         let v : IsNewOrder t.scale x = subst (λ (q : Sizes). IsNewOrder q x) (sym s) valid in
@@ -59,17 +60,19 @@ module _ (t0 : Database) (x : NewOrderInput) (c : DistrictColumns) (valid : IsNe
         let row = found_row district_columns (get t.districts (home x)) c taken.columns in
         let e : new_key t x ≡ k = named t h in
         let number : HasNumber t x = subst (λ (q : ℕ × Sizes). q.0 ≤ q.1.orders) (λ i. (sym taken.next i, sym s i)) within.1 in
-        subst (λ (writes : WriteSetView). Holds t writes (row_at (after_lines t x [])))
-        (λ i. puts_all (s i) no_writes (opening_changes x (e i) (numbered_columns (row.2 i))))
+        subst (λ (writes : WriteSetView). Holds t writes (row_at (after_lines t x [] [])))
+        (λ i. puts_all (s i) no_writes (all_changes x (e i) (numbered_columns (row.2 i))))
         (holds_opened t x no_writes row.0 h.well_formed taken.condition_2 number (v.warehouse, v.district) (v.warehouse, v.district, v.customer) row.1
         (holds_first t))
 
     pub opened_taken : (last : TransactionView) → Keeps first.reads last.reads
-        → last.writes ≡ puts_all t0.scale no_writes (opening_changes x k (numbered_columns c)) → AreTaken t0 x k [] last []
+        → last.writes ≡ puts_all t0.scale no_writes (opening_changes x k (numbered_columns c)) → AreTaken t0 x k [] [] (with_last t0 x k last) []
     opened_taken last keeps written = record {
+      buyer = (valid.warehouse, valid.district, valid.customer);
       requested = All-nil (IsRequestedLine t0.scale);
       at_order = λ t h. named t (candidate_before t0 first.reads last.reads t keeps h);
-      holds = λ t h. subst (λ (w : WriteSetView). Holds t w (row_at (after_lines t x []))) (sym written)
+      holds = λ t h. subst (λ (w : WriteSetView). Holds t (with_last t0 x k (record { reads = last.reads; writes = w })).writes
+          (row_at (after_lines t x [] []))) (sym written)
           (held_rows t (candidate_before t0 first.reads last.reads t keeps h));
       supplied = λ t h. refl;
     }

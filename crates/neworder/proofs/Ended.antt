@@ -16,7 +16,7 @@ use Rattle.neworder.proofs.Refusals.{order_refused}
 
 module _ (t0 : Database) (x : NewOrderInput) (old new : ReaderView) (under_way : TransactionView) (none : NoneMissing t0 (inputs.NewOrder x))
     (h : IsUnderWay old new under_way)
-    (few_reads : length under_way.reads ≤ 34) (few_writes : length under_way.writes.values ≤ 34)
+    (few_reads : length under_way.reads ≤ 49) (few_writes : length under_way.writes.values ≤ 49)
   where
     pub order_ended : (reply : Result Reply Refusal) (result : Result Work Refusal) → IfOk reply (IsReplyOf t0 x under_way)
         → IfErr reply (IsOrderRefusal t0 x under_way)

@@ -61,7 +61,7 @@ items_there t (l ∷ ls) within none asked =
     go false e h rest = absurd cc
 
 module _ (t0 : Database) (x : NewOrderInput) (k : OrderKey) (under_way : TransactionView) (supplied : List SuppliedLine) (priced : Priced)
-    (prices : ArePriced t0 x.lines priced) (taken : AreTaken t0 x k x.lines under_way supplied) (is_key : IsOrderKey t0.scale k)
+    (prices : ArePriced t0 x.lines priced) (taken : AreTaken t0 x k x.lines x.lines under_way supplied) (is_key : IsOrderKey t0.scale k)
     (no_history : under_way.writes.history_row ≡ None)
   where
     module _ (t : Database) (h : IsCandidate t0 under_way.reads t) where

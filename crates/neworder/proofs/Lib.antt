@@ -4,11 +4,11 @@ mod HoldsSteps
 mod Amounts
 mod Pricing
 mod Stocked
+mod HeldStocks
 mod Supplied
 mod Taken
 mod SoFar
 mod Begun
-mod Columns
 mod Explained
 mod Refusals
 mod Ended

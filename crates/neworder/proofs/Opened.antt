@@ -26,7 +26,10 @@ use Rattle.tables_laws.proofs.OrderNumbers.{with_greater, with_lesser, greatest-
 use Rattle.tables_laws.proofs.Updates.{kept-update_where}
 use Rattle.readset.specs.Changes.{Says, Apart}
 use Rattle.rows.specs.Columns.{district_columns}
-use Rattle.neworder.specs.Steps.{after_lines, numbered_columns, opening_changes}
+use Rattle.readset.specs.Changes.{Changes}
+use Rattle.rows.specs.Columns.{district_columns_words}
+use Rattle.rows.specs.declared.columns.DistrictColumns.{DistrictColumns}
+use Rattle.neworder.specs.Steps.{after_lines, numbered_columns}
 use Rattle.tables_laws.proofs.Touched.{both, self, district_named, inserted, not_inserted, untouched, touched}
 
 -- the least of numbers of which none is above n stays so with n
@@ -37,6 +40,11 @@ least_up_to (a ∷ ns) n next = let last : greatest (a ∷ ns) + 1 ≡ n = next 
     lesser : (o : Option ℕ) → greatest (a ∷ ns) + 1 ≡ n → min n (option_map_or (min a) o a) ≡ option_map_or (min a) o a
     lesser None h = omega (arith, h)
     lesser (Some b) h = omega (arith, h)
+
+-- all that an order changes but for its lines
+abbrev pub all_changes : NewOrderInput → OrderKey → DistrictColumns → Changes
+all_changes x k district = (key.District (home x), Some (district_columns_words district)) ∷ (key.NewOrder k, Some (new_order_words (record {})))
+    ∷ (key.Order k, Some (order_words (order_row x))) ∷ (key.Last (buyer x), Some (number_words k.order)) ∷ []
 
 module _ (t : Database) (x : NewOrderInput) where
   -- the tests of a district's orders and of a customer's
@@ -63,7 +71,7 @@ module _ (t : Database) (x : NewOrderInput) where
 
   module _ (wf : IsWellFormed t) (second : Condition2At t (home x)) where
     -- LAST of a customer takes the new order where it is the customer's
-    last_after : (k : CustomerKey) → last (after_lines t x []) k ≡ with_greater (of_customer k (new_key t x, order_row x)) (next_order t (home x)) (last t k)
+    last_after : (k : CustomerKey) → last (after_lines t x [] []) k ≡ with_greater (of_customer k (new_key t x, order_row x)) (next_order t (home x)) (last t k)
     last_after k = greatest-insert (of_customer k) t.orders (new_key t x) (order_row x) (no_order t x wf second)
 
     -- the buyer's orders are of the home district, so below the new one
@@ -75,10 +83,10 @@ module _ (t : Database) (x : NewOrderInput) where
         (λ k r found passes. greatest-each (in_district (home x)) t.orders k r found (both _ _ passes).0) in
         omega arith
 
-    last_buyer : last (after_lines t x []) (buyer x) ≡ next_order t (home x)
+    last_buyer : last (after_lines t x [] []) (buyer x) ≡ next_order t (home x)
     last_buyer = last_after (buyer x) ∙ ap (λ b. with_greater b (next_order t (home x)) (last t (buyer x))) buyer_passes ∙ omega (arith, last_before)
 
-    last_other : (k : CustomerKey) → k ≢ buyer x → last (after_lines t x []) k ≡ last t k
+    last_other : (k : CustomerKey) → k ≢ buyer x → last (after_lines t x [] []) k ≡ last t k
     last_other k other = last_after k
         ∙ elim (of_customer k (new_key t x, order_row x)) as
         (λ b. of_customer k (new_key t x, order_row x) ≡ b → with_greater b (next_order t (home x)) (last t k) ≡ last t k) [
@@ -87,12 +95,12 @@ module _ (t : Database) (x : NewOrderInput) where
         ] refl
 
     -- OLDEST of each district stays
-    oldest_kept : (k : DistrictKey) → oldest (after_lines t x []) k ≡ oldest t k
+    oldest_kept : (k : DistrictKey) → oldest (after_lines t x [] []) k ≡ oldest t k
     oldest_kept k =
-        ap (λ l. unwrap_or l (next_order (after_lines t x []) k))
+        ap (λ l. unwrap_or l (next_order (after_lines t x [] []) k))
         (least-insert (in_district k) t.new_orders (new_key t x) (record {}) (no_new_order t x wf second))
         ∙ elim (is_district x.warehouse x.district k) as (λ b. is_district x.warehouse x.district k ≡ b
-        → unwrap_or (with_lesser b (next_order t (home x)) (least (numbers_in k t.new_orders))) (next_order (after_lines t x []) k) ≡ oldest t k) [
+        → unwrap_or (with_lesser b (next_order t (home x)) (least (numbers_in k t.new_orders))) (next_order (after_lines t x [] []) k) ≡ oldest t k) [
           | true ↦ λ e. ap (λ (j : DistrictKey). unwrap_or (with_lesser true (next_order t (home x)) (least (numbers_in j t.new_orders))) 0)
               (sym (district_named x.warehouse x.district k e))
               ∙ least_up_to (numbers_in (home x) t.new_orders) (next_order t (home x)) second.1
@@ -105,7 +113,7 @@ module _ (t : Database) (x : NewOrderInput) where
 
     -- the records that it changes
     pub opened : (r : District) → get t.districts (home x) ≡ Some r
-        → Says (row_at (after_lines t x [])) (opening_changes x (new_key t x) (numbered_columns (district_columns r)))
+        → Says (row_at (after_lines t x [] [])) (all_changes x (new_key t x) (numbered_columns (district_columns r)))
     opened r found = (
       touched exact_district district_words t.districts (is_district x.warehouse x.district) numbered_district (home x)
           (λ i. self x.warehouse i && self x.district i)
@@ -121,7 +129,7 @@ module _ (t : Database) (x : NewOrderInput) where
 
     -- and each other record
     others : (j : RecordKey) → j ≢ key.District (home x) → j ≢ key.NewOrder (new_key t x) → j ≢ key.Order (new_key t x) → j ≢ key.Last (buyer x)
-        → row_at (after_lines t x []) j ≡ row_at t j
+        → row_at (after_lines t x [] []) j ≡ row_at t j
     others (key.Warehouse w) a b c d = refl
     others (key.District k) a b c d = untouched exact_district district_words t.districts (is_district x.warehouse x.district) numbered_district k
         (λ h. a (ap key.District (sym (district_named x.warehouse x.district k h))))
@@ -133,6 +141,6 @@ module _ (t : Database) (x : NewOrderInput) where
     others (key.Oldest k) a b c d = ap (λ n. Some (number_words n)) (oldest_kept k)
     others (key.Last k) a b c d = ap (λ n. Some (number_words n)) (last_other k (λ e. d (ap key.Last e)))
 
-    pub opened_others : (r : District) (j : RecordKey) → Apart j (opening_changes x (new_key t x) (numbered_columns (district_columns r)))
-        → row_at (after_lines t x []) j ≡ row_at t j
+    pub opened_others : (r : District) (j : RecordKey) → Apart j (all_changes x (new_key t x) (numbered_columns (district_columns r)))
+        → row_at (after_lines t x [] []) j ≡ row_at t j
     opened_others r j apart = others j apart.0 apart.1.0 apart.1.1.0 apart.1.1.1.0

@@ -1,5 +1,5 @@
 pub mod Steps
-pub mod Drawn
+pub mod Held
 pub mod Opening
 pub mod Priced
 pub mod Replied

@@ -2,6 +2,7 @@
 //! the commit (Silo, SOSP 2013, section 4.4).
 #![tactic(auto)]
 
+mod draws;
 mod lines;
 mod new_rows;
 mod opening;

@@ -4,7 +4,7 @@ ghost use Rattle.tables.specs.Sizes.{IsBetween};
 ghost use Rattle.tables.specs.NewOrder.{drawn};
 ghost use Rattle.tables.specs.declared.limits.TheConstants.{MAX_COUNT, MAX_COUNT_STEP, MAX_QUANTITY, MAX_STOCK};
 ghost use Rattle.tables.specs.declared.limits.TheConstants.{MIN_STOCK, RESTOCK};
-ghost use Rattle.rows.specs.Columns.{IsStockUpTo};
+ghost use Rattle.neworder.specs.Held.{IsStockUpTo};
 
 use tables::limits::{MIN_STOCK, RESTOCK};
 use tables::{RequestedLine, Stock};

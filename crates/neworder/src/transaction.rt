@@ -10,7 +10,7 @@ ghost use Rattle.neworder.specs.Priced.{ArePriced};
 ghost use Rattle.neworder.specs.Executed.{IsReplyOf, IsOrderWork};
 
 use crate::lines::take_lines;
-use crate::opening::open_order;
+use crate::opening::{open_order, write_last};
 use crate::prices::{Priced, Pricing, price_lines};
 use crate::reply::reply_to;
 use cells::Reader;
@@ -56,7 +56,8 @@ pub fn execute<R: Wait, K: Start>(
     (reader, work_of(order, reads, writes, reply))
 }
 
-/// Opens the order, takes its lines, and replies.
+/// Opens the order, takes its lines, and replies. The numbers of the records that it reads rise, and so do those that
+/// it writes: four, and two for each line, but for a stock that comes twice.
 fn take_order<R: Wait, K: Start>(
     rt: &R,
     alloc: Global,
@@ -70,12 +71,15 @@ fn take_order<R: Wait, K: Start>(
     requires begun { transaction.old ≡ record { reads = []; writes = no_writes } }
     ensures reply { IfOk result (IsReplyOf K.tables order.now transaction.new) }
     ensures refused { IfErr result (IsOrderRefusal K.tables order.now transaction.new) }
-    ensures reads { length transaction.new.reads ≤ 34 }
-    ensures writes { length transaction.new.writes.values ≤ 34 }
+    ensures reads { length transaction.new.reads ≤ 49 }
+    ensures writes { length transaction.new.writes.values ≤ 49 }
 {
-    let key = open_order(rt, transaction, order)?;
     let amounts = priced.amounts.as_slice();
+    let records = 4 + 2 * amounts.len();
+    transaction.reserve(records, records)?;
+    let key = open_order(rt, transaction, order)?;
     let supplied = take_lines(rt, alloc, transaction, order, key, amounts)?;
+    write_last(rt, transaction, order, key)?;
     Ok(Reply::NewOrder(reply_to(transaction.population(), order, key, priced.sum, supplied)))
 }
 

@@ -80,6 +80,7 @@ fn pay<R: Wait, K: Start>(
     ensures reads { length transaction.new.reads ≤ 3 }
     ensures writes { length transaction.new.writes.values ≤ 3 }
 {
+    transaction.reserve(3, 3)?;
     let rows = read(rt, transaction, payment, customer)?;
     let rows = raised(&rows, payment.amount);
     write(transaction, payment, customer, &rows)?;

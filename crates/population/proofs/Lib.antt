@@ -1,3 +1,5 @@
 mod NameIndexMade
 mod NameRange
 mod Listed
+mod Columns
+mod Rated

@@ -1,3 +1,4 @@
 pub mod Unique
 pub mod Prices
+pub mod Rates
 pub mod Initial

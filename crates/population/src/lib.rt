@@ -4,6 +4,7 @@
 mod name_index;
 mod population;
 mod prices;
+mod rates;
 
 pub use population::Population;
 pub use population_draws::nurand;

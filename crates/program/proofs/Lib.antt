@@ -1,3 +1,4 @@
 mod Beginnings
 mod Details
+mod NoMemory
 mod Resumed

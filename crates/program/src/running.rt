@@ -25,6 +25,7 @@ use program_streams::write_text;
 use std::alloc::Global;
 use std::fs::File;
 use std::io::{Read, Write};
+use std::mem;
 use std::rt::Files;
 use std::sync::Wait;
 use std::thread::Threads;
@@ -176,7 +177,12 @@ fn answer_script<T: Wait, R: Read, W: Write>(
         × (cause_of fault ≡ None)) }
 {
     match script(rt, alloc, population, input, output) {
-        Ok(closed) => Ok(closed.0),
+        Ok((report, dones)) => {
+            // The program ends behind the report, and the system takes back all memory at once: giving back one entry
+            // after another would take a tenth of a short script.
+            mem::forget(dones);
+            Ok(report)
+        }
         Err(refusal) => Err(Fault::of(refusal)),
     }
 }

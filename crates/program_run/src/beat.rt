@@ -7,8 +7,9 @@ use std::sync::Wait;
 use std::time::{Clock, Duration};
 
 /// A logger's turn begins once E has changed since the one before, and an interval after that one's beginning at the
-/// latest, or at once where it took longer. So the logger with the clock, which alone advances E, has turns, and epochs,
-/// of its interval (Silo, section 4.1), and others follow it. The first logger's also has the screen, if there is one.
+/// latest, or at once where it took longer. So the logger with the clock, which alone advances E, has turns, and
+/// epochs, of its interval (Silo, section 4.1), and others follow it. The first logger's also has the screen, if there
+/// is one.
 #[derive(Drop)]
 pub struct Beat<'a, C: Clock + Wait, S: Write> {
     clock: &'a C,

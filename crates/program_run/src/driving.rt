@@ -142,11 +142,11 @@ fn drive_parts<
     ensures broken { IfErr result (IsBroken K.past K.first plan.now.terminals plan.now.inputs
         (W.contents writer.old) (W.contents writer.new)) }
 {
-    let outcome = match outcome_of::<K, D, P, G, R>(rt, alloc, parts, logs, gates, plan) {
+    let mut outcome = match outcome_of::<K, D, P, G, R>(rt, alloc, parts, logs, gates, plan) {
         Ok(outcome) => outcome,
         Err(refusal) => return Err(refusal),
     };
-    let report = match ran(alloc, &outcome, writer) {
+    let report = match ran(alloc, &mut outcome, writer) {
         Ok(report) => report,
         Err(refusal) => return Err(refusal),
     };

@@ -25,12 +25,13 @@ use std::io::Write;
 /// then.
 pub fn ran<K: Run, D: Disk, W: Write>(
     alloc: Global,
-    outcome: &Outcome<K, D>,
+    outcome: &mut Outcome<K, D>,
     writer: &mut W,
 ) -> Result<Report, Refusal>
-    ensures told { IfOk result (IsTold (replay K.first outcome.now.closed) outcome.now.counts
+    ensures same { outcome.new ≡ outcome.old }
+    ensures told { IfOk result (IsTold (replay K.first outcome.old.closed) outcome.old.counts
         (W.contents writer.old) (W.contents writer.new)) }
-    ensures cut_short { IfErr result (IsCutShort (replay K.first outcome.now.closed) outcome.now.counts
+    ensures cut_short { IfErr result (IsCutShort (replay K.first outcome.old.closed) outcome.old.counts
         (W.contents writer.old) (W.contents writer.new)) }
 {
     let report = outcome.closed.report(alloc)?;

@@ -43,7 +43,7 @@ pub const MAX_LINES: u32 = 4_000_000_000;
 /// come, and what is returned is that script's report and its commits in order (`specs/Written.antt`).
 ///
 /// What was answered is written before each read, so it is out before a read can wait. Memory beside the population is
-/// the engine's (a cell and a newest version a record, the running totals, and for each commit an entry with its writes
+/// the engine's (a cell a record, the running totals, and for each commit an entry with its writes
 /// and its places in history and stream), one piece and its answers, and a [`Done`] for each commit.
 ///
 /// Refuses by `Device` where the reader or the writer fails, or comes to no end in 2^64 - 1 calls, by `BadInput`

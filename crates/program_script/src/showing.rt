@@ -22,9 +22,10 @@ use tables::{
 
 /// The row at a key of the scale, or that there is no such order. Costs one record, and for a row with columns that
 /// never change a look-up in the population.
-pub(crate) fn show<K: Run>(session: &Session<'_, K>, key: ShowKey) -> ShownRow
+pub(crate) fn show<K: Run>(session: &mut Session<'_, K>, key: ShowKey) -> ShownRow
     requires { IsShowKey K.first.scale key }
-    ensures { row_of (replay K.first session.now.history) key ≡ Some result }
+    ensures same { session.new ≡ session.old }
+    ensures row { row_of (replay K.first session.old.history) key ≡ Some result }
 {
     match key {
         ShowKey::Warehouse(warehouse) => {
@@ -51,12 +52,13 @@ pub(crate) fn show<K: Run>(session: &Session<'_, K>, key: ShowKey) -> ShownRow
 }
 
 /// The row of WAREHOUSE at a key of the scale.
-fn warehouse_at<K: Run>(session: &Session<'_, K>, key: u32) -> Warehouse
+fn warehouse_at<K: Run>(session: &mut Session<'_, K>, key: u32) -> Warehouse
     requires { IsWarehouseKey K.first.scale key }
-    ensures { get (replay K.first session.now.history).warehouses key ≡ Some result }
+    ensures same { session.new ≡ session.old }
+    ensures row { get (replay K.first session.old.history).warehouses key ≡ Some result }
 {
-    let first = first_tables(session).warehouses.get(&key).unwrap();
     let columns: WarehouseColumns = present_at(session, key);
+    let first = first_tables(session).warehouses.get(&key).unwrap();
     Warehouse {
         year_to_date: columns.year_to_date,
         ..*first
@@ -64,12 +66,13 @@ fn warehouse_at<K: Run>(session: &Session<'_, K>, key: u32) -> Warehouse
 }
 
 /// The row of DISTRICT at a key of the scale.
-fn district_at<K: Run>(session: &Session<'_, K>, key: DistrictKey) -> District
+fn district_at<K: Run>(session: &mut Session<'_, K>, key: DistrictKey) -> District
     requires { IsDistrictKey K.first.scale key }
-    ensures { get (replay K.first session.now.history).districts key ≡ Some result }
+    ensures same { session.new ≡ session.old }
+    ensures row { get (replay K.first session.old.history).districts key ≡ Some result }
 {
-    let first = first_tables(session).districts.get(&key).unwrap();
     let columns: DistrictColumns = present_at(session, key);
+    let first = first_tables(session).districts.get(&key).unwrap();
     District {
         year_to_date: columns.year_to_date,
         next_order: columns.next_order,
@@ -78,12 +81,13 @@ fn district_at<K: Run>(session: &Session<'_, K>, key: DistrictKey) -> District
 }
 
 /// The row of CUSTOMER at a key of the scale.
-fn customer_at<K: Run>(session: &Session<'_, K>, key: CustomerKey) -> Customer
+fn customer_at<K: Run>(session: &mut Session<'_, K>, key: CustomerKey) -> Customer
     requires { IsCustomerKey K.first.scale key }
-    ensures { get (replay K.first session.now.history).customers key ≡ Some result }
+    ensures same { session.new ≡ session.old }
+    ensures row { get (replay K.first session.old.history).customers key ≡ Some result }
 {
-    let first = first_tables(session).customers.get(&key).unwrap();
     let columns: CustomerColumns = present_at(session, key);
+    let first = first_tables(session).customers.get(&key).unwrap();
     Customer {
         balance: columns.balance,
         paid: columns.paid,
@@ -94,18 +98,20 @@ fn customer_at<K: Run>(session: &Session<'_, K>, key: CustomerKey) -> Customer
 }
 
 /// The row at a key of the scale, of a table that has one at each.
-fn present_at<T: Present, K: Run>(session: &Session<'_, K>, key: T::Key) -> T
+fn present_at<T: Present, K: Run>(session: &mut Session<'_, K>, key: T::Key) -> T
     requires { IsRecordKey K.first.scale (T.record_of key) }
-    ensures { T.at (replay K.first session.now.history) key ≡ Some result }
+    ensures same { session.new ≡ session.old }
+    ensures row { T.at (replay K.first session.old.history) key ≡ Some result }
 {
     row_at(session, key).unwrap()
 }
 
 /// The row at a key of the scale, as its record holds it, or None where there is none.
-fn row_at<T: Row, K: Run>(session: &Session<'_, K>, key: T::Key) -> Option<T>
+fn row_at<T: Row, K: Run>(session: &mut Session<'_, K>, key: T::Key) -> Option<T>
     requires { IsRecordKey K.first.scale (T.record_of key) }
-    ensures row { T.at (replay K.first session.now.history) key ≡ result }
-    ensures well_formed { IsWellFormed (replay K.first session.now.history) }
+    ensures same { session.new ≡ session.old }
+    ensures row { T.at (replay K.first session.old.history) key ≡ result }
+    ensures well_formed { IsWellFormed (replay K.first session.old.history) }
 {
     let words = words_of(session, T::key(key))?;
     T::read(&session.population().scale(), &words)
@@ -120,10 +126,11 @@ fn first_tables<'s, K: Run>(session: &'s Session<'_, K>) -> &'s Tables
 }
 
 /// What the record of a key holds in the committed tables, which are well-formed.
-fn words_of<K: Run>(session: &Session<'_, K>, key: RecordKey) -> Option<Payload>
+fn words_of<K: Run>(session: &mut Session<'_, K>, key: RecordKey) -> Option<Payload>
     requires { IsRecordKey K.first.scale key }
-    ensures words { result ≡ row_at (replay K.first session.now.history) key }
-    ensures well_formed { IsWellFormed (replay K.first session.now.history) }
+    ensures same { session.new ≡ session.old }
+    ensures words { result ≡ row_at (replay K.first session.old.history) key }
+    ensures well_formed { IsWellFormed (replay K.first session.old.history) }
 {
     let scale = session.population().scale();
     session.record(number_of_key(&scale, key))

@@ -1,5 +1,6 @@
 mod Marks
 mod Numbers
+mod DigitTable
 mod Spaces
 mod Numerals
 mod Amounts

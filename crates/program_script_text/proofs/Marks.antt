@@ -24,10 +24,6 @@ pub lacks_at : (mark k : ℕ) (text : List ℕ) → k ≤ length text → LacksB
 lacks_at mark k text within none i d below e =
     true≢false (sym ((Decides-eqb (get_or (take k text) i d) mark).1 e) ∙ lacks_before mark k text within none i d below)
 
-pub lacks_none : (mark : ℕ) (text : List ℕ) → LacksBefore mark text (length text) → All (λ b. b ≢ mark) text
-lacks_none mark text none =
-    subst (λ l. All (λ b. b ≢ mark) l) (take_all (length text) text (omega arith)) (lacks_at mark (length text) text (omega arith) none)
-
 -- with no mark the list is one part
 pub parts_none : (mark : ℕ) (text : List ℕ) → LacksBefore mark text (length text) → slice_split (λ b. eqb b mark) text ≡ text ∷ []
 parts_none mark text none =
@@ -35,7 +31,7 @@ parts_none mark text none =
     (lacks_before mark (length text) text (omega arith) none))
 
 -- the list, taken apart at a mark
-pub whole_at : (mark k : ℕ) (text : List ℕ) → k < length text → Passes (is_byte mark) text k → text ≡ take k text
+whole_at : (mark k : ℕ) (text : List ℕ) → k < length text → Passes (is_byte mark) text k → text ≡ take k text
     ++ (mark ∷ take (length text - (k + 1)) (drop (k + 1) text))
 whole_at mark k text within passes =
     let is : get_or text k 0 ≡ mark = (Decides-eqb (get_or text k 0) mark).0 passes in

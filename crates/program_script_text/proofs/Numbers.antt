@@ -1,6 +1,6 @@
 -- The digits of a word that is a number.
 use Rattle.std.proofs.Common.{◌≡◌, ℕ, ◌+◌, ◌-◌, ◌*◌, ◌<◌, ◌≤◌, ◌^◌, List, length, get_or, take, sym, ap, ◌∙◌}
-use Rattle.std.proofs.Common.{arith, ⊎_elim}
+use Rattle.std.proofs.Common.{[], ◌∷◌, arith, ⊎_elim}
 use Rattle.std.specs.Char.{digit_value}
 use Rattle.std.specs.Fmt.{decimal}
 use Rattle.std.specs.Int.{IsInRange}
@@ -64,3 +64,9 @@ pub one_more_digit : (ds : List ℕ) (i : ℕ) → i < length ds → AllDigits 1
 one_more_digit ds i within digits range =
     let value : digit_value (get_or ds i 0) ≡ get_or ds i 0 - 48 = omega (arith, digit_value_digit (get_or ds i 0) range) in
     (digits_more 10 ds i within digits (omega arith), digits_value_more 10 ds i within ∙ ap (λ d. digits_value 10 (take i ds) * 10 + d) value)
+
+-- a digit alone is a number's text
+pub one_digit : (ds : List ℕ) (d : ℕ) → length ds ≡ 1 → get_or ds 0 0 ≡ 48 + d → d < 10 → ds ≡ decimal d
+one_digit [] d one is small = absurd (omega arith)
+one_digit (b ∷ []) d one is small = ap (λ (x : ℕ). x ∷ []) is ∙ sym (decimal_digit d small)
+one_digit (b ∷ c ∷ ds) d one is small = absurd (omega arith)

@@ -4,6 +4,7 @@ pub mod LastNames
 pub mod Requests
 pub mod OrderWords
 pub mod Output
+pub mod Digits
 pub mod Room
 pub mod Report
 pub mod Lines

@@ -6,6 +6,7 @@ ghost use Rattle.money.specs.Money.{money_text, unsigned_money_text};
 ghost use Rattle.program_script_text.specs.Output.{nullable_word};
 ghost use Rattle.program_script_text.specs.Room.{Pushes};
 
+use crate::digits::{three_digits, two_digits};
 use itoa::Buffer;
 use money::Cents;
 
@@ -57,17 +58,16 @@ pub(crate) fn push_text(out: &mut String, text: &str)
     out.push_str(text).unwrap();
 }
 
-/// Appends a number. Most numbers of an answer have one digit.
+/// Appends a number.
 #[inline(always)]
-#[tactic(auto, using(std::proofs::lemmas::Fmt::decimal_digit))]
 fn push_number(out: &mut String, number: u32)
     requires { string_len out.old + NUMBER_ROOM ≤ string_capacity out.old }
     ensures { Pushes out.old out.new (decimal number) NUMBER_ROOM }
 {
-    if number < 10 {
-        push_digit(out, number as u8);
+    if number < 1000 {
+        push_short(out, number as usize);
     } else {
-        push_text(out, Buffer::new().format(number));
+        push_long(out, number);
     }
 }
 
@@ -88,11 +88,56 @@ fn push_unsigned(out: &mut String, cents: u64)
     requires { string_len out.old + 23 ≤ string_capacity out.old }
     ensures { Pushes out.old out.new (unsigned_money_text cents) 23 }
 {
-    let (units, hundredths) = (cents / 100, (cents % 100) as u8);
-    push_text(out, Buffer::new().format(units));
+    let (units, hundredths) = (cents / 100, (cents % 100) as usize);
+    if units <= u64::from(u32::MAX) {
+        push_number(out, units as u32);
+    } else {
+        push_text(out, Buffer::new().format(units));
+    }
     push_text(out, ".");
-    push_digit(out, hundredths / 10);
-    push_digit(out, hundredths % 10);
+    push_text(out, two_digits(hundredths));
+}
+
+/// Appends a number of more than three digits.
+#[inline(never)]
+fn push_long(out: &mut String, number: u32)
+    requires number { 1000 ≤ number }
+    requires room { string_len out.old + NUMBER_ROOM ≤ string_capacity out.old }
+    ensures { Pushes out.old out.new (decimal number) NUMBER_ROOM }
+{
+    if number < 1_000_000 {
+        push_thousands(out, number as usize);
+    } else {
+        push_text(out, Buffer::new().format(number));
+    }
+}
+
+/// Appends a number of four to six digits.
+#[inline(always)]
+fn push_thousands(out: &mut String, number: usize)
+    requires number { (1000 ≤ number) × (number < 1000000) }
+    requires room { string_len out.old + 6 ≤ string_capacity out.old }
+    ensures { Pushes out.old out.new (decimal number) 6 }
+{
+    push_short(out, number / 1000);
+    push_text(out, three_digits(number % 1000));
+}
+
+/// Appends a number of three digits at most.
+#[inline(always)]
+#[tactic(auto, using(crate::proofs::DigitTable::short_decimals))]
+fn push_short(out: &mut String, number: usize)
+    requires number { number < 1000 }
+    requires room { string_len out.old + 3 ≤ string_capacity out.old }
+    ensures { Pushes out.old out.new (decimal number) 3 }
+{
+    if number < 10 {
+        push_digit(out, number as u8);
+    } else if number < 100 {
+        push_text(out, two_digits(number));
+    } else {
+        push_text(out, three_digits(number));
+    }
 }
 
 /// Appends a digit.

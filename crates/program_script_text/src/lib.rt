@@ -5,6 +5,7 @@
 mod amount;
 mod answer;
 mod cut;
+mod digits;
 mod fields;
 mod last_names;
 mod line_buffer;

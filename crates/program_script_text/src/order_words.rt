@@ -6,7 +6,7 @@ ghost use Rattle.program_script_text.specs.Words.{words};
 ghost use Rattle.program_script_text.specs.Requests.{line_word, HasLineNumbers};
 ghost use Rattle.program_script_text.specs.OrderWords.{IsNoLine, AreNoLines, AreNoOrder, IsUnread};
 
-use crate::cut::split_once;
+use crate::cut::split_word;
 use crate::words::{last_number, read_number};
 use money::Refusal;
 use std::alloc::Global;
@@ -20,7 +20,7 @@ pub(crate) fn read_order(alloc: Global, text: &[u8]) -> Result<(u32, Lines<Reque
         (IsUnread (AreNoOrder (words text.now))) }
     ensures numbers { IfOk result (λ order. (order.0 < 2 ^ 32) × All HasLineNumbers order.1) }
 {
-    let Some((customer, rest)) = split_once(text, b' ') else {
+    let Some((customer, rest)) = split_word(text, b' ') else {
         let customer = last_number(text)?;
         return Ok((customer, Lines::new(Vec::new(alloc))));
     };
@@ -36,7 +36,7 @@ fn read_lines(alloc: Global, text: &[u8]) -> Result<Lines<RequestedLine>, Refusa
 {
     let mut lines = Vec::with_capacity(alloc, MAX_ORDER_LINES as usize)?;
     let mut rest = text;
-    while let Some((word, more)) = split_once(rest, b' ') {
+    while let Some((word, more)) = split_word(rest, b' ') {
         push_line(&mut lines, word)?;
         rest = more;
     }
@@ -60,8 +60,8 @@ fn read_line(word: &[u8]) -> Option<RequestedLine>
     ensures word { MatchOption result (IsNoLine word.now) (λ line. word.now ≡ line_word line) }
     ensures numbers { IfSome result HasLineNumbers }
 {
-    let (item, rest) = split_once(word, b':')?;
-    let (supply_warehouse, quantity) = split_once(rest, b':')?;
+    let (item, rest) = split_word(word, b':')?;
+    let (supply_warehouse, quantity) = split_word(rest, b':')?;
     let item = read_number(item)?;
     let supply_warehouse = read_number(supply_warehouse)?;
     let quantity = read_number(quantity)?;

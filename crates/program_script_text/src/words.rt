@@ -3,14 +3,26 @@ ghost use Rattle.std.specs.Prelude.{◌≡◌, ◌≢◌, ℕ, ◌<◌, ◌^◌,
 ghost use Rattle.std.specs.Fmt.{decimal};
 ghost use Rattle.program_script_text.specs.Words.{words};
 
-use crate::cut::split_once;
+use crate::cut::split_word;
 use money::Refusal;
 
 /// The most digits that a number below 2^32 has.
 const MAX_DIGITS: usize = 10;
 
-/// The number that a word is: digits with no leading zero, or 0 alone, up to `u32::MAX`.
+/// The number that a word is: digits with no leading zero, or 0 alone, up to `u32::MAX`. Many words have one digit.
+#[inline(always)]
 pub(crate) fn read_number(word: &[u8]) -> Option<u32>
+    ensures { MatchOption result ((n : ℕ) → n < 2 ^ 32
+        → word.now ≢ decimal n) (λ n. word.now ≡ decimal n) }
+{
+    match word {
+        [digit @ b'0'..=b'9'] => Some(u32::from(*digit - b'0')),
+        _ => read_longer(word),
+    }
+}
+
+/// The same, for a word of more bytes.
+fn read_longer(word: &[u8]) -> Option<u32>
     ensures { MatchOption result ((n : ℕ) → n < 2 ^ 32
         → word.now ≢ decimal n) (λ n. word.now ≡ decimal n) }
 {
@@ -45,7 +57,7 @@ pub(crate) fn take_word(text: &[u8]) -> Result<(&[u8], &[u8]), Refusal>
     ensures { MatchResult result (λ parts. words text.now ≡ parts.0.now ∷ words parts.1.now)
         (λ refusal. (refusal ≡ Refusal.BadLine) × (words text.now ≡ text.now ∷ [])) }
 {
-    split_once(text, b' ').ok_or(Refusal::BadLine)
+    split_word(text, b' ').ok_or(Refusal::BadLine)
 }
 
 /// The number that the first of several words is, and the text after it.

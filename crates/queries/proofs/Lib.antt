@@ -2,9 +2,12 @@ mod LinesByNumber
 mod ToldOrder
 mod StatusExplained
 mod AnyRow
-mod EachOnce
 mod LineCounts
 mod LookedAt
 mod Pushed
 mod Counted
 mod LevelExplained
+mod WordBits
+mod Listed
+mod Marked
+mod EachOnce

@@ -17,8 +17,8 @@ use tables::{Input, Reply, StockLevelInput, StockLevelReply};
 
 /// Executes a Stock-Level (TPC-C 2.8.2.2) in a transaction that has read nothing: reads its district, the last 20
 /// orders with the lines that their O_OL_CNT says that they have, and the stock of each item in them once. No cell
-/// changes, and it writes nothing. Gives back the reader. Costs at most 621 loads, and memory for what it reads,
-/// whatever the tables' size.
+/// changes, and it writes nothing. Gives back the reader. Costs at most 621 loads, a step for each 64 items of the scale,
+/// and memory for what it reads and a bit for each item of the scale.
 ///
 /// # Errors
 ///
@@ -52,6 +52,7 @@ fn read_reply<R: Wait, K: Start>(
         (λ reply t. IsCommitOf t (input_variants.StockLevel query.now) no_writes reply) }
     ensures reads { ReadsMore 621 transaction.old transaction.new }
 {
+    transaction.reserve(621, 0)?;
     let home = query.home();
     let next = read_next_order(rt, transaction, home)?;
     let items = sold_items(rt, alloc, transaction, home, next)?;

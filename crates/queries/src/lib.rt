@@ -2,6 +2,7 @@
 //! do.
 #![tactic(auto)]
 
+mod item_set;
 mod last_order;
 mod level;
 mod low_stock;

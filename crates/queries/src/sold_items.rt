@@ -5,7 +5,7 @@ ghost use Rattle.std.specs.List.{list_any};
 ghost use Rattle.std.specs.List.Sorted.{IsStrictlyIncreasing};
 ghost use Rattle.std.specs.Option.{ForSome, option_map, option_map_or};
 ghost use Rattle.std.specs.FinMap.{get};
-ghost use Rattle.tables.specs.Sizes.{Sizes, IsBetween, IsNumber};
+ghost use Rattle.tables.specs.Sizes.{IsBetween, IsNumber};
 ghost use Rattle.tables.specs.Keys.{IsDistrictKey, IsOrderKey, IsLineKey, IsItemKey, district_of_order};
 ghost use Rattle.tables.specs.OrderNumbers.{next_order};
 ghost use Rattle.tables.specs.StockLevel.{is_sold};
@@ -13,6 +13,7 @@ ghost use Rattle.tables.specs.declared.limits.TheConstants.{MAX_ORDER_LINES, REC
 ghost use Rattle.readset.specs.Transaction.{AtAll, Finds, IsStepRefusal, ReadsMore};
 ghost use Rattle.queries.specs.SoldItems.{order_line_count, order_line_counts, AreItems};
 
+use crate::item_set::each_once;
 use money::Refusal;
 use readset::{Start, Transaction, read_present, read_row};
 use rows::DistrictColumns;
@@ -42,7 +43,8 @@ pub(crate) fn read_next_order<R: Wait, K: Start>(
 
 /// The items of the lines of a district's last 20 orders, each once and in the order of their numbers. Reads all those
 /// orders, and then the lines that their O_OL_CNT say that they have: so the numbers of the records that it reads rise.
-/// Costs at most 320 loads, and memory and a sort of the items.
+/// Costs at most 320 loads, a step for each 64 items of the scale and a few for each item read, and memory: a bit for
+/// each item of the scale, and the items.
 ///
 /// # Errors
 ///
@@ -70,19 +72,8 @@ pub(crate) fn sold_items<R: Wait, K: Start>(
         let count = counts[(order - first) as usize];
         order_items(rt, transaction, &mut items, home.order_key(order), count)?;
     }
-    keep_each_once(&mut items);
-    Ok(items)
-}
-
-/// Sorts numbers, and keeps each once.
-fn keep_each_once(numbers: &mut Vec<u32>)
-    ensures same { (i : ℕ) → list_any (λ j. j == i) numbers.new.items ≡ list_any (λ j. j == i) numbers.old.items }
-    ensures rising { IsStrictlyIncreasing numbers.new.items }
-    ensures items { (s : Sizes) → All (IsItemKey s) numbers.old.items → All (IsItemKey s) numbers.new.items }
-    ensures count { length numbers.new.items ≤ length numbers.old.items }
-{
-    numbers.sort_unstable();
-    numbers.dedup();
+    let once = each_once(alloc, transaction.scale().items(), items.as_slice())?;
+    Ok(once)
 }
 
 /// The number of the first of a district's last 20 orders, where the next one has this number: at least 1.

@@ -13,7 +13,7 @@ use Rattle.tables.specs.declared.records.RecordKey.TheVariants as key
 use Rattle.readset.specs.Writes.{WriteSetView, no_writes, puts, value_for, rows_with}
 use Rattle.readset.specs.Changes.{Holds, Changes, Says, Apart, AreKeys, TakeOnlyNewOrders, puts_all}
 use Rattle.readset.proofs.Numbers.{same_number, other_number}
-use Rattle.readset.proofs.Lookups.{lookup-insert_entry}
+use Rattle.readset.proofs.Lookups.{lookup-insert_entry, lookup-swapped}
 
 -- a default under a test
 or_cond : {X : Type 0} (b : Bool) (x : X) (o : Option X) (d : X) → unwrap_or (cond b (Some x) o) d ≡ cond b x (unwrap_or o d)
@@ -80,6 +80,42 @@ module _ (t : Database) where
         | true ↦ λ q. ap new (one_key j c.0 is_key keys.0 (same_number (number_of_key t.scale j) (number_of_key t.scale c.0) q)) ∙ says.0
         | false ↦ λ q. others j is_key ((λ e. other_number (number_of_key t.scale j) (number_of_key t.scale c.0) q (ap (number_of_key t.scale) e)), apart)
       ] refl)
+
+  -- writes that say the same of each record
+  holds_alike : (some others : WriteSetView) (row : RecordKey → Option (List ℕ)) → ((n : ℕ) → value_for some n ≡ value_for others n)
+      → Holds t some row → Holds t others row
+  holds_alike some others row same h = record {
+    put_in = λ n small. h.put_in n small ∙ ap (λ (o : Option (Option (List ℕ))). unwrap_or o (rows t n)) (same n);
+    absent = λ n small out. h.absent n small (same n ∙ out);
+  }
+
+  alike_all : (changes : Changes) (some others : WriteSetView) → ((n : ℕ) → value_for some n ≡ value_for others n)
+      → (n : ℕ) → value_for (puts_all t.scale some changes) n ≡ value_for (puts_all t.scale others changes) n
+  alike_all [] some others same = same
+  alike_all (c ∷ cs) some others same =
+      let m = number_of_key t.scale c.0 in
+      alike_all cs (puts some m c.1) (puts others m c.1)
+      (λ n. lookup-insert_entry n m c.1 some.values ∙ ap (cond (is_eq (nat_cmp n m)) (Some c.1)) (same n) ∙ sym (lookup-insert_entry n m c.1 others.values))
+
+  later_alike : (k : RecordKey) (value : Option (List ℕ)) (changes : Changes) (writes : WriteSetView) → IsRecordKey t.scale k → AreKeys t.scale changes
+      → Apart k changes → (n : ℕ) → value_for (puts_all t.scale (puts writes (number_of_key t.scale k) value) changes) n
+      ≡ value_for (puts (puts_all t.scale writes changes) (number_of_key t.scale k) value) n
+  later_alike k value [] writes at_k keys apart n = refl
+  later_alike k value (c ∷ cs) writes at_k keys apart n =
+      let m = number_of_key t.scale k in
+      let o = number_of_key t.scale c.0 in
+      alike_all cs (puts (puts writes m value) o c.1) (puts (puts writes o c.1) m value)
+      (λ i. lookup-swapped i m o value c.1 writes.values (λ e. apart.0 (one_key k c.0 at_k keys.0 e))) n
+      ∙ later_alike k value cs (puts writes o c.1) at_k keys.1 apart.1 n
+
+  -- a record that is put in before others may be put in behind them
+  pub holds_later : (k : RecordKey) (value : Option (List ℕ)) (changes : Changes) (writes : WriteSetView) (row : RecordKey → Option (List ℕ))
+      → IsRecordKey t.scale k → AreKeys t.scale changes → Apart k changes
+      → Holds t (puts_all t.scale (puts writes (number_of_key t.scale k) value) changes) row
+      → Holds t (puts (puts_all t.scale writes changes) (number_of_key t.scale k) value) row
+  holds_later k value changes writes row at_k keys apart =
+      holds_alike (puts_all t.scale (puts writes (number_of_key t.scale k) value) changes)
+      (puts (puts_all t.scale writes changes) (number_of_key t.scale k) value) row (later_alike k value changes writes at_k keys apart)
 
   -- before the first change, the rows are those of the tables
   pub holds_first : Holds t no_writes (row_at t)

@@ -1,6 +1,5 @@
 pub mod Numbers
 pub mod HoldsChanges
-pub mod LeftIs
 pub mod MoreReads
 pub mod WrittenRecords
 mod Lookups

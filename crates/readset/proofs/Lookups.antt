@@ -1,5 +1,5 @@
 -- A look-up after an insert.
-use Rattle.std.proofs.Common.{◌≡◌, ℕ, List, [], ◌∷◌, Bool, true, false, cond, Some, true≢false, refl, sym, ap, ◌∙◌}
+use Rattle.std.proofs.Common.{◌≡◌, ◌≢◌, ℕ, List, [], ◌∷◌, Bool, true, false, cond, Some, true≢false, refl, sym, ap, ◌∙◌}
 use Rattle.std.specs.Ordering.{nat_cmp, is_eq, match_ordering}
 use Rattle.std.specs.Map.{lookup}
 use Rattle.std.specs.BTreeMap.{is_at, insert_entry}
@@ -35,3 +35,16 @@ lookup-insert_entry m n v (e ∷ es) =
           ∙ swapped (is_eq (nat_cmp m n)) there (Some v) (Some e.1) rest
           (λ here at_e. absurd (true≢false (sym (same_test n e.0 (sym (same_number m n here) ∙ same_number m e.0 at_e)) ∙ ap is_eq q)))
     ] refl
+
+-- two inserts of two numbers in either order
+pub lookup-swapped : {X : Type 0} (m a b : ℕ) (u v : X) (es : List (ℕ × X)) → a ≢ b
+    → lookup (is_at (nat_cmp m)) (insert_entry nat_cmp (insert_entry nat_cmp es a u) b v)
+    ≡ lookup (is_at (nat_cmp m)) (insert_entry nat_cmp (insert_entry nat_cmp es b v) a u)
+lookup-swapped m a b u v es apart =
+    let at_a = is_eq (nat_cmp m a) in
+    let at_b = is_eq (nat_cmp m b) in
+    lookup-insert_entry m b v (insert_entry nat_cmp es a u)
+    ∙ ap (cond at_b (Some v)) (lookup-insert_entry m a u es)
+    ∙ swapped at_a at_b (Some u) (Some v) (lookup (is_at (nat_cmp m)) es) (λ p q. absurd (apart (sym (same_number m a p) ∙ same_number m b q)))
+    ∙ ap (cond at_a (Some u)) (sym (lookup-insert_entry m b v es))
+    ∙ sym (lookup-insert_entry m a u (insert_entry nat_cmp es b v))

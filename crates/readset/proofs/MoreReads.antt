@@ -3,10 +3,14 @@
 use Rattle.std.proofs.Common.{◌≡◌, ⊎_elim, inl, inr, ℕ, Some, None, Option, IsSome, is_some, true≢false, List, [], refl, sym, ap, ◌∙◌}
 use Rattle.std.proofs.lemmas.Option.{same_Some}
 use Rattle.tables.specs.Database.{Database}
+use Rattle.tables.specs.Records.{number_of_key, IsRecordKey}
+use Rattle.tables.specs.Rows.{rows, row_at}
+use Rattle.tables.proofs.Numbers.{named}
+use Rattle.tables.specs.declared.records.RecordKey.{RecordKey}
 use Rattle.cells.specs.Records.{ReaderView}
 use Rattle.cells.specs.declared.cells.Version.{Version}
 use Rattle.readset.specs.Reads.{ReadSetView, AreRead, Keeps, held, IsReadAs, value_of}
-use Rattle.readset.specs.Explains.{IsCandidate}
+use Rattle.readset.specs.Explains.{Agrees, IsCandidate}
 
 none_some : (v : Version) → None ≡ Some v → ⊥
 none_some v e = cc
@@ -42,6 +46,11 @@ candidate_before t0 reads more t keeps h = record {
       (⊎_elim (λ own. inl (still_read reads more _ keeps own)) (λ oldest. inr (still_read reads more _ keeps oldest)) read);
   agrees = λ n v found. h.agrees n v (keeps n v found);
 }
+
+-- the version read of a key's record has the key's row
+pub row_read : (t : Database) (reads : ReadSetView) (k : RecordKey) (n : ℕ) (v : Version) → Agrees t reads → held reads n ≡ Some v → n ≡ number_of_key t.scale k
+    → IsRecordKey t.scale k → value_of v ≡ row_at t k
+row_read t reads k n v agrees found at is_key = agrees n v found ∙ ap (rows t) at ∙ ap (row_at t) (named t.scale k is_key).1
 
 -- the version read of a record has one value
 pub read_once : (reads : ReadSetView) (n : ℕ) (a b : Option (List ℕ)) → IsReadAs reads n a → IsReadAs reads n b → a ≡ b

@@ -1,6 +1,5 @@
 -- Entries as they came, in the order that a list of their places gives.
 use Rattle.std.proofs.Common.{◌≡◌, Bool, true, false, true≢false, ◌==◌, ℕ, ◌+◌, ◌<◌, List, [], ◌∷◌, ◌++◌, All, map, length, get_or, set, inl, inr, Ok, Err, refl, sym, ap, ◌∙◌, subst, arith}
-use Rattle.std.specs.Bool.{if◌then◌else◌}
 use Rattle.std.specs.Ordering.{nat_cmp, match_ordering}
 use Rattle.std.specs.declared.cmp.Ordering.TheVariants.{Less, Equal, Greater}
 use Rattle.std.specs.List.Sorted.{IsStrictlySortedBy}
@@ -48,11 +47,6 @@ all_put P n p (o ∷ order) here all =
       | Equal ↦ All-cons Q (o.0, p) order here (All-tail Q o order all)
       | Greater ↦ All-cons Q o (insert_entry nat_cmp order n p) (All-head Q o order all) (all_put P n p order here (All-tail Q o order all))
     ]
-
--- a list after a step that didn't fail
-pub succeeded : {X : Type 0} (ok : Bool) (list more less : List X) → list ≡ (if ok then more else less) → ok ≡ true → list ≡ more
-succeeded true list more less is so = is
-succeeded false list more less is so = absurd (true≢false (sym so))
 
 module _ {X : Type 0} where
   -- a list of places has the entries' numbers

@@ -20,8 +20,7 @@ use Rattle.readset.specs.Refused.{NoneMissing, IsAboveCap, IsRefusal}
 use Rattle.tables.specs.declared.limits.TheConstants.{MAX_READS, MAX_WRITES}
 use Rattle.readset.specs.Explains.{IsCandidate}
 use Rattle.readset.specs.Transaction.{TransactionView, IsUnderWay, ReadsMore, GoesOn, IsStepRefusal, IsExecuted}
-use Rattle.readset.proofs.LeftIs.{row_read}
-use Rattle.readset.proofs.MoreReads.{candidate_before}
+use Rattle.readset.proofs.MoreReads.{candidate_before, row_read}
 use Rattle.readset.proofs.WrittenRecords.{keeps_read, length-insert_entry, puts_read, written_within}
 
 -- whether an entry is found is whether there is one

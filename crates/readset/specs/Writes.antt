@@ -1,10 +1,9 @@
 -- What a transaction is to write (Silo, section 4.4: the write set).
-use Rattle.std.specs.Prelude.{ℕ, Option, Some, None, List, [], ◌∷◌, unwrap_or, option_and_then}
+use Rattle.std.specs.Prelude.{ℕ, Option, Some, None, List, [], ◌∷◌, unwrap_or}
 use Rattle.std.specs.Ordering.{nat_cmp}
 use Rattle.std.specs.Map.{lookup}
 use Rattle.std.specs.BTreeMap.{is_at, insert_entry}
 use Rattle.tables.specs.declared.rows.History.{History}
-use Rattle.readset.specs.Reads.{ReadSetView, held, value_of}
 
 -- what each record written is to hold, by record number in the order of the numbers, and the HISTORY row, if there is
 -- one
@@ -27,10 +26,6 @@ puts writes n value = record { values = insert_entry nat_cmp writes.values n val
 -- what the records hold once these values are put in
 abbrev pub rows_with : WriteSetView → (ℕ → Option (List ℕ)) → ℕ → Option (List ℕ)
 rows_with writes rows n = unwrap_or (value_for writes n) (rows n)
-
--- what a transaction leaves of a record: what it is to write there, or else what it has read there
-abbrev pub left_at : WriteSetView → ReadSetView → ℕ → Option (List ℕ)
-left_at writes reads n = unwrap_or (value_for writes n) (option_and_then value_of (held reads n))
 
 -- the rows that HISTORY gets
 abbrev pub added : Option History → List History

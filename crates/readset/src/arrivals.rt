@@ -1,6 +1,8 @@
 //! Entries by record number as they came, beside a list of their places in the order of the numbers.
 ghost use Rattle.std.proofs.Props.{props};
-ghost use Rattle.std.specs.Prelude.{◌≡◌};
+ghost use Rattle.std.specs.Prelude.{◌≡◌, ◌<◌, ◌≤◌, length};
+ghost use Rattle.std.specs.List.{insert};
+ghost use Rattle.std.specs.Vec.{vec_len, vec_capacity};
 ghost use Rattle.readset.specs.Arrivals.{AreArrivals, in_order};
 ghost use Rattle.readset.specs.Places.{place};
 ghost use Rattle.std.proofs.lemmas.Map.Keys.{IsStrictlySortedBy-prop};
@@ -19,7 +21,7 @@ pub(crate) struct Arrivals<V> {
 }
 
 impl<V: Copy> Arrivals<V> {
-    ghost use Rattle.std.specs.Prelude.{ℕ, ◌<◌, ◌≤◌, [], Ok, Err, IfOk, OnOk, OnErr, length, get_or};
+    ghost use Rattle.std.specs.Prelude.{ℕ, [], Ok, Err, IfOk, OnOk, OnErr, true, get_or};
     ghost use Rattle.std.specs.Option.{option_copied};
     ghost use Rattle.std.specs.Ordering.{nat_cmp};
     ghost use Rattle.std.specs.Map.{lookup};
@@ -34,6 +36,16 @@ impl<V: Copy> Arrivals<V> {
             entries: Vec::new(alloc),
             order: Vec::new(alloc),
         }
+    }
+
+    /// Takes memory for just so many entries, in one block, where none was taken yet.
+    pub(crate) fn reserve(&mut self, count: usize) -> Result<(), AllocError>
+        ensures same { arrived self.new ≡ arrived self.old }
+    {
+        if self.entries.capacity() == 0 {
+            self.entries.reserve_exact(count)?;
+        }
+        Ok(())
     }
 
     /// The place of a number in the order, or else the place where it would go. Takes constant time for a number above
@@ -83,6 +95,7 @@ impl<V: Copy> Arrivals<V> {
 
     /// Makes room for the entry of a number that has none, where this is its place in the order. A number below others
     /// asks for a list of the order, where there is none yet.
+    #[inline(always)]
     pub(crate) fn make_room(&mut self, at: usize) -> Result<(), AllocError>
         requires { at ≤ length (arrived self.old) }
         ensures same { arrived self.new ≡ arrived self.old }
@@ -92,6 +105,35 @@ impl<V: Copy> Arrivals<V> {
         if self.entries.len() >= u32::MAX as usize {
             return Err(AllocError);
         }
+        let room = self.entries.len() < self.entries.capacity();
+        if room && self.has_place(at) {
+            return Ok(());
+        }
+        self.grow(at)
+    }
+
+    /// Whether the order can take a place more, or needs none.
+    #[inline(always)]
+    fn has_place(&self, at: usize) -> bool
+        ensures listed { result ≡ true → 0 < length self.now.order.items
+            → vec_len self.now.order < vec_capacity self.now.order }
+        ensures unlisted { result ≡ true → self.now.order.items ≡ [] → at ≡ length self.now.entries.items }
+    {
+        if self.order.is_empty() {
+            at == self.entries.len()
+        } else {
+            self.order.len() < self.order.capacity()
+        }
+    }
+
+    /// Makes that room where memory may have to be taken: seldom, and so kept out of the steps that need none.
+    #[inline(never)]
+    fn grow(&mut self, at: usize) -> Result<(), AllocError>
+        requires few { length self.old.entries.items < 4_294_967_295 }
+        requires at { at ≤ length (arrived self.old) }
+        ensures same { arrived self.new ≡ arrived self.old }
+        ensures space { OnOk result (HasSpaceAt self.new at) }
+    {
         // A dozen first, as a short transaction needs, and then four times as many: growing was a tenth of a long one.
         if self.entries.capacity() <= self.entries.len() {
             self.entries.reserve(self.entries.len() * 3 + 12)?;
@@ -133,9 +175,7 @@ impl<V: Copy> Arrivals<V> {
         if !self.order.is_empty() {
             return self.add_listed(at, number, value);
         }
-        let Ok(()) = self.entries.push((number, value)) else {
-            unreachable!()
-        };
+        self.entries.push_reserved((number, value));
     }
 
     /// The same, where an order is listed.
@@ -146,12 +186,8 @@ impl<V: Copy> Arrivals<V> {
         ensures { arrived self.new ≡ insert_entry nat_cmp (arrived self.old) number value }
     {
         let place = self.entries.len() as u32;
-        let Ok(()) = self.entries.push((number, value)) else {
-            unreachable!()
-        };
-        let Ok(()) = self.order.insert(at, (number, place)) else {
-            unreachable!()
-        };
+        self.entries.push_reserved((number, value));
+        put_place(&mut self.order, at, (number, place));
     }
 
     /// Gives a number, whose place in the order this is, another value. Where an order is listed, the value that it had
@@ -174,9 +210,22 @@ impl<V: Copy> Arrivals<V> {
         Ok(())
     }
 
-    /// The entries in the order of their numbers, in memory for just these: what they came in is soon used again. In
-    /// one pass over them.
-    pub(crate) fn ordered(&self) -> Result<Vec<(u32, V)>, AllocError>
+    /// The entries in the order of their numbers. In constant time, in the memory that they came in, where no order is
+    /// listed and at most a quarter of it is spare; else in one pass over them, in memory for just these.
+    pub(crate) fn into_ordered(self) -> Result<Vec<(u32, V)>, AllocError>
+        ensures { IfOk result (λ list. list.items ≡ arrived self) }
+    {
+        let room = self.entries.capacity();
+        if self.order.is_empty() && room - room / 4 <= self.entries.len() {
+            let Arrivals { entries, order: _ } = self;
+            return Ok(entries);
+        }
+        self.ordered()
+    }
+
+    /// A copy of the entries in the order of their numbers, in memory for just these: what they came in is soon used
+    /// again. In one pass over them.
+    fn ordered(&self) -> Result<Vec<(u32, V)>, AllocError>
         ensures { IfOk result (λ list. list.items ≡ arrived self.now) }
     {
         let count = self.count();
@@ -198,6 +247,22 @@ impl<V: Copy> Arrivals<V> {
             (self.order[at].0, self.entries[self.order[at].1 as usize].1)
         }
     }
+}
+
+/// Puts an entry's place into the order, where there is room. In constant time behind all others, as most go of a
+/// transaction that goes through a table in order; else in a move of 8 bytes for each behind it.
+#[inline(always)]
+fn put_place(order: &mut Vec<(u32, u32)>, at: usize, place: (u32, u32))
+    requires at { at ≤ length order.old.items }
+    requires room { vec_len order.old < vec_capacity order.old }
+    ensures { order.new.items ≡ insert order.old.items at place }
+{
+    if at == order.len() {
+        return order.push_reserved(place);
+    }
+    let Ok(()) = order.insert(at, place) else {
+        unreachable!()
+    };
 }
 
 /// The place of a number in the order of these entries, or else the place where it would go.

@@ -47,6 +47,20 @@ impl ReadSet {
         }
     }
 
+    /// Takes memory for just so many versions in one block, where none was taken yet: for a caller that knows how many
+    /// it is to read. More may still come.
+    ///
+    /// # Errors
+    ///
+    /// `OutOfMemory`, and no other.
+    pub fn reserve(&mut self, count: usize) -> Result<(), Refusal>
+        ensures same { self.new ≡ self.old }
+        ensures only_memory { IfErr result (λ refusal. refusal ≡ OutOfMemory) }
+    {
+        self.versions.reserve(count)?;
+        Ok(())
+    }
+
     /// The version of a record: the one held, or else what a load of its cell gives, which is held from then
     /// on. Costs constant time, amortized, for a record above all others held; else the logarithm of how many are held,
     /// and for a load a move of 8 bytes for each of those above.

@@ -9,7 +9,7 @@ ghost use Rattle.cells.specs.Records.{ReaderView};
 ghost use Rattle.tables.specs.declared.limits.TheConstants.{MAX_READS, MAX_WRITES};
 ghost use Rattle.cells.specs.declared.cells.Version.{Version};
 ghost use Rattle.readset.specs.Reads.{held, value_of, IsReadAs};
-ghost use Rattle.readset.specs.Writes.{no_writes, puts, left_at};
+ghost use Rattle.readset.specs.Writes.{no_writes, puts};
 ghost use Rattle.readset.specs.Commit.{IsCommitOf};
 ghost use Rattle.readset.specs.Refused.{NoneMissing, IsAboveCap};
 ghost use Rattle.readset.specs.Transaction.{IsUnderWay, ReadsMore, GoesOn, Finds, IsExecuted};
@@ -23,7 +23,7 @@ use population::Population;
 use std::alloc::Global;
 use std::marker::{Brand, Model, PhantomData};
 use std::sync::Wait;
-use tables::{History, Input, RecordKey, Reply, Scale, number_of_key};
+use tables::{History, Input, RecordKey, Reply, Scale};
 
 /// Names where one transaction starts: its population's tables, and what its reader knows then.
 pub trait Start {
@@ -99,6 +99,20 @@ impl<'a, K: Start> Transaction<'a, K> {
         }
     }
 
+    /// Takes memory for just so many reads and writes, in one block each, where none was taken yet: for a caller that
+    /// knows how many it is to make. More may still come.
+    ///
+    /// # Errors
+    ///
+    /// `OutOfMemory`, and no other.
+    pub fn reserve(&mut self, reads: usize, writes: usize) -> Result<(), Refusal>
+        ensures same { self.new ≡ self.old }
+        ensures only_memory { IfErr result (λ refusal. refusal ≡ OutOfMemory) }
+    {
+        self.reads.reserve(reads)?;
+        self.writes.reserve(writes)
+    }
+
     /// The scale of the tables.
     pub fn scale(&self) -> Scale
         ensures { result ≡ K.tables.scale }
@@ -119,7 +133,7 @@ impl<'a, K: Start> Transaction<'a, K> {
         ensures { result ≡ is_some (held self.now.reads (number_of_key K.tables.scale key)) }
     {
         self.reads
-            .held(number_of_key(&self.population.tables().scale, key))
+            .held(self.population.numbering().number_of_key(key))
             .is_some()
     }
 
@@ -142,23 +156,9 @@ impl<'a, K: Start> Transaction<'a, K> {
         ensures kept { OnErr result (self.new ≡ self.old) }
         ensures only_memory { IfErr result (λ refusal. refusal ≡ OutOfMemory) }
     {
-        let number = number_of_key(&self.population.tables().scale, key);
+        let number = self.population.numbering().number_of_key(key);
         let version = self.reads.get(rt, self.cells, &mut self.reader, number)?;
         Ok(value_of(&version))
-    }
-
-    /// What the transaction leaves of a record that it has read so: what it is to write there, or else this. Costs the
-    /// logarithm of the number of records written.
-    pub fn left(&self, key: RecordKey, read: Option<Payload>) -> Option<Payload>
-        requires key { IsRecordKey K.tables.scale key }
-        requires read { IsReadAs self.now.reads (number_of_key K.tables.scale key) read }
-        ensures { result ≡ left_at self.now.writes self.now.reads (number_of_key K.tables.scale key) }
-    {
-        let number = number_of_key(&self.population.tables().scale, key);
-        match self.writes.value(number) {
-            Some(value) => value,
-            None => read,
-        }
     }
 
     /// Says what a record that was read is to hold, in the place of what was said of it before. Costs what
@@ -177,7 +177,7 @@ impl<'a, K: Start> Transaction<'a, K> {
         ensures goes_on { GoesOn 0 1 self.old self.new }
         ensures only_memory { IfErr result (λ refusal. refusal ≡ OutOfMemory) }
     {
-        let number = number_of_key(&self.population.tables().scale, key);
+        let number = self.population.numbering().number_of_key(key);
         self.writes.put(number, value)
     }
 
@@ -210,6 +210,7 @@ impl<'a, K: Start> Transaction<'a, K> {
     }
 
     /// The reader as it is now, and the work, where the reply was found; else the refusal.
+    #[inline(always)]
     pub fn finish(
         self,
         input: Input,

@@ -3,11 +3,10 @@ ghost use Rattle.std.specs.Prelude.{◌≡◌, Some, All, OnOk, OnErr, IfOk, IfE
 ghost use Rattle.std.specs.Ordering.{nat_cmp};
 ghost use Rattle.std.specs.Map.{keys_of};
 ghost use Rattle.std.specs.List.Sorted.{IsStrictlySortedBy};
-ghost use Rattle.readset.specs.Writes.{no_writes, value_for, puts, left_at};
+ghost use Rattle.readset.specs.Writes.{no_writes, value_for, puts};
 
 use crate::arrivals::Arrivals;
 use crate::list::WriteList;
-use crate::reads::{ReadSet, value_of};
 use money::{Payload, Refusal};
 use std::alloc::Global;
 use std::marker::Model;
@@ -43,6 +42,20 @@ impl WriteSet {
             values: Arrivals::new(alloc),
             history_row: None,
         }
+    }
+
+    /// Takes memory for just so many records in one block, where none was taken yet: for a caller that knows how many
+    /// it is to write. More may still come.
+    ///
+    /// # Errors
+    ///
+    /// `OutOfMemory`, and no other.
+    pub fn reserve(&mut self, count: usize) -> Result<(), Refusal>
+        ensures same { self.new ≡ self.old }
+        ensures only_memory { IfErr result (λ refusal. refusal ≡ OutOfMemory) }
+    {
+        self.values.reserve(count)?;
+        Ok(())
     }
 
     /// Says what a record is to hold, in the place of what was said of it before. Costs constant time, amortized, for a
@@ -81,17 +94,6 @@ impl WriteSet {
         self.values.value_at(number).copied()
     }
 
-    /// What the transaction leaves of a record: what it is to write there, or else what it has read there. Nothing
-    /// where it did neither. Costs the logarithms of the numbers of records written and read.
-    pub fn left(&self, reads: &ReadSet, number: u32) -> Option<Payload>
-        ensures { result ≡ left_at self.now reads.now number }
-    {
-        match self.values.value_at(number) {
-            Some(value) => *value,
-            None => value_of(reads.held(number)?),
-        }
-    }
-
     /// How many records are written.
     pub fn len(&self) -> usize
         ensures len { result ≡ length self.now.values }
@@ -108,7 +110,8 @@ impl WriteSet {
         self.history_row
     }
 
-    /// The same writes as a list, in one pass over them.
+    /// The same writes as a list. In constant time where the records were written in the order of their numbers, and at
+    /// most a quarter of the memory taken for them is spare; else in one pass over them.
     ///
     /// # Errors
     ///
@@ -117,6 +120,6 @@ impl WriteSet {
         ensures list { IfOk result (λ list. list ≡ self) }
         ensures only_memory { IfErr result (λ refusal. refusal ≡ OutOfMemory) }
     {
-        Ok(WriteList::new(self.values.ordered()?, self.history_row))
+        Ok(WriteList::new(self.values.into_ordered()?, self.history_row))
     }
 }

@@ -58,14 +58,6 @@ pub record IsOrderOfScale (s : Sizes) (r : Order) : Type 0 where
   pub row : IsOrderRow r
   pub customer : IsNumber s.customers r.customer
 
--- a stock's columns within their ranges, but its counts up to `most`: lines of one New-Order that come before may have
--- raised them over 1,000,000,000
-pub record IsStockUpTo (most : ℕ) (r : Stock) : Type 0 where
-  pub quantity : IsBetween MIN_STOCK MAX_STOCK r.quantity
-  pub year_to_date : r.year_to_date ≤ most
-  pub orders : r.orders ≤ most
-  pub remote_orders : r.remote_orders ≤ most
-
 -- the records of the indices: the number of an order or of the next one, and of an order or 0
 abbrev pub oldest_at : Database → DistrictKey → Option Oldest
 oldest_at t k = Some (record { order = oldest t k })

@@ -15,4 +15,3 @@ mod stock;
 pub use columns::{CustomerColumns, DistrictColumns, WarehouseColumns};
 pub use index::{Last, Oldest};
 pub use row::{Keyed, Present, Row};
-pub use stock::stock_left;

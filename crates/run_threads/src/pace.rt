@@ -5,8 +5,9 @@ use std::thread;
 
 /// How a logger waits between two turns. The first logger's is also who may tell how far the run is.
 pub trait Pace {
-    /// Called after each turn of the logger while the run lasts, outside the book's lock. `signals` is how many there were
-    /// before the turn took of the book: `progress.wait` with it sleeps through no advance of E that the turn hasn't seen.
+    /// Called after each turn of the logger while the run lasts, outside the book's lock. `signals` is how many there
+    /// were before the turn took of the book: `progress.wait` with it sleeps through no advance of E that the turn
+    /// hasn't seen.
     fn pause(&mut self, progress: &Progress, signals: u64);
 
     /// Called once, after all loggers' last turns, and after the terminals have acknowledged what is durable then.

@@ -49,8 +49,9 @@ impl<K: Run, D: Disk, P: Pace + Drop> Writer<K, D, P> {
         }
     }
 
-    /// One turn: the clock's advances E first, so that the mark of the take is the epoch before. Answers how many signals
-    /// there were before the take: an advance that comes later, and that the take may have missed, is one more.
+    /// One turn: the clock's advances E first, so that the mark of the take is the epoch before. Answers how many
+    /// signals there were before the take: an advance that comes later, and that the take may have missed, is one
+    /// more.
     fn turn<R: Wait>(&mut self, rt: &R, engine: &Engine<K>, progress: &Progress) -> u64
         ensures { self.new.appender.has_stopped ≡ false → self.new.appender.logger.file.failed ≡ false }
     {

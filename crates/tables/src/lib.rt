@@ -12,6 +12,7 @@ pub mod limits;
 mod located;
 mod names;
 mod new_order;
+mod numbering;
 mod order_lines;
 mod order_status;
 mod payment;
@@ -26,15 +27,16 @@ pub use customer::Who;
 pub use delivery::{DeliveredOrder, DeliveryInput, DeliveryReply};
 pub use input::Input;
 pub use keys::{CustomerKey, DistrictKey, LineKey, OrderKey, StockKey};
-pub use located::{key_of, locate};
+pub use located::{customer_at, district_at, key_of, locate};
 pub use names::NameKey;
 pub use new_order::{NewOrderInput, NewOrderReply, RequestedLine, SuppliedLine};
+pub use numbering::{Numbering, number_of_key};
 pub use order_lines::Lines;
 pub use order_status::{LastOrder, OrderStatusInput, OrderStatusReply};
 pub use payment::{PaymentInput, PaymentReply};
 pub use records::{
-    RecordKey, Table, number_of_key, place_of_customer, place_of_district, place_of_order, rec,
-    record_count, records_have_one_number_each,
+    RecordKey, Table, place_of_customer, place_of_district, place_of_order, rec, record_count,
+    records_have_one_number_each,
 };
 pub use reply::Reply;
 pub use rows::{

@@ -77,7 +77,8 @@ fn key_at(scale: &Scale, table: Table, place: u32) -> RecordKey
     }
 }
 
-fn district_at(scale: &Scale, place: u32) -> DistrictKey
+/// The district at a place of DISTRICT, or of OLDEST. Constant time.
+pub fn district_at(scale: &Scale, place: u32) -> DistrictKey
     requires { place < 2 ^ 31 }
     ensures { result ≡ district_at scale.now place }
 {
@@ -87,7 +88,8 @@ fn district_at(scale: &Scale, place: u32) -> DistrictKey
     }
 }
 
-fn customer_at(scale: &Scale, place: u32) -> CustomerKey
+/// The customer at a place of CUSTOMER, or of LAST. Constant time.
+pub fn customer_at(scale: &Scale, place: u32) -> CustomerKey
     requires { place < 2 ^ 31 }
     ensures { result ≡ customer_at scale.now place }
 {

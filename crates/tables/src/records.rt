@@ -5,7 +5,7 @@
 ghost use Rattle.std.specs.Prelude.{◌≡◌, ◌+◌, ◌-◌, ◌*◌, ◌<◌, ◌≤◌, ◌^◌};
 ghost use Rattle.tables.specs.Sizes.{Sizes};
 ghost use Rattle.tables.specs.Keys.{IsDistrictKey, IsCustomerKey, IsOrderKey, IsLineKey, IsStockKey};
-ghost use Rattle.tables.specs.Records.{size, first_number, record_number, record_count, IsRecordKey, number_of_key};
+ghost use Rattle.tables.specs.Records.{size, first_number, record_number, record_count};
 ghost use Rattle.tables.specs.Records.{district_place, customer_place, order_place, place_of, NumbersNameKeys};
 ghost use Rattle.tables.specs.Records.{NumbersNamePlaces, table_number, table_numbered};
 ghost use Rattle.tables.specs.declared.records.Table.TheVariants as table;
@@ -157,25 +157,6 @@ pub fn rec(scale: &Scale, table: Table, place: u32) -> u32
     table.first(scale) + place
 }
 
-/// The number of the record of a key. Constant time.
-pub fn number_of_key(scale: &Scale, key: RecordKey) -> u32
-    requires { IsRecordKey scale.now key }
-    ensures value { result ≡ number_of_key scale.now key }
-    ensures limit { result < record_count scale.now }
-{
-    match key {
-        RecordKey::Warehouse(warehouse) => rec(scale, Table::Warehouse, warehouse - 1),
-        RecordKey::District(key) => rec(scale, Table::District, place_of_district(scale, key)),
-        RecordKey::Customer(key) => rec(scale, Table::Customer, place_of_customer(scale, key)),
-        RecordKey::NewOrder(key) => rec(scale, Table::NewOrder, place_of_order(scale, key)),
-        RecordKey::Order(key) => rec(scale, Table::Order, place_of_order(scale, key)),
-        RecordKey::OrderLine(key) => rec(scale, Table::OrderLine, place_of_line(scale, key)),
-        RecordKey::Stock(key) => rec(scale, Table::Stock, place_of_stock(scale, key)),
-        RecordKey::Oldest(key) => rec(scale, Table::Oldest, place_of_district(scale, key)),
-        RecordKey::Last(key) => rec(scale, Table::Last, place_of_customer(scale, key)),
-    }
-}
-
 /// The place of a district in DISTRICT, and in OLDEST. Constant time.
 #[tactic(auto, using(crate::proofs::Numbers::district_there))]
 pub fn place_of_district(scale: &Scale, key: DistrictKey) -> u32
@@ -212,7 +193,7 @@ pub fn place_of_order(scale: &Scale, key: OrderKey) -> u32
 }
 
 #[tactic(auto, using(crate::proofs::Numbers::line_there))]
-fn place_of_line(scale: &Scale, key: LineKey) -> u32
+pub(crate) fn place_of_line(scale: &Scale, key: LineKey) -> u32
     requires { IsLineKey scale.now key }
     ensures value { result ≡ place_of scale.now (record_key.OrderLine key) }
     ensures limit { result < size scale.now table.OrderLine }
@@ -222,7 +203,7 @@ fn place_of_line(scale: &Scale, key: LineKey) -> u32
 }
 
 #[tactic(auto, using(crate::proofs::Numbers::stock_there))]
-fn place_of_stock(scale: &Scale, key: StockKey) -> u32
+pub(crate) fn place_of_stock(scale: &Scale, key: StockKey) -> u32
     requires { IsStockKey scale.now key }
     ensures value { result ≡ place_of scale.now (record_key.Stock key) }
     ensures limit { result < size scale.now table.Stock }

@@ -64,9 +64,9 @@ fn standing_of<K: Run, R: Wait>(
         warehouse: 1,
         district: 1,
     };
-    let book = engine.lock(rt);
-    let is_good = book.report(alloc)?.is_good();
-    let tables = book.tables()?;
+    let mut book = engine.lock(rt);
+    let is_good = book.report(engine.cells(), alloc)?.is_good();
+    let tables = book.tables(engine.cells())?;
     Ok(Standing {
         year_to_date: tables.warehouses.get(&1).map(|row| row.year_to_date),
         next_order: tables.districts.get(&key).map(|row| row.next_order),

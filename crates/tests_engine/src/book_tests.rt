@@ -131,10 +131,10 @@ fn standing_of<K: Run, R: Wait>(rt: &R, engine: &Engine<K>, reader: &mut Reader)
     let district = cells.read(rt, reader, 1);
     let third = cells.read(rt, reader, 5);
     let fourth = cells.read(rt, reader, 6);
-    let book = engine.lock(rt);
+    let mut book = engine.lock(rt);
     Standing {
         commits: book.history().len(),
-        year_to_date: book.record(0).map(|words| words[0]),
+        year_to_date: book.record(cells, 0).map(|words| words[0]),
         tids: [
             warehouse.word.word(),
             district.word.word(),
@@ -163,7 +163,7 @@ struct Account {
 
 /// How many HISTORY rows a copy of the committed tables has.
 fn payments_of<K: Run, R: Wait>(rt: &R, engine: &Engine<K>) -> Result<usize, Refusal> {
-    Ok(engine.lock(rt).tables()?.history.len())
+    Ok(engine.lock(rt).tables(engine.cells())?.history.len())
 }
 
 fn account_of<K: Run, R: Wait>(

@@ -130,7 +130,7 @@ pub(crate) fn is_good<K: Run, R: Wait>(
     alloc: Global,
     engine: &Engine<K>,
 ) -> Result<bool, Refusal> {
-    Ok(engine.lock(rt).report(alloc)?.is_good())
+    Ok(engine.lock(rt).report(engine.cells(), alloc)?.is_good())
 }
 
 fn told_at(done: &Done) -> Committed {
@@ -155,6 +155,6 @@ pub(crate) fn attempt<K: Run, R: Wait>(
             .lock(rt)
             .commit(rt, board, cells, &mut seat.reader, &mut seat.share, work)
             .map(|done| told_at(&done)),
-        Err(refusal) => Err(engine.lock(rt).confirmed(input, refusal)),
+        Err(refusal) => Err(engine.lock(rt).confirmed(cells, input, refusal)),
     }
 }

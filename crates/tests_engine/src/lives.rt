@@ -92,9 +92,9 @@ fn base_of<K: Run, R: Wait>(rt: &R, alloc: Global, engine: &Engine<K>) -> Result
     ensures epoch { IfOk result (λ base. base.epoch < last_epoch) }
 {
     let first = engine.population().tables().history.len();
-    let book = engine.lock(rt);
+    let mut book = engine.lock(rt);
     let commits = book.commits() as u32;
-    let tables = book.tables()?;
+    let tables = book.tables(engine.cells())?;
     let rows = rows_behind(alloc, &tables, first)?;
     if !is_in_reach(commits, &tables) {
         return Err(Refusal::Damaged);

@@ -5,7 +5,7 @@ ghost use Rattle.tidword.specs.TidWord.{tid_of};
 ghost use Rattle.cells.specs.Records.{at};
 ghost use Rattle.cells.specs.Versions.{last_tid};
 
-use cells::{Cells, Newest, Pen, Reader, Version};
+use cells::{Cells, FirstVersions, Newest, Pen, Reader, Version};
 use money::Refusal;
 use std::alloc::Global;
 use std::sync::Wait;
@@ -54,14 +54,14 @@ fn turn_of(version: &Version) -> u64
 }
 
 /// The versions that the cells begin with.
-fn first_versions(alloc: Global) -> Result<Vec<Newest>, Refusal>
-    ensures count { IfOk result (λ first. length first.items ≡ 4098) }
-    ensures zero { IfOk result (λ first. All (λ newest. tid_of newest.word ≡ 0) first.items) }
+fn first_versions(alloc: Global) -> Result<FirstVersions, Refusal>
+    ensures count { IfOk result (λ first. length first ≡ 4098) }
+    ensures zero { IfOk result (All (λ newest. tid_of newest.word ≡ 0)) }
 {
-    let mut first = Vec::new(alloc);
+    let mut first = FirstVersions::absent(alloc, CELLS as usize)?;
     for record in 0..CELLS {
         let Version { word, payload, .. } = version_of(record, 0);
-        first.push(Newest { word, payload })?;
+        first.set(record as usize, Newest { word, payload })?;
     }
     Ok(first)
 }
@@ -73,7 +73,7 @@ fn open<R: Wait>(rt: &R, alloc: Global) -> Result<Pages, Fail>
     ensures first { IfOk result (λ p. (n : ℕ) → n < length p.cells → last_tid (at p.pen.all n) ≡ 0) }
 {
     let first = first_versions(alloc)?;
-    let (cells, pen, mut readers) = Cells::new(rt, alloc, &first, 2)?;
+    let (cells, pen, mut readers) = Cells::new(rt, alloc, first, 2)?;
     let reader = readers.pop().ok_or("reader")?;
     let last = readers.pop().ok_or("reader")?;
     Ok(Pages {

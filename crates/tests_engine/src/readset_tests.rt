@@ -11,14 +11,6 @@ use std::test::Fail;
 use tables::History;
 use tables::limits::{MAX_READS, MAX_WRITES};
 
-/// What was seen of writes.
-#[derive(Clone, Copy, Debug, PartialEq, Eq)]
-struct Seen {
-    count: usize,
-    value: Option<Option<Payload>>,
-    left: Option<Payload>,
-}
-
 /// Reads the warehouse, twice.
 fn read<R: Wait>(rt: &R, alloc: Global, stage: &mut Stage) -> Result<ReadSet, Refusal>
     requires count { length stage.old.cells ≡ 1085 }
@@ -31,69 +23,64 @@ fn read<R: Wait>(rt: &R, alloc: Global, stage: &mut Stage) -> Result<ReadSet, Re
     Ok(reads)
 }
 
-fn seen_of(writes: &WriteSet, reads: &ReadSet, number: u32) -> Seen {
-    Seen {
-        count: writes.len(),
-        value: writes.value(number),
-        left: writes.left(reads, number),
-    }
-}
-
-/// A read set that has the warehouse.
-fn reads_of<R: Wait>(rt: &R, alloc: Global) -> Result<ReadSet, Fail> {
+/// How many records a read set has that has read the warehouse twice, and the words of the first.
+fn seen_of_reads<R: Wait>(rt: &R, alloc: Global) -> Result<(usize, Option<Payload>), Fail> {
     let mut stage = open(rt, alloc)?;
-    Ok(read(rt, alloc, &mut stage)?)
-}
-
-fn seen_unwritten<R: Wait>(rt: &R, alloc: Global) -> Result<Seen, Fail> {
-    let reads = reads_of(rt, alloc)?;
-    Ok(seen_of(&WriteSet::new(alloc), &reads, 0))
+    let reads = read(rt, alloc, &mut stage)?;
+    let first = reads.held(0).map(|version| version.payload);
+    Ok((reads.len(), first))
 }
 
 #[test]
-fn a_record_that_is_only_read_is_left_as_read(rt: HostRuntime) -> Result<(), Fail> {
-    let seen = seen_unwritten(&rt, rt.alloc())?;
-    let expected = Seen {
-        count: 0,
-        value: None,
-        left: Some(WAREHOUSE),
-    };
-    assert_eq!(rt; seen, expected);
+fn a_record_that_is_read_twice_is_held_once(rt: HostRuntime) -> Result<(), Fail> {
+    assert_eq!(rt; seen_of_reads(&rt, rt.alloc())?, (1, Some(WAREHOUSE)));
     Ok(())
 }
 
+/// What was seen of writes.
+#[derive(Clone, Copy, Debug, PartialEq, Eq)]
+struct Seen {
+    count: usize,
+    value: Option<Option<Payload>>,
+}
+
 /// Says what the warehouse is to hold.
-fn put(writes: &mut WriteSet, reads: &ReadSet, value: Option<Payload>) -> Result<Seen, Refusal> {
+fn put(writes: &mut WriteSet, value: Option<Payload>) -> Result<Seen, Refusal> {
     writes.put(0, value)?;
-    Ok(seen_of(writes, reads, 0))
+    Ok(seen_of(writes))
 }
 
-fn seen_of_two_puts(alloc: Global, reads: &ReadSet) -> Result<(Seen, Seen), Refusal> {
+fn seen_of(writes: &WriteSet) -> Seen {
+    Seen {
+        count: writes.len(),
+        value: writes.value(0),
+    }
+}
+
+fn seen_of_two_puts(alloc: Global) -> Result<[Seen; 3], Refusal> {
     let mut writes = WriteSet::new(alloc);
-    let first = put(&mut writes, reads, Some([1, 2, 3, 4, 5, 6, 7]))?;
-    let second = put(&mut writes, reads, None)?;
-    Ok((first, second))
-}
-
-fn seen_written<R: Wait>(rt: &R, alloc: Global) -> Result<(Seen, Seen), Fail> {
-    let reads = reads_of(rt, alloc)?;
-    Ok(seen_of_two_puts(alloc, &reads)?)
+    let none = seen_of(&writes);
+    let first = put(&mut writes, Some([1, 2, 3, 4, 5, 6, 7]))?;
+    let second = put(&mut writes, None)?;
+    Ok([none, first, second])
 }
 
 #[test]
-fn the_last_value_put_is_left(rt: HostRuntime) -> Result<(), Fail> {
-    let seen = seen_written(&rt, rt.alloc())?;
+fn the_last_value_put_counts(rt: HostRuntime) -> Result<(), Fail> {
+    let seen = seen_of_two_puts(rt.alloc())?;
+    let none = Seen {
+        count: 0,
+        value: None,
+    };
     let first = Seen {
         count: 1,
         value: Some(Some([1, 2, 3, 4, 5, 6, 7])),
-        left: Some([1, 2, 3, 4, 5, 6, 7]),
     };
     let second = Seen {
         count: 1,
         value: Some(None),
-        left: None,
     };
-    assert_eq!(rt; seen, (first, second));
+    assert_eq!(rt; seen, [none, first, second]);
     Ok(())
 }
 

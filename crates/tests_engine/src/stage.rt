@@ -51,8 +51,8 @@ pub(crate) fn open<R: Wait>(rt: &R, alloc: Global) -> Result<Stage, Fail>
     ensures first { IfOk result (λ s. (n : ℕ) → n < length s.cells → last_tid (at s.pen.all n) ≡ 0) }
 {
     let population = small(alloc)?;
-    let newest = first_versions(alloc, population.tables())?;
-    let (cells, pen, mut readers) = Cells::new(rt, alloc, &newest, 1)?;
+    let first = first_versions(alloc, population.tables())?;
+    let (cells, pen, mut readers) = Cells::new(rt, alloc, first, 1)?;
     let reader = readers.pop().ok_or("reader")?;
     Ok(Stage {
         population,

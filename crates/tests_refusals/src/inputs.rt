@@ -158,7 +158,11 @@ impl<K: Run> Desk<K> {
     /// Tells D, how many have committed, whether all conditions hold, and what each commit was told, in their order.
     fn tell<R: Wait>(&self, rt: &R, durable: u64, text: &mut String) -> Result<(), Refusal> {
         let commits = self.commits(rt);
-        let is_good = self.engine.lock(rt).report(*text.allocator())?.is_good();
+        let mut book = self.engine.lock(rt);
+        let is_good = book
+            .report(self.engine.cells(), *text.allocator())?
+            .is_good();
+        drop(book);
         writeln!(
             text,
             "durable {durable}, {commits} committed, all good: {is_good}"

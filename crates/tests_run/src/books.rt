@@ -22,7 +22,7 @@ pub(crate) struct Books {
 impl Books {
     /// Those of a run.
     pub(crate) fn of_run<K: Run, D: Disk + Drop>(
-        outcome: &Outcome<K, D>,
+        outcome: &mut Outcome<K, D>,
     ) -> Result<Books, Refusal> {
         Ok(Books {
             durable: outcome.counts.durable,

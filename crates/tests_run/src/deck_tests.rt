@@ -137,7 +137,7 @@ fn is_told<K: Run, D: Disk + Drop>(alloc: Global, outcome: Outcome<K, D>) -> Res
     outcome.counts.durable = 5;
     outcome.counts.acknowledged = 6;
     let mut text = Vec::new(alloc);
-    ran(alloc, &outcome, &mut text)?;
+    ran(alloc, &mut outcome, &mut text)?;
     Ok(text.as_slice().starts_with(TOLD.as_bytes()))
 }
 

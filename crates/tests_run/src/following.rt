@@ -23,8 +23,8 @@ const HELD: u64 = 101;
 /// How long a logger sleeps at the most, in seconds: far longer than a round takes.
 const LONGEST: u64 = 20;
 
-/// How many rounds are over, how many turns of the follower came behind an advance of E, and behind how many signals its
-/// last turn came. And how often somebody has waited in vain: then all go on.
+/// How many rounds are over, how many turns of the follower came behind an advance of E, and behind how many signals
+/// its last turn came. And how often somebody has waited in vain: then all go on.
 #[derive(Default, Drop)]
 pub(crate) struct Rounds {
     over: AtomicU64,

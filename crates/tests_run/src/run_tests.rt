@@ -30,7 +30,7 @@ struct Seen {
 
 fn seen_of<K: Run, D: Disk + Drop>(
     alloc: Global,
-    outcome: &Outcome<K, D>,
+    outcome: &mut Outcome<K, D>,
 ) -> Result<Seen, Refusal> {
     let sums = [
         outcome.counts.commits,
@@ -88,13 +88,13 @@ fn run_of<K: Run + Send + Sync, D: Disk + Send + Drop, R: Threads + Wait + Sync>
     requires terminals { terminals_of parts ≡ 4 }
     requires empty { D.is_modelled → (D.seen disks.0 ≡ []) × (D.seen disks.1 ≡ []) }
 {
-    let outcome = outcome_of::<K, D, R>(rt, alloc, parts, meeting, disks)?;
-    told_of(alloc, &outcome)
+    let mut outcome = outcome_of::<K, D, R>(rt, alloc, parts, meeting, disks)?;
+    told_of(alloc, &mut outcome)
 }
 
 fn told_of<K: Run, D: Disk + Drop>(
     alloc: Global,
-    outcome: &Outcome<K, D>,
+    outcome: &mut Outcome<K, D>,
 ) -> Result<(Seen, Books, i64), Refusal> {
     let paid = paid(&outcome.closed).saturating_add(20_000);
     Ok((seen_of(alloc, outcome)?, Books::of_run(outcome)?, paid))

@@ -1,25 +1,23 @@
-//! Tables built of newest versions that are written out here: those that the plain population begins with, but for
-//! a district's and an order's.
+//! Tables built of records that are changed here: they hold what the plain population begins with, but for a district
+//! and an order.
 
-ghost use Rattle.std.specs.Prelude.{◌≡◌, Some, length, IfOk};
-ghost use Rattle.tables.specs.Records.{IsRecordKey, IsRowKey};
+ghost use Rattle.std.specs.Prelude.{◌≡◌, Some, length, IfOk, OnOk};
+ghost use Rattle.tables.specs.Records.{IsRecordKey, record_count};
 ghost use Rattle.tables.specs.Sizes.{sizes};
 ghost use Rattle.population.specs.Initial.{initial};
 ghost use Rattle.cells.specs.Versions.{value_in};
-ghost use Rattle.cells.specs.Records.{newest_words};
-ghost use Rattle.encoding.specs.Held.{row_count};
-ghost use Rattle.encoding.specs.Newest.{value_at, AreLawful};
+ghost use Rattle.encoding.specs.Newest.{words_at, AreLawful};
 ghost use Rattle.encoding.specs.Puts.{MayHold};
 
-use cells::Newest;
-use encoding::tables_of;
-use money::{Cents, NO_PAYLOAD, Payload, Rate, Refusal};
+use cells::{Cells, FirstVersions, Newest};
+use encoding::{first_versions, tables_of};
+use money::{Cents, Payload, Rate, Refusal};
 use population::Population;
 use std::alloc::{AllocError, Global};
+use std::sync::Wait;
 use std::test::Fail;
 use tables::{
-    District, DistrictKey, History, Order, OrderKey, RecordKey, Scale, Tables, key_of,
-    number_of_key,
+    District, DistrictKey, History, Order, OrderKey, RecordKey, Scale, Tables, number_of_key,
 };
 use tidword::TidWord;
 
@@ -49,7 +47,7 @@ fn payment() -> History {
 
 #[test]
 fn rows_of_changed_records(rt: HostRuntime) -> Result<(), Fail> {
-    let (district, order, last_payment) = changed_rows(&built(rt.alloc())?);
+    let (district, order, last_payment) = changed_rows(&built(&rt, rt.alloc())?);
     let expected = District {
         tax: Rate::new(500).ok_or("rate")?,
         year_to_date: Cents::new(11_234),
@@ -79,7 +77,7 @@ fn changed_rows(tables: &Tables) -> (Option<District>, Option<Order>, Option<His
 // The population has 20 rows of HISTORY and of ORDER.
 #[test]
 fn counts_of_built_rows(rt: HostRuntime) -> Result<(), Fail> {
-    let counts = counts(&built(rt.alloc())?);
+    let counts = counts(&built(&rt, rt.alloc())?);
     assert_eq!(rt; counts, [1, 2, 20, 21, 6, 21, 100, 20, 20]);
     Ok(())
 }
@@ -100,87 +98,69 @@ fn counts(tables: &Tables) -> [usize; 9] {
 }
 
 /// The tables of the changed records, with a payment more.
-fn built(alloc: Global) -> Result<Tables, Fail> {
+fn built<R: Wait>(rt: &R, alloc: Global) -> Result<Tables, Fail> {
     let population = Population::plain(alloc, Scale::new(1, 2, 10, 20, 30, 1_000)?)?;
-    Ok(tables_of_changed(alloc, &population)?)
+    Ok(tables_of_changed(rt, alloc, &population)?)
 }
 
-fn tables_of_changed(alloc: Global, population: &Population) -> Result<Tables, Refusal>
+fn tables_of_changed<R: Wait>(
+    rt: &R,
+    alloc: Global,
+    population: &Population,
+) -> Result<Tables, Refusal>
     requires { (initial population.now).scale ≡ sizes 1 2 10 20 30 1000 }
 {
-    let newest = changed_versions(alloc, population)?;
-    tables_of(alloc, population, &newest, &[payment()])
+    let first = changed_versions(alloc, population)?;
+    let (cells, mut pen, _) = Cells::new(rt, alloc, first, 1)?;
+    tables_of(alloc, population, &cells, &mut pen, &[payment()])
 }
 
-fn changed_versions(alloc: Global, population: &Population) -> Result<Vec<Newest>, AllocError>
+/// The versions that the population's records begin with, but for those that are changed.
+fn changed_versions(alloc: Global, population: &Population) -> Result<FirstVersions, AllocError>
     requires { (initial population.now).scale ≡ sizes 1 2 10 20 30 1000 }
-    ensures count { IfOk result (λ newest. length newest.items
-        ≡ row_count (initial population.now).scale) }
-    ensures lawful { IfOk result (λ newest. AreLawful (initial population.now).scale
-        (value_at newest.items)) }
+    ensures count { IfOk result (λ first. length first ≡ record_count (initial population.now).scale) }
+    ensures lawful { IfOk result (λ first. AreLawful (initial population.now).scale
+        (λ n. value_in (words_at first n))) }
 {
-    let mut newest = first_versions(alloc, population)?;
-    change(&mut newest, &population.scale());
-    Ok(newest)
-}
-
-/// The newest versions that the records of rows begin with.
-fn first_versions(alloc: Global, population: &Population) -> Result<Vec<Newest>, AllocError>
-    requires { (initial population.now).scale ≡ sizes 1 2 10 20 30 1000 }
-    ensures count { IfOk result (λ newest. length newest.items
-        ≡ row_count (initial population.now).scale) }
-    ensures lawful { IfOk result (λ newest. AreLawful (initial population.now).scale
-        (value_at newest.items)) }
-{
-    let tables = population.tables();
-    let mut newest = Vec::new(alloc);
-    for number in 0..1_063 {
-        let words = tables.words(key_of(&tables.scale, number));
-        newest.push(version(words))?;
-    }
-    Ok(newest)
+    let mut first = first_versions(alloc, population.tables())?;
+    change(&mut first, &population.scale())?;
+    Ok(first)
 }
 
 /// Another D_YTD and D_NEXT_O_ID of a district, and an order that wasn't there.
-fn change(newest: &mut Vec<Newest>, scale: &Scale)
+fn change(first: &mut FirstVersions, scale: &Scale) -> Result<(), AllocError>
     requires scale { scale.now ≡ sizes 1 2 10 20 30 1000 }
-    requires count { length newest.old.items ≡ row_count scale.now }
-    requires lawful { AreLawful scale.now (value_at newest.old.items) }
-    ensures count { length newest.new.items ≡ row_count scale.now }
-    ensures lawful { AreLawful scale.now (value_at newest.new.items) }
+    requires count { length first.old ≡ record_count scale.now }
+    requires lawful { AreLawful scale.now (λ n. value_in (words_at first.old n)) }
+    ensures count { OnOk result (length first.new ≡ record_count scale.now) }
+    ensures lawful { OnOk result (AreLawful scale.now (λ n. value_in (words_at first.new n))) }
 {
     let district = RecordKey::District(DISTRICT);
-    write(newest, scale, district, [11_234, 12, 0, 0, 0, 0, 0]);
+    write(first, scale, district, [11_234, 12, 0, 0, 0, 0, 0])?;
     let order = RecordKey::Order(ORDER);
-    write(newest, scale, order, [3, 2, 0, 5, 1, 0, 0]);
+    write(first, scale, order, [3, 2, 0, 5, 1, 0, 0])?;
+    Ok(())
 }
 
 /// Writes words into the record of a key.
-fn write(newest: &mut Vec<Newest>, scale: &Scale, key: RecordKey, words: Payload)
+fn write(
+    first: &mut FirstVersions,
+    scale: &Scale,
+    key: RecordKey,
+    words: Payload,
+) -> Result<(), AllocError>
     requires key { IsRecordKey scale.now key }
-    requires row { IsRowKey key }
     requires words { MayHold scale.now key (Some words) }
-    requires count { length newest.old.items ≡ row_count scale.now }
-    requires lawful { AreLawful scale.now (value_at newest.old.items) }
-    ensures count { length newest.new.items ≡ row_count scale.now }
-    ensures lawful { AreLawful scale.now (value_at newest.new.items) }
+    requires count { length first.old ≡ record_count scale.now }
+    requires lawful { AreLawful scale.now (λ n. value_in (words_at first.old n)) }
+    ensures count { OnOk result (length first.new ≡ record_count scale.now) }
+    ensures lawful { OnOk result (AreLawful scale.now (λ n. value_in (words_at first.new n))) }
 {
     let number = number_of_key(scale, key);
-    newest[number as usize] = version(Some(words));
-}
-
-/// A newest version that says this.
-fn version(words: Option<Payload>) -> Newest
-    ensures { value_in (newest_words result) ≡ words }
-{
-    match words {
-        None => Newest {
-            word: TidWord::ABSENT,
-            payload: NO_PAYLOAD,
-        },
-        Some(payload) => Newest {
-            word: TidWord::POPULATED,
-            payload,
-        },
-    }
+    let version = Newest {
+        word: TidWord::POPULATED,
+        payload: words,
+    };
+    first.set(number as usize, version)?;
+    Ok(())
 }

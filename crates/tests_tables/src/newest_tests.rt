@@ -24,8 +24,8 @@ fn present(payload: Payload) -> Newest {
 fn newest_of_plain(rt: HostRuntime) -> Result<(), Fail> {
     let scale = Scale::new(1, 2, 10, 20, 30, 1_000)?;
     let population = Population::plain(rt.alloc(), scale)?;
-    let newest = first_versions(rt.alloc(), population.tables())?;
-    assert_eq!(rt; newest.len(), 1_085);
+    let versions = first_versions(rt.alloc(), population.tables())?;
+    assert_eq!(rt; versions.len(), 1_085);
     // The numbers are those of the warehouse, and, in district 2, of the district, customer 3, orders 7 and 8 of
     // NEW-ORDER, orders 7, 10 and 11, lines 5 and 6 of order 8, the stock of item 20, OLDEST, and LAST of
     // customer 3.
@@ -45,7 +45,8 @@ fn newest_of_plain(rt: HostRuntime) -> Result<(), Fail> {
         (1_077, present([3, 0, 0, 0, 0, 0, 0])),
     ];
     for (number, first) in wanted {
-        assert_eq!(rt; newest.get(number), Some(&first), "{number}");
+        assert!(rt; number < versions.len());
+        assert_eq!(rt; versions.get(number), first, "{number}");
     }
     Ok(())
 }

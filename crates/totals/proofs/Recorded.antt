@@ -13,14 +13,14 @@ use Rattle.tables.specs.declared.rows.History.{History}
 use Rattle.tables.specs.declared.rows.Order.{Order}
 use Rattle.tables.specs.declared.records.RecordKey.TheVariants as key
 use Rattle.tables.proofs.Numbers.{one_to_one}
-use Rattle.cells.specs.declared.cells.Newest.{Newest}
 use Rattle.readset.specs.Writes.{added}
-use Rattle.totals.specs.Moves.{HasBuyers, held_in}
+use Rattle.cells.specs.Records.{PenView, held_by}
+use Rattle.totals.specs.Moves.{HasBuyers}
 use Rattle.totals.specs.Counts.{AreRecords}
 
 -- each order names a customer of the scale
-pub buyers_named : (newest : List Newest) (t : Database) → AreRecords newest t → HasBuyers t.scale (held_in newest)
-buyers_named newest t are k is words at =
+pub buyers_named : (pen : PenView) (t : Database) → AreRecords pen t → HasBuyers t.scale (held_by pen)
+buyers_named pen t are k is words at =
     let named = (one_to_one t.scale).0 (key.Order k) is in
     row (get t.orders k) refl (sym (ap (row_at t) named.1) ∙ sym (are.held (number_of_key t.scale (key.Order k)) named.0) ∙ at)
   where

@@ -1,5 +1,5 @@
 -- When totals may be taken of records, and when they may follow a commit.
-use Rattle.std.specs.Prelude.{◌≡◌, ℕ, ◌<◌, List, length}
+use Rattle.std.specs.Prelude.{◌≡◌, ℕ, ◌<◌, length}
 use Rattle.tables.specs.Inputs.{IsInput}
 use Rattle.tables.specs.Apply.{after}
 use Rattle.tables.specs.Records.{record_count}
@@ -9,29 +9,28 @@ use Rattle.tables.specs.WellFormed.{IsWellFormed}
 use Rattle.tables.specs.Database.{Database}
 use Rattle.tables.specs.declared.input.Input.{Input}
 use Rattle.tables.specs.declared.reply.Reply.{Reply}
-use Rattle.cells.specs.declared.cells.Newest.{Newest}
+use Rattle.cells.specs.Records.{PenView, held_by}
 use Rattle.readset.specs.Writes.{WriteSetView}
 use Rattle.readset.specs.Commit.{IsCommitOf}
 use Rattle.totals.specs.Totals.{TotalsView, AreTotals}
-use Rattle.totals.specs.Moves.{held_in}
 use Rattle.totals.specs.Written.{AreWrites}
 
--- these are what the records of tables hold
-abbrev pub AreHeld : List Newest → Database → Type 0
-AreHeld newest t = (n : ℕ) → n < record_count t.scale → held_in newest n ≡ rows t n
+-- what records hold by their newest versions is what those of tables do
+abbrev pub AreHeld : PenView → Database → Type 0
+AreHeld pen t = (n : ℕ) → n < record_count t.scale → held_by pen n ≡ rows t n
 
--- these are the newest versions of the records of well-formed, consistent tables
-pub record AreRecords (newest : List Newest) (t : Database) : Type 0 where
-  pub count : length newest ≡ record_count t.scale
-  pub held : AreHeld newest t
+-- these are the records of well-formed, consistent tables
+pub record AreRecords (pen : PenView) (t : Database) : Type 0 where
+  pub count : length pen.cells ≡ record_count t.scale
+  pub held : AreHeld pen t
   pub well_formed : IsWellFormed t
   pub consistent : IsConsistent t
 
 -- totals of tables, and a commit's writes there, that leave well-formed tables
-pub record MayFollow (t : Database) (x : Input) (reply : Reply) (v : TotalsView) (newest : List Newest) (writes : WriteSetView)
+pub record MayFollow (t : Database) (x : Input) (reply : Reply) (v : TotalsView) (pen : PenView) (writes : WriteSetView)
     : Type 0 where
   pub totals : AreTotals t v
-  pub records : AreRecords newest t
+  pub records : AreRecords pen t
   pub input : IsInput t.scale x
   pub commit : IsCommitOf t x writes reply
   pub ordered : AreWrites t.scale writes

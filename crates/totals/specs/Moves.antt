@@ -14,7 +14,6 @@ use Rattle.tables.specs.declared.rows.History.{History}
 use Rattle.tables.specs.declared.records.RecordKey.{RecordKey}
 use Rattle.tables.specs.declared.records.RecordKey.TheVariants as key
 use Rattle.readset.specs.Writes.{WriteSetView}
-pub use Rattle.totals_bounds.specs.Written.{held_in}
 use Rattle.totals.specs.Totals.{SumsView, amount_in}
 use Rattle.totals.specs.Worth.{Worth, year_to_date_of, line_count_in, line_in, line_of, one_in, delivered_to}
 

@@ -14,5 +14,5 @@ mod worth;
 
 pub use district::DistrictTotals;
 pub use follows::{sums_begin_with_tables, sums_follow_commits};
-pub use running::{RunningSums, held};
+pub use running::RunningSums;
 pub use totals::Totals;

@@ -4,33 +4,37 @@ ghost use Rattle.std.specs.Prelude.{◌≡◌, ◌<◌, pos, All, IfOk, length, 
 ghost use Rattle.tables.specs.Maps.{sum_of};
 ghost use Rattle.tables.specs.Records.{record_count, key_of};
 ghost use Rattle.tables.specs.WellFormed.{IsHistoryRow};
-ghost use Rattle.totals.specs.Moves.{MovesSums, HasBuyers, held_in, order_before, step, no_history, no_record};
+ghost use Rattle.cells.specs.Records.{held_by};
+ghost use Rattle.totals.specs.Moves.{MovesSums, HasBuyers, order_before, step, no_history, no_record};
 ghost use Rattle.totals.specs.Counted.{counted_in};
 ghost use Rattle.totals.specs.Opening.{no_sums, worth_from, SumsOpen};
 
 use crate::places::{Counted, counted_records, is_past};
-use crate::running::{RunningSums, held_there};
-use cells::Newest;
+use crate::running::RunningSums;
+use cells::{Cells, Pen};
 use std::alloc::{AllocError, Global};
 use tables::{History, Scale, Table, record_count};
 
 impl RunningSums {
-    /// The sums of the tables whose records have these newest versions, and whose HISTORY has these rows. Costs a look
-    /// at each record and row. Refuses only for memory.
+    /// The sums of the tables whose records hold what their newest versions say, and whose HISTORY has these rows. Costs
+    /// a look at each record and row. Refuses only for memory.
     pub fn of(
         alloc: Global,
         scale: &Scale,
-        newest: &[Newest],
+        cells: &Cells,
+        pen: &mut Pen,
         history: &[History],
     ) -> Result<RunningSums, AllocError>
-        requires newest { length newest.now ≡ record_count scale.now }
-        requires buyers { HasBuyers scale.now (held_in newest.now) }
+        requires own { pen.old.cells ≡ cells.now }
+        requires count { length cells.now ≡ record_count scale.now }
+        requires buyers { HasBuyers scale.now (held_by pen.old) }
         requires rows { All (IsHistoryRow scale.now) history.now }
+        ensures pen { pen.new ≡ pen.old }
         ensures scale { IfOk result (λ sums. sums.scale ≡ scale.now) }
-        ensures sums { IfOk result (SumsOpen scale.now (held_in newest.now) history.now) }
+        ensures sums { IfOk result (SumsOpen scale.now (held_by pen.old) history.now) }
     {
         let mut sums = RunningSums::of_no_rows(alloc, scale)?;
-        sums.count_records(newest);
+        sums.count_records(cells, pen);
         sums.count_rows(history);
         Ok(sums)
     }
@@ -56,38 +60,42 @@ impl RunningSums {
     }
 
     /// Counts all records, none of which was counted.
-    fn count_records(&mut self, newest: &[Newest])
-        requires newest { length newest.now ≡ record_count self.old.scale }
-        requires buyers { HasBuyers self.old.scale (held_in newest.now) }
+    fn count_records(&mut self, cells: &Cells, pen: &mut Pen)
+        requires own { pen.old.cells ≡ cells.now }
+        requires count { length cells.now ≡ record_count self.old.scale }
+        requires buyers { HasBuyers self.old.scale (held_by pen.old) }
+        ensures pen { pen.new ≡ pen.old }
         ensures scale { self.new.scale ≡ self.old.scale }
-        ensures moves { MovesSums self.old.scale (order_before self.old.scale (held_in newest.now))
-            (worth_from self.old.scale (held_in newest.now) (record_count self.old.scale) 0) no_history
+        ensures moves { MovesSums self.old.scale (order_before self.old.scale (held_by pen.old))
+            (worth_from self.old.scale (held_by pen.old) (record_count self.old.scale) 0) no_history
             self.old self.new }
     {
         let counted = counted_records(&self.scale);
         let count = record_count(&self.scale);
         for number in 0..count {
-            self.count_record(newest, &counted, number);
+            self.count_record(cells, pen, &counted, number);
         }
     }
 
     /// Counts a record, which wasn't counted.
-    fn count_record(&mut self, newest: &[Newest], counted: &Counted, number: u32)
+    fn count_record(&mut self, cells: &Cells, pen: &mut Pen, counted: &Counted, number: u32)
+        requires own { pen.old.cells ≡ cells.now }
+        requires count { length cells.now ≡ record_count self.old.scale }
         requires counted { counted.now ≡ counted_in self.old.scale }
         requires number { number < record_count self.old.scale }
-        requires newest { length newest.now ≡ record_count self.old.scale }
-        requires buyers { HasBuyers self.old.scale (held_in newest.now) }
+        requires buyers { HasBuyers self.old.scale (held_by pen.old) }
+        ensures pen { pen.new ≡ pen.old }
         ensures scale { self.new.scale ≡ self.old.scale }
-        ensures moves { MovesSums self.old.scale (order_before self.old.scale (held_in newest.now))
-            (step (key_of self.old.scale number) None (held_in newest.now number)) no_history self.old self.new }
+        ensures moves { MovesSums self.old.scale (order_before self.old.scale (held_by pen.old))
+            (step (key_of self.old.scale number) None (held_by pen.old number)) no_history self.old self.new }
     {
         if is_past(counted, number) {
             return;
         }
-        let value = held_there(newest, number as usize);
+        let value = cells.held(pen, number);
         // Most records of a database are absent.
         if value.is_some() {
-            self.move_record(newest, counted, number, None, value);
+            self.move_record(cells, pen, counted, number, None, value.as_ref());
         }
     }
 

@@ -7,7 +7,8 @@ ghost use Rattle.tables.specs.Keys.{order_of};
 ghost use Rattle.tables.specs.Records.{record_count, key_of, size, first_number, district_at, order_at, line_at};
 ghost use Rattle.tables.specs.WellFormed.{IsHistoryRow};
 ghost use Rattle.tables.specs.declared.records.Table.TheVariants as table;
-ghost use Rattle.totals.specs.Moves.{MovesSums, SumsFollow, HasBuyers, held_in, order_before, step, moved, no_history};
+ghost use Rattle.cells.specs.Records.{held_by};
+ghost use Rattle.totals.specs.Moves.{MovesSums, SumsFollow, HasBuyers, order_before, step, moved, no_history};
 ghost use Rattle.totals.specs.Counted.{counted_in};
 ghost use Rattle.totals.specs.Steps.{HasPlaces, district_step, order_step, new_order_step, district_line_step};
 ghost use Rattle.totals.specs.Steps.{order_line_step, delivered_step, deliver_step, FollowsLine};
@@ -16,7 +17,7 @@ ghost use Rattle.totals.specs.Steps.{warehouse_paid_step, district_paid_step, cu
 use crate::amounts::{move_amount, move_small};
 use crate::places::{Counted, counted_records, district_of_order, is_past, place_of_buyer};
 use crate::worth::{delivered_amount, presence, signed_word, small_presence};
-use cells::Newest;
+use cells::{Cells, Pen};
 use money::Payload;
 use readset::WriteList;
 use rows::column::{D_YTD, O_C_ID, O_OL_CNT};
@@ -54,6 +55,7 @@ impl Model for RunningSums {
 
 impl RunningSums {
     /// Follows a record of DISTRICT, by its place there.
+    #[inline(always)]
     fn follow_district(&mut self, place: u32, old: Option<&Payload>, new: Option<&Payload>)
         requires { place < size self.old.scale table.District }
         ensures { self.new ≡ district_step self.old (district_at self.old.scale place)
@@ -66,6 +68,7 @@ impl RunningSums {
     }
 
     /// Follows a record of ORDER, by its place there.
+    #[inline(always)]
     fn follow_order(&mut self, place: u32, old: Option<&Payload>, new: Option<&Payload>)
         requires { place < size self.old.scale table.Order }
         ensures { self.new ≡ order_step self.old (order_at self.old.scale place)
@@ -78,6 +81,7 @@ impl RunningSums {
     }
 
     /// Follows a record of NEW-ORDER, by its place there.
+    #[inline(always)]
     fn follow_new_order(&mut self, place: u32, old: Option<&Payload>, new: Option<&Payload>)
         requires { place < size self.old.scale table.NewOrder }
         ensures { self.new ≡ new_order_step self.old (order_at self.old.scale place)
@@ -90,6 +94,7 @@ impl RunningSums {
     }
 
     /// Counts a line for its district.
+    #[inline(always)]
     fn count_in_district(&mut self, district: u32, old: Option<&Payload>, new: Option<&Payload>)
         requires { district < size self.old.scale table.District }
         ensures { self.new ≡ district_line_step self.old district (option_copied old.entry) (option_copied new.entry) }
@@ -100,6 +105,7 @@ impl RunningSums {
     }
 
     /// Counts a line for its order.
+    #[inline(always)]
     fn count_in_order(&mut self, order: u32, old: Option<&Payload>, new: Option<&Payload>)
         requires { order < size self.old.scale table.Order }
         ensures { self.new ≡ order_line_step self.old order (option_copied old.entry) (option_copied new.entry) }
@@ -120,33 +126,47 @@ impl RunningSums {
     }
 
     /// Moves what the customer has whose order this record is.
-    fn deliver(&mut self, district: u32, newest: &[Newest], order: usize, before: i64, after: i64)
+    fn deliver(
+        &mut self,
+        district: u32,
+        cells: &Cells,
+        pen: &mut Pen,
+        order: u32,
+        before: i64,
+        after: i64,
+    )
+        requires own { pen.old.cells ≡ cells.now }
         requires district { district < size self.old.scale table.District }
-        requires order { order < length newest.now }
-        requires buyer { ForSome (held_in newest.now order)
+        requires order { order < length cells.now }
+        requires buyer { ForSome (held_by pen.old order)
             (λ words. IsNumber self.old.scale.customers (slice_index words 0)) }
-        ensures { self.new ≡ deliver_step self.old district (held_in newest.now order) before after }
+        ensures pen { pen.new ≡ pen.old }
+        ensures delivered { self.new ≡ deliver_step self.old district (held_by pen.old order) before after }
     {
-        if let Some(words) = held_there(newest, order) {
-            self.move_delivered(district, words, before, after);
+        if let Some(words) = cells.held(pen, order) {
+            self.move_delivered(district, &words, before, after);
         }
     }
 
     /// Follows a record of ORDER-LINE, by its place there.
+    #[inline(always)]
     fn follow_line(
         &mut self,
-        newest: &[Newest],
-        first_order: u32,
+        cells: &Cells,
+        pen: &mut Pen,
+        counted: &Counted,
         place: u32,
         old: Option<&Payload>,
         new: Option<&Payload>,
     )
+        requires own { pen.old.cells ≡ cells.now }
+        requires count { length cells.now ≡ record_count self.old.scale }
+        requires counted { counted.now ≡ counted_in self.old.scale }
         requires place { place < size self.old.scale table.OrderLine }
-        requires first { first_order ≡ first_number self.old.scale table.Order }
-        requires newest { length newest.now ≡ record_count self.old.scale }
-        requires buyers { HasBuyers self.old.scale (held_in newest.now) }
-        ensures { FollowsLine self.old self.new
-            (order_before self.old.scale (held_in newest.now) (order_of (line_at self.old.scale place)))
+        requires buyers { HasBuyers self.old.scale (held_by pen.old) }
+        ensures pen { pen.new ≡ pen.old }
+        ensures follows { FollowsLine self.old self.new
+            (order_before self.old.scale (held_by pen.old) (order_of (line_at self.old.scale place)))
             (line_at self.old.scale place) (option_copied old.entry) (option_copied new.entry) }
     {
         let order = place / MAX_ORDER_LINES;
@@ -159,8 +179,8 @@ impl RunningSums {
         if before == after {
             return;
         }
-        let number = first_order as usize + order as usize;
-        self.deliver(district, newest, number, before, after);
+        let number = counted.first_order + order;
+        self.deliver(district, cells, pen, number, before, after);
     }
 
     fn pay_at_warehouse(&mut self, row: &History)
@@ -209,79 +229,91 @@ impl RunningSums {
     }
 
     /// Follows the values that a commit writes, where the records held what their newest versions have.
-    fn follow_values(&mut self, newest: &[Newest], writes: &WriteList)
+    fn follow_values(&mut self, cells: &Cells, pen: &mut Pen, writes: &WriteList)
+        requires own { pen.old.cells ≡ cells.now }
+        requires count { length cells.now ≡ record_count self.old.scale }
         requires below { All (λ e. e.0 < record_count self.old.scale) writes.now.values }
-        requires newest { length newest.now ≡ record_count self.old.scale }
-        requires buyers { HasBuyers self.old.scale (held_in newest.now) }
+        requires buyers { HasBuyers self.old.scale (held_by pen.old) }
+        ensures pen { pen.new ≡ pen.old }
         ensures scale { self.new.scale ≡ self.old.scale }
-        ensures moves { MovesSums self.old.scale (order_before self.old.scale (held_in newest.now))
-            (moved self.old.scale (held_in newest.now) writes.now.values) no_history self.old self.new }
+        ensures moves { MovesSums self.old.scale (order_before self.old.scale (held_by pen.old))
+            (moved self.old.scale (held_by pen.old) writes.now.values) no_history self.old self.new }
     {
         let counted = counted_records(&self.scale);
         for (number, value) in writes.values() {
-            self.follow_record(newest, &counted, *number, value);
+            self.follow_record(cells, pen, &counted, *number, value);
         }
     }
 
     /// Brings the sums up to date with a commit, where the records still have the versions before it. Without memory,
     /// and in constant time for each record written: a few comparisons, and at one that they count a division or two
-    /// and a look at the words that count, where they stand.
-    pub fn follow(&mut self, newest: &[Newest], writes: &WriteList)
+    /// and a load of its words, at a line that is being delivered of its order's too.
+    pub fn follow(&mut self, cells: &Cells, pen: &mut Pen, writes: &WriteList)
+        requires own { pen.old.cells ≡ cells.now }
+        requires count { length cells.now ≡ record_count self.old.scale }
         requires below { All (λ e. e.0 < record_count self.old.scale) writes.now.values }
         requires row { ForSome writes.now.history_row (IsHistoryRow self.old.scale) }
-        requires newest { length newest.now ≡ record_count self.old.scale }
-        requires buyers { HasBuyers self.old.scale (held_in newest.now) }
+        requires buyers { HasBuyers self.old.scale (held_by pen.old) }
+        ensures pen { pen.new ≡ pen.old }
         ensures scale { self.new.scale ≡ self.old.scale }
-        ensures sums { SumsFollow self.old.scale (held_in newest.now) writes.now self.old self.new }
+        ensures sums { SumsFollow self.old.scale (held_by pen.old) writes.now self.old self.new }
     {
-        self.follow_values(newest, writes);
+        self.follow_values(cells, pen, writes);
         if let Some(row) = writes.history_row() {
             self.follow_row(&row);
         }
     }
 
     /// Follows one record, which held what its newest version has and comes to hold this value.
+    #[inline(always)]
     fn follow_record(
         &mut self,
-        newest: &[Newest],
+        cells: &Cells,
+        pen: &mut Pen,
         counted: &Counted,
         number: u32,
         new: &Option<Payload>,
     )
+        requires own { pen.old.cells ≡ cells.now }
+        requires count { length cells.now ≡ record_count self.old.scale }
         requires counted { counted.now ≡ counted_in self.old.scale }
         requires number { number < record_count self.old.scale }
-        requires newest { length newest.now ≡ record_count self.old.scale }
-        requires buyers { HasBuyers self.old.scale (held_in newest.now) }
+        requires buyers { HasBuyers self.old.scale (held_by pen.old) }
+        ensures pen { pen.new ≡ pen.old }
         ensures scale { self.new.scale ≡ self.old.scale }
-        ensures moves { MovesSums self.old.scale (order_before self.old.scale (held_in newest.now))
-            (step (key_of self.old.scale number) (held_in newest.now number) new.now) no_history self.old self.new }
+        ensures moves { MovesSums self.old.scale (order_before self.old.scale (held_by pen.old))
+            (step (key_of self.old.scale number) (held_by pen.old number) new.now) no_history self.old self.new }
     {
         // Many of the records written are of other tables.
         if is_past(counted, number) {
             return;
         }
-        let old = held_there(newest, number as usize);
-        self.move_record(newest, counted, number, old, new.as_ref());
+        let old = cells.held(pen, number);
+        self.move_record(cells, pen, counted, number, old.as_ref(), new.as_ref());
     }
 
     /// Moves the sums by a record that they count, which held one value and comes to hold another, where orders hold
     /// what their newest versions have. A few comparisons, a division or two, and the words that count.
+    #[inline(always)]
     pub(crate) fn move_record(
         &mut self,
-        newest: &[Newest],
+        cells: &Cells,
+        pen: &mut Pen,
         counted: &Counted,
         number: u32,
         old: Option<&Payload>,
         new: Option<&Payload>,
     )
+        requires own { pen.old.cells ≡ cells.now }
+        requires count { length cells.now ≡ record_count self.old.scale }
         requires counted { counted.now ≡ counted_in self.old.scale }
         requires first { counted.now.first_district ≤ number }
         requires between { counted.now.end_districts ≤ number → counted.now.first_new_order ≤ number }
         requires end { number < counted.now.end_lines }
-        requires newest { length newest.now ≡ record_count self.old.scale }
-        requires buyers { HasBuyers self.old.scale (held_in newest.now) }
+        requires buyers { HasBuyers self.old.scale (held_by pen.old) }
+        ensures pen { pen.new ≡ pen.old }
         ensures scale { self.new.scale ≡ self.old.scale }
-        ensures moves { MovesSums self.old.scale (order_before self.old.scale (held_in newest.now))
+        ensures moves { MovesSums self.old.scale (order_before self.old.scale (held_by pen.old))
             (step (key_of self.old.scale number) (option_copied old.entry) (option_copied new.entry)) no_history
             self.old self.new }
     {
@@ -295,28 +327,7 @@ impl RunningSums {
             self.follow_order(number - counted.first_order, old, new);
         } else {
             let place = number - counted.first_line;
-            self.follow_line(newest, counted.first_order, place, old, new);
+            self.follow_line(cells, pen, counted, place, old, new);
         }
-    }
-}
-
-/// What a record holds by its newest version. Constant time, no memory.
-pub fn held(newest: &[Newest], number: u32) -> Option<Payload>
-    requires { number < length newest.now }
-    ensures { result ≡ held_in newest.now number }
-{
-    newest[number as usize].value()
-}
-
-/// The same, where it stands in the version.
-pub(crate) fn held_there(newest: &[Newest], number: usize) -> Option<&Payload>
-    requires { number < length newest.now }
-    ensures { option_copied result ≡ held_in newest.now number }
-{
-    let version = &newest[number];
-    if version.word.is_absent() {
-        None
-    } else {
-        Some(&version.payload)
     }
 }

@@ -12,12 +12,12 @@ ghost use Rattle.tables.specs.declared.reply.Reply.{Reply as ReplyOf};
 ghost use Rattle.totals_bounds.specs.Bounds.{AreBounds};
 ghost use Rattle.totals_bounds.specs.Written.{HasOrdersWithin, IsWith};
 ghost use Rattle.totals.specs.Totals.{AreSums, AreTotals};
-ghost use Rattle.totals.specs.Moves.{HasBuyers, held_in};
+ghost use Rattle.totals.specs.Moves.{HasBuyers};
 ghost use Rattle.totals.specs.Counts.{AreHeld, AreRecords, MayFollow};
 
 use crate::follows::{sums_begin_with_tables, sums_follow_commits};
 use crate::running::RunningSums;
-use cells::Newest;
+use cells::{Cells, Pen};
 use readset::WriteList;
 use std::alloc::{AllocError, Global};
 use std::marker::Model;
@@ -41,22 +41,25 @@ impl Model for Totals {
 }
 
 impl Totals {
-    /// The totals of the tables whose records have these newest versions, and whose HISTORY has these rows. Costs a few
-    /// looks at each record and row. Refuses only for memory.
+    /// The totals of the tables whose records hold what their newest versions say, and whose HISTORY has these rows.
+    /// Costs a few looks at each record and row. Refuses only for memory.
     pub fn of(
         alloc: Global,
         scale: &Scale,
-        newest: &[Newest],
+        cells: &Cells,
+        pen: &mut Pen,
         history: &[History],
     ) -> Result<Totals, AllocError>
-        requires { (t : Database) × (t.scale ≡ scale.now) × (t.history ≡ history.now) × AreRecords newest.now t }
-        ensures { IfOk result (λ totals. (t : Database) → t.scale ≡ scale.now → t.history ≡ history.now
-            → AreRecords newest.now t → AreTotals t totals) }
+        requires own { pen.old.cells ≡ cells.now }
+        requires records { (t : Database) × (t.scale ≡ scale.now) × (t.history ≡ history.now) × AreRecords pen.old t }
+        ensures pen { pen.new ≡ pen.old }
+        ensures totals { IfOk result (λ totals. (t : Database) → t.scale ≡ scale.now → t.history ≡ history.now
+            → AreRecords pen.old t → AreTotals t totals) }
     {
         sums_begin_with_tables();
         keeps_limits(scale);
-        let sums = RunningSums::of(alloc, scale, newest, history)?;
-        let bounds = OrderBounds::of(alloc, *scale, newest)?;
+        let sums = RunningSums::of(alloc, scale, cells, pen, history)?;
+        let bounds = OrderBounds::of(alloc, *scale, cells, pen)?;
         Ok(Totals { sums, bounds })
     }
 
@@ -76,29 +79,34 @@ impl Totals {
 
     /// Follows a commit, before its versions are stored: the sums. Constant time for each record written, without
     /// memory.
-    pub fn follow(&mut self, newest: &[Newest], writes: &WriteList)
-        requires { (t : Database) × (x : InputOf) × (reply : ReplyOf)
-            × MayFollow t x reply self.old newest.now writes.now }
+    pub fn follow(&mut self, cells: &Cells, pen: &mut Pen, writes: &WriteList)
+        requires own { pen.old.cells ≡ cells.now }
+        requires may { (t : Database) × (x : InputOf) × (reply : ReplyOf)
+            × MayFollow t x reply self.old pen.old writes.now }
+        ensures pen { pen.new ≡ pen.old }
         ensures bounds { self.new.bounds ≡ self.old.bounds }
         ensures scale { self.new.sums.scale ≡ self.old.sums.scale }
         ensures sums { (t : Database) (x : InputOf) (reply : ReplyOf)
-            → MayFollow t x reply self.old newest.now writes.now → AreSums (after t x).scale (after t x) self.new.sums }
+            → MayFollow t x reply self.old pen.old writes.now → AreSums (after t x).scale (after t x) self.new.sums }
     {
         sums_follow_commits();
         keeps_limits(self.sums.scale());
-        self.sums.follow(newest, writes);
+        self.sums.follow(cells, pen, writes);
     }
 
     /// Follows it once they are stored: the least and greatest order numbers. Costs what `OrderBounds::follow` does.
-    pub fn follow_stores(&mut self, newest: &[Newest], writes: &WriteList)
-        requires { All (λ e. e.0 < record_count self.old.bounds.scale) writes.now.values }
+    pub fn follow_stores(&mut self, cells: &Cells, pen: &mut Pen, writes: &WriteList)
+        requires own { pen.old.cells ≡ cells.now }
+        requires count { length cells.now ≡ record_count self.old.bounds.scale }
+        requires below { All (λ e. e.0 < record_count self.old.bounds.scale) writes.now.values }
+        ensures pen { pen.new ≡ pen.old }
         ensures sums { self.new.sums ≡ self.old.sums }
         ensures scale { self.new.bounds.scale ≡ self.old.bounds.scale }
         ensures bounds { (t u : Database) → t.scale ≡ self.old.bounds.scale → HasOrdersWithin t → HasOrdersWithin u
-            → IsWith t u writes.now → AreHeld newest.now u → AreBounds t.scale t self.old.bounds
+            → IsWith t u writes.now → AreHeld pen.old u → AreBounds t.scale t self.old.bounds
             → AreBounds u.scale u self.new.bounds }
     {
-        self.bounds.follow(newest, writes);
+        self.bounds.follow(cells, pen, writes);
     }
 }
 

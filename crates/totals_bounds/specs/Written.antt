@@ -1,20 +1,11 @@
--- What records hold, and tables that differ by what was written.
-use Rattle.std.specs.Prelude.{◌≡◌, ℕ, ◌<◌, Option, List, []}
-use Rattle.std.specs.List.{slice_get}
-use Rattle.std.specs.Option.{option_map_or}
+-- Tables, by what their records hold, and that differ by what was written.
+use Rattle.std.specs.Prelude.{◌≡◌, ℕ, ◌<◌, Option, List}
 use Rattle.tables.specs.Keys.{IsOrderKey}
 use Rattle.tables.specs.Maps.{RowsWithin}
 use Rattle.tables.specs.Records.{record_count}
 use Rattle.tables.specs.Rows.{rows}
 use Rattle.tables.specs.Database.{Database}
-use Rattle.cells.specs.Versions.{value_in}
-use Rattle.cells.specs.Records.{newest_words}
-use Rattle.cells.specs.declared.cells.Newest.{Newest}
 use Rattle.readset.specs.Writes.{WriteSetView, rows_with}
-
--- what a record holds by its newest version, by record number
-abbrev pub held_in : List Newest → ℕ → Option (List ℕ)
-held_in newest n = value_in (option_map_or newest_words (slice_get newest n) [])
 
 -- the rows of ORDER and of NEW-ORDER stand at keys of the scale
 pub record HasOrdersWithin (t : Database) : Type 0 where

@@ -1,16 +1,17 @@
 //! The least and the greatest order numbers of all districts.
 
-ghost use Rattle.std.specs.Prelude.{◌≡◌, ◌+◌, ◌<◌, ◌≤◌, ◌*◌, ◌/◌, ◌%◌, All, IfOk, false, slice_index};
+ghost use Rattle.std.specs.Prelude.{◌≡◌, ◌+◌, ◌<◌, ◌≤◌, ◌*◌, ◌/◌, ◌%◌, ◌^◌, All, IfOk, false, length, slice_index};
 ghost use Rattle.tables.specs.Keys.{IsDistrictKey};
 ghost use Rattle.tables.specs.Records.{record_count, record_number, district_place, first_number, size};
 ghost use Rattle.tables.specs.declared.records.Table.TheVariants as table;
 ghost use Rattle.tables.specs.Database.{Database, empty_database};
+ghost use Rattle.cells.specs.Records.{held_by};
 ghost use Rattle.totals_bounds.specs.Bounds.{AreBounds, no_bounds};
-ghost use Rattle.totals_bounds.specs.Written.{held_in, HasOrdersWithin, AreRowsOf, IsWith};
+ghost use Rattle.totals_bounds.specs.Written.{HasOrdersWithin, AreRowsOf, IsWith};
 ghost use Rattle.totals_bounds.specs.Ends.{AreEnds, KeepsEnds, is_among};
 
 use crate::ends::{greatest_after, greatest_beside, least_after};
-use cells::Newest;
+use cells::{Cells, Pen};
 use readset::WriteList;
 use std::alloc::{AllocError, Global};
 use std::marker::Model;
@@ -62,14 +63,23 @@ impl OrderBounds {
         })
     }
 
-    /// Those of the tables whose records have these versions. Takes a step for each record of ORDER and of NEW-ORDER.
-    pub fn of(alloc: Global, scale: Scale, newest: &[Newest]) -> Result<OrderBounds, AllocError>
+    /// Those of the tables whose records hold what their newest versions say. Takes a step for each record of ORDER and
+    /// of NEW-ORDER.
+    pub fn of(
+        alloc: Global,
+        scale: Scale,
+        cells: &Cells,
+        pen: &mut Pen,
+    ) -> Result<OrderBounds, AllocError>
+        requires own { pen.old.cells ≡ cells.now }
+        requires count { length cells.now ≡ record_count scale }
+        ensures pen { pen.new ≡ pen.old }
         ensures scale { IfOk result (λ bounds. bounds.scale ≡ scale) }
         ensures bounds { IfOk result (λ bounds. (t : Database) → t.scale ≡ scale → HasOrdersWithin t
-            → AreRowsOf t (held_in newest.now) → AreBounds t.scale t bounds) }
+            → AreRowsOf t (held_by pen.old) → AreBounds t.scale t bounds) }
     {
         let mut bounds = OrderBounds::new(alloc, scale)?;
-        bounds.follow_all(newest);
+        bounds.follow_all(cells, pen);
         Ok(bounds)
     }
 
@@ -101,41 +111,51 @@ impl OrderBounds {
     }
 
     /// Looks at a record of ORDER, by its place there.
-    fn follow_order(&mut self, newest: &[Newest], number: u32, place: u32)
+    fn follow_order(&mut self, cells: &Cells, pen: &mut Pen, number: u32, place: u32)
+        requires own { pen.old.cells ≡ cells.now }
+        requires few { length cells.now < 2 ^ 32 }
         requires place { place < size self.old.scale table.Order }
         requires number { number ≡ record_number self.old.scale table.Order place }
+        ensures pen { pen.new ≡ pen.old }
         ensures scale { self.new.scale ≡ self.old.scale }
-        ensures follows { KeepsEnds self.old.scale (held_in newest.now) number self.old self.new }
+        ensures follows { KeepsEnds self.old.scale (held_by pen.old) number self.old self.new }
     {
         let (district, order) = order_at(&self.scale, place);
         let first = number - (order - 1);
         let greatest = self.greatest_order[district];
-        self.greatest_order[district] = greatest_after(newest, first, order, 0, greatest);
+        self.greatest_order[district] = greatest_after(cells, pen, first, order, 0, greatest);
     }
 
     /// Looks at a record of NEW-ORDER, by its place there.
-    fn follow_new_order(&mut self, newest: &[Newest], number: u32, place: u32)
+    fn follow_new_order(&mut self, cells: &Cells, pen: &mut Pen, number: u32, place: u32)
+        requires own { pen.old.cells ≡ cells.now }
+        requires few { length cells.now < 2 ^ 32 }
         requires place { place < size self.old.scale table.NewOrder }
         requires number { number ≡ record_number self.old.scale table.NewOrder place }
+        ensures pen { pen.new ≡ pen.old }
         ensures scale { self.new.scale ≡ self.old.scale }
-        ensures follows { KeepsEnds self.old.scale (held_in newest.now) number self.old self.new }
+        ensures follows { KeepsEnds self.old.scale (held_by pen.old) number self.old self.new }
     {
         let (district, order) = order_at(&self.scale, place);
         let first = number - (order - 1);
         let least = self.least_waiting[district];
         let greatest = self.greatest_waiting[district];
-        let low = least_after(newest, first, order, least, greatest);
+        let low = least_after(cells, pen, first, order, least, greatest);
         self.least_waiting[district] = low;
-        self.greatest_waiting[district] = greatest_beside(newest, first, order, low, greatest);
+        self.greatest_waiting[district] = greatest_beside(cells, pen, first, order, low, greatest);
     }
 
     /// Looks at a record, where these are the first record of NEW-ORDER and the one behind the last of ORDER.
-    fn follow_record(&mut self, newest: &[Newest], number: u32, first: u32, end: u32)
+    #[inline(always)]
+    fn follow_record(&mut self, cells: &Cells, pen: &mut Pen, number: u32, first: u32, end: u32)
+        requires own { pen.old.cells ≡ cells.now }
+        requires few { length cells.now < 2 ^ 32 }
         requires first { first ≡ first_number self.old.scale table.NewOrder }
         requires end { end ≡ first_number self.old.scale table.NewOrder
             + (size self.old.scale table.NewOrder + size self.old.scale table.Order) }
+        ensures pen { pen.new ≡ pen.old }
         ensures scale { self.new.scale ≡ self.old.scale }
-        ensures follows { KeepsEnds self.old.scale (held_in newest.now) number self.old self.new }
+        ensures follows { KeepsEnds self.old.scale (held_by pen.old) number self.old self.new }
     {
         // Most records written are of other tables.
         if number < first || end <= number {
@@ -145,33 +165,39 @@ impl OrderBounds {
         let size = (end - first) / 2;
         let place = number - first;
         if place < size {
-            self.follow_new_order(newest, number, place);
+            self.follow_new_order(cells, pen, number, place);
         } else {
-            self.follow_order(newest, number, place - size);
+            self.follow_order(cells, pen, number, place - size);
         }
     }
 
     /// Looks at the records that a commit has written.
-    fn follow_values(&mut self, newest: &[Newest], writes: &WriteList)
+    fn follow_values(&mut self, cells: &Cells, pen: &mut Pen, writes: &WriteList)
+        requires own { pen.old.cells ≡ cells.now }
+        requires count { length cells.now ≡ record_count self.old.scale }
+        ensures pen { pen.new ≡ pen.old }
         ensures scale { self.new.scale ≡ self.old.scale }
-        ensures ends { AreEnds self.old.scale (held_in newest.now) (is_among writes.now.values) self.old
-            → AreEnds self.old.scale (held_in newest.now) (λ n. false) self.new }
+        ensures ends { AreEnds self.old.scale (held_by pen.old) (is_among writes.now.values) self.old
+            → AreEnds self.old.scale (held_by pen.old) (λ n. false) self.new }
     {
         let (first, end) = order_records(&self.scale);
         for (number, _) in writes.values() {
-            self.follow_record(newest, *number, first, end);
+            self.follow_record(cells, pen, *number, first, end);
         }
     }
 
     /// Looks at all records of ORDER and of NEW-ORDER.
-    fn follow_all(&mut self, newest: &[Newest])
+    fn follow_all(&mut self, cells: &Cells, pen: &mut Pen)
+        requires own { pen.old.cells ≡ cells.now }
+        requires count { length cells.now ≡ record_count self.old.scale }
+        ensures pen { pen.new ≡ pen.old }
         ensures scale { self.new.scale ≡ self.old.scale }
         ensures ends { self.old ≡ no_bounds self.old.scale
-            → AreEnds self.old.scale (held_in newest.now) (λ n. false) self.new }
+            → AreEnds self.old.scale (held_by pen.old) (λ n. false) self.new }
     {
         let (first, end) = order_records(&self.scale);
         for number in first..end {
-            self.follow_record(newest, number, first, end);
+            self.follow_record(cells, pen, number, first, end);
         }
     }
 
@@ -179,19 +205,23 @@ impl OrderBounds {
     /// transactions takes constant time for each record written, without memory: two comparisons, and at a record of
     /// ORDER or NEW-ORDER a division and a look at a few versions, not at their data. Where a number has gone that was
     /// the least or the greatest, the next one is looked for, and that is its neighbour in sound tables.
-    pub fn follow(&mut self, newest: &[Newest], writes: &WriteList)
-        requires { All (λ e. e.0 < record_count self.old.scale) writes.now.values }
+    pub fn follow(&mut self, cells: &Cells, pen: &mut Pen, writes: &WriteList)
+        requires own { pen.old.cells ≡ cells.now }
+        requires count { length cells.now ≡ record_count self.old.scale }
+        requires below { All (λ e. e.0 < record_count self.old.scale) writes.now.values }
+        ensures pen { pen.new ≡ pen.old }
         ensures scale { self.new.scale ≡ self.old.scale }
         ensures bounds { (t u : Database) → t.scale ≡ self.old.scale → HasOrdersWithin t → HasOrdersWithin u
-            → IsWith t u writes.now → AreRowsOf u (held_in newest.now) → AreBounds t.scale t self.old
+            → IsWith t u writes.now → AreRowsOf u (held_by pen.old) → AreBounds t.scale t self.old
             → AreBounds u.scale u self.new }
     {
-        self.follow_values(newest, writes);
+        self.follow_values(cells, pen, writes);
     }
 }
 
 /// The first record of NEW-ORDER, and the one behind the last of ORDER, whose records follow.
 fn order_records(scale: &Scale) -> (u32, u32)
+    ensures few { record_count scale.now < 2 ^ 32 }
     ensures first { result.0 ≡ first_number scale.now table.NewOrder }
     ensures end { result.1 ≡ first_number scale.now table.NewOrder
         + (size scale.now table.NewOrder + size scale.now table.Order) }

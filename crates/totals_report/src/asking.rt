@@ -14,32 +14,35 @@ use crate::holding::{
     condition_1, condition_2, condition_3, condition_4, condition_5, condition_6, condition_7,
     condition_8, condition_9, condition_10, condition_12,
 };
-use cells::Newest;
+use cells::{Cells, Pen};
 use conditions::Report;
 use money::Payload;
 use tables::{
     CustomerKey, DistrictKey, LineKey, OrderKey, RecordKey, Scale, key_of, number_of_key,
 };
-use totals::{RunningSums, held};
+use totals::RunningSums;
 use totals_bounds::OrderBounds;
 
 /// Asks the record of a number, where those below it were asked.
 pub fn ask(
     report: &mut Report,
     scale: &Scale,
-    newest: &[Newest],
+    cells: &Cells,
+    pen: &mut Pen,
     sums: &RunningSums,
     bounds: &OrderBounds,
     number: u32,
 )
     requires sums { sums.now.scale ≡ scale.now }
     requires bounds { bounds.now.scale ≡ scale.now }
-    requires newest { length newest.now ≡ record_count scale.now }
+    requires own { pen.old.cells ≡ cells.now }
+    requires count { length cells.now ≡ record_count scale.now }
     requires number { number < record_count scale.now }
-    ensures { (t : Database) → HasTotals sums.now bounds.now t → AreHeld newest.now t → IsFound t number report.old
+    ensures pen { pen.new ≡ pen.old }
+    ensures found { (t : Database) → HasTotals sums.now bounds.now t → AreHeld pen.old t → IsFound t number report.old
         → IsFound t (number + 1) report.new }
 {
-    let Some(words) = held(newest, number) else {
+    let Some(words) = cells.held(pen, number) else {
         return;
     };
     match key_of(scale, number) {
@@ -50,12 +53,12 @@ pub fn ask(
         RecordKey::Customer(key) => ask_customer(report, sums, bounds, key, &words),
         RecordKey::Order(key) => {
             let number = number_of_key(scale, RecordKey::NewOrder(key));
-            let new_order = held(newest, number);
+            let new_order = cells.held(pen, number);
             ask_order(report, sums, bounds, key, &words, &new_order);
         }
         RecordKey::OrderLine(key) => {
             let number = number_of_key(scale, RecordKey::Order(key.order_key()));
-            let order = held(newest, number);
+            let order = cells.held(pen, number);
             ask_line(report, sums, bounds, key, &words, &order);
         }
         RecordKey::NewOrder(_) | RecordKey::Stock(_) | RecordKey::Oldest(_) | RecordKey::Last(_) =>

@@ -28,6 +28,7 @@ use tables::Input;
 /// where its D_NEXT_O_ID as read is above the order cap. Else `Stale` only where no tables of this population at which
 /// it may have read have the versions that this call has read. `OutOfMemory` at any time. After a refusal, too, the
 /// reader has seen what it had seen, and perhaps more.
+#[inline(always)]
 pub fn execute<R: Wait>(
     rt: &R,
     alloc: Global,
@@ -56,6 +57,7 @@ pub fn execute<R: Wait>(
 }
 
 /// The same of a reader of its own.
+#[inline(always)]
 fn run<K: Start, R: Wait>(
     rt: &R,
     alloc: Global,

@@ -1,16 +1,17 @@
-use Rattle.std.proofs.Common.{◌≡◌, ◌+◌, ◌<◌, ◌++◌, length}
-use Rattle.std.specs.Slice.Iter.{chunks_size, chunks_rest}
+use Rattle.std.proofs.Common.{◌≡◌, ◌+◌, ◌<◌, ◌++◌, map, length}
+use Rattle.std.specs.List.{flat_map}
+use Rattle.std.specs.Vec.Iter.{into_iter_items, into_iter_len}
 use Rattle.cells.specs.First.{firsts}
+use Rattle.cells.specs.Pages.{IsPaged}
 use Rattle.cells.specs.Opening.{AreFull}
 use Rattle.cells.proofs.populate.open_all.Given as goal
 
-abbrev pub invariant-loop-block : goal.invariant-loop-block
-invariant-loop-block l = record {
-  next : (goal.iterator-loop-block).can_next l.block-iterator;
-  finite : (goal.iterator-loop-block).is_finite l.block-iterator;
-  size : chunks_size l.block-iterator ≡ 4096;
-  cells : length l.opening.written.cells + length (chunks_rest l.block-iterator) ≡ length l.first;
-  all : l.opening.written.all ++ firsts (chunks_rest l.block-iterator) ≡ firsts l.first;
+abbrev pub invariant-loop-page : goal.invariant-loop-page
+invariant-loop-page l = let left = into_iter_items l.page-iterator in record {
+  count : into_iter_len l.page-iterator ≡ length left;
+  cells : length l.opening.written.cells + length (flat_map (λ page. page) left) ≡ length l.fn.first;
+  all : l.opening.written.all ++ firsts (flat_map (λ page. page) left) ≡ firsts l.fn.first;
   readers : l.opening.readers ≡ l.readers;
-  full : 0 < length (chunks_rest l.block-iterator) → AreFull l.opening.written.cells;
+  paged : IsPaged (map length left);
+  full : 0 < length left → AreFull l.opening.written.cells;
 }

@@ -24,14 +24,14 @@ date_lines-requires-clause-dated g c =
 pub returns-in_err-sum-clause-goes_on : goal.returns-in_err-sum-clause-goes_on
 returns-in_err-sum-clause-goes_on g c =
     let count = c.in_ok-order.ensures.range.1 in
-    goes_on_twice c.args.transaction.now c.read_order.new.transaction c.date_lines.new.transaction 1 0 _ _ 17 19
+    goes_on_twice c.args.transaction.now c.read_order.new.transaction c.date_lines.new.transaction 1 0 _ _ 17 18
     (goes_on 1 0 c.args.transaction.now c.read_order.new.transaction c.read_order.ensures.reads) c.date_lines.ensures.goes_on
     (omega (arith, count)) (omega (arith, count))
 
 pub returns-in_err-customer-clause-goes_on : goal.returns-in_err-customer-clause-goes_on
 returns-in_err-customer-clause-goes_on g c =
     let count = c.in_ok-order.ensures.range.1 in
-    goes_on_twice c.args.transaction.now c.date_lines.new.transaction c.credit_buyer.new.transaction 16 15 1 0 17 19
+    goes_on_twice c.args.transaction.now c.date_lines.new.transaction c.credit_buyer.new.transaction 16 15 1 0 17 18
     (goes_on_twice c.args.transaction.now c.read_order.new.transaction c.date_lines.new.transaction 1 0 _ _ 16 15
     (goes_on 1 0 c.args.transaction.now c.read_order.new.transaction c.read_order.ensures.reads) c.date_lines.ensures.goes_on
     (omega (arith, count)) (omega (arith, count)))
@@ -55,7 +55,7 @@ returns-clause-done g c = on_ok c.end_order.result ended c.end_order.ensures.wri
   where
     ended : c.end_order.new.transaction.writes ≡ puts_all g.K.Start.tables.scale c.credit_buyer.new.transaction.writes
         (ending_changes c.args.delivery.now c.args.key c.in_ok-order.order c.in_ok-customer.customer)
-        → AreDone g.K.Start.tables c.args.delivery.now c.args.key.district c.end_order.new.transaction
+        → AreDone g.K.Start.tables c.args.delivery.now c.args.key.district 0 c.end_order.new.transaction
     ended written =
         let x = c.args.delivery.now in
         let k = c.args.key in
@@ -66,7 +66,7 @@ returns-clause-done g c = on_ok c.end_order.result ended c.end_order.ensures.wri
         let read = c.read_order.new.transaction in
         let dated = c.date_lines.new.transaction in
         let last = c.credit_buyer.new.transaction in
-        subst (λ m. AreDone t0 x m c.end_order.new.transaction) (sym next)
+        subst (λ m. AreDone t0 x m 0 c.end_order.new.transaction) (sym next)
         (done_next t0 x n k (next_is x k c.requires.home c.requires.key.1.0) dated last c.in_ok-sum.sum order c.in_ok-customer.customer
         c.in_ok-sum.ensures.dated c.credit_buyer.ensures.reads c.requires.key
         (λ t h. c.in_ok-order.ensures.order t (candidate_then t0 read dated _ _ c.date_lines.ensures.goes_on t h))
@@ -80,7 +80,7 @@ returns-clause-done g c = on_ok c.end_order.result ended c.end_order.ensures.wri
 pub returns-clause-goes_on : goal.returns-clause-goes_on
 returns-clause-goes_on g c =
     let count = c.in_ok-order.ensures.range.1 in
-    goes_on_twice c.args.transaction.now c.credit_buyer.new.transaction c.end_order.new.transaction 17 15 0 4 17 19
+    goes_on_twice c.args.transaction.now c.credit_buyer.new.transaction c.end_order.new.transaction 17 15 0 3 17 18
     (goes_on_twice c.args.transaction.now c.date_lines.new.transaction c.credit_buyer.new.transaction 16 15 1 0 17 15
     (goes_on_twice c.args.transaction.now c.read_order.new.transaction c.date_lines.new.transaction 1 0 _ _ 16 15
     (goes_on 1 0 c.args.transaction.now c.read_order.new.transaction c.read_order.ensures.reads) c.date_lines.ensures.goes_on

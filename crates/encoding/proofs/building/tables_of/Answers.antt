@@ -1,8 +1,8 @@
 use Rattle.std.proofs.Common.{◌≡◌, ℕ, ◌++◌, List, Option, None, sym, ap, ◌∙◌, subst}
 use Rattle.tables.specs.Database.{Database, database}
 use Rattle.population.specs.Initial.{initial}
+use Rattle.cells.specs.Records.{held_by}
 use Rattle.encoding.specs.Held.{by_key, AreTables}
-use Rattle.encoding.specs.Newest.{value_at}
 use Rattle.encoding.proofs.Below.{no_records, lawful_by_key}
 use Rattle.encoding.proofs.Determined.{determined}
 use Rattle.encoding.proofs.Held.{are_tables}
@@ -23,14 +23,14 @@ pub returns-clause-rows : goal.returns-clause-rows
 returns-clause-rows c =
     let t0 = initial c.args.population.now in
     let t = database c.put_rows.new.tables in
-    let values = value_at c.args.newest.now in
+    let values = held_by c.args.pen.now in
     rows_held t0 values t (of_population _ t0 t values c.tables-first.ensures c.in_ok-put_rows.ensures.tables)
 
 pub returns-clause-population : goal.returns-clause-population
 returns-clause-population c =
     let t0 = initial c.args.population.now in
     let t = database c.put_rows.new.tables in
-    let values = value_at c.args.newest.now in
+    let values = held_by c.args.pen.now in
     is_of t0 (by_key t0.scale values) t c.args.population.now.well_formed (lawful_by_key t0.scale values c.requires.lawful)
     (of_population _ t0 t values c.tables-first.ensures c.in_ok-put_rows.ensures.tables)
 
@@ -38,7 +38,7 @@ pub returns-clause-is : goal.returns-clause-is
 returns-clause-is c =
     let t0 = initial c.args.population.now in
     let t = database c.put_rows.new.tables in
-    let values = value_at c.args.newest.now in
+    let values = held_by c.args.pen.now in
     λ u of wf agree history. determined t0 (by_key t0.scale values) t u (of_population _ t0 t values c.tables-first.ensures c.in_ok-put_rows.ensures.tables)
     (are_tables t0 u of wf values agree)
     (c.in_ok-put_rows.ensures.history

@@ -33,19 +33,19 @@ returns c =
     let s = t.scale in
     let f = c.requires.well_formed in
     let a1 = rows_begun (oldest_orders s) (λ r. number_words r.next_order) m.districts (keys_at (IsDistrictKey s) t.districts f.districts) (before_orders t)
-    c.requires.rows (λ k. refl) (λ k. refl) c.begin.new.newest c.begin.ensures.ordered c.begin.ensures.count c.begin.ensures.words in
+    c.requires.rows (λ k. refl) (λ k. refl) c.begin.new.first c.begin.ensures.ordered c.in_ok-begin.ensures.count c.in_ok-begin.ensures.words in
     let a2 = orders_begun (oldest_orders s) (λ k r. district_of_order k) min (λ k e. is_district e.0.warehouse e.0.district k)
     (λ k e. is_district-key e.0.warehouse e.0.district k) m.new_orders
     (λ k r found. let h = f.new_orders k (ap is_some found) in (h.0, h.1)) (next_order t) (row_at t) a1
     (λ k h. number_of_row (λ r. r.next_order) (get t.districts k) ((f.districts k).1 h))
     (λ k h. ap (λ n. Some (number_words n)) (sym (oldest_is t k (c.requires.consistent.condition_2 k h))))
-    c.begin-2.new.newest c.begin-2.ensures.ordered c.begin-2.ensures.count c.begin-2.ensures.words in
+    c.begin-2.new.first c.begin-2.ensures.ordered c.in_ok-begin-2.ensures.count c.in_ok-begin-2.ensures.words in
     let a3 = rows_begun (last_orders s) (λ r. number_words 0) m.customers (keys_at (IsCustomerKey s) t.customers f.customers) (before_orders t) a2 (λ k. refl)
-    (λ k. refl) c.begin-3.new.newest c.begin-3.ensures.ordered c.begin-3.ensures.count c.begin-3.ensures.words in
+    (λ k. refl) c.begin-3.new.first c.begin-3.ensures.ordered c.in_ok-begin-3.ensures.count c.in_ok-begin-3.ensures.words in
     let a4 = orders_begun (last_orders s) (λ k r. orderer k r) max (λ k e. is_customer e.0.warehouse e.0.district e.1.customer k)
     (λ k e. is_customer-key e.0.warehouse e.0.district e.1.customer k) m.orders
     (λ k r found. (f.customers (orderer k r)).0 (f.order_customers k r found)) (λ k. 0) (row_at t) a3
     (λ k h. zero_of_row (get t.customers k) ((f.customers k).1 h))
     (λ k h. ap (λ n. Some (number_words n)) (sym (last_is (order_numbers (λ e. is_customer e.0.warehouse e.0.district e.1.customer k) t.orders))))
-    c.begin-4.new.newest c.begin-4.ensures.ordered c.begin-4.ensures.count c.begin-4.ensures.words in
-    all_numbers t c.begin-4.new.newest a4
+    c.begin-4.new.first c.begin-4.ensures.ordered c.in_ok-begin-4.ensures.count c.in_ok-begin-4.ensures.words in
+    all_numbers t c.begin-4.new.first a4

@@ -38,17 +38,17 @@ returns c =
     let s = t.scale in
     let f = c.requires.well_formed in
     let a1 = rows_begun (warehouses s) warehouse_words m.warehouses (keys_at (IsWarehouseKey s) t.warehouses f.warehouses) (row_at t) c.requires.none
-    (λ k. refl) (λ k. refl) c.begin.new.newest c.begin.ensures.ordered c.begin.ensures.count c.begin.ensures.words in
+    (λ k. refl) (λ k. refl) c.begin.new.first c.begin.ensures.ordered c.in_ok-begin.ensures.count c.in_ok-begin.ensures.words in
     let a2 = rows_begun (districts s) district_words m.districts (keys_at (IsDistrictKey s) t.districts f.districts) (row_at t) a1 (λ k. refl)
-    (λ k. refl) c.begin-2.new.newest c.begin-2.ensures.ordered c.begin-2.ensures.count c.begin-2.ensures.words in
+    (λ k. refl) c.begin-2.new.first c.begin-2.ensures.ordered c.in_ok-begin-2.ensures.count c.in_ok-begin-2.ensures.words in
     let a3 = rows_begun (customers s) customer_words m.customers (keys_at (IsCustomerKey s) t.customers f.customers) (row_at t) a2 (λ k. refl)
-    (λ k. refl) c.begin-3.new.newest c.begin-3.ensures.ordered c.begin-3.ensures.count c.begin-3.ensures.words in
+    (λ k. refl) c.begin-3.new.first c.begin-3.ensures.ordered c.in_ok-begin-3.ensures.count c.in_ok-begin-3.ensures.words in
     let a4 = rows_begun (new_orders s) new_order_words m.new_orders (keys_within (IsOrderKey s) t.new_orders f.new_orders) (row_at t) a3 (λ k. refl)
-    (λ k. refl) c.begin-4.new.newest c.begin-4.ensures.ordered c.begin-4.ensures.count c.begin-4.ensures.words in
+    (λ k. refl) c.begin-4.new.first c.begin-4.ensures.ordered c.in_ok-begin-4.ensures.count c.in_ok-begin-4.ensures.words in
     let a5 = rows_begun (orders s) order_words m.orders (keys_within (IsOrderKey s) t.orders f.orders) (row_at t) a4 (λ k. refl)
-    (λ k. refl) c.begin-5.new.newest c.begin-5.ensures.ordered c.begin-5.ensures.count c.begin-5.ensures.words in
-    let a6 = rows_begun (lines s) line_words m.lines (keys_within (IsLineKey s) t.lines f.lines) (row_at t) a5 (λ k. refl) (λ k. refl) c.begin-6.new.newest
-    c.begin-6.ensures.ordered c.begin-6.ensures.count c.begin-6.ensures.words in
-    let a7 = rows_begun (stock s) stock_words m.stock (keys_at (IsStockKey s) t.stock f.stock) (row_at t) a6 (λ k. refl) (λ k. refl) c.begin-7.new.newest
-    c.begin-7.ensures.ordered c.begin-7.ensures.count c.begin-7.ensures.words in
-    all_rows t c.begin-7.new.newest a7
+    (λ k. refl) c.begin-5.new.first c.begin-5.ensures.ordered c.in_ok-begin-5.ensures.count c.in_ok-begin-5.ensures.words in
+    let a6 = rows_begun (lines s) line_words m.lines (keys_within (IsLineKey s) t.lines f.lines) (row_at t) a5 (λ k. refl) (λ k. refl) c.begin-6.new.first
+    c.begin-6.ensures.ordered c.in_ok-begin-6.ensures.count c.in_ok-begin-6.ensures.words in
+    let a7 = rows_begun (stock s) stock_words m.stock (keys_at (IsStockKey s) t.stock f.stock) (row_at t) a6 (λ k. refl) (λ k. refl) c.begin-7.new.first
+    c.begin-7.ensures.ordered c.in_ok-begin-7.ensures.count c.in_ok-begin-7.ensures.words in
+    all_rows t c.begin-7.new.first a7

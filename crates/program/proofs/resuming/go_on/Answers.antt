@@ -3,12 +3,24 @@ use Rattle.std.proofs.KnownBytes.{Appends-nil}
 use Rattle.money.specs.declared.refusal.Refusal.{Refusal}
 use Rattle.population.specs.Initial.{initial, seed_of}
 use Rattle.program.specs.Breaks.{IsToldAsUnfinished}
+use Rattle.program.specs.declared.fault.Fault.{Fault}
 use Rattle.program.specs.Detail.{cause_of}
+use Rattle.program.specs.Logs.{memory}
 use Rattle.program.specs.Resumed.{IsUnfinishedResumedRun, stopped, unready}
+use Rattle.program.proofs.NoMemory.{passed_on}
 use Rattle.program.proofs.resuming.go_on.Goals as goal
 
 pub returns-in-Err-clause-failed : goal.returns-in-Err-clause-failed
 returns-in-Err-clause-failed g c = unready c.in-Err.ensures.unready (Appends-nil (g.W.Write.contents c.args.output.now))
+
+pub returns-in_err-lent-clause-failed : goal.returns-in_err-lent-clause-failed
+returns-in_err-lent-clause-failed g c =
+    let w = g.W.Write.contents c.args.output.now in
+    passed_on _ _ c.from_residual.result
+    (λ fault is. subst (λ (made : Fault). IsUnfinishedResumedRun c.args.options.now (initial c.args.population) (seed_of c.args.population) w w
+    made.refusal (cause_of made)) (sym is)
+    (unready (memory refl refl) (Appends-nil w)))
+    c.from_residual.ensures
 
 pub returns-in-Ok-run_restarted-clause-failed : goal.returns-in-Ok-run_restarted-clause-failed
 returns-in-Ok-run_restarted-clause-failed g c =

@@ -6,6 +6,11 @@ use Rattle.program.specs.Detail.{cause_of}
 use Rattle.program.specs.Run.{IsBrokenOff}
 use Rattle.program.proofs.running.answer_script.Goals as goal
 
+pub returns-in-Ok-clause-answered : goal.returns-in-Ok-clause-answered
+returns-in-Ok-clause-answered g c = λ bytes left.
+    let whole = c.in-Ok.ensures.whole bytes left in
+    record { text = whole.0; dones = c.in-Ok.dones.items; wrote = whole.1; whole = whole.2 }
+
 pub returns-in-Err-clause-broken_off : goal.returns-in-Err-clause-broken_off
 returns-in-Err-clause-broken_off g c = λ bytes left.
     let beginning = c.in-Err.ensures.beginning bytes left in

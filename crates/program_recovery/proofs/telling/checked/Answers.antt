@@ -1,7 +1,8 @@
 use Rattle.std.proofs.Common.{map, refl, rules}
+use Rattle.std.proofs.KnownBytes.{Appends-nil}
 use Rattle.population.specs.Initial.{initial, seed_of}
 use Rattle.program_script_text.specs.Report.{report_text}
-use Rattle.program_recovery.specs.Told.{IsRefused, Reports}
+use Rattle.program_recovery.specs.Told.{IsRefused, Reports, memory}
 use Rattle.program_recovery.proofs.Refusing.{SomeStrings, unrecovered, untold}
 use Rattle.program_recovery.proofs.telling.checked.Goals as goal
 
@@ -15,6 +16,19 @@ returns-in_err-recovered-clause-refused g c =
     let refused : SomeStrings g.D.Disk.is_modelled (map g.D.Disk.seen c.args.disks.now)
     (λ strings. IsRefused (initial c.args.population.now) seed strings Reports before now w w e) =
     unrecovered Reports w e c.in_err-recovered.ensures in
+    search rules
+
+pub returns-in_err-report-clause-refused : goal.returns-in_err-report-clause-refused
+returns-in_err-report-clause-refused g c =
+    let e = c.in_err-report.field-0.0 in
+    let w = g.W.Write.contents c.args.writer.now in
+    let seed = seed_of c.args.population.now in
+    let before = map g.D.Disk.failed c.args.disks.now in
+    let now = map g.D.Disk.failed c.recover_shown.new.disks in
+    let known = c.in_ok-recovered.ensures.answer in
+    let refused : SomeStrings g.D.Disk.is_modelled (map g.D.Disk.seen c.args.disks.now)
+    (λ strings. IsRefused (initial c.args.population.now) seed strings Reports before now w w e) =
+    (known.0, known.1, memory c.in_err-report.ensures.memory (c.in_ok-recovered.ensures.not_failed (search rules)) (Appends-nil w)) in
     search rules
 
 pub returns-in-Err-clause-refused : goal.returns-in-Err-clause-refused

@@ -1,10 +1,12 @@
-use Rattle.std.proofs.Common.{refl, sym, ap, ◌∙◌, subst}
+use Rattle.std.proofs.Common.{sym, ap, ◌∙◌, subst}
 use Rattle.std.proofs.lemmas.Result.{on_ok_weaker}
 use Rattle.tables.specs.Sizes.{Sizes}
 use Rattle.tables.specs.Database.{Database}
 use Rattle.program_script_text.specs.Requests.{IsInRange}
 use Rattle.program_script_text.specs.declared.request.Request.TheVariants.{Transaction, Show}
 use Rattle.program_script_text.specs.declared.answer.Answer.TheVariants as answer
+use Rattle.book_session.specs.Session.{SessionView}
+use Rattle.program_script.specs.Answered.{state_of}
 use Rattle.program_script.proofs.TurnLemmas.{beyond_turn, within_turn}
 use Rattle.program_script.proofs.answering.answer_request.Goals as goal
 
@@ -31,7 +33,11 @@ returns-in-Ok-Show-clause-turn g c =
       answer.Row c.show.result,
       told,
       within_turn t0 c.args.session.now c.args.number c.args.request (Show c.in-Ok-Show.key) _
-          (sym c.in-Ok-Show.field-0-is ∙ ok.0, in_range) (c.show.result, c.show.ensures, refl),
+          (sym c.in-Ok-Show.field-0-is ∙ ok.0, in_range) (
+            c.show.result,
+            c.show.ensures.row,
+            ap (λ (v : SessionView). record { answer = answer.Row c.show.result; state = state_of t0 v }) c.show.ensures.same,
+          ),
     )) c.print.ensures.ok
 
 pub returns-in-Err-clause-turn : goal.returns-in-Err-clause-turn

@@ -14,12 +14,12 @@ unwrap-first-requires g c =
     is_there exact_district first.result.now.districts c.args.key c.get.result c.get.ensures.value
     (subst (λ (t : Database). IsSome (get t.districts c.args.key)) (sym first.ensures.tables) ((first.ensures.well_formed.districts c.args.key).1 c.requires))
 
-pub returns : goal.returns
-returns g c =
+pub returns-clause-row : goal.returns-clause-row
+returns-clause-row g c =
     let t0 = g.K.Run.first in
     let history = c.args.session.now.history in
     let first = c.first_tables in
     let found = row_there exact_district first.result.now.districts c.args.key c.get.result c.unwrap-first.result c.get.ensures.value c.unwrap-first.ensures in
     let at_first = ap (λ (t : Database). get t.districts c.args.key) (sym first.ensures.tables) ∙ found in
     district_from t0 (replay t0 history) (replay-IsOf t0 history) c.args.key c.unwrap-first.result.now c.present_at-columns.result at_first
-    c.present_at-columns.ensures
+    c.present_at-columns.ensures.row

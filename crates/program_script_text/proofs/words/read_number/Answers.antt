@@ -1,10 +1,11 @@
-use Rattle.std.proofs.Common.{◌≡◌, sym, arith, ◌∙◌}
-use Rattle.std.proofs.lemmas.Fmt.{decimal_injective}
+use Rattle.std.proofs.Common.{◌≡◌, ◌+◌, length, get_or, arith}
+use Rattle.program_script_text.proofs.Numbers.{one_digit}
 use Rattle.program_script_text.proofs.words.read_number.Goals as goal
 
-pub returns-else-number-from : goal.returns-else-number-from
-returns-else-number-from c = λ n small is.
-    let read = c.in_ok-number.ensures.some in
-    let same : n ≡ c.in_ok-number.number =
-    decimal_injective n c.in_ok-number.number (omega arith) (omega (arith, read.1)) (sym is ∙ read.0) in
-    omega (arith, same, c.from.ensures, c.if-number-from.false)
+pub returns-in-48-to-57 : goal.returns-in-48-to-57
+returns-in-48-to-57 c =
+    let bytes = c.args.word.now in
+    let digit = c.from.result in
+    let one : length bytes ≡ 1 = omega arith in
+    let is : get_or bytes 0 0 ≡ 48 + digit = grind arith in
+    one_digit bytes digit one is (grind arith)

@@ -1,11 +1,14 @@
-use Rattle.std.proofs.Common.{◌≡◌, ◌≤◌, ℕ, ◌-◌, ◌*◌, ◌+◌, max, List, get_or, length, All, sym, ap, ◌∙◌, subst, arith}
+use Rattle.std.proofs.Common.{◌≡◌, ◌≤◌, ◌==◌, ℕ, ◌-◌, ◌*◌, ◌+◌, max, List, get_or, length, All, sym, ap, ◌∙◌, subst, arith}
 use Rattle.std.proofs.lemmas.List.Elements.{All-nil}
+use Rattle.tables.specs.Sizes.{Sizes}
 use Rattle.tables.specs.Keys.{IsItemKey}
 use Rattle.tables.specs.declared.limits.TheConstants.{MAX_ORDER_LINES, RECENT_ORDERS}
 use Rattle.readset.proofs.UnderWay.{reads_none, reads_twice, candidate_still}
 use Rattle.tables.specs.declared.keys.OrderKey.{OrderKey}
 use Rattle.tables.specs.Keys.{district_of_order}
 use Rattle.queries.specs.SoldItems.{order_line_count, AreItems}
+use Rattle.std.specs.List.{list_any}
+use Rattle.queries.proofs.EachOnce.{all_same}
 use Rattle.queries.proofs.LookedAt.{none_before, all_sold}
 use Rattle.queries.proofs.LineCounts.{count_at}
 use Rattle.queries.proofs.sold_items.sold_items.Goals as goal
@@ -62,7 +65,17 @@ returns-clause-sold g c = λ t h next i.
     all_sold g.K.Start.tables c.args.home c.args.next c.loop-order.transaction.reads c.loop-order.items.items
     (subst (λ (q : ℕ × ℕ). AreItems g.K.Start.tables c.args.home q.0 q.1 0 c.loop-order.transaction.reads c.loop-order.items.items) (λ i. (first i, all i))
     c.loop-order.invariant.sold) t h next i
-    ∙ sym (c.keep_each_once.ensures.same i)
+    ∙ sym (ap (list_any (λ j. j == i)) c.as_slice.ensures.value) ∙ sym (c.in_ok-once.ensures.same i)
+
+pub each_once-requires-clause-items : goal.each_once-requires-clause-items
+each_once-requires-clause-items g c = λ k d inside.
+    let t0 = g.K.Start.tables in
+    let last : c.items.result ≡ t0.scale.items = c.items.ensures.value ∙ ap (λ (s : Sizes). s.items) c.scale.ensures in
+    let key : IsItemKey t0.scale (get_or c.as_slice.result.now k d) =
+    subst (All (IsItemKey t0.scale)) (sym c.as_slice.ensures.value) c.loop-order.invariant.keys k d inside in
+    omega (arith, last, key.1)
 
 pub returns-clause-items : goal.returns-clause-items
-returns-clause-items g c = c.keep_each_once.ensures.items g.K.Start.tables.scale c.loop-order.invariant.keys
+returns-clause-items g c =
+    all_same (IsItemKey g.K.Start.tables.scale) c.in_ok-once.once.items c.as_slice.result.now c.in_ok-once.ensures.same
+    (subst (All (IsItemKey g.K.Start.tables.scale)) (sym c.as_slice.ensures.value) c.loop-order.invariant.keys)

@@ -15,9 +15,5 @@ first_tid (v ∷ vs) (suc n) all h = first_tid vs n (λ k d l. all (suc k) d (om
 
 pub returns-clause-first : goal.returns-clause-first
 returns-clause-first g c n h =
-    let first = c.in_ok-first.first.items in
-    let lent = c.deref.ensures.value in
-    let small : n < length first = subst (λ k. n < k) (c.in_ok-cells.ensures.cells ∙ ap length lent) h in
     ap (λ (w : PenView). last_tid (at w.all n)) c.in_ok-cells.ensures.pen
-    ∙ ap (λ (l : List Newest). last_tid (at (firsts l) n)) lent
-    ∙ first_tid first n c.in_ok-first.ensures.zero small
+    ∙ first_tid c.in_ok-first.first n c.in_ok-first.ensures.zero (subst (λ k. n < k) c.in_ok-cells.ensures.cells h)

@@ -1,8 +1,7 @@
 use Rattle.std.proofs.Common.{◌≡◌, ◌<◌, ℕ, List, [], ◌∷◌, Option, Some, None, length, refl, ap, ◌∙◌, subst}
 use Rattle.cells.specs.Records.{PenView, at}
 use Rattle.cells.specs.Versions.{last_tid}
-use Rattle.cells.specs.First.{first_version, firsts}
-use Rattle.cells.specs.declared.cells.Newest.{Newest}
+use Rattle.cells.specs.First.{first_version}
 use Rattle.encoding.proofs.Positions.{at_first}
 use Rattle.tests_engine.proofs.stage.open.Goals as goal
 
@@ -13,11 +12,8 @@ first_tid (Some words) = refl
 
 pub returns-clause-first : goal.returns-clause-first
 returns-clause-first g c n h =
-    let newest = c.in_ok-newest.newest.items in
-    let first = c.in_ok-newest.ensures in
-    let lent = c.deref.ensures.value in
-    let small : n < length c.in_ok-newest.newest.items = subst (λ k. n < k) (c.in_ok-cells.ensures.cells ∙ ap length lent) h in
+    let first = c.in_ok-first.ensures in
+    let small : n < length c.in_ok-first.first = subst (λ k. n < k) c.in_ok-cells.ensures.cells h in
     ap (λ (w : PenView). last_tid (at w.all n)) c.in_ok-cells.ensures.pen
-    ∙ ap (λ (l : List Newest). last_tid (at (firsts l) n)) lent
-    ∙ ap last_tid (at_first newest n small ∙ ap (λ w. w ∷ []) (first.words n (subst (λ k. n < k) first.count small)))
+    ∙ ap last_tid (at_first c.in_ok-first.first n small ∙ ap (λ w. w ∷ []) (first.words n (subst (λ k. n < k) first.count small)))
     ∙ first_tid _

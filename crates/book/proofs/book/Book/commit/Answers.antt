@@ -8,7 +8,6 @@ use Rattle.population.specs.Initial.{initial}
 use Rattle.population.specs.declared.population.Population.{Population}
 use Rattle.cells.specs.Versions.{last_tid}
 use Rattle.cells.specs.Records.{PenView, at}
-use Rattle.cells.specs.declared.cells.Newest.{Newest}
 use Rattle.cells.proofs.Grown.{grown_twice}
 use Rattle.readset.specs.Writes.{WriteSetView, value_for}
 use Rattle.board.specs.Steps.{counted_epochs}
@@ -28,7 +27,6 @@ use Rattle.book.specs.declared.untaken.Untaken.{Untaken}
 use Rattle.book.proofs.Found.{view_here, kept_loaded, cap_of, count_of, never_full, no_conflict, none_taken, declined_by, found_of, is_due, same_tid}
 use Rattle.book.proofs.Found.{has_tid, follows, kept_reserved, larger, kept_committed, may_count_one}
 use Rattle.book.proofs.Loaded.{ready_loaded}
-use Rattle.book.proofs.Newest.{given_back}
 use Rattle.book.proofs.NextCommit.{is_next}
 use Rattle.book.proofs.RefusedThere.{refused_there}
 use Rattle.book.proofs.Runs.{stale_run, full_run, run}
@@ -108,8 +106,8 @@ store_counted-requires-clause-counted g c =
       t,
       c.args.work.input,
       c.args.work.reply,
-      subst (λ (q : List Newest × WriteSetView). MayFollow t c.args.work.input c.args.work.reply c.self.inside.totals q.0 q.1)
-          (λ i. (sym c.deref_mut.ensures.value i, (sym stored i).writes)) (follows found below),
+      subst (λ (q : PenView × WriteSetView). MayFollow t c.args.work.input c.args.work.reply c.self.inside.totals q.0 q.1)
+          (λ i. (sym c.validate.ensures.pen i, (sym stored i).writes)) (follows found below),
     )
 
 pub store_counted-requires-clause-may : goal.store_counted-requires-clause-may
@@ -128,7 +126,6 @@ store_counted-requires-clause-may g c =
       larger = subst (λ (q : PenView × Entry). (n : ℕ) (value : Option (List ℕ)) → value_for q.1.writes n ≡ Some value
           → last_tid (at q.0.all n) < q.1.tid) (λ i. (sym c.validate.ensures.pen i, sym stored i))
           (larger found c.in-Ok.ensures.prepared.lawful c.in-Ok.ensures.prepared.tid);
-      newest = search rules;
     }
 
 pub commit_step-requires-clause-room : goal.commit_step-requires-clause-room
@@ -154,22 +151,19 @@ invariant_of-self-2 g c =
     c.in-Ok.ensures.prepared.entry ∙ (λ i. entry_of (count i + 1) c.in-Ok.prepared.tid c.share.inside.terminal c.args.work) in
     let stored : c.deref-2.result.now ≡ here = c.deref-2.ensures ∙ entry in
     let cells = c.store_counted.ensures.stores.cells ∙ ap (λ (w : PenView). w.cells) c.validate.ensures.pen in
-    let are = c.store_counted.ensures.stores.newest in
     let t = replay g.K.Run.first items in
     kept_committed found c.in-Ok.ensures.prepared.lawful c.in-Ok.ensures.prepared.tid below c.store_counted.new.pen cells
     (λ n. c.store_counted.ensures.stores.versions n
     ∙ (λ i. at (c.validate.ensures.pen i).all n ++ new_versions (stored i).tid (stored i).writes.values n))
-    c.store_counted.new.newest are c.store_counted.new.totals
+    c.store_counted.new.totals
     (c.store_counted.ensures.totals t c.args.work.input c.args.work.reply
-    (subst (λ (q : List Newest × WriteSetView). MayFollow t c.args.work.input c.args.work.reply c.self.inside.totals q.0 q.1)
-    (λ i. (sym c.deref_mut.ensures.value i, (sym stored i).writes)) (follows found below)))
+    (subst (λ (q : PenView × WriteSetView). MayFollow t c.args.work.input c.args.work.reply c.self.inside.totals q.0 q.1)
+    (λ i. (sym c.validate.ensures.pen i, (sym stored i).writes)) (follows found below)))
     (search rules) c.index_mut-stream.result.now c.add.new.self c.index_mut-stream.ensures.value
     (c.add.ensures.same.0 ∙ c.prepare.ensures.stream.taken) (c.add.ensures.same.1 ∙ c.prepare.ensures.stream.last_taken)
     (c.add.ensures.same.2 ∙ c.prepare.ensures.stream.mark)
     (ap (map arc_value) c.add.ensures.waiting ∙ map-append arc_value c.prepare.new.stream.waiting.items (c.in-Ok.prepared.waiting ∷ [])
     ∙ (λ i. map arc_value (c.prepare.ensures.stream.waiting i) ++ (c.in-Ok.ensures.prepared.waiting ∙ entry) i ∷ []))
-    (given_back c.self.inside.newest.len c.store_counted.new.newest c.self.inside.newest.items c.self.inside.newest.ok.0
-    (are.count ∙ ap length cells ∙ sym c.self.invariant.newest.count))
     (ap (map arc_value) c.push_reserved.ensures.items ∙ map-append arc_value c.prepare.new.history.items (c.in-Ok.prepared.entry ∷ [])
     ∙ (λ i. map arc_value (c.prepare.ensures.history i) ++ entry i ∷ []))
     c.add-2.ensures.total

@@ -8,7 +8,7 @@ returns-else-has_order_number-clause-there g c =
     let t0 = g.K.Run.first in
     let h = c.requires.refusal in
     inr (inr (orders_full g.K.Run.past t0 c.args.self.now.history c.args.input.now h.0 h.1.0
-    (subst (IsRefusal t0 c.args.input.now h.0 h.1.0) c.in-OrdersFull.is h.1.1) c.if-has_order_number.ensures))
+    (subst (IsRefusal t0 c.args.input.now h.0 h.1.0) c.in-OrdersFull.is h.1.1) c.if-has_order_number.ensures.number))
 
 pub returns-in_default-clause-there : goal.returns-in_default-clause-there
 returns-in_default-clause-there g c =

@@ -1,11 +1,9 @@
-use Rattle.std.proofs.Common.{◌≡◌, List, length, map, sym, ap, ◌∙◌, subst}
+use Rattle.std.proofs.Common.{◌≡◌, map, sym, subst}
 use Rattle.std.specs.Arc.{arc_value}
 use Rattle.tables.specs.Database.{Database}
-use Rattle.cells.specs.declared.cells.Newest.{Newest}
 use Rattle.totals_bounds.specs.Bounds.{BoundsView}
 use Rattle.tables.specs.WellFormed.{IsWellFormed}
 use Rattle.totals.specs.Totals.{SumsView, TotalsView, AreTotals}
-use Rattle.totals.specs.Counts.{AreHeld}
 use Rattle.totals_report.specs.Told.{HasTotals}
 use Rattle.conditions.specs.Report.{IsReportOf}
 use Rattle.book.specs.Book.{BookView}
@@ -29,18 +27,14 @@ returns-clause-report g c =
     let history = map arc_value c.self.inside.history.items in
     let t = replay g.K.Run.first history in
     let i = c.self.invariant in
-    let held : AreHeld c.self.inside.newest.items t = held_there i.sound i.newest
-    i.ready.of_population.scale (ap length i.ready.cells ∙ i.ready.count) in
     subst (λ (q : BookView). IsReportOf (replay g.K.Run.first q.history) c.report_of.result) c.self.view_is
     (c.report_of.ensures.report t (asked t c.self.inside.totals c.sums.result.now c.bounds.result.now c.sums.ensures c.bounds.ensures i.totals i.sound.well_formed)
-    (subst (λ (ns : List Newest). AreHeld ns t) (sym c.deref-2.ensures.value) held))
+    (held_there i.sound i.ready.of_population.scale))
 
 pub returns-clause-good : goal.returns-clause-good
 returns-clause-good g c =
     let history = map arc_value c.self.inside.history.items in
     let t = replay g.K.Run.first history in
     let i = c.self.invariant in
-    let held : AreHeld c.self.inside.newest.items t = held_there i.sound i.newest
-    i.ready.of_population.scale (ap length i.ready.cells ∙ i.ready.count) in
     c.report_of.ensures.good t (asked t c.self.inside.totals c.sums.result.now c.bounds.result.now c.sums.ensures c.bounds.ensures i.totals i.sound.well_formed)
-    (subst (λ (ns : List Newest). AreHeld ns t) (sym c.deref-2.ensures.value) held) i.sound.consistent
+    (held_there i.sound i.ready.of_population.scale) i.sound.consistent

@@ -1,15 +1,16 @@
 use Rattle.std.proofs.Common.{◌≡◌, ℕ, ◌<◌, ◌≤◌, ◌++◌, List, map, length, refl, sym, ap, ◌∙◌, subst}
 use Rattle.std.proofs.lemmas.Result.{IfOk-weaker}
 use Rattle.std.specs.Arc.{arc_value}
+use Rattle.atomic_table.specs.Seated.{TableId}
 use Rattle.tables.specs.Constant.{IsOf}
 use Rattle.tables.specs.Database.{Database, database}
 use Rattle.tables.specs.Rows.{rows}
 use Rattle.tables.specs.WellFormed.{IsWellFormed}
 use Rattle.tables.specs.declared.rows.History.{History}
 use Rattle.population.specs.Initial.{initial}
+use Rattle.cells.specs.Records.{PenView, held_by}
 use Rattle.encoding.specs.Held.{row_count}
-use Rattle.encoding.specs.Newest.{value_at, AreLawful}
-use Rattle.cells.specs.declared.cells.Newest.{Newest}
+use Rattle.encoding.specs.Newest.{AreLawful}
 use Rattle.book.specs.Book.{BookView, IsSound}
 use Rattle.book.specs.History.{replay, rows_added}
 use Rattle.book.proofs.Held.{enough, lawful_there, are_committed}
@@ -18,35 +19,34 @@ use Rattle.book.proofs.book.Book.tables.Goals as goal
 pub tables_of-requires-clause-count : goal.tables_of-requires-clause-count
 tables_of-requires-clause-count g c =
     let kept = c.self.invariant in
-    subst (λ (q : Database × List Newest). row_count q.0.scale ≤ length q.1)
-    (λ j. (sym (ap initial c.deref-3.ensures ∙ kept.population) j, sym c.deref-4.ensures.value j))
-    (enough kept.sound kept.ready kept.newest kept.become)
+    subst (λ (q : Database × List TableId). row_count q.0.scale ≤ length q.1)
+    (λ j. (sym (ap initial c.deref-3.ensures ∙ kept.population) j, sym c.requires j))
+    (enough kept.sound kept.ready kept.become)
 
 pub tables_of-requires-clause-lawful : goal.tables_of-requires-clause-lawful
 tables_of-requires-clause-lawful g c =
     let kept = c.self.invariant in
-    subst (λ (q : Database × List Newest). AreLawful q.0.scale (value_at q.1))
-    (λ j. (sym (ap initial c.deref-3.ensures ∙ kept.population) j, sym c.deref-4.ensures.value j))
-    (lawful_there kept.sound kept.ready kept.newest kept.become)
+    subst (λ (t : Database). AreLawful t.scale (held_by c.self.inside.pen)) (sym (ap initial c.deref-3.ensures ∙ kept.population))
+    (lawful_there kept.sound kept.ready kept.become)
 
 -- what is so of the tables made of any parts is so of those made of the book's
-are_made : {first t0 made : Database} {newest held : List Newest} {rows_given rows_here : List History} → first ≡ t0 → newest ≡ held → rows_given ≡ rows_here
-    → ((u : Database) → IsOf first u → IsWellFormed u → ((n : ℕ) → n < row_count first.scale → rows u n ≡ value_at newest n) → u.history ≡ first.history
+are_made : (pen : PenView) {first t0 made : Database} {rows_given rows_here : List History} → first ≡ t0 → rows_given ≡ rows_here
+    → ((u : Database) → IsOf first u → IsWellFormed u → ((n : ℕ) → n < row_count first.scale → rows u n ≡ held_by pen n) → u.history ≡ first.history
     ++ rows_given → made ≡ u)
-    → (u : Database) → IsOf t0 u → IsWellFormed u → ((n : ℕ) → n < row_count t0.scale → rows u n ≡ value_at held n) → u.history ≡ t0.history ++ rows_here
+    → (u : Database) → IsOf t0 u → IsWellFormed u → ((n : ℕ) → n < row_count t0.scale → rows u n ≡ held_by pen n) → u.history ≡ t0.history ++ rows_here
     → made ≡ u
-are_made {made = made} a b d =
-    subst (λ (q : Database × List Newest × List History). (u : Database) → IsOf q.0 u → IsWellFormed u
-    → ((n : ℕ) → n < row_count q.0.scale → rows u n ≡ value_at q.1 n) → u.history ≡ q.0.history ++ q.2 → made ≡ u)
-    (λ i. (a i, b i, d i))
+are_made pen {made = made} a d =
+    subst (λ (q : Database × List History). (u : Database) → IsOf q.0 u → IsWellFormed u
+    → ((n : ℕ) → n < row_count q.0.scale → rows u n ≡ held_by pen n) → u.history ≡ q.0.history ++ q.1 → made ≡ u)
+    (λ i. (a i, d i))
 
 pub returns-clause-tables : goal.returns-clause-tables
 returns-clause-tables g c =
     let kept = c.self.invariant in
     IfOk-weaker c.tables_of.result _ _
-    (λ made is. are_committed kept.sound kept.ready kept.newest kept.become (database made) refl
-    (are_made (ap initial c.deref-3.ensures ∙ kept.population) c.deref-4.ensures.value
-    (c.deref-5.ensures.value ∙ c.in_ok-added.ensures
+    (λ made is. are_committed kept.sound kept.ready kept.become (database made) refl
+    (are_made c.self.inside.pen (ap initial c.deref-3.ensures ∙ kept.population)
+    (c.deref-4.ensures.value ∙ c.in_ok-added.ensures
     ∙ (λ i. c.deref.ensures.value i ++ rows_added (map arc_value (c.deref-2.ensures.value i)))) is)
     ∙ ap (λ (q : BookView). replay g.K.Run.first q.history) c.self.view_is)
     c.tables_of.ensures.is

@@ -83,7 +83,6 @@ invariant_of-self g c =
       ready = subst (λ (q : SeatView). IsReady g.K.Run.past t0 g.K.Run.cells (found_epoch q) c.self.inside.pen (map arc_value c.self.inside.history.items)
           (replay t0 (map arc_value c.self.inside.history.items))) (sym step)
           (ready_loaded seat i.board c.requires.board c.floor-epoch.ensures.later i.ready);
-      newest = i.newest;
       totals = i.totals;
       shares = i.shares;
       lasts = i.lasts;

@@ -8,7 +8,7 @@ use Rattle.tables.specs.Database.{Database}
 use Rattle.tables.specs.declared.limits.TheConstants.{MAX_COMMITS}
 use Rattle.population.specs.Initial.{initial, seed_of}
 use Rattle.population.specs.declared.population.Population.{Population}
-use Rattle.cells.specs.Records.{PenView, ReaderView}
+use Rattle.cells.specs.Records.{ReaderView}
 use Rattle.book.specs.Base.{HasBecome}
 use Rattle.book.specs.History.{replay}
 use Rattle.book.specs.Book.{IsSound}
@@ -21,7 +21,7 @@ use Rattle.book.specs.Streams.{AreStreams}
 use Rattle.book.specs.Loggable.{AreLoggable}
 use Rattle.totals.specs.Totals.{AreTotals}
 use Rattle.tables.specs.declared.limits.TheConstants.{MAX_TERMINALS}
-use Rattle.book.proofs.Opened.{first_sound, first_ready, first_lasts, first_newest}
+use Rattle.book.proofs.Opened.{first_sound, first_ready, first_lasts}
 use Rattle.book.proofs.Streams.{first_streams}
 use Rattle.book.proofs.Loggable.{first_loggable}
 use Rattle.book.proofs.engine.Engine.open.Goals as goal
@@ -44,9 +44,9 @@ invariant_of-book g c =
           (c.scale.ensures ∙ ap (λ (p : Population). (initial p).scale) c.deref.ensures),
     ) in
     let none : map arc_value c.args.parts.history.items ≡ [] = ap (map arc_value) fresh.history in
-    let sound = first_sound fresh.start.newest unused.count unused.pen begun.past start.well_formed start.consistent in
+    let sound = first_sound unused.records begun.past start.well_formed start.consistent in
     let ready =
-    first_ready fresh.start.newest unused.count unused.pen begun.past (found_epoch seat) start.room start.cap
+    first_ready unused.records begun.past (found_epoch seat) start.room start.cap
     (subst (λ (s : Sizes). s.commits ≤ MAX_COMMITS) (sym start.become.of_population.scale) few) in
     record {
       population = ap initial fresh.lent ∙ run.population_is;
@@ -54,12 +54,11 @@ invariant_of-book g c =
       past = run.past_is;
       become = subst (λ (q : Database × Database). HasBecome q.0 q.1 begun.rows.items)
           (λ i. (run.population_is i, run.first_is i)) start.become;
-      sound = subst (λ (q : Database × ℕ × List Entry). IsSound q.1 q.0 made.pen q.2 (replay q.0 q.2))
+      sound = subst (λ (q : Database × ℕ × List Entry). IsSound q.1 q.0 made.records.pen q.2 (replay q.0 q.2))
           (λ i. (run.first_is i, run.past_is i, sym none i)) sound;
       ready = subst (λ (q : Database × ℕ × List TableId × List Entry).
-          IsReady q.1 q.0 q.2 (found_epoch seat) made.pen q.3 (replay q.0 q.3))
+          IsReady q.1 q.0 q.2 (found_epoch seat) made.records.pen q.3 (replay q.0 q.3))
           (λ i. (run.first_is i, run.past_is i, run.cells_are i, sym none i)) ready;
-      newest = first_newest fresh.start.newest unused.count unused.pen;
       totals = subst (λ (q : Database × List Entry). AreTotals (replay q.0 q.1) begun.totals)
           (λ i. (run.first_is i, sym none i)) fresh.start.totals;
       shares = c.open-shares.ensures.total ∙ sym (ap length none);
@@ -82,11 +81,10 @@ invariant_of-terminals g c =
     let run = c.requires in
     let fresh = run.fresh in
     let unused = fresh.unused in
-    let count = length c.args.parts.fresh.readers.items in
+    let count = length c.args.parts.fresh.records.readers.items in
     let seat = new_seat c.args.parts.fresh.board Terminal in
     record {
-      own = λ k d h. ap (λ (r : ReaderView). r.cells) (unused.readers k d h)
-          ∙ ap (λ (w : PenView). w.cells) unused.pen ∙ run.cells_are;
+      own = λ k d h. ap (λ (r : ReaderView). r.cells) (unused.records.readers k d h) ∙ unused.records.cells ∙ run.cells_are;
       new = subst (All (λ (s : SeatView). s ≡ new_seat g.K.Run.board Terminal)) (sym unused.board.terminals)
           (All-replicate (λ (s : SeatView). s ≡ new_seat g.K.Run.board Terminal) count seat
           (ap (λ (b : BoardView). new_seat b Terminal) run.board_is));

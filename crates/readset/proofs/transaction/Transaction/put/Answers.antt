@@ -11,7 +11,7 @@ pub invariant_of-self : goal.invariant_of-self
 invariant_of-self g c =
     let i = c.self.invariant in
     let at = c.number_of_key-number.ensures.value
-    ∙ ap (λ (q : Sizes). number_of_key q c.args.key) (ap (λ (t : Database). t.scale) (c.tables.ensures ∙ c.self.invariant.0)) in
+    ∙ ap (λ (q : Sizes). number_of_key q c.args.key) (c.numbering.ensures ∙ ap (λ (t : Database). t.scale) c.self.invariant.0) in
     let read = subst (λ (x : TransactionView). IsSome (held x.reads (number_of_key g.K.Start.tables.scale c.args.key))) (sym c.self.view_is)
     c.requires.read in (
       i.0,

@@ -22,20 +22,20 @@ invariant_of-self-2 g c =
 pub returns-clause-words : goal.returns-clause-words
 returns-clause-words g c =
     let at = c.number_of_key-number.ensures.value
-    ∙ ap (λ (q : Sizes). number_of_key q c.args.key) (ap (λ (t : Database). t.scale) (c.tables.ensures ∙ c.self.invariant.0)) in
+    ∙ ap (λ (q : Sizes). number_of_key q c.args.key) (c.numbering.ensures ∙ ap (λ (t : Database). t.scale) c.self.invariant.0) in
     row_told g.K.Start.tables c.get.new.self c.args.key c.number_of_key-number.result c.in_ok-version.version c.value_of.result at c.requires
     c.in_ok-version.ensures.holds c.value_of.ensures
 
 pub returns-clause-holds : goal.returns-clause-holds
 returns-clause-holds g c =
     let at = c.number_of_key-number.ensures.value
-    ∙ ap (λ (q : Sizes). number_of_key q c.args.key) (ap (λ (t : Database). t.scale) (c.tables.ensures ∙ c.self.invariant.0)) in
+    ∙ ap (λ (q : Sizes). number_of_key q c.args.key) (c.numbering.ensures ∙ ap (λ (t : Database). t.scale) c.self.invariant.0) in
     subst (λ n. IsSome (held c.get.new.self n)) at (some_is _ c.in_ok-version.version c.in_ok-version.ensures.holds)
 
 pub returns-in_err-version-clause-again : goal.returns-in_err-version-clause-again
 returns-in_err-version-clause-again g c = λ v is.
     let at = c.number_of_key-number.ensures.value
-    ∙ ap (λ (q : Sizes). number_of_key q c.args.key) (ap (λ (t : Database). t.scale) (c.tables.ensures ∙ c.self.invariant.0)) in
+    ∙ ap (λ (q : Sizes). number_of_key q c.args.key) (c.numbering.ensures ∙ ap (λ (t : Database). t.scale) c.self.invariant.0) in
     let before : held c.self.inside.reads c.number_of_key-number.result ≡ Some v =
     ap (held c.self.inside.reads) at ∙ ap (λ (x : TransactionView). held x.reads (number_of_key g.K.Start.tables.scale c.args.key)) c.self.view_is ∙ is in
     let got = (c.get.ensures.held v before).0 in
@@ -44,7 +44,7 @@ returns-in_err-version-clause-again g c = λ v is.
 pub returns-clause-again : goal.returns-clause-again
 returns-clause-again g c = λ v is.
     let at = c.number_of_key-number.ensures.value
-    ∙ ap (λ (q : Sizes). number_of_key q c.args.key) (ap (λ (t : Database). t.scale) (c.tables.ensures ∙ c.self.invariant.0)) in
+    ∙ ap (λ (q : Sizes). number_of_key q c.args.key) (c.numbering.ensures ∙ ap (λ (t : Database). t.scale) c.self.invariant.0) in
     let before : held c.self.inside.reads c.number_of_key-number.result ≡ Some v =
     ap (held c.self.inside.reads) at ∙ ap (λ (x : TransactionView). held x.reads (number_of_key g.K.Start.tables.scale c.args.key)) c.self.view_is ∙ is in
     let same = c.get.ensures.held v before in

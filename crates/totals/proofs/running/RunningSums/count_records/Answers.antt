@@ -1,7 +1,9 @@
 use Rattle.std.proofs.Common.{◌≡◌, ℕ, suc, ◌+◌, ◌-◌, ◌<◌, ◌≤◌, None, sym, ap, ◌∙◌, subst, arith}
+use Rattle.tables.specs.Sizes.{Sizes}
 use Rattle.tables.specs.Records.{record_count, key_of}
 use Rattle.totals.specs.Totals.{SumsView}
-use Rattle.totals.specs.Moves.{MovesSums, held_in, order_before, step, no_history}
+use Rattle.cells.specs.Records.{PenView, held_by}
+use Rattle.totals.specs.Moves.{MovesSums, order_before, step, no_history}
 use Rattle.totals.specs.Opening.{worth_from}
 use Rattle.totals.proofs.Moving.{none_moves, then_moves}
 use Rattle.totals.proofs.running.RunningSums.count_records.Goals as goal
@@ -15,14 +17,16 @@ none_left count n h = omega (arith, h)
 pub loop-number-preserved : goal.loop-number-preserved
 loop-number-preserved c =
     let s = c.args.self.now.scale in
-    let held = held_in c.args.newest.now in
+    let held = held_by c.args.pen.now in
     let n = c.loop-number.number in
     let count = c.record_count-count.result in
     record {
+      pen = c.count_record.ensures.pen ∙ c.loop-number.invariant.pen;
       scale = c.count_record.ensures.scale ∙ c.loop-number.invariant.scale;
       rest = λ v moves.
-          let this = subst (λ z. MovesSums z (order_before z held) (step (key_of z n) None (held n)) no_history c.loop-number.self c.count_record.new.self)
-          c.loop-number.invariant.scale c.count_record.ensures.moves in
+          let this = subst (λ (q : Sizes × PenView). MovesSums q.0 (order_before q.0 (held_by q.1)) (step (key_of q.0 n) None (held_by q.1 n)) no_history
+          c.loop-number.self c.count_record.new.self)
+          (λ i. (c.loop-number.invariant.scale i, c.loop-number.invariant.pen i)) c.count_record.ensures.moves in
           c.loop-number.invariant.rest v
           (subst (λ m. MovesSums s (order_before s held) (worth_from s held m n) no_history c.loop-number.self v)
           (sym (one_less count n c.loop-number-test.true))
@@ -33,7 +37,7 @@ loop-number-preserved c =
 pub returns-clause-moves : goal.returns-clause-moves
 returns-clause-moves c =
     let s = c.args.self.now.scale in
-    let held = held_in c.args.newest.now in
+    let held = held_by c.args.pen.now in
     let n = c.loop-number.number in
     let count = c.record_count-count.result in
     subst (λ m. MovesSums s (order_before s held) (worth_from s held m 0) no_history c.args.self.now c.loop-number.self)

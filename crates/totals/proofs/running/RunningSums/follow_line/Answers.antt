@@ -6,8 +6,10 @@ use Rattle.tables.specs.Keys.{order_of}
 use Rattle.tables.specs.Records.{line_at}
 use Rattle.tables.specs.declared.limits.TheConstants.{MAX_ORDER_LINES}
 use Rattle.totals_bounds.proofs.KeysAt.{line_is}
+use Rattle.totals.specs.declared.places.Counted.{Counted}
 use Rattle.totals.specs.Totals.{SumsView}
-use Rattle.totals.specs.Moves.{held_in, order_before}
+use Rattle.cells.specs.Records.{held_by}
+use Rattle.totals.specs.Moves.{order_before}
 use Rattle.totals.specs.Steps.{deliver_step, order_line_step, delivered_in}
 use Rattle.totals.proofs.ByNumber.{order_held, counted_stepped, line_stepped}
 use Rattle.totals.proofs.running.RunningSums.follow_line.Goals as goal
@@ -19,10 +21,10 @@ deliver-requires-clause-buyer c = λ words is.
     let same = ap (λ (w : SumsView). w.scale) c.count_in_order.ensures ∙ ap (λ (w : SumsView). w.scale) c.count_in_district.ensures in
     subst (λ (z : Sizes). IsNumber z.customers (slice_index words 0)) (sym same)
     (c.requires.buyers (order_of (line_at s c.args.place)) (at.0, at.1, at.2) words
-    (sym (order_held s (held_in c.args.newest.now) c.args.first_order c.args.place c.requires.first) ∙ is))
+    (sym (order_held s (held_by c.args.pen.now) c.args.counted.now.first_order c.args.place (ap (λ (q : Counted). q.first_order) c.requires.counted)) ∙ is))
 
-pub returns-then-before-after : goal.returns-then-before-after
-returns-then-before-after c =
+pub returns-then-before-after-clause-follows : goal.returns-then-before-after-clause-follows
+returns-then-before-after-clause-follows c =
     let v = c.args.self.now in
     let p = c.args.place in
     let order = p / MAX_ORDER_LINES in
@@ -41,25 +43,25 @@ returns-then-before-after c =
       sym was ∙ same ∙ is,
     )
 
-pub returns : goal.returns
-returns c =
+pub returns-clause-follows : goal.returns-clause-follows
+returns-clause-follows c =
     let v = c.args.self.now in
     let p = c.args.place in
     let order = p / MAX_ORDER_LINES in
     let district = c.district_of_order-district.result in
-    let held = held_in c.args.newest.now in
-    let words = held (c.args.first_order + order) in
+    let held = held_by c.args.pen.now in
+    let words = held (c.args.counted.now.first_order + order) in
     let old = option_copied c.args.old in
     let new = option_copied c.args.new in
     let before = to_z w64 (of_z w64 c.delivered_amount-before.result) in
     let after = to_z w64 (of_z w64 c.delivered_amount-after.result) in
     let fits : FitsSigned w64 c.delivered_amount-before.result = search rules in
     let fits' : FitsSigned w64 c.delivered_amount-after.result = search rules in
-    inl (c.deliver.ensures
+    inl (c.deliver.ensures.delivered
     ∙ ap (λ (w : SumsView). deliver_step w district words before after)
     (c.count_in_order.ensures ∙ ap (λ (w : SumsView). order_line_step w order old new) c.count_in_district.ensures)
     ∙ line_stepped v p order district old new refl
     (c.district_of_order-district.ensures.value ∙ ap (λ (w : SumsView). order / w.scale.orders) c.self.view_is)
-    words (order_before v.scale held (order_of (line_at v.scale p))) before after (order_held v.scale held c.args.first_order p c.requires.first)
+    words (order_before v.scale held (order_of (line_at v.scale p))) before after (order_held v.scale held c.args.counted.now.first_order p (ap (λ (q : Counted). q.first_order) c.requires.counted))
     (to_z-of_z w64 c.delivered_amount-before.result fits ∙ c.delivered_amount-before.ensures)
     (to_z-of_z w64 c.delivered_amount-after.result fits' ∙ c.delivered_amount-after.ensures))

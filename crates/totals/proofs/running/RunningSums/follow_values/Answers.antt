@@ -1,15 +1,18 @@
 use Rattle.std.proofs.Common.{◌+◌, ◌<◌, ◌≡◌, None, All, [], drop, get_or, refl, sym, ap, ◌∙◌, subst}
 use Rattle.std.proofs.lemmas.List.{drop_more, drop_all}
+use Rattle.tables.specs.Sizes.{Sizes}
 use Rattle.tables.specs.Records.{key_of, record_count}
-use Rattle.totals.specs.Moves.{MovesSums, HasBuyers, held_in, order_before, step, moved, no_history}
+use Rattle.cells.specs.Records.{PenView, held_by}
+use Rattle.totals.specs.Moves.{MovesSums, HasBuyers, order_before, step, moved, no_history}
 use Rattle.totals.proofs.Moving.{then_moves, none_moves}
 use Rattle.totals.proofs.running.RunningSums.follow_values.Goals as goal
 
 pub loop-number-init : goal.loop-number-init
 loop-number-init c = record {
+  pen = refl;
   scale = refl;
-  rest = λ v moves. subst (λ ws. MovesSums c.args.self.now.scale (order_before c.args.self.now.scale (held_in c.args.newest.now))
-      (moved c.args.self.now.scale (held_in c.args.newest.now) ws) no_history c.args.self.now v) c.values-number-items.ensures.values moves;
+  rest = λ v moves. subst (λ ws. MovesSums c.args.self.now.scale (order_before c.args.self.now.scale (held_by c.args.pen.now))
+      (moved c.args.self.now.scale (held_by c.args.pen.now) ws) no_history c.args.self.now v) c.values-number-items.ensures.values moves;
 }
 
 pub follow_record-requires-clause-number : goal.follow_record-requires-clause-number
@@ -18,23 +21,26 @@ follow_record-requires-clause-number c =
     (subst (λ ws. All (λ e. e.0 < record_count c.args.self.now.scale) ws) (sym c.values-number-items.ensures.values) c.requires.below c.loop-number.number-index
     (0, None) c.loop-number-test.true)
 
-pub follow_record-requires-clause-newest : goal.follow_record-requires-clause-newest
-follow_record-requires-clause-newest c = c.requires.newest ∙ ap record_count (sym c.loop-number.invariant.scale)
+pub follow_record-requires-clause-count : goal.follow_record-requires-clause-count
+follow_record-requires-clause-count c = c.requires.count ∙ ap record_count (sym c.loop-number.invariant.scale)
 
 pub follow_record-requires-clause-buyers : goal.follow_record-requires-clause-buyers
-follow_record-requires-clause-buyers c = subst (λ s. HasBuyers s (held_in c.args.newest.now)) (sym c.loop-number.invariant.scale) c.requires.buyers
+follow_record-requires-clause-buyers c = subst (λ (q : Sizes × PenView). HasBuyers q.0 (held_by q.1))
+    (λ i. (sym c.loop-number.invariant.scale i, sym c.loop-number.invariant.pen i)) c.requires.buyers
 
 pub loop-number-preserved : goal.loop-number-preserved
 loop-number-preserved c =
     let s = c.args.self.now.scale in
-    let held = held_in c.args.newest.now in
+    let held = held_by c.args.pen.now in
     let items = c.values-number-items.result.now in
     let w = get_or items c.loop-number.number-index (0, None) in
     record {
+      pen = c.follow_record.ensures.pen ∙ c.loop-number.invariant.pen;
       scale = c.follow_record.ensures.scale ∙ c.loop-number.invariant.scale;
       rest = λ v moves.
-          let this = subst (λ z. MovesSums z (order_before z held) (step (key_of z w.0) (held w.0) w.1) no_history c.loop-number.self c.follow_record.new.self)
-          c.loop-number.invariant.scale c.follow_record.ensures.moves in
+          let this = subst (λ (q : Sizes × PenView). MovesSums q.0 (order_before q.0 (held_by q.1)) (step (key_of q.0 w.0) (held_by q.1 w.0) w.1) no_history
+          c.loop-number.self c.follow_record.new.self)
+          (λ i. (c.loop-number.invariant.scale i, c.loop-number.invariant.pen i)) c.follow_record.ensures.moves in
           c.loop-number.invariant.rest v
           (subst (λ ws. MovesSums s (order_before s held) (moved s held ws) no_history c.loop-number.self v)
           (sym (drop_more items c.loop-number.number-index (0, None) c.loop-number-test.true))
@@ -48,7 +54,7 @@ returns-clause-scale c = c.loop-number.invariant.scale
 pub returns-clause-moves : goal.returns-clause-moves
 returns-clause-moves c =
     let s = c.args.self.now.scale in
-    let held = held_in c.args.newest.now in
+    let held = held_by c.args.pen.now in
     let none : drop c.loop-number.number-index c.values-number-items.result.now ≡ [] =
     drop_all c.loop-number.number-index c.values-number-items.result.now c.loop-number-test.false in
     c.loop-number.invariant.rest c.loop-number.self

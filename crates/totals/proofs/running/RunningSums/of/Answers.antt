@@ -2,7 +2,8 @@ use Rattle.std.proofs.Common.{◌≡◌, ap, ◌∙◌, subst}
 use Rattle.tables.specs.Maps.{sum_of}
 use Rattle.tables.specs.Records.{record_count}
 use Rattle.totals.specs.Totals.{SumsView}
-use Rattle.totals.specs.Moves.{MovesSums, held_in, order_before, no_record, no_history}
+use Rattle.cells.specs.Records.{held_by}
+use Rattle.totals.specs.Moves.{MovesSums, order_before, no_record, no_history}
 use Rattle.totals.specs.Opening.{no_sums, worth_from}
 use Rattle.totals.proofs.Moving.{with_rows}
 use Rattle.totals.proofs.running.RunningSums.of.Goals as goal
@@ -10,7 +11,7 @@ use Rattle.totals.proofs.running.RunningSums.of.Goals as goal
 pub returns-clause-sums : goal.returns-clause-sums
 returns-clause-sums c =
     let s = c.args.scale.now in
-    let held = held_in c.args.newest.now in
+    let held = held_by c.args.pen.now in
     let middle = c.count_records.new.self in
     let begun : c.in_ok-sums.sums ≡ no_sums s = c.in_ok-sums.ensures in
     let records = subst (λ (a : SumsView). MovesSums a.scale (order_before a.scale held) (worth_from a.scale held (record_count a.scale) 0) no_history a middle) begun

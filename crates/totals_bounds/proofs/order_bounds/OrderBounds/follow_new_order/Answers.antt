@@ -4,7 +4,7 @@ use Rattle.std.specs.Vec.{with_item}
 use Rattle.tables.specs.Records.{record_number}
 use Rattle.tables.specs.declared.records.Table.TheVariants as table
 use Rattle.totals_bounds.specs.Bounds.{BoundsView}
-use Rattle.totals_bounds.specs.Written.{held_in}
+use Rattle.cells.specs.Records.{PenView, held_by}
 use Rattle.totals_bounds.specs.Ends.{KeepsEnds}
 use Rattle.totals_bounds.specs.contracts.order_bounds.OrderBounds.{the_view}
 use Rattle.totals_bounds.proofs.Stored.{new_order_stored, IsLeastAfter, IsGreatestBeside}
@@ -12,7 +12,7 @@ use Rattle.totals_bounds.proofs.order_bounds.OrderBounds.follow_new_order.Goals 
 
 pub returns-clause-follows : goal.returns-clause-follows
 returns-clause-follows c =
-    let held = held_in c.args.newest.now in
+    let held = held_by c.args.pen.now in
     let v = the_view c.self.inside in
     let at = c.order_at-district in
     let place = at.result.0 in
@@ -27,12 +27,13 @@ returns-clause-follows c =
       others = c.least_after-low.ensures.others;
       limit = c.least_after-low.ensures.limit;
     } in
-    let beside : IsGreatestBeside held first at.result.1 low greatest high = record {
+    let beside' : IsGreatestBeside (held_by c.least_after-low.new.pen) first at.result.1 low greatest high = record {
       there = c.greatest_beside.ensures.there;
       number = c.greatest_beside.ensures.number;
       others = c.greatest_beside.ensures.others;
       limit = c.greatest_beside.ensures.limit;
     } in
+    let beside = subst (λ (p : PenView). IsGreatestBeside (held_by p) first at.result.1 low greatest high) c.least_after-low.ensures.pen beside' in
     let below : place < length v.least_waiting = subst (λ n. place < n) (sym c.self.invariant.least_waiting) at.ensures.limit in
     let below' : place < length v.greatest_waiting = subst (λ n. place < n) (sym c.self.invariant.greatest_waiting) at.ensures.limit in
     subst (λ (w : BoundsView). KeepsEnds w.scale held c.args.number w

@@ -4,7 +4,7 @@ use Rattle.std.specs.Vec.{with_item}
 use Rattle.tables.specs.Records.{record_number}
 use Rattle.tables.specs.declared.records.Table.TheVariants as table
 use Rattle.totals_bounds.specs.Bounds.{BoundsView}
-use Rattle.totals_bounds.specs.Written.{held_in}
+use Rattle.cells.specs.Records.{held_by}
 use Rattle.totals_bounds.specs.Ends.{KeepsEnds}
 use Rattle.totals_bounds.specs.contracts.order_bounds.OrderBounds.{the_view}
 use Rattle.totals_bounds.proofs.Stored.{order_stored, IsGreatestAfter}
@@ -12,7 +12,7 @@ use Rattle.totals_bounds.proofs.order_bounds.OrderBounds.follow_order.Goals as g
 
 pub returns-clause-follows : goal.returns-clause-follows
 returns-clause-follows c =
-    let held = held_in c.args.newest.now in
+    let held = held_by c.args.pen.now in
     let v = the_view c.self.inside in
     let at = c.order_at-district in
     let first = c.args.number - (at.result.1 - 1) in

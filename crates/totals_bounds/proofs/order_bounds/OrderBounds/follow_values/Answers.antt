@@ -1,17 +1,19 @@
 use Rattle.std.proofs.Common.{◌+◌, ◌≡◌, ℕ, List, Option, None, true, [], drop, get_or, refl, sym, ap, ◌∙◌, subst}
 use Rattle.std.proofs.lemmas.List.{drop_more, drop_all}
+use Rattle.tables.specs.Sizes.{Sizes}
 use Rattle.tables.specs.Records.{first_number, size}
 use Rattle.tables.specs.declared.records.Table.TheVariants as table
 use Rattle.totals_bounds.specs.Bounds.{BoundsView}
-use Rattle.totals_bounds.specs.Written.{held_in}
+use Rattle.cells.specs.Records.{PenView, held_by}
 use Rattle.totals_bounds.specs.Ends.{AreEnds, KeepsEnds, is_among}
 use Rattle.totals_bounds.proofs.Placed.{looked_at}
 use Rattle.totals_bounds.proofs.order_bounds.OrderBounds.follow_values.Goals as goal
 
 pub loop-number-init : goal.loop-number-init
 loop-number-init c = record {
+  pen = refl;
   scale = refl;
-  ends = subst (λ (ws : List (ℕ × Option (List ℕ))). AreEnds c.args.self.now.scale (held_in c.args.newest.now) (is_among ws) c.args.self.now)
+  ends = subst (λ (ws : List (ℕ × Option (List ℕ))). AreEnds c.args.self.now.scale (held_by c.args.pen.now) (is_among ws) c.args.self.now)
       (sym c.values-number-items.ensures.values);
 }
 
@@ -28,15 +30,16 @@ follow_record-requires-clause-end c = c.order_records-first.ensures.end
 pub loop-number-preserved : goal.loop-number-preserved
 loop-number-preserved c =
     let s = c.args.self.now.scale in
-    let held = held_in c.args.newest.now in
+    let held = held_by c.args.pen.now in
     let items = c.values-number-items.result.now in
     let i = c.loop-number.number-index in
     let w = get_or items i (0, None) in
     record {
+      pen = c.follow_record.ensures.pen ∙ c.loop-number.invariant.pen;
       scale = c.follow_record.ensures.scale ∙ c.loop-number.invariant.scale;
       ends = λ before.
-          let follows = subst (λ z. KeepsEnds z held w.0 c.loop-number.self c.follow_record.new.self) c.loop-number.invariant.scale
-          c.follow_record.ensures.follows in
+          let follows = subst (λ (q : Sizes × PenView). KeepsEnds q.0 (held_by q.1) w.0 c.loop-number.self c.follow_record.new.self)
+          (λ i. (c.loop-number.invariant.scale i, c.loop-number.invariant.pen i)) c.follow_record.ensures.follows in
           follows (is_among (drop i items)) (is_among (drop (i + 1) items))
           (λ n done was. looked_at w (drop (i + 1) items) n done
           (subst (λ ws. is_among ws n ≡ true) (drop_more items i (0, None) c.loop-number-test.true) was))
@@ -50,5 +53,5 @@ pub returns-clause-ends : goal.returns-clause-ends
 returns-clause-ends c = λ before.
     let none : drop c.loop-number.number-index c.values-number-items.result.now ≡ [] =
     drop_all c.loop-number.number-index c.values-number-items.result.now c.loop-number-test.false in
-    subst (λ (ws : List (ℕ × Option (List ℕ))). AreEnds c.args.self.now.scale (held_in c.args.newest.now) (is_among ws) c.loop-number.self) none
+    subst (λ (ws : List (ℕ × Option (List ℕ))). AreEnds c.args.self.now.scale (held_by c.args.pen.now) (is_among ws) c.loop-number.self) none
     (c.loop-number.invariant.ends before)

@@ -1,0 +1,137 @@
+-- The first versions of records, page by page.
+use Rattle.std.proofs.Common.{◌≡◌, ℕ, zero, suc, ◌+◌, ◌*◌, ◌/◌, ◌%◌, ◌<◌, ◌≤◌, List, [], ◌∷◌, ◌++◌, map, length, get_or, set, replicate, refl, sym, ap, ◌∙◌, subst, arith, length-append, append_assoc, div-add-mod'}
+use Rattle.std.specs.List.{flat_map}
+use Rattle.std.proofs.Math.Seq.{map-set_same}
+use Rattle.std.proofs.lemmas.List.{length-replicate, replicate-append-replicate, map-append, length-map}
+use Rattle.cells.specs.declared.cells.Newest.{Newest}
+use Rattle.atomic_table.specs.Seated.{TableId}
+use Rattle.cells.specs.Records.{PenView}
+use Rattle.cells.specs.First.{absent_version, firsts}
+use Rattle.cells.specs.Pages.{IsPaged}
+use Rattle.cells.specs.Opening.{AreFull}
+use Rattle.cells.proofs.Paged.{total, paged_more, stands, stands_within, found, set_in, flat_push}
+
+abbrev pub joined : List (List Newest) → List Newest
+joined pages = flat_map (λ page. page) pages
+
+joined_count : (pages : List (List Newest)) → length (joined pages) ≡ total (map length pages)
+joined_count [] = refl
+joined_count (page ∷ pages) = length-append page (joined pages) ∙ ap (λ n. length page + n) (joined_count pages)
+
+-- the page of a record
+module _ (pages : List (List Newest)) (paged : IsPaged (map length pages)) (number : ℕ) (within : number < length (joined pages)) where
+  same_number : number / 4096 * 4096 + number % 4096 < length (joined pages)
+  same_number = subst (λ i. i < length (joined pages)) (sym (div-add-mod' number 4096)) within
+
+  pub page_within : number / 4096 < length pages
+  page_within = stands_within (λ (page : List Newest). page) pages (number / 4096) (number % 4096) paged (omega arith) same_number
+
+  module _ (page : List Newest) (is : page ≡ get_or pages (number / 4096) page) where
+    there : number % 4096 < length (get_or pages (number / 4096) page)
+    there = (stands (λ (p : List Newest). p) page pages (number / 4096) (number % 4096) paged (omega arith) same_number).1
+
+    pub place_within : number % 4096 < length page
+    place_within = subst (λ (p : List Newest). number % 4096 < length p) (sym is) there
+
+    pub version_is : (version : Newest) → version ≡ get_or page (number % 4096) version → version ≡ get_or (joined pages) number version
+    version_is version e = e
+        ∙ ap (λ (p : List Newest). get_or p (number % 4096) version) is
+        ∙ sym (found (λ (p : List Newest). p) page pages (number / 4096) (number % 4096) version paged page_within there)
+        ∙ ap (λ i. get_or (joined pages) i version) (div-add-mod' number 4096)
+
+    module _ (next : List Newest) (count : length next ≡ length page) where
+      sizes_same : map length (set pages (number / 4096) next) ≡ map length pages
+      sizes_same = map-set_same (λ (p : List Newest). length p) pages (number / 4096) next page (count ∙ ap (λ (p : List Newest). length p) is)
+
+      pub paged_after : IsPaged (map length (set pages (number / 4096) next))
+      paged_after = subst IsPaged (sym sizes_same) paged
+
+      pub count_after : length (joined (set pages (number / 4096) next)) ≡ length (joined pages)
+      count_after = joined_count (set pages (number / 4096) next) ∙ ap total sizes_same ∙ sym (joined_count pages)
+
+    pub versions_set : (next : List Newest) (version : Newest) → next ≡ set page (number % 4096) version
+        → joined (set pages (number / 4096) next) ≡ set (joined pages) number version
+    versions_set next version e = set_in (λ (p : List Newest). p) page pages (number / 4096) (number % 4096) next version paged page_within there
+        (e ∙ ap (λ (p : List Newest). set p (number % 4096) version) is)
+        ∙ ap (λ i. set (joined pages) i version) (div-add-mod' number 4096)
+
+-- whole pages of absent records, and a last one
+abbrev pub whole : ℕ → List (List Newest)
+whole k = replicate k (replicate 4096 absent_version)
+
+abbrev sizes : List (List Newest) → List ℕ
+sizes pages = map length pages
+
+pub whole_joined : (k : ℕ) → joined (whole k) ≡ replicate (k * 4096) absent_version
+whole_joined zero = refl
+whole_joined (suc k) = ap (λ (l : List Newest). replicate 4096 absent_version ++ l) (whole_joined k)
+    ∙ replicate-append-replicate 4096 (k * 4096) absent_version ∙ ap (λ n. replicate n absent_version) (omega arith)
+
+pub whole_paged : (k : ℕ) → IsPaged (sizes (whole k))
+whole_paged zero = tt
+whole_paged (suc zero) = (omega (arith, length-replicate 4096 absent_version), omega (arith, length-replicate 4096 absent_version))
+whole_paged (suc (suc k)) = (length-replicate 4096 absent_version, whole_paged (suc k))
+
+-- the pages of so many absent records
+pub record AreAbsent (count : ℕ) (pages : List (List Newest)) : Type 0 where
+  pub paged : IsPaged (map length pages)
+  pub absent : joined pages ≡ replicate count absent_version
+
+pub absent_whole : (count k : ℕ) → count ≡ k * 4096 → AreAbsent count (whole k)
+absent_whole count k e = record { paged = whole_paged k; absent = whole_joined k ∙ ap (λ n. replicate n absent_version) (sym e) }
+
+pub absent_and : (count k rest : ℕ) → count ≡ k * 4096 + rest → 0 < rest → rest < 4096 → AreAbsent count (whole k ++ replicate rest absent_version ∷ [])
+absent_and count k rest e some few =
+    let last = replicate rest absent_version in
+    let size : length last ≡ rest = length-replicate rest absent_version in
+    let full : total (map length (whole k)) ≡ k * 4096 = sym (joined_count (whole k)) ∙ ap length (whole_joined k) ∙ length-replicate (k * 4096) absent_version in
+    record {
+      paged = subst IsPaged (sym (map-append (λ (p : List Newest). length p) (whole k) (last ∷ [])))
+          (paged_more (map length (whole k)) (length last) (whole_paged k) (omega (arith, full)) (omega (arith, size, some)) (omega (arith, size, few)));
+      absent = flat_push (λ (p : List Newest). p) (whole k) last
+          ∙ ap (λ (l : List Newest). l ++ last) (whole_joined k)
+          ∙ replicate-append-replicate (k * 4096) rest absent_version
+          ∙ ap (λ n. replicate n absent_version) (sym e);
+    }
+
+-- cells are made of a page's versions, and of the next ones
+first_paged : (page : List Newest) (rest : List (List Newest)) → IsPaged (map length (page ∷ rest)) → (0 < length page) × (length page ≤ 4096)
+first_paged page [] h = h
+first_paged page (next ∷ rest) h = (omega (arith, h.0), omega (arith, h.0))
+
+rest_paged : (page : List Newest) (rest : List (List Newest)) → IsPaged (map length (page ∷ rest)) → IsPaged (map length rest)
+rest_paged page [] h = tt
+rest_paged page (next ∷ rest) h = h.1
+
+first_full : (page : List Newest) (rest : List (List Newest)) → IsPaged (map length (page ∷ rest)) → 0 < length rest → length page ≡ 4096
+first_full page [] h some = absurd (omega (arith, some))
+first_full page (next ∷ rest) h some = h.0
+
+module _ (page : List Newest) (rest left : List (List Newest)) (is : left ≡ page ∷ rest) (paged : IsPaged (map length left)) where
+  this : IsPaged (map length (page ∷ rest))
+  this = subst (λ (l : List (List Newest)). IsPaged (map length l)) is paged
+
+  pub some_left : 0 < length left
+  some_left = omega (arith, ap length is)
+
+  pub page_paged : (0 < length page) × (length page ≤ 4096)
+  page_paged = first_paged page rest this
+
+  pub paged_on : IsPaged (map length rest)
+  paged_on = rest_paged page rest this
+
+  module _ (w : PenView) (cells : List TableId) (count : length cells ≡ length (firsts page)) where
+    cells_count : length (w.cells ++ cells) ≡ length w.cells + length page
+    cells_count = length-append w.cells cells ∙ ap (λ n. length w.cells + n) (count ∙ length-map page _)
+
+    pub cells_on : (first : List Newest) → length w.cells + length (joined left) ≡ length first → length (w.cells ++ cells) + length (joined rest) ≡ length first
+    cells_on first e = let all : length (joined left) ≡ length page + length (joined rest) = ap (λ (l : List (List Newest)). length (joined l)) is ∙ length-append page (joined rest) in
+        omega (arith, cells_count, all, e)
+
+    pub versions_on : (first : List Newest) → w.all ++ firsts (joined left) ≡ firsts first → (w.all ++ firsts page) ++ firsts (joined rest) ≡ firsts first
+    versions_on first e = append_assoc w.all (firsts page) (firsts (joined rest))
+        ∙ ap (λ l. w.all ++ l) (sym (map-append _ page (joined rest)) ∙ ap (λ (l : List (List Newest)). firsts (joined l)) (sym is))
+        ∙ e
+
+    pub full_on : AreFull w.cells → 0 < length rest → AreFull (w.cells ++ cells)
+    full_on full some = let whole_page = first_full page rest this some in omega (arith, cells_count, whole_page, full)

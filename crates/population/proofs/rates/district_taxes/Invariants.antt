@@ -1,0 +1,12 @@
+use Rattle.std.proofs.Common.{◌≡◌, map}
+use Rattle.std.specs.List.{range_with_len}
+use Rattle.tables.specs.Database.{database}
+use Rattle.tables.specs.NewOrder.{district_tax}
+use Rattle.tables.specs.Records.{district_at}
+use Rattle.population.proofs.rates.district_taxes.Given as goal
+
+-- so many places have their rates
+abbrev pub invariant-loop-place : goal.invariant-loop-place
+invariant-loop-place l = record {
+  listed : l.rates.items ≡ map (λ p. district_tax (database l.tables) (district_at (database l.tables).scale p)) (range_with_len 0 l.place);
+}
