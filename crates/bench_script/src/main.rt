@@ -1,9 +1,9 @@
 //! Writes a script for `tpcc script`, at the default scale but for its caps, from a sequence of draws that is the same
 //! on every run. `bench_script payments N` writes N Payments by customer number: a district, a customer's district, a
-//! customer and an amount are drawn evenly for each. `bench_script orders N` writes N New-Orders: a district, a customer
-//! and 5 to 15 lines, each with an item and a quantity. `bench_script mix N` writes N transactions: of a hundred, 45
-//! New-Orders, 43 Payments, and 4 of each other kind; of the customers of Payments and Order-Status, 60 by last name.
-//! With other words it writes nothing.
+//! customer and an amount are drawn evenly for each. `bench_script orders N` writes N New-Orders: a district, a
+//! customer and 5 to 15 lines, each with an item and a quantity. `bench_script mix N` writes N transactions: of a
+//! hundred, 45 New-Orders, 43 Payments, and 4 of each other kind; of the customers of Payments and Order-Status, 60 by
+//! last name. With other words it writes nothing.
 #![tactic(auto)]
 
 ghost use Rattle.std.specs.Prelude.{◌≤◌, ◌<◌};

@@ -21,11 +21,11 @@ use totals_report::report_of;
 
 /// The committed state, which stands under the engine's lock: the pen of the cells, which have the newest version of
 /// each record, what has committed, and the HISTORY rows that past commits added to the population's. The committed
-/// tables are what these tell, and are kept nowhere. Its type keeps `KeepsBook`: `IsSound` of what contracts see of it, that it is ready for
-/// the next commit, that it has each terminal's last TID, that the terminals' shares sum to the length of the history,
-/// that its seat of the board has counted each commit of the history, with its epoch, that what waits for a logger is
-/// what of its stream was not taken, each entry above the mark of the last take, that each entry may be written to a
-/// log file, and that its totals are those of the committed tables.
+/// tables are what these tell, and are kept nowhere. Its type keeps `KeepsBook`: `IsSound` of what contracts see of it,
+/// that it is ready for the next commit, that it has each terminal's last TID, that the terminals' shares sum to the
+/// length of the history, that its seat of the board has counted each commit of the history, with its epoch, that what
+/// waits for a logger is what of its stream was not taken, each entry above the mark of the last take, that each entry
+/// may be written to a log file, and that its totals are those of the committed tables.
 #[derive(Drop)]
 pub struct Book<K: Run> {
     pub(crate) pen: Pen,
@@ -148,8 +148,8 @@ impl<K: Run> Book<K> {
         tables_of(alloc, &self.population, cells, &mut self.pen, &added)
     }
 
-    /// Which conditions the committed tables meet: all, as the type keeps. Costs one pass over the records, each of which
-    /// is compared with the running totals, and takes no memory; no clause can ask that it looks at any.
+    /// Which conditions the committed tables meet: all, as the type keeps. Costs one pass over the records, each of
+    /// which is compared with the running totals, and takes no memory; no clause can ask that it looks at any.
     pub fn report(&mut self, cells: &Cells, _alloc: Global) -> Result<Report, Refusal>
         requires { cells.now ≡ K.cells }
         ensures same { self.new ≡ self.old }

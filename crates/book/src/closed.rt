@@ -54,8 +54,8 @@ impl<K: Run> Closed<K> {
 
     /// What has committed, in order. Takes no memory.
     ///
-    /// Each entry is done at the tables that those before it leave, its reply is the one that its transaction has there,
-    /// and its terminal is one of the run's. TIDs rise by record and by terminal, and epochs don't fall.
+    /// Each entry is done at the tables that those before it leave, its reply is the one that its transaction has
+    /// there, and its terminal is one of the run's. TIDs rise by record and by terminal, and epochs don't fall.
     pub fn history(&self) -> &[Arc<Entry, Global>]
         ensures history { map arc_value result.now ≡ self.now }
         ensures legal { IsLegal K.past K.first self.now (replay K.first self.now) }

@@ -59,8 +59,8 @@ pub(crate) struct Records {
     pub(crate) readers: Vec<Reader>,
 }
 
-/// What a run begins with in which nothing has committed: its records, a board at which nobody has stepped, the loggers'
-/// streams, and the terminals' last TIDs.
+/// What a run begins with in which nothing has committed: its records, a board at which nobody has stepped, the
+/// loggers' streams, and the terminals' last TIDs.
 #[derive(Drop)]
 pub(crate) struct Fresh {
     pub(crate) records: Records,

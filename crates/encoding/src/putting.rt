@@ -48,8 +48,8 @@ pub fn put(
     }
 }
 
-/// Takes the NEW-ORDER row of an order out, if it is there: its record is then absent, as a Delivery leaves it. No other
-/// row is ever deleted. One look-up.
+/// Takes the NEW-ORDER row of an order out, if it is there: its record is then absent, as a Delivery leaves it. No
+/// other row is ever deleted. One look-up.
 pub fn take_out(tables: &mut Tables, key: OrderKey)
     ensures { (t0 : Database) → Puts t0 (record_key.NewOrder key) None (database tables.old) (database tables.new) }
 {

@@ -1,5 +1,5 @@
-//! What is wrong with the bytes of a log file that can't be read, so that a person can be told. Nothing that is recovered
-//! rests on it.
+//! What is wrong with the bytes of a log file that can't be read, so that a person can be told. Nothing that is
+//! recovered rests on it.
 #![tactic(auto)]
 
 mod examining;

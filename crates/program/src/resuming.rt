@@ -200,8 +200,8 @@ fn restarted<
     while_shown(rt, alloc, progress, screen, work)
 }
 
-/// The fault of a restart that was refused. What is wrong with the files is told by the population's scale and seed; the
-/// restart has used up the population, so it is made once more for that.
+/// The fault of a restart that was refused. What is wrong with the files is told by the population's scale and seed;
+/// the restart has used up the population, so it is made once more for that.
 fn unresumed(
     alloc: Global,
     scale: Scale,

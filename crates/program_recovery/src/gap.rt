@@ -41,8 +41,8 @@ impl Display for Misnumbered {
     }
 }
 
-/// What `recover` refuses by `Gap`: the first number that is amiss of the commits up to the durable epoch that log files
-/// have; None where there is none such. It reads the disks once more, and writes nothing.
+/// What `recover` refuses by `Gap`: the first number that is amiss of the commits up to the durable epoch that log
+/// files have; None where there is none such. It reads the disks once more, and writes nothing.
 ///
 /// # Errors
 ///

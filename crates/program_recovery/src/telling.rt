@@ -30,8 +30,8 @@ use std::time::Clock;
 ///
 /// # Errors
 ///
-/// As `recover_with`, and then nothing is written; and, where no disk fails, `Device` where the writer fails, `OutOfMemory`
-/// where the text has no room.
+/// As `recover_with`, and then nothing is written; and, where no disk fails, `Device` where the writer fails,
+/// `OutOfMemory` where the text has no room.
 pub fn recovered<
     R: Threads + Wait + Clock + Sync,
     D: Disk + Send,
@@ -68,8 +68,8 @@ pub fn recovered<
 ///
 /// # Errors
 ///
-/// As `recover_with`, and then nothing is written; and, where no disk fails, `Device` where the writer fails, `OutOfMemory`
-/// where check or text have no room.
+/// As `recover_with`, and then nothing is written; and, where no disk fails, `Device` where the writer fails,
+/// `OutOfMemory` where check or text have no room.
 pub fn checked<R: Threads + Wait + Clock + Sync, D: Disk + Send, W: Write, S: Write + Send + Drop>(
     rt: &R,
     alloc: Global,

@@ -39,8 +39,8 @@ impl<'a, S: Write> Screen<'a, S> {
         }
     }
 
-    /// Leaves the summary of the run at its end, if anything stands there, and ends the line. Where the time isn't known,
-    /// the line stays as it is.
+    /// Leaves the summary of the run at its end, if anything stands there, and ends the line. Where the time isn't
+    /// known, the line stays as it is.
     pub fn end(&mut self, now: Option<Duration>, progress: &Progress) {
         if !self.line.is_shown() {
             return;

@@ -18,9 +18,9 @@ use recover_progress::Progress;
 use std::alloc::Global;
 use std::thread::{Threads, join_mut};
 
-/// What `read_some` reads, in at most so many threads, of which the calling one is the first, and no more than there are
-/// files: with 0 or 1 it is the only one. Where a thread can't be started, the calling one does its work. The stack grows
-/// by the logarithm of the threads.
+/// What `read_some` reads, in at most so many threads, of which the calling one is the first, and no more than there
+/// are files: with 0 or 1 it is the only one. Where a thread can't be started, the calling one does its work. The stack
+/// grows by the logarithm of the threads.
 ///
 /// # Errors
 ///

@@ -48,9 +48,9 @@ pub struct Recovered {
 /// then commit number; rows of HISTORY follow the population's in the order of commit numbers. It reads the disks, and
 /// writes nothing. How far it is can be read from `progress` by other threads; nothing else goes by that.
 ///
-/// Costs a pass over the files, constant time a write, a pass over the records for each file and one more, a look-up and
-/// an insert for each that was written, a sort of the commits, and a copy of the population. Beside that copy it takes 4
-/// bytes a record of the scale, twice, and memory for what was written.
+/// Costs a pass over the files, constant time a write, a pass over the records for each file and one more, a look-up
+/// and an insert for each that was written, a sort of the commits, and a copy of the population. Beside that copy it
+/// takes 4 bytes a record of the scale, twice, and memory for what was written.
 ///
 /// # Errors
 ///

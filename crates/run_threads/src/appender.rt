@@ -50,8 +50,8 @@ impl<K: Run, D: Disk> Appender<K, D> {
         }
     }
 
-    /// What waits is tried again; and then, if nothing waits and the logger hasn't stopped, what it takes of the book is
-    /// appended, outside the book's lock.
+    /// What waits is tried again; and then, if nothing waits and the logger hasn't stopped, what it takes of the book
+    /// is appended, outside the book's lock.
     pub(crate) fn turn<R: Wait>(&mut self, rt: &R, engine: &Engine<K>, progress: &Progress)
         ensures { Turns self.old self.new }
     {

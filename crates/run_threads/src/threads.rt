@@ -44,8 +44,8 @@ pub struct Desks<K: Run> {
 /// 4.1 and 4.10). Where a thread can't be started, the calling thread does its work, terminals first. The first logger
 /// has the clock, and advances E before each of its takes. A terminal goes on after any refusal; a logger tries a batch
 /// again after want of memory, and stops for good when its device fails. After all inputs E is advanced once more, each
-/// logger that hasn't stopped takes its last turn, and each terminal acknowledges what is durable. Stations are those of
-/// terminals in order of their numbers. May wait, for the book's lock and at records' cells.
+/// logger that hasn't stopped takes its last turn, and each terminal acknowledges what is durable. Stations are those
+/// of terminals in order of their numbers. May wait, for the book's lock and at records' cells.
 ///
 /// # Errors
 ///

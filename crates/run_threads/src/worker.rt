@@ -101,7 +101,8 @@ impl<K: Run, G: Gate + Drop> Worker<K, G> {
     }
 }
 
-/// Does so many inputs of a terminal, and tells what came of them. After each, the terminal acknowledges what is durable.
+/// Does so many inputs of a terminal, and tells what came of them. After each, the terminal acknowledges what is
+/// durable.
 fn tally_of<K: Run, G: Gate, R: Wait>(
     rt: &R,
     alloc: Global,

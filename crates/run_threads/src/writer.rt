@@ -70,7 +70,8 @@ impl<K: Run, D: Disk, P: Pace + Drop> Writer<K, D, P> {
         }
     }
 
-    /// Takes the last turn, and ends the logger. Its pace ends once the terminals have acknowledged what is durable then.
+    /// Takes the last turn, and ends the logger. Its pace ends once the terminals have acknowledged what is durable
+    /// then.
     pub(crate) fn last_turn<R: Wait>(
         self,
         rt: &R,

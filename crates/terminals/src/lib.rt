@@ -1,5 +1,5 @@
-//! Terminals: their inputs, one after another, and the replies of what they have committed, released as the loggers have
-//! made them durable.
+//! Terminals: their inputs, one after another, and the replies of what they have committed, released as the loggers
+//! have made them durable.
 #![tactic(auto)]
 
 mod gate;

@@ -87,11 +87,11 @@ impl<K: Run> Terminal<K> {
     ///
     /// # Errors
     ///
-    /// `ItemNotValid` exactly where an item of the input isn't in ITEM, with the first such item. `OrdersFull` where, in
-    /// the last try, D_NEXT_O_ID as read was above the order cap, and `CommitsFull` where the book was at the commit
-    /// cap. `GaveUp` exactly where 64 tries have ended as stale or in conflict. `OutOfMemory` at any time. After each of
-    /// them the deck stands behind this input all the same, and share and outbox are as before, but that its room may
-    /// have risen.
+    /// `ItemNotValid` exactly where an item of the input isn't in ITEM, with the first such item. `OrdersFull` where,
+    /// in the last try, D_NEXT_O_ID as read was above the order cap, and `CommitsFull` where the book was at the commit
+    /// cap. `GaveUp` exactly where 64 tries have ended as stale or in conflict. `OutOfMemory` at any time. After each
+    /// of them the deck stands behind this input all the same, and share and outbox are as before, but that its room
+    /// may have risen.
     pub fn one<R: Wait, G: Gate>(
         &mut self,
         rt: &R,

@@ -81,8 +81,8 @@ impl<K: Run> Payer<K> {
     }
 }
 
-/// A gate before whose commits, so often, another terminal pays: of what a Payment to that warehouse has read, its row is
-/// then no longer the latest.
+/// A gate before whose commits, so often, another terminal pays: of what a Payment to that warehouse has read, its row
+/// is then no longer the latest.
 #[derive(Drop)]
 pub(crate) struct Rival<'a, K: Run, R: Wait> {
     pub(crate) rt: &'a R,

@@ -16,8 +16,8 @@ use std::alloc::{AllocError, Global};
 use tables::{History, Scale, Table, record_count};
 
 impl RunningSums {
-    /// The sums of the tables whose records hold what their newest versions say, and whose HISTORY has these rows. Costs
-    /// a look at each record and row. Refuses only for memory.
+    /// The sums of the tables whose records hold what their newest versions say, and whose HISTORY has these rows.
+    /// Costs a look at each record and row. Refuses only for memory.
     pub fn of(
         alloc: Global,
         scale: &Scale,

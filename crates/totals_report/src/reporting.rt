@@ -16,8 +16,8 @@ use totals::RunningSums;
 use totals_bounds::OrderBounds;
 
 /// For each consistency condition (TPC-C 3.3.2) the least key that breaks it, of the tables whose records hold what
-/// their newest versions say, and whose totals these are. Good of consistent tables. Costs one pass over the records, in
-/// which each that is there is compared with the totals of its key, and no memory.
+/// their newest versions say, and whose totals these are. Good of consistent tables. Costs one pass over the records,
+/// in which each that is there is compared with the totals of its key, and no memory.
 pub fn report_of(
     scale: &Scale,
     cells: &Cells,
