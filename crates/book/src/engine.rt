@@ -16,8 +16,16 @@ use board::{Board, BoardSeats, ClockSeat, LoggerSeat, TerminalSeat};
 use cells::{Cells, Reader};
 use population::Population;
 use std::alloc::Global;
+use std::hint::spin_loop;
 use std::marker::Model;
 use std::sync::{Arc, Mutex, MutexGuard, Wait, ledger};
+
+/// How often a thread tries the book's lock before it sleeps: for some 100 microseconds, as long as it takes to be
+/// woken. Others have the lock for 2 microseconds at a time.
+const TRIES: u32 = 256;
+
+/// For how many pauses of its processor a thread leaves the lock alone between two tries.
+const PAUSES: u32 = 16;
 
 /// An engine: the population, the record cells, which terminals read without a lock, the board of epoch words, and the
 /// book under one lock (Silo, section 4.1). Contracts see nothing of it but that it is of the run that `K` names.
@@ -146,6 +154,14 @@ impl<K: Run> Engine<K> {
     /// The book, once no other thread has it. While the lock is free, the committed tables are consistent and are
     /// the history's serial replay: the type of `Book` keeps it.
     pub fn lock<R: Wait>(&self, rt: &R) -> MutexGuard<'_, Book<K>> {
+        for _ in 0..TRIES {
+            if let Some(guard) = self.book.try_lock() {
+                return guard;
+            }
+            for _ in 0..PAUSES {
+                spin_loop();
+            }
+        }
         self.book.lock(rt)
     }
 }
