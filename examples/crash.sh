@@ -8,7 +8,7 @@
 set -eu
 here=$(cd "$(dirname "$0")" && pwd)
 program=${1:-$here/../crates/tpcc/out/tpcc}
-# Order numbers for as many New-Orders as 600,000 commits have. Memory goes by the order cap: 0.9 GB at the start.
+# Order numbers for as many New-Orders as 600,000 commits have. Memory goes by the order cap: 0.4 GB at the start.
 tables="--warehouses 2 --districts 10 --customers 100 --items 1000 --orders 20000 --commits 600000"
 loggers=2
 

@@ -40,7 +40,7 @@ BUILT = HERE.parent / "crates" / "tpcc" / "out" / "tpcc"
 
 TERMINALS, LOGGERS = 4, 2
 
-# Order numbers for as many New-Orders as 600,000 commits have. Memory goes by the order cap: 0.9 GB at the start.
+# Order numbers for as many New-Orders as 600,000 commits have. Memory goes by the order cap: 0.4 GB at the start.
 TABLES = "--warehouses 2 --districts 10 --customers 100 --items 1000 --orders 20000 --commits 600000".split()
 
 # In seconds: how long after its first progress line a run is killed at the latest, and how long a program may take

@@ -36,7 +36,7 @@ use tables::Scale;
 /// `output`, and answers the exit status. A fault of the words, or the help that they ask for, goes to `errors`, and
 /// so does a refusal's line, with one more on what was wrong, where that is known. How far a run of terminals or a
 /// recovery is goes to `screen`, if there is one, and nothing else does. May wait, as `script` and `run_threads::run`
-/// do.
+/// do. The process is to end behind it: what a script has committed stays in memory.
 pub fn run<
     T: Wait + Threads + Clock + Files<File = File> + Sync,
     R: Read,
@@ -162,7 +162,7 @@ fn answer_over<
     }
 }
 
-/// Answers a script over a population.
+/// Answers a script over a population. The memory of what was done isn't given back.
 fn answer_script<T: Wait, R: Read, W: Write>(
     rt: &T,
     alloc: Global,
