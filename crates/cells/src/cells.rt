@@ -36,7 +36,7 @@ pub struct Version {
     pub payload: Payload,
 }
 
-/// What a record's newest version has: its TID word, and its data.
+/// A version without its record: its TID word, and its data. It is what a record begins with, or its newest version.
 #[derive(Clone, Copy, Debug, PartialEq, Eq)]
 pub struct Newest {
     pub word: TidWord,
@@ -216,7 +216,8 @@ impl Cells {
     }
 
     /// What a record holds by its newest version: its data, or nothing where it is absent. Only the pen knows that:
-    /// nobody else stores. Takes no memory. Constant time: one load where the record is absent, and it never waits.
+    /// nobody else stores. Takes no memory. Constant time: one load where the record is absent,
+    /// else one for each word and one more, and it never waits.
     #[inline(always)]
     pub fn held(&self, pen: &mut Pen, number: u32) -> Option<Payload>
         requires own { pen.old.cells ≡ self.now }

@@ -131,6 +131,7 @@ impl<const N: usize> PenOf<N> {
         let pen = &mut self.seats[k];
         meet(page, pen, &mut reader.seats[k], number % PAGE_RECORDS)
     }
+
     // The words of the newest version of a record, whose page this is.
     #[inline(always)]
     pub(crate) fn held(&mut self, page: &PageWords<N>, number: usize) -> [u64; N]

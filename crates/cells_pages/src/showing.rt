@@ -1,5 +1,5 @@
-//! What a record of a page holds, by the pen, which knows all versions and stores none meanwhile: it loads each word
-//! once, and never again.
+//! What a record of a page holds, by the pen, which knows all versions and stores none meanwhile: so one load of each
+//! word tells it, where a reader has to look again.
 //!
 //! A method of a ruled table is dear to prove where it is called, so each is called in one small function.
 ghost use Rattle.std.specs.Prelude.{◌≡◌, ◌<◌, slice_index};

@@ -15,6 +15,10 @@ use std::alloc::Global;
 use std::sync::Wait;
 use tables::{DeliveryInput, DeliveryReply, Input, Lines, Reply};
 
+// How many records a Delivery reads and writes at most: in each of ten districts its oldest waiting order's number,
+// that order with its NEW-ORDER, 15 lines, and its customer.
+const MOST_RECORDS: usize = 190;
+
 /// Executes a Delivery (TPC-C 2.7.4.2) in all districts of its warehouse, in a transaction that has read nothing: reads
 /// its records once each, and says what it is to write and to reply if it commits. No cell changes. Gives back the
 /// reader. Costs two loads a district, at most seventeen more where an order waits there, and memory for what it reads,
@@ -53,7 +57,7 @@ fn deliver<R: Wait, K: Start>(
     ensures reads { length transaction.new.reads ≤ 190 }
     ensures writes { length transaction.new.writes.values ≤ 190 }
 {
-    transaction.reserve(190, 190)?;
+    transaction.reserve(MOST_RECORDS, MOST_RECORDS)?;
     let orders = deliver_districts(rt, alloc, transaction, delivery)?;
     raise_oldest(transaction, delivery, &orders)?;
     Ok(Reply::Delivery(DeliveryReply {

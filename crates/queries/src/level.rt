@@ -18,7 +18,7 @@ use tables::{Input, Reply, StockLevelInput, StockLevelReply};
 /// Executes a Stock-Level (TPC-C 2.8.2.2) in a transaction that has read nothing: reads its district, the last 20
 /// orders with the lines that their O_OL_CNT says that they have, and the stock of each item in them once. No cell
 /// changes, and it writes nothing. Gives back the reader. Costs at most 621 loads, a step for each 64 items of the
-/// scale, and memory for what it reads and a bit for each item of the scale.
+/// scale, and memory for 621 versions, whatever it reads, and a bit for each item of the scale.
 ///
 /// # Errors
 ///

@@ -53,7 +53,7 @@ impl ReadSet {
     /// # Errors
     ///
     /// `OutOfMemory`, and no other.
-    pub fn reserve(&mut self, count: usize) -> Result<(), Refusal>
+    pub(crate) fn reserve(&mut self, count: usize) -> Result<(), Refusal>
         ensures same { self.new ≡ self.old }
         ensures only_memory { IfErr result (λ refusal. refusal ≡ OutOfMemory) }
     {

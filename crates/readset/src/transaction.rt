@@ -1,5 +1,5 @@
 //! A transaction under way, from its first read to its work.
-ghost use Rattle.std.specs.Prelude.{◌≡◌, ◌≢◌, ◌≤◌, ℕ, [], Some, Ok, IsSome, is_some, length, OnOk, OnErr, IfOk, IfErr};
+ghost use Rattle.std.specs.Prelude.{◌≡◌, ◌≢◌, ◌≤◌, ℕ, [], Some, Ok, IsSome, length, OnOk, OnErr, IfOk, IfErr};
 ghost use Rattle.money.specs.declared.refusal.Refusal.TheVariants.{OutOfMemory};
 ghost use Rattle.tables.specs.Database.{Database};
 ghost use Rattle.tables.specs.Records.{IsRecordKey, number_of_key, record_count};
@@ -125,16 +125,6 @@ impl<'a, K: Start> Transaction<'a, K> {
         ensures { initial result.now ≡ K.tables }
     {
         self.population
-    }
-
-    /// Whether the record was read. Costs the logarithm of the number of records read.
-    pub fn has_read(&self, key: RecordKey) -> bool
-        requires { IsRecordKey K.tables.scale key }
-        ensures { result ≡ is_some (held self.now.reads (number_of_key K.tables.scale key)) }
-    {
-        self.reads
-            .held(self.population.numbering().number_of_key(key))
-            .is_some()
     }
 
     /// The words of a record, or nothing where it is absent: as it was read before, or else by a load. Costs what

@@ -50,7 +50,7 @@ impl WriteSet {
     /// # Errors
     ///
     /// `OutOfMemory`, and no other.
-    pub fn reserve(&mut self, count: usize) -> Result<(), Refusal>
+    pub(crate) fn reserve(&mut self, count: usize) -> Result<(), Refusal>
         ensures same { self.new ≡ self.old }
         ensures only_memory { IfErr result (λ refusal. refusal ≡ OutOfMemory) }
     {

@@ -54,7 +54,7 @@ impl Numbering {
         }
     }
 
-    /// The number of the record of a key. Costs a product for each column of the key but the first and the last.
+    /// The number of the record of a key. Costs a product for each column of the key but the first.
     #[inline(always)]
     pub fn number_of_key(&self, key: RecordKey) -> u32
         requires { IsRecordKey self.now.scale key }
@@ -76,7 +76,8 @@ impl Numbering {
     }
 }
 
-/// The number of the record of a key. Who asks for more than one makes a `Numbering` once. Constant time.
+/// The number of the record of a key. Who asks for more than one makes a `Numbering` once. Constant time: where the
+/// compiler sees which table the key is of, only that table's first number is worked out.
 #[inline(always)]
 pub fn number_of_key(scale: &Scale, key: RecordKey) -> u32
     requires { IsRecordKey scale.now key }
