@@ -1,5 +1,5 @@
 //! What may happen in the machine.
-use money::Payload;
+use crate::value::Value;
 
 /// One event of the machine. Workers and records are numbered from 0.
 #[derive(Clone, Copy, Debug, PartialEq, Eq)]
@@ -17,7 +17,7 @@ pub enum Event {
     Lock {
         worker: u16,
         record: u32,
-        value: Option<Payload>,
+        value: Option<Value>,
     },
     /// It reads the epoch, after its last lock (the serialization point).
     ReadEpoch {

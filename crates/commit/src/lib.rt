@@ -8,9 +8,11 @@ mod sections;
 mod state;
 mod theorem;
 mod tid;
+mod value;
 mod worker;
 
 pub use event::Event;
 pub use sections::{every_section_is_a_run, others_may_act_between};
 pub use state::State;
 pub use theorem::every_interleaving;
+pub use value::Value;

@@ -9,6 +9,7 @@ mod installing;
 mod validating;
 
 use crate::event::Event;
+use crate::value::Value;
 use crate::worker::{Cell, Phase, Worker};
 use money::{NO_PAYLOAD, Refusal};
 use std::alloc::Global;
@@ -58,7 +59,7 @@ impl State {
     {
         let populated = Cell {
             word: TidWord::POPULATED,
-            value: Some(NO_PAYLOAD),
+            value: Some(Value::narrow(NO_PAYLOAD)),
         };
         let cells = vec![in alloc; populated; records as usize]?;
         let mut idle = Vec::with_capacity(alloc, usize::from(workers))?;

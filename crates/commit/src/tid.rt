@@ -3,7 +3,8 @@ ghost use Rattle.std.specs.Prelude.{◌≡◌, ◌%◌, max};
 ghost use Rattle.tidword.specs.TidWord.{tid_of, installed_word};
 ghost use Rattle.tidword.specs.Lawful.{next};
 
-use money::Payload;
+use crate::value::Value;
+use money::NO_PAYLOAD;
 use std::marker::Model;
 use tidword::{TidWord, next_tid};
 
@@ -63,9 +64,14 @@ impl Tid {
     }
 
     /// The word of the version that a commit with this TID stores: the latest, unlocked, and absent with no value.
-    pub(crate) fn installed(self, value: Option<Payload>) -> TidWord
-        ensures { result ≡ installed_word self value }
+    pub(crate) fn installed(self, value: &Option<Value>) -> TidWord
+        ensures { result ≡ installed_word self value.now }
     {
-        TidWord::new(self.word).installed(&value)
+        // The word tells whether there is a value, and nothing of it.
+        let payload = match value {
+            Some(_) => Some(NO_PAYLOAD),
+            None => None,
+        };
+        TidWord::new(self.word).installed(&payload)
     }
 }

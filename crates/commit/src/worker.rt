@@ -5,7 +5,7 @@ mod changes;
 
 use crate::notes::held;
 use crate::tid::Tid;
-use money::Payload;
+use crate::value::Value;
 use std::alloc::Global;
 use std::marker::Model;
 use tidword::TidWord;
@@ -29,7 +29,7 @@ pub enum Phase {
 #[derive(Clone, Copy, Debug, PartialEq, Eq)]
 pub struct Cell {
     pub word: TidWord,
-    pub value: Option<Payload>,
+    pub value: Option<Value>,
 }
 
 impl Cell {
@@ -66,7 +66,7 @@ impl Cell {
 #[derive(Clone, Copy, Debug, PartialEq, Eq)]
 pub struct Version {
     pub tid: Tid,
-    pub value: Option<Payload>,
+    pub value: Option<Value>,
 }
 
 /// A worker: what it has read and has yet to validate, what it has validated, what it has locked and is to write, the
@@ -77,7 +77,7 @@ pub struct Worker {
     phase: Phase,
     reads: Vec<(u32, Version)>,
     validated: Vec<(u32, Version)>,
-    locks: Vec<(u32, Option<Payload>)>,
+    locks: Vec<(u32, Option<Value>)>,
     epoch: u32,
     last: Tid,
 }
@@ -169,7 +169,7 @@ impl Worker {
     }
 
     /// What it may install in this record. Costs a pass over what it has locked.
-    pub(crate) fn to_install(&self, number: u32) -> Option<Option<Payload>>
+    pub(crate) fn to_install(&self, number: u32) -> Option<Option<Value>>
         ensures { MatchOption result
             (¬ ((self.now.phase ≡ Chosen) × IsSome (note_at self.now.locks number)))
             (λ value. (self.now.phase ≡ Chosen) × (note_at self.now.locks number ≡ Some value)) }
@@ -181,7 +181,7 @@ impl Worker {
     }
 
     /// What it has locked, and is to write.
-    pub(crate) fn locks(&self) -> &[(u32, Option<Payload>)]
+    pub(crate) fn locks(&self) -> &[(u32, Option<Value>)]
         ensures { result.now ≡ self.now.locks }
     {
         &self.locks
@@ -195,13 +195,11 @@ impl Worker {
     }
 
     /// A record as it leaves it that writes this there, by its last TID.
-    pub(crate) fn installed(&self, value: Option<Payload>) -> Cell
+    pub(crate) fn installed(&self, value: Option<Value>) -> Cell
         ensures { result ≡ record { word = installed_word self.now.last value; value = value } }
     {
-        Cell {
-            word: self.last.installed(value),
-            value,
-        }
+        let word = self.last.installed(&value);
+        Cell { word, value }
     }
 
     /// Whether it may unlock this record. Costs a pass over what it has locked.

@@ -1,7 +1,8 @@
 //! Two workers whose reads and locks cross, and what may not happen.
 ghost use Rattle.std.specs.Prelude.{◌≡◌, ◌<◌, length, IfOk};
 
-use commit::{Event, State};
+use commit::{Event, State, Value};
+use customer_data::DATA_WORDS;
 use money::{NO_PAYLOAD, Refusal};
 use std::alloc::Global;
 use std::test::Fail;
@@ -74,7 +75,16 @@ fn lock(worker: u16, record: u32) -> Event {
     Event::Lock {
         worker,
         record,
-        value: Some(NO_PAYLOAD),
+        value: Some(Value::narrow(NO_PAYLOAD)),
+    }
+}
+
+/// A lock of a record, to write a text's words there.
+fn lock_for_text(worker: u16, record: u32) -> Event {
+    Event::Lock {
+        worker,
+        record,
+        value: Some(Value::wide([1; DATA_WORDS])),
     }
 }
 
@@ -123,6 +133,18 @@ fn the_second_of_two_that_cross_finishes(rt: HostRuntime) -> Result<(), Fail> {
     let last = look(&state);
     assert_eq!(rt; (last.failed, last.finished), ((true, false), 1));
     assert_eq!(rt; (last.words, last.epoch), ((4_294_967_298, 2), 1));
+    Ok(())
+}
+
+#[test]
+fn a_text_is_installed_as_a_row_is(rt: HostRuntime) -> Result<(), Fail> {
+    let mut state = two_of_each(rt.alloc())?;
+    let locked = [begin(0), lock(0, 0), lock_for_text(0, 1), read_epoch(0)];
+    run(&mut state, &locked)?;
+    run(&mut state, &[choose_tid(0), install(0, 1), install(0, 0)])?;
+    let last = look(&state);
+    assert_eq!(rt; (last.failed, last.finished), ((false, false), 1));
+    assert_eq!(rt; last.words, (4_294_967_298, 4_294_967_298));
     Ok(())
 }
 

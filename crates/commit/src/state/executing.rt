@@ -5,8 +5,9 @@ ghost use Rattle.commit.specs.State.{IsStep};
 
 use crate::state::State;
 use crate::tid::Tid;
+use crate::value::Value;
 use crate::worker::Version;
-use money::{Payload, Refusal};
+use money::Refusal;
 
 impl State {
     /// A worker begins.
@@ -45,7 +46,7 @@ impl State {
         &mut self,
         worker: u16,
         number: u32,
-        value: Option<Payload>,
+        value: Option<Value>,
     ) -> Result<(), Refusal>
         ensures { IsStep self.old (Lock worker number value) result self.new }
     {

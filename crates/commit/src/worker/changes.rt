@@ -7,8 +7,9 @@ ghost use Rattle.commit.specs.Events.{greatest_read, still_holds, checked, after
 
 use crate::notes::{forget, held};
 use crate::tid::Tid;
+use crate::value::Value;
 use crate::worker::{Cell, Phase, Version, Worker};
-use money::{Payload, Refusal};
+use money::Refusal;
 
 impl Worker {
     /// It begins a transaction.
@@ -30,7 +31,7 @@ impl Worker {
     }
 
     /// It has locked a record, and is to write this there. Where there is no memory for that, it is as before.
-    pub(crate) fn lock(&mut self, number: u32, value: Option<Payload>) -> Result<(), Refusal>
+    pub(crate) fn lock(&mut self, number: u32, value: Option<Value>) -> Result<(), Refusal>
         ensures { MatchResult result
             (λ _. self.new ≡ record self.old { locks = self.old.locks ++ (number, value) ∷ [] })
             (λ refusal. (refusal ≡ OutOfMemory) × (self.new ≡ self.old)) }
