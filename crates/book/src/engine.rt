@@ -19,13 +19,17 @@ use std::alloc::Global;
 use std::hint::spin_loop;
 use std::marker::Model;
 use std::sync::{Arc, Mutex, MutexGuard, Wait, ledger};
+use std::thread::yield_now;
 
-/// How often a thread tries the book's lock before it sleeps: for some 100 microseconds, as long as it takes to be
-/// woken. Others have the lock for 2 microseconds at a time.
-const TRIES: u32 = 256;
+/// How often a thread tries the book's lock at first: for a microsecond or two, while a commit has it for three.
+const TRIES: u32 = 16;
 
-/// For how many pauses of its processor a thread leaves the lock alone between two tries.
+/// For how many pauses of its processor a thread leaves the lock alone between two of these tries.
 const PAUSES: u32 = 16;
+
+/// How often it then lets another thread run, which may be the one that has the lock, and tries again, before it sleeps:
+/// some 200 microseconds where no other wants to run.
+const TURNS: u32 = 200;
 
 /// An engine: the population, the record cells, which terminals read without a lock, the board of epoch words, and the
 /// book under one lock (Silo, section 4.1). Contracts see nothing of it but that it is of the run that `K` names.
@@ -152,17 +156,32 @@ impl<K: Run> Engine<K> {
     }
 
     /// The book, once no other thread has it. While the lock is free, the committed tables are consistent and are
-    /// the history's serial replay: the type of `Book` keeps it.
+    /// the history's serial replay: the type of `Book` keeps it. A thread that finds it taken tries again for a while
+    /// before it sleeps, since to be woken takes longer than most wait.
     pub fn lock<R: Wait>(&self, rt: &R) -> MutexGuard<'_, Book<K>> {
+        match self.tried() {
+            Some(guard) => guard,
+            None => self.book.lock(rt),
+        }
+    }
+
+    /// The book, if another thread leaves it meanwhile.
+    fn tried(&self) -> Option<MutexGuard<'_, Book<K>>> {
         for _ in 0..TRIES {
             if let Some(guard) = self.book.try_lock() {
-                return guard;
+                return Some(guard);
             }
             for _ in 0..PAUSES {
                 spin_loop();
             }
         }
-        self.book.lock(rt)
+        for _ in 0..TURNS {
+            yield_now();
+            if let Some(guard) = self.book.try_lock() {
+                return Some(guard);
+            }
+        }
+        None
     }
 }
 
