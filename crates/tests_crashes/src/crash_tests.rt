@@ -147,25 +147,43 @@ fn go_to_a_loss(
 }
 
 /// Stops a life when so many quarters of its calls are done, and as soon as it loses epochs then, with its last writes
-/// torn so.
+/// torn so. None where no such crash loses any.
 fn stopped_at(
     alloc: Global,
     notes: &Notes,
     tapes: &[Tape],
     quarters: usize,
     mix: (Torn, Torn),
-) -> Result<Stopped, Refusal> {
+) -> Result<Option<Stopped>, Refusal> {
     let moments = moments(alloc, tapes)?;
     let at = moments.len().saturating_mul(quarters) / 4;
     let later = moments.get(at..).unwrap_or(&[]);
     let mut walk = Walk::new(alloc, tapes)?;
-    let stamp = go_to_a_loss(alloc, &mut walk, later, mix)?.ok_or(Refusal::BadInput)?;
+    let Some(stamp) = go_to_a_loss(alloc, &mut walk, later, mix)? else {
+        return Ok(None);
+    };
     let mut left = walk.left(mix)?;
     let found = Found::on(alloc, &plain(alloc)?, &mut left)?;
-    Ok(Stopped {
+    Ok(Some(Stopped {
         notes: Notes::behind(alloc, notes, stamp, found.commits)?,
         tapes: restored(alloc, &left)?,
-    })
+    }))
+}
+
+/// Stops a life so, or with no last write: which logger's write lets more be durable is up to the threads, so a crash
+/// that spares one disk may lose nothing in a whole life. One that spares none does, wherever more gets durable, and
+/// that is so in a life's last calls too.
+fn stopped_at_a_loss(
+    alloc: Global,
+    notes: &Notes,
+    tapes: &[Tape],
+    quarters: usize,
+    mix: (Torn, Torn),
+) -> Result<Stopped, Refusal> {
+    if let Some(stopped) = stopped_at(alloc, notes, tapes, quarters, mix)? {
+        return Ok(stopped);
+    }
+    stopped_at(alloc, notes, tapes, quarters, (Torn::Old, Torn::Old))?.ok_or(Refusal::BadInput)
 }
 
 /// How lives are stopped.
@@ -185,7 +203,7 @@ fn crashed_again<R: Threads + Wait + Sync>(
 ) -> Result<(usize, Seen), Refusal> {
     let (mut well, mut seen) = (0usize, Seen::default());
     for (quarters, mix) in STOPS {
-        let mut stopped = stopped_at(alloc, notes, tapes, quarters, mix)?;
+        let mut stopped = stopped_at_a_loss(alloc, notes, tapes, quarters, mix)?;
         let lived = resumed(rt, alloc, &stopped.notes, &mut stopped.tapes, SOUND, plan)?;
         well = well.saturating_add(usize::from(lived == WELL));
         seen = seen.with(crashes(alloc, &stopped.notes, &stopped.tapes, 500)?);
