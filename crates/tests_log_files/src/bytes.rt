@@ -1,10 +1,17 @@
 //! The bytes of log files, made from their format alone: at 1 warehouse, 2 districts, 10 customers, 20 items, orders up
 //! to 30 and 1,000 commits, over the plain population.
 
+ghost use Rattle.std.specs.Prelude.{◌≡◌, ◌++◌, min, take, OnOk};
+ghost use Rattle.std.specs.Int.{w64, to_le_bytes};
+ghost use Rattle.std.specs.List.{flat_map};
+
 use std::alloc::AllocError;
 
 /// Appends numbers of so many bytes each, the lowest byte first.
-pub fn push_numbers(bytes: &mut Vec<u8>, size: usize, numbers: &[u64]) -> Result<(), AllocError> {
+pub fn push_numbers(bytes: &mut Vec<u8>, size: usize, numbers: &[u64]) -> Result<(), AllocError>
+    ensures { OnOk result (bytes.new.items ≡ bytes.old.items
+        ++ flat_map (λ n. take (min size 8) (to_le_bytes w64 n)) numbers.now) }
+{
     for number in numbers {
         let number: [u8; 8] = number.to_le_bytes();
         bytes.extend_from_slice(&number[..size.min(8)])?;

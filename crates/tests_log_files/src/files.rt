@@ -1,5 +1,11 @@
 //! Two log files on disks in memory: five Payments of 1.00 in epochs 4 to 8, the first in the first file.
 
+ghost use Rattle.std.specs.Prelude.{◌≡◌, [], ◌∷◌, map, IfOk};
+ghost use Rattle.log_disk.specs.Memory.{replayed_calls};
+ghost use Rattle.tables.specs.Sizes.{sizes};
+ghost use Rattle.population.specs.Initial.{initial};
+ghost use Rattle.population_tables.specs.Plain.{IsPlain};
+
 use crate::bytes::{ENTRY, push_body, push_entry, push_header};
 use log_disk::{Disk, Memory};
 use money::Refusal;
@@ -10,7 +16,9 @@ use tables::Scale;
 use tests_log_vectors::VOID;
 
 /// The plain population of the files' database.
-pub fn small(alloc: Global) -> Result<Population, Refusal> {
+pub fn small(alloc: Global) -> Result<Population, Refusal>
+    ensures { IfOk result (λ population. IsPlain (sizes 1 2 10 20 30 1000) (initial population)) }
+{
     Population::plain(alloc, Scale::new(1, 2, 10, 20, 30, 1_000)?)
 }
 
@@ -44,7 +52,9 @@ pub fn unwatched(alloc: Global) -> Progress {
 }
 
 /// A disk with these bytes.
-pub fn disk_of(alloc: Global, bytes: &[u8]) -> Result<Memory, Refusal> {
+pub fn disk_of(alloc: Global, bytes: &[u8]) -> Result<Memory, Refusal>
+    ensures { IfOk result (λ disk. (replayed_calls disk.calls).bytes ≡ bytes.now) }
+{
     let mut disk = Memory::new(alloc);
     disk.write_at(0, bytes)?;
     Ok(disk)
@@ -59,7 +69,9 @@ pub fn disks(alloc: Global, entries: u64) -> Result<Vec<Memory>, Refusal> {
 }
 
 /// A disk with these bytes, alone.
-pub fn one_disk(alloc: Global, bytes: &[u8]) -> Result<Vec<Memory>, Refusal> {
+pub fn one_disk(alloc: Global, bytes: &[u8]) -> Result<Vec<Memory>, Refusal>
+    ensures { IfOk result (λ disks. map (λ disk. (replayed_calls disk.calls).bytes) disks.items ≡ bytes.now ∷ []) }
+{
     let mut disks = Vec::new(alloc);
     disks.push(disk_of(alloc, bytes)?)?;
     Ok(disks)
