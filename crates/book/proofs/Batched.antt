@@ -5,12 +5,11 @@ use Rattle.std.specs.Prelude.{slice_index_or}
 use Rattle.std.specs.List.{All}
 use Rattle.std.proofs.lemmas.Bool.Decides.{eqb_tells}
 use Rattle.std.proofs.lemmas.List.Elements.{All-nil, All-cons, All-drop, All-filter, All-weaker, filter_passes}
-use Rattle.atomic_table.specs.Seated.{TableId}
 use Rattle.tables.specs.Sizes.{Sizes}
 use Rattle.tables.specs.Database.{Database}
 use Rattle.tables.specs.Apply.{after}
 use Rattle.tidword.specs.TidWord.{epoch_of}
-use Rattle.cells.specs.Records.{PenView}
+use Rattle.cells.specs.Records.{CellsView, PenView}
 use Rattle.board.specs.Words.{last_epoch}
 use Rattle.board.specs.declared.rule.Plan.{Plan}
 use Rattle.book.specs.Batches.{IsBatch}
@@ -78,7 +77,7 @@ left_of P k loggers l es h = All-drop (λ (e : Entry). P e × (e.terminal % logg
     its : (e : Entry) → (e.terminal % loggers == l) ≡ true → e.terminal % loggers ≡ l
     its e is = ⊎_elim (λ yes. yes.1) (λ no. absurd (true≢false (sym is ∙ no.0))) (eqb_tells (e.terminal % loggers) l)
 
-module _ {past : ℕ} {t0 : Database} {run_cells : List TableId} {seen : ℕ} {written : PenView} {history : List Entry} {t : Database} (plan : Plan)
+module _ {past : ℕ} {t0 : Database} {run_cells : CellsView} {seen : ℕ} {written : PenView} {history : List Entry} {t : Database} (plan : Plan)
     {terminals : ℕ} (logger : ℕ) {s : Untaken} (sound : IsSound past t0 written history t) (ready : IsReady past t0 run_cells seen written history t)
     (loggable : AreLoggable t0.scale terminals history) (is : IsUntakenOf plan.base seen (stream plan.loggers logger history) s)
     (few : plan.loggers ≤ MAX_LOGGERS) (own : logger < plan.loggers) (epoch : ℕ) (later : seen ≤ epoch) (bound : epoch ≤ last_epoch) where

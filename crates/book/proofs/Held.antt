@@ -1,6 +1,5 @@
 -- What records hold by their newest versions is what the committed tables have.
 use Rattle.std.proofs.Common.{◌≡◌, ◌≢◌, ℕ, ◌+◌, ◌<◌, ◌≤◌, ◌++◌, List, [], ◌∷◌, Option, length, sym, ap, ◌∙◌, subst, arith}
-use Rattle.atomic_table.specs.Seated.{TableId}
 use Rattle.tables.specs.Sizes.{Sizes}
 use Rattle.tables.specs.Constant.{IsOf}
 use Rattle.tables.specs.WellFormed.{IsWellFormed}
@@ -9,7 +8,7 @@ use Rattle.tables.specs.Records.{record_count, key_of}
 use Rattle.tables.specs.Rows.{rows}
 use Rattle.cells.specs.First.{first_version}
 use Rattle.cells.specs.Versions.{EndsWith, newest}
-use Rattle.cells.specs.Records.{PenView, at, held_by}
+use Rattle.cells.specs.Records.{CellsView, PenView, at, held_by}
 use Rattle.cells.proofs.Rising.{ends_newest}
 use Rattle.encoding.specs.Held.{row_count}
 use Rattle.encoding.specs.Newest.{AreLawful}
@@ -36,7 +35,7 @@ module _ {past : ℕ} {t0 : Database} {written : PenView} {history : List Entry}
   pub value_held : (n : ℕ) → n < record_count t0.scale → held_by written n ≡ rows t n
   value_held n h = sound.latest n h (newest (at written.all n)) (has_newest n h)
 
-  module _ {run_cells : List TableId} {epoch : ℕ} (ready : IsReady past t0 run_cells epoch written history t) where
+  module _ {run_cells : CellsView} {epoch : ℕ} (ready : IsReady past t0 run_cells epoch written history t) where
     rows_first : row_count t0.scale ≤ record_count t0.scale
     rows_first = omega arith
 
@@ -50,8 +49,8 @@ module _ {past : ℕ} {t0 : Database} {written : PenView} {history : List Entry}
     -- so too at the population that the first tables have become, and tables that are told by them and the population's
     -- HISTORY, with these rows and then those that were added, are the committed ones
     module _ {population : Database} {rows_here : List History} (become : HasBecome population t0 rows_here) where
-      pub enough : row_count population.scale ≤ length run_cells
-      enough = subst (λ (s : Sizes). row_count s ≤ length run_cells) become.of_population.scale (omega (arith, ready.count, rows_first))
+      pub enough : row_count population.scale ≤ length run_cells.narrow
+      enough = subst (λ (s : Sizes). row_count s ≤ length run_cells.narrow) become.of_population.scale (omega (arith, ready.count.0, rows_first))
 
       pub lawful_there : AreLawful population.scale (held_by written)
       lawful_there = subst (λ (s : Sizes). AreLawful s (held_by written)) become.of_population.scale lawful

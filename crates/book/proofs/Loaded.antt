@@ -3,12 +3,11 @@ use Rattle.std.proofs.Common.{◌≡◌, ℕ, ◌-◌, ◌^◌, ◌<◌, ◌≤�
 use Rattle.std.proofs.lemmas.Grind.{reverse_onto}
 use Rattle.std.proofs.lemmas.List.{length-map, length-reverse, map-append}
 use Rattle.std.proofs.lemmas.List.Elements.{All-weaker}
-use Rattle.atomic_table.specs.Seated.{TableId}
 use Rattle.tables.specs.Database.{Database}
 use Rattle.tables.specs.declared.limits.TheConstants.{MAX_COMMITS}
 use Rattle.tidword.specs.TidWord.{epoch_of}
 use Rattle.cells.specs.Versions.{last_tid}
-use Rattle.cells.specs.Records.{PenView, at}
+use Rattle.cells.specs.Records.{CellsView, PenView, at}
 use Rattle.board.specs.Steps.{known_epoch, counted_epochs}
 use Rattle.board.specs.Seats.{BoardView, SeatView, noted}
 use Rattle.board.specs.declared.rule.WordStep.TheVariants.{LoadEpoch, CountCommit}
@@ -18,7 +17,7 @@ use Rattle.book.specs.Stamps.{last_of}
 use Rattle.book.specs.declared.entry.Entry.{Entry}
 
 -- a book that is ready for an epoch is ready for a later one
-pub ready_later : (past : ℕ) (t0 : Database) (run_cells : List TableId) (old new : ℕ) (written : PenView) (history : List Entry) (t : Database) → old ≤ new
+pub ready_later : (past : ℕ) (t0 : Database) (run_cells : CellsView) (old new : ℕ) (written : PenView) (history : List Entry) (t : Database) → old ≤ new
     → IsReady past t0 run_cells old written history t → IsReady past t0 run_cells new written history t
 ready_later past t0 run_cells old new written history t later r = record {
   of_population = r.of_population;
@@ -45,7 +44,7 @@ pub found_later : (seat : SeatView) {run here : BoardView} {epoch : ℕ} → sea
     → found_epoch seat ≤ epoch
 found_later seat {epoch = epoch} own same later = subst (λ (b : BoardView). known_epoch b.plan.base seat.steps ≤ epoch) (same ∙ sym own) later
 
-pub ready_loaded : (seat : SeatView) {run here : BoardView} {epoch past : ℕ} {t0 t : Database} {run_cells : List TableId} {written : PenView}
+pub ready_loaded : (seat : SeatView) {run here : BoardView} {epoch past : ℕ} {t0 t : Database} {run_cells : CellsView} {written : PenView}
     {history : List Entry} → seat.board ≡ run → here ≡ run → known_epoch here.plan.base seat.steps ≤ epoch
     → IsReady past t0 run_cells (found_epoch seat) written history t → IsReady past t0 run_cells epoch written history t
 ready_loaded seat {epoch = epoch} {past = past} {t0 = t0} {t = t} {run_cells = run_cells} {written = written} {history = history} own same later =

@@ -42,8 +42,8 @@ first_lasts {count = count} none all = record {
 }
 
 module _ {t0 : Database} {made : Records} {terminals : ℕ} (are : AreUnwritten t0 terminals made) where
-  first : (n : ℕ) → n < length made.cells → at made.pen.all n ≡ first_version (rows t0 n) ∷ []
-  first n h = are.versions n (subst (λ m. n < m) are.count h)
+  first : (n : ℕ) → n < length made.cells.narrow → at made.pen.all n ≡ first_version (rows t0 n) ∷ []
+  first n h = are.versions n (subst (λ m. n < m) are.count.0 h)
 
   pub first_sound : (past : ℕ) → IsWellFormed t0 → IsConsistent t0 → IsSound past t0 made.pen [] t0
   first_sound past well_formed consistent = record {

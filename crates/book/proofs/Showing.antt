@@ -31,7 +31,7 @@ module _ (k : BookView) (terminal epoch : ℕ) (read : ReadSetView) (w : ℕ) wh
 
   abbrev machine : Machine
   machine = record {
-    records = map record_of (range_with_len 0 (length k.written.cells));
+    records = map record_of (range_with_len 0 (length k.written.cells.narrow));
     workers = replicate w idle_worker ++ begun ∷ [];
     epoch = epoch;
     finished = 0;
@@ -52,8 +52,8 @@ module _ (k : BookView) (terminal epoch : ℕ) (read : ReadSetView) (w : ℕ) wh
     machine,
     record {
       records = record {
-        count = length-map-range_with_len record_of 0 (length k.written.cells);
-        newest = λ n h v e. get_or-map-range_with_len record_of 0 (length k.written.cells) n n _ h (from_zero n)
+        count = length-map-range_with_len record_of 0 (length k.written.cells.narrow);
+        newest = λ n h v e. get_or-map-range_with_len record_of 0 (length k.written.cells.narrow) n n _ h (from_zero n)
             ∙ ap (λ (l : List (List ℕ)). cell_of (newest l)) e.1 ∙ ap cell_of (newest-push e.0 v);
       };
       present = small;

@@ -7,12 +7,11 @@ use Rattle.std.specs.Ordering.{nat_cmp, is_eq}
 use Rattle.tidword.specs.TidWord.{tid_of}
 use Rattle.tidword.specs.Lawful.{IsLawful, next}
 use Rattle.tidword.proofs.Sequences.{next-exists}
-use Rattle.atomic_table.specs.Seated.{TableId}
 use Rattle.tables.specs.Database.{Database}
 use Rattle.tables.specs.Apply.{after}
 use Rattle.tables.specs.declared.limits.TheConstants.{MAX_COMMITS}
 use Rattle.cells.specs.Versions.{last_tid}
-use Rattle.cells.specs.Records.{PenView, ReaderView, at, words_of}
+use Rattle.cells.specs.Records.{CellsView, PenView, ReaderView, at, words_of}
 use Rattle.cells.specs.declared.cells.Version.{Version}
 use Rattle.cells.proofs.Rising.{last_tid-last}
 use Rattle.readset.specs.Reads.{held}
@@ -30,9 +29,9 @@ use Rattle.book.proofs.Sound.{read_within, next_sound, next_ready}
 pub whole : (n : ℕ) → n % 8 ≡ 0 → tid_of n ≡ n
 whole n even = omega (arith, even)
 
-module _ {past : ℕ} {t0 : Database} {run_cells : List TableId} {epoch : ℕ} {written : PenView} {history : List Entry} {t : Database}
+module _ {past : ℕ} {t0 : Database} {run_cells : CellsView} {epoch : ℕ} {written : PenView} {history : List Entry} {t : Database}
     (sound : IsSound past t0 written history t) (ready : IsReady past t0 run_cells epoch written history t)
-    {reader : ReaderView} {work : Work} (is_work : IsWorkOf t0 (length run_cells) reader work) (latest : AreLatest written.all work.reads)
+    {reader : ReaderView} {work : Work} (is_work : IsWorkOf t0 (length run_cells.narrow) reader work) (latest : AreLatest written.all work.reads)
     (terminal : ℕ) {seen last : ℕ} (is_read : IsRead work.reads seen) (greatest : seen ≡ greatest_tid work.reads) (last_is : last ≡ last_of terminal history) where
   seen_within : IsTidWithin epoch (length history) seen
   seen_within = read_within sound ready is_work latest seen is_read

@@ -1,6 +1,5 @@
 -- The totals of the committed tables.
 use Rattle.std.proofs.Common.{◌≡◌, ℕ, ◌<◌, ◌≤◌, ◌+◌, ◌-◌, List, length, get_or, sym, ap, ◌∙◌, subst, arith}
-use Rattle.atomic_table.specs.Seated.{TableId}
 use Rattle.tables.specs.Database.{Database}
 use Rattle.tables.specs.Apply.{after}
 use Rattle.tables.specs.Conditions.{IsConsistent}
@@ -10,7 +9,7 @@ use Rattle.tables.specs.WellFormed.{IsWellFormed, HasRoom}
 use Rattle.tables.specs.declared.limits.TheConstants.{MAX_COMMITS}
 use Rattle.tables.specs.declared.input.Input.{Input}
 use Rattle.tables.specs.declared.reply.Reply.{Reply}
-use Rattle.cells.specs.Records.{PenView, ReaderView}
+use Rattle.cells.specs.Records.{AreNarrow, CellsView, PenView, ReaderView}
 use Rattle.cells.specs.Versions.{newest, value_in}
 use Rattle.encoding.proofs.Positions.{first_value}
 use Rattle.tables_laws.proofs.Kept.{after-scale, after-IsWellFormed}
@@ -36,9 +35,9 @@ pub held_there : {past : ℕ} {t0 : Database} {pen : PenView} {history : List En
 held_there sound scale n below = value_held sound n (subst (λ s. n < record_count s) scale below)
 
 pub records_there : {past : ℕ} {t0 : Database} {pen : PenView} {history : List Entry} {t : Database} → IsSound past t0 pen history t → t.scale ≡ t0.scale
-    → length pen.cells ≡ record_count t0.scale → AreRecords pen t
+    → AreNarrow (record_count t0.scale) pen.cells → AreRecords pen t
 records_there sound scale count = record {
-  count = count ∙ ap record_count (sym scale);
+  count = (count.0 ∙ ap record_count (sym scale), count.1);
   held = held_there sound scale;
   well_formed = sound.well_formed;
   consistent = sound.consistent;
@@ -47,7 +46,7 @@ records_there sound scale count = record {
 -- those of tables that a run begins with
 pub first_records : (t0 : Database) (made : Records) (terminals : ℕ) → AreUnwritten t0 terminals made → IsWellFormed t0 → IsConsistent t0 → AreRecords made.pen t0
 first_records t0 made terminals are well_formed consistent = record {
-  count = ap length are.cells ∙ are.count;
+  count = subst (AreNarrow (record_count t0.scale)) (sym are.cells) are.count;
   held = λ n below. ap (λ (l : List (List ℕ)). value_in (newest l)) (are.versions n below) ∙ first_value (rows t0 n);
   well_formed = well_formed;
   consistent = consistent;
@@ -78,12 +77,12 @@ pub within : (t : Database) → IsWellFormed t → HasOrdersWithin t
 within t wf = record { orders = wf.orders; new_orders = wf.new_orders }
 
 -- the totals of the committed tables may follow a work that commits
-module _ {past : ℕ} {t0 : Database} {run_cells : List TableId} {epoch : ℕ} {written : PenView} {history : List Entry} {t : Database}
+module _ {past : ℕ} {t0 : Database} {run_cells : CellsView} {epoch : ℕ} {written : PenView} {history : List Entry} {t : Database}
     (sound : IsSound past t0 written history t) (ready : IsReady past t0 run_cells epoch written history t) where
   rest : (n cap : ℕ) → n < cap → cap ≤ MAX_COMMITS → MAX_COMMITS - n ≡ MAX_COMMITS - (n + 1) + 1
   rest n cap h few = omega (arith, h, few)
 
-  pub may_follow : {v : TotalsView} → AreTotals t v → {reader : ReaderView} {work : Work} → IsWorkOf t0 (length run_cells) reader work → AreLatest written.all work.reads → AreInRecordOrder work.reads work.writes
+  pub may_follow : {v : TotalsView} → AreTotals t v → {reader : ReaderView} {work : Work} → IsWorkOf t0 (length run_cells.narrow) reader work → AreLatest written.all work.reads → AreInRecordOrder work.reads work.writes
       → past + length history < t0.scale.commits → MayFollow t work.input work.reply v written work.writes
   may_follow totals {reader = reader} {work = work} is_work latest ordered below =
       let done : CommitsAt t work.input work.writes work.reply = subst (λ s. CommitsAt s work.input work.writes work.reply) sound.legal.end
@@ -91,10 +90,10 @@ module _ {past : ℕ} {t0 : Database} {run_cells : List TableId} {epoch : ℕ} {
       let room = subst (λ n. HasRoom n t) (rest (past + length history) t0.scale.commits below ready.few) ready.room in
       record {
         totals = totals;
-        records = records_there sound ready.of_population.scale (ap length ready.cells ∙ ready.count);
+        records = records_there sound ready.of_population.scale (subst (AreNarrow (record_count t0.scale)) (sym ready.cells) ready.count);
         input = done.input;
         commit = done.commit;
-        ordered = writes_there t0 t (length run_cells) reader work is_work ready.count ready.of_population.scale ordered;
+        ordered = writes_there t0 t (length run_cells.narrow) reader work is_work ready.count.0 ready.of_population.scale ordered;
         leaves = after-IsWellFormed t work.input (MAX_COMMITS - (past + length history + 1)) done.input done.commit.numbered sound.well_formed sound.consistent
             room;
       }

@@ -111,5 +111,5 @@ pub record Commits (old new : BookView) (entry : Entry) : Type 0 where
   pub taken : new.taken ≡ old.taken
   pub marks : new.marks ≡ old.marks
   pub cells : new.written.cells ≡ old.written.cells
-  pub versions : (n : ℕ) → n < length old.written.cells → at new.written.all n ≡ at old.written.all n
+  pub versions : (n : ℕ) → n < length old.written.cells.narrow → at new.written.all n ≡ at old.written.all n
       ++ entry_versions entry n

@@ -1,12 +1,11 @@
 -- What the types of the book, of the engine and of its seats keep, each part by its name.
 use Rattle.std.specs.Prelude.{◌≡◌, ℕ, ◌+◌, ◌<◌, ◌^◌, List, length}
 use Rattle.std.specs.List.{All}
-use Rattle.atomic_table.specs.Seated.{TableId}
 use Rattle.tables.specs.Database.{Database}
 use Rattle.tables.specs.Constant.{IsOf}
 use Rattle.tables.specs.Records.{record_count}
 use Rattle.tables.specs.declared.rows.History.{History}
-use Rattle.cells.specs.Records.{PenView, ReaderView}
+use Rattle.cells.specs.Records.{AreNarrow, CellsView, PenView, ReaderView}
 use Rattle.board.specs.Seats.{BoardView, SeatView, new_seat}
 use Rattle.board.specs.declared.rule.Role.TheVariants.{Terminal}
 use Rattle.totals.specs.Totals.{TotalsView, AreTotals}
@@ -26,7 +25,7 @@ pub record RunView : Type 0 where
   pub first : Database
   pub seed : ℕ
   pub past : ℕ
-  pub cells : List TableId
+  pub cells : CellsView
   pub board : BoardView
   pub parts : ℕ
 
@@ -67,19 +66,19 @@ pub record KeepsBook (run : RunView) (book : BookParts) : Type 0 where
   pub loggable : AreLoggable run.first.scale run.parts book.history
 
 -- what the engine's type keeps of its population, its cells and its board, in a run that is named by these
-pub record IsEngineOf (population first : Database) (cells : List TableId) (board : BoardView) (parts : ℕ)
-    (own_population : Database) (own_cells : List TableId) (own_board : BoardView) : Type 0 where
+pub record IsEngineOf (population first : Database) (cells : CellsView) (board : BoardView) (parts : ℕ)
+    (own_population : Database) (own_cells : CellsView) (own_board : BoardView) : Type 0 where
   pub population_is : own_population ≡ population
   pub of_population : IsOf population first
   pub cells_are : own_cells ≡ cells
-  pub count : length cells ≡ record_count first.scale
+  pub count : AreNarrow (record_count first.scale) cells
   pub board_is : own_board ≡ board
   pub some : 0 < parts
 
 -- what the type of the terminals' seats keeps of those that are left, in a run of these cells, this board and so many
 -- parts: the readers and the seats of the board, the parts and the commits of the share that they have together, and
 -- how many were given
-pub record AreSeatsLeft (cells : List TableId) (board : BoardView) (all_parts : ℕ) (readers : List ReaderView)
+pub record AreSeatsLeft (cells : CellsView) (board : BoardView) (all_parts : ℕ) (readers : List ReaderView)
     (seats : List SeatView) (parts commits given : ℕ) : Type 0 where
   pub own : All (λ reader. reader.cells ≡ cells) readers
   pub new : All (λ seat. seat ≡ new_seat board Terminal) seats

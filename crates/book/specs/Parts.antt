@@ -2,13 +2,12 @@
 use Rattle.std.specs.Prelude.{◌≡◌, ℕ, ◌<◌, ◌≤◌, List, [], ◌∷◌, length, replicate, All}
 use Rattle.std.specs.Option.{option_map_or}
 use Rattle.std.specs.Arc.{arc_value}
-use Rattle.atomic_table.specs.Seated.{TableId}
 use Rattle.tables.specs.Database.{Database, database}
 use Rattle.tables.specs.Records.{record_count}
 use Rattle.tables.specs.Rows.{rows}
 use Rattle.population.specs.Initial.{initial, seed_of}
 use Rattle.cells.specs.First.{first_version}
-use Rattle.cells.specs.Opening.{seen_all}
+use Rattle.cells.specs.Records.{AreNarrow, CellsView, seen_all}
 use Rattle.cells.specs.Records.{at}
 use Rattle.board.specs.Seats.{BoardView}
 use Rattle.board.specs.Opening.{Opens}
@@ -34,7 +33,7 @@ past_of p = p.begun.past
 abbrev pub population_seed : Parts → ℕ
 population_seed p = seed_of (arc_value p.population)
 
-abbrev pub cells_of : Parts → List TableId
+abbrev pub cells_of : Parts → CellsView
 cells_of p = p.fresh.records.cells
 
 abbrev pub board_of : Parts → BoardView
@@ -63,7 +62,7 @@ pub record AreEmpty (loggers mark : ℕ) (streams : List Untaken) : Type 0 where
 -- each record of tables has a cell, whose only version is the one that it begins with, which a reader a terminal has seen
 pub record AreUnwritten (first : Database) (terminals : ℕ) (r : Records) : Type 0 where
   pub cells : r.pen.cells ≡ r.cells
-  pub count : length r.cells ≡ record_count first.scale
+  pub count : AreNarrow (record_count first.scale) r.cells
   pub versions : (n : ℕ) → n < record_count first.scale → at r.pen.all n ≡ first_version (rows first n) ∷ []
   pub readers : All (λ reader. reader ≡ seen_all r.pen) r.readers.items
   pub as_many : length r.readers.items ≡ terminals
@@ -101,7 +100,7 @@ pub record ArePartsOf (population first : Database) (seed past base loggers term
   pub terminals_are : terminals_of p ≡ terminals
 
 -- these parts are fresh, and the run that opens with them is named so
-pub record IsOpenedAs (p : Parts) (population first : Database) (past : ℕ) (cells : List TableId) (board : BoardView)
+pub record IsOpenedAs (p : Parts) (population first : Database) (past : ℕ) (cells : CellsView) (board : BoardView)
     (seed name parts : ℕ) : Type 0 where
   pub fresh : IsFresh p
   pub population_is : population_of p ≡ population

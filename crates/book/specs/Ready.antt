@@ -1,7 +1,6 @@
 -- What the next commit needs of the book: bookkeeping, and what follows from the rest.
 use Rattle.std.specs.Prelude.{◌≡◌, ℕ, ◌+◌, ◌-◌, ◌/◌, ◌%◌, ◌^◌, ◌<◌, ◌≤◌, true, false, IsSome, List, length, slice_index}
 use Rattle.std.specs.List.{All}
-use Rattle.atomic_table.specs.Seated.{TableId}
 use Rattle.tables.specs.Database.{Database}
 use Rattle.tables.specs.Constant.{IsOf}
 use Rattle.tables.specs.WellFormed.{HasRoom}
@@ -9,7 +8,7 @@ use Rattle.tables.specs.declared.limits.TheConstants.{MAX_COMMITS}
 use Rattle.tables.specs.Records.{record_count}
 use Rattle.tidword.specs.TidWord.{is_locked, is_latest, epoch_of}
 use Rattle.cells.specs.Versions.{EndsWith, last_tid, word_in}
-use Rattle.cells.specs.Records.{PenView, at}
+use Rattle.cells.specs.Records.{AreNarrow, CellsView, PenView, at}
 use Rattle.readset.specs.Writes.{value_for}
 use Rattle.book.specs.Stamps.{last_of}
 use Rattle.book.specs.declared.entry.Entry.{Entry}
@@ -33,19 +32,19 @@ pub record IsFree (word : ℕ) : Type 0 where
   pub latest : is_latest word ≡ true
 
 -- what the next commit needs of the book, whose TID is of this epoch or a later one
-pub record IsReady (past : ℕ) (t0 : Database) (run_cells : List TableId) (epoch : ℕ) (written : PenView)
+pub record IsReady (past : ℕ) (t0 : Database) (run_cells : CellsView) (epoch : ℕ) (written : PenView)
     (history : List Entry) (t : Database) : Type 0 where
   pub of_population : IsOf t0 t
   -- the pen is of the run's cells, one a record
   pub cells : written.cells ≡ run_cells
-  pub count : length run_cells ≡ record_count t0.scale
+  pub count : AreNarrow (record_count t0.scale) run_cells
   -- the next commit's TID is to be larger than those before it
   pub passed : All (IsPassed epoch written history) history
   -- there is one: no sequence is larger than the number of commits
-  pub records : (n : ℕ) → n < length run_cells → IsTidWithin epoch (length history) (last_tid (at written.all n))
+  pub records : (n : ℕ) → n < length run_cells.narrow → IsTidWithin epoch (length history) (last_tid (at written.all n))
   pub terminals : (terminal : ℕ) → IsTidWithin epoch (length history) (last_of terminal history)
   -- each record's newest version says that it is the latest, and unlocked
-  pub free : (n : ℕ) → n < length run_cells → (v : List ℕ) → EndsWith (at written.all n) v → IsFree (word_in v)
+  pub free : (n : ℕ) → n < length run_cells.narrow → (v : List ℕ) → EndsWith (at written.all n) v → IsFree (word_in v)
   -- the commit cap isn't passed, and there is room for the commits that are left
   pub cap : past + length history ≤ t0.scale.commits
   pub few : t0.scale.commits ≤ MAX_COMMITS

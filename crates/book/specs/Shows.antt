@@ -26,8 +26,8 @@ shown_cell version = record { word = word_in version; value = value_in version }
 
 -- the machine's records are the newest versions of the cells
 pub record HasNewest (m : Machine) (pen : PenView) : Type 0 where
-  pub count : length m.records ≡ length pen.cells
-  pub newest : (n : ℕ) → n < length pen.cells → (v : List ℕ) → EndsWith (at pen.all n) v
+  pub count : length m.records ≡ length pen.cells.narrow
+  pub newest : (n : ℕ) → n < length pen.cells.narrow → (v : List ℕ) → EndsWith (at pen.all n) v
       → cell m n ≡ shown_cell v
 
 -- a machine shows the book to a terminal that has read this, as its worker w: its records are the book's newest

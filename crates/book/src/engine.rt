@@ -1,4 +1,5 @@
 //! The engine: the cells, which anyone reads, and the book under its lock.
+ghost use Rattle.cells.specs.Records.{AreNarrow};
 ghost use Rattle.std.specs.Prelude.{◌≡◌, ◌+◌, length, IfSome, IfNone};
 ghost use Rattle.population.specs.Initial.{initial};
 ghost use Rattle.tables.specs.Constant.{IsOf};
@@ -143,7 +144,7 @@ impl<K: Run> Engine<K> {
     /// The record cells: one for each record.
     pub fn cells(&self) -> &Cells
         ensures value { result.now ≡ K.cells }
-        ensures count { length result.now ≡ record_count K.first.scale }
+        ensures count { AreNarrow (record_count K.first.scale) result.now }
     {
         &self.cells
     }

@@ -7,7 +7,7 @@ use std::sync::ledger::Ledger;
 /// its record cells, its board of epoch words, and, as a `Ledger`, its terminals' shares.
 pub trait Run: Ledger {
     ghost use Rattle.std.specs.Prelude.{ℕ, List};
-    ghost use Rattle.atomic_table.specs.Seated.{TableId};
+    ghost use Rattle.cells.specs.Records.{CellsView};
     ghost use Rattle.tables.specs.Database.{Database};
     ghost use Rattle.board.specs.Seats.{BoardView};
 
@@ -24,7 +24,7 @@ pub trait Run: Ledger {
     ghost past: { ℕ };
 
     /// The cells of its records, by record number.
-    ghost cells: { List TableId };
+    ghost cells: { CellsView };
 
     /// Its board.
     ghost board: { BoardView };
@@ -44,7 +44,7 @@ impl Run for Brand {
 
     ghost past = { 0 };
 
-    ghost cells = { [] };
+    ghost cells = { record { narrow = []; wide = [] } };
 
     ghost board = { record {
       table = record {

@@ -32,7 +32,7 @@ pub(crate) fn validate<R: Wait>(
     reads: &ReadSet,
 ) -> Option<TidWord>
     requires own { (pen.old.cells ≡ cells.now) × (reader.old.cells ≡ cells.now) }
-    requires read { IsReadBy (length cells.now) reader.old reads.now }
+    requires read { IsReadBy (length cells.now.narrow) reader.old reads.now }
     ensures pen { pen.new ≡ pen.old }
     ensures reader { HasGrown reader.old reader.new }
     ensures latest { MatchOption result (HasConflict pen.old.all reads.now)

@@ -5,11 +5,11 @@ use Rattle.std.proofs.Math.Seq.{map-set_same}
 use Rattle.std.proofs.lemmas.List.{length-replicate, replicate-append-replicate, map-append, length-map}
 use Rattle.cells.specs.declared.cells.Newest.{Newest}
 use Rattle.atomic_table.specs.Seated.{TableId}
-use Rattle.cells.specs.Records.{PenView}
+use Rattle.cells_holders.specs.Records.{PagesPen}
 use Rattle.cells.specs.First.{absent_version, firsts}
-use Rattle.cells.specs.Pages.{IsPaged}
-use Rattle.cells.specs.Opening.{AreFull}
-use Rattle.cells.proofs.Paged.{total, paged_more, stands, stands_within, found, set_in, flat_push}
+use Rattle.cells_holders.specs.Pages.{IsPaged}
+use Rattle.cells_holders.specs.Opening.{AreFull}
+use Rattle.cells_holders.proofs.Paged.{total, paged_more, stands, stands_within, found, set_in, flat_push}
 
 abbrev pub joined : List (List Newest) → List Newest
 joined pages = flat_map (λ page. page) pages
@@ -120,7 +120,7 @@ module _ (page : List Newest) (rest left : List (List Newest)) (is : left ≡ pa
   pub paged_on : IsPaged (map length rest)
   paged_on = rest_paged page rest this
 
-  module _ (w : PenView) (cells : List TableId) (count : length cells ≡ length (firsts page)) where
+  module _ (w : PagesPen) (cells : List TableId) (count : length cells ≡ length (firsts page)) where
     cells_count : length (w.cells ++ cells) ≡ length w.cells + length page
     cells_count = length-append w.cells cells ∙ ap (λ n. length w.cells + n) (count ∙ length-map page _)
 

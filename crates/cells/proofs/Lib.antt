@@ -1,8 +1,5 @@
+mod Halves
 pub mod Rising
-mod Paged
-mod Joined
-mod Stepping
-mod Told
 mod FirstPaged
 pub mod Records
 pub mod Grown

@@ -2,9 +2,10 @@
 use Rattle.std.specs.Prelude.{ℕ, true, false, Option, Some, None, List, [], ◌∷◌, map, replicate}
 use Rattle.money.specs.Payload.{no_payload}
 use Rattle.cells_pages.specs.Versions.{AllVersions}
-use Rattle.cells.specs.Records.{newest_words}
+use Rattle.cells.specs.Records.{newest_words, wide_newest_words}
 use Rattle.tidword.specs.TidWord.{tid_word}
 use Rattle.cells.specs.declared.cells.Newest.{Newest}
+use Rattle.cells.specs.declared.wide.WideNewest.{WideNewest}
 
 -- the TID word of a record that is there: epoch 0, sequence 0, latest. Of one that isn't: absent too
 abbrev pub populated_word : ℕ
@@ -30,3 +31,6 @@ page_versions count (version ∷ versions) = version ∷ versions
 -- these versions, each the only one of its record
 abbrev pub firsts : List Newest → AllVersions
 firsts newest = map (λ v. newest_words v ∷ []) newest
+
+abbrev pub wide_firsts : List WideNewest → AllVersions
+wide_firsts newest = map (λ v. wide_newest_words v ∷ []) newest

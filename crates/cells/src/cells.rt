@@ -1,32 +1,17 @@
 //! The cells of all records.
-ghost use Rattle.std.specs.Prelude.{◌≡◌, ◌≢◌, ◌<◌, Some, List, [], ◌∷◌, ◌++◌, length, slice_get, MatchBool};
-ghost use Rattle.std.specs.Prelude.{OnOk, OnErr, IfErr, is_some};
-ghost use Rattle.money.specs.declared.refusal.Refusal.TheVariants.{OutOfMemory};
+ghost use Rattle.std.specs.Prelude.{◌≡◌, ◌≢◌, ◌<◌, ◌≤◌, Some, [], ◌∷◌, length, slice_get, MatchBool, is_some};
 ghost use Rattle.atomic_table.specs.Seated.{TableId};
 ghost use Rattle.tidword.specs.TidWord.{tid_of};
-ghost use Rattle.cells.specs.Versions.{EndsWith, Has, last_tid, value_in};
-ghost use Rattle.cells.specs.Records.{at, newest_words, held_by, StoresVersion, LoadsRecord, LearnsRecord};
-ghost use Rattle.cells.specs.Pages.{ids_of};
-ghost use Rattle.cells.specs.Opening.{AreFull, IsNext};
+ghost use Rattle.cells.specs.Versions.{EndsWith, Has, last_tid, newest, value_in, word_in};
+ghost use Rattle.cells.specs.Records.{at, cell_count, newest_words, held_by, StoresVersion, LoadsRecord, LearnsRecord};
 
-use crate::holders::{PenOf, ReaderOf};
-use cells_pages::{PAGE_RECORDS, Page, PageWords};
-use money::{PAYLOAD_WORDS, Payload, Refusal};
-use std::alloc::Global;
+use crate::both::{CELL_WORDS, Pen, Reader, WIDE_WORDS};
+use cells_holders::PageList;
+use cells_pages::PageWords;
+use money::Payload;
 use std::marker::Model;
 use std::sync::Wait;
 use tidword::TidWord;
-
-/// How many words a version has: its TID word, and its data.
-pub(crate) const CELL_WORDS: usize = 1 + PAYLOAD_WORDS;
-
-/// The right to store versions, of which there is one. Contracts see what it knows of each record, by record
-/// number: its cell, and all its versions (`PenView`). It has no bytes of its own a record.
-pub type Pen = PenOf<CELL_WORDS>;
-
-/// The right to read. Contracts see what it knows of each record, by record number: its cell, which first ones of
-/// its versions this reader has seen, and how often it has loaded (`ReaderView`). It has no bytes of its own a record.
-pub type Reader = ReaderOf<CELL_WORDS>;
 
 /// A version of a record: its record number, its TID word, and its data.
 #[derive(Clone, Copy, Debug, PartialEq, Eq)]
@@ -58,96 +43,83 @@ impl Newest {
     }
 }
 
-/// Pages of records of `N` words, one after another. Contracts see which page each record has.
-#[derive(Drop)]
-pub(crate) struct PageList<const N: usize> {
-    pub(crate) pages: Vec<Page<N>>,
-}
-
-impl<const N: usize> Model for PageList<N> {
-    ghost use Rattle.std.specs.Prelude.{List, map};
-    ghost use Rattle.std.specs.List.{flat_map};
-    ghost use Rattle.atomic_table.specs.Seated.{TableId};
-    ghost use Rattle.cells.specs.Pages.{ids_of, size_of, IsPaged};
-
-    ghost Value = { List TableId };
-
-    ghost view = { λ l. flat_map (λ page. ids_of N page.shared.table_id) l.pages.items };
-
-    ghost invariant = { λ l. IsPaged (map (λ page. size_of N page.shared.table_id) l.pages.items) };
-}
-
-impl<const N: usize> PageList<N> {
-    /// No page.
-    pub(crate) fn new(alloc: Global) -> PageList<N>
-        ensures { result ≡ [] }
-    {
-        PageList {
-            pages: Vec::new(alloc),
-        }
-    }
-
-    /// Adds a page at the end.
-    pub(crate) fn push(&mut self, page: Page<N>) -> Result<(), Refusal>
-        requires { AreFull self.old × IsNext N page.shared.table_id }
-        ensures ok { OnOk result (self.new ≡ self.old ++ ids_of N page.entry.shared.table_id) }
-        ensures err { OnErr result (self.new ≡ self.old) }
-        ensures memory { IfErr result (λ e. e ≡ OutOfMemory) }
-    {
-        self.pages.push(page)?;
-        Ok(())
-    }
-
-    // The page of a record.
-    fn page(&self, number: usize) -> &PageWords<N>
-        requires { number < length self.now }
-        ensures { slice_get self.now number ≡ Some result.now.table_id }
-    {
-        &self.pages[number / PAGE_RECORDS].shared
-    }
-}
-
-/// The cells of all records. Contracts see which cells they are, by record number.
+/// The cells of all records. Contracts see which cells they are: those of the narrow records, which hold the words of a
+/// row, by record number, and those of the wide ones behind them, which hold the words of a customer's text.
 #[derive(Drop)]
 pub struct Cells {
-    list: PageList<CELL_WORDS>,
+    narrow: PageList<CELL_WORDS>,
+    wide: PageList<WIDE_WORDS>,
+    first_wide: usize,
     count: usize,
 }
 
 impl Model for Cells {
-    ghost Value = { List TableId };
+    ghost use Rattle.std.specs.Prelude.{◌≡◌, length};
+    ghost use Rattle.cells.specs.Records.{CellsView, cell_count};
 
-    ghost view = { λ c. c.list };
+    ghost Value = { CellsView };
 
-    ghost invariant = { λ c. c.count ≡ length c.list };
+    ghost view = { λ c. record { narrow = c.narrow; wide = c.wide } };
+
+    ghost invariant = { λ c. (c.first_wide ≡ length c.narrow)
+        × (c.count ≡ cell_count (record { narrow = c.narrow; wide = c.wide })) };
 }
 
 impl Cells {
+    ghost use Rattle.std.specs.Prelude.{◌+◌};
     ghost use Rattle.cells.specs.Records.{words_of};
 
-    // The cells of a list, by record number, of which there are so many.
-    pub(crate) fn of_list(list: PageList<CELL_WORDS>, count: usize) -> Cells
-        requires { count ≡ length list }
-        ensures { result ≡ list }
+    // The cells of these lists, of which there are so many narrow ones, and so many in all.
+    pub(crate) fn of_lists(
+        narrow: PageList<CELL_WORDS>,
+        wide: PageList<WIDE_WORDS>,
+        first_wide: usize,
+        count: usize,
+    ) -> Cells
+        requires first { first_wide ≡ length narrow }
+        requires count { count ≡ length narrow + length wide }
+        ensures { result ≡ record { narrow = narrow; wide = wide } }
     {
-        Cells { list, count }
+        Cells {
+            narrow,
+            wide,
+            first_wide,
+            count,
+        }
     }
 
-    // The page of a record.
+    // The page of a narrow record.
     fn page(&self, number: u32) -> &PageWords<CELL_WORDS>
-        requires { number < length self.now }
-        ensures { slice_get self.now number ≡ Some result.now.table_id }
+        requires { number < length self.now.narrow }
+        ensures { slice_get self.now.narrow number ≡ Some result.now.table_id }
     {
-        self.list.page(number as usize)
+        self.narrow.page(number as usize)
     }
 
-    /// The latest version of a record, whose words are all of one version: never a mix of two (Silo, section 4.5).
+    // The place of a wide record among these.
+    pub(crate) fn place(&self, number: u32) -> usize
+        requires { (length self.now.narrow ≤ number) × (number < cell_count self.now) }
+        ensures place { length self.now.narrow + result ≡ number }
+        ensures within { result < length self.now.wide }
+    {
+        number as usize - self.first_wide
+    }
+
+    // The page of the wide record at a place.
+    pub(crate) fn wide_page(&self, place: usize) -> &PageWords<WIDE_WORDS>
+        requires { place < length self.now.wide }
+        ensures { slice_get self.now.wide place ≡ Some result.now.table_id }
+    {
+        self.wide.page(place)
+    }
+
+    /// The latest version of a narrow record, whose words are all of one version: never a mix of two (Silo, section 4.5).
     ///
     /// One load step, which takes effect between the call and the return. It tries again only where a version is
     /// being stored in this record, or has been since it began. Takes no lock and no memory.
     pub fn read<R: Wait>(&self, rt: &R, reader: &mut Reader, number: u32) -> Version
         requires own { reader.old.cells ≡ self.now }
-        requires is_record { number < length self.now }
+        requires is_record { number < length self.now.narrow }
         ensures reads { LoadsRecord reader.old reader.new number (words_of result) }
         ensures record { result.record ≡ number }
     {
@@ -160,7 +132,7 @@ impl Cells {
         }
     }
 
-    /// Makes a version the latest of its record: its TID is larger than that of the latest so far. Readers see all
+    /// Makes a version the latest of its record, a narrow one: its TID is larger than that of the latest so far. Readers see all
     /// of it or nothing of it. Takes no memory. Constant time: it never waits, and stores only words that change.
     pub fn store<R: Wait>(
         &self,
@@ -171,7 +143,7 @@ impl Cells {
         payload: Payload,
     )
         requires own { pen.old.cells ≡ self.now }
-        requires is_record { number < length self.now }
+        requires is_record { number < length self.now.narrow }
         requires larger { last_tid (at pen.old.all number) < tid_of word }
         ensures { StoresVersion pen.old pen.new number (word ∷ payload) }
     {
@@ -186,42 +158,65 @@ impl Cells {
     /// never waits.
     pub fn meet<R: Wait>(
         &self,
-        _rt: &R,
+        rt: &R,
         pen: &mut Pen,
         reader: &mut Reader,
         version: &Version,
     ) -> bool
         requires own { (pen.old.cells ≡ self.now) × (reader.old.cells ≡ self.now) }
-        requires is_record { version.now.record < length self.now }
+        requires is_record { version.now.record < cell_count self.now }
         requires seen { Has (at reader.old.seen version.now.record) (words_of version.now) }
         ensures pen { pen.new ≡ pen.old }
         ensures reader { LearnsRecord pen.old reader.old reader.new version.now.record }
         ensures latest { MatchBool result (EndsWith (at pen.old.all version.now.record) (words_of version.now))
             (tid_of version.now.word ≢ last_tid (at pen.old.all version.now.record)) }
     {
-        let page = self.page(version.record);
-        let latest = pen.meet(page, version.record as usize, reader);
-        TidWord::new(latest).tid() == version.word.tid()
+        let latest = self.learn(rt, pen, reader, version.record);
+        latest.tid() == version.word.tid()
     }
 
-    /// Lets a reader see all versions of a record, as one that has just stored the last of them. Takes no memory.
-    /// Constant time: four loads, and it never waits.
-    pub fn learn<R: Wait>(&self, _rt: &R, pen: &mut Pen, reader: &mut Reader, number: u32)
+    /// Lets a reader see all versions of a record, as one that has just stored the last of them, and gives that one's TID
+    /// word. Takes no memory. Constant time: four loads, and it never waits.
+    pub fn learn<R: Wait>(
+        &self,
+        _rt: &R,
+        pen: &mut Pen,
+        reader: &mut Reader,
+        number: u32,
+    ) -> TidWord
         requires own { (pen.old.cells ≡ self.now) × (reader.old.cells ≡ self.now) }
-        requires is_record { number < length self.now }
+        requires is_record { number < cell_count self.now }
         ensures pen { pen.new ≡ pen.old }
         ensures reader { LearnsRecord pen.old reader.old reader.new number }
+        ensures some { at pen.old.all number ≢ [] }
+        ensures newest { result ≡ word_in (newest (at pen.old.all number)) }
     {
-        pen.meet(self.page(number), number as usize, reader);
+        if self.first_wide <= number as usize {
+            return self.learn_wide(pen, reader, number);
+        }
+        TidWord::new(pen.meet(self.page(number), number as usize, reader))
     }
 
-    /// What a record holds by its newest version: its data, or nothing where it is absent. Only the pen knows that:
+    // The same for a wide record.
+    fn learn_wide(&self, pen: &mut Pen, reader: &mut Reader, number: u32) -> TidWord
+        requires own { (pen.old.cells ≡ self.now) × (reader.old.cells ≡ self.now) }
+        requires is_record { (length self.now.narrow ≤ number) × (number < cell_count self.now) }
+        ensures pen { pen.new ≡ pen.old }
+        ensures reader { LearnsRecord pen.old reader.old reader.new number }
+        ensures some { at pen.old.all number ≢ [] }
+        ensures newest { result ≡ word_in (newest (at pen.old.all number)) }
+    {
+        let place = self.place(number);
+        TidWord::new(pen.meet_wide(self.wide_page(place), place, reader))
+    }
+
+    /// What a narrow record holds by its newest version: its data, or nothing where it is absent. Only the pen knows that:
     /// nobody else stores. Takes no memory. Constant time: one load where the record is absent,
     /// else one for each word and one more, and it never waits.
     #[inline(always)]
     pub fn held(&self, pen: &mut Pen, number: u32) -> Option<Payload>
         requires own { pen.old.cells ≡ self.now }
-        requires is_record { number < length self.now }
+        requires is_record { number < length self.now.narrow }
         ensures pen { pen.new ≡ pen.old }
         ensures held { result ≡ held_by pen.old number }
     {
@@ -236,28 +231,40 @@ impl Cells {
     #[inline(always)]
     pub fn is_present(&self, pen: &mut Pen, number: u32) -> bool
         requires own { pen.old.cells ≡ self.now }
-        requires is_record { number < length self.now }
+        requires is_record { number < cell_count self.now }
         ensures pen { pen.new ≡ pen.old }
         ensures present { result ≡ is_some (held_by pen.old number) }
     {
+        if self.first_wide <= number as usize {
+            return self.is_wide_present(pen, number);
+        }
         let word = TidWord::new(pen.head(self.page(number), number as usize));
         !word.is_absent()
     }
 
+    // The same for a wide record.
+    fn is_wide_present(&self, pen: &mut Pen, number: u32) -> bool
+        requires own { pen.old.cells ≡ self.now }
+        requires is_record { (length self.now.narrow ≤ number) × (number < cell_count self.now) }
+        ensures pen { pen.new ≡ pen.old }
+        ensures present { result ≡ is_some (held_by pen.old number) }
+    {
+        let place = self.place(number);
+        !TidWord::new(pen.head_wide(self.wide_page(place), place)).is_absent()
+    }
+
     /// How many records there are.
     pub fn len(&self) -> usize
-        ensures { result ≡ length self.now }
+        ensures { result ≡ cell_count self.now }
     {
         self.count
     }
-}
 
-impl PenOf<CELL_WORDS> {
-    /// The pen knows the versions of the records that have cells, and of no others: a law. The function does nothing.
-    pub fn knows_its_cells(&self)
-        ensures { length self.now.all ≡ length self.now.cells }
+    /// How many of them are narrow: the number of the first wide one, where there is one.
+    pub fn first_wide(&self) -> usize
+        ensures { result ≡ length self.now.narrow }
     {
-        let _seats = &self.seats;
+        self.first_wide
     }
 }
 

@@ -4,7 +4,7 @@ ghost use Rattle.std.specs.Prelude.{◌≡◌, ◌*◌, ◌<◌, ◌≤◌, IsTr
 ghost use Rattle.std.specs.Prelude.{slice_index_or, slice_set, OnOk, OnErr, IfOk};
 ghost use Rattle.std.specs.List.{flat_map};
 ghost use Rattle.cells.specs.First.{absent_version, page_versions};
-ghost use Rattle.cells.specs.Pages.{IsPaged};
+ghost use Rattle.cells_holders.specs.Pages.{IsPaged};
 
 use crate::cells::Newest;
 use cells_pages::PAGE_RECORDS;
@@ -116,7 +116,7 @@ pub struct FirstVersions {
 impl Model for FirstVersions {
     ghost use Rattle.std.specs.Prelude.{◌≡◌, List, map, length};
     ghost use Rattle.std.specs.List.{flat_map};
-    ghost use Rattle.cells.specs.Pages.{IsPaged};
+    ghost use Rattle.cells_holders.specs.Pages.{IsPaged};
     ghost use Rattle.cells.specs.declared.cells.Newest.{Newest as Version};
 
     ghost Value = { List Version };

@@ -2,11 +2,14 @@
 //! which the holder of the pen changes (Silo, sections 4.2, 4.3 and 4.5).
 #![tactic(auto)]
 
+mod both;
 mod cells;
 mod first;
-mod holders;
-mod opening;
 mod populate;
+mod wide;
+mod wide_opening;
 
-pub use cells::{Cells, Newest, Pen, Reader, Version};
+pub use both::{Pen, Reader};
+pub use cells::{Cells, Newest, Version};
 pub use first::FirstVersions;
+pub use wide::{WideNewest, WideVersion};

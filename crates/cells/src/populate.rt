@@ -1,44 +1,103 @@
 //! The cells that a run begins with.
-ghost use Rattle.std.specs.Prelude.{◌≡◌, ◌*◌, ◌<◌, ◌≤◌, All, List, length, replicate, OnOk, IfOk, IfErr};
+ghost use Rattle.std.specs.Prelude.{◌≡◌, ◌*◌, ◌<◌, ◌≤◌, ◌++◌, All, List, length, replicate, OnOk, IfOk, IfErr};
 ghost use Rattle.money.specs.declared.refusal.Refusal.TheVariants.{OutOfMemory};
 ghost use Rattle.atomic_table.specs.Seated.{TableId};
 ghost use Rattle.cells_pages.specs.Rule.{first_versions};
-ghost use Rattle.cells.specs.Opening.{seen_all, opened_with, AreFull};
+ghost use Rattle.cells_holders.specs.Opening.{seen_all, opened_with, AreFull};
+ghost use Rattle.cells_holders.specs.Records.{PagesPen};
+ghost use Rattle.cells.specs.Records.{both_pens};
 ghost use Rattle.cells.specs.First.{absent_version, firsts};
 
-use crate::cells::{CELL_WORDS, Cells, Newest, Pen, Reader, words};
+use crate::both::{CELL_WORDS, Pen, Reader, WIDE_WORDS};
+use crate::cells::{Cells, Newest, words};
 use crate::first::{FirstPage, FirstVersions};
-use crate::opening::OpeningOf;
+use crate::wide::WideNewest;
+use crate::wide_opening::open_wide;
+use cells_holders::{OpeningOf, ReaderOf};
 use cells_pages::PAGE_RECORDS;
 use money::Refusal;
 use std::alloc::Global;
 use std::sync::Wait;
 
 impl Cells {
-    /// A cell for each of these versions, in their order, with the pen and this many readers. Each reader has seen
-    /// the version. Costs a step a cell, and a step a reader and page of 4,096 cells. The versions are spent a page at
-    /// a time: a page's memory is given back before its cells take theirs.
+    ghost use Rattle.cells.specs.First.{wide_firsts};
+
+    /// A cell for each of these versions of narrow records, in their order, with the pen and this many readers. Each
+    /// reader has seen the version. Costs a step a cell, and a step a reader and page of 4,096 cells. The versions are
+    /// spent a page at a time: a page's memory is given back before its cells take theirs.
     ///
     /// # Errors
     ///
     /// `OutOfMemory`, and no other.
     pub fn new<R: Wait>(
-        _rt: &R,
+        rt: &R,
         alloc: Global,
         first: FirstVersions,
         readers: usize,
     ) -> Result<(Cells, Pen, Vec<Reader>), Refusal>
-        ensures cells { IfOk result (λ made. length made.0 ≡ length first) }
+        ensures cells { IfOk result (λ made. (length made.0.narrow ≡ length first) × (length made.0.wide ≡ 0)) }
         ensures pen { IfOk result (λ made. made.1 ≡ record { cells = made.0; all = firsts first }) }
         ensures readers { IfOk result (λ made. (length made.2.items ≡ readers)
             × All (λ reader. reader ≡ seen_all made.1) made.2.items) }
         ensures only_memory { IfErr result (λ refusal. refusal ≡ OutOfMemory) }
     {
-        let count = first.len();
-        let opening = open_all(alloc, first, readers)?;
-        let (list, pen, readers) = opening.finish();
-        Ok((Cells::of_list(list, count), pen, readers))
+        Cells::with_wide(rt, alloc, first, &[], readers)
     }
+
+    /// The same, with a cell for each of these versions of wide records behind those of the narrow ones.
+    ///
+    /// # Errors
+    ///
+    /// `OutOfMemory`, and no other.
+    pub fn with_wide<R: Wait>(
+        _rt: &R,
+        alloc: Global,
+        first: FirstVersions,
+        wide: &[WideNewest],
+        readers: usize,
+    ) -> Result<(Cells, Pen, Vec<Reader>), Refusal>
+        ensures cells { IfOk result (λ made. (length made.0.narrow ≡ length first)
+            × (length made.0.wide ≡ length wide.now)) }
+        ensures pen { IfOk result (λ made. made.1
+            ≡ record { cells = made.0; all = firsts first ++ wide_firsts wide.now }) }
+        ensures readers { IfOk result (λ made. (length made.2.items ≡ readers)
+            × All (λ reader. reader ≡ seen_all made.1) made.2.items) }
+        ensures only_memory { IfErr result (λ refusal. refusal ≡ OutOfMemory) }
+    {
+        let first_wide = first.len();
+        let count = first_wide
+            .checked_add(wide.len())
+            .ok_or(Refusal::OutOfMemory)?;
+        let (list, pen, narrow) = open_all(alloc, first, readers)?.finish();
+        let (wide_list, wide_pen, wide) = open_wide(alloc, wide, readers)?.finish();
+        let readers = paired(alloc, narrow, wide)?;
+        let cells = Cells::of_lists(list, wide_list, first_wide, count);
+        Ok((cells, Pen::of(pen, wide_pen), readers))
+    }
+}
+
+// The readers of all records: each of one of the narrow ones and one of the wide ones.
+fn paired(
+    alloc: Global,
+    narrow: Vec<ReaderOf<CELL_WORDS>>,
+    wide: Vec<ReaderOf<WIDE_WORDS>>,
+) -> Result<Vec<Reader>, Refusal>
+    requires { length narrow.items ≡ length wide.items }
+    ensures count { IfOk result (λ readers. length readers.items ≡ length narrow.items) }
+    ensures seen { (a : PagesPen) → (b : PagesPen) → All (λ r. r ≡ seen_all a) narrow.items
+        → All (λ r. r ≡ seen_all b) wide.items
+        → IfOk result (λ readers. All (λ r. r ≡ seen_all (both_pens a b)) readers.items) }
+    ensures memory { IfErr result (λ refusal. refusal ≡ OutOfMemory) }
+{
+    let (mut narrow, mut wide) = (narrow, wide);
+    let mut readers = Vec::new(alloc);
+    while let Some(reader) = narrow.pop() {
+        let Some(wide) = wide.pop() else {
+            unreachable!()
+        };
+        readers.push(Reader::of(reader, wide))?;
+    }
+    Ok(readers)
 }
 
 // The pages, in the order of the versions.

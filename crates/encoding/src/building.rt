@@ -37,7 +37,7 @@ pub fn tables_of(
     added: &[History],
 ) -> Result<Tables, Refusal>
     requires own { pen.old.cells ≡ cells.now }
-    requires count { row_count (initial population.now).scale ≤ length cells.now }
+    requires count { row_count (initial population.now).scale ≤ length cells.now.narrow }
     requires lawful { AreLawful (initial population.now).scale (held_by pen.old) }
     ensures pen { pen.new ≡ pen.old }
     ensures tables { IfOk result (λ tables. AreTables (initial population.now)
@@ -83,7 +83,7 @@ fn put_rows(
     requires population { IsWellFormed (database population.now) }
     requires lawful_scale { IsScale (database population.now).scale }
     requires none { AreTables (database population.now) (λ key. None) (database tables.old) }
-    requires count { row_count (database population.now).scale ≤ length cells.now }
+    requires count { row_count (database population.now).scale ≤ length cells.now.narrow }
     requires lawful { AreLawful (database population.now).scale (held_by pen.old) }
     ensures pen { pen.new ≡ pen.old }
     ensures tables { OnOk result (AreTables (database population.now)

@@ -1,8 +1,9 @@
 -- How the lines that a desk answers add up.
-use Rattle.std.proofs.Common.{◌≡◌, ℕ, ◌+◌, ◌≤◌, false, eqb, cond, Option, Some, List, [], ◌∷◌, ◌++◌, length, length-append, append_assoc, append-nil, add-zero}
+use Rattle.std.proofs.Common.{◌≡◌, ◌≢◌, ℕ, ◌+◌, ◌≤◌, false, eqb, cond, Option, Some, List, [], ◌∷◌, ◌++◌, length, length-append, append_assoc, append-nil, add-zero}
 use Rattle.std.proofs.Common.{codes, refl, sym, ap, ◌∙◌, subst, arith}
 use Rattle.std.proofs.lemmas.Bool.Decides.{nat_tests}
 use Rattle.std.proofs.lemmas.List.{flat_map_more, length_push}
+use Rattle.std.proofs.lemmas.List.Elements.{All-nil}
 use Rattle.std.specs.List.{AllByRecursion, flat_map}
 use Rattle.std.specs.Prelude.{Result, Err, IsErrOf, ◌⊎◌}
 use Rattle.std.proofs.Common.{inl, inr}
@@ -18,6 +19,20 @@ use Rattle.program_script.specs.Turns.{State, Turn, IsLineTurn, AreTurns}
 use Rattle.program_script.specs.Written.{first_state, answers_text, HasTooManyLines}
 use Rattle.program_script.specs.Answered.{state_of, Standing, HasAnswered, HasAnsweredAll, HasTooMany}
 use Rattle.program_script.proofs.TurnLemmas.{held_some}
+
+-- at first no line is answered
+pub none_answered : (tables : Database) (d : Standing) → d.session ≡ record { history = []; dones = [] } → d.line ≡ Some [] → d.answered ≡ 0
+    → d.output ≡ [] → HasAnswered tables [] [] d
+none_answered tables d session line answered output = record {
+  lines = [];
+  rest = [];
+  answers = [];
+  cut = record { whole = refl; each = tt; last = All-nil (λ b. b ≢ 10) };
+  line_is = line;
+  turns = (refl, ap (state_of tables) session);
+  count = answered;
+  output_is = sym output;
+}
 
 -- one more line
 pub turns_more : (s : State) (n : ℕ) (lines : List (List ℕ)) (answers : List Answer) (mid : State) (line : List ℕ) (turn : Turn)

@@ -33,7 +33,7 @@ some_is o x is = ap is_some is
 
 -- after a load
 pub loaded_under_way : (start old new : ReaderView) (cells : ℕ) (reads more : ReadSetView) (writes : WriteSetView)
-    → IsUnderWay start old (record { reads = reads; writes = writes }) → cells ≡ length start.cells
+    → IsUnderWay start old (record { reads = reads; writes = writes }) → cells ≡ length start.cells.narrow
     → ((first : ReaderView) → AreRead first old reads → AreRead first new more) → ((first : ReaderView) → HasGrown first old → HasGrown first new)
     → (AreWithin cells reads → AreWithin cells more) → Keeps reads more
     → IsUnderWay start new (record { reads = more; writes = writes })
@@ -79,7 +79,7 @@ executed t0 x start now reads writes told h none within explains few_reads few_w
     reads_limit = few_reads;
     writes_limit = few_writes;
     reads_cells = h.within;
-    writes_cells = written_within writes reads (length start.cells) h.writes_read h.within;
+    writes_cells = written_within writes reads (length start.cells.narrow) h.writes_read h.within;
     writes_read = h.writes_read;
   };
   grown = h.grown;

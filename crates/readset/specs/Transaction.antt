@@ -21,7 +21,7 @@ pub record TransactionView : Type 0 where
 pub record IsUnderWay (start now : ReaderView) (x : TransactionView) : Type 0 where
   pub read : AreRead start now x.reads
   pub grown : HasGrown start now
-  pub within : AreWithin (length start.cells) x.reads
+  pub within : AreWithin (length start.cells.narrow) x.reads
   pub writes_read : WritesAreRead x.writes x.reads
 
 -- a step that reads at most so many records more, and writes none
@@ -60,6 +60,6 @@ pub record IsExecuted (t0 : Database) (x : Input) (old new : ReaderView) (result
   pub within_cap : IfOk result (λ work. ¬ IsAboveCap t0.scale x work.reads)
   pub read : IfOk result (λ work. AreRead old new work.reads)
   pub explains : IfOk result (λ work. Explains t0 x work.reads work.writes work.reply)
-  pub limits : IfOk result (λ work. IsWithinLimits (length old.cells) work.reads work.writes)
+  pub limits : IfOk result (λ work. IsWithinLimits (length old.cells.narrow) work.reads work.writes)
   pub grown : HasGrown old new
   pub refused : IfErr result (IsRefusal t0 x old new)

@@ -76,7 +76,7 @@ impl ReadSet {
         number: u32,
     ) -> Result<Version, Refusal>
         requires own { reader.old.cells ≡ cells.now }
-        requires is_record { number < length cells.now }
+        requires is_record { number < length cells.now.narrow }
         ensures held { (v : Version) → held self.old number ≡ Some v → (result ≡ Ok v)
             × (self.new ≡ self.old) × (reader.new ≡ reader.old) }
         ensures read { held self.old number ≡ None
@@ -86,7 +86,7 @@ impl ReadSet {
         ensures others { (n : ℕ) → n ≢ number → held self.new n ≡ held self.old n }
         ensures limit { length self.new ≤ length self.old + 1 }
         ensures keeps { Keeps self.old self.new }
-        ensures within { AreWithin (length cells.now) self.old → AreWithin (length cells.now) self.new }
+        ensures within { AreWithin (length cells.now.narrow) self.old → AreWithin (length cells.now.narrow) self.new }
         ensures kept { OnErr result (self.new ≡ self.old) }
         ensures unread { OnErr result (reader.new ≡ reader.old) }
         ensures chain { (first : ReaderView) → AreRead first reader.old self.old
@@ -137,7 +137,7 @@ fn load<R: Wait>(
     number: u32,
 ) -> Result<Version, Refusal>
     requires own { reader.old.cells ≡ cells.now }
-    requires is_record { number < length cells.now }
+    requires is_record { number < length cells.now.narrow }
     requires at { place (arrived versions.old) number ≡ Err at }
     ensures read { IfOk result (λ v. LoadsRecord reader.old reader.new number (words_of v)
         × (v.record ≡ number)) }

@@ -45,7 +45,7 @@ impl Start for Brand {
 
     ghost tables = { empty_database (sizes 1 1 10 20 10 1) };
 
-    ghost reader = { record { cells = []; seen = []; loads = [] } };
+    ghost reader = { record { cells = record { narrow = []; wide = [] }; seen = []; loads = [] } };
 }
 
 /// A transaction that reads records, each at most once, and says what they are to hold (Silo, section 4.4). Contracts
@@ -71,7 +71,7 @@ impl<'a, K: Start> Model for Transaction<'a, K> {
     ghost view = { λ x. record { reads = x.reads; writes = x.writes } };
 
     ghost invariant = { λ x. (initial x.population.now ≡ K.tables) × (x.cells.now ≡ K.reader.cells)
-        × (length x.cells.now ≡ record_count K.tables.scale)
+        × (length x.cells.now.narrow ≡ record_count K.tables.scale)
         × IsUnderWay K.reader x.reader (record { reads = x.reads; writes = x.writes }) };
 }
 
@@ -86,7 +86,7 @@ impl<'a, K: Start> Transaction<'a, K> {
         requires tables { initial population.now ≡ K.tables }
         requires reader { reader ≡ K.reader }
         requires own { reader.cells ≡ cells.now }
-        requires cells { length cells.now ≡ record_count K.tables.scale }
+        requires cells { length cells.now.narrow ≡ record_count K.tables.scale }
         ensures { result ≡ record { reads = []; writes = no_writes } }
     {
         Transaction {

@@ -123,7 +123,7 @@ struct Standing {
 
 fn standing_of<K: Run, R: Wait>(rt: &R, engine: &Engine<K>, reader: &mut Reader) -> Standing
     requires reader { reader.old.cells ≡ K.cells }
-    requires count { length K.cells ≡ 1085 }
+    requires count { length K.cells.narrow ≡ 1085 }
     ensures reader { reader.new.cells ≡ K.cells }
 {
     let cells = engine.cells();
@@ -201,7 +201,7 @@ fn commit_both<K: Run, R: Wait>(
     third: Executed<K>,
     fourth: Executed<K>,
 ) -> Commits
-    requires count { length K.cells ≡ 1085 }
+    requires count { length K.cells.narrow ≡ 1085 }
 {
     let (mut left, _, first) = commit_executed(rt, engine, third);
     let before = standing_of(rt, engine, &mut left.reader);
@@ -246,7 +246,7 @@ fn outcome_of<K: Run + Send + Sync, R: Threads + Wait + Clock + Sync>(
     left: Seat<K>,
     right: Seat<K>,
 ) -> Result<Outcome, Fail>
-    requires count { length K.cells ≡ 1085 }
+    requires count { length K.cells.narrow ≡ 1085 }
     requires left { left.reader.cells ≡ K.cells }
     requires right { right.reader.cells ≡ K.cells }
 {
@@ -270,7 +270,7 @@ fn pay_twice<K: Run + Send + Sync, R: Threads + Wait + Clock + Sync>(
     parts: Parts,
 ) -> Result<Outcome, Fail>
     requires run { IsOpenedAs parts K.population K.first K.past K.cells K.board K.seed K.name K.parts }
-    requires cells { length (cells_of parts) ≡ 1085 }
+    requires cells { length (cells_of parts).narrow ≡ 1085 }
 {
     let (engine, mut seats) = Engine::<K>::open(parts);
     let (left, right) = both_of(&mut seats.terminals).ok_or("seats")?;

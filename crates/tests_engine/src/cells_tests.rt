@@ -24,7 +24,7 @@ fn populated(record: u32, payload: Payload) -> Version {
 /// The versions of the warehouse, the first district and its third customer.
 fn read_three<R: Wait>(rt: &R, cells: &Cells, reader: &mut Reader) -> [Version; 3]
     requires own { reader.old.cells ≡ cells.now }
-    requires count { length cells.now ≡ 1085 }
+    requires count { length cells.now.narrow ≡ 1085 }
     ensures { reader.new.cells ≡ cells.now }
 {
     let warehouse = cells.read(rt, reader, 0);
@@ -48,7 +48,7 @@ fn answers<R: Wait>(
 ) -> Met
     requires pen { pen.old.cells ≡ cells.now }
     requires reader { reader.old.cells ≡ cells.now }
-    requires record { number < length cells.now }
+    requires record { number < length cells.now.narrow }
     requires larger { last_tid (at pen.old.all number) < tid_of word }
 {
     let old = cells.read(rt, reader, number);

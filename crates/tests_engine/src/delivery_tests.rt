@@ -94,7 +94,7 @@ fn seen_of(work: &Work) -> Seen {
 }
 
 fn deliver_at<R: Wait>(rt: &R, alloc: Global, stage: &mut Stage) -> Result<Seen, Refusal>
-    requires scale { length stage.old.cells ≡ record_count (initial stage.old.population).scale }
+    requires scale { length stage.old.cells.narrow ≡ record_count (initial stage.old.population).scale }
     requires reader { stage.old.reader.cells ≡ stage.old.cells }
 {
     let input = delivery(&stage.population.scale())?;

@@ -17,7 +17,7 @@ use transactions::execute;
 
 pub(crate) fn parts<R: Wait>(rt: &R, alloc: Global) -> Result<Parts, Refusal>
     ensures fresh { IfOk result IsFresh }
-    ensures cells { IfOk result (λ parts. length (cells_of parts) ≡ 1085) }
+    ensures cells { IfOk result (λ parts. length (cells_of parts).narrow ≡ 1085) }
 {
     Parts::new(rt, alloc, small(alloc)?, 1, 2)
 }
@@ -49,7 +49,7 @@ impl<K: Run> Model for Executed<K> {
     ghost view = { λ e. tt };
 
     ghost invariant = { λ e. (e.seat.reader.cells ≡ K.cells) × (e.work.input ≡ e.input)
-        × IsWorkOf K.first (length K.cells) e.seat.reader e.work };
+        × IsWorkOf K.first (length K.cells.narrow) e.seat.reader e.work };
 }
 
 /// Executes a transaction at a terminal.

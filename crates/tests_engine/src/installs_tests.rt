@@ -26,7 +26,7 @@ const WRITES: usize = 14;
 
 /// The writes of an order of customer 3, by rising record number.
 fn writes_of<R: Wait>(rt: &R, alloc: Global, stage: &mut Stage) -> Result<WriteList, Refusal>
-    requires scale { length stage.old.cells ≡ record_count (initial stage.old.population).scale }
+    requires scale { length stage.old.cells.narrow ≡ record_count (initial stage.old.population).scale }
     requires reader { stage.old.reader.cells ≡ stage.old.cells }
     ensures population { stage.new.population ≡ stage.old.population }
     ensures cells { stage.new.cells ≡ stage.old.cells }
@@ -40,8 +40,8 @@ fn writes_of<R: Wait>(rt: &R, alloc: Global, stage: &mut Stage) -> Result<WriteL
 /// Stores what records are to hold, while their numbers rise.
 fn install<R: Wait>(rt: &R, stage: &mut Stage, values: &[(u32, Option<Payload>)]) -> bool
     requires own { stage.old.pen.cells ≡ stage.old.cells }
-    requires count { length stage.old.cells ≡ 1085 }
-    requires first { (n : ℕ) → n < length stage.old.cells → last_tid (at stage.old.pen.all n) ≡ 0 }
+    requires count { length stage.old.cells.narrow ≡ 1085 }
+    requires first { (n : ℕ) → n < length stage.old.cells.narrow → last_tid (at stage.old.pen.all n) ≡ 0 }
     ensures population { stage.new.population ≡ stage.old.population }
     ensures cells { stage.new.cells ≡ stage.old.cells }
     ensures reader { stage.new.reader ≡ stage.old.reader }

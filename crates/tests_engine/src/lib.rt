@@ -24,8 +24,6 @@ mod new_order_tests;
 #[cfg(test)]
 mod new_orders;
 #[cfg(test)]
-mod page_tests;
-#[cfg(test)]
 mod pairs;
 #[cfg(test)]
 mod payment_tests;

@@ -74,7 +74,7 @@ fn order<R: Wait>(
     stage: &mut Stage,
     lines: &[RequestedLine],
 ) -> Result<Seen, Refusal>
-    requires scale { length stage.old.cells ≡ record_count (initial stage.old.population).scale }
+    requires scale { length stage.old.cells.narrow ≡ record_count (initial stage.old.population).scale }
     requires reader { stage.old.reader.cells ≡ stage.old.cells }
 {
     let input = new_order(alloc, &stage.population.scale(), 1, lines)?;

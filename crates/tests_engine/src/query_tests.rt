@@ -42,7 +42,7 @@ pub(crate) fn ask<R: Wait>(
     stage: &mut Stage,
     asked: Asked,
 ) -> Result<Told, Refusal>
-    requires scale { length stage.old.cells ≡ record_count (initial stage.old.population).scale }
+    requires scale { length stage.old.cells.narrow ≡ record_count (initial stage.old.population).scale }
     requires reader { stage.old.reader.cells ≡ stage.old.cells }
 {
     let input = input_of(alloc, &stage.population.scale(), asked)?;

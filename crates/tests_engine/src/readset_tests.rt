@@ -13,7 +13,7 @@ use tables::limits::{MAX_READS, MAX_WRITES};
 
 /// Reads the warehouse, twice.
 fn read<R: Wait>(rt: &R, alloc: Global, stage: &mut Stage) -> Result<ReadSet, Refusal>
-    requires count { length stage.old.cells ≡ 1085 }
+    requires count { length stage.old.cells.narrow ≡ 1085 }
     requires reader { stage.old.reader.cells ≡ stage.old.cells }
 {
     let mut reads = ReadSet::new(alloc);

@@ -44,11 +44,11 @@ pub(crate) struct Stage {
 }
 
 pub(crate) fn open<R: Wait>(rt: &R, alloc: Global) -> Result<Stage, Fail>
-    ensures count { IfOk result (λ s. length s.cells ≡ 1085) }
-    ensures scale { IfOk result (λ s. length s.cells ≡ record_count (initial s.population).scale) }
+    ensures count { IfOk result (λ s. length s.cells.narrow ≡ 1085) }
+    ensures scale { IfOk result (λ s. length s.cells.narrow ≡ record_count (initial s.population).scale) }
     ensures pen { IfOk result (λ s. s.pen.cells ≡ s.cells) }
     ensures reader { IfOk result (λ s. s.reader.cells ≡ s.cells) }
-    ensures first { IfOk result (λ s. (n : ℕ) → n < length s.cells → last_tid (at s.pen.all n) ≡ 0) }
+    ensures first { IfOk result (λ s. (n : ℕ) → n < length s.cells.narrow → last_tid (at s.pen.all n) ≡ 0) }
 {
     let population = small(alloc)?;
     let first = first_versions(alloc, population.tables())?;
@@ -70,7 +70,7 @@ pub(crate) fn execute_on<R: Wait>(
     input: &Input,
 ) -> Result<Work, Refusal>
     requires input { IsInput (initial stage.old.population).scale input.now }
-    requires scale { length stage.old.cells ≡ record_count (initial stage.old.population).scale }
+    requires scale { length stage.old.cells.narrow ≡ record_count (initial stage.old.population).scale }
     requires reader { stage.old.reader.cells ≡ stage.old.cells }
     ensures population { stage.new.population ≡ stage.old.population }
     ensures cells { stage.new.cells ≡ stage.old.cells }
@@ -90,7 +90,7 @@ pub(crate) fn execute_on<R: Wait>(
 /// Stores the version 1 of epoch 1 of a record: these words, or that it is absent.
 pub(crate) fn store<R: Wait>(rt: &R, stage: &mut Stage, number: u32, value: Option<Payload>)
     requires own { stage.old.pen.cells ≡ stage.old.cells }
-    requires is_record { number < length stage.old.cells }
+    requires is_record { number < length stage.old.cells.narrow }
     requires first { last_tid (at stage.old.pen.all number) ≡ 0 }
     ensures own { stage.new.pen.cells ≡ stage.new.cells }
     ensures others { (n : ℕ) → n ≢ number → at stage.new.pen.all n ≡ at stage.old.pen.all n }

@@ -9,7 +9,7 @@ use Rattle.tables.specs.WellFormed.{IsWellFormed}
 use Rattle.tables.specs.Database.{Database}
 use Rattle.tables.specs.declared.input.Input.{Input}
 use Rattle.tables.specs.declared.reply.Reply.{Reply}
-use Rattle.cells.specs.Records.{PenView, held_by}
+use Rattle.cells.specs.Records.{AreNarrow, PenView, held_by}
 use Rattle.readset.specs.Writes.{WriteSetView}
 use Rattle.readset.specs.Commit.{IsCommitOf}
 use Rattle.totals.specs.Totals.{TotalsView, AreTotals}
@@ -21,7 +21,7 @@ AreHeld pen t = (n : ℕ) → n < record_count t.scale → held_by pen n ≡ row
 
 -- these are the records of well-formed, consistent tables
 pub record AreRecords (pen : PenView) (t : Database) : Type 0 where
-  pub count : length pen.cells ≡ record_count t.scale
+  pub count : AreNarrow (record_count t.scale) pen.cells
   pub held : AreHeld pen t
   pub well_formed : IsWellFormed t
   pub consistent : IsConsistent t

@@ -4,7 +4,7 @@ ghost use Rattle.std.specs.Prelude.{◌≡◌, ◌<◌, pos, All, IfOk, length, 
 ghost use Rattle.tables.specs.Maps.{sum_of};
 ghost use Rattle.tables.specs.Records.{record_count, key_of};
 ghost use Rattle.tables.specs.WellFormed.{IsHistoryRow};
-ghost use Rattle.cells.specs.Records.{held_by};
+ghost use Rattle.cells.specs.Records.{AreNarrow, held_by};
 ghost use Rattle.totals.specs.Moves.{MovesSums, HasBuyers, order_before, step, no_history, no_record};
 ghost use Rattle.totals.specs.Counted.{counted_in};
 ghost use Rattle.totals.specs.Opening.{no_sums, worth_from, SumsOpen};
@@ -26,7 +26,7 @@ impl RunningSums {
         history: &[History],
     ) -> Result<RunningSums, AllocError>
         requires own { pen.old.cells ≡ cells.now }
-        requires count { length cells.now ≡ record_count scale.now }
+        requires count { AreNarrow (record_count scale.now) cells.now }
         requires buyers { HasBuyers scale.now (held_by pen.old) }
         requires rows { All (IsHistoryRow scale.now) history.now }
         ensures pen { pen.new ≡ pen.old }
@@ -62,7 +62,7 @@ impl RunningSums {
     /// Counts all records, none of which was counted.
     fn count_records(&mut self, cells: &Cells, pen: &mut Pen)
         requires own { pen.old.cells ≡ cells.now }
-        requires count { length cells.now ≡ record_count self.old.scale }
+        requires count { AreNarrow (record_count self.old.scale) cells.now }
         requires buyers { HasBuyers self.old.scale (held_by pen.old) }
         ensures pen { pen.new ≡ pen.old }
         ensures scale { self.new.scale ≡ self.old.scale }
@@ -80,7 +80,7 @@ impl RunningSums {
     /// Counts a record, which wasn't counted.
     fn count_record(&mut self, cells: &Cells, pen: &mut Pen, counted: &Counted, number: u32)
         requires own { pen.old.cells ≡ cells.now }
-        requires count { length cells.now ≡ record_count self.old.scale }
+        requires count { AreNarrow (record_count self.old.scale) cells.now }
         requires counted { counted.now ≡ counted_in self.old.scale }
         requires number { number < record_count self.old.scale }
         requires buyers { HasBuyers self.old.scale (held_by pen.old) }

@@ -7,7 +7,7 @@ ghost use Rattle.tables.specs.Keys.{order_of};
 ghost use Rattle.tables.specs.Records.{record_count, key_of, size, first_number, district_at, order_at, line_at};
 ghost use Rattle.tables.specs.WellFormed.{IsHistoryRow};
 ghost use Rattle.tables.specs.declared.records.Table.TheVariants as table;
-ghost use Rattle.cells.specs.Records.{held_by};
+ghost use Rattle.cells.specs.Records.{AreNarrow, held_by};
 ghost use Rattle.totals.specs.Moves.{MovesSums, SumsFollow, HasBuyers, order_before, step, moved, no_history};
 ghost use Rattle.totals.specs.Counted.{counted_in};
 ghost use Rattle.totals.specs.Steps.{HasPlaces, district_step, order_step, new_order_step, district_line_step};
@@ -137,7 +137,7 @@ impl RunningSums {
     )
         requires own { pen.old.cells ≡ cells.now }
         requires district { district < size self.old.scale table.District }
-        requires order { order < length cells.now }
+        requires order { order < length cells.now.narrow }
         requires buyer { ForSome (held_by pen.old order)
             (λ words. IsNumber self.old.scale.customers (slice_index words 0)) }
         ensures pen { pen.new ≡ pen.old }
@@ -160,7 +160,7 @@ impl RunningSums {
         new: Option<&Payload>,
     )
         requires own { pen.old.cells ≡ cells.now }
-        requires count { length cells.now ≡ record_count self.old.scale }
+        requires count { AreNarrow (record_count self.old.scale) cells.now }
         requires counted { counted.now ≡ counted_in self.old.scale }
         requires place { place < size self.old.scale table.OrderLine }
         requires buyers { HasBuyers self.old.scale (held_by pen.old) }
@@ -231,7 +231,7 @@ impl RunningSums {
     /// Follows the values that a commit writes, where the records held what their newest versions have.
     fn follow_values(&mut self, cells: &Cells, pen: &mut Pen, writes: &WriteList)
         requires own { pen.old.cells ≡ cells.now }
-        requires count { length cells.now ≡ record_count self.old.scale }
+        requires count { AreNarrow (record_count self.old.scale) cells.now }
         requires below { All (λ e. e.0 < record_count self.old.scale) writes.now.values }
         requires buyers { HasBuyers self.old.scale (held_by pen.old) }
         ensures pen { pen.new ≡ pen.old }
@@ -250,7 +250,7 @@ impl RunningSums {
     /// and a load of its words, at a line that is being delivered of its order's too.
     pub fn follow(&mut self, cells: &Cells, pen: &mut Pen, writes: &WriteList)
         requires own { pen.old.cells ≡ cells.now }
-        requires count { length cells.now ≡ record_count self.old.scale }
+        requires count { AreNarrow (record_count self.old.scale) cells.now }
         requires below { All (λ e. e.0 < record_count self.old.scale) writes.now.values }
         requires row { ForSome writes.now.history_row (IsHistoryRow self.old.scale) }
         requires buyers { HasBuyers self.old.scale (held_by pen.old) }
@@ -275,7 +275,7 @@ impl RunningSums {
         new: &Option<Payload>,
     )
         requires own { pen.old.cells ≡ cells.now }
-        requires count { length cells.now ≡ record_count self.old.scale }
+        requires count { AreNarrow (record_count self.old.scale) cells.now }
         requires counted { counted.now ≡ counted_in self.old.scale }
         requires number { number < record_count self.old.scale }
         requires buyers { HasBuyers self.old.scale (held_by pen.old) }
@@ -305,7 +305,7 @@ impl RunningSums {
         new: Option<&Payload>,
     )
         requires own { pen.old.cells ≡ cells.now }
-        requires count { length cells.now ≡ record_count self.old.scale }
+        requires count { AreNarrow (record_count self.old.scale) cells.now }
         requires counted { counted.now ≡ counted_in self.old.scale }
         requires first { counted.now.first_district ≤ number }
         requires between { counted.now.end_districts ≤ number → counted.now.first_new_order ≤ number }

@@ -1,6 +1,7 @@
 //! The running totals of a database.
 
 ghost use Rattle.std.specs.Prelude.{◌≡◌, ◌<◌, All, IfOk, length};
+ghost use Rattle.cells.specs.Records.{AreNarrow};
 ghost use Rattle.std.specs.Option.{ForSome};
 ghost use Rattle.tables.specs.Sizes.{IsScale};
 ghost use Rattle.tables.specs.Apply.{after};
@@ -97,7 +98,7 @@ impl Totals {
     /// Follows it once they are stored: the least and greatest order numbers. Costs what `OrderBounds::follow` does.
     pub fn follow_stores(&mut self, cells: &Cells, pen: &mut Pen, writes: &WriteList)
         requires own { pen.old.cells ≡ cells.now }
-        requires count { length cells.now ≡ record_count self.old.bounds.scale }
+        requires count { AreNarrow (record_count self.old.bounds.scale) cells.now }
         requires below { All (λ e. e.0 < record_count self.old.bounds.scale) writes.now.values }
         ensures pen { pen.new ≡ pen.old }
         ensures sums { self.new.sums ≡ self.old.sums }

@@ -3,7 +3,7 @@
 
 ghost use Rattle.std.specs.Prelude.{◌≡◌, ℕ, ◌≤◌, ◌<◌, ◌^◌, true, is_some, max, length};
 ghost use Rattle.tables.specs.Sizes.{IsNumber};
-ghost use Rattle.cells.specs.Records.{held_by};
+ghost use Rattle.cells.specs.Records.{cell_count, held_by};
 ghost use Rattle.totals_bounds.specs.Ends.{is_there};
 
 use cells::{Cells, Pen};
@@ -11,7 +11,7 @@ use cells::{Cells, Pen};
 /// Whether a record is there. None is at a number beyond the records.
 fn has_row(cells: &Cells, pen: &mut Pen, number: usize) -> bool
     requires own { pen.old.cells ≡ cells.now }
-    requires few { length cells.now < 2 ^ 32 }
+    requires few { cell_count cells.now < 2 ^ 32 }
     ensures pen { pen.new ≡ pen.old }
     ensures present { result ≡ is_some (held_by pen.old number) }
 {
@@ -25,7 +25,7 @@ fn has_row(cells: &Cells, pen: &mut Pen, number: usize) -> bool
 /// Whether the row of a number is there.
 fn is_there(cells: &Cells, pen: &mut Pen, first: u32, number: u32) -> bool
     requires own { pen.old.cells ≡ cells.now }
-    requires few { length cells.now < 2 ^ 32 }
+    requires few { cell_count cells.now < 2 ^ 32 }
     requires number { 1 ≤ number }
     ensures pen { pen.new ≡ pen.old }
     ensures there { result ≡ is_there (held_by pen.old) first number }
@@ -36,7 +36,7 @@ fn is_there(cells: &Cells, pen: &mut Pen, first: u32, number: u32) -> bool
 /// The least number from `low` to `high` whose row is there, 0 where none is. A step for each number up to that.
 pub fn least_there(cells: &Cells, pen: &mut Pen, first: u32, low: u32, high: u32) -> u32
     requires own { pen.old.cells ≡ cells.now }
-    requires few { length cells.now < 2 ^ 32 }
+    requires few { cell_count cells.now < 2 ^ 32 }
     ensures pen { pen.new ≡ pen.old }
     ensures there { 1 ≤ result → is_there (held_by pen.old) first result ≡ true }
     ensures least { (n : ℕ) → 1 ≤ n → low ≤ n → n ≤ high → is_there (held_by pen.old) first n ≡ true
@@ -55,7 +55,7 @@ pub fn least_there(cells: &Cells, pen: &mut Pen, first: u32, low: u32, high: u32
 /// that.
 pub fn greatest_there(cells: &Cells, pen: &mut Pen, first: u32, low: u32, high: u32) -> u32
     requires own { pen.old.cells ≡ cells.now }
-    requires few { length cells.now < 2 ^ 32 }
+    requires few { cell_count cells.now < 2 ^ 32 }
     ensures pen { pen.new ≡ pen.old }
     ensures there { low < result → is_there (held_by pen.old) first result ≡ true }
     ensures greatest { (n : ℕ) → n ≤ high → is_there (held_by pen.old) first n ≡ true → low ≤ n → n ≤ result }
@@ -83,7 +83,7 @@ pub fn least_after(
     greatest: u32,
 ) -> u32
     requires own { pen.old.cells ≡ cells.now }
-    requires few { length cells.now < 2 ^ 32 }
+    requires few { cell_count cells.now < 2 ^ 32 }
     requires number { 1 ≤ number }
     ensures pen { pen.new ≡ pen.old }
     ensures there { 1 ≤ result → is_there (held_by pen.old) first result ≡ true }
@@ -114,7 +114,7 @@ pub fn greatest_after(
     greatest: u32,
 ) -> u32
     requires own { pen.old.cells ≡ cells.now }
-    requires few { length cells.now < 2 ^ 32 }
+    requires few { cell_count cells.now < 2 ^ 32 }
     requires number { 1 ≤ number }
     requires low { 1 ≤ low → is_there (held_by pen.old) first low ≡ true }
     ensures pen { pen.new ≡ pen.old }
@@ -142,7 +142,7 @@ pub fn greatest_beside(
     greatest: u32,
 ) -> u32
     requires own { pen.old.cells ≡ cells.now }
-    requires few { length cells.now < 2 ^ 32 }
+    requires few { cell_count cells.now < 2 ^ 32 }
     requires number { 1 ≤ number }
     requires least { 1 ≤ least → is_there (held_by pen.old) first least ≡ true }
     ensures pen { pen.new ≡ pen.old }

@@ -5,7 +5,7 @@ ghost use Rattle.tables.specs.Keys.{IsDistrictKey};
 ghost use Rattle.tables.specs.Records.{record_count, record_number, district_place, first_number, size};
 ghost use Rattle.tables.specs.declared.records.Table.TheVariants as table;
 ghost use Rattle.tables.specs.Database.{Database, empty_database};
-ghost use Rattle.cells.specs.Records.{held_by};
+ghost use Rattle.cells.specs.Records.{AreNarrow, cell_count, held_by};
 ghost use Rattle.totals_bounds.specs.Bounds.{AreBounds, no_bounds};
 ghost use Rattle.totals_bounds.specs.Written.{HasOrdersWithin, AreRowsOf, IsWith};
 ghost use Rattle.totals_bounds.specs.Ends.{AreEnds, KeepsEnds, is_among};
@@ -72,7 +72,7 @@ impl OrderBounds {
         pen: &mut Pen,
     ) -> Result<OrderBounds, AllocError>
         requires own { pen.old.cells ≡ cells.now }
-        requires count { length cells.now ≡ record_count scale }
+        requires count { AreNarrow (record_count scale) cells.now }
         ensures pen { pen.new ≡ pen.old }
         ensures scale { IfOk result (λ bounds. bounds.scale ≡ scale) }
         ensures bounds { IfOk result (λ bounds. (t : Database) → t.scale ≡ scale → HasOrdersWithin t
@@ -113,7 +113,7 @@ impl OrderBounds {
     /// Looks at a record of ORDER, by its place there.
     fn follow_order(&mut self, cells: &Cells, pen: &mut Pen, number: u32, place: u32)
         requires own { pen.old.cells ≡ cells.now }
-        requires few { length cells.now < 2 ^ 32 }
+        requires few { cell_count cells.now < 2 ^ 32 }
         requires place { place < size self.old.scale table.Order }
         requires number { number ≡ record_number self.old.scale table.Order place }
         ensures pen { pen.new ≡ pen.old }
@@ -129,7 +129,7 @@ impl OrderBounds {
     /// Looks at a record of NEW-ORDER, by its place there.
     fn follow_new_order(&mut self, cells: &Cells, pen: &mut Pen, number: u32, place: u32)
         requires own { pen.old.cells ≡ cells.now }
-        requires few { length cells.now < 2 ^ 32 }
+        requires few { cell_count cells.now < 2 ^ 32 }
         requires place { place < size self.old.scale table.NewOrder }
         requires number { number ≡ record_number self.old.scale table.NewOrder place }
         ensures pen { pen.new ≡ pen.old }
@@ -149,7 +149,7 @@ impl OrderBounds {
     #[inline(always)]
     fn follow_record(&mut self, cells: &Cells, pen: &mut Pen, number: u32, first: u32, end: u32)
         requires own { pen.old.cells ≡ cells.now }
-        requires few { length cells.now < 2 ^ 32 }
+        requires few { cell_count cells.now < 2 ^ 32 }
         requires first { first ≡ first_number self.old.scale table.NewOrder }
         requires end { end ≡ first_number self.old.scale table.NewOrder
             + (size self.old.scale table.NewOrder + size self.old.scale table.Order) }
@@ -174,7 +174,7 @@ impl OrderBounds {
     /// Looks at the records that a commit has written.
     fn follow_values(&mut self, cells: &Cells, pen: &mut Pen, writes: &WriteList)
         requires own { pen.old.cells ≡ cells.now }
-        requires count { length cells.now ≡ record_count self.old.scale }
+        requires count { AreNarrow (record_count self.old.scale) cells.now }
         ensures pen { pen.new ≡ pen.old }
         ensures scale { self.new.scale ≡ self.old.scale }
         ensures ends { AreEnds self.old.scale (held_by pen.old) (is_among writes.now.values) self.old
@@ -189,7 +189,7 @@ impl OrderBounds {
     /// Looks at all records of ORDER and of NEW-ORDER.
     fn follow_all(&mut self, cells: &Cells, pen: &mut Pen)
         requires own { pen.old.cells ≡ cells.now }
-        requires count { length cells.now ≡ record_count self.old.scale }
+        requires count { AreNarrow (record_count self.old.scale) cells.now }
         ensures pen { pen.new ≡ pen.old }
         ensures scale { self.new.scale ≡ self.old.scale }
         ensures ends { self.old ≡ no_bounds self.old.scale
@@ -207,7 +207,7 @@ impl OrderBounds {
     /// the least or the greatest, the next one is looked for, and that is its neighbour in sound tables.
     pub fn follow(&mut self, cells: &Cells, pen: &mut Pen, writes: &WriteList)
         requires own { pen.old.cells ≡ cells.now }
-        requires count { length cells.now ≡ record_count self.old.scale }
+        requires count { AreNarrow (record_count self.old.scale) cells.now }
         requires below { All (λ e. e.0 < record_count self.old.scale) writes.now.values }
         ensures pen { pen.new ≡ pen.old }
         ensures scale { self.new.scale ≡ self.old.scale }

@@ -1,6 +1,7 @@
 //! What a report notes when it asks a record.
 
 ghost use Rattle.std.specs.Prelude.{◌≡◌, ◌+◌, ◌<◌, Some, length};
+ghost use Rattle.cells.specs.Records.{AreNarrow};
 ghost use Rattle.tables.specs.Keys.{IsWarehouseKey, IsDistrictKey, IsCustomerKey, IsOrderKey, IsLineKey, order_of};
 ghost use Rattle.tables.specs.Records.{record_count, key_of, number_of_key};
 ghost use Rattle.tables.specs.Rows.{row_at};
@@ -36,7 +37,7 @@ pub fn ask(
     requires sums { sums.now.scale ≡ scale.now }
     requires bounds { bounds.now.scale ≡ scale.now }
     requires own { pen.old.cells ≡ cells.now }
-    requires count { length cells.now ≡ record_count scale.now }
+    requires count { AreNarrow (record_count scale.now) cells.now }
     requires number { number < record_count scale.now }
     ensures pen { pen.new ≡ pen.old }
     ensures found { (t : Database) → HasTotals sums.now bounds.now t → AreHeld pen.old t → IsFound t number report.old

@@ -1,6 +1,7 @@
 //! The report.
 
 ghost use Rattle.std.specs.Prelude.{◌≡◌, length};
+ghost use Rattle.cells.specs.Records.{AreNarrow};
 ghost use Rattle.tables.specs.Records.{record_count};
 ghost use Rattle.tables.specs.Conditions.{IsConsistent};
 ghost use Rattle.tables.specs.Database.{Database};
@@ -28,7 +29,7 @@ pub fn report_of(
     requires sums { sums.now.scale ≡ scale.now }
     requires bounds { bounds.now.scale ≡ scale.now }
     requires own { pen.old.cells ≡ cells.now }
-    requires count { length cells.now ≡ record_count scale.now }
+    requires count { AreNarrow (record_count scale.now) cells.now }
     ensures pen { pen.new ≡ pen.old }
     ensures report { (t : Database) → HasTotals sums.now bounds.now t → AreHeld pen.old t → IsReportOf t result }
     ensures good { (t : Database) → HasTotals sums.now bounds.now t → AreHeld pen.old t → IsConsistent t

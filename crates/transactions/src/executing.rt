@@ -39,14 +39,14 @@ pub fn execute<R: Wait>(
 ) -> Result<Work, Refusal>
     requires input { IsInput (initial population.now).scale input.now }
     requires own { reader.old.cells ≡ cells.now }
-    requires cells { length cells.now ≡ record_count (initial population.now).scale }
+    requires cells { length cells.now.narrow ≡ record_count (initial population.now).scale }
     ensures input { IfOk result (λ work. work.input ≡ input.now) }
     ensures none_missing { OnOk result (NoneMissing (initial population.now) input.now) }
     ensures within_cap { IfOk result (λ work. ¬ IsAboveCap (initial population.now).scale input.now work.reads) }
     ensures read { IfOk result (λ work. AreRead reader.old reader.new work.reads) }
     ensures explains { IfOk result (λ work.
         Explains (initial population.now) input.now work.reads work.writes work.reply) }
-    ensures limits { IfOk result (λ work. IsWithinLimits (length cells.now) work.reads work.writes) }
+    ensures limits { IfOk result (λ work. IsWithinLimits (length cells.now.narrow) work.reads work.writes) }
     ensures grown { HasGrown reader.old reader.new }
     ensures refused { IfErr result (IsRefusal (initial population.now) input.now reader.old reader.new) }
 {
@@ -70,7 +70,7 @@ fn run<K: Start, R: Wait>(
     requires tables { initial population.now ≡ K.tables }
     requires reader { reader ≡ K.reader }
     requires own { reader.cells ≡ cells.now }
-    requires cells { length cells.now ≡ record_count K.tables.scale }
+    requires cells { length cells.now.narrow ≡ record_count K.tables.scale }
     ensures { IsExecuted K.tables input.now K.reader result.0 result.1 }
 {
     let transaction = Transaction::<K>::begin(alloc, cells, population, reader);

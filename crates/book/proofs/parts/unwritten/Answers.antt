@@ -9,7 +9,7 @@ returns-clause-records g c =
     let made = c.in_ok-cells.ensures in
     record {
       cells = ap (λ (w : PenView). w.cells) made.pen;
-      count = made.cells ∙ first.count;
+      count = (made.cells.0 ∙ first.count, made.cells.1);
       versions = λ n h. ap (λ (w : PenView). at w.all n) made.pen
           ∙ at_first c.in_ok-first.first n (subst (λ m. n < m) (sym first.count) h)
           ∙ ap (λ w. w ∷ []) (first.words n h);

@@ -1,7 +1,7 @@
 use Rattle.std.proofs.Common.{◌≡◌, List, ℕ, IfOk, length, rules, sym, ap, ◌∙◌, subst}
 use Rattle.atomic_table.specs.Seated.{TableId}
 use Rattle.cells.specs.First.{firsts}
-use Rattle.cells.specs.Opening.{opened_with}
+use Rattle.cells_holders.specs.Opening.{opened_with}
 use Rattle.cells.proofs.populate.add.Goals as goal
 
 pub returns-then-is_blank-clause-ok : goal.returns-then-is_blank-clause-ok

@@ -1,7 +1,7 @@
 use Rattle.std.proofs.Common.{◌≡◌, ◌++◌, ◌+◌, length, sym, ap, ◌∙◌, subst, arith}
 use Rattle.std.specs.Vec.Iter.{into_iter_items}
 use Rattle.cells.specs.First.{firsts}
-use Rattle.cells.specs.Opening.{Opened, AreFull}
+use Rattle.cells_holders.specs.Opening.{Opened, AreFull}
 use Rattle.cells.proofs.FirstPaged.{joined, some_left, paged_on, cells_on, versions_on, full_on}
 use Rattle.cells.proofs.populate.open_all.Goals as goal
 

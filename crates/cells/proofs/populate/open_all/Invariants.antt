@@ -2,8 +2,8 @@ use Rattle.std.proofs.Common.{◌≡◌, ◌+◌, ◌<◌, ◌++◌, map, length
 use Rattle.std.specs.List.{flat_map}
 use Rattle.std.specs.Vec.Iter.{into_iter_items, into_iter_len}
 use Rattle.cells.specs.First.{firsts}
-use Rattle.cells.specs.Pages.{IsPaged}
-use Rattle.cells.specs.Opening.{AreFull}
+use Rattle.cells_holders.specs.Pages.{IsPaged}
+use Rattle.cells_holders.specs.Opening.{AreFull}
 use Rattle.cells.proofs.populate.open_all.Given as goal
 
 abbrev pub invariant-loop-page : goal.invariant-loop-page

@@ -7,4 +7,4 @@ use Rattle.tests_engine.proofs.installs_tests.install.Given as goal
 abbrev pub invariant-loop-number : goal.invariant-loop-number
 invariant-loop-number g l = (l.stage.pen.cells ≡ l.stage.cells) × (l.stage.cells ≡ l.fn.stage.cells)
     × (l.stage.population ≡ l.fn.stage.population) × (l.stage.reader ≡ l.fn.stage.reader)
-    × ((n : ℕ) → l.next ≤ n → n < length l.stage.cells → last_tid (at l.stage.pen.all n) ≡ 0)
+    × ((n : ℕ) → l.next ≤ n → n < length l.stage.cells.narrow → last_tid (at l.stage.pen.all n) ≡ 0)

@@ -13,7 +13,7 @@ first_tid (Some words) = refl
 pub returns-clause-first : goal.returns-clause-first
 returns-clause-first g c n h =
     let first = c.in_ok-first.ensures in
-    let small : n < length c.in_ok-first.first = subst (λ k. n < k) c.in_ok-cells.ensures.cells h in
+    let small : n < length c.in_ok-first.first = subst (λ k. n < k) c.in_ok-cells.ensures.cells.0 h in
     ap (λ (w : PenView). last_tid (at w.all n)) c.in_ok-cells.ensures.pen
     ∙ ap last_tid (at_first c.in_ok-first.first n small ∙ ap (λ w. w ∷ []) (first.words n (subst (λ k. n < k) first.count small)))
     ∙ first_tid _

@@ -3,11 +3,10 @@ use Rattle.std.specs.Prelude.{slice_set}
 use Rattle.std.specs.Arc.{arc_value}
 use Rattle.std.proofs.lemmas.List.{length-map, map-append}
 use Rattle.money.specs.declared.refusal.Refusal.TheVariants.{Conflict, EpochFull}
-use Rattle.atomic_table.specs.Seated.{TableId}
 use Rattle.population.specs.Initial.{initial}
 use Rattle.population.specs.declared.population.Population.{Population}
 use Rattle.cells.specs.Versions.{last_tid}
-use Rattle.cells.specs.Records.{PenView, at}
+use Rattle.cells.specs.Records.{CellsView, PenView, at}
 use Rattle.cells.proofs.Grown.{grown_twice}
 use Rattle.readset.specs.Writes.{WriteSetView, value_for}
 use Rattle.board.specs.Steps.{counted_epochs}
@@ -118,9 +117,9 @@ store_counted-requires-clause-may g c =
     c.deref-2.ensures ∙ c.in-Ok.ensures.prepared.entry in
     record {
       own = search rules;
-      within = subst (λ (q : List TableId × Entry). (n : ℕ) (value : Option (List ℕ)) → value_for q.1.writes n ≡ Some value → n < length q.0)
+      within = subst (λ (q : CellsView × Entry). (n : ℕ) (value : Option (List ℕ)) → value_for q.1.writes n ≡ Some value → n < length q.0.narrow)
           (λ i. (sym c.requires.cells i, sym stored i))
-          (written_within (length g.K.Run.cells) c.args.reader.now c.args.work.reads c.args.work.writes c.requires.work.read
+          (written_within (length g.K.Run.cells.narrow) c.args.reader.now c.args.work.reads c.args.work.writes c.requires.work.read
           c.requires.work.limits.writes_read);
       no_bits = search rules;
       larger = subst (λ (q : PenView × Entry). (n : ℕ) (value : Option (List ℕ)) → value_for q.1.writes n ≡ Some value

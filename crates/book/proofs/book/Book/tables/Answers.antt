@@ -1,14 +1,13 @@
 use Rattle.std.proofs.Common.{◌≡◌, ℕ, ◌<◌, ◌≤◌, ◌++◌, List, map, length, refl, sym, ap, ◌∙◌, subst}
 use Rattle.std.proofs.lemmas.Result.{IfOk-weaker}
 use Rattle.std.specs.Arc.{arc_value}
-use Rattle.atomic_table.specs.Seated.{TableId}
 use Rattle.tables.specs.Constant.{IsOf}
 use Rattle.tables.specs.Database.{Database, database}
 use Rattle.tables.specs.Rows.{rows}
 use Rattle.tables.specs.WellFormed.{IsWellFormed}
 use Rattle.tables.specs.declared.rows.History.{History}
 use Rattle.population.specs.Initial.{initial}
-use Rattle.cells.specs.Records.{PenView, held_by}
+use Rattle.cells.specs.Records.{CellsView, PenView, held_by}
 use Rattle.encoding.specs.Held.{row_count}
 use Rattle.encoding.specs.Newest.{AreLawful}
 use Rattle.book.specs.Book.{BookView, IsSound}
@@ -19,7 +18,7 @@ use Rattle.book.proofs.book.Book.tables.Goals as goal
 pub tables_of-requires-clause-count : goal.tables_of-requires-clause-count
 tables_of-requires-clause-count g c =
     let kept = c.self.invariant in
-    subst (λ (q : Database × List TableId). row_count q.0.scale ≤ length q.1)
+    subst (λ (q : Database × CellsView). row_count q.0.scale ≤ length q.1.narrow)
     (λ j. (sym (ap initial c.deref-3.ensures ∙ kept.population) j, sym c.requires j))
     (enough kept.sound kept.ready kept.become)
 

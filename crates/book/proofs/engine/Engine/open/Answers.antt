@@ -2,13 +2,12 @@ use Rattle.std.proofs.Common.{◌≡◌, ℕ, ◌≤◌, List, [], All, length, 
 use Rattle.std.proofs.lemmas.List.{length-replicate}
 use Rattle.std.proofs.lemmas.List.Elements.{All-replicate}
 use Rattle.std.specs.Arc.{arc_value}
-use Rattle.atomic_table.specs.Seated.{TableId}
 use Rattle.tables.specs.Sizes.{Sizes}
 use Rattle.tables.specs.Database.{Database}
 use Rattle.tables.specs.declared.limits.TheConstants.{MAX_COMMITS}
 use Rattle.population.specs.Initial.{initial, seed_of}
 use Rattle.population.specs.declared.population.Population.{Population}
-use Rattle.cells.specs.Records.{ReaderView}
+use Rattle.cells.specs.Records.{CellsView, ReaderView}
 use Rattle.book.specs.Base.{HasBecome}
 use Rattle.book.specs.History.{replay}
 use Rattle.book.specs.Book.{IsSound}
@@ -56,7 +55,7 @@ invariant_of-book g c =
           (λ i. (run.population_is i, run.first_is i)) start.become;
       sound = subst (λ (q : Database × ℕ × List Entry). IsSound q.1 q.0 made.records.pen q.2 (replay q.0 q.2))
           (λ i. (run.first_is i, run.past_is i, sym none i)) sound;
-      ready = subst (λ (q : Database × ℕ × List TableId × List Entry).
+      ready = subst (λ (q : Database × ℕ × CellsView × List Entry).
           IsReady q.1 q.0 q.2 (found_epoch seat) made.records.pen q.3 (replay q.0 q.3))
           (λ i. (run.first_is i, run.past_is i, run.cells_are i, sym none i)) ready;
       totals = subst (λ (q : Database × List Entry). AreTotals (replay q.0 q.1) begun.totals)

@@ -9,8 +9,8 @@ use Rattle.cells.proofs.cells.Cells.meet.Goals as goal
 
 pub returns-clause-latest : goal.returns-clause-latest
 returns-clause-latest g c =
-    let meet = c.meet-latest.ensures in
+    let meet = c.learn-latest.ensures in
     let all = at c.args.pen.now.all c.args.version.now.record in
-    let left : c.tid.result ≡ tid_of (word_in (newest all)) = c.tid.ensures ∙ ap tid_of (c.new.ensures ∙ meet.newest) in
+    let left : c.tid.result ≡ tid_of (word_in (newest all)) = c.tid.ensures ∙ ap tid_of meet.newest in
     is_last_by_tid _ all _ _ (newest all) meet.reader.rising meet.reader.grows c.requires.seen (ends_newest all meet.some)
     (c.eq.ensures ∙ (λ i. eqb (left i) (c.tid-2.ensures i)))

@@ -1,4 +1,5 @@
 use Rattle.std.proofs.Common.{◌≡◌, ◌∙◌, ap, sym, subst, length, IsSome, Some, Ok}
+use Rattle.cells.specs.Records.{CellsView}
 use Rattle.tables.specs.Sizes.{Sizes}
 use Rattle.tables.specs.Database.{Database}
 use Rattle.tables.specs.Records.{number_of_key}
@@ -14,9 +15,9 @@ invariant_of-self-2 g c =
       i.0,
       i.1,
       i.2,
-      loaded_under_way g.K.Start.reader c.self.inside.reader c.get.new.reader (length c.self.inside.cells.now) c.self.inside.reads c.get.new.self
+      loaded_under_way g.K.Start.reader c.self.inside.reader c.get.new.reader (length c.self.inside.cells.now.narrow) c.self.inside.reads c.get.new.self
           c.self.inside.writes
-          i.3 (ap length i.1) loaded.chain loaded.grown_since loaded.within loaded.keeps,
+          i.3 (ap (λ (cells : CellsView). length cells.narrow) i.1) loaded.chain loaded.grown_since loaded.within loaded.keeps,
     )
 
 pub returns-clause-words : goal.returns-clause-words

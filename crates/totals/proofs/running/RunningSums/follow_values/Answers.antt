@@ -22,7 +22,7 @@ follow_record-requires-clause-number c =
     (0, None) c.loop-number-test.true)
 
 pub follow_record-requires-clause-count : goal.follow_record-requires-clause-count
-follow_record-requires-clause-count c = c.requires.count ∙ ap record_count (sym c.loop-number.invariant.scale)
+follow_record-requires-clause-count c = (c.requires.count.0 ∙ ap record_count (sym c.loop-number.invariant.scale), c.requires.count.1)
 
 pub follow_record-requires-clause-buyers : goal.follow_record-requires-clause-buyers
 follow_record-requires-clause-buyers c = subst (λ (q : Sizes × PenView). HasBuyers q.0 (held_by q.1))

@@ -6,7 +6,7 @@ use Rattle.tables.specs.Records.{record_count}
 use Rattle.tables.specs.WellFormed.{IsHistoryRow}
 use Rattle.tables_laws.proofs.Kept.{after-scale}
 use Rattle.totals.specs.Totals.{TotalsView, SumsView}
-use Rattle.cells.specs.Records.{held_by}
+use Rattle.cells.specs.Records.{AreNarrow, held_by}
 use Rattle.totals.specs.Moves.{HasBuyers, SumsFollow}
 use Rattle.totals.proofs.Recorded.{buyers_named, row_added}
 use Rattle.totals.proofs.totals.Totals.follow.Goals as goal
@@ -28,8 +28,9 @@ follow-requires-clause-row c =
 
 pub follow-requires-clause-count : goal.follow-requires-clause-count
 follow-requires-clause-count c =
-    let may = c.requires.may.3 in
-    ap length (sym c.requires.own) ∙ may.records.count ∙ ap record_count (sym may.totals.sums_scale ∙ ap (λ (v : TotalsView). v.sums.scale) (sym c.self.view_is))
+    let may = c.requires.may in
+    let cells = subst (AreNarrow (record_count may.0.scale)) c.requires.own may.3.records.count in
+    (cells.0 ∙ ap record_count (sym may.3.totals.sums_scale ∙ ap (λ (v : TotalsView). v.sums.scale) (sym c.self.view_is)), cells.1)
 
 pub follow-requires-clause-buyers : goal.follow-requires-clause-buyers
 follow-requires-clause-buyers c =

@@ -1,0 +1,18 @@
+use Rattle.std.proofs.Common.{length, sym, ap, ◌∙◌, subst}
+use Rattle.std.specs.Prelude.{slice_get}
+use Rattle.std.proofs.lemmas.Option.{slice_get_within}
+use Rattle.cells.specs.Records.{CellsView, PenView, ReaderView, both_pens, both_readers, LearnsRecord}
+use Rattle.cells.proofs.Halves.{learns_narrow}
+use Rattle.cells.proofs.both.Pen.meet.Goals as goal
+
+pub returns-clause-reader : goal.returns-clause-reader
+returns-clause-reader c =
+    let pen = c.self.inside.narrow in
+    let reader = c.reader.inside in
+    let has = ap (λ (w : PenView). slice_get w.cells.narrow c.args.number) c.self.view_is ∙ c.requires.own in
+    let same = ap (λ (r : ReaderView). length r.cells.narrow) c.reader.view_is ∙ ap (λ (cells : CellsView). length cells.narrow) c.requires.reader
+    ∙ ap (λ (w : PenView). length w.cells.narrow) (sym c.self.view_is) in
+    subst (λ (x : PenView × ReaderView). LearnsRecord x.0 x.1 (both_readers c.meet.new.reader reader.wide) c.args.number)
+    (λ i. (c.self.view_is i, c.reader.view_is i))
+    (learns_narrow reader.narrow reader.wide c.knows_its_cells-2.ensures.seen c.knows_its_cells-2.ensures.loads pen c.self.inside.wide
+    c.knows_its_cells.ensures same c.meet.new.reader c.args.number (slice_get_within pen.cells c.args.number _ has) c.meet.ensures.reader)

@@ -1,0 +1,4 @@
+pub mod Paged
+mod Joined
+mod Stepping
+mod Told

@@ -1,5 +1,0 @@
-use Rattle.std.proofs.Common.{◌≡◌}
-use Rattle.tests_engine.proofs.page_tests.read_turns.Given as goal
-
-abbrev pub invariant-loop-look : goal.invariant-loop-look
-invariant-loop-look g l = l.reader.cells ≡ l.cells
