@@ -1,6 +1,6 @@
 //! Measures record cells. `bench_cells CELLS TURNS` makes that many narrow cells (1 to 100,000,000), and as many wide
-//! ones. It prints the bytes of a narrow and a wide one, and what a call costs: the mean over TURNS calls, in nanoseconds.
-//! With no words it does nothing.
+//! ones. It prints the bytes of a narrow and a wide one, and what a call costs: the mean over TURNS calls, in
+//! nanoseconds. With no words it does nothing.
 #![tactic(auto)]
 
 ghost use Rattle.std.specs.Prelude.{◌≡◌, ◌*◌, ◌<◌, ◌≤◌, length, IfOk};
