@@ -1,15 +1,14 @@
 -- The comparison of the versions read with their records' latest.
-use Rattle.std.proofs.Common.{◌≡◌, ◌≢◌, ℕ, ◌+◌, ◌<◌, inl, inr, Some, List, [], ◌∷◌, length, drop, get_or, refl, sym, ap, ◌∙◌, subst, arith}
+use Rattle.std.proofs.Common.{◌≡◌, ◌≢◌, ℕ, ◌<◌, inl, inr, Some, List, [], ◌∷◌, get_or, refl, sym, ap, ◌∙◌, subst, arith}
 use Rattle.std.specs.Prelude.{max}
 use Rattle.std.specs.List.{All}
 use Rattle.std.specs.Ordering.{nat_cmp, is_eq}
-use Rattle.std.proofs.lemmas.List.{drop_more}
 use Rattle.std.proofs.lemmas.List.Elements.{All-head, All-tail, All-cons, All-nil, All-contains}
 use Rattle.std.proofs.lemmas.Map.Views.{Contains-from_lookup}
 use Rattle.tidword.specs.TidWord.{tid_of}
 use Rattle.tidword.proofs.Sequences.{max_is}
 use Rattle.cells.specs.Versions.{EndsWith, Has, last_tid}
-use Rattle.cells.specs.Records.{PenView, ReaderView, at, words_of, LearnsRecord, HasGrown}
+use Rattle.cells.specs.Records.{CellsView, PenView, ReaderView, at, cell_count, words_of, LearnsRecord, HasGrown}
 use Rattle.cells.proofs.Rising.{has_more}
 use Rattle.cells.proofs.Grown.{grown_itself, learns_grown}
 use Rattle.cells.specs.declared.cells.Version.{Version}
@@ -18,12 +17,9 @@ use Rattle.readset.proofs.Numbers.{same_number}
 use Rattle.book.specs.Stamps.{greatest_tid}
 use Rattle.book.specs.Book.{AreLatest, HasConflict, IsReadBy, IsRead}
 
--- the version at a place, and those behind it
-pub next : (reads : ReadSetView) (i : ℕ) (v : Version) → i < length reads → ((d : ℕ × Version) → v ≡ (get_or reads i d).1)
-    → drop i reads ≡ ((get_or reads i (0, v)).0, v) ∷ drop (i + 1) reads
-next reads i v inside is =
-    let d : ℕ × Version = (0, v) in
-    drop_more reads i d inside ∙ ap (λ (w : Version). ((get_or reads i d).0, w) ∷ drop (i + 1) reads) (sym (is d))
+-- the entry at a place, where there is one
+abbrev pub entry : ReadSetView → ℕ → ℕ × Version
+entry reads i = get_or reads i (0, record { «record» = 0; word = 0; payload = [] })
 
 abbrev IsFound : ReadSetView → ℕ × Version → Type 0
 IsFound reads e = held reads e.0 ≡ Some e.1
@@ -58,7 +54,7 @@ begins pen0 r0 reads rest e found = record {
 larger : (a b c : ℕ) → max (max a b) c ≡ max b (max a c)
 larger a b c = omega arith
 
-module _ (cells : ℕ) (pen0 : PenView) (r0 : ReaderView) (reads : ReadSetView) (by : IsReadBy cells r0 reads) (pen : PenView) (r : ReaderView)
+module _ (cells : CellsView) (pen0 : PenView) (r0 : ReaderView) (reads : ReadSetView) (by : IsReadBy cells r0 reads) (pen : PenView) (r : ReaderView)
     (rest : ReadSetView) (greatest : ℕ) (c : AreCompared pen0 r0 reads pen r rest greatest)
     (n : ℕ) (v : Version) (next : ReadSetView) (steps : rest ≡ (n, v) ∷ next) where
   here : held reads n ≡ Some v
@@ -67,12 +63,28 @@ module _ (cells : ℕ) (pen0 : PenView) (r0 : ReaderView) (reads : ReadSetView) 
   record_is : v.record ≡ n
   record_is = by.records n v here
 
-  -- what `meet` asks for
-  pub within : v.record < cells
-  within = subst (λ m. m < cells) (sym record_is) (by.within n v here)
+  within : v.record < cell_count cells
+  within = subst (λ m. m < cell_count cells) (sym record_is) (by.within n v here)
 
-  pub seen : Has (at r.seen v.record) (words_of v)
+  seen : Has (at r.seen v.record) (words_of v)
   seen = subst (λ m. Has (at r.seen m) (words_of v)) (sym record_is) (has_more (at r.seen n) (at r0.seen n) (words_of v) (c.grown.grows n) (by.seen n v here))
+
+  -- what is asked of its record, and what is said then
+  module _ (number word : ℕ) (named : number ≡ v.record) (worded : word ≡ v.word) where
+    pub is_record : number < cell_count cells
+    is_record = subst (λ m. m < cell_count cells) (sym named) within
+
+    pub has : Has (at r.seen number) (word ∷ v.payload)
+    has = subst (λ (q : ℕ × ℕ). Has (at r.seen q.0) (q.1 ∷ v.payload)) (λ i. (sym named i, sym worded i)) seen
+
+    pub learns_as : (r' : ReaderView) → LearnsRecord pen r r' number → LearnsRecord pen r r' v.record
+    learns_as r' = subst (LearnsRecord pen r r') named
+
+    pub latest_as : EndsWith (at pen.all number) (word ∷ v.payload) → EndsWith (at pen.all v.record) (words_of v)
+    latest_as = subst (λ (q : ℕ × ℕ). EndsWith (at pen.all q.0) (q.1 ∷ v.payload)) (λ i. (named i, worded i))
+
+    pub other_as : tid_of word ≢ last_tid (at pen.all number) → tid_of v.word ≢ last_tid (at pen.all v.record)
+    other_as = subst (λ (q : ℕ × ℕ). tid_of q.1 ≢ last_tid (at pen.all q.0)) (λ i. (named i, worded i))
 
   module _ (pen' : PenView) (r' : ReaderView) (same : pen' ≡ pen) (learns : LearnsRecord pen r r' v.record) where
     pub grown : HasGrown r0 r'

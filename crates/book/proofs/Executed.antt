@@ -1,5 +1,5 @@
 -- What a reader that has executed a transaction has read, and where that explains the transaction.
-use Rattle.std.proofs.Common.{◌≡◌, ℕ, ◌<◌, Some, List, [], length, sym, subst, Result, Ok, Err}
+use Rattle.std.proofs.Common.{◌≡◌, ℕ, ◌<◌, Some, [], sym, subst, Result, Ok, Err}
 use Rattle.tables.specs.Database.{Database}
 use Rattle.tables.specs.Constant.{IsOf}
 use Rattle.tables.specs.Inputs.{IsInput}
@@ -7,7 +7,7 @@ use Rattle.tables.specs.Conditions.{IsConsistent}
 use Rattle.tables.specs.WellFormed.{IsWellFormed}
 use Rattle.tables.specs.declared.input.Input.{Input}
 use Rattle.tables.specs.declared.reply.Reply.{Reply}
-use Rattle.cells.specs.Records.{CellsView, ReaderView}
+use Rattle.cells.specs.Records.{CellsView, ReaderView, cell_count}
 use Rattle.cells.specs.declared.cells.Version.{Version}
 use Rattle.readset.specs.Reads.{ReadSetView, AreRead, held}
 use Rattle.money.specs.declared.refusal.Refusal.{Refusal}
@@ -22,7 +22,7 @@ use Rattle.readset.specs.declared.work.Work.{Work}
 use Rattle.book.specs.Book.{IsReadBy, IsWorkOf}
 use Rattle.book.proofs.Become.{becomes}
 
-read_by : (cells : ℕ) (old new : ReaderView) (reads : ReadSetView) → ((n : ℕ) (v : Version) → held reads n ≡ Some v → n < cells) → AreRead old new reads
+read_by : (cells : CellsView) (old new : ReaderView) (reads : ReadSetView) → ((n : ℕ) (v : Version) → held reads n ≡ Some v → n < cell_count cells) → AreRead old new reads
     → IsReadBy cells new reads
 read_by cells old new reads within read = record {
   within = within;
@@ -108,12 +108,12 @@ executed_there {x = x} {old = old} {new = new} (Err refusal) of made = record {
 -- first tables the same population has become
 pub work_of : {here p t0 : Database} → here ≡ p → IsOf p t0 → {own cells : CellsView} → own ≡ cells → (x : Input) → IsInput t0.scale x → (old new : ReaderView)
     → (work : Work) → work.input ≡ x → Explains here x work.reads work.writes work.reply
-    → IsWithinLimits (length own.narrow) work.reads work.writes → AreRead old new work.reads → IsWorkOf t0 (length cells.narrow) new work
+    → IsWithinLimits own work.reads work.writes → AreRead old new work.reads → IsWorkOf t0 cells new work
 work_of {here} {p} {t0} same of {own} {cells} same_cells x input old new work is explained limits read =
-    let within = subst (λ (ids : CellsView). IsWithinLimits (length ids.narrow) work.reads work.writes) same_cells limits in
+    let within = subst (λ (ids : CellsView). IsWithinLimits ids work.reads work.writes) same_cells limits in
     record {
       input = subst (IsInput t0.scale) (sym is) input;
       explained = explains_there work.input work.reads work.writes work.reply of (subst (λ (q : Database × Input). Explains q.0 q.1 work.reads work.writes work.reply) (λ i. (same i, sym is i)) explained);
       limits = within;
-      read = read_by (length cells.narrow) old new work.reads within.reads_cells read;
+      read = read_by cells old new work.reads within.reads_cells read;
     }

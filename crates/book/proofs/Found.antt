@@ -121,7 +121,7 @@ pub record Found (run : RunView) (book : BookParts) (reader : ReaderView) (work 
   pub kept : KeepsBook run book
   pub later : found_epoch book.seat ≤ epoch
   pub ready : IsReady run.past run.first run.cells epoch book.pen book.history (replay run.first book.history)
-  pub is_work : IsWorkOf run.first (length run.cells.narrow) reader work
+  pub is_work : IsWorkOf run.first run.cells reader work
   pub ordered : AreInRecordOrder work.reads work.writes
   pub latest : AreLatest book.pen.all work.reads
   pub greatest : seen ≡ greatest_tid work.reads
@@ -130,7 +130,7 @@ pub record Found (run : RunView) (book : BookParts) (reader : ReaderView) (work 
   pub last_is : last ≡ last_of terminal book.history
 
 pub found_of : {run : RunView} {book : BookParts} → KeepsBook run book → {here : BoardView} → here ≡ run.board → {epoch : ℕ}
-    → known_epoch here.plan.base book.seat.steps ≤ epoch → {reader : ReaderView} {work : Work} → IsWorkOf run.first (length run.cells.narrow) reader work
+    → known_epoch here.plan.base book.seat.steps ≤ epoch → {reader : ReaderView} {work : Work} → IsWorkOf run.first run.cells reader work
     → AreInRecordOrder work.reads work.writes → {seen : ℕ} → AreLatest book.pen.all work.reads × (seen ≡ greatest_tid work.reads) × IsRead work.reads seen
     → {terminal last : ℕ} → terminal < run.parts → last ≡ slice_index_or book.lasts terminal last
     → Found run book reader work terminal epoch seen last
@@ -246,7 +246,7 @@ module _ {run : RunView} {book : BookParts} {reader : ReaderView} {work : Work} 
           counted = counts_on book.seat book.history epoch entry f.kept.counted lawful.in_epoch;
           streams = streams_added run.board.plan (found_epoch book.seat) epoch n terminal book.history book.streams s f.later
               (many ∙ f.kept.streams.count) f.kept.streams is u entry refl lawful.in_epoch same_taken same_last same_mark waiting;
-          loggable = next_loggable (run.past + length book.history + 1) tid terminal f.kept.loggable f.is_work f.ready.count.0 f.ordered is_due.there
+          loggable = next_loggable (run.past + length book.history + 1) tid terminal f.kept.loggable f.is_work f.ready.count f.ordered is_due.there
               made.0.well_formed f.own;
         })
 

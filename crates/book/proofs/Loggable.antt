@@ -1,5 +1,5 @@
 -- A history whose entries may be written to a log file, through a commit.
-use Rattle.std.proofs.Common.{◌≡◌, ℕ, ◌<◌, ◌≤◌, List, [], ◌∷◌, ◌++◌, subst}
+use Rattle.std.proofs.Common.{ℕ, ◌<◌, ◌≤◌, List, [], ◌∷◌, ◌++◌, sym, ◌∙◌, subst}
 use Rattle.std.proofs.lemmas.Grind.{merely}
 use Rattle.std.proofs.lemmas.List.Elements.{All-nil, All-push}
 use Rattle.tables.specs.Sizes.{Sizes}
@@ -7,7 +7,8 @@ use Rattle.tables.specs.Database.{Database}
 use Rattle.tables.specs.Apply.{after}
 use Rattle.tables.specs.Records.{record_count}
 use Rattle.tables.specs.WellFormed.{IsWellFormed}
-use Rattle.cells.specs.Records.{ReaderView}
+use Rattle.cells.specs.Records.{AreNarrow, CellsView, ReaderView}
+use Rattle.cells.proofs.Records.{count_of}
 use Rattle.readset.specs.declared.work.Work.{Work}
 use Rattle.book.specs.Book.{IsWorkOf, AreInRecordOrder, entry_of}
 use Rattle.book.specs.History.{replay, CommitsAt}
@@ -25,16 +26,18 @@ first_loggable s terminals few = record {
 }
 
 -- one entry more
-pub next_loggable : {t0 : Database} {terminals cells : ℕ} {history : List Entry} {reader : ReaderView} {work : Work} (number tid terminal : ℕ)
-    → AreLoggable t0.scale terminals history → IsWorkOf t0 cells reader work → cells ≡ record_count t0.scale → AreInRecordOrder work.reads work.writes
+pub next_loggable : {t0 : Database} {terminals : ℕ} {cells : CellsView} {history : List Entry} {reader : ReaderView} {work : Work} (number tid terminal : ℕ)
+    → AreLoggable t0.scale terminals history → IsWorkOf t0 cells reader work → AreNarrow (record_count t0.scale) cells → AreInRecordOrder work.reads work.writes
     → CommitsAt (replay t0 history) work.input work.writes work.reply → IsWellFormed (after (replay t0 history) work.input) → terminal < terminals
     → AreLoggable t0.scale terminals (history ++ entry_of number tid terminal work ∷ [])
-next_loggable {t0 = t0} {terminals = terminals} {history = history} {work = work} number tid terminal are is_work count ordered commits well_formed own =
+next_loggable {t0 = t0} {terminals = terminals} {cells = cells} {history = history} {work = work} number tid terminal are is_work count ordered commits well_formed own =
     let entry : Entry = entry_of number tid terminal work in
     record {
       each = All-push (IsLoggable t0.scale) history entry are.each (record {
         ordered = ordered.writes_ascend;
-        records = λ n value is. subst (λ m. n < m) count (is_work.limits.writes_cells n value is);
+        records = λ n value is. subst (λ m. n < m) (count_of (record_count t0.scale) cells count) (is_work.limits.writes_cells n value is);
+        narrow = λ n value is. (is_work.limits.writes_kinds n value is).narrow
+            (subst (λ m. n < m) (count_of (record_count t0.scale) cells count ∙ sym count.0) (is_work.limits.writes_cells n value is));
         limit = is_work.limits.writes_limit;
         done = merely (record { tables = replay t0 history; scale = replay-scale t0 history; well_formed = well_formed; commits = commits });
       });

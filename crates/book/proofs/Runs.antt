@@ -26,8 +26,10 @@ use Rattle.commit.proofs.Woven.{woven}
 use Rattle.commit.proofs.OwnEvents.{section_own, full_section_own, stale_section_own}
 use Rattle.commit.proofs.Current.{current_or_stale, next_of_reads}
 use Rattle.tables.specs.Database.{Database}
+use Rattle.tables.specs.Records.{record_count}
 use Rattle.cells.specs.Versions.{EndsWith, last_tid, value_in, newest as newest_of}
-use Rattle.cells.specs.Records.{CellsView, PenView, ReaderView, at, words_of}
+use Rattle.cells.proofs.Records.{count_of}
+use Rattle.cells.specs.Records.{CellsView, PenView, ReaderView, at, words_of, cell_count}
 use Rattle.cells.specs.declared.cells.Version.{Version}
 use Rattle.cells.proofs.Rising.{last_tid-last}
 use Rattle.readset.specs.Reads.{ReadSetView, held}
@@ -105,7 +107,7 @@ each_current m reads all n v e = All-contains (IsCurrent m) reads (n, v) (all_cu
 
 module _ {past : ℕ} {t0 : Database} {run_cells : CellsView} {epoch : ℕ} (k : BookView) {t : Database}
     (sound : IsSound past t0 k.written k.history t) (ready : IsReady past t0 run_cells epoch k.written k.history t)
-    {reader : ReaderView} {work : Work} (is_work : IsWorkOf t0 (length run_cells.narrow) reader work) (order : AreInRecordOrder work.reads work.writes)
+    {reader : ReaderView} {work : Work} (is_work : IsWorkOf t0 run_cells reader work) (order : AreInRecordOrder work.reads work.writes)
     (terminal w : ℕ) (m : Machine) (shows : Mirrors k terminal epoch work.reads m w) where
   abbrev reads : Reads
   reads = reads_of work.reads
@@ -114,21 +116,21 @@ module _ {past : ℕ} {t0 : Database} {run_cells : CellsView} {epoch : ℕ} (k :
   writes = work.writes.values
 
   -- each record has a newest version, which the machine shows
-  newest : (n : ℕ) → n < length run_cells.narrow → (v : List ℕ) × EndsWith (at k.written.all n) v
-  newest n h = (newest_of (at k.written.all n), has_newest sound n (subst (λ m. n < m) ready.count.0 h))
+  newest : (n : ℕ) → n < cell_count run_cells → (v : List ℕ) × EndsWith (at k.written.all n) v
+  newest n h = (newest_of (at k.written.all n), has_newest sound n (subst (λ m. n < m) (count_of (record_count t0.scale) run_cells ready.count) h))
 
-  shown : (n : ℕ) → n < length run_cells.narrow → (v : List ℕ) → EndsWith (at k.written.all n) v → cell m n ≡ cell_of v
-  shown n h = shows.records.newest n (subst (λ (l : CellsView). n < length l.narrow) (sym ready.cells) h)
+  shown : (n : ℕ) → n < cell_count run_cells → (v : List ℕ) → EndsWith (at k.written.all n) v → cell m n ≡ cell_of v
+  shown n h = shows.records.newest n (subst (λ (l : CellsView). n < cell_count l) (sym ready.cells) h)
 
-  as_many : length m.records ≡ length run_cells.narrow
-  as_many = shows.records.count ∙ ap (λ (cells : CellsView). length cells.narrow) ready.cells
+  as_many : length m.records ≡ cell_count run_cells
+  as_many = shows.records.count ∙ ap cell_count ready.cells
 
-  same_tid : (n : ℕ) → n < length run_cells.narrow → tid_of (cell m n).word ≡ last_tid (at k.written.all n)
+  same_tid : (n : ℕ) → n < cell_count run_cells → tid_of (cell m n).word ≡ last_tid (at k.written.all n)
   same_tid n h = let v = newest n h in ap (λ (c : Cell). tid_of c.word) (shown n h v.0 v.1) ∙ sym (last_tid-last (at k.written.all n) v.0 v.1)
 
   free : (n : ℕ) → n < length m.records → IsFree (cell m n).word
   free n small =
-      let h : n < length run_cells.narrow = subst (λ q. n < q) as_many small in
+      let h : n < cell_count run_cells = subst (λ q. n < q) as_many small in
       let v = newest n h in
       subst (λ (c : Cell). IsFree c.word) (sym (shown n h v.0 v.1)) (ready.free n h v.0 v.1)
 
@@ -193,7 +195,7 @@ module _ {past : ℕ} {t0 : Database} {run_cells : CellsView} {epoch : ℕ} (k :
         (cells : (n : ℕ) → cell after n ≡ written_cell (cell m n) tid (machine.note_at writes n))
         (stores : (n : ℕ) → at new.all n ≡ at k.written.all n ++ new_versions tid work.writes.values n) where
       -- the newest versions after the commit are the records after the run
-      newest_again : (n : ℕ) → n < length run_cells.narrow → (v : List ℕ) → EndsWith (at new.all n) v → cell after n ≡ cell_of v
+      newest_again : (n : ℕ) → n < cell_count run_cells → (v : List ℕ) → EndsWith (at new.all n) v → cell after n ≡ cell_of v
       newest_again n h v e =
           elim (value_for work.writes n) as (λ o. value_for work.writes n ≡ o → cell after n ≡ cell_of v) [
             | None ↦ λ none. cells n ∙ ap (written_cell (cell m n) tid) (found writes n ∙ none)
@@ -215,9 +217,9 @@ module _ {past : ℕ} {t0 : Database} {run_cells : CellsView} {epoch : ℕ} (k :
           ends = (
             commits.1,
             record {
-              count = commits.1.rest.records ∙ shows.records.count ∙ sym (ap (λ (cells : CellsView). length cells.narrow) cells);
+              count = commits.1.rest.records ∙ shows.records.count ∙ sym (ap cell_count cells);
               newest = λ n h. newest_again tid new bits (after_all m (section w reads writes)) commits.1.cells stores n
-                  (subst (λ (l : CellsView). n < length l.narrow) (cells ∙ ready.cells) h);
+                  (subst (λ (l : CellsView). n < cell_count l) (cells ∙ ready.cells) h);
             },
           );
           woven = woven m w (section w reads writes) (section_own w reads writes) commits.0;

@@ -9,7 +9,7 @@ use Rattle.commit.specs.Machine.{Machine, Worker, idle_worker, note_at, worker}
 use Rattle.commit.specs.declared.worker.Cell.{Cell}
 use Rattle.commit.specs.declared.worker.Phase.TheVariants.{Begun}
 use Rattle.cells.specs.Versions.{newest, value_in}
-use Rattle.cells.specs.Records.{at}
+use Rattle.cells.specs.Records.{at, cell_count}
 use Rattle.cells.proofs.Rising.{newest-push}
 use Rattle.readset.specs.Reads.{ReadSetView}
 use Rattle.book.specs.Stamps.{last_of}
@@ -31,7 +31,7 @@ module _ (k : BookView) (terminal epoch : ℕ) (read : ReadSetView) (w : ℕ) wh
 
   abbrev machine : Machine
   machine = record {
-    records = map record_of (range_with_len 0 (length k.written.cells.narrow));
+    records = map record_of (range_with_len 0 (cell_count k.written.cells));
     workers = replicate w idle_worker ++ begun ∷ [];
     epoch = epoch;
     finished = 0;
@@ -52,8 +52,8 @@ module _ (k : BookView) (terminal epoch : ℕ) (read : ReadSetView) (w : ℕ) wh
     machine,
     record {
       records = record {
-        count = length-map-range_with_len record_of 0 (length k.written.cells.narrow);
-        newest = λ n h v e. get_or-map-range_with_len record_of 0 (length k.written.cells.narrow) n n _ h (from_zero n)
+        count = length-map-range_with_len record_of 0 (cell_count k.written.cells);
+        newest = λ n h v e. get_or-map-range_with_len record_of 0 (cell_count k.written.cells) n n _ h (from_zero n)
             ∙ ap (λ (l : List (List ℕ)). cell_of (newest l)) e.1 ∙ ap cell_of (newest-push e.0 v);
       };
       present = small;

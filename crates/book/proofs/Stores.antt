@@ -1,6 +1,6 @@
 -- The stores of a commit, record by record.
-use Rattle.std.proofs.Common.{◌≡◌, ◌≢◌, ℕ, ◌<◌, true≢false, cond, Option, Some, None, IsSome, is_some, List, [], ◌∷◌, ◌++◌, ⊎_elim, refl, sym, ap, ◌∙◌, subst}
-use Rattle.std.proofs.lemmas.Bool.{cases_eq}
+use Rattle.std.proofs.Common.{◌≡◌, ◌≢◌, ℕ, ◌<◌, ◌≤◌, inl, inr, length, true≢false, cond, Option, Some, None, IsSome, is_some, List, [], ◌∷◌, ◌++◌, ⊎_elim, refl, sym, ap, ◌∙◌, subst}
+use Rattle.std.proofs.lemmas.Bool.{cases_eq, cases_lt}
 use Rattle.std.proofs.lemmas.List.{get_or-set_other, append-nil}
 use Rattle.std.proofs.lemmas.List.Elements.{All-head, All-tail}
 use Rattle.std.specs.Option.{option_map_or}
@@ -13,11 +13,12 @@ use Rattle.std.specs.declared.cmp.Ordering.{Ordering}
 use Rattle.std.specs.declared.cmp.Ordering.TheVariants.{Less}
 use Rattle.tidword.specs.TidWord.{tid_of}
 use Rattle.cells.specs.Versions.{last_tid}
-use Rattle.cells.specs.Records.{PenView, ReaderView, at, StoresVersion, LearnsRecord, HasGrown}
+use Rattle.cells.specs.Records.{CellsView, PenView, ReaderView, at, cell_count, IsNarrow, IsWide, StoresVersion, LearnsRecord, HasGrown}
 use Rattle.cells.specs.declared.cells.Version.{Version}
 use Rattle.cells.proofs.Grown.{grown_itself, learns_grown}
 use Rattle.readset.specs.Reads.{ReadSetView, held}
-use Rattle.readset.specs.Writes.{WriteSetView, value_for}
+use Rattle.readset.specs.Writes.{WriteSetView, AreWrittenOfKind, value_for}
+use Rattle.readset.proofs.NarrowOrWide.{never_both}
 use Rattle.readset.specs.Explains.{WritesAreRead}
 use Rattle.readset.proofs.Numbers.{same_test, other_test}
 use Rattle.book.specs.History.{committed_version, new_versions}
@@ -79,12 +80,12 @@ held_version None h = absurd (true≢false (sym h))
 held_version (Some v) h = (v, refl)
 
 -- what is written has a cell, since it was read
-pub written_within : (cells : ℕ) (r : ReaderView) (reads : ReadSetView) (writes : WriteSetView) → IsReadBy cells r reads → WritesAreRead writes reads
-    → (n : ℕ) (value : Option (List ℕ)) → value_for writes n ≡ Some value → n < cells
+pub written_within : (cells : CellsView) (r : ReaderView) (reads : ReadSetView) (writes : WriteSetView) → IsReadBy cells r reads → WritesAreRead writes reads
+    → (n : ℕ) (value : Option (List ℕ)) → value_for writes n ≡ Some value → n < cell_count cells
 written_within cells r reads writes by are_read n value e = let v = held_version (held reads n) (are_read n value e) in by.within n v.0 v.1
 
-module _ (cells : ℕ) (tid : ℕ) (pen0 : PenView) (r0 : ReaderView) (writes : WriteSetView)
-    (all_within : (n : ℕ) (value : Option (List ℕ)) → value_for writes n ≡ Some value → n < cells)
+module _ (cells : CellsView) (tid : ℕ) (pen0 : PenView) (r0 : ReaderView) (writes : WriteSetView)
+    (all_within : (n : ℕ) (value : Option (List ℕ)) → value_for writes n ≡ Some value → n < cell_count cells) (kinds : AreWrittenOfKind cells writes)
     (above : (n : ℕ) (value : Option (List ℕ)) → value_for writes n ≡ Some value → last_tid (at pen0.all n) < tid)
     (pen : PenView) (r : ReaderView) (rest : Values) (c : AreStored tid pen0 r0 writes pen r rest)
     (m : ℕ) (value : Option (List ℕ)) (next : Values) (steps : rest ≡ (m, value) ∷ next) where
@@ -94,8 +95,21 @@ module _ (cells : ℕ) (tid : ℕ) (pen0 : PenView) (r0 : ReaderView) (writes : 
   pub here : value_for writes m ≡ Some value
   here = All-head (λ e. value_for writes e.0 ≡ Some e.1) (m, value) next (subst (All (λ e. value_for writes e.0 ≡ Some e.1)) steps c.found)
 
-  pub within : m < cells
+  pub within : m < cell_count cells
   within = all_within m value here
+
+  -- what it is to hold says which kind of record it is
+  pub is_narrow : IsNarrow value → m < length cells.narrow
+  is_narrow narrow = elim (cases_lt m (length cells.narrow)) [
+    | inl small ↦ small
+    | inr large ↦ absurd (never_both value narrow ((kinds m value here).wide large))
+  ]
+
+  pub is_wide : IsWide value → length cells.narrow ≤ m
+  is_wide wide = elim (cases_lt m (length cells.narrow)) [
+    | inl small ↦ absurd (never_both value ((kinds m value here).narrow small) wide)
+    | inr large ↦ large
+  ]
 
   fresh : at pen.all m ≡ at pen0.all m
   fresh = c.waiting m (ap is_some (ap (find m) steps ∙ found_first m m value next refl))

@@ -31,7 +31,7 @@ whole n even = omega (arith, even)
 
 module _ {past : ℕ} {t0 : Database} {run_cells : CellsView} {epoch : ℕ} {written : PenView} {history : List Entry} {t : Database}
     (sound : IsSound past t0 written history t) (ready : IsReady past t0 run_cells epoch written history t)
-    {reader : ReaderView} {work : Work} (is_work : IsWorkOf t0 (length run_cells.narrow) reader work) (latest : AreLatest written.all work.reads)
+    {reader : ReaderView} {work : Work} (is_work : IsWorkOf t0 run_cells reader work) (latest : AreLatest written.all work.reads)
     (terminal : ℕ) {seen last : ℕ} (is_read : IsRead work.reads seen) (greatest : seen ≡ greatest_tid work.reads) (last_is : last ≡ last_of terminal history) where
   seen_within : IsTidWithin epoch (length history) seen
   seen_within = read_within sound ready is_work latest seen is_read

@@ -10,6 +10,7 @@ use Rattle.tables.specs.declared.limits.TheConstants.{MAX_COMMITS}
 use Rattle.tables.specs.declared.input.Input.{Input}
 use Rattle.tables.specs.declared.reply.Reply.{Reply}
 use Rattle.cells.specs.Records.{AreNarrow, CellsView, PenView, ReaderView}
+use Rattle.cells.proofs.Records.{count_of}
 use Rattle.cells.specs.Versions.{newest, value_in}
 use Rattle.encoding.proofs.Positions.{first_value}
 use Rattle.tables_laws.proofs.Kept.{after-scale, after-IsWellFormed}
@@ -53,13 +54,15 @@ first_records t0 made terminals are well_formed consistent = record {
 }
 
 -- a work's writes
-pub writes_there : (t0 t : Database) (cells : ℕ) (reader : ReaderView) (work : Work) → IsWorkOf t0 cells reader work → cells ≡ record_count t0.scale
+pub writes_there : (t0 t : Database) (cells : CellsView) (reader : ReaderView) (work : Work) → IsWorkOf t0 cells reader work → AreNarrow (record_count t0.scale) cells
     → t.scale ≡ t0.scale → AreInRecordOrder work.reads work.writes → AreWrites t.scale work.writes
 writes_there t0 t cells reader work is_work count scale ordered = record {
   ascend = ordered.writes_ascend;
   found = ordered.writes_found;
-  below = λ i d inside. subst (λ m. (get_or work.writes.values i d).0 < m) (count ∙ ap record_count (sym scale))
+  below = λ i d inside. subst (λ m. (get_or work.writes.values i d).0 < m) (count_of (record_count t0.scale) cells count ∙ ap record_count (sym scale))
       (is_work.limits.writes_cells _ _ (ordered.writes_found i d inside));
+  narrow = λ n value is. (is_work.limits.writes_kinds n value is).narrow
+      (subst (λ m. n < m) (count_of (record_count t0.scale) cells count ∙ sym count.0) (is_work.limits.writes_cells n value is));
 }
 
 -- totals that have followed a commit's writes, and then its stores
@@ -82,7 +85,7 @@ module _ {past : ℕ} {t0 : Database} {run_cells : CellsView} {epoch : ℕ} {wri
   rest : (n cap : ℕ) → n < cap → cap ≤ MAX_COMMITS → MAX_COMMITS - n ≡ MAX_COMMITS - (n + 1) + 1
   rest n cap h few = omega (arith, h, few)
 
-  pub may_follow : {v : TotalsView} → AreTotals t v → {reader : ReaderView} {work : Work} → IsWorkOf t0 (length run_cells.narrow) reader work → AreLatest written.all work.reads → AreInRecordOrder work.reads work.writes
+  pub may_follow : {v : TotalsView} → AreTotals t v → {reader : ReaderView} {work : Work} → IsWorkOf t0 run_cells reader work → AreLatest written.all work.reads → AreInRecordOrder work.reads work.writes
       → past + length history < t0.scale.commits → MayFollow t work.input work.reply v written work.writes
   may_follow totals {reader = reader} {work = work} is_work latest ordered below =
       let done : CommitsAt t work.input work.writes work.reply = subst (λ s. CommitsAt s work.input work.writes work.reply) sound.legal.end
@@ -93,7 +96,7 @@ module _ {past : ℕ} {t0 : Database} {run_cells : CellsView} {epoch : ℕ} {wri
         records = records_there sound ready.of_population.scale (subst (AreNarrow (record_count t0.scale)) (sym ready.cells) ready.count);
         input = done.input;
         commit = done.commit;
-        ordered = writes_there t0 t (length run_cells.narrow) reader work is_work ready.count.0 ready.of_population.scale ordered;
+        ordered = writes_there t0 t run_cells reader work is_work ready.count ready.of_population.scale ordered;
         leaves = after-IsWellFormed t work.input (MAX_COMMITS - (past + length history + 1)) done.input done.commit.numbered sound.well_formed sound.consistent
             room;
       }

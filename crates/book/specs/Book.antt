@@ -1,5 +1,5 @@
 -- What the book keeps, and what a commit does to it.
-use Rattle.std.specs.Prelude.{◌≡◌, ◌≢◌, ℕ, ◌<◌, ◌⊎◌, Option, Some, List, [], ◌∷◌, ◌++◌, length}
+use Rattle.std.specs.Prelude.{◌≡◌, ◌≢◌, ℕ, ◌<◌, ◌⊎◌, Option, Some, List, [], ◌∷◌, ◌++◌}
 use Rattle.std.specs.Ordering.{nat_cmp}
 use Rattle.std.specs.List.{All}
 use Rattle.std.specs.List.Sorted.{IsStrictlySortedBy}
@@ -12,7 +12,7 @@ use Rattle.tables.specs.Conditions.{IsConsistent}
 use Rattle.tables.specs.WellFormed.{IsWellFormed}
 use Rattle.tidword.specs.TidWord.{tid_of}
 use Rattle.cells.specs.Versions.{AllVersions, EndsWith, Has, last_tid, value_in}
-use Rattle.cells.specs.Records.{PenView, ReaderView, at, words_of}
+use Rattle.cells.specs.Records.{CellsView, PenView, ReaderView, at, cell_count, words_of}
 use Rattle.cells.specs.declared.cells.Version.{Version}
 use Rattle.readset.specs.Reads.{ReadSetView, held}
 use Rattle.readset.specs.Writes.{WriteSetView, value_for}
@@ -55,8 +55,8 @@ pub record IsSound (past : ℕ) (t0 : Database) (written : PenView) (history : L
       → value_in v ≡ rows t n
 
 -- each version is of its record, which has a cell, and is one that the reader has seen
-pub record IsReadBy (cells : ℕ) (reader : ReaderView) (reads : ReadSetView) : Type 0 where
-  pub within : (n : ℕ) (v : Version) → held reads n ≡ Some v → n < cells
+pub record IsReadBy (cells : CellsView) (reader : ReaderView) (reads : ReadSetView) : Type 0 where
+  pub within : (n : ℕ) (v : Version) → held reads n ≡ Some v → n < cell_count cells
   pub records : (n : ℕ) (v : Version) → held reads n ≡ Some v → v.record ≡ n
   pub seen : (n : ℕ) (v : Version) → held reads n ≡ Some v → Has (at reader.seen n) (words_of v)
 
@@ -68,7 +68,7 @@ pub record AreInRecordOrder (reads : ReadSetView) (writes : WriteSetView) : Type
   pub writes_found : All (λ write. value_for writes write.0 ≡ Some write.1) writes.values
 
 -- a transaction that this reader has executed, explained by what it read
-pub record IsWorkOf (t0 : Database) (cells : ℕ) (reader : ReaderView) (work : Work) : Type 0 where
+pub record IsWorkOf (t0 : Database) (cells : CellsView) (reader : ReaderView) (work : Work) : Type 0 where
   pub input : IsInput t0.scale work.input
   pub explained : Explains t0 work.input work.reads work.writes work.reply
   pub limits : IsWithinLimits cells work.reads work.writes
@@ -111,5 +111,5 @@ pub record Commits (old new : BookView) (entry : Entry) : Type 0 where
   pub taken : new.taken ≡ old.taken
   pub marks : new.marks ≡ old.marks
   pub cells : new.written.cells ≡ old.written.cells
-  pub versions : (n : ℕ) → n < length old.written.cells.narrow → at new.written.all n ≡ at old.written.all n
+  pub versions : (n : ℕ) → n < cell_count old.written.cells → at new.written.all n ≡ at old.written.all n
       ++ entry_versions entry n

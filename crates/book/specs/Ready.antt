@@ -8,7 +8,7 @@ use Rattle.tables.specs.declared.limits.TheConstants.{MAX_COMMITS}
 use Rattle.tables.specs.Records.{record_count}
 use Rattle.tidword.specs.TidWord.{is_locked, is_latest, epoch_of}
 use Rattle.cells.specs.Versions.{EndsWith, last_tid, word_in}
-use Rattle.cells.specs.Records.{AreNarrow, CellsView, PenView, at}
+use Rattle.cells.specs.Records.{AreNarrow, CellsView, PenView, at, cell_count}
 use Rattle.readset.specs.Writes.{value_for}
 use Rattle.book.specs.Stamps.{last_of}
 use Rattle.book.specs.declared.entry.Entry.{Entry}
@@ -41,10 +41,10 @@ pub record IsReady (past : ℕ) (t0 : Database) (run_cells : CellsView) (epoch :
   -- the next commit's TID is to be larger than those before it
   pub passed : All (IsPassed epoch written history) history
   -- there is one: no sequence is larger than the number of commits
-  pub records : (n : ℕ) → n < length run_cells.narrow → IsTidWithin epoch (length history) (last_tid (at written.all n))
+  pub records : (n : ℕ) → n < cell_count run_cells → IsTidWithin epoch (length history) (last_tid (at written.all n))
   pub terminals : (terminal : ℕ) → IsTidWithin epoch (length history) (last_of terminal history)
   -- each record's newest version says that it is the latest, and unlocked
-  pub free : (n : ℕ) → n < length run_cells.narrow → (v : List ℕ) → EndsWith (at written.all n) v → IsFree (word_in v)
+  pub free : (n : ℕ) → n < cell_count run_cells → (v : List ℕ) → EndsWith (at written.all n) v → IsFree (word_in v)
   -- the commit cap isn't passed, and there is room for the commits that are left
   pub cap : past + length history ≤ t0.scale.commits
   pub few : t0.scale.commits ≤ MAX_COMMITS

@@ -11,7 +11,7 @@ use Rattle.commit.specs.Weaving.{MayBeWoven}
 use Rattle.commit.specs.declared.worker.Cell.{Cell}
 use Rattle.commit.specs.declared.worker.Phase.TheVariants.{Begun}
 use Rattle.cells.specs.Versions.{EndsWith, value_in, word_in}
-use Rattle.cells.specs.Records.{PenView, at}
+use Rattle.cells.specs.Records.{PenView, at, cell_count}
 use Rattle.readset.specs.Reads.{ReadSetView, value_of}
 use Rattle.book.specs.Stamps.{last_of}
 use Rattle.book.specs.Book.{BookView}
@@ -26,8 +26,8 @@ shown_cell version = record { word = word_in version; value = value_in version }
 
 -- the machine's records are the newest versions of the cells
 pub record HasNewest (m : Machine) (pen : PenView) : Type 0 where
-  pub count : length m.records ≡ length pen.cells.narrow
-  pub newest : (n : ℕ) → n < length pen.cells.narrow → (v : List ℕ) → EndsWith (at pen.all n) v
+  pub count : length m.records ≡ cell_count pen.cells
+  pub newest : (n : ℕ) → n < cell_count pen.cells → (v : List ℕ) → EndsWith (at pen.all n) v
       → cell m n ≡ shown_cell v
 
 -- a machine shows the book to a terminal that has read this, as its worker w: its records are the book's newest

@@ -57,7 +57,7 @@ impl<K: Run> Book<K> {
         requires board { board.now ≡ K.board }
         requires cells { cells.now ≡ K.cells }
         requires reader { reader.old.cells ≡ K.cells }
-        requires work { IsWorkOf K.first (length K.cells.narrow) reader.old work }
+        requires work { IsWorkOf K.first K.cells reader.old work }
         ensures reader { HasGrown reader.old reader.new }
         ensures epoch { MatchResult result (λ done. CountsCommit self.old.seat self.new.seat)
             (λ refusal. LoadsEpoch self.old.seat self.new.seat) }

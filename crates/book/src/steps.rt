@@ -1,5 +1,5 @@
 //! The steps of a commit at the records' cells (Silo, section 4.4).
-ghost use Rattle.std.specs.Prelude.{◌≡◌, ◌%◌, length, MatchOption};
+ghost use Rattle.std.specs.Prelude.{◌≡◌, ◌%◌, ◌∷◌, ℕ, List, Some, MatchOption};
 ghost use Rattle.tidword.specs.TidWord.{tid_of};
 ghost use Rattle.cells.specs.Records.{HasGrown, newest_words};
 ghost use Rattle.book.specs.History.{committed_version};
@@ -32,7 +32,7 @@ pub(crate) fn validate<R: Wait>(
     reads: &ReadSet,
 ) -> Option<TidWord>
     requires own { (pen.old.cells ≡ cells.now) × (reader.old.cells ≡ cells.now) }
-    requires read { IsReadBy (length cells.now.narrow) reader.old reads.now }
+    requires read { IsReadBy cells.now reader.old reads.now }
     ensures pen { pen.new ≡ pen.old }
     ensures reader { HasGrown reader.old reader.new }
     ensures latest { MatchOption result (HasConflict pen.old.all reads.now)
@@ -41,11 +41,11 @@ pub(crate) fn validate<R: Wait>(
 {
     let mut seen = 0;
     for place in 0..reads.len() {
-        let version = reads.version(place);
-        if !cells.meet(rt, pen, reader, version) {
+        let (record, word) = reads.seen(place);
+        if !cells.is_latest(rt, pen, reader, record, word) {
             return None;
         }
-        seen = version.word.tid().word().max(seen);
+        seen = word.tid().word().max(seen);
     }
     Some(TidWord::new(seen))
 }
@@ -62,11 +62,26 @@ pub(crate) fn store<R: Wait>(
     requires { MayStore cells.now pen.old reader.old entry.now }
     ensures { StoresEntry pen.old pen.new reader.old reader.new entry.now }
 {
-    for (record, value) in entry.writes.values() {
+    let (narrow, wide) = entry.writes.parts();
+    for (record, value) in narrow {
         let version = version(entry.tid, value);
         cells.store(rt, pen, *record, version.word, version.payload);
         cells.learn(rt, pen, reader, *record);
     }
+    for (number, words) in wide {
+        let word = present_word(entry.tid);
+        cells.store_wide(rt, pen, *number, word, words);
+        cells.learn(rt, pen, reader, *number);
+    }
+}
+
+/// The TID word of a version that a commit with this TID makes, of a record that is then there.
+fn present_word(tid: TidWord) -> TidWord
+    requires no_bits { tid % 8 ≡ 0 }
+    ensures words { (words : List ℕ) → result ∷ words ≡ committed_version tid (Some words) }
+    ensures tid { tid_of result ≡ tid }
+{
+    tid.installed(&Some(NO_PAYLOAD))
 }
 
 /// The version that a commit with this TID makes of a value.

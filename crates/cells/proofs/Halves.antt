@@ -1,9 +1,10 @@
 -- Two lists in a row, of which one changes at a place; and what the pen and a reader of all records know, where they
 -- step at a narrow record, and at a wide one.
-use Rattle.std.proofs.Common.{◌≡◌, ℕ, zero, suc, ◌+◌, ◌<◌, List, [], ◌∷◌, ◌++◌, length, get_or, set, refl, sym, ap, ◌∙◌, subst, zero-add, suc-add, length-set}
+use Rattle.std.proofs.Common.{◌≡◌, ℕ, ◌+◌, ◌<◌, List, [], ◌∷◌, ◌++◌, length, get_or, set, sym, ap, ◌∙◌, subst, length-set}
 use Rattle.std.specs.Prelude.{slice_index}
 use Rattle.std.proofs.Math.ListN.{get_or-append}
 use Rattle.std.proofs.lemmas.List.{get_or-append-add, set-append_left, map-append}
+use Rattle.cells_holders.proofs.Paged.{set_after}
 use Rattle.cells_pages.specs.Versions.{StartsWith, EndsWith, IsRising}
 use Rattle.cells_holders.specs.Records.{PagesPen, PagesReader}
 use Rattle.cells.specs.Records.{PenView, ReaderView, at, both_pens, both_readers, seen_all, StoresVersion, LoadsRecord, LearnsRecord}
@@ -20,10 +21,6 @@ module _ {A : Type 0} (d : A) where
     pub first_others : new ++ ys ≡ set (xs ++ ys) n (get_or (new ++ ys) n d)
     first_others = ap (λ (l : List A). l ++ ys) e ∙ sym (set-append_left xs ys n (get_or new n d) within)
         ∙ ap (set (xs ++ ys) n) (sym first_at)
-
-  set_after : (xs ys : List A) (n : ℕ) (a : A) → set (xs ++ ys) (length xs + n) a ≡ xs ++ set ys n a
-  set_after [] ys n a = ap (λ k. set ys k a) (zero-add n)
-  set_after (x ∷ xs) ys n a = ap (λ k. set (x ∷ xs ++ ys) k a) (suc-add (length xs) n) ∙ ap (λ (l : List A). x ∷ l) (set_after xs ys n a)
 
   -- the second changes
   pub second_others : (xs ys new : List A) (n : ℕ) → new ≡ set ys n (get_or new n d)

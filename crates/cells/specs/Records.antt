@@ -1,6 +1,9 @@
--- What the holder of the pen and a reader know of all records, and what a record holds by its newest version. Records of
--- a row's words, the narrow ones, come first by record number; behind them those of a customer's text, the wide ones.
-use Rattle.std.specs.Prelude.{◌≡◌, ℕ, ◌+◌, Option, List, [], ◌∷◌, ◌++◌, length}
+-- What the holder of the pen and a reader know of all records, and what a record holds by its newest version. Narrow
+-- records, of a row's words or a number, come first by record number; behind them wide ones, of a customer's text.
+use Rattle.std.specs.Prelude.{◌≡◌, ℕ, ◌+◌, ◌<◌, ◌≤◌, Option, List, ◌∷◌, ◌++◌, length}
+use Rattle.std.specs.Option.{ForSome, IsSomeAnd}
+use Rattle.money.specs.declared.payload.TheConstants.{PAYLOAD_WORDS}
+use Rattle.customer_data.specs.declared.words.TheConstants.{DATA_WORDS}
 use Rattle.atomic_table.specs.Seated.{TableId}
 use Rattle.cells.specs.declared.cells.Version.{Version}
 use Rattle.cells.specs.declared.cells.Newest.{Newest}
@@ -19,6 +22,18 @@ pub record CellsView : Type 0 where
 
 abbrev pub cell_count : CellsView → ℕ
 cell_count cells = length cells.narrow + length cells.wide
+
+-- what a narrow record may hold: so many words, or nothing; and what a wide one does
+abbrev pub IsNarrow : Option (List ℕ) → Type 0
+IsNarrow value = ForSome value (λ words. length words ≡ PAYLOAD_WORDS)
+
+abbrev pub IsWide : Option (List ℕ) → Type 0
+IsWide value = IsSomeAnd value (λ words. length words ≡ DATA_WORDS)
+
+-- record n may hold it
+pub record IsOfKind (cells : CellsView) (n : ℕ) (value : Option (List ℕ)) : Type 0 where
+  pub narrow : n < length cells.narrow → IsNarrow value
+  pub wide : length cells.narrow ≤ n → IsWide value
 
 -- so many narrow records, and no wide one
 abbrev pub AreNarrow : ℕ → CellsView → Type 0

@@ -1,5 +1,5 @@
 //! The cells of all records.
-ghost use Rattle.std.specs.Prelude.{◌≡◌, ◌≢◌, ◌<◌, ◌≤◌, Some, [], ◌∷◌, length, slice_get, MatchBool, is_some};
+ghost use Rattle.std.specs.Prelude.{◌≡◌, ◌≢◌, ◌<◌, ◌≤◌, ℕ, List, Some, [], ◌∷◌, length, slice_get, MatchBool, is_some};
 ghost use Rattle.atomic_table.specs.Seated.{TableId};
 ghost use Rattle.tidword.specs.TidWord.{tid_of};
 ghost use Rattle.cells.specs.Versions.{EndsWith, Has, last_tid, newest, value_in, word_in};
@@ -43,8 +43,8 @@ impl Newest {
     }
 }
 
-/// The cells of all records. Contracts see which cells they are: those of the narrow records, which hold the words of a
-/// row, by record number, and those of the wide ones behind them, which hold the words of a customer's text.
+/// The cells of all records. Contracts see which cells they are: those of the narrow records, which hold a row's words
+/// or a number, by record number, and those of the wide ones behind them, which hold the words of a customer's text.
 #[derive(Drop)]
 pub struct Cells {
     narrow: PageList<CELL_WORDS>,
@@ -113,7 +113,8 @@ impl Cells {
         self.wide.page(place)
     }
 
-    /// The latest version of a narrow record, whose words are all of one version: never a mix of two (Silo, section 4.5).
+    /// The latest version of a narrow record, whose words are all of one version: never a mix of two (Silo, section
+    /// 4.5).
     ///
     /// One load step, which takes effect between the call and the return. It tries again only where a version is
     /// being stored in this record, or has been since it began. Takes no lock and no memory.
@@ -132,8 +133,9 @@ impl Cells {
         }
     }
 
-    /// Makes a version the latest of its record, a narrow one: its TID is larger than that of the latest so far. Readers see all
-    /// of it or nothing of it. Takes no memory. Constant time: it never waits, and stores only words that change.
+    /// Makes a version the latest of its record, a narrow one: its TID is larger than that of the latest so far.
+    /// Readers see all of it or nothing of it. Takes no memory. Constant time: it never waits, and stores only words
+    /// that change.
     pub fn store<R: Wait>(
         &self,
         _rt: &R,
@@ -171,12 +173,32 @@ impl Cells {
         ensures latest { MatchBool result (EndsWith (at pen.old.all version.now.record) (words_of version.now))
             (tid_of version.now.word ≢ last_tid (at pen.old.all version.now.record)) }
     {
-        let latest = self.learn(rt, pen, reader, version.record);
-        latest.tid() == version.word.tid()
+        self.is_latest(rt, pen, reader, version.record, version.word)
     }
 
-    /// Lets a reader see all versions of a record, as one that has just stored the last of them, and gives that one's TID
-    /// word. Takes no memory. Constant time: four loads, and it never waits.
+    /// The same by the TID word alone of a version that the reader has read of a record, a narrow or a wide one.
+    pub fn is_latest<R: Wait>(
+        &self,
+        rt: &R,
+        pen: &mut Pen,
+        reader: &mut Reader,
+        number: u32,
+        word: TidWord,
+    ) -> bool
+        requires own { (pen.old.cells ≡ self.now) × (reader.old.cells ≡ self.now) }
+        requires is_record { number < cell_count self.now }
+        ensures pen { pen.new ≡ pen.old }
+        ensures reader { LearnsRecord pen.old reader.old reader.new number }
+        ensures latest { (payload : List ℕ) → Has (at reader.old.seen number) (word ∷ payload)
+            → MatchBool result (EndsWith (at pen.old.all number) (word ∷ payload))
+            (tid_of word ≢ last_tid (at pen.old.all number)) }
+    {
+        let latest = self.learn(rt, pen, reader, number);
+        latest.tid() == word.tid()
+    }
+
+    /// Lets a reader see all versions of a record, as one that has just stored the last of them, and gives that one's
+    /// TID word. Takes no memory. Constant time: four loads, and it never waits.
     pub fn learn<R: Wait>(
         &self,
         _rt: &R,
@@ -210,9 +232,9 @@ impl Cells {
         TidWord::new(pen.meet_wide(self.wide_page(place), place, reader))
     }
 
-    /// What a narrow record holds by its newest version: its data, or nothing where it is absent. Only the pen knows that:
-    /// nobody else stores. Takes no memory. Constant time: one load where the record is absent,
-    /// else one for each word and one more, and it never waits.
+    /// What a narrow record holds by its newest version: its data, or nothing where it is absent. Only the pen knows
+    /// that: nobody else stores. Takes no memory. Constant time: one load where the record is absent, else one for each
+    /// word and one more, and it never waits.
     #[inline(always)]
     pub fn held(&self, pen: &mut Pen, number: u32) -> Option<Payload>
         requires own { pen.old.cells ≡ self.now }

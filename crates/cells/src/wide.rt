@@ -18,7 +18,8 @@ pub struct WideVersion {
     pub payload: DataWords,
 }
 
-/// A version without its record: its TID word, and its data. It is what a wide record begins with, or its newest version.
+/// A version without its record: its TID word, and its data. It is what a wide record begins with, or its newest
+/// version.
 #[derive(Clone, Copy, Debug, PartialEq, Eq)]
 pub struct WideNewest {
     pub word: TidWord,
@@ -94,8 +95,7 @@ impl Cells {
             (EndsWith (at pen.old.all version.now.record) (wide_words_of version.now))
             (tid_of version.now.word ≢ last_tid (at pen.old.all version.now.record)) }
     {
-        let latest = self.learn(rt, pen, reader, version.record);
-        latest.tid() == version.word.tid()
+        self.is_latest(rt, pen, reader, version.record, version.word)
     }
 
     /// What a wide record holds by its newest version, as `held` tells of a narrow one: 65 loads at most.

@@ -37,6 +37,11 @@ same_length f g (s ∷ ss) same = length-append (f s) (flat_map f ss)
     ∙ (λ i. All-head (λ s. length (f s) ≡ length (g s)) s ss same i + same_length f g ss (All-tail (λ s. length (f s) ≡ length (g s)) s ss same) i)
     ∙ sym (length-append (g s) (flat_map g ss))
 
+-- of two lists in a row, the second changes
+pub set_after : {A : Type 0} (xs ys : List A) (n : ℕ) (a : A) → set (xs ++ ys) (length xs + n) a ≡ xs ++ set ys n a
+set_after [] ys n a = ap (λ k. set ys k a) (zero-add n)
+set_after {A} (x ∷ xs) ys n a = ap (λ k. set (x ∷ xs ++ ys) k a) (suc-add (length xs) n) ∙ ap (λ (l : List A). x ∷ l) (set_after xs ys n a)
+
 module _ {S A : Type 0} (f : S → List A) (d : S) where
   abbrev Paged : List S → Type 0
   Paged ss = IsPaged (map (λ s. length (f s)) ss)
@@ -65,10 +70,6 @@ module _ {S A : Type 0} (f : S → List A) (d : S) where
   found (s ∷ []) (suc k) m a paged h l = absurd (omega arith)
   found (s ∷ t ∷ ss) (suc k) m a paged h l = ap (λ i. get_or (f s ++ flat_map f (t ∷ ss)) i a) (next_number (length (f s)) k m paged.0)
       ∙ get_or-append-add (f s) (flat_map f (t ∷ ss)) (k * 4096 + m) a ∙ found (t ∷ ss) k m a paged.1 (omega arith) l
-
-  set_after : (xs ys : List A) (n : ℕ) (a : A) → set (xs ++ ys) (length xs + n) a ≡ xs ++ set ys n a
-  set_after [] ys n a = ap (λ k. set ys k a) (zero-add n)
-  set_after (x ∷ xs) ys n a = ap (λ k. set (x ∷ xs ++ ys) k a) (suc-add (length xs) n) ∙ ap (λ (l : List A). x ∷ l) (set_after xs ys n a)
 
   -- list k changes at m
   pub set_in : (ss : List S) (k m : ℕ) (q : S) (a : A) → Paged ss → k < length ss → m < length (f (get_or ss k d)) → f q ≡ set (f (get_or ss k d)) m a

@@ -3,7 +3,7 @@ ghost use Rattle.std.specs.Prelude.{◌≡◌, ◌++◌, ◌<◌, ◌≤◌, ◌
 ghost use Rattle.std.specs.List.{filter};
 ghost use Rattle.tables.specs.Records.{first_number, record_count};
 ghost use Rattle.tables.specs.declared.records.Table.TheVariants as table;
-ghost use Rattle.readset.specs.Writes.{added, value_for};
+ghost use Rattle.readset.specs.Writes.{added, value_for, WritesAreNarrow};
 ghost use Rattle.tables.specs.declared.limits.TheConstants.{MAX_WRITES};
 ghost use Rattle.log_text.specs.Writes.{write_text};
 ghost use Rattle.log_text.specs.Entries.{entry_text};
@@ -27,6 +27,7 @@ pub fn put_entry(out: &mut Vec<u8>, scale: &Scale, entry: &Entry) -> Result<(), 
     requires count { length entry.now.writes.values ≤ MAX_WRITES }
     requires numbers { (n : ℕ) (value : Option (List ℕ)) → value_for entry.now.writes n ≡ Some value
         → n < record_count scale.now }
+    requires narrow { WritesAreNarrow entry.now.writes }
     ensures { OnOk result (out.new.items ≡ out.old.items ++ entry_text (logged_entry scale.now entry.now)) }
 {
     put_front(
@@ -41,7 +42,8 @@ pub fn put_entry(out: &mut Vec<u8>, scale: &Scale, entry: &Entry) -> Result<(), 
 
 /// How many writes an entry has.
 fn count(writes: &WriteList) -> u16
-    requires { length writes.now.values ≤ MAX_WRITES }
+    requires count { length writes.now.values ≤ MAX_WRITES }
+    requires narrow { WritesAreNarrow writes.now }
     ensures { result ≡ length writes.now.values + length (added writes.now.history_row) }
 {
     let values = writes.values().len() as u16;
@@ -53,7 +55,9 @@ fn count(writes: &WriteList) -> u16
 
 /// Appends what was written: the records before HISTORY, its row, and the records behind it.
 fn put_writes(out: &mut Vec<u8>, scale: &Scale, writes: &WriteList) -> Result<(), AllocError>
-    requires { (n : ℕ) (value : Option (List ℕ)) → value_for writes.now n ≡ Some value → n < record_count scale.now }
+    requires numbers { (n : ℕ) (value : Option (List ℕ)) → value_for writes.now n ≡ Some value
+        → n < record_count scale.now }
+    requires narrow { WritesAreNarrow writes.now }
     ensures { OnOk result (out.new.items ≡ out.old.items ++ flat_map write_text (writes_of scale.now writes.now)) }
 {
     let values = writes.values();

@@ -7,6 +7,10 @@ mod Search
 mod Placed
 mod Ordered
 pub mod Entries
+mod TwoKinds
+mod Sets
+pub mod NarrowOrWide
+mod WritesListed
 mod Loaded
 pub mod UnderWay
 mod RowRead

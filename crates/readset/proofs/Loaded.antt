@@ -1,20 +1,16 @@
 -- What has been read, after the load of one record more.
-use Rattle.std.proofs.Common.{◌≡◌, ◌≢◌, ℕ, ◌+◌, ◌<◌, ◌≤◌, [], Some, None, Result, Ok, Err, IfOk, OnErr, cond, length, get_or, arith, refl, sym, ap, ◌∙◌, subst, ⊎_elim, slice_index}
+use Rattle.std.proofs.Common.{◌≡◌, ◌≢◌, ℕ, ◌+◌, ◌<◌, ◌≤◌, [], Some, None, Result, Ok, Err, IfOk, OnErr, cond, length, arith, refl, sym, ap, ◌∙◌, subst, ⊎_elim, slice_index}
 use Rattle.std.proofs.lemmas.Bool.{cases_eq}
 use Rattle.std.proofs.lemmas.List.{get_or-set_other}
 use Rattle.std.specs.Ordering.{nat_cmp, is_eq}
 use Rattle.std.specs.BTreeMap.{insert_entry}
-use Rattle.std.specs.List.Sorted.{IsStrictlySortedBy}
-use Rattle.std.specs.Map.{keys_of}
 use Rattle.money.specs.declared.refusal.Refusal.{Refusal}
-use Rattle.readset.specs.Places.{place}
-use Rattle.readset.proofs.Placed.{stands, goes}
 use Rattle.readset.proofs.Numbers.{same_test, other_test}
 use Rattle.readset.proofs.Lookups.{lookup-insert_entry}
 use Rattle.cells.specs.Versions.{StartsWith, EndsWith}
-use Rattle.cells.specs.Records.{ReaderView, LoadsRecord, words_of, at}
+use Rattle.cells.specs.Records.{CellsView, IsOfKind, ReaderView, LoadsRecord, words_of, at}
 use Rattle.cells.specs.declared.cells.Version.{Version}
-use Rattle.readset.specs.Reads.{ReadSetView, held, Keeps, AreWithin, AreRead}
+use Rattle.readset.specs.Reads.{ReadSetView, held, Keeps, AreWithin, AreReadOfKind, AreRead}
 use Rattle.readset.proofs.WrittenRecords.{length-insert_entry}
 
 same_version : (v w : Version) → Some v ≡ Some w → v ≡ w
@@ -70,60 +66,57 @@ load_put first old new reads n v so_far load named absent =
     (lookup-insert_entry n n v reads ∙ ap (λ b. cond b (Some v) (held reads n)) (same_test n n refl))
     (λ m apart. lookup-insert_entry m n v reads ∙ ap (λ b. cond b (Some v) (held reads m)) (other_test m n apart))
 
--- the same of a load that may have had no memory, when nothing was read
-pub load_chain : (first old new : ReaderView) (reads more : ReadSetView) (n : ℕ) (result : Result Version Refusal) → held reads n ≡ None
-    → IfOk result (λ v. LoadsRecord old new n (words_of v) × (v.record ≡ n)) → IfOk result (λ v. more ≡ insert_entry nat_cmp reads n v)
-    → OnErr result (new ≡ old) → OnErr result (more ≡ reads) → AreRead first old reads → AreRead first new more
-load_chain first old new reads more n (Ok v) absent load put unread kept so_far =
-    subst (AreRead first new) (sym put) (load_put first old new reads n v so_far load.0 load.1 absent)
-load_chain first old new reads more n (Err e) absent load put unread kept so_far =
-    subst (λ (p : ReaderView × ReadSetView). AreRead first p.0 p.1) (λ i. (sym unread i, sym kept i)) so_far
+-- of what a load gives, which tells a version, or of one that had no memory
+module _ {Y : Type 0} (f : Y → Version) where
+  -- what was read then
+  pub load_chain : (first old new : ReaderView) (reads more : ReadSetView) (n : ℕ) (result : Result Y Refusal) → held reads n ≡ None
+      → IfOk result (λ y. LoadsRecord old new n (words_of (f y)) × ((f y).record ≡ n))
+      → IfOk result (λ y. more ≡ insert_entry nat_cmp reads n (f y))
+      → OnErr result (new ≡ old) → OnErr result (more ≡ reads) → AreRead first old reads → AreRead first new more
+  load_chain first old new reads more n (Ok y) absent load put unread kept so_far =
+      subst (AreRead first new) (sym put) (load_put first old new reads n (f y) so_far load.0 load.1 absent)
+  load_chain first old new reads more n (Err e) absent load put unread kept so_far =
+      subst (λ (p : ReaderView × ReadSetView). AreRead first p.0 p.1) (λ i. (sym unread i, sym kept i)) so_far
 
--- a version that a look-up finds at its place, and a record that has none
-pub read_there : (entries reads items : ReadSetView) (n at : ℕ) (r : Result ℕ ℕ) (v : Version) → entries ≡ reads → items ≡ entries
-    → r ≡ place items n → r ≡ Ok at → ((d : ℕ × Version) → v ≡ (get_or items at d).1) → held reads n ≡ Some v
-read_there entries reads items n at r v view same search found is =
-    let d : ℕ × Version = (n, v) in
-    ap (λ (reads : ReadSetView). held reads n) (sym view) ∙ ap (λ (es : ReadSetView). held es n) (sym same)
-    ∙ (stands n items at (sym search ∙ found)).value d ∙ ap Some (sym (is d))
+  -- what is held then of a record that wasn't
+  pub record IsLoaded (reads more : ReadSetView) (n : ℕ) (result : Result Y Refusal) : Type 0 where
+    pub holds : IfOk result (λ y. held more n ≡ Some (f y))
+    pub others : (m : ℕ) → m ≢ n → held more m ≡ held reads m
+    pub limit : length more ≤ length reads + 1
+    pub keeps : Keeps reads more
+    pub within : (cells : ℕ) → n < cells → AreWithin cells reads → AreWithin cells more
+    pub kinds : (cells : CellsView) → AreReadOfKind cells reads → IfOk result (λ y. IsOfKind cells n (Some (f y).payload)) → AreReadOfKind cells more
 
-pub unread : (entries reads items : ReadSetView) (n at : ℕ) (r : Result ℕ ℕ) → entries ≡ reads → items ≡ entries → IsStrictlySortedBy nat_cmp (keys_of entries)
-    → r ≡ place items n → r ≡ Err at → held reads n ≡ None
-unread entries reads items n at r view same ordered search gap =
-    ap (λ (reads : ReadSetView). held reads n) (sym view)
-    ∙ (goes n entries at ordered (ap (λ (es : ReadSetView). place es n) (sym same) ∙ sym search ∙ gap)).absent
-
--- what is held after a load of a record that wasn't, or after one for which there was no memory
-pub record IsLoaded (reads more : ReadSetView) (n : ℕ) (result : Result Version Refusal) : Type 0 where
-  pub holds : IfOk result (λ v. held more n ≡ Some v)
-  pub others : (m : ℕ) → m ≢ n → held more m ≡ held reads m
-  pub limit : length more ≤ length reads + 1
-  pub keeps : Keeps reads more
-  pub within : (cells : ℕ) → n < cells → AreWithin cells reads → AreWithin cells more
-
-pub loaded : (reads more : ReadSetView) (n : ℕ) (result : Result Version Refusal) → held reads n ≡ None
-    → IfOk result (λ v. more ≡ insert_entry nat_cmp reads n v) → OnErr result (more ≡ reads) → IsLoaded reads more n result
-loaded reads more n (Ok v) absent put kept =
-    let at : (m : ℕ) → held more m ≡ cond (is_eq (nat_cmp m n)) (Some v) (held reads m) =
-    λ m. ap (λ (r : ReadSetView). held r m) put ∙ lookup-insert_entry m n v reads in
-    let others : (m : ℕ) → m ≢ n → held more m ≡ held reads m = λ m apart. at m ∙ ap (λ b. cond b (Some v) (held reads m)) (other_test m n apart) in
-    record {
-      holds = at n ∙ ap (λ b. cond b (Some v) (held reads n)) (same_test n n refl);
-      others = others;
-      limit = let one = length-insert_entry n v reads in let same : length more ≡ length (insert_entry nat_cmp reads n v) = ap length put in
-          omega (arith, one, same);
-      keeps = λ m w found. ⊎_elim
-          (λ (e : m ≡ n). absurd (none_some w (sym absent ∙ ap (held reads) (sym e) ∙ found)))
-          (λ (apart : m ≢ n). others m apart ∙ found)
-          (cases_eq m n);
-      within = λ cells inside all m w found. ⊎_elim
-          (λ (e : m ≡ n). subst (λ k. k < cells) (sym e) inside)
-          (λ (apart : m ≢ n). all m w (sym (others m apart) ∙ found))
-          (cases_eq m n);
-    }
-  where
-    none_some : (w : Version) → None ≡ Some w → ⊥
-    none_some w e = cc
-loaded reads more n (Err refusal) absent put kept =
-    subst (λ (r : ReadSetView). IsLoaded reads r n (Err refusal)) (sym kept)
-    (record { holds = tt; others = λ m apart. refl; limit = omega arith; keeps = λ m w found. found; within = λ cells inside all. all })
+  pub loaded : (reads more : ReadSetView) (n : ℕ) (result : Result Y Refusal) → held reads n ≡ None
+      → IfOk result (λ y. more ≡ insert_entry nat_cmp reads n (f y)) → OnErr result (more ≡ reads) → IsLoaded reads more n result
+  loaded reads more n (Ok y) absent put kept =
+      let v = f y in
+      let at : (m : ℕ) → held more m ≡ cond (is_eq (nat_cmp m n)) (Some v) (held reads m) =
+      λ m. ap (λ (r : ReadSetView). held r m) put ∙ lookup-insert_entry m n v reads in
+      let others : (m : ℕ) → m ≢ n → held more m ≡ held reads m = λ m apart. at m ∙ ap (λ b. cond b (Some v) (held reads m)) (other_test m n apart) in
+      let here : held more n ≡ Some v = at n ∙ ap (λ b. cond b (Some v) (held reads n)) (same_test n n refl) in
+      record {
+        holds = here;
+        others = others;
+        limit = let one = length-insert_entry n v reads in let same : length more ≡ length (insert_entry nat_cmp reads n v) = ap length put in
+            omega (arith, one, same);
+        keeps = λ m w found. ⊎_elim
+            (λ (e : m ≡ n). absurd (none_some w (sym absent ∙ ap (held reads) (sym e) ∙ found)))
+            (λ (apart : m ≢ n). others m apart ∙ found)
+            (cases_eq m n);
+        within = λ cells inside all m w found. ⊎_elim
+            (λ (e : m ≡ n). subst (λ k. k < cells) (sym e) inside)
+            (λ (apart : m ≢ n). all m w (sym (others m apart) ∙ found))
+            (cases_eq m n);
+        kinds = λ cells all kind m w found. ⊎_elim
+            (λ (e : m ≡ n). subst (λ (k : ℕ × Version). IsOfKind cells k.0 (Some k.1.payload))
+            (λ i. (sym e i, same_version v w (sym here ∙ ap (held more) (sym e) ∙ found) i)) kind)
+            (λ (apart : m ≢ n). all m w (sym (others m apart) ∙ found))
+            (cases_eq m n);
+      }
+    where
+      none_some : (w : Version) → None ≡ Some w → ⊥
+      none_some w e = cc
+  loaded reads more n (Err refusal) absent put kept =
+      subst (λ (r : ReadSetView). IsLoaded reads r n (Err refusal)) (sym kept)
+      (record { holds = tt; others = λ m apart. refl; limit = omega arith; keeps = λ m w found. found; within = λ cells inside all. all; kinds = λ cells all kind. all })

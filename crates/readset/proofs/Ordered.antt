@@ -8,11 +8,11 @@ use Rattle.std.specs.BTreeMap.{insert_entry}
 use Rattle.std.proofs.lemmas.Bool.{eqb-true, cases_lt}
 use Rattle.std.proofs.lemmas.List.{get_or-map, get_or_default, get_or_append_left, get_or_push, ext_get_or, length-map, length-append}
 use Rattle.std.proofs.lemmas.List.Edits.{insert_end}
-use Rattle.std.proofs.lemmas.List.Elements.{All-nil, All-cons, All-head, All-tail}
+use Rattle.std.proofs.lemmas.List.Elements.{All-nil, All-head, All-tail}
 use Rattle.readset.specs.Places.{place, one_further}
 use Rattle.readset.specs.Arrivals.{AreArrivals, in_order, all_taken, entry_at_place}
 use Rattle.readset.proofs.Entries.{none_ordered}
-use Rattle.readset.proofs.Placed.{Stands, Goes, stands, goes, ordered_put}
+use Rattle.readset.proofs.Placed.{Stands, Goes, all_put, stands, goes, ordered_put}
 
 -- without entries there is no place
 pub no_place : (order : List (ℕ × ℕ)) → 0 < length order → All (λ o. o.1 < 0) order → ⊥
@@ -36,16 +36,6 @@ some_put n p (o ∷ order) =
       | Less ↦ omega arith
       | Equal ↦ omega arith
       | Greater ↦ omega arith
-    ]
-
-all_put : (P : ℕ → Type 0) (n p : ℕ) (order : List (ℕ × ℕ)) → P p → All (λ o. P o.1) order → All (λ o. P o.1) (insert_entry nat_cmp order n p)
-all_put P n p [] here all = All-cons (λ (o : ℕ × ℕ). P o.1) (n, p) [] here all
-all_put P n p (o ∷ order) here all =
-    let Q = λ (o : ℕ × ℕ). P o.1 in
-    elim (nat_cmp n o.0) as (λ c. All Q (match_ordering c ((n, p) ∷ o ∷ order) ((o.0, p) ∷ order) (o ∷ insert_entry nat_cmp order n p))) [
-      | Less ↦ All-cons Q (n, p) (o ∷ order) here all
-      | Equal ↦ All-cons Q (o.0, p) order here (All-tail Q o order all)
-      | Greater ↦ All-cons Q o (insert_entry nat_cmp order n p) (All-head Q o order all) (all_put P n p order here (All-tail Q o order all))
     ]
 
 module _ {X : Type 0} where

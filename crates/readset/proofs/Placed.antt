@@ -1,5 +1,5 @@
 -- What entries in the order of their numbers are after a write at a number's place.
-use Rattle.std.proofs.Common.{◌≡◌, ℕ, suc, ◌<◌, ◌≤◌, List, [], ◌∷◌, Some, None, Result, Ok, Err, is_ok, true≢false, length, get_or, set, refl, sym, ap, ◌∙◌, subst, arith}
+use Rattle.std.proofs.Common.{◌≡◌, ℕ, suc, ◌<◌, ◌≤◌, All, List, [], ◌∷◌, Some, None, Result, Ok, Err, is_ok, true≢false, length, get_or, set, refl, sym, ap, ◌∙◌, subst, arith}
 use Rattle.std.specs.Ordering.{nat_cmp, is_eq, match_ordering, ordering_reverse}
 use Rattle.std.specs.declared.cmp.Ordering.{Ordering}
 use Rattle.std.specs.declared.cmp.Ordering.TheVariants.{Less, Equal, Greater}
@@ -9,6 +9,7 @@ use Rattle.std.specs.Map.{keys_of, lookup}
 use Rattle.std.specs.BTreeMap.{is_at, insert_entry}
 use Rattle.std.proofs.lemmas.Cmp.{nat_cmp_total}
 use Rattle.std.proofs.lemmas.Option.{same_Some}
+use Rattle.std.proofs.lemmas.List.Elements.{All-cons, All-head, All-tail}
 use Rattle.std.proofs.lemmas.Map.Entries.{lookup_head, lookup_tail, lookup_at_gap}
 use Rattle.std.proofs.lemmas.Map.Keys.{sorted_tail}
 use Rattle.readset.specs.Places.{place, one_further}
@@ -33,6 +34,17 @@ ok_further (Err j) i e = absurd (true≢false (sym (ap is_ok e)))
 err_further : (r : Result ℕ ℕ) (i : ℕ) → one_further r ≡ Err i → (j : ℕ) × (suc j ≡ i) × (r ≡ Err j)
 err_further (Ok j) i e = absurd (true≢false (ap is_ok e))
 err_further (Err j) i e = (j, ap at e, refl)
+
+-- what is so of each entry, with one more
+pub all_put : {X : Type 0} (P : X → Type 0) (n : ℕ) (v : X) (es : List (ℕ × X)) → P v → All (λ e. P e.1) es → All (λ e. P e.1) (insert_entry nat_cmp es n v)
+all_put {X} P n v [] here all = All-cons (λ (e : ℕ × X). P e.1) (n, v) [] here all
+all_put {X} P n v (e ∷ es) here all =
+    let Q = λ (e : ℕ × X). P e.1 in
+    elim (nat_cmp n e.0) as (λ o. All Q (match_ordering o ((n, v) ∷ e ∷ es) ((e.0, v) ∷ es) (e ∷ insert_entry nat_cmp es n v))) [
+      | Less ↦ All-cons Q (n, v) (e ∷ es) here all
+      | Equal ↦ All-cons Q (e.0, v) es here (All-tail Q e es all)
+      | Greater ↦ All-cons Q e (insert_entry nat_cmp es n v) (All-head Q e es all) (all_put P n v es here (All-tail Q e es all))
+    ]
 
 module _ {X : Type 0} (n : ℕ) where
   -- the number's entry stands at this place

@@ -17,13 +17,13 @@ use Rattle.std.proofs.lemmas.Map.Keys.{below_from_sorted, sorted_tail}
 use Rattle.readset.specs.Places.{place, one_further}
 
 -- how two numbers compare
-less : (n m : ℕ) → n < m → nat_cmp n m ≡ Less
+pub less : (n m : ℕ) → n < m → nat_cmp n m ≡ Less
 less n m h = sym (nat_cmp_is n m Less h)
 
 equal : (n m : ℕ) → n ≡ m → nat_cmp n m ≡ Equal
 equal n m h = sym (nat_cmp_is n m Equal h)
 
-greater : (n m : ℕ) → m < n → nat_cmp n m ≡ Greater
+pub greater : (n m : ℕ) → m < n → nat_cmp n m ≡ Greater
 greater n m h = sym (nat_cmp_is n m Greater h)
 
 module _ {X : Type 0} where

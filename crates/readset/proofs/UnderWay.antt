@@ -11,9 +11,9 @@ use Rattle.tables.specs.declared.input.Input.{Input}
 use Rattle.tables.specs.declared.reply.Reply.{Reply}
 use Rattle.money.specs.declared.refusal.Refusal.{Refusal}
 use Rattle.money.specs.declared.refusal.Refusal.TheVariants.{OutOfMemory, Stale}
-use Rattle.cells.specs.Records.{ReaderView, HasGrown}
+use Rattle.cells.specs.Records.{CellsView, IsOfKind, ReaderView, HasGrown, cell_count}
 use Rattle.cells.specs.declared.cells.Version.{Version}
-use Rattle.readset.specs.Reads.{ReadSetView, Keeps, AreWithin, AreRead, held, value_of}
+use Rattle.readset.specs.Reads.{ReadSetView, Keeps, AreWithin, AreReadOfKind, AreRead, held, value_of}
 use Rattle.readset.specs.Writes.{WriteSetView, puts}
 use Rattle.readset.specs.Commit.{IsCommitOf}
 use Rattle.readset.specs.Refused.{NoneMissing, IsAboveCap, IsRefusal}
@@ -21,6 +21,7 @@ use Rattle.tables.specs.declared.limits.TheConstants.{MAX_READS, MAX_WRITES}
 use Rattle.readset.specs.Explains.{IsCandidate}
 use Rattle.readset.specs.Transaction.{TransactionView, IsUnderWay, ReadsMore, GoesOn, IsStepRefusal, IsExecuted}
 use Rattle.readset.proofs.MoreReads.{candidate_before, row_read}
+use Rattle.readset.proofs.NarrowOrWide.{puts_kind}
 use Rattle.readset.proofs.WrittenRecords.{keeps_read, length-insert_entry, puts_read, written_within}
 
 -- whether an entry is found is whether there is one
@@ -32,16 +33,18 @@ pub some_is : {X : Type 0} (o : Option X) (x : X) → o ≡ Some x → IsSome o
 some_is o x is = ap is_some is
 
 -- after a load
-pub loaded_under_way : (start old new : ReaderView) (cells : ℕ) (reads more : ReadSetView) (writes : WriteSetView)
-    → IsUnderWay start old (record { reads = reads; writes = writes }) → cells ≡ length start.cells.narrow
+pub loaded_under_way : (start old new : ReaderView) (cells : CellsView) (reads more : ReadSetView) (writes : WriteSetView)
+    → IsUnderWay start old (record { reads = reads; writes = writes }) → cells ≡ start.cells
     → ((first : ReaderView) → AreRead first old reads → AreRead first new more) → ((first : ReaderView) → HasGrown first old → HasGrown first new)
-    → (AreWithin cells reads → AreWithin cells more) → Keeps reads more
+    → (AreWithin (cell_count cells) reads → AreWithin (cell_count cells) more) → AreReadOfKind cells more → Keeps reads more
     → IsUnderWay start new (record { reads = more; writes = writes })
-loaded_under_way start old new cells reads more writes h same chain grown within keeps = record {
+loaded_under_way start old new cells reads more writes h same chain grown within kinds keeps = record {
   read = chain start h.read;
   grown = grown start h.grown;
-  within = subst (λ n. AreWithin n more) same (within (subst (λ n. AreWithin n reads) (sym same) h.within));
+  within = subst (λ (c : CellsView). AreWithin (cell_count c) more) same (within (subst (λ (c : CellsView). AreWithin (cell_count c) reads) (sym same) h.within));
+  reads_kinds = subst (λ (c : CellsView). AreReadOfKind c more) same kinds;
   writes_read = keeps_read writes reads more keeps h.writes_read;
+  writes_kinds = h.writes_kinds;
 }
 
 -- what a version that was read says of its key's row
@@ -55,13 +58,20 @@ row_told t0 reads k n v words at is_key found is t h =
 -- after a write of a record that was read, or none for want of memory
 pub put_under_way : {X : Type 0} (start now : ReaderView) (reads : ReadSetView) (writes more : WriteSetView) (n : ℕ) (value : Option (List ℕ))
     (result : Result X Refusal)
-    → IsUnderWay start now (record { reads = reads; writes = writes }) → IsSome (held reads n) → OnOk result (more ≡ puts writes n value)
-    → OnErr result (more ≡ writes)
+    → IsUnderWay start now (record { reads = reads; writes = writes }) → IsSome (held reads n) → IsOfKind start.cells n value
+    → OnOk result (more ≡ puts writes n value) → OnErr result (more ≡ writes)
     → IsUnderWay start now (record { reads = reads; writes = more })
-put_under_way start now reads writes more n value (Ok x) h read put kept =
+put_under_way start now reads writes more n value (Ok x) h read kind put kept =
     subst (λ (w : WriteSetView). IsUnderWay start now (record { reads = reads; writes = w })) (sym put)
-    (record { read = h.read; grown = h.grown; within = h.within; writes_read = puts_read writes reads n value h.writes_read read })
-put_under_way start now reads writes more n value (Err e) h read put kept =
+    (record {
+      read = h.read;
+      grown = h.grown;
+      within = h.within;
+      reads_kinds = h.reads_kinds;
+      writes_read = puts_read writes reads n value h.writes_read read;
+      writes_kinds = puts_kind start.cells writes n value h.writes_kinds kind;
+    })
+put_under_way start now reads writes more n value (Err e) h read kind put kept =
     subst (λ (w : WriteSetView). IsUnderWay start now (record { reads = reads; writes = w })) (sym kept) h
 
 -- the end of a transaction whose reply was found
@@ -79,7 +89,8 @@ executed t0 x start now reads writes told h none within explains few_reads few_w
     reads_limit = few_reads;
     writes_limit = few_writes;
     reads_cells = h.within;
-    writes_cells = written_within writes reads (length start.cells.narrow) h.writes_read h.within;
+    writes_cells = written_within writes reads (cell_count start.cells) h.writes_read h.within;
+    writes_kinds = h.writes_kinds;
     writes_read = h.writes_read;
   };
   grown = h.grown;

@@ -1,6 +1,8 @@
 pub mod Places
 pub mod Arrivals
 pub mod Arrived
+pub mod Beside
+pub mod Listed
 pub mod Reads
 pub mod Writes
 pub mod Commit

@@ -4,12 +4,26 @@ use Rattle.std.specs.Ordering.{nat_cmp}
 use Rattle.std.specs.Map.{lookup}
 use Rattle.std.specs.BTreeMap.{is_at}
 use Rattle.cells.specs.Versions.{StartsWith, EndsWith, value_in}
-use Rattle.cells.specs.Records.{ReaderView, words_of, at}
+use Rattle.cells.specs.Records.{CellsView, IsNarrow, IsWide, IsOfKind, ReaderView, words_of, at}
 use Rattle.cells.specs.declared.cells.Version.{Version}
+use Rattle.cells.specs.declared.wide.WideVersion.{WideVersion}
 
 -- the version read of each record, by record number, in the order of the numbers
 abbrev pub ReadSetView : Type 0
 ReadSetView = List (ℕ × Version)
+
+-- a wide record's version stands there as one of more words
+abbrev pub as_version : WideVersion → Version
+as_version wide = record { «record» = wide.record; word = wide.word; payload = wide.payload }
+
+abbrev pub as_read : ℕ × WideVersion → ℕ × Version
+as_read e = (e.0, as_version e.1)
+
+abbrev pub IsNarrowVersion : Version → Type 0
+IsNarrowVersion version = IsNarrow (Some version.payload)
+
+abbrev pub IsWideVersion : Version → Type 0
+IsWideVersion version = IsWide (Some version.payload)
 
 -- the version read of this record
 abbrev pub held : ReadSetView → ℕ → Option Version
@@ -30,6 +44,10 @@ Keeps reads more = (n : ℕ) (v : Version) → held reads n ≡ Some v → held 
 -- each is of a record that has a cell, where so many have one
 abbrev pub AreWithin : ℕ → ReadSetView → Type 0
 AreWithin cells reads = (n : ℕ) (v : Version) → held reads n ≡ Some v → n < cells
+
+-- each has as many words as its record holds
+abbrev pub AreReadOfKind : CellsView → ReadSetView → Type 0
+AreReadOfKind cells reads = (n : ℕ) (v : Version) → held reads n ≡ Some v → IsOfKind cells n (Some v.payload)
 
 -- between these two states, a reader has loaded exactly the records of these versions, each once, and each version is
 -- what that load gave

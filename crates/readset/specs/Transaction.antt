@@ -4,9 +4,9 @@ use Rattle.money.specs.declared.refusal.Refusal.{Refusal}
 use Rattle.money.specs.declared.refusal.Refusal.TheVariants.{OutOfMemory, Stale}
 use Rattle.tables.specs.Database.{Database}
 use Rattle.tables.specs.declared.input.Input.{Input}
-use Rattle.cells.specs.Records.{ReaderView, HasGrown}
-use Rattle.readset.specs.Reads.{ReadSetView, Keeps, AreWithin, AreRead}
-use Rattle.readset.specs.Writes.{WriteSetView}
+use Rattle.cells.specs.Records.{ReaderView, HasGrown, cell_count}
+use Rattle.readset.specs.Reads.{ReadSetView, Keeps, AreWithin, AreReadOfKind, AreRead}
+use Rattle.readset.specs.Writes.{WriteSetView, AreWrittenOfKind}
 use Rattle.readset.specs.Explains.{IsCandidate, NoCandidate, Explains, WritesAreRead, IsWithinLimits}
 use Rattle.readset.specs.Refused.{NoneMissing, IsAboveCap, IsRefusal}
 use Rattle.readset.specs.declared.work.Work.{Work}
@@ -17,12 +17,14 @@ pub record TransactionView : Type 0 where
   pub writes : WriteSetView
 
 -- what its type keeps, of its reader's state at its start and now: what was read is what the reader's loads gave, of
--- records that have a cell, and no record is written that wasn't read
+-- records that have a cell, no record is written that wasn't read, and each is as wide as its record
 pub record IsUnderWay (start now : ReaderView) (x : TransactionView) : Type 0 where
   pub read : AreRead start now x.reads
   pub grown : HasGrown start now
-  pub within : AreWithin (length start.cells.narrow) x.reads
+  pub within : AreWithin (cell_count start.cells) x.reads
+  pub reads_kinds : AreReadOfKind start.cells x.reads
   pub writes_read : WritesAreRead x.writes x.reads
+  pub writes_kinds : AreWrittenOfKind start.cells x.writes
 
 -- a step that reads at most so many records more, and writes none
 pub record ReadsMore (most : ℕ) (old new : TransactionView) : Type 0 where
@@ -60,6 +62,6 @@ pub record IsExecuted (t0 : Database) (x : Input) (old new : ReaderView) (result
   pub within_cap : IfOk result (λ work. ¬ IsAboveCap t0.scale x work.reads)
   pub read : IfOk result (λ work. AreRead old new work.reads)
   pub explains : IfOk result (λ work. Explains t0 x work.reads work.writes work.reply)
-  pub limits : IfOk result (λ work. IsWithinLimits (length old.cells.narrow) work.reads work.writes)
+  pub limits : IfOk result (λ work. IsWithinLimits old.cells work.reads work.writes)
   pub grown : HasGrown old new
   pub refused : IfErr result (IsRefusal t0 x old new)

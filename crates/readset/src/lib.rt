@@ -3,6 +3,7 @@
 #![tactic(auto)]
 
 mod arrivals;
+mod few;
 mod list;
 mod places;
 mod reads;

@@ -1,5 +1,5 @@
 -- What an execution comes to.
-use Rattle.std.proofs.Common.{◌≡◌, [], length, Result, Ok, Err, IfOk, refl}
+use Rattle.std.proofs.Common.{◌≡◌, [], Result, Ok, Err, IfOk, refl}
 use Rattle.money.specs.declared.refusal.Refusal.{Refusal}
 use Rattle.tables.specs.Database.{Database}
 use Rattle.tables.specs.Inputs.{IsInput}
@@ -13,7 +13,7 @@ use Rattle.book.proofs.Replaying.{replay-IsOf}
 
 -- the reader's work
 pub work_executed : (t0 : Database) (x : Input) (old new : ReaderView) (r : Result Work Refusal) → IsInput t0.scale x
-    → IsExecuted t0 x old new r → IfOk r (IsWorkOf t0 (length old.cells.narrow) new)
+    → IsExecuted t0 x old new r → IfOk r (IsWorkOf t0 old.cells new)
 work_executed t0 x old new (Ok work) input made =
     let same : old.cells ≡ old.cells = refl in
     work_of refl (replay-IsOf t0 []) same x input old new work made.input made.explains made.limits made.read

@@ -27,7 +27,7 @@ pub(crate) fn execute_at<K: Run, R: Wait>(
     requires input { IsInput K.first.scale input.now }
     requires reader { reader.old.cells ≡ K.cells }
     ensures executed { IsExecuted K.first input.now reader.old reader.new result }
-    ensures work { IfOk result (IsWorkOf K.first (length K.cells.narrow) reader.new) }
+    ensures work { IfOk result (IsWorkOf K.first K.cells reader.new) }
 {
     execute(
         rt,
@@ -48,7 +48,7 @@ pub(crate) fn commit_at<K: Run, R: Wait>(
     work: Work,
 ) -> Result<Done, Refusal>
     requires reader { reader.old.cells ≡ K.cells }
-    requires work { IsWorkOf K.first (length K.cells.narrow) reader.old work }
+    requires work { IsWorkOf K.first K.cells reader.old work }
     ensures reader { HasGrown reader.old reader.new }
     ensures ok { IfOk result (λ done. (share.new ≡ with_commit share.old)
         × ((book : BookView) × IsEntered K.past K.first book work.input share.old.terminal done)) }
@@ -68,7 +68,7 @@ fn commit_to<K: Run, R: Wait>(
     work: Work,
 ) -> Result<Done, Refusal>
     requires reader { reader.old.cells ≡ K.cells }
-    requires work { IsWorkOf K.first (length K.cells.narrow) reader.old work }
+    requires work { IsWorkOf K.first K.cells reader.old work }
     ensures reader { HasGrown reader.old reader.new }
     ensures sound { IsSoundBook K.past K.first book.old }
     ensures ok { IfOk result (λ done. (share.new ≡ with_commit share.old)

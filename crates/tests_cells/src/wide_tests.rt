@@ -38,6 +38,7 @@ struct Answers {
     beside: Option<DataWords>,
     absent: Option<DataWords>,
     are_present: (bool, bool, bool),
+    learnt: (u64, u64),
 }
 
 /// Two narrow cells and three wide ones, with their pen and a reader.
@@ -85,6 +86,10 @@ fn answered<R: Wait>(rt: &R, cells: &Cells, pen: &mut Pen, reader: &mut Reader) 
             cells.is_present(pen, 3),
             cells.is_present(pen, 4),
         ),
+        learnt: (
+            cells.learn(rt, pen, reader, 2).word(),
+            cells.learn(rt, pen, reader, 3).word(),
+        ),
     }
 }
 
@@ -100,6 +105,7 @@ fn wanted() -> Answers {
         beside: Some([3; 63]),
         absent: None,
         are_present: (true, true, false),
+        learnt: (8 + 2, 2),
     }
 }
 

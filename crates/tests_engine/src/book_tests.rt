@@ -179,7 +179,7 @@ fn account_of<K: Run, R: Wait>(
         payments,
         is_good,
         terminal: first.map(|entry| entry.terminal),
-        writes: first.map(|entry| entry.writes.values().len()),
+        writes: first.map(|entry| entry.writes.parts().0.len()),
         added: first.and_then(|entry| entry.writes.history_row()),
     })
 }

@@ -49,7 +49,7 @@ impl<K: Run> Model for Executed<K> {
     ghost view = { λ e. tt };
 
     ghost invariant = { λ e. (e.seat.reader.cells ≡ K.cells) × (e.work.input ≡ e.input)
-        × IsWorkOf K.first (length K.cells.narrow) e.seat.reader e.work };
+        × IsWorkOf K.first K.cells e.seat.reader e.work };
 }
 
 /// Executes a transaction at a terminal.

@@ -61,7 +61,7 @@ fn install<R: Wait>(rt: &R, stage: &mut Stage, values: &[(u32, Option<Payload>)]
 fn told_behind<R: Wait>(rt: &R, alloc: Global, count: usize, asked: Asked) -> Result<Told, Fail> {
     let mut stage = open(rt, alloc)?;
     let writes = writes_of(rt, alloc, &mut stage)?;
-    let values = writes.values();
+    let (values, _) = writes.parts();
     if values.len() != WRITES || !install(rt, &mut stage, &values[..count.min(WRITES)]) {
         return Err(Fail::from("writes"));
     }

@@ -1,4 +1,4 @@
-//! Tests of `cells`, `readset`, the transactions and `book`, over the plain population of one warehouse.
+//! Tests of `cells`, the transactions and `book`, over the plain population of one warehouse.
 #![tactic(auto)]
 
 #[cfg(test)]
@@ -33,8 +33,6 @@ mod payments;
 mod query_inputs;
 #[cfg(test)]
 mod query_tests;
-#[cfg(test)]
-mod readset_tests;
 #[cfg(test)]
 mod stage;
 #[cfg(test)]

@@ -25,7 +25,7 @@ fn payment<K: Run, R: Wait>(
 ) -> Result<Work, Refusal>
     requires { reader.old.cells ≡ K.cells }
     ensures reader { reader.new.cells ≡ K.cells }
-    ensures work { IfOk result (λ work. IsWorkOf K.first (length K.cells.narrow) reader.new work) }
+    ensures work { IfOk result (λ work. IsWorkOf K.first K.cells reader.new work) }
 {
     let paid = PaymentInput {
         date: 1,
@@ -50,7 +50,7 @@ fn executed<K: Run, R: Wait>(
     requires own { reader.old.cells ≡ K.cells }
     requires input { IsInput K.first.scale input.now }
     ensures reader { reader.new.cells ≡ K.cells }
-    ensures work { IfOk result (λ work. IsWorkOf K.first (length K.cells.narrow) reader.new work) }
+    ensures work { IfOk result (λ work. IsWorkOf K.first K.cells reader.new work) }
 {
     let (cells, population) = (engine.cells(), engine.population());
     execute(rt, alloc, cells, reader, population, input)

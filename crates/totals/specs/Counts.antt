@@ -1,5 +1,5 @@
 -- When totals may be taken of records, and when they may follow a commit.
-use Rattle.std.specs.Prelude.{◌≡◌, ℕ, ◌<◌, length}
+use Rattle.std.specs.Prelude.{◌≡◌, ℕ, ◌<◌}
 use Rattle.tables.specs.Inputs.{IsInput}
 use Rattle.tables.specs.Apply.{after}
 use Rattle.tables.specs.Records.{record_count}

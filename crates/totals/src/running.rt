@@ -8,6 +8,7 @@ ghost use Rattle.tables.specs.Records.{record_count, key_of, size, first_number,
 ghost use Rattle.tables.specs.WellFormed.{IsHistoryRow};
 ghost use Rattle.tables.specs.declared.records.Table.TheVariants as table;
 ghost use Rattle.cells.specs.Records.{AreNarrow, held_by};
+ghost use Rattle.readset.specs.Writes.{WritesAreNarrow};
 ghost use Rattle.totals.specs.Moves.{MovesSums, SumsFollow, HasBuyers, order_before, step, moved, no_history};
 ghost use Rattle.totals.specs.Counted.{counted_in};
 ghost use Rattle.totals.specs.Steps.{HasPlaces, district_step, order_step, new_order_step, district_line_step};
@@ -233,6 +234,7 @@ impl RunningSums {
         requires own { pen.old.cells ≡ cells.now }
         requires count { AreNarrow (record_count self.old.scale) cells.now }
         requires below { All (λ e. e.0 < record_count self.old.scale) writes.now.values }
+        requires narrow { WritesAreNarrow writes.now }
         requires buyers { HasBuyers self.old.scale (held_by pen.old) }
         ensures pen { pen.new ≡ pen.old }
         ensures scale { self.new.scale ≡ self.old.scale }
@@ -252,6 +254,7 @@ impl RunningSums {
         requires own { pen.old.cells ≡ cells.now }
         requires count { AreNarrow (record_count self.old.scale) cells.now }
         requires below { All (λ e. e.0 < record_count self.old.scale) writes.now.values }
+        requires narrow { WritesAreNarrow writes.now }
         requires row { ForSome writes.now.history_row (IsHistoryRow self.old.scale) }
         requires buyers { HasBuyers self.old.scale (held_by pen.old) }
         ensures pen { pen.new ≡ pen.old }

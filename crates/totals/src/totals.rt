@@ -2,6 +2,7 @@
 
 ghost use Rattle.std.specs.Prelude.{◌≡◌, ◌<◌, All, IfOk, length};
 ghost use Rattle.cells.specs.Records.{AreNarrow};
+ghost use Rattle.readset.specs.Writes.{WritesAreNarrow};
 ghost use Rattle.std.specs.Option.{ForSome};
 ghost use Rattle.tables.specs.Sizes.{IsScale};
 ghost use Rattle.tables.specs.Apply.{after};
@@ -100,6 +101,7 @@ impl Totals {
         requires own { pen.old.cells ≡ cells.now }
         requires count { AreNarrow (record_count self.old.bounds.scale) cells.now }
         requires below { All (λ e. e.0 < record_count self.old.bounds.scale) writes.now.values }
+        requires narrow { WritesAreNarrow writes.now }
         ensures pen { pen.new ≡ pen.old }
         ensures sums { self.new.sums ≡ self.old.sums }
         ensures scale { self.new.bounds.scale ≡ self.old.bounds.scale }

@@ -6,6 +6,7 @@ ghost use Rattle.tables.specs.Records.{record_count, record_number, district_pla
 ghost use Rattle.tables.specs.declared.records.Table.TheVariants as table;
 ghost use Rattle.tables.specs.Database.{Database, empty_database};
 ghost use Rattle.cells.specs.Records.{AreNarrow, cell_count, held_by};
+ghost use Rattle.readset.specs.Writes.{WritesAreNarrow};
 ghost use Rattle.totals_bounds.specs.Bounds.{AreBounds, no_bounds};
 ghost use Rattle.totals_bounds.specs.Written.{HasOrdersWithin, AreRowsOf, IsWith};
 ghost use Rattle.totals_bounds.specs.Ends.{AreEnds, KeepsEnds, is_among};
@@ -175,6 +176,7 @@ impl OrderBounds {
     fn follow_values(&mut self, cells: &Cells, pen: &mut Pen, writes: &WriteList)
         requires own { pen.old.cells ≡ cells.now }
         requires count { AreNarrow (record_count self.old.scale) cells.now }
+        requires narrow { WritesAreNarrow writes.now }
         ensures pen { pen.new ≡ pen.old }
         ensures scale { self.new.scale ≡ self.old.scale }
         ensures ends { AreEnds self.old.scale (held_by pen.old) (is_among writes.now.values) self.old
@@ -209,6 +211,7 @@ impl OrderBounds {
         requires own { pen.old.cells ≡ cells.now }
         requires count { AreNarrow (record_count self.old.scale) cells.now }
         requires below { All (λ e. e.0 < record_count self.old.scale) writes.now.values }
+        requires narrow { WritesAreNarrow writes.now }
         ensures pen { pen.new ≡ pen.old }
         ensures scale { self.new.scale ≡ self.old.scale }
         ensures bounds { (t u : Database) → t.scale ≡ self.old.scale → HasOrdersWithin t → HasOrdersWithin u

@@ -46,7 +46,7 @@ pub fn execute<R: Wait>(
     ensures read { IfOk result (λ work. AreRead reader.old reader.new work.reads) }
     ensures explains { IfOk result (λ work.
         Explains (initial population.now) input.now work.reads work.writes work.reply) }
-    ensures limits { IfOk result (λ work. IsWithinLimits (length cells.now.narrow) work.reads work.writes) }
+    ensures limits { IfOk result (λ work. IsWithinLimits cells.now work.reads work.writes) }
     ensures grown { HasGrown reader.old reader.new }
     ensures refused { IfErr result (IsRefusal (initial population.now) input.now reader.old reader.new) }
 {

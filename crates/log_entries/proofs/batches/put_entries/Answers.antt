@@ -27,6 +27,11 @@ put_entry-requires-clause-numbers c =
     (loggable_at c.args.scale.now c.args.entries.now c.requires c.loop-entry.entry-index c.entry-item.result c.deref.result.now
     c.loop-entry-test.true c.entry-item.is c.deref.ensures).records
 
+pub put_entry-requires-clause-narrow : goal.put_entry-requires-clause-narrow
+put_entry-requires-clause-narrow c =
+    (loggable_at c.args.scale.now c.args.entries.now c.requires c.loop-entry.entry-index c.entry-item.result c.deref.result.now
+    c.loop-entry-test.true c.entry-item.is c.deref.ensures).narrow
+
 pub loop-entry-preserved : goal.loop-entry-preserved
 loop-entry-preserved c =
     let xs : List (Arc Entry Global) = c.args.entries.now in

@@ -11,8 +11,8 @@ below count writes values e found small = subst (λ vs. All (λ e. e.0 < count) 
 
 pub put_before-requires-clause-numbers : goal.put_before-requires-clause-numbers
 put_before-requires-clause-numbers c = below (record_count c.args.scale.now) c.args.writes.now c.values-values.result.now c.values-values.ensures.values
-    c.values-values.ensures.found c.requires
+    c.values-values.ensures.found c.requires.numbers
 
 pub put_behind-requires-clause-numbers : goal.put_behind-requires-clause-numbers
 put_behind-requires-clause-numbers c = below (record_count c.args.scale.now) c.args.writes.now c.values-values.result.now c.values-values.ensures.values
-    c.values-values.ensures.found c.requires
+    c.values-values.ensures.found c.requires.numbers

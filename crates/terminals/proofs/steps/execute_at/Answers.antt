@@ -1,4 +1,4 @@
-use Rattle.std.proofs.Common.{ℕ, length, IfOk, ap, subst, sym, ◌∙◌}
+use Rattle.std.proofs.Common.{IfOk, subst, sym, ◌∙◌}
 use Rattle.cells.specs.Records.{CellsView}
 use Rattle.tables.specs.Database.{Database}
 use Rattle.readset.specs.Explains.{IsWithinLimits}
@@ -20,13 +20,13 @@ returns-clause-executed g c =
       read = made.read;
       explains = made.explains;
       limits =
-          subst (λ (cells : ℕ). IfOk c.execute.result (λ (work : Work). IsWithinLimits cells work.reads work.writes))
-          (ap (λ (cells : CellsView). length cells.narrow) (c.cells.ensures.value ∙ sym c.requires.reader)) made.limits;
+          subst (λ (cells : CellsView). IfOk c.execute.result (λ (work : Work). IsWithinLimits cells work.reads work.writes))
+          (c.cells.ensures.value ∙ sym c.requires.reader) made.limits;
       grown = made.grown;
       refused = made.refused;
     }))
 
 pub returns-clause-work : goal.returns-clause-work
 returns-clause-work g c =
-    subst (λ (cells : ℕ). IfOk c.execute.result (IsWorkOf g.K.Run.first cells c.execute.new.reader)) (ap (λ (cells : CellsView). length cells.narrow) c.requires.reader)
+    subst (λ (cells : CellsView). IfOk c.execute.result (IsWorkOf g.K.Run.first cells c.execute.new.reader)) c.requires.reader
     (work_executed g.K.Run.first c.args.input.now c.args.reader.now c.execute.new.reader c.execute.result c.requires.input (returns-clause-executed g c))

@@ -1,14 +1,9 @@
-use Rattle.std.proofs.Common.{◌≡◌, ◌≢◌, ◌+◌, ◌*◌, ◌<◌, ℕ, List, [], sym, ap, ◌∙◌, subst, arith, set}
-use Rattle.std.proofs.lemmas.List.{get_or-set_other}
+use Rattle.std.proofs.Common.{◌≡◌, ◌≢◌, ◌+◌, ◌*◌, ◌<◌, ℕ, sym, ap, ◌∙◌, subst, arith, set}
 use Rattle.tidword.specs.TidWord.{tid_of}
 use Rattle.cells.specs.Versions.{last_tid}
-use Rattle.cells.specs.Records.{PenView, at, StoresVersion}
-use Rattle.cells.proofs.Records.{last_tid-writes}
+use Rattle.cells.specs.Records.{at}
+use Rattle.cells.proofs.Records.{last_tid-writes, other_stays}
 use Rattle.tests_cells.proofs.page_tests.store_turns.Goals as goal
-
--- another record's versions stay
-other_stays : {old new : PenView} {n : ℕ} {version : List ℕ} → StoresVersion old new n version → (m : ℕ) → m ≢ n → at new.all m ≡ at old.all m
-other_stays {old} {new} {n} s m other = ap (λ (all : List (List (List ℕ))). at all m) s.others ∙ get_or-set_other old.all n m (at new.all n) [] other
 
 wide_is_other : (n : ℕ) → 4098 + n ≢ n
 wide_is_other n e = omega (arith, e)

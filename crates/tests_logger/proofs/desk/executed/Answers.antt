@@ -1,4 +1,4 @@
-use Rattle.std.proofs.Common.{◌≡◌, List, length, Result, Ok, Err, IfOk}
+use Rattle.std.proofs.Common.{◌≡◌, Result, Ok, Err, IfOk}
 use Rattle.money.specs.declared.refusal.Refusal.{Refusal}
 use Rattle.tables.specs.Database.{Database}
 use Rattle.tables.specs.Constant.{IsOf}
@@ -16,8 +16,8 @@ use Rattle.tests_logger.proofs.desk.executed.Goals as goal
 work_if_ok : (here p t0 : Database) → here ≡ p → IsOf p t0 → (own cells : CellsView) → own ≡ cells → (x : Input)
     → IsInput t0.scale x → (old new : ReaderView) → (r : Result Work Refusal) → IfOk r (λ w. w.input ≡ x)
     → IfOk r (λ w. Explains here x w.reads w.writes w.reply)
-    → IfOk r (λ w. IsWithinLimits (length own.narrow) w.reads w.writes) → IfOk r (λ w. AreRead old new w.reads)
-    → IfOk r (λ w. IsWorkOf t0 (length cells.narrow) new w)
+    → IfOk r (λ w. IsWithinLimits own w.reads w.writes) → IfOk r (λ w. AreRead old new w.reads)
+    → IfOk r (λ w. IsWorkOf t0 cells new w)
 work_if_ok here p t0 same of own cells same_cells x is_input old new (Ok work) input explained limits read =
     work_of same of same_cells x is_input old new work input explained limits read
 work_if_ok here p t0 same of own cells same_cells x is_input old new (Err refusal) input explained limits read = input

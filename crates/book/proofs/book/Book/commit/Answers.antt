@@ -6,9 +6,9 @@ use Rattle.money.specs.declared.refusal.Refusal.TheVariants.{Conflict, EpochFull
 use Rattle.population.specs.Initial.{initial}
 use Rattle.population.specs.declared.population.Population.{Population}
 use Rattle.cells.specs.Versions.{last_tid}
-use Rattle.cells.specs.Records.{CellsView, PenView, at}
+use Rattle.cells.specs.Records.{CellsView, PenView, at, cell_count}
 use Rattle.cells.proofs.Grown.{grown_twice}
-use Rattle.readset.specs.Writes.{WriteSetView, value_for}
+use Rattle.readset.specs.Writes.{WriteSetView, AreWrittenOfKind, value_for}
 use Rattle.board.specs.Steps.{counted_epochs}
 use Rattle.board.specs.Seats.{SeatView, noted}
 use Rattle.board.specs.declared.rule.WordStep.TheVariants.{LoadEpoch, CountCommit}
@@ -117,10 +117,12 @@ store_counted-requires-clause-may g c =
     c.deref-2.ensures ∙ c.in-Ok.ensures.prepared.entry in
     record {
       own = search rules;
-      within = subst (λ (q : CellsView × Entry). (n : ℕ) (value : Option (List ℕ)) → value_for q.1.writes n ≡ Some value → n < length q.0.narrow)
+      within = subst (λ (q : CellsView × Entry). (n : ℕ) (value : Option (List ℕ)) → value_for q.1.writes n ≡ Some value → n < cell_count q.0)
           (λ i. (sym c.requires.cells i, sym stored i))
-          (written_within (length g.K.Run.cells.narrow) c.args.reader.now c.args.work.reads c.args.work.writes c.requires.work.read
+          (written_within g.K.Run.cells c.args.reader.now c.args.work.reads c.args.work.writes c.requires.work.read
           c.requires.work.limits.writes_read);
+      kinds = subst (λ (q : CellsView × Entry). AreWrittenOfKind q.0 q.1.writes) (λ i. (sym c.requires.cells i, sym stored i))
+          c.requires.work.limits.writes_kinds;
       no_bits = search rules;
       larger = subst (λ (q : PenView × Entry). (n : ℕ) (value : Option (List ℕ)) → value_for q.1.writes n ≡ Some value
           → last_tid (at q.0.all n) < q.1.tid) (λ i. (sym c.validate.ensures.pen i, sym stored i))

@@ -1,7 +1,7 @@
 use Rattle.std.proofs.Common.{length, sym, ap, ◌∙◌, subst}
 use Rattle.std.specs.Prelude.{slice_get}
 use Rattle.std.proofs.lemmas.Option.{slice_get_within}
-use Rattle.cells.specs.Records.{CellsView, PenView, ReaderView, both_pens, both_readers, LearnsRecord}
+use Rattle.cells.specs.Records.{CellsView, PenView, ReaderView, both_readers, LearnsRecord}
 use Rattle.cells.proofs.Halves.{learns_narrow}
 use Rattle.cells.proofs.both.Pen.meet.Goals as goal
 

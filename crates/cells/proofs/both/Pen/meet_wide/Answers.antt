@@ -1,5 +1,5 @@
 use Rattle.std.proofs.Common.{◌+◌, length, sym, ap, ◌∙◌, subst}
-use Rattle.cells.specs.Records.{CellsView, PenView, ReaderView, both_pens, both_readers, LearnsRecord}
+use Rattle.cells.specs.Records.{CellsView, PenView, ReaderView, both_readers, LearnsRecord}
 use Rattle.cells.proofs.Halves.{learns_wide}
 use Rattle.cells.proofs.both.Pen.meet_wide.Goals as goal
 

@@ -1,16 +1,4 @@
-use Rattle.std.proofs.Common.{◌≡◌, ap, ◌∙◌}
-use lib.Dec.{eqb}
-use Rattle.tidword.specs.TidWord.{tid_of}
-use Rattle.cells_pages.specs.Versions.{newest, word_in}
-use Rattle.cells.specs.Records.{at}
-use Rattle.cells_pages.proofs.Lists.{ends_newest}
-use Rattle.cells.proofs.Rising.{is_last_by_tid}
 use Rattle.cells.proofs.cells.Cells.meet_wide.Goals as goal
 
 pub returns-clause-latest : goal.returns-clause-latest
-returns-clause-latest g c =
-    let meet = c.learn-latest.ensures in
-    let all = at c.args.pen.now.all c.args.version.now.record in
-    let left : c.tid.result ≡ tid_of (word_in (newest all)) = c.tid.ensures ∙ ap tid_of meet.newest in
-    is_last_by_tid _ all _ _ (newest all) meet.reader.rising meet.reader.grows c.requires.seen (ends_newest all meet.some)
-    (c.eq.ensures ∙ (λ i. eqb (left i) (c.tid-2.ensures i)))
+returns-clause-latest g c = c.is_latest.ensures.latest c.args.version.now.payload c.requires.seen

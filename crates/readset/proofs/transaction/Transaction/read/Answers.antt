@@ -1,9 +1,9 @@
-use Rattle.std.proofs.Common.{◌≡◌, ◌∙◌, ap, sym, subst, length, IsSome, Some, Ok}
+use Rattle.std.proofs.Common.{◌≡◌, ◌∙◌, ap, sym, subst, IsSome, Some, Ok}
 use Rattle.cells.specs.Records.{CellsView}
 use Rattle.tables.specs.Sizes.{Sizes}
 use Rattle.tables.specs.Database.{Database}
 use Rattle.tables.specs.Records.{number_of_key}
-use Rattle.readset.specs.Reads.{held, value_of}
+use Rattle.readset.specs.Reads.{AreReadOfKind, held, value_of}
 use Rattle.readset.specs.Transaction.{TransactionView}
 use Rattle.readset.proofs.UnderWay.{loaded_under_way, row_told, some_is}
 use Rattle.readset.proofs.transaction.Transaction.read.Goals as goal
@@ -15,10 +15,13 @@ invariant_of-self-2 g c =
       i.0,
       i.1,
       i.2,
-      loaded_under_way g.K.Start.reader c.self.inside.reader c.get.new.reader (length c.self.inside.cells.now.narrow) c.self.inside.reads c.get.new.self
+      loaded_under_way g.K.Start.reader c.self.inside.reader c.get.new.reader c.self.inside.cells.now c.self.inside.reads c.get.new.self
           c.self.inside.writes
-          i.3 (ap (λ (cells : CellsView). length cells.narrow) i.1) loaded.chain loaded.grown_since loaded.within loaded.keeps,
+          i.3 i.1 loaded.chain loaded.grown_since loaded.within loaded.kinds loaded.keeps,
     )
+
+pub get-requires-clause-kinds : goal.get-requires-clause-kinds
+get-requires-clause-kinds g c = subst (λ (cells : CellsView). AreReadOfKind cells c.self.inside.reads) (sym c.self.invariant.1) c.self.invariant.3.reads_kinds
 
 pub returns-clause-words : goal.returns-clause-words
 returns-clause-words g c =

@@ -1,9 +1,13 @@
-use Rattle.std.proofs.Common.{◌≡◌, Some, All, subst}
-use Rattle.readset.specs.Writes.{WriteSetView, value_for}
+use Rattle.std.proofs.Common.{map, ap}
 use Rattle.readset.specs.Arrived.{arrived}
-use Rattle.readset.proofs.Entries.{each_found}
+use Rattle.readset.specs.Writes.{WriteSetView, as_written}
+use Rattle.readset.proofs.WritesListed.{found, ordered}
 use Rattle.readset.proofs.writes.WriteSet.len.Goals as goal
 
 pub returns-clause-found : goal.returns-clause-found
-returns-clause-found c = subst (λ (w : WriteSetView). All (λ e. value_for w e.0 ≡ Some e.1) w.values) c.self.view_is
-    (each_found (arrived c.self.inside.values) c.self.inside.values.sound.sorted)
+returns-clause-found c = found (arrived c.self.inside.values) (map as_written c.self.inside.wide.entries.items) c.args.self.now
+    (ap (λ (w : WriteSetView). w.values) c.self.view_is) c.self.invariant
+
+pub returns-clause-ordered : goal.returns-clause-ordered
+returns-clause-ordered c = ordered (arrived c.self.inside.values) (map as_written c.self.inside.wide.entries.items) c.args.self.now
+    (ap (λ (w : WriteSetView). w.values) c.self.view_is) c.self.invariant
