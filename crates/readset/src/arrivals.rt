@@ -38,6 +38,11 @@ impl<V: Copy> Arrivals<V> {
         }
     }
 
+    /// Where their memory comes from.
+    pub(crate) fn allocator(&self) -> Global {
+        *self.entries.allocator()
+    }
+
     /// Takes memory for just so many entries, in one block, where none was taken yet.
     pub(crate) fn reserve(&mut self, count: usize) -> Result<(), AllocError>
         ensures same { arrived self.new ≡ arrived self.old }

@@ -18,7 +18,7 @@ pub(crate) struct Few<V> {
 }
 
 impl<V: Copy> Few<V> {
-    ghost use Rattle.std.specs.Prelude.{◌<◌, ℕ, [], Ok, Err, OnOk, get_or, length};
+    ghost use Rattle.std.specs.Prelude.{◌<◌, ℕ, [], Ok, Err, OnOk, OnErr, get_or, length};
     ghost use Rattle.std.specs.Vec.{vec_len, vec_capacity};
     ghost use Rattle.std.specs.BTreeMap.{insert_entry};
     ghost use Rattle.readset.specs.Places.{place};
@@ -56,6 +56,29 @@ impl<V: Copy> Few<V> {
         &self.entries[at].1
     }
 
+    /// The entries, in the order of their numbers.
+    #[inline(always)]
+    pub(crate) fn entries(&self) -> &[(u32, V)]
+        ensures { result.now ≡ self.now.entries.items }
+    {
+        self.entries.as_slice()
+    }
+
+    /// Gives a number this value, in the place of the one that it has.
+    pub(crate) fn put(&mut self, number: u32, value: V) -> Result<(), AllocError>
+        ensures puts { OnOk result (self.new.entries.items ≡ insert_entry nat_cmp self.old.entries.items number value) }
+        ensures kept { OnErr result (self.new.entries.items ≡ self.old.entries.items) }
+    {
+        match self.find(number) {
+            Ok(at) => self.replace(at, number, value),
+            Err(at) => {
+                self.make_room()?;
+                self.add(at, number, value);
+            }
+        }
+        Ok(())
+    }
+
     /// Makes room for an entry more: for just one at first, as most transactions with any have one.
     pub(crate) fn make_room(&mut self) -> Result<(), AllocError>
         ensures same { self.new.entries.items ≡ self.old.entries.items }
@@ -84,13 +107,5 @@ impl<V: Copy> Few<V> {
         ensures { self.new.entries.items ≡ insert_entry nat_cmp self.old.entries.items number value }
     {
         self.entries[at] = (number, value);
-    }
-
-    /// The entries, in the memory in which they stand.
-    pub(crate) fn into_entries(self) -> Vec<(u32, V)>
-        ensures { result.items ≡ self.entries.items }
-    {
-        let Few { entries } = self;
-        entries
     }
 }

@@ -3,6 +3,7 @@
 #![tactic(auto)]
 
 mod arrivals;
+mod beside;
 mod few;
 mod list;
 mod places;

@@ -1,5 +1,5 @@
 //! What a transaction that has committed wrote.
-ghost use Rattle.std.specs.Prelude.{◌≡◌, ◌++◌, Some, All, IfOk, map, length};
+ghost use Rattle.std.specs.Prelude.{◌≡◌, ◌++◌, Some, All, map};
 ghost use Rattle.std.specs.Ordering.{nat_cmp};
 ghost use Rattle.std.specs.Map.{keys_of};
 ghost use Rattle.std.specs.List.Sorted.{IsStrictlySortedBy};
@@ -8,9 +8,9 @@ ghost use Rattle.readset.specs.Beside.{AreBeside};
 ghost use Rattle.readset.specs.Listed.{texts_of, history_row_of};
 ghost use Rattle.readset.specs.Writes.{as_written, value_for, WritesAreNarrow};
 
+use crate::beside::Beside;
 use customer_data::DataWords;
 use money::Payload;
-use std::alloc::AllocError;
 use std::marker::Model;
 use tables::History;
 
@@ -21,21 +21,6 @@ use tables::History;
 pub struct WriteList {
     values: Vec<(u32, Option<Payload>)>,
     beside: Beside,
-}
-
-/// What there is beside the values of narrow records.
-#[derive(Drop)]
-enum Beside {
-    Nothing,
-    Row(History),
-    Texts(Box<Texts>),
-}
-
-/// The words of wide records, of which there are some, and the HISTORY row, if there is one.
-#[derive(Drop)]
-struct Texts {
-    wide: Vec<(u32, DataWords)>,
-    history_row: Option<History>,
 }
 
 impl Model for WriteList {
@@ -56,21 +41,15 @@ impl Model for WriteList {
 }
 
 impl WriteList {
-    /// Of values by record number, those of narrow records and those of wide ones behind them, in the order of the
-    /// numbers. Takes memory only where there are wide ones.
-    pub(crate) fn new(
-        values: Vec<(u32, Option<Payload>)>,
-        history_row: Option<History>,
-        wide: Vec<(u32, DataWords)>,
-    ) -> Result<WriteList, AllocError>
-        requires { AreBeside IsNarrow IsWide values.items (map as_written wide.items) }
-        ensures { IfOk result (λ list. list ≡ record {
-          values = values.items ++ map as_written wide.items;
-          history_row = history_row;
-        }) }
+    /// Of values by record number, in the order of the numbers, and what there is beside them.
+    pub(crate) fn new(values: Vec<(u32, Option<Payload>)>, beside: Beside) -> WriteList
+        requires { AreBeside IsNarrow IsWide values.items (map as_written (texts_of beside)) }
+        ensures { result ≡ record {
+          values = values.items ++ map as_written (texts_of beside);
+          history_row = history_row_of beside;
+        } }
     {
-        let beside = made_beside(history_row, wide)?;
-        Ok(WriteList { values, beside })
+        WriteList { values, beside }
     }
 
     /// What each record written holds after the commit, in the order of the record numbers, where all are narrow.
@@ -90,45 +69,13 @@ impl WriteList {
         ensures kinds { AreBeside IsNarrow IsWide result.0.now (map as_written result.1.now) }
         ensures found { All (λ e. value_for self.now e.0 ≡ Some e.1) self.now.values }
     {
-        (self.values.as_slice(), self.beside.wide())
+        (self.values.as_slice(), self.beside.texts())
     }
 
     /// The row that HISTORY got, if there is one.
     pub fn history_row(&self) -> Option<History>
         ensures { result ≡ self.now.history_row }
     {
-        match &self.beside {
-            Beside::Nothing => None,
-            Beside::Row(row) => Some(*row),
-            Beside::Texts(texts) => texts.history_row,
-        }
-    }
-}
-
-impl Beside {
-    /// The words of wide records.
-    fn wide(&self) -> &[(u32, DataWords)]
-        ensures { result.now ≡ texts_of self.now }
-    {
-        match self {
-            Beside::Texts(texts) => texts.wide.as_slice(),
-            _ => &[],
-        }
-    }
-}
-
-fn made_beside(
-    history_row: Option<History>,
-    wide: Vec<(u32, DataWords)>,
-) -> Result<Beside, AllocError>
-    ensures { IfOk result (λ beside. (texts_of beside ≡ wide.items) × (history_row_of beside ≡ history_row)) }
-{
-    if !wide.is_empty() {
-        let alloc = *wide.allocator();
-        return Ok(Beside::Texts(Box::new(alloc, Texts { wide, history_row })?));
-    }
-    match history_row {
-        None => Ok(Beside::Nothing),
-        Some(row) => Ok(Beside::Row(row)),
+        self.beside.history_row()
     }
 }

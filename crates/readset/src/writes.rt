@@ -7,7 +7,7 @@ ghost use Rattle.cells.specs.Records.{CellsView, IsNarrow, IsWide};
 ghost use Rattle.readset.specs.Writes.{no_writes, value_for, puts, AreWrittenOfKind};
 
 use crate::arrivals::Arrivals;
-use crate::few::Few;
+use crate::beside::Beside;
 use crate::list::WriteList;
 use customer_data::DataWords;
 use money::{Payload, Refusal};
@@ -23,8 +23,7 @@ use tables::History;
 #[derive(Drop)]
 pub struct WriteSet {
     values: Arrivals<Option<Payload>>,
-    history_row: Option<History>,
-    wide: Few<DataWords>,
+    beside: Beside,
 }
 
 impl Model for WriteSet {
@@ -33,15 +32,16 @@ impl Model for WriteSet {
     ghost use Rattle.readset.specs.Writes.{WriteSetView, as_written};
     ghost use Rattle.readset.specs.Arrived.{arrived};
     ghost use Rattle.readset.specs.Beside.{AreBeside};
+    ghost use Rattle.readset.specs.Listed.{texts_of, history_row_of};
 
     ghost Value = { WriteSetView };
 
     ghost view = { λ w. record {
-      values = arrived w.values ++ map as_written w.wide.entries.items;
-      history_row = w.history_row;
+      values = arrived w.values ++ map as_written (texts_of w.beside);
+      history_row = history_row_of w.beside;
     } };
 
-    ghost invariant = { λ w. AreBeside IsNarrow IsWide (arrived w.values) (map as_written w.wide.entries.items) };
+    ghost invariant = { λ w. AreBeside IsNarrow IsWide (arrived w.values) (map as_written (texts_of w.beside)) };
 }
 
 impl WriteSet {
@@ -54,8 +54,7 @@ impl WriteSet {
     {
         WriteSet {
             values: Arrivals::new(alloc),
-            history_row: None,
-            wide: Few::new(alloc),
+            beside: Beside::Nothing,
         }
     }
 
@@ -109,13 +108,8 @@ impl WriteSet {
         ensures kept { OnErr result (self.new ≡ self.old) }
         ensures only_memory { IfErr result (λ refusal. refusal ≡ OutOfMemory) }
     {
-        match self.wide.find(number) {
-            Ok(at) => self.wide.replace(at, number, *words),
-            Err(at) => {
-                self.wide.make_room()?;
-                self.wide.add(at, number, *words);
-            }
-        }
+        let alloc = self.values.allocator();
+        self.beside.put(alloc, number, words)?;
         Ok(())
     }
 
@@ -123,7 +117,7 @@ impl WriteSet {
     pub fn put_history_row(&mut self, row: History)
         ensures { self.new ≡ record { values = self.old.values; history_row = Some row } }
     {
-        self.history_row = Some(row);
+        self.beside.put_history_row(row);
     }
 
     /// What a narrow record is to hold, if it is written. Costs the logarithm of the number of records written.
@@ -140,14 +134,14 @@ impl WriteSet {
         ensures found { All (λ e. value_for self.now e.0 ≡ Some e.1) self.now.values }
         ensures ordered { IsStrictlySortedBy nat_cmp (keys_of self.now.values) }
     {
-        self.values.count() + self.wide.count()
+        self.values.count() + self.beside.count()
     }
 
     /// The row that HISTORY is to get, if there is one.
     pub fn history_row(&self) -> Option<History>
         ensures { result ≡ self.now.history_row }
     {
-        self.history_row
+        self.beside.history_row()
     }
 
     /// The same writes as a list. In constant time where the narrow records were written in the order of their numbers,
@@ -160,11 +154,7 @@ impl WriteSet {
         ensures list { IfOk result (λ list. list ≡ self) }
         ensures only_memory { IfErr result (λ refusal. refusal ≡ OutOfMemory) }
     {
-        let WriteSet {
-            values,
-            history_row,
-            wide,
-        } = self;
-        Ok(WriteList::new(values.into_ordered()?, history_row, wide.into_entries())?)
+        let WriteSet { values, beside } = self;
+        Ok(WriteList::new(values.into_ordered()?, beside))
     }
 }

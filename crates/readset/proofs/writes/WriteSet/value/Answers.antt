@@ -2,6 +2,7 @@ use Rattle.std.proofs.Common.{◌≡◌, List, ℕ, Option, Some, None, sym, ap,
 use Rattle.std.specs.Prelude.{IfSome, IfNone}
 use Rattle.cells.specs.Records.{IsNarrow, IsWide}
 use Rattle.readset.specs.Arrived.{arrived}
+use Rattle.readset.specs.Listed.{texts_of}
 use Rattle.readset.specs.Writes.{WriteSetView, value_for}
 use Rattle.readset.proofs.Sets.{low_found, high_of}
 use Rattle.readset.proofs.TwoKinds.{find}
@@ -12,7 +13,7 @@ returns-clause-some c = told c.copied.result (c.copied.ensures ∙ c.value_at.en
   where
     told : (r : Option (Option (List ℕ))) → r ≡ find c.args.number (arrived c.self.inside.values) → IfSome r (λ value. value_for c.args.self.now c.args.number ≡ Some value)
     told None e = tt
-    told (Some value) e = low_found (λ (words : List ℕ). Some words) IsNarrow IsWide (arrived c.self.inside.values) c.self.inside.wide.entries.items c.args.self.now.values
+    told (Some value) e = low_found (λ (words : List ℕ). Some words) IsNarrow IsWide (arrived c.self.inside.values) (texts_of c.self.inside.beside) c.args.self.now.values
         (ap (λ (w : WriteSetView). w.values) c.self.view_is) c.args.number value (sym e)
 
 pub returns-clause-none : goal.returns-clause-none
@@ -20,6 +21,6 @@ returns-clause-none c = told c.copied.result (c.copied.ensures ∙ c.value_at.en
   where
     told : (r : Option (Option (List ℕ))) → r ≡ find c.args.number (arrived c.self.inside.values)
         → IfNone r ((value : Option (List ℕ)) → value_for c.args.self.now c.args.number ≡ Some value → IsWide value)
-    told None e = high_of (λ (words : List ℕ). Some words) IsNarrow IsWide (arrived c.self.inside.values) c.self.inside.wide.entries.items c.args.self.now.values
+    told None e = high_of (λ (words : List ℕ). Some words) IsNarrow IsWide (arrived c.self.inside.values) (texts_of c.self.inside.beside) c.args.self.now.values
         (ap (λ (w : WriteSetView). w.values) c.self.view_is) c.args.number c.self.invariant (sym e)
     told (Some value) e = tt
