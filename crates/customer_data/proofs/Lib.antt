@@ -1,3 +1,4 @@
 pub mod Packed
 pub mod Texts
 mod Laid
+mod Printable

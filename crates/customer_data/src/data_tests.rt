@@ -1,7 +1,13 @@
-//! Worked rows: the words of a text of 300 letters, and twelve texts of a Payment put at the left of it.
+//! Worked rows: the words of a text of 300 letters, and the texts of one Payment and of twelve put at the left of it.
 
-use crate::{DATA_WORDS, MAX_DATA, MIN_DATA, text_of, unpack, with_front, words_of};
+use crate::{
+    DATA_WORDS, DataBytes, DataWords, MAX_DATA, MIN_DATA, PaymentText, data_after, text_of, unpack,
+    words_of,
+};
+use money::Cents;
+use std::alloc::{AllocError, Global};
 use std::rt::HostRuntime;
+use std::test::Fail;
 
 /// What a Payment of 12.34 puts at the left: its customer, whose district and warehouse, its own, and the amount.
 const PAYMENT: &[u8; 17] = b"10 1 1 1 1 12.34|";
@@ -15,13 +21,39 @@ fn words_of_300_letters(rt: HostRuntime) {
     assert!(rt; words_of(&[b'x'; MIN_DATA]) == expected);
 }
 
-#[test]
-fn twelve_payments_at_the_left(rt: HostRuntime) {
+/// The words of 300 letters after so many such Payments.
+fn words_after(alloc: Global, turns: usize) -> Result<DataWords, AllocError> {
+    let payment = PaymentText {
+        customer: 10,
+        customer_district: 1,
+        customer_warehouse: 1,
+        district: 1,
+        warehouse: 1,
+        amount: Cents::new(1_234),
+    };
     let mut words = words_of(&[b'x'; MIN_DATA]);
+    for _ in 0..turns {
+        words = data_after(alloc, &words, &payment)?;
+    }
+    Ok(words)
+}
+
+#[test]
+fn one_payment_at_the_left(rt: HostRuntime) -> Result<(), Fail> {
+    let mut expected = [b'x'; 317];
+    expected[..17].copy_from_slice(PAYMENT);
+    let bytes: DataBytes = unpack(&words_after(rt.alloc(), 1)?);
+    assert!(rt; text_of(&bytes) == &expected[..]);
+    Ok(())
+}
+
+#[test]
+fn twelve_payments_at_the_left(rt: HostRuntime) -> Result<(), Fail> {
     let mut expected = [b'x'; MAX_DATA];
     for turn in 0..12 {
-        words = with_front(&words, PAYMENT);
         expected[17 * turn..17 * turn + 17].copy_from_slice(PAYMENT);
     }
-    assert!(rt; text_of(&unpack(&words)) == &expected[..]);
+    let bytes: DataBytes = unpack(&words_after(rt.alloc(), 12)?);
+    assert!(rt; text_of(&bytes) == &expected[..]);
+    Ok(())
 }
