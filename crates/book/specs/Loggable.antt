@@ -22,7 +22,8 @@ pub record IsDoneAtTables (s : Sizes) (e : Entry) : Type 0 where
   pub well_formed : IsWellFormed (after tables e.input)
   pub commits : CommitsAt tables e.input e.writes e.reply
 
--- the entry's writes are of records of the scale, all narrow ones, in their order, and few; and it is done at some tables
+-- the entry's writes are of records of the scale, all narrow ones, in their order, and few; and it is done at some
+-- tables
 pub record IsLoggable (s : Sizes) (e : Entry) : Type 0 where
   pub ordered : IsStrictlySortedBy nat_cmp (keys_of e.writes.values)
   pub records : (n : ℕ) (value : Option (List ℕ)) → value_for e.writes n ≡ Some value → n < record_count s

@@ -1,5 +1,5 @@
--- A set of entries of narrow records, with those of wide ones behind them: what a look-up in either finds among all, and
--- what one entry more in either makes of all.
+-- A set of entries of narrow records, with those of wide ones behind them: what a look-up in either finds among all,
+-- and what one entry more in either makes of all.
 use Rattle.std.proofs.Common.{◌≡◌, ℕ, ◌<◌, List, ◌++◌, Some, None, Result, Ok, Err, OnErr, IfOk, map, get_or, sym, ap, ◌∙◌, subst}
 use Rattle.std.specs.Ordering.{nat_cmp}
 use Rattle.std.specs.Map.{keys_of}

@@ -15,8 +15,8 @@ use std::marker::Model;
 use tables::History;
 
 /// The writes of a transaction that has committed, by record number and in the order of the numbers. Contracts see
-/// it as `WriteSetView`, as they see a `WriteSet`. The words of wide records stand in the room of the HISTORY row, since
-/// few commits write any, and a history has many lists.
+/// it as `WriteSetView`, as they see a `WriteSet`. A history has many lists, so the words of wide records stand in the
+/// room of the HISTORY row: few commits write any.
 #[derive(Drop)]
 pub struct WriteList {
     values: Vec<(u32, Option<Payload>)>,

@@ -25,8 +25,8 @@ use tidword::TidWord;
 
 /// The versions that a transaction has read, one a record (Silo, section 4.4: the read set). Contracts see
 /// them by record number, in the order of the numbers. They stand as they came, so that a transaction that reads
-/// some 400 records neither moves versions nor spends more than a few steps on each look-up. Those of wide records stand
-/// by themselves, so that a narrow one takes no more memory for them.
+/// some 400 records neither moves versions nor spends more than a few steps on each look-up. Those of wide records
+/// stand by themselves, so that a narrow one takes no more memory for them.
 #[derive(Drop)]
 pub struct ReadSet {
     versions: Arrivals<Version>,

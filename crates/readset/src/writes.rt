@@ -80,7 +80,8 @@ impl WriteSet {
     ///
     /// `OutOfMemory`, and no other. What was said is then as before.
     pub fn put(&mut self, number: u32, value: Option<Payload>) -> Result<(), Refusal>
-        requires below { (n : ℕ) (held : Option (List ℕ)) → value_for self.old n ≡ Some held → IsWide held → number < n }
+        requires below { (n : ℕ) (held : Option (List ℕ)) → value_for self.old n ≡ Some held → IsWide held
+            → number < n }
         ensures puts { OnOk result (self.new ≡ puts self.old number value) }
         ensures narrow { IsNarrow value }
         ensures kept { OnErr result (self.new ≡ self.old) }
@@ -103,7 +104,8 @@ impl WriteSet {
     ///
     /// `OutOfMemory`, and no other. What was said is then as before.
     pub fn put_wide(&mut self, number: u32, words: &DataWords) -> Result<(), Refusal>
-        requires above { (n : ℕ) (held : Option (List ℕ)) → value_for self.old n ≡ Some held → IsNarrow held → n < number }
+        requires above { (n : ℕ) (held : Option (List ℕ)) → value_for self.old n ≡ Some held → IsNarrow held
+            → n < number }
         ensures puts { OnOk result (self.new ≡ puts self.old number (Some words.now)) }
         ensures kept { OnErr result (self.new ≡ self.old) }
         ensures only_memory { IfErr result (λ refusal. refusal ≡ OutOfMemory) }
@@ -123,7 +125,8 @@ impl WriteSet {
     /// What a narrow record is to hold, if it is written. Costs the logarithm of the number of records written.
     pub fn value(&self, number: u32) -> Option<Option<Payload>>
         ensures some { IfSome result (λ value. value_for self.now number ≡ Some value) }
-        ensures none { IfNone result ((value : Option (List ℕ)) → value_for self.now number ≡ Some value → IsWide value) }
+        ensures none { IfNone result ((value : Option (List ℕ)) → value_for self.now number ≡ Some value
+            → IsWide value) }
     {
         self.values.value_at(number).copied()
     }

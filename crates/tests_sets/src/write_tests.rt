@@ -69,8 +69,8 @@ fn put_all(cells: &Cells, writes: &mut WriteSet) -> Result<(), Refusal>
     put(cells, writes, 1, None)
 }
 
-/// What was seen of writes, how many there are, what record 1 is to hold, and the HISTORY row; and of a list of them its
-/// row, how many narrow records it has and how many wide ones, and the first and the last of either.
+/// What was seen of writes, how many there are, what record 1 is to hold, and the HISTORY row; and of a list of them
+/// its row, how many narrow records it has and how many wide ones, and the first and the last of either.
 #[derive(Clone, Copy, Debug, PartialEq, Eq)]
 struct Listed {
     written: (usize, Option<Option<Payload>>, Option<History>),
