@@ -16,8 +16,8 @@ use tidword::TidWord;
 /// How often each thread stores or reads.
 const TURNS: u64 = 100_000;
 
-/// How many cells of each kind there are. A page has 4,096, so of either kind the last two are in a second one. The wide
-/// records come behind all narrow ones.
+/// How many cells of each kind there are. A page has 4,096, so of either kind the last two are in a second one. The
+/// wide records come behind all narrow ones.
 const CELLS: u32 = 4_098;
 
 /// The cells, their pen, and a reader for a thread and one for the end.
