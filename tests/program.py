@@ -68,6 +68,14 @@ def a_population_is_drawn_from_its_seed():
         ends(f"with seed {seed}", ran, 0, whole(answers.encode(), 0))
 
 
+# C_DATA is 300 letters in both populations.
+@shows
+def c_data_is_shown_whole():
+    text = b"data 1 1 10 300 " + b"x" * 300 + b"\n"
+    for args in (SMALL, [*SMALL, "--population", "1"]):
+        ends(f"of {args}", run(args, b"show data 1 1 10\nshow data 1 1 11\n"), 0, whole(text + b"2 line 2\n", 0))
+
+
 @shows
 def lines_of_any_bytes_are_answered():
     nines = b"9" * (1024 - 21)

@@ -196,6 +196,7 @@ impl Tables {
                 let row = &self.warehouses[warehouse].districts[district].customers[customer];
                 text.customer_row(warehouse, district, customer, row);
             }
+            Key::CustomerData { warehouse, district, customer } => text.data_row(warehouse, district, customer),
             Key::Stock { warehouse, item } => {
                 text.stock_row(warehouse, item, &self.warehouses[warehouse].stock[item]);
             }

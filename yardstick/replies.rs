@@ -1,7 +1,7 @@
 //! The replies, one line each, and how a line's refusal is told.
 
 use crate::requests::{NewOrder, Payment, Refusal, RequestedLine};
-use crate::tables::{Cents, Customer, Order, OrderLine, Stock};
+use crate::tables::{Cents, Customer, FIRST_DATA, Order, OrderLine, Stock};
 use crate::text::Text;
 
 impl Text {
@@ -87,6 +87,12 @@ impl Text {
         self.words("customer ").number(warehouse).words(" ").number(district).words(" ").number(customer);
         self.words(" balance ").cents(row.balance).words(" paid ").cents(row.paid);
         self.words(" payments ").number(row.payments).words(" deliveries ").number(row.deliveries);
+    }
+
+    /// C_DATA is the same of each customer, and no Payment changes it.
+    pub fn data_row(&mut self, warehouse: u32, district: u32, customer: u32) {
+        self.words("data ").number(warehouse).words(" ").number(district).words(" ").number(customer);
+        self.words(" ").number(FIRST_DATA).words(" ").words(&"x".repeat(FIRST_DATA as usize));
     }
 
     pub fn stock_row(&mut self, warehouse: u32, item: u32, row: &Stock) {

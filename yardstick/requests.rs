@@ -46,6 +46,7 @@ pub enum Key {
     Warehouse { warehouse: u32 },
     District { warehouse: u32, district: u32 },
     Customer { warehouse: u32, district: u32, customer: u32 },
+    CustomerData { warehouse: u32, district: u32, customer: u32 },
     Stock { warehouse: u32, item: u32 },
     Order { warehouse: u32, district: u32, order: u32 },
 }
@@ -142,6 +143,7 @@ impl Words<'_> {
             b"warehouse" => Some(Key::Warehouse { warehouse }),
             b"district" => Some(Key::District { warehouse, district: self.number()? }),
             b"customer" => Some(Key::Customer { warehouse, district: self.number()?, customer: self.number()? }),
+            b"data" => Some(Key::CustomerData { warehouse, district: self.number()?, customer: self.number()? }),
             b"stock" => Some(Key::Stock { warehouse, item: self.number()? }),
             b"order" => Some(Key::Order { warehouse, district: self.number()?, order: self.number()? }),
             _ => None,
@@ -297,7 +299,7 @@ impl Key {
         match *self {
             Key::Warehouse { warehouse } => (1..=scale.warehouses).contains(&warehouse),
             Key::District { warehouse, district } => scale.has_district(warehouse, district),
-            Key::Customer { warehouse, district, customer } => {
+            Key::Customer { warehouse, district, customer } | Key::CustomerData { warehouse, district, customer } => {
                 scale.has_district(warehouse, district) && (1..=scale.customers).contains(&customer)
             }
             Key::Stock { warehouse, item } => {

@@ -25,7 +25,7 @@ SHARES = {"payment": 43, "neworder": 45, "delivery": 4, "status": 4, "level": 4,
 # The words with which lines begin, and such as may stand there by mistake.
 VERBS = (*SHARES, "Payment", "neworders", "", "pay")
 
-TABLES = ("warehouse", "district", "customer", "stock", "order", "item", "")
+TABLES = ("warehouse", "district", "customer", "data", "stock", "order", "item", "")
 
 # How many lines a script has.
 COUNTS = (0, 1, 10, 300, 2_000, 8_000)
@@ -77,8 +77,9 @@ class Lines:
         return [self.order_line() for _ in range(count)]
 
     def key(self):
-        table = self.draws.choice(TABLES if self.is_strange() else TABLES[:5])
-        last = {"customer": self.customers, "stock": self.items, "order": self.orders}.get(table, self.orders)
+        table = self.draws.choice(TABLES if self.is_strange() else TABLES[:6])
+        lasts = {"customer": self.customers, "data": self.customers, "stock": self.items}
+        last = lasts.get(table, self.orders)
         if table == "order" and self.draws.random() < 0.5:
             last = min(last, self.customers + 20)
         between = [] if table in ("warehouse", "stock") else [self.number(self.districts)]

@@ -80,6 +80,7 @@ class Reader:
             b"warehouse": [a_warehouse],
             b"district": home,
             b"customer": self.order,
+            b"data": self.order,
             b"stock": [a_warehouse, up_to(self.items)],
             b"order": [*home, up_to(self.orders)],
         }

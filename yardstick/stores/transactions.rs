@@ -185,6 +185,7 @@ impl<S: Store> Stored<S> {
                 let row = store.customer(Place { warehouse, district }, customer);
                 text.customer_row(warehouse, district, customer, &row);
             }
+            Key::CustomerData { warehouse, district, customer } => text.data_row(warehouse, district, customer),
             Key::Stock { warehouse, item } => text.stock_row(warehouse, item, &store.stock(warehouse, item)),
             Key::Order { warehouse, district, order } => {
                 let row = store.order(Place { warehouse, district }, order);

@@ -4,7 +4,7 @@ use Rattle.tables.specs.Sizes.{Sizes}
 use Rattle.tables.specs.Constant.{IsOf}
 use Rattle.tables.specs.WellFormed.{IsWellFormed}
 use Rattle.tables.specs.Database.{Database}
-use Rattle.tables.specs.Records.{record_count, key_of}
+use Rattle.tables.specs.Records.{narrow_count, record_count, key_of}
 use Rattle.tables.specs.Rows.{rows}
 use Rattle.cells.specs.First.{first_version}
 use Rattle.cells.specs.Versions.{EndsWith, newest}
@@ -39,6 +39,9 @@ module _ {past : ℕ} {t0 : Database} {written : PenView} {history : List Entry}
     rows_first : row_count t0.scale ≤ record_count t0.scale
     rows_first = omega arith
 
+    rows_narrow : row_count t0.scale ≤ narrow_count t0.scale
+    rows_narrow = omega arith
+
     -- they may be held
     lawful : AreLawful t0.scale (held_by written)
     lawful n h =
@@ -50,7 +53,7 @@ module _ {past : ℕ} {t0 : Database} {written : PenView} {history : List Entry}
     -- HISTORY, with these rows and then those that were added, are the committed ones
     module _ {population : Database} {rows_here : List History} (become : HasBecome population t0 rows_here) where
       pub enough : row_count population.scale ≤ length run_cells.narrow
-      enough = subst (λ (s : Sizes). row_count s ≤ length run_cells.narrow) become.of_population.scale (omega (arith, ready.count.0, rows_first))
+      enough = subst (λ (s : Sizes). row_count s ≤ length run_cells.narrow) become.of_population.scale (omega (arith, ready.count.narrow, rows_narrow))
 
       pub lawful_there : AreLawful population.scale (held_by written)
       lawful_there = subst (λ (s : Sizes). AreLawful s (held_by written)) become.of_population.scale lawful

@@ -5,10 +5,10 @@ use Rattle.std.proofs.lemmas.List.Elements.{All-nil, All-push}
 use Rattle.tables.specs.Sizes.{Sizes}
 use Rattle.tables.specs.Database.{Database}
 use Rattle.tables.specs.Apply.{after}
-use Rattle.tables.specs.Records.{record_count}
+use Rattle.tables.specs.Records.{narrow_count}
 use Rattle.tables.specs.WellFormed.{IsWellFormed}
-use Rattle.cells.specs.Records.{AreNarrow, CellsView, ReaderView}
-use Rattle.cells.proofs.Records.{count_of}
+use Rattle.cells.specs.Records.{CellsView, ReaderView}
+use Rattle.readset.specs.Cells.{AreCellsOf}
 use Rattle.readset.specs.declared.work.Work.{Work}
 use Rattle.book.specs.Book.{IsWorkOf, AreInRecordOrder, entry_of}
 use Rattle.book.specs.History.{replay, CommitsAt}
@@ -27,7 +27,7 @@ first_loggable s terminals few = record {
 
 -- one entry more
 pub next_loggable : {t0 : Database} {terminals : ℕ} {cells : CellsView} {history : List Entry} {reader : ReaderView} {work : Work} (number tid terminal : ℕ)
-    → AreLoggable t0.scale terminals history → IsWorkOf t0 cells reader work → AreNarrow (record_count t0.scale) cells → AreInRecordOrder work.reads work.writes
+    → AreLoggable t0.scale terminals history → IsWorkOf t0 cells reader work → AreCellsOf t0.scale cells → AreInRecordOrder work.reads work.writes
     → CommitsAt (replay t0 history) work.input work.writes work.reply → IsWellFormed (after (replay t0 history) work.input) → terminal < terminals
     → AreLoggable t0.scale terminals (history ++ entry_of number tid terminal work ∷ [])
 next_loggable {t0 = t0} {terminals = terminals} {cells = cells} {history = history} {work = work} number tid terminal are is_work count ordered commits well_formed own =
@@ -35,9 +35,9 @@ next_loggable {t0 = t0} {terminals = terminals} {cells = cells} {history = histo
     record {
       each = All-push (IsLoggable t0.scale) history entry are.each (record {
         ordered = ordered.writes_ascend;
-        records = λ n value is. subst (λ m. n < m) (count_of (record_count t0.scale) cells count) (is_work.limits.writes_cells n value is);
+        records = λ n value is. subst (λ m. n < m) count.narrow (is_work.limits.writes_narrow n value is);
         narrow = λ n value is. (is_work.limits.writes_kinds n value is).narrow
-            (subst (λ m. n < m) (count_of (record_count t0.scale) cells count ∙ sym count.0) (is_work.limits.writes_cells n value is));
+            (is_work.limits.writes_narrow n value is);
         limit = is_work.limits.writes_limit;
         done = merely (record { tables = replay t0 history; scale = replay-scale t0 history; well_formed = well_formed; commits = commits });
       });

@@ -11,7 +11,7 @@ use Rattle.tables.specs.WellFormed.{IsWellFormed, HasRoom}
 use Rattle.tables.specs.declared.limits.TheConstants.{MAX_COMMITS}
 use Rattle.cells.specs.First.{first_version}
 use Rattle.cells.specs.Versions.{tid, last_tid, value_in}
-use Rattle.cells.proofs.Records.{count_of}
+use Rattle.readset.proofs.CellsOf.{count_of}
 use Rattle.cells.specs.Records.{at, cell_count}
 use Rattle.tables_laws.proofs.NamesKept.{IsOf-itself}
 use Rattle.book.specs.Book.{IsSound}
@@ -45,7 +45,7 @@ first_lasts {count = count} none all = record {
 
 module _ {t0 : Database} {made : Records} {terminals : ℕ} (are : AreUnwritten t0 terminals made) where
   first : (n : ℕ) → n < cell_count made.cells → at made.pen.all n ≡ first_version (rows t0 n) ∷ []
-  first n h = are.versions n (subst (λ m. n < m) (count_of (record_count t0.scale) made.cells are.count) h)
+  first n h = are.versions n (subst (λ m. n < m) (count_of t0.scale made.cells are.count) h)
 
   pub first_sound : (past : ℕ) → IsWellFormed t0 → IsConsistent t0 → IsSound past t0 made.pen [] t0
   first_sound past well_formed consistent = record {

@@ -28,7 +28,7 @@ use Rattle.commit.proofs.Current.{current_or_stale, next_of_reads}
 use Rattle.tables.specs.Database.{Database}
 use Rattle.tables.specs.Records.{record_count}
 use Rattle.cells.specs.Versions.{EndsWith, last_tid, value_in, newest as newest_of}
-use Rattle.cells.proofs.Records.{count_of}
+use Rattle.readset.proofs.CellsOf.{count_of}
 use Rattle.cells.specs.Records.{CellsView, PenView, ReaderView, at, words_of, cell_count}
 use Rattle.cells.specs.declared.cells.Version.{Version}
 use Rattle.cells.proofs.Rising.{last_tid-last}
@@ -117,7 +117,7 @@ module _ {past : ℕ} {t0 : Database} {run_cells : CellsView} {epoch : ℕ} (k :
 
   -- each record has a newest version, which the machine shows
   newest : (n : ℕ) → n < cell_count run_cells → (v : List ℕ) × EndsWith (at k.written.all n) v
-  newest n h = (newest_of (at k.written.all n), has_newest sound n (subst (λ m. n < m) (count_of (record_count t0.scale) run_cells ready.count) h))
+  newest n h = (newest_of (at k.written.all n), has_newest sound n (subst (λ m. n < m) (count_of t0.scale run_cells ready.count) h))
 
   shown : (n : ℕ) → n < cell_count run_cells → (v : List ℕ) → EndsWith (at k.written.all n) v → cell m n ≡ cell_of v
   shown n h = shows.records.newest n (subst (λ (l : CellsView). n < cell_count l) (sym ready.cells) h)

@@ -17,7 +17,7 @@ use Rattle.std.proofs.lemmas.Bool.{cases_eq, eq-eqb, ne_eqb}
 use Rattle.tidword.proofs.Words.{installed-tid, installed-present, installed-absent}
 use Rattle.cells.specs.First.{first_version}
 use Rattle.cells.specs.Versions.{EndsWith, tid, last_tid, value_in}
-use Rattle.cells.proofs.Records.{count_of}
+use Rattle.readset.proofs.CellsOf.{count_of}
 use Rattle.cells.specs.Records.{CellsView, PenView, ReaderView, at, words_of, cell_count}
 use Rattle.cells.proofs.Rising.{last_tid-push, last_tid-last}
 use Rattle.readset.specs.Writes.{rows_with, value_for}
@@ -81,7 +81,7 @@ module _ {past : ℕ} {t0 : Database} {run_cells : CellsView} {epoch : ℕ} {wri
     (sound : IsSound past t0 written history t) (ready : IsReady past t0 run_cells epoch written history t)
     {reader : ReaderView} {work : Work} (is_work : IsWorkOf t0 run_cells reader work) (latest : AreLatest written.all work.reads) where
   agrees : Agrees t work.reads
-  agrees n v e = sound.latest n (subst (λ m. n < m) (count_of (record_count t0.scale) run_cells ready.count) (is_work.read.within n v e)) (words_of v) (latest n v e)
+  agrees n v e = sound.latest n (subst (λ m. n < m) (count_of t0.scale run_cells ready.count) (is_work.read.within n v e)) (words_of v) (latest n v e)
 
   commits_there : IsCommitOf t work.input work.writes work.reply
   commits_there = explains_where_consistent t0 work.input work.reads work.writes work.reply is_work.explained t ready.of_population sound.well_formed

@@ -3,14 +3,15 @@ use Rattle.std.proofs.Common.{◌≡◌, ℕ, ◌<◌, ◌≤◌, ◌+◌, ◌-�
 use Rattle.tables.specs.Database.{Database}
 use Rattle.tables.specs.Apply.{after}
 use Rattle.tables.specs.Conditions.{IsConsistent}
-use Rattle.tables.specs.Records.{record_count}
+use Rattle.tables.specs.Records.{narrow_count}
 use Rattle.tables.specs.Rows.{rows}
 use Rattle.tables.specs.WellFormed.{IsWellFormed, HasRoom}
 use Rattle.tables.specs.declared.limits.TheConstants.{MAX_COMMITS}
 use Rattle.tables.specs.declared.input.Input.{Input}
 use Rattle.tables.specs.declared.reply.Reply.{Reply}
-use Rattle.cells.specs.Records.{AreNarrow, CellsView, PenView, ReaderView}
-use Rattle.cells.proofs.Records.{count_of}
+use Rattle.cells.specs.Records.{CellsView, PenView, ReaderView}
+use Rattle.readset.specs.Cells.{AreCellsOf}
+use Rattle.tables.proofs.Numbers.{narrow_among}
 use Rattle.cells.specs.Versions.{newest, value_in}
 use Rattle.encoding.proofs.Positions.{first_value}
 use Rattle.tables_laws.proofs.Kept.{after-scale, after-IsWellFormed}
@@ -33,12 +34,12 @@ use Rattle.book.proofs.Sound.{done_there}
 -- what the newest versions of a sound book hold
 pub held_there : {past : ℕ} {t0 : Database} {pen : PenView} {history : List Entry} {t : Database} → IsSound past t0 pen history t → t.scale ≡ t0.scale
     → AreHeld pen t
-held_there sound scale n below = value_held sound n (subst (λ s. n < record_count s) scale below)
+held_there {t0 = t0} sound scale n below = value_held sound n (narrow_among t0.scale n (subst (λ s. n < narrow_count s) scale below))
 
 pub records_there : {past : ℕ} {t0 : Database} {pen : PenView} {history : List Entry} {t : Database} → IsSound past t0 pen history t → t.scale ≡ t0.scale
-    → AreNarrow (record_count t0.scale) pen.cells → AreRecords pen t
-records_there sound scale count = record {
-  count = (count.0 ∙ ap record_count (sym scale), count.1);
+    → AreCellsOf t0.scale pen.cells → AreRecords pen t
+records_there {pen = pen} sound scale count = record {
+  count = subst (λ s. AreCellsOf s pen.cells) (sym scale) count;
   held = held_there sound scale;
   well_formed = sound.well_formed;
   consistent = sound.consistent;
@@ -47,22 +48,22 @@ records_there sound scale count = record {
 -- those of tables that a run begins with
 pub first_records : (t0 : Database) (made : Records) (terminals : ℕ) → AreUnwritten t0 terminals made → IsWellFormed t0 → IsConsistent t0 → AreRecords made.pen t0
 first_records t0 made terminals are well_formed consistent = record {
-  count = subst (AreNarrow (record_count t0.scale)) (sym are.cells) are.count;
-  held = λ n below. ap (λ (l : List (List ℕ)). value_in (newest l)) (are.versions n below) ∙ first_value (rows t0 n);
+  count = subst (AreCellsOf t0.scale) (sym are.cells) are.count;
+  held = λ n below. ap (λ (l : List (List ℕ)). value_in (newest l)) (are.versions n (narrow_among t0.scale n below)) ∙ first_value (rows t0 n);
   well_formed = well_formed;
   consistent = consistent;
 }
 
 -- a work's writes
-pub writes_there : (t0 t : Database) (cells : CellsView) (reader : ReaderView) (work : Work) → IsWorkOf t0 cells reader work → AreNarrow (record_count t0.scale) cells
+pub writes_there : (t0 t : Database) (cells : CellsView) (reader : ReaderView) (work : Work) → IsWorkOf t0 cells reader work → AreCellsOf t0.scale cells
     → t.scale ≡ t0.scale → AreInRecordOrder work.reads work.writes → AreWrites t.scale work.writes
 writes_there t0 t cells reader work is_work count scale ordered = record {
   ascend = ordered.writes_ascend;
   found = ordered.writes_found;
-  below = λ i d inside. subst (λ m. (get_or work.writes.values i d).0 < m) (count_of (record_count t0.scale) cells count ∙ ap record_count (sym scale))
-      (is_work.limits.writes_cells _ _ (ordered.writes_found i d inside));
+  below = λ i d inside. subst (λ m. (get_or work.writes.values i d).0 < m) (count.narrow ∙ ap narrow_count (sym scale))
+      (is_work.limits.writes_narrow _ _ (ordered.writes_found i d inside));
   narrow = λ n value is. (is_work.limits.writes_kinds n value is).narrow
-      (subst (λ m. n < m) (count_of (record_count t0.scale) cells count ∙ sym count.0) (is_work.limits.writes_cells n value is));
+      (is_work.limits.writes_narrow n value is);
 }
 
 -- totals that have followed a commit's writes, and then its stores
@@ -93,7 +94,7 @@ module _ {past : ℕ} {t0 : Database} {run_cells : CellsView} {epoch : ℕ} {wri
       let room = subst (λ n. HasRoom n t) (rest (past + length history) t0.scale.commits below ready.few) ready.room in
       record {
         totals = totals;
-        records = records_there sound ready.of_population.scale (subst (AreNarrow (record_count t0.scale)) (sym ready.cells) ready.count);
+        records = records_there sound ready.of_population.scale (subst (AreCellsOf t0.scale) (sym ready.cells) ready.count);
         input = done.input;
         commit = done.commit;
         ordered = writes_there t0 t run_cells reader work is_work ready.count ready.of_population.scale ordered;

@@ -3,9 +3,10 @@ use Rattle.std.specs.Prelude.{◌≡◌, ℕ, ◌+◌, ◌<◌, ◌^◌, List, l
 use Rattle.std.specs.List.{All}
 use Rattle.tables.specs.Database.{Database}
 use Rattle.tables.specs.Constant.{IsOf}
-use Rattle.tables.specs.Records.{record_count}
+use Rattle.tables.specs.Records.{narrow_count}
 use Rattle.tables.specs.declared.rows.History.{History}
-use Rattle.cells.specs.Records.{AreNarrow, CellsView, PenView, ReaderView}
+use Rattle.cells.specs.Records.{CellsView, PenView, ReaderView}
+use Rattle.readset.specs.Cells.{AreCellsOf}
 use Rattle.board.specs.Seats.{BoardView, SeatView, new_seat}
 use Rattle.board.specs.declared.rule.Role.TheVariants.{Terminal}
 use Rattle.totals.specs.Totals.{TotalsView, AreTotals}
@@ -71,7 +72,7 @@ pub record IsEngineOf (population first : Database) (cells : CellsView) (board :
   pub population_is : own_population ≡ population
   pub of_population : IsOf population first
   pub cells_are : own_cells ≡ cells
-  pub count : AreNarrow (record_count first.scale) cells
+  pub count : AreCellsOf first.scale cells
   pub board_is : own_board ≡ board
   pub some : 0 < parts
 

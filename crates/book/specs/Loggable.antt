@@ -7,7 +7,7 @@ use Rattle.std.specs.Map.{keys_of}
 use Rattle.tables.specs.Sizes.{Sizes}
 use Rattle.tables.specs.Database.{Database}
 use Rattle.tables.specs.Apply.{after}
-use Rattle.tables.specs.Records.{record_count}
+use Rattle.tables.specs.Records.{narrow_count}
 use Rattle.tables.specs.WellFormed.{IsWellFormed}
 use Rattle.readset.specs.Writes.{WritesAreNarrow, value_for}
 use Rattle.tables.specs.declared.limits.TheConstants.{MAX_WRITES}
@@ -26,7 +26,7 @@ pub record IsDoneAtTables (s : Sizes) (e : Entry) : Type 0 where
 -- tables
 pub record IsLoggable (s : Sizes) (e : Entry) : Type 0 where
   pub ordered : IsStrictlySortedBy nat_cmp (keys_of e.writes.values)
-  pub records : (n : ℕ) (value : Option (List ℕ)) → value_for e.writes n ≡ Some value → n < record_count s
+  pub records : (n : ℕ) (value : Option (List ℕ)) → value_for e.writes n ≡ Some value → n < narrow_count s
   pub narrow : WritesAreNarrow e.writes
   pub limit : length e.writes.values ≤ MAX_WRITES
   pub done : ∥ IsDoneAtTables s e ∥₁

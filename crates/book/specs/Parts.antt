@@ -7,7 +7,8 @@ use Rattle.tables.specs.Records.{record_count}
 use Rattle.tables.specs.Rows.{rows}
 use Rattle.population.specs.Initial.{initial, seed_of}
 use Rattle.cells.specs.First.{first_version}
-use Rattle.cells.specs.Records.{AreNarrow, CellsView, seen_all}
+use Rattle.cells.specs.Records.{CellsView, seen_all}
+use Rattle.readset.specs.Cells.{AreCellsOf}
 use Rattle.cells.specs.Records.{at}
 use Rattle.board.specs.Seats.{BoardView}
 use Rattle.board.specs.Opening.{Opens}
@@ -62,7 +63,7 @@ pub record AreEmpty (loggers mark : ℕ) (streams : List Untaken) : Type 0 where
 -- each record of tables has a cell, whose only version is the one that it begins with, which a reader a terminal has seen
 pub record AreUnwritten (first : Database) (terminals : ℕ) (r : Records) : Type 0 where
   pub cells : r.pen.cells ≡ r.cells
-  pub count : AreNarrow (record_count first.scale) r.cells
+  pub count : AreCellsOf first.scale r.cells
   pub versions : (n : ℕ) → n < record_count first.scale → at r.pen.all n ≡ first_version (rows first n) ∷ []
   pub readers : All (λ reader. reader ≡ seen_all r.pen) r.readers.items
   pub as_many : length r.readers.items ≡ terminals

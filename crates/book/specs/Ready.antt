@@ -5,10 +5,11 @@ use Rattle.tables.specs.Database.{Database}
 use Rattle.tables.specs.Constant.{IsOf}
 use Rattle.tables.specs.WellFormed.{HasRoom}
 use Rattle.tables.specs.declared.limits.TheConstants.{MAX_COMMITS}
-use Rattle.tables.specs.Records.{record_count}
+use Rattle.tables.specs.Records.{narrow_count}
 use Rattle.tidword.specs.TidWord.{is_locked, is_latest, epoch_of}
 use Rattle.cells.specs.Versions.{EndsWith, last_tid, word_in}
-use Rattle.cells.specs.Records.{AreNarrow, CellsView, PenView, at, cell_count}
+use Rattle.cells.specs.Records.{CellsView, PenView, at, cell_count}
+use Rattle.readset.specs.Cells.{AreCellsOf}
 use Rattle.readset.specs.Writes.{value_for}
 use Rattle.book.specs.Stamps.{last_of}
 use Rattle.book.specs.declared.entry.Entry.{Entry}
@@ -37,7 +38,7 @@ pub record IsReady (past : ℕ) (t0 : Database) (run_cells : CellsView) (epoch :
   pub of_population : IsOf t0 t
   -- the pen is of the run's cells, one a record
   pub cells : written.cells ≡ run_cells
-  pub count : AreNarrow (record_count t0.scale) run_cells
+  pub count : AreCellsOf t0.scale run_cells
   -- the next commit's TID is to be larger than those before it
   pub passed : All (IsPassed epoch written history) history
   -- there is one: no sequence is larger than the number of commits

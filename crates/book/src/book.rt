@@ -88,7 +88,7 @@ impl<K: Run> Book<K> {
     ghost use Rattle.money.specs.declared.refusal.Refusal.TheVariants.{OutOfMemory};
     ghost use Rattle.tables.specs.Database.{database};
     ghost use Rattle.tables.specs.declared.limits.TheConstants.{MAX_COMMITS};
-    ghost use Rattle.tables.specs.Records.{record_count};
+    ghost use Rattle.tables.specs.Records.{narrow_count};
     ghost use Rattle.tables.specs.Rows.{rows};
     ghost use Rattle.conditions.specs.Report.{IsReportOf, IsGood};
     ghost use Rattle.book.specs.History.{replay};
@@ -126,7 +126,7 @@ impl<K: Run> Book<K> {
     /// and nothing where it is absent. Constant time, no memory.
     pub fn record(&mut self, cells: &Cells, number: u32) -> Option<Payload>
         requires cells { cells.now ≡ K.cells }
-        requires is_record { number < record_count K.first.scale }
+        requires is_record { number < narrow_count K.first.scale }
         ensures same { self.new ≡ self.old }
         ensures held { result ≡ rows (replay K.first self.old.history) number }
     {

@@ -1,9 +1,9 @@
 //! The engine: the cells, which anyone reads, and the book under its lock.
-ghost use Rattle.cells.specs.Records.{AreNarrow};
+ghost use Rattle.readset.specs.Cells.{AreCellsOf};
 ghost use Rattle.std.specs.Prelude.{◌≡◌, ◌+◌, length, IfSome, IfNone};
 ghost use Rattle.population.specs.Initial.{initial};
 ghost use Rattle.tables.specs.Constant.{IsOf};
-ghost use Rattle.tables.specs.Records.{record_count};
+ghost use Rattle.tables.specs.Records.{narrow_count};
 ghost use Rattle.board.specs.declared.rule.Role.TheVariants.{Clock, Terminal};
 ghost use Rattle.board.specs.Seats.{new_seat};
 ghost use Rattle.board.specs.Opening.{logger_seats};
@@ -144,7 +144,7 @@ impl<K: Run> Engine<K> {
     /// The record cells: one for each record.
     pub fn cells(&self) -> &Cells
         ensures value { result.now ≡ K.cells }
-        ensures count { AreNarrow (record_count K.first.scale) result.now }
+        ensures count { AreCellsOf K.first.scale result.now }
     {
         &self.cells
     }

@@ -18,7 +18,7 @@ use crate::shared::shared;
 use crate::untaken::Untaken;
 use board::{Board, BoardSeats};
 use cells::{Cells, Pen, Reader};
-use encoding::first_versions;
+use encoding::{first_texts, first_versions};
 use money::Refusal;
 use population::Population;
 use std::alloc::{AllocError, Global};
@@ -183,7 +183,8 @@ fn unwritten<R: Wait>(
     ensures only_memory { IfErr result (λ refusal. refusal ≡ OutOfMemory) }
 {
     let first = first_versions(alloc, tables)?;
-    let (cells, pen, readers) = Cells::new(rt, alloc, first, terminals as usize)?;
+    let texts = first_texts(alloc, tables)?;
+    let (cells, pen, readers) = Cells::with_wide(rt, alloc, first, &texts, terminals as usize)?;
     Ok(Records {
         cells,
         pen,

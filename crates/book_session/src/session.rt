@@ -2,7 +2,7 @@
 
 ghost use Rattle.std.specs.Prelude.{◌≡◌, ◌⊎◌, ◌<◌, [], ◌∷◌, ◌++◌, length, IfOk, IfErr, OnOk, OnErr};
 ghost use Rattle.tables.specs.Inputs.{IsInput};
-ghost use Rattle.tables.specs.Records.{record_count};
+ghost use Rattle.tables.specs.Records.{narrow_count};
 ghost use Rattle.tables.specs.Rows.{rows};
 ghost use Rattle.tables.specs.WellFormed.{IsWellFormed};
 ghost use Rattle.population.specs.Initial.{initial};
@@ -79,7 +79,7 @@ impl<'e, K: Run> Session<'e, K> {
     /// What one record holds in the committed tables, which are well-formed: its row's columns that change, as
     /// words, or nothing where it is absent. Constant time, no memory.
     pub fn record(&mut self, number: u32) -> Option<Payload>
-        requires { number < record_count K.first.scale }
+        requires { number < narrow_count K.first.scale }
         ensures same { self.new ≡ self.old }
         ensures words { result ≡ rows (replay K.first self.old.history) number }
         ensures well_formed { IsWellFormed (replay K.first self.old.history) }

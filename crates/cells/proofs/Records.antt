@@ -1,16 +1,12 @@
 -- What follows for a caller from the clauses of `read`, `store` and `meet`.
-use Rattle.std.proofs.Common.{◌≡◌, ◌≢◌, ℕ, List, [], sym, ap, ◌∙◌, subst, arith}
+use Rattle.std.proofs.Common.{◌≡◌, ◌≢◌, ℕ, List, [], sym, ap, ◌∙◌, subst}
 use Rattle.std.proofs.lemmas.List.{get_or-set_other}
 use Rattle.cells.specs.Versions.{tid, last_tid, Has}
-use Rattle.cells.specs.Records.{AreNarrow, CellsView, PenView, ReaderView, at, cell_count, StoresVersion, LoadsRecord, LearnsRecord}
+use Rattle.cells.specs.Records.{PenView, ReaderView, at, StoresVersion, LoadsRecord, LearnsRecord}
 use Rattle.cells.proofs.Rising.{last_tid-push, ends_has, has_more}
 
 pub last_tid-writes : {old new : PenView} {n : ℕ} {version : List ℕ} → StoresVersion old new n version → last_tid (at new.all n) ≡ tid version
 last_tid-writes {old} {new} {n} {version} w = ap last_tid w.last ∙ last_tid-push (at old.all n) version
-
--- how many records there are where none is wide
-pub count_of : (count : ℕ) (cells : CellsView) → AreNarrow count cells → cell_count cells ≡ count
-count_of count cells narrow = omega (arith, narrow.0, narrow.1)
 
 -- another record's versions stay
 pub other_stays : {old new : PenView} {n : ℕ} {version : List ℕ} → StoresVersion old new n version → (m : ℕ) → m ≢ n → at new.all m ≡ at old.all m

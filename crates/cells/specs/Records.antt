@@ -35,10 +35,6 @@ pub record IsOfKind (cells : CellsView) (n : ℕ) (value : Option (List ℕ)) : 
   pub narrow : n < length cells.narrow → IsNarrow value
   pub wide : length cells.narrow ≤ n → IsWide value
 
--- so many narrow records, and no wide one
-abbrev pub AreNarrow : ℕ → CellsView → Type 0
-AreNarrow count cells = (length cells.narrow ≡ count) × (length cells.wide ≡ 0)
-
 abbrev pub PenView : Type 0
 PenView = PenViewOf CellsView
 

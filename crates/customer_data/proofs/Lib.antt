@@ -1,4 +1,5 @@
 pub mod Packed
 pub mod Texts
 mod Laid
-mod Printable
+mod Fronts
+pub mod Printable

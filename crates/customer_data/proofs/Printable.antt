@@ -2,12 +2,13 @@
 use Rattle.std.proofs.Common.{ℕ, zero, suc, ◌+◌, ◌/◌, ◌%◌, ◌<◌, ◌≤◌, ◌==◌, true, false, List, [], ◌∷◌, ◌++◌, All, sym, ap, subst, arith, length-append}
 use Rattle.std.specs.Bool.{if◌then◌else◌}
 use Rattle.std.specs.Prelude.{ℤ, pos, negsuc, codes}
+use Rattle.std.specs.Str.{IsAscii}
 use Rattle.std.specs.Fmt.{decimal, digits, digits_onto, digit_glyph}
 use Rattle.std.proofs.lemmas.Bool.{lt-ltb}
-use Rattle.std.proofs.lemmas.List.{length-take}
-use Rattle.std.proofs.lemmas.List.Elements.{All-append, All-cons, All-nil, All-take}
+use Rattle.std.proofs.lemmas.List.{length-take, length-replicate}
+use Rattle.std.proofs.lemmas.List.Elements.{All-append, All-cons, All-head, All-nil, All-replicate, All-tail, All-take}
 use Rattle.money.specs.Money.{money_text, unsigned_money_text, two_digits}
-use Rattle.customer_data.specs.Text.{IsData, put_left}
+use Rattle.customer_data.specs.Text.{IsData, put_left, first_text}
 use Rattle.customer_data.specs.Payments.{payment_text}
 use Rattle.customer_data.specs.declared.payments.PaymentText.{PaymentText}
 
@@ -66,3 +67,15 @@ put_left_is front text printable is =
 
 pub kept : (p : PaymentText) (text : List ℕ) → IsData text → IsData (put_left (payment_text p) text)
 kept p text is = put_left_is (payment_text p) text (payment_printable p) is
+
+pub first_is : IsData first_text
+first_is = record {
+  at_least = omega (arith, length-replicate {A = ℕ} 300 120);
+  at_most = omega (arith, length-replicate {A = ℕ} 300 120);
+  printable = All-replicate IsPrintable 300 120 (omega arith, omega arith);
+}
+
+pub printable_ascii : (bs : List ℕ) → All IsPrintable bs → IsAscii bs
+printable_ascii [] all i = omega arith
+printable_ascii (b ∷ bs) all zero = omega (arith, (All-head IsPrintable b bs all).1)
+printable_ascii (b ∷ bs) all (suc i) = printable_ascii bs (All-tail IsPrintable b bs all) i

@@ -1,5 +1,5 @@
 -- C_DATA, a customer's text, and what a Payment makes of it.
-use Rattle.std.specs.Prelude.{ℕ, ◌≤◌, List, ◌++◌, length, take, All}
+use Rattle.std.specs.Prelude.{ℕ, ◌≤◌, List, ◌++◌, length, take, replicate, All}
 use Rattle.customer_data.specs.declared.words.TheConstants.{MIN_DATA, MAX_DATA}
 
 -- C_DATA is a variable text of 300 to 500 characters (TPC-C 1.3.1), here the printable ones of ASCII
@@ -12,3 +12,8 @@ pub record IsData (text : List ℕ) : Type 0 where
 -- last place are lost (TPC-C 2.5.2.2)
 abbrev pub put_left : List ℕ → List ℕ → List ℕ
 put_left front text = take MAX_DATA (front ++ text)
+
+-- the text that each customer begins with: the fewest characters, each the letter x (TPC-C 4.3.3.1 draws it; here it
+-- isn't drawn)
+abbrev pub first_text : List ℕ
+first_text = replicate MIN_DATA 120

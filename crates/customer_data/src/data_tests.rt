@@ -1,8 +1,8 @@
 //! Worked rows: the words of a text of 300 letters, and the texts of one Payment and of twelve put at the left of it.
 
 use crate::{
-    DATA_WORDS, DataBytes, DataWords, MAX_DATA, MIN_DATA, PaymentText, data_after, text_of, unpack,
-    words_of,
+    CustomerData, DATA_WORDS, DataBytes, DataWords, MAX_DATA, MIN_DATA, PaymentText, data_after,
+    text_of, unpack, words_of,
 };
 use money::Cents;
 use std::alloc::{AllocError, Global};
@@ -11,6 +11,15 @@ use std::test::Fail;
 
 /// What a Payment of 12.34 puts at the left: its customer, whose district and warehouse, its own, and the amount.
 const PAYMENT: &[u8; 17] = b"10 1 1 1 1 12.34|";
+
+#[test]
+fn a_first_text_has_300_letters(rt: HostRuntime) -> Result<(), Fail> {
+    let first = CustomerData::first(rt.alloc());
+    assert_eq!(rt; first.len(), MIN_DATA);
+    let copy = first.clone()?.to_string(rt.alloc())?;
+    assert!(rt; copy.as_bytes() == &[b'x'; MIN_DATA][..]);
+    Ok(())
+}
 
 #[test]
 fn words_of_300_letters(rt: HostRuntime) {
@@ -55,5 +64,14 @@ fn twelve_payments_at_the_left(rt: HostRuntime) -> Result<(), Fail> {
     }
     let bytes: DataBytes = unpack(&words_after(rt.alloc(), 12)?);
     assert!(rt; text_of(&bytes) == &expected[..]);
+    Ok(())
+}
+
+#[test]
+fn a_text_of_its_words(rt: HostRuntime) -> Result<(), Fail> {
+    let words = words_after(rt.alloc(), 1)?;
+    let text = CustomerData::of_words(rt.alloc(), &words)?;
+    assert_eq!(rt; text.len(), 317);
+    assert!(rt; text.words() == words);
     Ok(())
 }

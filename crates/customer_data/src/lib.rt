@@ -7,10 +7,12 @@
 mod data_tests;
 mod laws;
 mod payments;
+mod text;
 mod words;
 
-pub use laws::{payments_keep_texts, words_determine_text};
+pub use laws::{first_text_is_one, payments_keep_texts, words_determine_text};
 pub use payments::{PaymentText, data_after};
+pub use text::CustomerData;
 pub use words::{
     DATA_BYTES, DATA_WORDS, DataBytes, DataWords, MAX_DATA, MIN_DATA, text_of, unpack, with_front,
     words_of,

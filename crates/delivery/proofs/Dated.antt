@@ -62,6 +62,7 @@ module _ (t : Database) (x : DeliveryInput) (n o : ℕ) where
   begun (key.Stock h) is = refl
   begun (key.Oldest h) is = refl
   begun (key.Last c) is = refl
+  begun (key.CustomerData c) is = refl
 
   -- one line more: its row, where there is one, gets its date
   abbrev pub dating : ℕ → OrderLine → Changes
@@ -101,6 +102,7 @@ module _ (t : Database) (x : DeliveryInput) (n o : ℕ) where
     dated_others r (key.Stock h) apart = refl
     dated_others r (key.Oldest h) apart = refl
     dated_others r (key.Last c) apart = refl
+    dated_others r (key.CustomerData c) apart = refl
 
     -- where there is no row, nothing changes
     pub none_dated : get t.lines (line_key k (m + 1)) ≡ None → (j : RecordKey) → row_at (with_dates t x n k (m + 1)) j ≡ row_at (with_dates t x n k m) j
@@ -120,3 +122,4 @@ module _ (t : Database) (x : DeliveryInput) (n o : ℕ) where
     none_dated none (key.Stock h) = refl
     none_dated none (key.Oldest h) = refl
     none_dated none (key.Last c) = refl
+    none_dated none (key.CustomerData c) = refl

@@ -66,6 +66,7 @@ module _ (t : Database) (x : DeliveryInput) (n : ℕ) (waits : waiting t (next_h
   none_changed (key.Stock k) = refl
   none_changed (key.Oldest k) = ap (λ o. Some (number_words o)) (same_oldest t x (n + 1) n k (taken_same k))
   none_changed (key.Last k) = ap (λ o. Some (number_words o)) (last_kept t x (n + 1) k ∙ sym (last_kept t x n k))
+  none_changed (key.CustomerData k) = refl
 
 -- an order waits, and is taken
 module _ (t : Database) (x : DeliveryInput) (n o : ℕ) (waits : waiting t (next_home x n) ≡ Some o) where
@@ -212,3 +213,4 @@ module _ (t : Database) (x : DeliveryInput) (n o : ℕ) (waits : waiting t (next
       ended_others (key.Stock h) apart = refl
       ended_others (key.Oldest h) apart = refl
       ended_others (key.Last c) apart = ap (λ a. Some (number_words a)) (last_kept t x (n + 1) c ∙ sym (last_kept t x n c))
+      ended_others (key.CustomerData c) apart = refl

@@ -56,6 +56,7 @@ module _ (t : Database) (x : DeliveryInput) where
       (oldest_left t x 0 k ∙ ap (λ o. unwrap_or (least (left_of o (numbers_in k t.new_orders))) (next_order t k)) (none_taken k is.1.0)
       ∙ ap (λ ns. unwrap_or (least ns) (next_order t k)) (all_left (numbers_in k t.new_orders)))
   none_taken_yet (key.Last c) is = ap (λ o. Some (number_words o)) (last_kept t x 0 c)
+  none_taken_yet (key.CustomerData c) is = refl
 
 -- before the first district
 pub none_done : (t0 : Database) (x : DeliveryInput) (reads : ReadSetView) → AreDone t0 x 0 0 (record { reads = reads; writes = no_writes })

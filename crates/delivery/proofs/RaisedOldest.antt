@@ -52,6 +52,7 @@ module _ (t : Database) (x : DeliveryInput) (m : ℕ) (all : Database) where
   others_kept value (key.Oldest k) apart =
       ap (λ a. Some (number_words a)) (same_oldest t x (m + 1) m k (taken_other t x m k (λ same. apart.0 (ap key.Oldest same))))
   others_kept value (key.Last k) apart = refl
+  others_kept value (key.CustomerData k) apart = refl
 
 -- OLDEST is written of one district more
 module _ (t0 : Database) (x : DeliveryInput) (n m : ℕ) (old new : TransactionView) (orders : List DeliveredOrder) (o : Option ℕ)

@@ -17,6 +17,7 @@ of_one t (key.OrderLine k) = refl
 of_one t (key.Stock k) = refl
 of_one t (key.Oldest k) = refl
 of_one t (key.Last k) = refl
+of_one t (key.CustomerData k) = refl
 
 module _ (other some more : Database) where
   -- where a row is the same in both, and OLDEST is the other's
@@ -30,6 +31,7 @@ module _ (other some more : Database) where
   of_other (key.Stock k) same = same
   of_other (key.Oldest k) same = refl
   of_other (key.Last k) same = same
+  of_other (key.CustomerData k) same = same
 
   -- and where OLDEST is the same
   pub of_same : (j : RecordKey) → row_at some j ≡ row_at more j → with_oldest some other j ≡ with_oldest more other j
@@ -42,3 +44,4 @@ module _ (other some more : Database) where
   of_same (key.Stock k) same = refl
   of_same (key.Oldest k) same = same
   of_same (key.Last k) same = refl
+  of_same (key.CustomerData k) same = refl

@@ -75,6 +75,7 @@ with_oldest other t (key.OrderLine k) = row_at t (key.OrderLine k)
 with_oldest other t (key.Stock k) = row_at t (key.Stock k)
 with_oldest other t (key.Oldest k) = row_at other (key.Oldest k)
 with_oldest other t (key.Last k) = row_at t (key.Last k)
+with_oldest other t (key.CustomerData k) = row_at t (key.CustomerData k)
 
 -- the first n districts are done, and OLDEST is written of the first m: at all tables at which the transaction may have
 -- read, the writes put in make the rows of the tables when it has come so far

@@ -18,7 +18,7 @@ use Rattle.tables.specs.Maps.{EachRow}
 use Rattle.tables.specs.OrderNumbers.{least, greatest, order_numbers, numbers_in, next_order}
 use Rattle.tables.specs.Database.{Database}
 use Rattle.tables.specs.Conditions.{Condition2At}
-use Rattle.tables.specs.Records.{IsRecordKey, number_of_key, key_of}
+use Rattle.tables.specs.Records.{IsNarrowKey, number_of_key, key_of}
 use Rattle.tables.specs.Rows.{number_words, row_at, oldest}
 use Rattle.tables.specs.declared.keys.DistrictKey.{DistrictKey}
 use Rattle.tables.specs.declared.keys.OrderKey.{OrderKey}
@@ -28,7 +28,7 @@ use Rattle.tables.specs.declared.records.RecordKey.{RecordKey}
 use Rattle.tables.specs.declared.records.RecordKey.TheVariants as key
 use Rattle.tables.proofs.Orders.{exact_order}
 use Rattle.tables.proofs.Totals.{entries-view}
-use Rattle.tables.proofs.Numbers.{numbered}
+use Rattle.tables.proofs.Numbers.{numbered, narrow_among, narrow_numbered}
 use Rattle.cells.specs.First.{populated_word, first_version}
 use Rattle.cells.specs.declared.cells.Newest.{Newest}
 use Rattle.encoding.specs.Newest.{words_at, AreFirst}
@@ -93,8 +93,8 @@ module _ {s : Sizes} {K X : Type 0} {R : K → K → Ordering} {t : Table} {c : 
     number_begins n = begun_by s (λ (k : OrderKey) (r : X). c (group k r)) (λ ws k r. number_words (f (slice_index ws 0) k.order)) n
 
     -- the orders of one record, in their turn
-    numbers_begun : (p : OrderKey × X → Bool) (k : K) → IsRecordKey s (c k) → ((e : OrderKey × X) → p e ≡ eq_by_cmp R (group e.0 e.1) k)
-        → (es : List (OrderKey × X)) → AllByRecursion (λ e. IsRecordKey s (c (group e.0 e.1))) es → (m : ℕ)
+    numbers_begun : (p : OrderKey × X → Bool) (k : K) → IsNarrowKey s (c k) → ((e : OrderKey × X) → p e ≡ eq_by_cmp R (group e.0 e.1) k)
+        → (es : List (OrderKey × X)) → AllByRecursion (λ e. IsNarrowKey s (c (group e.0 e.1))) es → (m : ℕ)
         → fold (number_begins (number_of_key s (c k))) (populated_word ∷ number_words m) es ≡ populated_word
         ∷ number_words (fold f m (map (λ (e : OrderKey × X). e.0.order) (filter p es)))
     numbers_begun p k h is [] keys m = refl
@@ -111,15 +111,15 @@ module _ {s : Sizes} {K X : Type 0} {R : K → K → Ordering} {t : Table} {c : 
 
     -- a pass over their table
     pub orders_begun : (p : K → OrderKey × X → Bool) → ((k : K) (e : OrderKey × X) → p k e ≡ eq_by_cmp R (group e.0 e.1) k)
-        → (m : BTreeMap OrderKey X) → EachRow (λ k r. IsRecordKey s (c (group k r))) (from_entries {R = order_cmp} m.entries)
+        → (m : BTreeMap OrderKey X) → EachRow (λ k r. IsNarrowKey s (c (group k r))) (from_entries {R = order_cmp} m.entries)
         → (first : K → ℕ) (value : RecordKey → Option (List ℕ)) {values : RecordKey → Option (List ℕ)} {old : List Newest} → AreBegun s values old
-        → ((k : K) → IsRecordKey s (c k) → first_version (values (c k)) ≡ populated_word ∷ number_words (first k))
-        → ((k : K) → IsRecordKey s (c k)
+        → ((k : K) → IsNarrowKey s (c k) → first_version (values (c k)) ≡ populated_word ∷ number_words (first k))
+        → ((k : K) → IsNarrowKey s (c k)
         → value (c k) ≡ Some (number_words (fold f (first k) (order_numbers (p k) (from_entries {R = order_cmp} m.entries)))))
         → (new : List Newest) → tree.IsOrdered order_cmp m → length new ≡ length old
         → ((n : ℕ) → n < length old → words_at new n ≡ fold (number_begins n) (words_at old n) m.entries) → AreBegun s (with_table t value values) new
     orders_begun p of_key m keys first value {values} {old} a before after new ordered long now =
-        let within = each_entry exact_order.total (λ (k : OrderKey) (r : X). IsRecordKey s (c (group k r))) m ordered keys in
+        let within = each_entry exact_order.total (λ (k : OrderKey) (r : X). IsNarrowKey s (c (group k r))) m ordered keys in
         table_begun s (λ (k : OrderKey) (r : X). c (group k r)) (λ ws k r. number_words (f (slice_index ws 0) k.order)) t (λ k r. kind.own (group k r))
         m.entries
         within values value old new
@@ -138,7 +138,7 @@ pub all_numbers : (t : Database) (newest : List Newest)
     → AreBegun t.scale (row_at t) newest
 all_numbers t newest a = record { count = a.count; words = words }
   where
-    words : (k : RecordKey) → IsRecordKey t.scale k → words_at newest (number_of_key t.scale k) ≡ first_version (row_at t k)
+    words : (k : RecordKey) → IsNarrowKey t.scale k → words_at newest (number_of_key t.scale k) ≡ first_version (row_at t k)
     words (key.Warehouse k) h = a.words (key.Warehouse k) h
     words (key.District k) h = a.words (key.District k) h
     words (key.Customer k) h = a.words (key.Customer k) h
@@ -148,10 +148,12 @@ all_numbers t newest a = record { count = a.count; words = words }
     words (key.Stock k) h = a.words (key.Stock k) h
     words (key.Oldest k) h = a.words (key.Oldest k) h
     words (key.Last k) h = a.words (key.Last k) h
+    words (key.CustomerData k) h = absurd h
 
 -- by number
 pub are_first : (t : Database) (newest : List Newest) → AreBegun t.scale (row_at t) newest → AreFirst t newest
 are_first t newest a = record {
   count = a.count;
-  words = λ n h. let k = numbered t.scale n h in ap (words_at newest) (sym k.1) ∙ a.words (key_of t.scale n) k.0;
+  words = λ n h. ap (words_at newest) (sym (numbered t.scale n (narrow_among t.scale n h)).1)
+      ∙ a.words (key_of t.scale n) (narrow_numbered t.scale n h);
 }

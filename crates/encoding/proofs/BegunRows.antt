@@ -5,7 +5,7 @@ use Rattle.std.specs.FinMap.{FinMap}
 use Rattle.std.specs.declared.cmp.Ordering.{Ordering}
 use Rattle.tables.specs.Maps.{RowsAt, RowsWithin, EachRow}
 use Rattle.tables.specs.Database.{Database}
-use Rattle.tables.specs.Records.{IsRecordKey, number_of_key}
+use Rattle.tables.specs.Records.{IsNarrowKey, number_of_key}
 use Rattle.tables.specs.Rows.{row_at}
 use Rattle.tables.specs.declared.records.Table.TheVariants as table
 use Rattle.tables.specs.declared.records.RecordKey.{RecordKey}
@@ -34,7 +34,7 @@ pub all_rows : (t : Database) (newest : List Newest)
     → AreBegun t.scale (rows_alone t) newest
 all_rows t newest a = record { count = a.count; words = words }
   where
-    words : (k : RecordKey) → IsRecordKey t.scale k → words_at newest (number_of_key t.scale k) ≡ first_version (rows_alone t k)
+    words : (k : RecordKey) → IsNarrowKey t.scale k → words_at newest (number_of_key t.scale k) ≡ first_version (rows_alone t k)
     words (key.Warehouse k) h = a.words (key.Warehouse k) h
     words (key.District k) h = a.words (key.District k) h
     words (key.Customer k) h = a.words (key.Customer k) h
@@ -44,3 +44,4 @@ all_rows t newest a = record { count = a.count; words = words }
     words (key.Stock k) h = a.words (key.Stock k) h
     words (key.Oldest k) h = a.words (key.Oldest k) h
     words (key.Last k) h = a.words (key.Last k) h
+    words (key.CustomerData k) h = absurd h

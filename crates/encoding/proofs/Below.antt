@@ -1,5 +1,5 @@
 -- Tables that are built record by record: the records below a number hold their values, and the others nothing yet.
-use Rattle.std.proofs.Common.{◌≡◌, ◌≢◌, ℕ, ◌+◌, ◌<◌, ◌≤◌, nat_lt, cond, IsSome, List, Option, Some, None, true≢false, refl, sym, ap, ◌∙◌}
+use Rattle.std.proofs.Common.{◌≡◌, ◌≢◌, ℕ, ◌+◌, ◌<◌, ◌≤◌, nat_lt, cond, IsSome, List, Option, Some, None, false, true≢false, refl, sym, ap, ◌∙◌}
 use Rattle.std.proofs.Common.{subst, arith}
 use Rattle.std.specs.Option.{option_map}
 use Rattle.std.specs.FinMap.{empty, get-empty}
@@ -47,7 +47,9 @@ agreeing : (t0 t : Database) (values more : RecordKey → Option (List ℕ)) →
     → AreTables t0 values t → AreTables t0 more t
 agreeing t0 t values more same a = let s = t0.scale in record {
   scale = a.scale;
+  keeps = a.keeps;
   items = a.items;
+  texts = a.texts;
   warehouses = same_values (IsWarehouseKey s) (IsWarehouseOf t0) warehouse_words _ _ t.warehouses (λ k is. same (key.Warehouse k) is tt) a.warehouses;
   districts = same_values (IsDistrictKey s) (IsDistrictOf t0) district_words _ _ t.districts (λ k is. same (key.District k) is tt) a.districts;
   customers = same_values (IsCustomerKey s) (IsCustomerOf t0) customer_words _ _ t.customers (λ k is. same (key.Customer k) is tt) a.customers;
@@ -72,10 +74,13 @@ no_rows R IsKey IsIn words = record {
   rows = λ k is. ap (option_map words) (get-empty R k);
 }
 
-pub no_records : (t0 : Database) (added : List History) → AreTables t0 (λ k. None) (record (empty_database t0.scale) { items = t0.items; history = added })
-no_records t0 added = let s = t0.scale in record {
+pub no_records : (t0 : Database) (added : List History) → t0.keeps_texts ≡ false
+    → AreTables t0 (λ k. None) (record (empty_database t0.scale) { items = t0.items; texts = t0.texts; history = added })
+no_records t0 added none = let s = t0.scale in record {
   scale = refl;
+  keeps = sym none;
   items = refl;
+  texts = refl;
   warehouses = no_rows nat_cmp (IsWarehouseKey s) (IsWarehouseOf t0) warehouse_words;
   districts = no_rows district_cmp (IsDistrictKey s) (IsDistrictOf t0) district_words;
   customers = no_rows customer_cmp (IsCustomerKey s) (IsCustomerOf t0) customer_words;
@@ -118,6 +123,7 @@ lawful_by_key s values lawful = by_kind
     by_kind : (k : RecordKey) → IsRecordKey s k → MayHold s k (by_key s values k)
     by_kind (key.Oldest k) is = tt
     by_kind (key.Last k) is = tt
+    by_kind (key.CustomerData k) is = tt
     by_kind (key.Warehouse k) is = row (key.Warehouse k) is tt
     by_kind (key.District k) is = row (key.District k) is tt
     by_kind (key.Customer k) is = row (key.Customer k) is tt

@@ -83,6 +83,8 @@ determined t0 values t u a b history =
     let s = t0.scale in
     same_database t u (record {
       scale = a.scale ∙ sym b.scale;
+      keeps_texts = a.keeps ∙ sym b.keeps;
+      texts = a.texts ∙ sym b.texts;
       warehouses = same_table exact_number (IsWarehouseKey s) (IsWarehouseOf t0) warehouse_words _ _ _ (same_warehouse t0) a.warehouses b.warehouses;
       districts = same_table exact_district (IsDistrictKey s) (IsDistrictOf t0) district_words _ _ _ (same_district t0) a.districts b.districts;
       customers = same_table exact_customer (IsCustomerKey s) (IsCustomerOf t0) customer_words _ _ _ (same_customer t0) a.customers b.customers;

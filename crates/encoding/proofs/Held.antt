@@ -30,7 +30,9 @@ module _ (t0 t : Database) (of : IsOf t0 t) (wf : IsWellFormed t) (values : ℕ 
   pub are_tables : AreTables t0 (by_key t0.scale values) t
   are_tables = record {
     scale = of.scale;
+    keeps = of.keeps;
     items = of.items;
+    texts = of.texts (sym of.keeps ∙ wf.keeps_texts);
     warehouses = record {
       within = λ k some. subst (λ s. IsWarehouseKey s k) of.scale ((wf.warehouses k).0 some);
       each = λ k r e. record { range = wf.warehouse_rows k r e; tax = sym (of.warehouse_taxes k) ∙ ap (option_map (λ r. r.tax)) e };

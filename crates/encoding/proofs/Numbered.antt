@@ -22,6 +22,7 @@ module _ (s : Sizes) where
   below_rows (key.Stock k) row h = omega arith
   below_rows (key.Oldest k) row h = absurd row
   below_rows (key.Last k) row h = absurd row
+  below_rows (key.CustomerData k) row h = absurd row
 
   pub row_below : (k : RecordKey) → IsRecordKey s k → IsRowKey k → number_of_key s k < row_count s
   row_below (key.Warehouse k) h row = below_rows (key.Warehouse k) row (warehouse_there s k h).0
@@ -33,6 +34,7 @@ module _ (s : Sizes) where
   row_below (key.Stock k) h row = below_rows (key.Stock k) row (stock_there s k h).0
   row_below (key.Oldest k) h row = absurd row
   row_below (key.Last k) h row = absurd row
+  row_below (key.CustomerData k) h row = absurd row
 
 -- the record of a key's number holds what the key's record does
 pub record_at : (t0 t : Database) → IsOf t0 t → (k : RecordKey) → IsRecordKey t0.scale k → rows t (number_of_key t0.scale k) ≡ row_at t k

@@ -1,14 +1,29 @@
 -- The first versions of records, as a list by record number.
-use Rattle.std.proofs.Common.{◌≡◌, ◌≢◌, ℕ, ◌<◌, zero, suc, Option, Some, None, List, [], ◌∷◌, length, refl, sym, ap, ◌∙◌, subst, arith}
-use Rattle.std.proofs.lemmas.List.{get_or-set_same, length-set}
+use Rattle.std.proofs.Common.{◌≡◌, ◌≢◌, ℕ, ◌+◌, ◌-◌, ◌<◌, ◌≤◌, zero, suc, Option, Some, None, IsSome, true≢false, List, [], ◌∷◌, ◌++◌, length, get_or, refl, sym, ap, ◌∙◌, subst, arith, ⊎_elim}
+use Rattle.std.proofs.lemmas.Bool.{cases_lt}
+use Rattle.std.proofs.lemmas.List.{get_or_append_left, get_or-append_right, get_or-set_same, length-map, length-set}
+use Rattle.std.proofs.lemmas.List.FromFn.{get_or-map-range_with_len, length-map-range_with_len}
 use Rattle.std.proofs.lemmas.Option.{slice_get-get_or}
-use Rattle.std.specs.Option.{option_map_or}
+use Rattle.std.specs.Prelude.{unwrap_or}
+use Rattle.std.specs.Option.{option_map, option_map_or}
 use Rattle.std.specs.List.{slice_get, slice_set, slice_index_or}
-use Rattle.cells.specs.First.{first_version, firsts}
+use Rattle.std.specs.FinMap.{get}
+use Rattle.customer_data.specs.Words.{data_words}
+use Rattle.tables.specs.Database.{Database}
+use Rattle.tables.specs.Keys.{IsCustomerKey}
+use Rattle.tables.specs.Records.{size, narrow_count, record_count, customer_at}
+use Rattle.tables.specs.Rows.{row_at, rows}
+use Rattle.tables.specs.WellFormed.{IsWellFormed}
+use Rattle.tables.specs.declared.keys.CustomerKey.{CustomerKey}
+use Rattle.tables.specs.declared.records.RecordKey.{RecordKey}
+use Rattle.tables.specs.declared.records.Table.TheVariants as table
+use Rattle.tables.proofs.Numbers.{customer_back, wide_named}
+use Rattle.cells.specs.First.{first_version, firsts, wide_firsts, populated_word}
 use Rattle.cells.specs.Versions.{AllVersions, newest as newest_of, value_in}
-use Rattle.cells.specs.Records.{PenView, at, held_by, newest_words}
+use Rattle.cells.specs.Records.{PenView, at, held_by, newest_words, wide_newest_words}
 use Rattle.cells.specs.declared.cells.Newest.{Newest}
-use Rattle.encoding.specs.Newest.{words_at}
+use Rattle.cells.specs.declared.wide.WideNewest.{WideNewest}
+use Rattle.encoding.specs.Newest.{words_at, AreFirst, first_text_of, first_texts_of}
 
 -- the words of the version found at a number
 pub words_found : (newest : List Newest) (n : ℕ) (v : Newest) → n < length newest → v ≡ slice_index_or newest n v → words_at newest n ≡ newest_words v
@@ -39,3 +54,55 @@ held_first first pen is n h = ap (λ (l : List (List ℕ)). value_in (newest_of 
 pub first_value : (w : Option (List ℕ)) → value_in (first_version w) ≡ w
 first_value (Some words) = refl
 first_value None = refl
+
+-- ---- of C_DATA
+-- the version of a cell that begins with these
+at_wide : (newest : List WideNewest) (n : ℕ) (d : WideNewest) → n < length newest → at (wide_firsts newest) n ≡ wide_newest_words (get_or newest n d) ∷ []
+at_wide [] n d h = absurd (omega (arith, h))
+at_wide (v ∷ vs) zero d h = refl
+at_wide (v ∷ vs) (suc n) d h = at_wide vs n d (omega (arith, h))
+
+module _ (t : Database) (wf : IsWellFormed t) where
+  -- a customer's text is there
+  text_first : (k : CustomerKey) → IsCustomerKey t.scale k
+      → populated_word ∷ data_words (unwrap_or (get t.texts k) []) ≡ first_version (option_map data_words (get t.texts k))
+  text_first k is = found (get t.texts k) ((wf.texts k).1 is)
+    where
+      found : (o : Option (List ℕ)) → IsSome o → populated_word ∷ data_words (unwrap_or o []) ≡ first_version (option_map data_words o)
+      found None some = absurd (true≢false (sym some))
+      found (Some text) some = refl
+
+  at_text : (p : ℕ) → p < size t.scale table.CustomerData → at (wide_firsts (first_texts_of t)) p ≡ first_version (rows t (narrow_count t.scale + p)) ∷ []
+  at_text p h =
+      let count : ℕ = size t.scale table.CustomerData in
+      let long = length-map-range_with_len (first_text_of t) 0 count in
+      let own : get_or (first_texts_of t) p (first_text_of t p) ≡ first_text_of t p =
+      get_or-map-range_with_len (first_text_of t) 0 count p p (first_text_of t p) h (omega arith) in
+      at_wide (first_texts_of t) p (first_text_of t p) (omega (arith, h, long))
+      ∙ ap (λ (v : WideNewest). wide_newest_words v ∷ []) own
+      ∙ ap (λ (w : List ℕ). w ∷ []) (text_first (customer_at t.scale p) (customer_back t.scale p h).0
+      ∙ ap (λ (k : RecordKey). first_version (row_at t k)) (sym (wide_named t.scale p h)))
+
+  -- what all records begin with
+  pub at_begin : (first : List Newest) → AreFirst t first → (n : ℕ) → n < record_count t.scale
+      → at (firsts first ++ wide_firsts (first_texts_of t)) n ≡ first_version (rows t n) ∷ []
+  at_begin first are n h = ⊎_elim narrow wide (cases_lt n (narrow_count t.scale))
+    where
+      long : length (firsts first) ≡ narrow_count t.scale
+      long = length-map first (λ v. newest_words v ∷ []) ∙ are.count
+
+      narrow : n < narrow_count t.scale → at (firsts first ++ wide_firsts (first_texts_of t)) n ≡ first_version (rows t n) ∷ []
+      narrow low =
+          get_or_append_left (firsts first) (wide_firsts (first_texts_of t)) [] n (omega (arith, low, long))
+          ∙ at_first first n (omega (arith, low, are.count)) ∙ ap (λ (w : List ℕ). w ∷ []) (are.words n low)
+
+      wide : narrow_count t.scale ≤ n → at (firsts first ++ wide_firsts (first_texts_of t)) n ≡ first_version (rows t n) ∷ []
+      wide high =
+          let p : ℕ = n - narrow_count t.scale in
+          let back : narrow_count t.scale + p ≡ n = omega (arith, high) in
+          get_or-append_right (firsts first) (wide_firsts (first_texts_of t)) (narrow_count t.scale) n [] long high
+          ∙ at_text p (omega (arith, h, high)) ∙ ap (λ m. first_version (rows t m) ∷ []) back
+
+  -- one for each
+  pub count_begin : length (first_texts_of t) ≡ size t.scale table.CustomerData
+  count_begin = length-map-range_with_len (first_text_of t) 0 (size t.scale table.CustomerData)

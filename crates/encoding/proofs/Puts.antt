@@ -122,7 +122,9 @@ module _ (t0 : Database) (ws : List ℕ) (t : Database) where
     history = refl;
     tables = λ values more here others a. record {
       scale = a.scale;
+      keeps = a.keeps;
       items = a.items;
+      texts = a.texts;
       warehouses = subst (IsTableOf (IsWarehouseKey t0.scale) (IsWarehouseOf t0) warehouse_words (λ q. more (key.Warehouse q))) (sym e)
           (same_insert exact_number t.warehouses k r (IsWarehouseKey t0.scale) (IsWarehouseOf t0) warehouse_words _ _ is is_in (here ∙ ap Some same)
           (λ q at other. others (key.Warehouse q) at (λ (p : key.Warehouse q ≡ key.Warehouse k). other cc)) a.warehouses);
@@ -141,7 +143,9 @@ module _ (t0 : Database) (ws : List ℕ) (t : Database) where
     history = refl;
     tables = λ values more here others a. record {
       scale = a.scale;
+      keeps = a.keeps;
       items = a.items;
+      texts = a.texts;
       warehouses = kept_warehouses t0 t values more (key.District k) others a (λ q p. cc);
       districts = subst (IsTableOf (IsDistrictKey t0.scale) (IsDistrictOf t0) district_words (λ q. more (key.District q))) (sym e)
           (same_insert exact_district t.districts k r (IsDistrictKey t0.scale) (IsDistrictOf t0) district_words _ _ is is_in (here ∙ ap Some same)
@@ -160,7 +164,9 @@ module _ (t0 : Database) (ws : List ℕ) (t : Database) where
     history = refl;
     tables = λ values more here others a. record {
       scale = a.scale;
+      keeps = a.keeps;
       items = a.items;
+      texts = a.texts;
       warehouses = kept_warehouses t0 t values more (key.Customer k) others a (λ q p. cc);
       districts = kept_districts t0 t values more (key.Customer k) others a (λ q p. cc);
       customers = subst (IsTableOf (IsCustomerKey t0.scale) (IsCustomerOf t0) customer_words (λ q. more (key.Customer q))) (sym e)
@@ -179,7 +185,9 @@ module _ (t0 : Database) (ws : List ℕ) (t : Database) where
     history = refl;
     tables = λ values more here others a. record {
       scale = a.scale;
+      keeps = a.keeps;
       items = a.items;
+      texts = a.texts;
       warehouses = kept_warehouses t0 t values more (key.NewOrder k) others a (λ q p. cc);
       districts = kept_districts t0 t values more (key.NewOrder k) others a (λ q p. cc);
       customers = kept_customers t0 t values more (key.NewOrder k) others a (λ q p. cc);
@@ -198,7 +206,9 @@ module _ (t0 : Database) (ws : List ℕ) (t : Database) where
     history = refl;
     tables = λ values more here others a. record {
       scale = a.scale;
+      keeps = a.keeps;
       items = a.items;
+      texts = a.texts;
       warehouses = kept_warehouses t0 t values more (key.Order k) others a (λ q p. cc);
       districts = kept_districts t0 t values more (key.Order k) others a (λ q p. cc);
       customers = kept_customers t0 t values more (key.Order k) others a (λ q p. cc);
@@ -217,7 +227,9 @@ module _ (t0 : Database) (ws : List ℕ) (t : Database) where
     history = refl;
     tables = λ values more here others a. record {
       scale = a.scale;
+      keeps = a.keeps;
       items = a.items;
+      texts = a.texts;
       warehouses = kept_warehouses t0 t values more (key.OrderLine k) others a (λ q p. cc);
       districts = kept_districts t0 t values more (key.OrderLine k) others a (λ q p. cc);
       customers = kept_customers t0 t values more (key.OrderLine k) others a (λ q p. cc);
@@ -236,7 +248,9 @@ module _ (t0 : Database) (ws : List ℕ) (t : Database) where
     history = refl;
     tables = λ values more here others a. record {
       scale = a.scale;
+      keeps = a.keeps;
       items = a.items;
+      texts = a.texts;
       warehouses = kept_warehouses t0 t values more (key.Stock k) others a (λ q p. cc);
       districts = kept_districts t0 t values more (key.Stock k) others a (λ q p. cc);
       customers = kept_customers t0 t values more (key.Stock k) others a (λ q p. cc);
@@ -263,7 +277,9 @@ takes_new_order t0 t k rows e = record {
   history = refl;
   tables = λ values more here others a. record {
     scale = a.scale;
+    keeps = a.keeps;
     items = a.items;
+    texts = a.texts;
     warehouses = kept_warehouses t0 t values more (key.NewOrder k) others a (λ q p. cc);
     districts = kept_districts t0 t values more (key.NewOrder k) others a (λ q p. cc);
     customers = kept_customers t0 t values more (key.NewOrder k) others a (λ q p. cc);

@@ -42,6 +42,7 @@ lawful_rows t wf (key.OrderLine k) is = (get t.lines k, refl, wf.line_rows k)
 lawful_rows t wf (key.Stock k) is = row_there (IsStockKey t.scale) IsStockRow stock_words t.stock k wf.stock (wf.stock_rows k) is
 lawful_rows t wf (key.Oldest k) is = tt
 lawful_rows t wf (key.Last k) is = tt
+lawful_rows t wf (key.CustomerData k) is = tt
 
 row_held : (t0 : Database) (values : RecordKey → Option (List ℕ)) (t : Database) → AreTables t0 values t → (k : RecordKey) → IsRecordKey t0.scale k → IsRowKey k
     → row_at t k ≡ values k
@@ -54,6 +55,7 @@ row_held t0 values t a (key.OrderLine k) is row = a.lines.rows k is
 row_held t0 values t a (key.Stock k) is row = a.stock.rows k is
 row_held t0 values t a (key.Oldest k) is row = absurd row
 row_held t0 values t a (key.Last k) is row = absurd row
+row_held t0 values t a (key.CustomerData k) is row = absurd row
 
 among_all : (s : Sizes) (n : ℕ) → n < row_count s → n < record_count s
 among_all s n h = omega arith
@@ -99,6 +101,8 @@ is_of t0 values t wf may a =
     let customer = stands (IsCustomerKey s) _ _ customer_words _ t.customers a.customers (λ k. may (key.Customer k)) in
     record {
       scale = a.scale;
+      keeps = a.keeps;
+      texts = λ _. a.texts;
       warehouse_taxes = column_of (IsWarehouseKey s) (λ r. r.tax) t.warehouses t0.warehouses wf.warehouses warehouse (λ k r e. (a.warehouses.each k r e).tax);
       district_taxes = column_of (IsDistrictKey s) (λ r. r.tax) t.districts t0.districts wf.districts district (λ k r e. (a.districts.each k r e).tax);
       first_names = column_of (IsCustomerKey s) (λ r. r.first_name) t.customers t0.customers wf.customers customer

@@ -2,7 +2,7 @@
 use Rattle.std.specs.Prelude.{◌≡◌, ℕ, ◌==◌, cond, Option, None, List, [], ◌∷◌, length}
 use Rattle.tables.specs.Sizes.{Sizes}
 use Rattle.tables.specs.Database.{Database}
-use Rattle.tables.specs.Records.{IsRecordKey, number_of_key, record_count}
+use Rattle.tables.specs.Records.{IsNarrowKey, number_of_key, narrow_count}
 use Rattle.tables.specs.Rows.{row_at}
 use Rattle.cells.specs.First.{populated_word, first_version}
 use Rattle.tables.specs.declared.records.RecordKey.{RecordKey}
@@ -12,8 +12,8 @@ use Rattle.encoding.specs.Newest.{words_at}
 
 -- each record of the scale begins with this value
 pub record AreBegun (s : Sizes) (values : RecordKey → Option (List ℕ)) (newest : List Newest) : Type 0 where
-  pub count : length newest ≡ record_count s
-  pub words : (k : RecordKey) → IsRecordKey s k → words_at newest (number_of_key s k) ≡ first_version (values k)
+  pub count : length newest ≡ narrow_count s
+  pub words : (k : RecordKey) → IsNarrowKey s k → words_at newest (number_of_key s k) ≡ first_version (values k)
 
 -- what rows hold, and nothing of the index records
 abbrev pub rows_alone : Database → RecordKey → Option (List ℕ)

@@ -54,10 +54,12 @@ pub record IsCustomerOf (t0 : Database) (k : CustomerKey) (r : Customer) : Type 
   pub credit : option_map (λ r. r.credit) (get t0.customers k) ≡ Some r.credit
   pub discount : option_map (λ r. r.discount) (get t0.customers k) ≡ Some r.discount
 
--- tables of this population whose records hold these values. HISTORY, which has no records, may be any
+-- tables of this population whose records hold these values, with its C_DATA. HISTORY, which has no records, may be any
 pub record AreTables (t0 : Database) (values : RecordKey → Option (List ℕ)) (t : Database) : Type 0 where
   pub scale : t.scale ≡ t0.scale
+  pub keeps : t.keeps_texts ≡ t0.keeps_texts
   pub items : t.items ≡ t0.items
+  pub texts : t.texts ≡ t0.texts
   pub warehouses : IsTableOf (IsWarehouseKey t0.scale) (IsWarehouseOf t0) warehouse_words
       (λ k. values (key.Warehouse k)) t.warehouses
   pub districts : IsTableOf (IsDistrictKey t0.scale) (IsDistrictOf t0) district_words (λ k. values (key.District k))

@@ -21,7 +21,7 @@ abbrev pub MayBeRow : {X : Type 0} → (X → List ℕ) → (X → Type 0) → O
 MayBeRow {X} words IsIn value = (row : Option X) × (value ≡ option_map words row) × ForSome row IsIn
 
 -- what the record of a key may hold: a row of WAREHOUSE, DISTRICT, CUSTOMER and STOCK is always there. Nothing is said
--- of the index records
+-- of the index records and of C_DATA
 abbrev pub MayHold : Sizes → RecordKey → Option (List ℕ) → Type 0
 MayHold s (key.Warehouse k) = IsRow warehouse_words (λ r. IsMoney r.year_to_date)
 MayHold s (key.District k) = IsRow district_words (IsDistrictRow s)
@@ -32,6 +32,7 @@ MayHold s (key.OrderLine k) = MayBeRow line_words (IsLineRow s)
 MayHold s (key.Stock k) = IsRow stock_words IsStockRow
 MayHold s (key.Oldest k) = λ value. Unit {0}
 MayHold s (key.Last k) = λ value. Unit {0}
+MayHold s (key.CustomerData k) = λ value. Unit {0}
 
 -- the record of this key now holds this value, and every other one what it held: tables of some values are then tables
 -- of the values with this one

@@ -4,7 +4,7 @@ ghost use Rattle.std.specs.Prelude.{◌≡◌, ℕ, ◌<◌, ◌≤◌, ◌++◌
 ghost use Rattle.money.specs.declared.refusal.Refusal.TheVariants.{OutOfMemory};
 ghost use Rattle.tables.specs.Constant.{IsOf};
 ghost use Rattle.tables.specs.Database.{Database, database, empty_database};
-ghost use Rattle.tables.specs.Records.{record_count};
+ghost use Rattle.tables.specs.Records.{narrow_count};
 ghost use Rattle.tables.specs.Rows.{rows};
 ghost use Rattle.tables.specs.Sizes.{IsScale};
 ghost use Rattle.tables.specs.WellFormed.{IsWellFormed};
@@ -21,8 +21,8 @@ use std::alloc::{AllocError, Global};
 use tables::{History, Scale, Table, Tables, key_of};
 
 /// Tables whose records of rows hold what these cells do, by the pen of them, with these rows added to the population's
-/// HISTORY, and the population's columns that never change. A record whose newest version is absent has no row. There
-/// may be cells of the index records too, which aren't read.
+/// HISTORY, and the population's C_DATA and columns that never change. A record whose newest version is absent has no
+/// row. There may be cells of the index records too, which aren't read.
 ///
 /// Costs what populating costs, and a look at each record.
 ///
@@ -58,15 +58,17 @@ pub fn tables_of(
     Ok(tables)
 }
 
-/// Tables with no row but the population's of ITEM and HISTORY, and the added ones.
+/// Tables with no row but the population's of ITEM and HISTORY, and the added ones, and with its C_DATA.
 fn without_rows(alloc: Global, population: &Tables, added: &[History]) -> Result<Tables, AllocError>
     ensures { IfOk result (λ tables. database tables ≡ record (empty_database (database population.now).scale) {
       items = (database population.now).items;
+      texts = (database population.now).texts;
       history = (database population.now).history ++ added.now;
     }) }
 {
     let mut tables = Tables::new(alloc, population.scale);
     tables.items = population.items.clone()?;
+    tables.texts = population.texts.clone()?;
     tables.history.extend_from_slice(&population.history)?;
     tables.history.extend_from_slice(added)?;
     Ok(tables)
@@ -102,7 +104,7 @@ fn put_rows(
 /// How many records have rows: those before the first index record. They are the numbers below this.
 pub fn row_count(scale: &Scale) -> u32
     ensures value { result ≡ row_count scale.now }
-    ensures limit { result ≤ record_count scale.now }
+    ensures limit { result ≤ narrow_count scale.now }
 {
     Table::Oldest.first(scale)
 }

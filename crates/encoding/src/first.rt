@@ -7,7 +7,7 @@ ghost use Rattle.std.specs.List.{fold};
 ghost use Rattle.tables.specs.Conditions.{IsConsistent};
 ghost use Rattle.tables.specs.Database.{database};
 ghost use Rattle.tables.specs.Maps.{EachRow};
-ghost use Rattle.tables.specs.Records.{IsRecordKey, record_count};
+ghost use Rattle.tables.specs.Records.{IsNarrowKey, narrow_count};
 ghost use Rattle.tables.specs.Rows.{row_at};
 ghost use Rattle.tables.specs.WellFormed.{IsWellFormed};
 ghost use Rattle.tables.specs.declared.records.RecordKey.{RecordKey as KeyOfRecord};
@@ -22,7 +22,7 @@ use cells::{FirstVersions, Newest};
 use money::Payload;
 use std::alloc::{AllocError, Global};
 use std::collections::BTreeMap;
-use tables::{RecordKey, Scale, Table, Tables, number_of_key, record_count};
+use tables::{RecordKey, Scale, Table, Tables, narrow_count, number_of_key};
 use tidword::TidWord;
 
 /// How a row of a table gives a record its first words.
@@ -58,7 +58,7 @@ pub fn first_versions(alloc: Global, tables: &Tables) -> Result<FirstVersions, A
 fn none_of(alloc: Global, scale: &Scale) -> Result<FirstVersions, AllocError>
     ensures { IfOk result (AreBegun scale.now (λ key. None)) }
 {
-    FirstVersions::absent(alloc, record_count(scale) as usize)
+    FirstVersions::absent(alloc, narrow_count(scale) as usize)
 }
 
 /// Gives the records of rows their words.
@@ -101,8 +101,8 @@ fn begin<K: Ord, X, B: Begins<K, X>>(
     scale: &Scale,
     rows: &BTreeMap<K, X>,
 ) -> Result<(), AllocError>
-    requires count { length first.old ≡ record_count scale.now }
-    requires keys { EachRow (λ k r. IsRecordKey scale.now (B.record_of k r))
+    requires count { length first.old ≡ narrow_count scale.now }
+    requires keys { EachRow (λ k r. IsNarrowKey scale.now (B.record_of k r))
         (from_entries {R = K.cmp} rows.now.entries) }
     ensures count { OnOk result (length first.new ≡ length first.old) }
     ensures words { OnOk result ((n : ℕ) → n < length first.old → words_at first.new n

@@ -20,11 +20,13 @@ mod building;
 mod first;
 mod laws;
 mod putting;
+mod texts;
 
 pub use building::{row_count, tables_of};
 pub use first::first_versions;
 pub use laws::well_formed_where_rows_belong;
 pub use putting::{put, take_out};
+pub use texts::first_texts;
 
 /// Two well-formed tables that a population's may become are the same where the records of rows hold the same
 /// and HISTORY is the same. Nothing is asked of the index records.

@@ -17,8 +17,8 @@ use tables::{
 };
 
 /// Puts the words of a record into tables: its row then has these words, and the columns that never change from
-/// the population's row. One look-up and one insert. The words of an index record change nothing, since it has
-/// no row.
+/// the population's row. One look-up and one insert. The words of an index record and of C_DATA change nothing,
+/// since they have no row.
 ///
 /// # Errors
 ///
@@ -44,7 +44,7 @@ pub fn put(
         RecordKey::Order(key) => put_order(tables, population, key, words),
         RecordKey::OrderLine(key) => put_line(tables, population, key, words),
         RecordKey::Stock(key) => put_stock(tables, population, key, words),
-        RecordKey::Oldest(_) | RecordKey::Last(_) => Ok(()),
+        RecordKey::Oldest(_) | RecordKey::Last(_) | RecordKey::CustomerData(_) => Ok(()),
     }
 }
 

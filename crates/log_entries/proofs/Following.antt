@@ -15,7 +15,8 @@ use Rattle.std.proofs.Math.Logic.{∥∥₁_elim}
 use Rattle.tables.specs.Sizes.{Sizes, IsScale}
 use Rattle.tables.specs.Database.{Database}
 use Rattle.tables.specs.Apply.{after}
-use Rattle.tables.specs.Records.{record_count, key_of}
+use Rattle.tables.specs.Records.{narrow_count, key_of}
+use Rattle.tables.proofs.Numbers.{narrow_among}
 use Rattle.tables.specs.Rows.{rows}
 use Rattle.tables.specs.WellFormed.{IsHistoryRow}
 use Rattle.tables.specs.declared.keys.OrderKey.{OrderKey}
@@ -84,14 +85,15 @@ done_writes s scale e h d =
     let same : t.scale ≡ s = (after-IsOf d.tables d.tables e.input (IsOf-itself d.tables)).scale ∙ d.scale in
     let commit = d.commits.commit in
     let stands : (n : ℕ) (value : Option (List ℕ)) → value_for e.writes n ≡ Some value → rows t n ≡ value
-    = (λ n value found. commit.rows n (subst (λ (z : Sizes). n < record_count z) (sym d.scale) (h.records n value found))
+    = (λ n value found. commit.rows n (narrow_among d.tables.scale n (subst (λ (z : Sizes). n < narrow_count z) (sym d.scale) (h.records n value found)))
     ∙ ap (λ (v : Option (Option (List ℕ))). unwrap_or v (rows d.tables n)) found) in
     let row : All (IsHistoryRow s) (added e.writes.history_row)
     = all_behind (IsHistoryRow s) d.tables.history (added e.writes.history_row)
     (subst (λ (z : Sizes). All (IsHistoryRow z) (d.tables.history ++ added e.writes.history_row)) same
     (subst (λ (l : List History). All (IsHistoryRow t.scale) l) commit.history d.well_formed.history_rows)) in
-    let absent : (n : ℕ) → n < record_count s → value_for e.writes n ≡ Some None → (k : OrderKey) × (key_of s n ≡ key.NewOrder k)
-    = subst (λ (z : Sizes). (n : ℕ) → n < record_count z → value_for e.writes n ≡ Some None → (k : OrderKey) × (key_of z n ≡ key.NewOrder k)) d.scale commit.absent in
+    let absent : (n : ℕ) → n < narrow_count s → value_for e.writes n ≡ Some None → (k : OrderKey) × (key_of s n ≡ key.NewOrder k)
+    = subst (λ (z : Sizes). (n : ℕ) → n < narrow_count z → value_for e.writes n ≡ Some None → (k : OrderKey) × (key_of z n ≡ key.NewOrder k)) d.scale
+    (λ n below. commit.absent n (narrow_among d.tables.scale n below)) in
     are_lawful s scale e.writes t same d.well_formed h.ordered h.limit h.records stands row absent
 
 pub writes_lawful : (s : Sizes) → IsScale s → (e : Entry) → IsLoggable s e → are_writes s (writes_of s e.writes) ≡ true

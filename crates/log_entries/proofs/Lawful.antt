@@ -15,7 +15,7 @@ use Rattle.std.proofs.lemmas.List.Folds.{list_all-append}
 use Rattle.std.proofs.lemmas.List.Sums.{sum_by-append, count_by-le-length}
 use Rattle.tables.specs.Sizes.{Sizes, IsScale}
 use Rattle.tables.specs.Database.{Database}
-use Rattle.tables.specs.Records.{table_number, first_number, record_count, table_at, place_at, key_at, key_of}
+use Rattle.tables.specs.Records.{table_number, first_number, narrow_count, table_at, place_at, key_at, key_of}
 use Rattle.tables.specs.Rows.{rows}
 use Rattle.tables.specs.WellFormed.{IsWellFormed, IsHistoryRow}
 use Rattle.tables.specs.declared.keys.OrderKey.{OrderKey}
@@ -96,8 +96,8 @@ module _ (s : Sizes) (scale : IsScale s) where
 
   -- values in the order of their numbers
   values_rise : (p : Value → Bool) (low least : ℕ) (es : List Value) → IsStrictlySortedBy nat_cmp (keys_of es)
-      → AllByRecursion (λ e. e.0 < record_count s) es → AllByRecursion (λ e. low ≤ e.0) es
-      → ((e : Value) → p e ≡ true → low ≤ e.0 → e.0 < record_count s → least ≤ rank (write_at s e))
+      → AllByRecursion (λ e. e.0 < narrow_count s) es → AllByRecursion (λ e. low ≤ e.0) es
+      → ((e : Value) → p e ≡ true → low ≤ e.0 → e.0 < narrow_count s → least ≤ rank (write_at s e))
       → rise_from least (map (write_at s) (filter p es)) ≡ true
   unfolding IsStrictlySortedBy
   values_rise p low least [] sorted small over bound = refl
@@ -116,20 +116,20 @@ module _ (s : Sizes) (scale : IsScale s) where
   any_low (e ∷ es) = (omega arith, any_low es)
 
   -- records before and behind HISTORY's rank
-  rank_before : (e : Value) → e.0 < record_count s → is_before_history s e ≡ true → rank (write_at s e) < 4 * 2 ^ 32
+  rank_before : (e : Value) → e.0 < narrow_count s → is_before_history s e ≡ true → rank (write_at s e) < 4 * 2 ^ 32
   rank_before e h test = omega (arith, before_history s e.0 h (ltb-true e.0 (first_number s table.NewOrder) test), place_small s scale e.0 h)
 
-  rank_behind : (e : Value) → e.0 < record_count s → is_behind_history s e ≡ true → 4 * 2 ^ 32 + 1 ≤ rank (write_at s e)
+  rank_behind : (e : Value) → e.0 < narrow_count s → is_behind_history s e ≡ true → 4 * 2 ^ 32 + 1 ≤ rank (write_at s e)
   rank_behind e h test =
       omega (arith, behind_history s e.0 h (ltb-false e.0 (first_number s table.NewOrder) (not-true (nat_lt e.0 (first_number s table.NewOrder)) test)))
 
-  each_before : (es : List Value) → AllByRecursion (λ e. e.0 < record_count s) es
+  each_before : (es : List Value) → AllByRecursion (λ e. e.0 < narrow_count s) es
       → AllByRecursion (λ e. is_before_history s e ≡ true → rank (write_at s e) < 4 * 2 ^ 32) es
   each_before [] small = tt
   each_before (e ∷ es) small = (rank_before e small.0, each_before es small.1)
 
   writes_rise : (writes : WriteSetView) → IsStrictlySortedBy nat_cmp (keys_of writes.values)
-      → AllByRecursion (λ e. e.0 < record_count s) writes.values → rise_from 0 (writes_of s writes) ≡ true
+      → AllByRecursion (λ e. e.0 < narrow_count s) writes.values → rise_from 0 (writes_of s writes) ≡ true
   writes_rise writes sorted small =
       rise_append 0 (4 * 2 ^ 32) (map (write_at s) (filter (is_before_history s) writes.values)) _ (omega arith)
       (values_rise (is_before_history s) 0 0 writes.values sorted small (any_low writes.values) (λ e _ _ _. omega arith))
@@ -213,21 +213,22 @@ of_new_orders s table.Item p k e = absurd cc
 of_new_orders s table.Stock p k e = absurd cc
 of_new_orders s table.Oldest p k e = absurd cc
 of_new_orders s table.Last p k e = absurd cc
+of_new_orders s table.CustomerData p k e = absurd cc
 
 -- the writes of a commit that left well-formed tables with what it wrote, and took out rows of NEW-ORDER alone
 module _ (s : Sizes) (scale : IsScale s) (writes : WriteSetView) (t : Database) (of_scale : t.scale ≡ s) (wf : IsWellFormed t)
     (sorted : IsStrictlySortedBy nat_cmp (keys_of writes.values)) (few : length writes.values ≤ MAX_WRITES)
-    (small : (n : ℕ) (value : Option (List ℕ)) → value_for writes n ≡ Some value → n < record_count s)
+    (small : (n : ℕ) (value : Option (List ℕ)) → value_for writes n ≡ Some value → n < narrow_count s)
     (stands : (n : ℕ) (value : Option (List ℕ)) → value_for writes n ≡ Some value → rows t n ≡ value)
     (row : All (IsHistoryRow s) (added writes.history_row))
-    (absent : (n : ℕ) → n < record_count s → value_for writes n ≡ Some None → (k : OrderKey) × (key_of s n ≡ key.NewOrder k))
+    (absent : (n : ℕ) → n < narrow_count s → value_for writes n ≡ Some None → (k : OrderKey) × (key_of s n ≡ key.NewOrder k))
   where
     value_written : (n : ℕ) (value : Option (List ℕ)) → value_for writes n ≡ Some value → is_value s (table_at s n) value ≡ true
     value_written n None found =
         let key = absent n (small n None found) found in
         of_new_orders s (table_at s n) (place_at s n) key.0 key.1
     value_written n (Some words) found =
-        subst (λ (z : Sizes). n < record_count z → are_within (ranges z (table_at z n)) words ≡ true) of_scale
+        subst (λ (z : Sizes). n < narrow_count z → are_within (ranges z (table_at z n)) words ≡ true) of_scale
         (λ h. rows_within t wf (subst IsScale (sym of_scale) scale) n h words (stands n (Some words) found)) (small n (Some words) found)
 
     found_written : (e : Value) → value_for writes e.0 ≡ Some e.1 → is_write s (write_at s e) ≡ true
@@ -250,5 +251,5 @@ module _ (s : Sizes) (scale : IsScale s) (writes : WriteSetView) (t : Database) 
         and_from (list_all (is_write s) ws) (rise_from 0 ws && nat_le (count_by (λ w. not (is_history w)) ws) MAX_WRITES)
         (each_may_be_written s scale writes (each (λ e. is_write s (write_at s e) ≡ true) found_written writes.values all_found) row)
         (and_from (rise_from 0 ws) (nat_le (count_by (λ w. not (is_history w)) ws) MAX_WRITES)
-        (writes_rise s scale writes sorted (each (λ e. e.0 < record_count s) (λ e found. small e.0 e.1 found) writes.values all_found))
+        (writes_rise s scale writes sorted (each (λ e. e.0 < narrow_count s) (λ e found. small e.0 e.1 found) writes.values all_found))
         (le-leb (count_by (λ w. not (is_history w)) ws) MAX_WRITES (omega (arith, few_records s scale writes, few))))

@@ -11,7 +11,7 @@ use Rattle.money.specs.declared.cents.TheConstants.{MAX_MONEY}
 use Rattle.tables.specs.Sizes.{Sizes, IsScale, IsBetween, IsNumber}
 use Rattle.tables.specs.Database.{Database}
 use Rattle.tables.specs.OrderNumbers.{least, greatest, numbers_in, next_order}
-use Rattle.tables.specs.Records.{record_count, key_at, table_at, place_at, district_at, customer_at, order_at, IsRecordKey}
+use Rattle.tables.specs.Records.{narrow_count, key_at, table_at, place_at, district_at, customer_at, order_at, IsNarrowKey, IsRecordKey}
 use Rattle.tables.specs.Rows.{money_word, money_of, row_at, rows, oldest, last, warehouse_words, district_words, customer_words, order_words, line_words}
 use Rattle.tables.specs.Rows.{new_order_words, stock_words}
 use Rattle.tables.specs.WellFormed.{IsWellFormed, IsMoney, IsDistrictRow, IsCustomerRow, IsHistoryRow, IsOrderRow, IsLineRow, IsStockRow, orderer}
@@ -29,7 +29,7 @@ use Rattle.tables.specs.declared.rows.Stock.{Stock}
 use Rattle.tables.specs.declared.records.Table.{Table}
 use Rattle.tables.specs.declared.records.Table.TheVariants as table
 use Rattle.tables.specs.declared.records.RecordKey.TheVariants as key
-use Rattle.tables.proofs.Numbers.{numbered}
+use Rattle.tables.proofs.Numbers.{narrow_numbered}
 use Rattle.tables.proofs.OrderNumbers.{greatest-within, least-within}
 use Rattle.log_text.specs.Columns.{span, money_range, ranges, is_within, are_within}
 use Rattle.log_entries.specs.Logged.{history_words}
@@ -175,7 +175,7 @@ module _ (t : Database) (wf : IsWellFormed t) (is : IsScale t.scale) where
   last_is : (k : CustomerKey) → last t k ≤ t.scale.orders
   last_is k = greatest-within _ t.scale.orders t.orders (λ j r found _. (wf.orders j (some_of _ r found)).2.1)
 
-  row_within : (u : Table) (p : ℕ) → IsRecordKey t.scale (key_at t.scale u p) → (words : List ℕ) → row_at t (key_at t.scale u p) ≡ Some words
+  row_within : (u : Table) (p : ℕ) → IsNarrowKey t.scale (key_at t.scale u p) → (words : List ℕ) → row_at t (key_at t.scale u p) ≡ Some words
       → are_within (ranges t.scale u) words ≡ true
   row_within table.Warehouse p h words e =
       of_row warehouse_words (λ ws. are_within (ranges t.scale table.Warehouse) ws ≡ true) _ words e
@@ -201,8 +201,9 @@ module _ (t : Database) (wf : IsWellFormed t) (is : IsScale t.scale) where
   row_within table.Last p h words e = subst (λ ws. are_within (ranges t.scale table.Last) ws ≡ true) (same_Some _ _ e)
       (with_word (is_number 0 t.scale.orders (last t (customer_at t.scale p)) (omega arith, last_is (customer_at t.scale p)) (omega (arith, is.orders.1)))
       (zeros 6))
+  row_within table.CustomerData p h words e = absurd h
 
   -- what a record holds stands in the ranges of its table's columns
-  pub rows_within : (n : ℕ) → n < record_count t.scale → (words : List ℕ) → rows t n ≡ Some words
+  pub rows_within : (n : ℕ) → n < narrow_count t.scale → (words : List ℕ) → rows t n ≡ Some words
       → are_within (ranges t.scale (table_at t.scale n)) words ≡ true
-  rows_within n h words e = row_within (table_at t.scale n) (place_at t.scale n) (numbered t.scale n h).0 words e
+  rows_within n h words e = row_within (table_at t.scale n) (place_at t.scale n) (narrow_numbered t.scale n h) words e

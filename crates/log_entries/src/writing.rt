@@ -1,7 +1,7 @@
 //! Writing an entry of the book's history as an entry of a log file, with no list of its writes in between.
 ghost use Rattle.std.specs.Prelude.{◌≡◌, ◌++◌, ◌<◌, ◌≤◌, ◌+◌, length, flat_map, map, ℕ, OnOk, Option, Some, List, All};
 ghost use Rattle.std.specs.List.{filter};
-ghost use Rattle.tables.specs.Records.{first_number, record_count};
+ghost use Rattle.tables.specs.Records.{first_number, narrow_count};
 ghost use Rattle.tables.specs.declared.records.Table.TheVariants as table;
 ghost use Rattle.readset.specs.Writes.{added, value_for, WritesAreNarrow};
 ghost use Rattle.tables.specs.declared.limits.TheConstants.{MAX_WRITES};
@@ -26,7 +26,7 @@ use tables::{History, Scale, Table, locate};
 pub fn put_entry(out: &mut Vec<u8>, scale: &Scale, entry: &Entry) -> Result<(), AllocError>
     requires count { length entry.now.writes.values ≤ MAX_WRITES }
     requires numbers { (n : ℕ) (value : Option (List ℕ)) → value_for entry.now.writes n ≡ Some value
-        → n < record_count scale.now }
+        → n < narrow_count scale.now }
     requires narrow { WritesAreNarrow entry.now.writes }
     ensures { OnOk result (out.new.items ≡ out.old.items ++ entry_text (logged_entry scale.now entry.now)) }
 {
@@ -56,7 +56,7 @@ fn count(writes: &WriteList) -> u16
 /// Appends what was written: the records before HISTORY, its row, and the records behind it.
 fn put_writes(out: &mut Vec<u8>, scale: &Scale, writes: &WriteList) -> Result<(), AllocError>
     requires numbers { (n : ℕ) (value : Option (List ℕ)) → value_for writes.now n ≡ Some value
-        → n < record_count scale.now }
+        → n < narrow_count scale.now }
     requires narrow { WritesAreNarrow writes.now }
     ensures { OnOk result (out.new.items ≡ out.old.items ++ flat_map write_text (writes_of scale.now writes.now)) }
 {
@@ -85,7 +85,7 @@ fn put_value(
     number: u32,
     words: Option<Payload>,
 ) -> Result<(), AllocError>
-    requires { number < record_count scale.now }
+    requires { number < narrow_count scale.now }
     ensures { OnOk result (out.new.items ≡ out.old.items ++ write_text (write_at scale.now (number, words))) }
 {
     let (table, place) = locate(scale, number);
@@ -107,7 +107,7 @@ fn put_before(
     values: &[(u32, Option<Payload>)],
 ) -> Result<(), AllocError>
     requires behind { behind ≡ first_number scale.now table.NewOrder }
-    requires numbers { All (λ e. e.0 < record_count scale.now) values.now }
+    requires numbers { All (λ e. e.0 < narrow_count scale.now) values.now }
     ensures { OnOk result (out.new.items ≡ out.old.items
         ++ flat_map write_text (map (write_at scale.now) (filter (is_before_history scale.now) values.now))) }
 {
@@ -127,7 +127,7 @@ fn put_behind(
     values: &[(u32, Option<Payload>)],
 ) -> Result<(), AllocError>
     requires behind { behind ≡ first_number scale.now table.NewOrder }
-    requires numbers { All (λ e. e.0 < record_count scale.now) values.now }
+    requires numbers { All (λ e. e.0 < narrow_count scale.now) values.now }
     ensures { OnOk result (out.new.items ≡ out.old.items
         ++ flat_map write_text (map (write_at scale.now) (filter (is_behind_history scale.now) values.now))) }
 {

@@ -85,6 +85,7 @@ columns_are s table.Item = refl
 columns_are s table.Stock = refl
 columns_are s table.Oldest = refl
 columns_are s table.Last = refl
+columns_are s table.CustomerData = refl
 
 words_fit : (s : Sizes) (t : Table) (words : List ℕ) → are_within (ranges s t) words ≡ true → FitsWords (width t) words
 words_fit s t words e =
@@ -125,6 +126,7 @@ few_places s is table.Item = omega arith
 few_places s is table.Stock = omega (arith, mul-le-mul is.warehouses.1 is.items.1)
 few_places s is table.Oldest = omega (arith, few_districts s is)
 few_places s is table.Last = omega (arith, mul-le-mul (few_districts s is) is.customers.1)
+few_places s is table.CustomerData = omega arith
 
 write_fits : (s : Sizes) → IsScale s → (w : Write) → is_write s w ≡ true → FitsWrite w
 write_fits s is w e =
@@ -155,6 +157,7 @@ history_rank s w e h =
     first table.Stock place small h = absurd (true≢false (sym h))
     first table.Oldest place small h = absurd (true≢false (sym h))
     first table.Last place small h = absurd (true≢false (sym h))
+    first table.CustomerData place small h = absurd (true≢false (sym h))
 
 -- behind HISTORY's place no write to it stands
 abbrev histories : List Write → ℕ

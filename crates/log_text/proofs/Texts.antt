@@ -51,6 +51,7 @@ numbered_again table.Item = refl
 numbered_again table.Stock = refl
 numbered_again table.Oldest = refl
 numbered_again table.Last = refl
+numbered_again table.CustomerData = refl
 
 small_number : (t : Table) → table_number t < 256 ^ 1
 small_number table.Warehouse = omega arith
@@ -64,6 +65,7 @@ small_number table.Item = omega arith
 small_number table.Stock = omega arith
 small_number table.Oldest = omega arith
 small_number table.Last = omega arith
+small_number table.CustomerData = omega arith
 
 numbered : (n : ℕ) (t : Table) → table_numbered n ≡ Some t → table_number t ≡ n
 numbered n t e = eqb-true (table_number t) n (found_passes (λ u. table_number u == n) tables t e)

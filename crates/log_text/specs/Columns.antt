@@ -41,6 +41,7 @@ columns s table.Item = []
 columns s table.Stock = span MIN_STOCK MAX_STOCK ∷ count_range ∷ count_range ∷ count_range ∷ []
 columns s table.Oldest = span 1 (s.orders + 1) ∷ []
 columns s table.Last = span 0 s.orders ∷ []
+columns s table.CustomerData = []
 
 -- how many columns a table has, at whatever scale
 abbrev pub width : Table → ℕ

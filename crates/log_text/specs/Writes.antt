@@ -22,9 +22,10 @@ write_text w = number 1 (table_number w.table) ++ (number 4 w.place ++ value_tex
 abbrev pub is_history : Write → Bool
 is_history w = table_number w.table == 4
 
--- the number of places of a table in a log: HISTORY has the one place 0
+-- the number of places of a table in a log: HISTORY has the one place 0, and C_DATA none
 abbrev pub places : Sizes → Table → ℕ
 places s table.History = 1
+places s table.CustomerData = 0
 places s t = size s t
 
 -- only NEW-ORDER rows are taken out; what is present has its columns in their ranges

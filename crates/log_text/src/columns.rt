@@ -40,7 +40,7 @@ pub(crate) fn width(table: Table) -> usize
     ensures limit { result ≤ 7 }
 {
     match table {
-        Table::NewOrder | Table::Item => 0,
+        Table::NewOrder | Table::Item | Table::CustomerData => 0,
         Table::Warehouse | Table::Oldest | Table::Last => 1,
         Table::District => 2,
         Table::Customer | Table::Stock => 4,
@@ -75,7 +75,9 @@ pub(crate) fn ranges(scale: &Scale, table: Table) -> [Range; PAYLOAD_WORDS]
                 high: MAX_PAYMENT,
             },
         ],
-        Table::NewOrder | Table::Item => [none, none, none, none, none, none, none],
+        Table::NewOrder | Table::Item | Table::CustomerData => {
+            [none, none, none, none, none, none, none]
+        }
         Table::Order => [
             span(1, scale.customers()),
             date,

@@ -15,6 +15,7 @@ fn places(scale: &Scale, table: Table) -> u32
 {
     match table {
         Table::History => 1,
+        Table::CustomerData => 0,
         other => other.size(scale),
     }
 }

@@ -59,3 +59,4 @@ module _ (t : Database) (x : NewOrderInput) where
     lined_others (key.Stock k) a = refl
     lined_others (key.Oldest k) a = refl
     lined_others (key.Last k) a = refl
+    lined_others (key.CustomerData k) a = refl

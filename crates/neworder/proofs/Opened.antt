@@ -140,6 +140,7 @@ module _ (t : Database) (x : NewOrderInput) where
     others (key.Stock k) a b c d = refl
     others (key.Oldest k) a b c d = ap (λ n. Some (number_words n)) (oldest_kept k)
     others (key.Last k) a b c d = ap (λ n. Some (number_words n)) (last_other k (λ e. d (ap key.Last e)))
+    others (key.CustomerData k) a b c d = refl
 
     pub opened_others : (r : District) (j : RecordKey) → Apart j (all_changes x (new_key t x) (numbered_columns (district_columns r)))
         → row_at (after_lines t x [] []) j ≡ row_at t j

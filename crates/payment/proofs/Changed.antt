@@ -1,16 +1,19 @@
 -- What a Payment changes of the records.
-use Rattle.std.proofs.Common.{◌≡◌, ◌≢◌, ℕ, ◌-ℤ◌, Bool, true, cond, List, Option, Some, refl, sym, ap, ◌∙◌, ◌==◌, ◌&&◌}
+use Rattle.std.proofs.Common.{◌≡◌, ◌≢◌, ℕ, ◌-ℤ◌, Bool, true, false, cond, List, Option, Some, refl, sym, ap, ◌∙◌, ◌==◌, ◌&&◌}
 use Rattle.std.proofs.lemmas.Bool.{eqb-true}
 use Rattle.std.specs.Option.{option_map, option_map_or, unwrap_or}
 use Rattle.std.specs.FinMap.{FinMap, get}
 use Rattle.tables.specs.Database.{Database}
-use Rattle.tables.specs.Keys.{is_district, is_customer}
+use Rattle.customer_data.specs.Text.{put_left}
+use Rattle.customer_data.specs.Payments.{payment_text}
+use Rattle.customer_data.specs.Words.{data_words}
+use Rattle.tables.specs.Keys.{is_district, is_customer, customer_cmp}
 use Rattle.tables.specs.Maps.{update_where, column}
-use Rattle.tables.specs.Payment.{payer, after_payment_of, raised_warehouse, raised_district, charged_customer}
+use Rattle.tables.specs.Payment.{payer, after_payment_of, raised_warehouse, raised_district, charged_customer, front_of, changes_text, has_bad_credit}
 use Rattle.tables.specs.OrderNumbers.{least, numbers_in}
 use Rattle.tables.specs.Rows.{row_at, number_words, warehouse_words, district_words, customer_words}
 use Rattle.tables.proofs.Orders.{IsExact, exact_number, exact_district, exact_customer}
-use Rattle.tables_laws.proofs.Updates.{column-update_where, kept-update_where}
+use Rattle.tables_laws.proofs.Updates.{column-update_where, kept-update_where, update_where-none}
 use Rattle.tables_laws.proofs.Touched.{self, district_named, customer_named, untouched, touched}
 use Rattle.payment.specs.Steps.{paying}
 use Rattle.tables.specs.declared.records.RecordKey.{RecordKey}
@@ -27,25 +30,28 @@ changed : {K X : Type 0} {R : K → K → Rattle.std.specs.declared.cmp.Ordering
 changed o p g words m k r h found = touched o words m p g k h ∙ ap (option_map (λ r. words (g r))) found
 
 module _ (t : Database) (x : PaymentInput) (id : ℕ) where
-  -- the records of all keys but three are as before
-  pub others : (k : RecordKey) → k ≢ key.Warehouse x.warehouse → k ≢ key.District (paying x)
+  -- the records of all keys but three are as before, where no Payment changes C_DATA
+  pub others : t.keeps_texts ≡ false → (k : RecordKey) → k ≢ key.Warehouse x.warehouse → k ≢ key.District (paying x)
       → k ≢ key.Customer (payer x id)
       → row_at (after_payment_of t x id) k ≡ row_at t k
-  others (key.Warehouse w) a b c = untouched exact_number warehouse_words t.warehouses (λ w. x.warehouse == w) (raised_warehouse x.amount) w
+  others none (key.Warehouse w) a b c = untouched exact_number warehouse_words t.warehouses (λ w. x.warehouse == w) (raised_warehouse x.amount) w
       (λ h. a (ap key.Warehouse (sym (eqb-true x.warehouse w h))))
-  others (key.District k) a b c = untouched exact_district district_words t.districts (is_district x.warehouse x.district) (raised_district x.amount) k
+  others none (key.District k) a b c = untouched exact_district district_words t.districts (is_district x.warehouse x.district) (raised_district x.amount) k
       (λ h. b (ap key.District (sym (district_named x.warehouse x.district k h))))
-  others (key.Customer k) a b c = untouched exact_customer customer_words t.customers (is_customer x.customer_warehouse x.customer_district id)
+  others none (key.Customer k) a b c = untouched exact_customer customer_words t.customers (is_customer x.customer_warehouse x.customer_district id)
       (charged_customer x.amount) k
       (λ h. c (ap key.Customer (sym (customer_named x.customer_warehouse x.customer_district id k h))))
-  others (key.NewOrder k) a b c = refl
-  others (key.Order k) a b c = refl
-  others (key.OrderLine k) a b c = refl
-  others (key.Stock k) a b c = refl
-  others (key.Oldest k) a b c = ap (λ n. Some (number_words n)) (ap (unwrap_or (least (numbers_in k t.new_orders)))
+  others none (key.NewOrder k) a b c = refl
+  others none (key.Order k) a b c = refl
+  others none (key.OrderLine k) a b c = refl
+  others none (key.Stock k) a b c = refl
+  others none (key.Oldest k) a b c = ap (λ n. Some (number_words n)) (ap (unwrap_or (least (numbers_in k t.new_orders)))
       (kept-update_where exact_district (is_district x.warehouse x.district) (raised_district x.amount)
       (λ (w : Option District). option_map_or (λ r. r.next_order) w 0) t.districts k (λ _ r. refl)))
-  others (key.Last k) a b c = refl
+  others none (key.Last k) a b c = refl
+  others none (key.CustomerData k) a b c = ap (λ (m : FinMap customer_cmp (List ℕ)). option_map data_words (get m k))
+      (update_where-none exact_customer (changes_text t x id) (put_left (payment_text (front_of x id))) t.texts
+      (λ j. ap (λ b. b && (is_customer x.customer_warehouse x.customer_district id j && has_bad_credit t j)) none))
 
   pub warehouse_changed : (r : Warehouse) → get t.warehouses x.warehouse ≡ Some r → row_at (after_payment_of t x id) (key.Warehouse x.warehouse) ≡ Some
       (warehouse_words (raised_warehouse x.amount r))

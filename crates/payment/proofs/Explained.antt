@@ -101,7 +101,7 @@ module _ (t0 : Database) (x : PaymentInput) (id : ℕ) (reads : ReadSetView) (fo
             ),
           ),
         )
-        (λ j _ apart. others t x id j apart.0 apart.1.0 apart.1.1.0)
+        (λ j _ apart. others t x id h.well_formed.keeps_texts j apart.0 apart.1.0 apart.1.1.0)
 
     pub commits : (writes : WriteSetView)
         → writes ≡ record { values = (puts_all t0.scale no_writes (changes_of x id (paid x.amount found))).values; history_row = Some (history_row x id) }

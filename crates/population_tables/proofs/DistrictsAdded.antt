@@ -32,8 +32,10 @@ module _ {kind : Kind} {s : Sizes} where
       → AddsDistricts kind s p first_rows old middle → AddsDistricts kind s q later_rows middle new → AddsDistricts kind s both rows old new
   districts_both {p} {q} {both} {first_rows} {later_rows} rows {old} {middle} {new} is_both apart joined first later = record {
     scale = later.scale ∙ first.scale;
+    keeps_texts = later.keeps_texts ∙ first.keeps_texts;
     districts = adds_both (λ k. is_both k.warehouse k.district) first.districts later.districts;
     customers = adds_both (λ k. left _ _ (is_number s.customers k.customer) _ (is_both k.warehouse k.district)) first.customers later.customers;
+    texts = adds_both (λ k. left _ _ (is_number s.customers k.customer) _ (is_both k.warehouse k.district)) first.texts later.texts;
     history = later.history ∙ ap (λ xs. xs ++ later_rows) first.history ∙ append_assoc old.history first_rows later_rows
         ∙ ap (λ xs. old.history ++ xs) (sym joined);
     new_orders = adds_both (λ k. left _ _ (is_in (delivered_orders s + 1) (s.customers + 1) k.order) _ (is_both k.warehouse k.district)) first.new_orders

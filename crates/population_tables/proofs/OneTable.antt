@@ -24,9 +24,11 @@ one_table {K = K} {X = X} o IsKey row m n a b = same_map o.total o.same m n (λ 
 pub one_plain : (s : Sizes) (t u : Database) → IsPlain s t → IsPlain s u → t ≡ u
 one_plain s t u a b = same_database t u (record {
   scale = a.scale ∙ sym b.scale;
+  keeps_texts = a.keeps_texts ∙ sym b.keeps_texts;
   warehouses = one_table exact_number _ _ _ _ a.warehouses b.warehouses;
   districts = one_table exact_district _ _ _ _ a.districts b.districts;
   customers = one_table exact_customer _ _ _ _ a.customers b.customers;
+  texts = one_table exact_customer _ _ _ _ a.texts b.texts;
   history = a.history ∙ sym b.history;
   new_orders = one_table exact_order _ _ _ _ a.new_orders b.new_orders;
   orders = one_table exact_order _ _ _ _ a.orders b.orders;

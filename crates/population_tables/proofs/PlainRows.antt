@@ -88,9 +88,11 @@ module _ (s : Sizes) (t : Database) (first : AreFirstTables Plain s t) where
   pub are_seeded : IsFit s → IsSeeded s t
   are_seeded fit = record {
     scale = first.scale;
+    keeps_texts = first.keeps_texts;
     warehouses = weaker first.warehouses _ (λ k r is e. subst (IsSeededWarehouse s) (sym e) (warehouse_row s));
     districts = weaker first.districts _ (λ k r is e. subst (IsSeededDistrict s) (sym e) (district_row s));
     customers = weaker first.customers _ (λ k r is e. subst (IsSeededCustomer k.customer) (sym e) (customer_row k.customer is.2.0));
+    texts = first.texts;
     history = first.history;
     new_orders = first.new_orders;
     orders = weaker first.orders _ (λ k r is e. subst (IsSeededOrder s k.order) (sym e) (order_row s k.order is.2));
@@ -104,9 +106,11 @@ module _ (s : Sizes) (t : Database) (first : AreFirstTables Plain s t) where
   pub are_plain : IsPlain s t
   are_plain = record {
     scale = first.scale;
+    keeps_texts = first.keeps_texts;
     warehouses = is_table first.warehouses;
     districts = is_table first.districts;
     customers = is_table first.customers;
+    texts = is_table first.texts;
     history = first.history;
     new_orders = is_table first.new_orders;
     orders = is_table first.orders;

@@ -8,6 +8,8 @@ use Rattle.std.specs.FinMap.{get}
 use Rattle.std.proofs.lemmas.Int.{ints}
 use Rattle.std.proofs.lemmas.List.Elements.{All-nil, All-append, All-push}
 use Rattle.std.proofs.lemmas.Nat.{mul-le}
+use Rattle.customer_data.specs.Text.{IsData}
+use Rattle.customer_data.proofs.Printable.{first_is}
 use Rattle.tables.specs.Sizes.{Sizes, IsNumber}
 use Rattle.tables.specs.Keys.{order_of}
 use Rattle.tables.specs.Database.{Database}
@@ -123,10 +125,12 @@ module _ (t : Database) (fit : IsFit t.scale) (seeded : IsSeeded t.scale t) wher
     warehouses = at seeded.warehouses;
     districts = at seeded.districts;
     customers = at seeded.customers;
+    texts = at seeded.texts;
     stock = at seeded.stock;
     new_orders = within seeded.new_orders _ (λ k h. (h.0, h.1, (omega (arith, h.2), omega (arith, h.2, fit.orders))));
     orders = within seeded.orders _ (λ k h. (h.0, h.1, (h.2.0, omega (arith, h.2, fit.orders))));
     lines = within seeded.lines _ (λ k h. (h.0.0, h.0.1, (h.0.2.0, omega (arith, h.0.2, fit.orders)), (h.1.0, fifteen k h)));
+    keeps_texts = seeded.keeps_texts;
     items = within seeded.items _ (λ k h. h);
     warehouse_rows = each seeded.warehouses _ (λ k r h d. money _ (t.scale.districts * (t.scale.customers * 1000)) d.year_to_date (omega (arith, total)));
     district_rows = each seeded.districts _ (λ k r h d. record {
@@ -139,6 +143,7 @@ module _ (t : Database) (fit : IsFit t.scale) (seeded : IsSeeded t.scale t) wher
       payments = omega (arith, d.payments);
       deliveries = omega (arith, d.deliveries);
     });
+    text_rows = each seeded.texts _ (λ k text h d. subst IsData (sym d) first_is);
     history_rows = subst (All (IsHistoryRow t.scale)) (sym seeded.history)
         (all_joined (IsHistoryRow t.scale) _ t.scale.warehouses
         (λ w in_warehouse. all_joined (IsHistoryRow t.scale) _ t.scale.districts

@@ -45,17 +45,21 @@ three {x} {y} {z} p q s e = let parts = and_parts (x && y) z e in let front = an
 
 -- the items, and then the rest, of empty tables
 pub all_first : (kind : Kind) (s : Sizes) {old middle new : Database} → old ≡ empty_database s → middle.scale ≡ old.scale
-    → middle.warehouses ≡ old.warehouses → middle.districts ≡ old.districts → middle.customers ≡ old.customers → middle.history ≡ old.history
+    → middle.keeps_texts ≡ old.keeps_texts → middle.warehouses ≡ old.warehouses → middle.districts ≡ old.districts → middle.customers ≡ old.customers
+    → middle.texts ≡ old.texts → middle.history ≡ old.history
     → middle.new_orders ≡ old.new_orders → middle.orders ≡ old.orders → middle.lines ≡ old.lines → middle.stock ≡ old.stock
     → AddsItems kind (is_number s.items) old.items middle.items
     → AddsWarehouses kind s (is_number s.warehouses) (is_before s (s.warehouses + 1)) (plain_history s) middle new → AreFirstTables kind s new
-all_first kind s {old} {middle} {new} none scale warehouses districts customers history new_orders orders lines stock items rest = record {
+all_first kind s {old} {middle} {new} none scale keeps warehouses districts customers texts history new_orders orders lines stock items rest = record {
   scale = rest.districts.scale ∙ scale ∙ ap (λ t. t.scale) none;
+  keeps_texts = rest.districts.keeps_texts ∙ keeps ∙ ap (λ t. t.keeps_texts) none;
   warehouses = rows_of (IsWarehouseKey s) (λ k h. within h) (λ k e. is_within e) (warehouses ∙ ap (λ t. t.warehouses) none) rest.warehouses;
   districts = rows_of (IsDistrictKey s) (λ k h. and_from _ _ (within h.0) (within h.1)) (λ k e. both is_within is_within e)
       (districts ∙ ap (λ t. t.districts) none) rest.districts.districts;
   customers = rows_of (IsCustomerKey s) (λ k h. and_from _ _ (and_from _ _ (within h.0) (within h.1)) (within h.2))
       (λ k e. three is_within is_within is_within e) (customers ∙ ap (λ t. t.customers) none) rest.districts.customers;
+  texts = rows_of (IsCustomerKey s) (λ k h. and_from _ _ (and_from _ _ (within h.0) (within h.1)) (within h.2))
+      (λ k e. three is_within is_within is_within e) (texts ∙ ap (λ t. t.texts) none) rest.districts.texts;
   history = rest.districts.history ∙ ap (λ rows. rows ++ plain_history s) (history ∙ ap (λ t. t.history) none);
   new_orders = rows_of (IsPlainNewOrderKey s) (λ k h. and_from _ _ (and_from _ _ (within h.0) (within h.1)) (within h.2))
       (λ k e. three is_within is_within is_within e) (new_orders ∙ ap (λ t. t.new_orders) none) rest.districts.new_orders;

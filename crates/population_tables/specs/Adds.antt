@@ -3,6 +3,7 @@ use Rattle.std.specs.Prelude.{◌≡◌, ℕ, ◌+◌, Bool, true, false, nat_le
 use Rattle.std.specs.Ordering.{nat_cmp}
 use Rattle.std.specs.FinMap.{FinMap, get}
 use Rattle.std.specs.declared.cmp.Ordering.{Ordering}
+use Rattle.customer_data.specs.Text.{first_text}
 use Rattle.tables.specs.Sizes.{Sizes}
 use Rattle.tables.specs.Keys.{district_cmp, customer_cmp, order_cmp, line_cmp, stock_cmp, order_of}
 use Rattle.tables.specs.Database.{Database}
@@ -67,6 +68,12 @@ AddsCustomers kind in_district in_customer =
     AddsRows customer_cmp (λ k. in_district k.warehouse k.district && in_customer k.customer)
     (λ k. IsFirstCustomer kind k.customer)
 
+abbrev pub AddsTexts : (ℕ → ℕ → Bool) → (ℕ → Bool) → FinMap customer_cmp (List ℕ) → FinMap customer_cmp (List ℕ)
+    → Type 0
+AddsTexts in_district in_customer =
+    AddsRows customer_cmp (λ k. in_district k.warehouse k.district && in_customer k.customer)
+    (λ k text. text ≡ first_text)
+
 abbrev pub AddsNewOrders : (ℕ → ℕ → Bool) → (ℕ → Bool) → FinMap order_cmp NewOrder → FinMap order_cmp NewOrder → Type 0
 AddsNewOrders in_district in_order =
     AddsRows order_cmp (λ k. in_district k.warehouse k.district && in_order k.order) (λ k r. r ≡ record {})
@@ -101,9 +108,11 @@ is_order_in in_district in_order k = in_district k.warehouse k.district && in_or
 pub record AddsDistricts (kind : Kind) (s : Sizes) (in_district : ℕ → ℕ → Bool) (payments : List History)
     (old new : Database) : Type 0 where
   pub scale : new.scale ≡ old.scale
+  pub keeps_texts : new.keeps_texts ≡ old.keeps_texts
   pub districts : AddsRows district_cmp (λ k. in_district k.warehouse k.district) (λ k. IsFirstDistrict kind s)
       old.districts new.districts
   pub customers : AddsCustomers kind in_district (is_number s.customers) old.customers new.customers
+  pub texts : AddsTexts in_district (is_number s.customers) old.texts new.texts
   pub history : new.history ≡ old.history ++ payments
   pub new_orders : AddsNewOrders in_district (is_in (delivered_orders s + 1) (s.customers + 1)) old.new_orders
       new.new_orders

@@ -1,8 +1,9 @@
 -- The tables that a database begins with, of either kind: rows that nothing is drawn for, and rows that are drawn.
-use Rattle.std.specs.Prelude.{◌≡◌, ℕ, ◌≤◌, Some, IsSome}
+use Rattle.std.specs.Prelude.{◌≡◌, ℕ, ◌≤◌, false, Some, IsSome}
 use Rattle.std.specs.Option.{option_map_or}
 use Rattle.std.specs.FinMap.{FinMap, get}
 use Rattle.std.specs.declared.cmp.Ordering.{Ordering}
+use Rattle.customer_data.specs.Text.{first_text}
 use Rattle.tables.specs.Sizes.{Sizes, IsNumber}
 use Rattle.tables.specs.Keys.{order_cmp, order_of, IsWarehouseKey, IsDistrictKey, IsCustomerKey, IsItemKey, IsStockKey}
 use Rattle.tables.specs.Database.{Database}
@@ -70,9 +71,11 @@ IsFirstLineKey s orders k = IsPlainOrderKey s (order_of k) × IsNumber (first_li
 -- the nine tables of a kind, of a scale. The keys, but those of ORDER-LINE, and HISTORY are the plain population's
 pub record AreFirstTables (kind : Kind) (s : Sizes) (t : Database) : Type 0 where
   pub scale : t.scale ≡ s
+  pub keeps_texts : t.keeps_texts ≡ false
   pub warehouses : HasRowsAt (IsWarehouseKey s) (λ w. IsFirstWarehouse kind s) t.warehouses
   pub districts : HasRowsAt (IsDistrictKey s) (λ k. IsFirstDistrict kind s) t.districts
   pub customers : HasRowsAt (IsCustomerKey s) (λ k. IsFirstCustomer kind k.customer) t.customers
+  pub texts : HasRowsAt (IsCustomerKey s) (λ k text. text ≡ first_text) t.texts
   pub history : t.history ≡ plain_history s
   pub new_orders : HasRowsAt (IsPlainNewOrderKey s) (λ k r. r ≡ record {}) t.new_orders
   pub orders : HasRowsAt (IsPlainOrderKey s) (λ k. IsFirstOrder kind s k.order) t.orders

@@ -1,9 +1,10 @@
 -- The plain population: which row stands at which key (clause 4.3.3.1 draws most of these columns; here none is drawn).
-use Rattle.std.specs.Prelude.{◌≡◌, ℕ, zero, suc, ◌+◌, ◌-◌, ◌*◌, ◌/◌, ◌%◌, pos, neg_ℤ, Bool, true, cond, nat_le, ◌==◌}
+use Rattle.std.specs.Prelude.{◌≡◌, ℕ, zero, suc, ◌+◌, ◌-◌, ◌*◌, ◌/◌, ◌%◌, pos, neg_ℤ, Bool, true, false, cond, nat_le, ◌==◌}
 use Rattle.std.specs.Prelude.{Some, None, IsSome, List, [], ◌∷◌, ◌++◌, map}
 use Rattle.std.specs.List.{flat_map}
 use Rattle.std.specs.FinMap.{FinMap, get}
 use Rattle.std.specs.declared.cmp.Ordering.{Ordering}
+use Rattle.customer_data.specs.Text.{first_text}
 use Rattle.tables.specs.Sizes.{Sizes, IsBetween, IsNumber}
 use Rattle.tables.specs.Keys.{IsWarehouseKey, IsDistrictKey, IsCustomerKey, IsItemKey, IsStockKey}
 use Rattle.tables.specs.Database.{Database}
@@ -120,9 +121,11 @@ pub record IsTable {K X : Type 0} {R : K → K → Ordering} (IsKey : K → Type
 -- the nine tables of the plain population of a scale
 pub record IsPlain (s : Sizes) (t : Database) : Type 0 where
   pub scale : t.scale ≡ s
+  pub keeps_texts : t.keeps_texts ≡ false
   pub warehouses : IsTable (IsWarehouseKey s) (λ w. plain_warehouse s) t.warehouses
   pub districts : IsTable (IsDistrictKey s) (λ k. plain_district s) t.districts
   pub customers : IsTable (IsCustomerKey s) (λ k. plain_customer k.customer) t.customers
+  pub texts : IsTable (IsCustomerKey s) (λ k. first_text) t.texts
   pub history : t.history ≡ plain_history s
   pub new_orders : IsTable (IsPlainNewOrderKey s) (λ k. record {}) t.new_orders
   pub orders : IsTable (IsPlainOrderKey s) (λ k. plain_order s k.order) t.orders

@@ -6,11 +6,12 @@ ghost use Rattle.tables.specs.Sizes.{IsNumber, IsBetween};
 ghost use Rattle.tables.specs.Database.{database};
 ghost use Rattle.tables.specs.declared.limits.TheConstants.{MIN_ORDER_LINES, MAX_ORDER_LINES};
 ghost use Rattle.population_tables.specs.Plain.{delivered_orders, district_payments};
-ghost use Rattle.population_tables.specs.Adds.{is_in, is_number, is_at, is_order_at, is_order_in, AddsCustomers, AddsOrders};
+ghost use Rattle.population_tables.specs.Adds.{is_in, is_number, is_at, is_order_at, is_order_in, AddsCustomers, AddsTexts, AddsOrders};
 ghost use Rattle.population_tables.specs.Adds.{AddsNewOrders, AddsLines, AddsDistricts, KeepsOtherTables, is_line_in};
 
 use crate::plain::{delivered, history_row};
 use crate::source::Source;
+use customer_data::CustomerData;
 use std::alloc::{AllocError, Global};
 use std::collections::BTreeMap;
 use tables::{
@@ -32,6 +33,7 @@ pub fn add_district<S: Source>(
 {
     tables.districts.insert(key, source.district(scale))?;
     add_customers(&mut tables.customers, source, scale, key)?;
+    add_texts(alloc, &mut tables.texts, scale, key)?;
     add_payments(&mut tables.history, scale, key)?;
     let mut customers = customer_numbers(alloc, scale)?;
     let listed = customers.as_mut_slice();
@@ -64,6 +66,27 @@ fn add_customers<S: Source>(
             customer,
         };
         table.insert(key, source.customer(customer))?;
+    }
+    Ok(())
+}
+
+/// C_DATA of the customers of a district, each the same.
+fn add_texts(
+    alloc: Global,
+    table: &mut BTreeMap<CustomerKey, CustomerData>,
+    scale: Scale,
+    of: DistrictKey,
+) -> Result<(), AllocError>
+    ensures { OnOk result (AddsTexts (is_at of.warehouse of.district) (is_number scale.customers)
+        (from_entries table.old.entries) (from_entries table.new.entries)) }
+{
+    for customer in 1..=scale.customers() {
+        let key = CustomerKey {
+            warehouse: of.warehouse,
+            district: of.district,
+            customer,
+        };
+        table.insert(key, CustomerData::first(alloc))?;
     }
     Ok(())
 }

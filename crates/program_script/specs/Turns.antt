@@ -73,6 +73,7 @@ abbrev pub row_of : Database → ShowKey → Option ShownRow
 row_of t (key.Warehouse w) = option_map (λ row. shown.Warehouse w row) (get t.warehouses w)
 row_of t (key.District k) = option_map (λ row. shown.District k row) (get t.districts k)
 row_of t (key.Customer k) = option_map (λ row. shown.Customer k row) (get t.customers k)
+row_of t (key.CustomerData k) = option_map (λ text. shown.CustomerData k text) (get t.texts k)
 row_of t (key.Stock k) = option_map (λ row. shown.Stock k row) (get t.stock k)
 row_of t (key.Order k) = Some (shown.Order k (get t.orders k))
 

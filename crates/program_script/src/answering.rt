@@ -65,7 +65,10 @@ fn answer_request<K: Run, R: Wait>(
     let scale = session.population().scale();
     match in_range(&scale, request) {
         Ok(Request::Transaction(input)) => commit(rt, session, &input, number, output),
-        Ok(Request::Show(key)) => Answer::Row(show(session, key)).print(output),
+        Ok(Request::Show(key)) => {
+            let row = show(session, key)?;
+            Answer::Row(row).print(output)
+        }
         Err(refusal) => refuse(refusal, number, output),
     }
 }

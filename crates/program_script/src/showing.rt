@@ -1,10 +1,10 @@
 //! How a session shows a row.
 
-ghost use Rattle.std.specs.Prelude.{◌≡◌, Some};
+ghost use Rattle.std.specs.Prelude.{◌≡◌, Some, IfOk};
 ghost use Rattle.std.specs.FinMap.{get};
 ghost use Rattle.tables.specs.Keys.{IsWarehouseKey, IsDistrictKey, IsCustomerKey};
 ghost use Rattle.tables.specs.Database.{database};
-ghost use Rattle.tables.specs.Records.{IsRecordKey};
+ghost use Rattle.tables.specs.Records.{IsNarrowKey};
 ghost use Rattle.tables.specs.Rows.{row_at};
 ghost use Rattle.tables.specs.WellFormed.{IsWellFormed};
 ghost use Rattle.book.specs.History.{replay};
@@ -13,21 +13,26 @@ ghost use Rattle.program_script.specs.Turns.{row_of};
 
 use book::Run;
 use book_session::Session;
+use customer_data::CustomerData;
 use money::Payload;
 use program_script_text::{ShowKey, ShownRow};
 use rows::{CustomerColumns, DistrictColumns, Present, Row, WarehouseColumns};
+use std::alloc::AllocError;
 use tables::{
     Customer, CustomerKey, District, DistrictKey, RecordKey, Tables, Warehouse, number_of_key,
 };
 
 /// The row at a key of the scale, or that there is no such order. Costs one record, and for a row with columns that
-/// never change a look-up in the population.
-pub(crate) fn show<K: Run>(session: &mut Session<'_, K>, key: ShowKey) -> ShownRow
+/// never change, as for C_DATA, a look-up in the population. Only C_DATA may take memory.
+pub(crate) fn show<K: Run>(
+    session: &mut Session<'_, K>,
+    key: ShowKey,
+) -> Result<ShownRow, AllocError>
     requires { IsShowKey K.first.scale key }
     ensures same { session.new ≡ session.old }
-    ensures row { row_of (replay K.first session.old.history) key ≡ Some result }
+    ensures row { IfOk result (λ row. row_of (replay K.first session.old.history) key ≡ Some row) }
 {
-    match key {
+    let row = match key {
         ShowKey::Warehouse(warehouse) => {
             let row = warehouse_at(session, warehouse);
             ShownRow::Warehouse { warehouse, row }
@@ -40,6 +45,10 @@ pub(crate) fn show<K: Run>(session: &mut Session<'_, K>, key: ShowKey) -> ShownR
             let row = customer_at(session, key);
             ShownRow::Customer { key, row }
         }
+        ShowKey::CustomerData(key) => {
+            let text = text_at(session, key)?;
+            ShownRow::CustomerData { key, text }
+        }
         ShowKey::Stock(key) => {
             let row = present_at(session, key);
             ShownRow::Stock { key, row }
@@ -48,7 +57,8 @@ pub(crate) fn show<K: Run>(session: &mut Session<'_, K>, key: ShowKey) -> ShownR
             let row = row_at(session, key);
             ShownRow::Order { key, row }
         }
-    }
+    };
+    Ok(row)
 }
 
 /// The row of WAREHOUSE at a key of the scale.
@@ -97,9 +107,23 @@ fn customer_at<K: Run>(session: &mut Session<'_, K>, key: CustomerKey) -> Custom
     }
 }
 
+/// C_DATA of a customer of the scale, which is the population's, since no transaction changes it.
+fn text_at<K: Run>(
+    session: &mut Session<'_, K>,
+    key: CustomerKey,
+) -> Result<CustomerData, AllocError>
+    requires { IsCustomerKey K.first.scale key }
+    ensures same { session.new ≡ session.old }
+    ensures row { IfOk result (λ text. get (replay K.first session.old.history).texts key ≡ Some text) }
+{
+    let text = first_tables(session).texts.get(&key).unwrap();
+    let copy = text.clone()?;
+    Ok(copy)
+}
+
 /// The row at a key of the scale, of a table that has one at each.
 fn present_at<T: Present, K: Run>(session: &mut Session<'_, K>, key: T::Key) -> T
-    requires { IsRecordKey K.first.scale (T.record_of key) }
+    requires { IsNarrowKey K.first.scale (T.record_of key) }
     ensures same { session.new ≡ session.old }
     ensures row { T.at (replay K.first session.old.history) key ≡ Some result }
 {
@@ -108,7 +132,7 @@ fn present_at<T: Present, K: Run>(session: &mut Session<'_, K>, key: T::Key) -> 
 
 /// The row at a key of the scale, as its record holds it, or None where there is none.
 fn row_at<T: Row, K: Run>(session: &mut Session<'_, K>, key: T::Key) -> Option<T>
-    requires { IsRecordKey K.first.scale (T.record_of key) }
+    requires { IsNarrowKey K.first.scale (T.record_of key) }
     ensures same { session.new ≡ session.old }
     ensures row { T.at (replay K.first session.old.history) key ≡ result }
     ensures well_formed { IsWellFormed (replay K.first session.old.history) }
@@ -127,7 +151,7 @@ fn first_tables<'s, K: Run>(session: &'s Session<'_, K>) -> &'s Tables
 
 /// What the record of a key holds in the committed tables, which are well-formed.
 fn words_of<K: Run>(session: &mut Session<'_, K>, key: RecordKey) -> Option<Payload>
-    requires { IsRecordKey K.first.scale key }
+    requires { IsNarrowKey K.first.scale key }
     ensures same { session.new ≡ session.old }
     ensures words { result ≡ row_at (replay K.first session.old.history) key }
     ensures well_formed { IsWellFormed (replay K.first session.old.history) }

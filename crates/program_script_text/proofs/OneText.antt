@@ -8,7 +8,7 @@ use Rattle.tables.specs.declared.input.Input.TheVariants.{Payment, NewOrder, Del
 use Rattle.program_script_text.specs.declared.request.Request.{Request}
 use Rattle.program_script_text.specs.declared.request.Request.TheVariants.{Transaction, Show}
 use Rattle.program_script_text.specs.declared.request.ShowKey.{ShowKey}
-use Rattle.program_script_text.specs.declared.request.ShowKey.TheVariants.{Warehouse, District, Customer, Stock, Order}
+use Rattle.program_script_text.specs.declared.request.ShowKey.TheVariants.{Warehouse, District, Customer, CustomerData, Stock, Order}
 use Rattle.program_script_text.specs.Amount.{numeral, unsigned_amount_text, amount_text}
 use Rattle.program_script_text.specs.Words.{words}
 use Rattle.tables.specs.Sizes.{Sizes}
@@ -17,7 +17,7 @@ use Rattle.program_script_text.proofs.Numerals.{numeral_of_some, numeral_zero, z
 use Rattle.program_script_text.proofs.Amounts.{units_of, cents_of, no_sign}
 use Rattle.program_script_text.proofs.LastNames.{who_at}
 use Rattle.program_script_text.proofs.OrderLines.{number_at, same_lines}
-use Rattle.program_script_text.proofs.RequestLemmas.{byte_of, kind_of, no_input, words_request}
+use Rattle.program_script_text.proofs.RequestLemmas.{kind_of, no_input, words_request}
 
 digits_of_glyphs : (xs : List ℕ) → map (λ c. c - 48) (map (λ d. 48 + d) xs) ≡ xs
 digits_of_glyphs [] = refl
@@ -107,6 +107,11 @@ same_key (Customer k) (Customer l) h i e =
     let same_d = number_at 2 _ _ k.district l.district refl refl e h.1 i.1 in
     let same_c = number_at 3 _ _ k.customer l.customer refl refl e h.2 i.2 in
     λ j. Customer (record { warehouse = same_w j; district = same_d j; customer = same_c j })
+same_key (CustomerData k) (CustomerData l) h i e =
+    let same_w = number_at 1 _ _ k.warehouse l.warehouse refl refl e h.0 i.0 in
+    let same_d = number_at 2 _ _ k.district l.district refl refl e h.1 i.1 in
+    let same_c = number_at 3 _ _ k.customer l.customer refl refl e h.2 i.2 in
+    λ j. CustomerData (record { warehouse = same_w j; district = same_d j; customer = same_c j })
 same_key (Stock k) (Stock l) h i e =
     let same_w = number_at 1 _ _ k.warehouse l.warehouse refl refl e h.0 i.0 in
     let same_i = number_at 2 _ _ k.item l.item refl refl e h.1 i.1 in
@@ -116,7 +121,7 @@ same_key (Order k) (Order l) h i e =
     let same_d = number_at 2 _ _ k.district l.district refl refl e h.1 i.1 in
     let same_o = number_at 3 _ _ k.order l.order refl refl e h.2 i.2 in
     λ j. Order (record { warehouse = same_w j; district = same_d j; order = same_o j })
-same_key a b h i e = absurd (let tables : ◌≡◌ {A = ℕ} (byte_of (key_words a) 0 0) (byte_of (key_words b) 0 0) = ap (λ ws. byte_of ws 0 0) e in omega arith)
+same_key a b h i e = absurd (let tables : ◌≡◌ {A = ℕ} (kind_of (key_words a)) (kind_of (key_words b)) = ap kind_of e in omega arith)
 
 same_words : (date : ℕ) (a b : Request) → IsRequestAt date a → IsRequestAt date b → request_words a ≡ request_words b → a ≡ b
 same_words date (Transaction x) (Transaction y) h i e = ap Transaction (same_input date x y h i e)

@@ -15,7 +15,7 @@ use Rattle.tables.specs.declared.new_order.RequestedLine.{RequestedLine}
 use Rattle.program_script_text.specs.declared.request.Request.{Request}
 use Rattle.program_script_text.specs.declared.request.Request.TheVariants.{Transaction, Show}
 use Rattle.program_script_text.specs.declared.request.ShowKey.{ShowKey}
-use Rattle.program_script_text.specs.declared.request.ShowKey.TheVariants.{Warehouse, District, Customer, Stock, Order}
+use Rattle.program_script_text.specs.declared.request.ShowKey.TheVariants.{Warehouse, District, Customer, CustomerData, Stock, Order}
 use Rattle.program_script_text.specs.Amount.{amount_text}
 use Rattle.program_script_text.specs.LastNames.{who_word, HasWho}
 use Rattle.program_script_text.specs.Words.{words}
@@ -47,6 +47,13 @@ pub no_customer : (ws : List (List ℕ)) → ((w d c : ℕ) → w < 2 ^ 32 → d
 no_customer ws none (Customer k) h e = none k.warehouse k.district k.customer h.0 h.1 h.2 (ap (drop 1) e)
 no_customer ws none other h e = let f : ◌≡◌ {A = ℕ} 99 (byte_of (key_words other) 0 0) = ap (λ ws. byte_of ws 0 0) e in omega arith
 
+-- the same of C_DATA's
+pub no_data : (ws : List (List ℕ)) → ((w d c : ℕ) → w < 2 ^ 32 → d < 2 ^ 32 → c < 2 ^ 32 → ws ≢ decimal w ∷ decimal d ∷ decimal c ∷ [])
+    → (key : ShowKey) → HasKeyNumbers key
+    → codes "data" ∷ ws ≢ key_words key
+no_data ws none (CustomerData k) h e = none k.warehouse k.district k.customer h.0 h.1 h.2 (ap (drop 1) e)
+no_data ws none other h e = let f : ◌≡◌ {A = ℕ} (256 * 97 + 100) (kind_of (key_words other)) = ap kind_of e in omega arith
+
 -- the same of an order's
 pub no_order : (ws : List (List ℕ)) → ((w d o : ℕ) → w < 2 ^ 32 → d < 2 ^ 32 → o < 2 ^ 32 → ws ≢ decimal w ∷ decimal d ∷ decimal o ∷ [])
     → (key : ShowKey) → HasKeyNumbers key
@@ -56,13 +63,14 @@ no_order ws none other h e = let f : ◌≡◌ {A = ℕ} 111 (byte_of (key_words
 
 -- a table that none of the keys is of
 pub no_table : (ws : List (List ℕ)) → get_or ws 0 [] ≢ codes "warehouse" → get_or ws 0 [] ≢ codes "district" → get_or ws 0 [] ≢ codes "customer"
-    → get_or ws 0 [] ≢ codes "stock"
+    → get_or ws 0 [] ≢ codes "data" → get_or ws 0 [] ≢ codes "stock"
     → get_or ws 0 [] ≢ codes "order" → (key : ShowKey) → ws ≢ key_words key
-no_table ws no_w no_d no_c no_s no_o (Warehouse w) e = no_w (ap (λ l. get_or l 0 []) e)
-no_table ws no_w no_d no_c no_s no_o (District k) e = no_d (ap (λ l. get_or l 0 []) e)
-no_table ws no_w no_d no_c no_s no_o (Customer k) e = no_c (ap (λ l. get_or l 0 []) e)
-no_table ws no_w no_d no_c no_s no_o (Stock k) e = no_s (ap (λ l. get_or l 0 []) e)
-no_table ws no_w no_d no_c no_s no_o (Order k) e = no_o (ap (λ l. get_or l 0 []) e)
+no_table ws no_w no_d no_c no_t no_s no_o (Warehouse w) e = no_w (ap (λ l. get_or l 0 []) e)
+no_table ws no_w no_d no_c no_t no_s no_o (District k) e = no_d (ap (λ l. get_or l 0 []) e)
+no_table ws no_w no_d no_c no_t no_s no_o (Customer k) e = no_c (ap (λ l. get_or l 0 []) e)
+no_table ws no_w no_d no_c no_t no_s no_o (CustomerData k) e = no_t (ap (λ l. get_or l 0 []) e)
+no_table ws no_w no_d no_c no_t no_s no_o (Stock k) e = no_s (ap (λ l. get_or l 0 []) e)
+no_table ws no_w no_d no_c no_t no_s no_o (Order k) e = no_o (ap (λ l. get_or l 0 []) e)
 
 -- a verb that none of the requests has
 pub no_verb : (date : ℕ) (ws : List (List ℕ)) → get_or ws 0 [] ≢ codes "payment" → get_or ws 0 [] ≢ codes "neworder"
@@ -145,6 +153,8 @@ key_no_space (Warehouse w) = (letters (codes "warehouse") refl, (decimal_no_spac
 key_no_space (District k) = (letters (codes "district") refl, (decimal_no_space k.warehouse, (decimal_no_space k.district, tt)))
 key_no_space (Customer k) =
     (letters (codes "customer") refl, (decimal_no_space k.warehouse, (decimal_no_space k.district, (decimal_no_space k.customer, tt))))
+key_no_space (CustomerData k) =
+    (letters (codes "data") refl, (decimal_no_space k.warehouse, (decimal_no_space k.district, (decimal_no_space k.customer, tt))))
 key_no_space (Stock k) = (letters (codes "stock") refl, (decimal_no_space k.warehouse, (decimal_no_space k.item, tt)))
 key_no_space (Order k) = (letters (codes "order") refl, (decimal_no_space k.warehouse, (decimal_no_space k.district, (decimal_no_space k.order, tt))))
 

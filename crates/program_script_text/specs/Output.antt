@@ -1,5 +1,5 @@
 -- The text of an answer.
-use Rattle.std.specs.Prelude.{ℕ, cond, Option, Some, None, List, [], ◌∷◌, ◌++◌, map, codes}
+use Rattle.std.specs.Prelude.{ℕ, cond, Option, Some, None, List, [], ◌∷◌, ◌++◌, length, map, codes}
 use Rattle.std.specs.Fmt.{decimal}
 use Rattle.std.specs.List.{join_with_byte, flat_map}
 use Rattle.money.specs.Money.{money_text}
@@ -158,6 +158,8 @@ row_words (shown.District key row) =
     codes "district" ∷ decimal key.warehouse ∷ decimal key.district
     ∷ codes "ytd" ∷ money_text row.year_to_date ∷ codes "next" ∷ decimal row.next_order ∷ []
 row_words (shown.Customer key row) = shown_customer_words key row
+row_words (shown.CustomerData key text) =
+    codes "data" ∷ decimal key.warehouse ∷ decimal key.district ∷ decimal key.customer ∷ decimal (length text) ∷ text ∷ []
 row_words (shown.Stock key row) = shown_stock_words key row
 row_words (shown.Order key row) = shown_order_words key row
 

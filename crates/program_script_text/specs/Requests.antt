@@ -14,7 +14,7 @@ use Rattle.tables.specs.declared.new_order.RequestedLine.{RequestedLine}
 use Rattle.program_script_text.specs.declared.request.Request.{Request}
 use Rattle.program_script_text.specs.declared.request.Request.TheVariants.{Transaction, Show}
 use Rattle.program_script_text.specs.declared.request.ShowKey.{ShowKey}
-use Rattle.program_script_text.specs.declared.request.ShowKey.TheVariants.{Warehouse, District, Customer, Stock, Order}
+use Rattle.program_script_text.specs.declared.request.ShowKey.TheVariants.{Warehouse, District, Customer, CustomerData, Stock, Order}
 use Rattle.program_script_text.specs.Amount.{amount_text}
 use Rattle.program_script_text.specs.LastNames.{who_word, HasWho}
 
@@ -39,6 +39,7 @@ abbrev pub key_words : ShowKey → List (List ℕ)
 key_words (Warehouse w) = codes "warehouse" ∷ decimal w ∷ []
 key_words (District k) = codes "district" ∷ decimal k.warehouse ∷ decimal k.district ∷ []
 key_words (Customer k) = codes "customer" ∷ decimal k.warehouse ∷ decimal k.district ∷ decimal k.customer ∷ []
+key_words (CustomerData k) = codes "data" ∷ decimal k.warehouse ∷ decimal k.district ∷ decimal k.customer ∷ []
 key_words (Stock k) = codes "stock" ∷ decimal k.warehouse ∷ decimal k.item ∷ []
 key_words (Order k) = codes "order" ∷ decimal k.warehouse ∷ decimal k.district ∷ decimal k.order ∷ []
 
@@ -74,6 +75,7 @@ abbrev pub HasKeyNumbers : ShowKey → Type 0
 HasKeyNumbers (Warehouse w) = w < 2 ^ 32
 HasKeyNumbers (District k) = (k.warehouse < 2 ^ 32) × (k.district < 2 ^ 32)
 HasKeyNumbers (Customer k) = (k.warehouse < 2 ^ 32) × (k.district < 2 ^ 32) × (k.customer < 2 ^ 32)
+HasKeyNumbers (CustomerData k) = (k.warehouse < 2 ^ 32) × (k.district < 2 ^ 32) × (k.customer < 2 ^ 32)
 HasKeyNumbers (Stock k) = (k.warehouse < 2 ^ 32) × (k.item < 2 ^ 32)
 HasKeyNumbers (Order k) = (k.warehouse < 2 ^ 32) × (k.district < 2 ^ 32) × (k.order < 2 ^ 32)
 
@@ -104,6 +106,7 @@ abbrev pub IsShowKey : Sizes → ShowKey → Type 0
 IsShowKey s (Warehouse w) = IsWarehouseKey s w
 IsShowKey s (District k) = IsDistrictKey s k
 IsShowKey s (Customer k) = IsCustomerKey s k
+IsShowKey s (CustomerData k) = IsCustomerKey s k
 IsShowKey s (Stock k) = IsStockKey s k
 IsShowKey s (Order k) = IsOrderKey s k
 

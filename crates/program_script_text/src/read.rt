@@ -162,6 +162,7 @@ fn read_show(text: &[u8]) -> Result<ShowKey, Refusal>
         b"warehouse" => show_warehouse(key),
         b"district" => show_district(key),
         b"customer" => show_customer(key),
+        b"data" => show_data(key),
         b"stock" => show_stock(key),
         b"order" => show_order(key),
         _ => Err(Refusal::BadLine),
@@ -193,6 +194,19 @@ fn show_customer(key: &[u8]) -> Result<ShowKey, Refusal>
     let (district, key) = take_number(key)?;
     let customer = last_number(key)?;
     Ok(ShowKey::Customer(CustomerKey {
+        warehouse,
+        district,
+        customer,
+    }))
+}
+
+fn show_data(key: &[u8]) -> Result<ShowKey, Refusal>
+    ensures { AnswersKey (codes "data" ∷ words key.now) result }
+{
+    let (warehouse, key) = take_number(key)?;
+    let (district, key) = take_number(key)?;
+    let customer = last_number(key)?;
+    Ok(ShowKey::CustomerData(CustomerKey {
         warehouse,
         district,
         customer,

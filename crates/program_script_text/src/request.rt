@@ -22,6 +22,8 @@ pub enum ShowKey {
     District(DistrictKey),
     /// A row of CUSTOMER: `show customer W D C`.
     Customer(CustomerKey),
+    /// C_DATA of a customer: `show data W D C`.
+    CustomerData(CustomerKey),
     /// A row of STOCK: `show stock W I`.
     Stock(StockKey),
     /// A row of ORDER: `show order W D O`.
@@ -42,7 +44,7 @@ impl ShowKey {
                 is_between(1, scale.warehouses(), key.warehouse)
                     && is_between(1, scale.districts(), key.district)
             }
-            ShowKey::Customer(key) => {
+            ShowKey::Customer(key) | ShowKey::CustomerData(key) => {
                 is_between(1, scale.warehouses(), key.warehouse)
                     && is_between(1, scale.districts(), key.district)
                     && is_between(1, scale.customers(), key.customer)

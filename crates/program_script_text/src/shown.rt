@@ -1,25 +1,46 @@
 //! The rows that a script shows, each as a line.
 ghost use Rattle.std.specs.Prelude.{◌≡◌, codes};
 
+use customer_data::CustomerData;
 use std::fmt::{self, Display};
 use tables::{
     Customer, CustomerKey, District, DistrictKey, Order, OrderKey, Stock, StockKey, Warehouse,
 };
 
 /// A row with its key, as it is shown.
-#[derive(Clone, Copy, Debug, PartialEq, Eq)]
+#[derive(Debug, Drop)]
 pub enum ShownRow {
     /// A row of WAREHOUSE, as `warehouse 1 ytd 212.34`.
-    Warehouse { warehouse: u32, row: Warehouse },
+    Warehouse {
+        warehouse: u32,
+        row: Warehouse,
+    },
     /// A row of DISTRICT, as `district 1 1 ytd 112.34 next 11`.
-    District { key: DistrictKey, row: District },
+    District {
+        key: DistrictKey,
+        row: District,
+    },
     /// A row of CUSTOMER, as `customer 1 1 3 balance -22.34 paid 22.34 payments 2 deliveries 0`.
-    Customer { key: CustomerKey, row: Customer },
+    Customer {
+        key: CustomerKey,
+        row: Customer,
+    },
+    /// C_DATA of a customer, with its length, as `data 1 1 10 300 xxx`, and so on.
+    CustomerData {
+        key: CustomerKey,
+        text: CustomerData,
+    },
     /// A row of STOCK, as `stock 1 2 quantity 100 ytd 41 orders 5 remote 0`.
-    Stock { key: StockKey, row: Stock },
+    Stock {
+        key: StockKey,
+        row: Stock,
+    },
     /// A row of ORDER, as `order 1 1 7 customer 7 carrier 1 lines 5 local 1`, with `-` for the carrier of an order that
     /// isn't delivered; or that there is no such order, as `order 1 1 12 none`.
-    Order { key: OrderKey, row: Option<Order> },
+    Order {
+        key: OrderKey,
+        row: Option<Order>,
+    },
 }
 
 impl Display for ShownRow {
@@ -30,7 +51,7 @@ impl Display for ShownRow {
     ghost output = { λ shown. Some (join_with_byte 32 (row_words shown)) };
 
     fn fmt<W: fmt::Write>(&self, f: &mut fmt::Formatter<W>) -> fmt::Result {
-        match *self {
+        match self {
             ShownRow::Warehouse { warehouse, row } => {
                 let year_to_date = row.year_to_date;
                 write!(f, "warehouse {warehouse} ytd {year_to_date}")
@@ -40,9 +61,30 @@ impl Display for ShownRow {
                 "district {} {} ytd {} next {}",
                 key.warehouse, key.district, row.year_to_date, row.next_order
             ),
-            ShownRow::Customer { key, row } => CustomerLine { key, row }.fmt(f),
-            ShownRow::Stock { key, row } => StockLine { key, row }.fmt(f),
-            ShownRow::Order { key, row } => OrderLine { key, row }.fmt(f),
+            ShownRow::Customer { key, row } => CustomerLine {
+                key: *key,
+                row: *row,
+            }
+            .fmt(f),
+            ShownRow::CustomerData { key, text } => write!(
+                f,
+                "data {} {} {} {} {}",
+                key.warehouse,
+                key.district,
+                key.customer,
+                text.len(),
+                text
+            ),
+            ShownRow::Stock { key, row } => StockLine {
+                key: *key,
+                row: *row,
+            }
+            .fmt(f),
+            ShownRow::Order { key, row } => OrderLine {
+                key: *key,
+                row: *row,
+            }
+            .fmt(f),
         }
     }
 }

@@ -1,3 +1,4 @@
+pub mod CellsOf
 pub mod Numbers
 pub mod HoldsChanges
 pub mod MoreReads

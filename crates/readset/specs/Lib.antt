@@ -3,6 +3,7 @@ pub mod Arrivals
 pub mod Arrived
 pub mod Beside
 pub mod Listed
+pub mod Cells
 pub mod Reads
 pub mod Writes
 pub mod Commit

@@ -4,7 +4,7 @@
 ghost use Rattle.std.specs.Prelude.{◌≡◌, ◌≢◌, ℕ, Some, IsSome, Err, OnOk, OnErr, IfOk, IfErr};
 ghost use Rattle.std.specs.Option.{ForSome, option_map};
 ghost use Rattle.money.specs.declared.refusal.Refusal.TheVariants.{OutOfMemory, Stale};
-ghost use Rattle.tables.specs.Records.{IsRecordKey, number_of_key};
+ghost use Rattle.tables.specs.Records.{IsNarrowKey, number_of_key};
 ghost use Rattle.readset.specs.Reads.{held, IsReadAs};
 ghost use Rattle.readset.specs.Writes.{puts};
 ghost use Rattle.readset.specs.Transaction.{ReadsMore, GoesOn, Finds};
@@ -26,7 +26,7 @@ pub fn read_row<T: Row, R: Wait, K: Start>(
     transaction: &mut Transaction<'_, K>,
     key: T::Key,
 ) -> Result<Option<T>, Refusal>
-    requires { IsRecordKey K.tables.scale (T.record_of key) }
+    requires { IsNarrowKey K.tables.scale (T.record_of key) }
     ensures row { Finds K.tables transaction.new result (λ row t. T.at t key ≡ row) }
     ensures range { IfOk result (λ row. ForSome row (T.are K.tables.scale)) }
     ensures version { IfOk result (λ row. IsReadAs transaction.new.reads
@@ -59,7 +59,7 @@ pub fn read_present<T: Present, R: Wait, K: Start>(
     transaction: &mut Transaction<'_, K>,
     key: T::Key,
 ) -> Result<T, Refusal>
-    requires { IsRecordKey K.tables.scale (T.record_of key) }
+    requires { IsNarrowKey K.tables.scale (T.record_of key) }
     ensures row { Finds K.tables transaction.new result (λ row t. T.at t key ≡ Some row) }
     ensures range { IfOk result (T.are K.tables.scale) }
     ensures version { IfOk result (λ row. IsReadAs transaction.new.reads
@@ -90,7 +90,7 @@ pub fn put_row<T: Row, K: Start>(
     key: T::Key,
     row: &T,
 ) -> Result<(), Refusal>
-    requires key { IsRecordKey K.tables.scale (T.record_of key) }
+    requires key { IsNarrowKey K.tables.scale (T.record_of key) }
     requires read { IsSome (held transaction.old.reads (number_of_key K.tables.scale (T.record_of key))) }
     ensures reads { transaction.new.reads ≡ transaction.old.reads }
     ensures puts { OnOk result (transaction.new.writes

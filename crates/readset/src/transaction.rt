@@ -2,7 +2,7 @@
 ghost use Rattle.std.specs.Prelude.{◌≡◌, ◌≢◌, ◌≤◌, ℕ, [], Some, Ok, IsSome, length, OnOk, OnErr, IfOk, IfErr};
 ghost use Rattle.money.specs.declared.refusal.Refusal.TheVariants.{OutOfMemory};
 ghost use Rattle.tables.specs.Database.{Database};
-ghost use Rattle.tables.specs.Records.{IsRecordKey, number_of_key, record_count};
+ghost use Rattle.tables.specs.Records.{IsNarrowKey, number_of_key, narrow_count};
 ghost use Rattle.tables.specs.Rows.{row_at};
 ghost use Rattle.population.specs.Initial.{initial};
 ghost use Rattle.cells.specs.Records.{ReaderView};
@@ -62,7 +62,7 @@ pub struct Transaction<'a, K: Start> {
 
 impl<'a, K: Start> Model for Transaction<'a, K> {
     ghost use Rattle.std.specs.Prelude.{◌≡◌, length};
-    ghost use Rattle.tables.specs.Records.{record_count};
+    ghost use Rattle.tables.specs.Records.{narrow_count};
     ghost use Rattle.population.specs.Initial.{initial};
     ghost use Rattle.readset.specs.Transaction.{TransactionView, IsUnderWay};
 
@@ -71,7 +71,7 @@ impl<'a, K: Start> Model for Transaction<'a, K> {
     ghost view = { λ x. record { reads = x.reads; writes = x.writes } };
 
     ghost invariant = { λ x. (initial x.population.now ≡ K.tables) × (x.cells.now ≡ K.reader.cells)
-        × (length x.cells.now.narrow ≡ record_count K.tables.scale)
+        × (length x.cells.now.narrow ≡ narrow_count K.tables.scale)
         × IsUnderWay K.reader x.reader (record { reads = x.reads; writes = x.writes }) };
 }
 
@@ -86,7 +86,7 @@ impl<'a, K: Start> Transaction<'a, K> {
         requires tables { initial population.now ≡ K.tables }
         requires reader { reader ≡ K.reader }
         requires own { reader.cells ≡ cells.now }
-        requires cells { length cells.now.narrow ≡ record_count K.tables.scale }
+        requires cells { length cells.now.narrow ≡ narrow_count K.tables.scale }
         ensures { result ≡ record { reads = []; writes = no_writes } }
     {
         Transaction {
@@ -134,7 +134,7 @@ impl<'a, K: Start> Transaction<'a, K> {
     ///
     /// `OutOfMemory`, and no other: nothing is read then. It isn't given of a record that was read before.
     pub fn read<R: Wait>(&mut self, rt: &R, key: RecordKey) -> Result<Option<Payload>, Refusal>
-        requires { IsRecordKey K.tables.scale key }
+        requires { IsNarrowKey K.tables.scale key }
         ensures words { Finds K.tables self.new result (λ words t. row_at t key ≡ words) }
         ensures holds { OnOk result (IsSome (held self.new.reads (number_of_key K.tables.scale key))) }
         ensures version { IfOk result (IsReadAs self.new.reads (number_of_key K.tables.scale key)) }
@@ -158,7 +158,7 @@ impl<'a, K: Start> Transaction<'a, K> {
     ///
     /// `OutOfMemory`, and no other. What was said is then as before.
     pub fn put(&mut self, key: RecordKey, value: Option<Payload>) -> Result<(), Refusal>
-        requires key { IsRecordKey K.tables.scale key }
+        requires key { IsNarrowKey K.tables.scale key }
         requires read { IsSome (held self.old.reads (number_of_key K.tables.scale key)) }
         ensures reads { self.new.reads ≡ self.old.reads }
         ensures puts { OnOk result (self.new.writes

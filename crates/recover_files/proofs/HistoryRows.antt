@@ -46,6 +46,7 @@ none_beside table.Item o h = refl
 none_beside table.Stock o h = refl
 none_beside table.Oldest o h = refl
 none_beside table.Last o h = refl
+none_beside table.CustomerData o h = refl
 
 -- and each of these adds one at most
 one_at_most : (t : Table) (o : Option (List ℕ)) → rows_in t o ≡ option_to_list (slice_get (rows_in t o) 0)
@@ -61,6 +62,7 @@ one_at_most table.Item o = refl
 one_at_most table.Stock o = refl
 one_at_most table.Oldest o = refl
 one_at_most table.Last o = refl
+one_at_most table.CustomerData o = refl
 
 -- HISTORY has the one place 0
 at_place_0 : (s : Sizes) (t : Table) (p : ℕ) → (table_number t == 4) ≡ true → nat_lt p (places s t) ≡ true → p ≡ 0
@@ -75,6 +77,7 @@ at_place_0 s table.Item p h less = absurd (Rattle.std.proofs.Common.true≢false
 at_place_0 s table.Stock p h less = absurd (Rattle.std.proofs.Common.true≢false (sym h))
 at_place_0 s table.Oldest p h less = absurd (Rattle.std.proofs.Common.true≢false (sym h))
 at_place_0 s table.Last p h less = absurd (Rattle.std.proofs.Common.true≢false (sym h))
+at_place_0 s table.CustomerData p h less = absurd (Rattle.std.proofs.Common.true≢false (sym h))
 
 module _ (s : Sizes) where
   -- the rank of a write of HISTORY

@@ -1,5 +1,5 @@
 -- A lawful write is of a record of the scale, and leaves there what the record may hold.
-use Rattle.std.proofs.Common.{◌≡◌, ℕ, ◌<◌, true, false, ◌&&◌, not, true≢false, List, Option, Some, None, refl, sym, ap, ◌∙◌, subst, not-suc-le-zero}
+use Rattle.std.proofs.Common.{◌≡◌, ℕ, ◌<◌, true, false, ◌&&◌, not, true≢false, List, Option, Some, None, refl, sym, ap, ◌∙◌, subst, not-suc-le-zero, arith}
 use Rattle.std.specs.Prelude.{◌==◌, nat_lt, nat_le}
 use Rattle.std.specs.List.{Contains, list_all, count_by}
 use Rattle.std.proofs.lemmas.Bool.{ltb-true}
@@ -7,7 +7,7 @@ use Rattle.std.proofs.lemmas.List.Elements.{All-contains}
 use Rattle.std.proofs.lemmas.List.Sums.{AllPass-from_list_all}
 use Rattle.std.proofs.lemmas.Option.{none-some}
 use Rattle.tables.specs.Sizes.{Sizes}
-use Rattle.tables.specs.Records.{size, table_number, table_of, place_of, record_number, record_count, key_at, key_of, order_at, IsRecordKey}
+use Rattle.tables.specs.Records.{size, table_number, table_of, place_of, record_number, record_count, narrow_count, key_at, key_of, order_at, IsRecordKey}
 use Rattle.tables.specs.Rows.{new_order_words}
 use Rattle.tables.specs.declared.keys.OrderKey.{OrderKey}
 use Rattle.tables.specs.declared.records.Table.{Table}
@@ -47,6 +47,22 @@ in_size s table.Item p h other = h
 in_size s table.Stock p h other = h
 in_size s table.Oldest p h other = h
 in_size s table.Last p h other = h
+in_size s table.CustomerData p h other = absurd (not-suc-le-zero h)
+
+-- and they are narrow
+in_narrow : (s : Sizes) (t : Table) (p : ℕ) → p < places s t → (table_number t == 4) ≡ false → record_number s t p < narrow_count s
+in_narrow s table.Warehouse p h other = omega (arith, h)
+in_narrow s table.District p h other = omega (arith, h)
+in_narrow s table.Customer p h other = omega (arith, h)
+in_narrow s table.History p h other = absurd (true≢false other)
+in_narrow s table.NewOrder p h other = omega (arith, h)
+in_narrow s table.Order p h other = omega (arith, h)
+in_narrow s table.OrderLine p h other = omega (arith, h)
+in_narrow s table.Item p h other = absurd (not-suc-le-zero h)
+in_narrow s table.Stock p h other = omega (arith, h)
+in_narrow s table.Oldest p h other = omega (arith, h)
+in_narrow s table.Last p h other = omega (arith, h)
+in_narrow s table.CustomerData p h other = absurd (not-suc-le-zero h)
 
 module _ (s : Sizes) where
   -- a key has its place, and that place has the key
@@ -60,6 +76,7 @@ module _ (s : Sizes) where
   key_there (key.Stock k) h = let c = stock_there s k h in (c.0, ap key.Stock c.1)
   key_there (key.Oldest k) h = let c = district_there s k h in (c.0, ap key.Oldest c.1)
   key_there (key.Last k) h = let c = customer_there s k h in (c.0, ap key.Last c.1)
+  key_there (key.CustomerData k) h = let c = customer_there s k h in (c.0, ap key.CustomerData c.1)
 
   -- the number of a place is below the count of records, and its key is the place's
   number_below : (t : Table) (p : ℕ) → p < size s t → record_number s t p < record_count s
@@ -93,6 +110,7 @@ module _ (s : Sizes) where
   place_may_hold table.Stock p (Some words) h e = stock_row s words e
   place_may_hold table.Oldest p value h e = tt
   place_may_hold table.Last p value h e = tt
+  place_may_hold table.CustomerData p value h e = tt
 
   -- only a row of NEW-ORDER is taken out
   none_is_new_order : (t : Table) (p : ℕ) → is_value s t None ≡ true → (k : OrderKey) × (key_at s t p ≡ key.NewOrder k)
@@ -107,6 +125,7 @@ module _ (s : Sizes) where
   none_is_new_order table.Stock p e = absurd (true≢false (sym e))
   none_is_new_order table.Oldest p e = absurd (true≢false (sym e))
   none_is_new_order table.Last p e = absurd (true≢false (sym e))
+  none_is_new_order table.CustomerData p e = absurd (true≢false (sym e))
 
   module _ (w : Write) (lawful : is_write s w ≡ true) where
     -- its value is lawful
@@ -118,8 +137,9 @@ module _ (s : Sizes) where
     place_below other = in_size s w.table w.place
         (ltb-true w.place (places s w.table) (and_split (nat_lt w.place (places s w.table)) (is_value s w.table w.words) lawful).0) other
 
-    pub written_below : is_history w ≡ false → number_of s w < record_count s
-    written_below other = number_below w.table w.place (place_below other)
+    pub written_below : is_history w ≡ false → number_of s w < narrow_count s
+    written_below other = in_narrow s w.table w.place
+        (ltb-true w.place (places s w.table) (and_split (nat_lt w.place (places s w.table)) (is_value s w.table w.words) lawful).0) other
 
     pub written_key : is_history w ≡ false → key_of s (number_of s w) ≡ key_at s w.table w.place
     written_key other = number_named w.table w.place (place_below other)
@@ -129,10 +149,10 @@ module _ (s : Sizes) where
 
   module _ (e : EntryView) (lawful : are_writes s e.writes ≡ true) (n : ℕ) where
     -- what an entry leaves in a record is what it may hold
-    pub left_may_hold : (value : Option (List ℕ)) → LeavesInRecord s e n value → (n < record_count s) × MayHold s (key_of s n) value
+    pub left_may_hold : (value : Option (List ℕ)) → LeavesInRecord s e n value → (n < narrow_count s) × MayHold s (key_of s n) value
     left_may_hold value left =
         let is = each_lawful s e.writes lawful left.write left.among in (
-          subst (λ m. m < record_count s) left.number (written_below left.write is left.of_record),
+          subst (λ m. m < narrow_count s) left.number (written_below left.write is left.of_record),
           subst (MayHold s (key_of s n)) left.words
               (subst (λ m. MayHold s (key_of s m) left.write.words) left.number (written_may_hold left.write is left.of_record)),
         )

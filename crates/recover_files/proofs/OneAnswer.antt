@@ -134,7 +134,9 @@ told_by : (t0 t : Database) (values : ℕ → Option (List ℕ)) → AreTables t
     → ((n : ℕ) → n < row_count t0.scale → rows t n ≡ values n) → AreTables t0 (by_key t0.scale values) t
 told_by t0 t values a same = record {
   scale = a.scale;
+  keeps = a.keeps;
   items = a.items;
+  texts = a.texts;
   warehouses = told (λ k. by_key t0.scale values (key.Warehouse k)) (λ k is. here (key.Warehouse k) is tt) a.warehouses;
   districts = told (λ k. by_key t0.scale values (key.District k)) (λ k is. here (key.District k) is tt) a.districts;
   customers = told (λ k. by_key t0.scale values (key.Customer k)) (λ k is. here (key.Customer k) is tt) a.customers;

@@ -57,7 +57,9 @@ other_history : (t0 : Database) (values : RecordKey → Option (List ℕ)) (t : 
     → AreTables t0 values (record t { history = h })
 other_history t0 values t h a = record {
   scale = a.scale;
+  keeps = a.keeps;
   items = a.items;
+  texts = a.texts;
   warehouses = a.warehouses;
   districts = a.districts;
   customers = a.customers;

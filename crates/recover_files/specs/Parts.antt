@@ -2,7 +2,7 @@
 use Rattle.std.specs.Prelude.{◌≡◌, ℕ, ◌==◌, true, Option, Some, None, if◌then◌else◌, List, length, map, flat_map}
 use Rattle.std.specs.Prelude.{slice_get}
 use Rattle.std.specs.List.{All}
-use Rattle.tables.specs.Records.{record_count}
+use Rattle.tables.specs.Records.{narrow_count}
 use Rattle.tables.specs.Sizes.{Sizes}
 use Rattle.tables.specs.declared.rows.History.{History}
 use Rattle.log_text.specs.Bodies.{BodyView}
@@ -38,7 +38,7 @@ commit_of e = record { number = e.number; row = row_added e.writes }
 
 -- a part knows of each record of the scale what these entries say, and has what is kept of each
 pub record IsPart (s : Sizes) (es : List EntryView) (p : Part) : Type 0 where
-  pub records : length p.newest.places ≡ record_count s
+  pub records : length p.newest.places ≡ narrow_count s
   pub known : (n : ℕ) → IsKnown s es n (known_of p.newest n)
   pub commits : p.commits.items ≡ map commit_of es
 

@@ -1,6 +1,6 @@
 //! What a part of the entries of log files says.
 ghost use Rattle.std.specs.Prelude.{◌≡◌, true, [], ◌∷◌, ◌++◌, List, length, map, filter, fold, IfOk, OnOk, ℕ};
-ghost use Rattle.tables.specs.Records.{record_count as count_of_records};
+ghost use Rattle.tables.specs.Records.{narrow_count as count_of_narrow};
 ghost use Rattle.tables.specs.Sizes.{Sizes, IsScale};
 ghost use Rattle.log_text.specs.Bodies.{body_of, entries_in};
 ghost use Rattle.log_text.specs.Entries.{EntryView, logged};
@@ -17,7 +17,7 @@ use recover_found::Keeps;
 use recover_newest::{Latest, Newest};
 use recover_progress::Progress;
 use std::alloc::{AllocError, Global};
-use tables::{Scale, Table, rec, record_count};
+use tables::{Scale, Table, narrow_count, rec};
 
 /// What entries of log files say: of each record what the newest of those that write it has left there, and of each
 /// entry its commit number and its row of HISTORY. Takes 4 bytes for each record of the scale; the rest goes by what
@@ -33,7 +33,7 @@ impl Part {
     pub fn new(alloc: Global, scale: &Scale) -> Result<Part, AllocError>
         ensures { IfOk result (λ part. IsPart scale.now [] part) }
     {
-        let newest = Newest::new(alloc, record_count(scale) as usize)?;
+        let newest = Newest::new(alloc, narrow_count(scale) as usize)?;
         Ok(Part {
             newest,
             commits: Vec::new(alloc),
@@ -71,7 +71,7 @@ impl Part {
     ) -> Result<(), AllocError>
         requires scale { IsScale scale.now }
         requires lawful { HaveLawfulWrites scale.now (entries_in (body_of body)) }
-        requires records { length self.old.newest.places ≡ count_of_records scale.now }
+        requires records { length self.old.newest.places ≡ count_of_narrow scale.now }
         ensures part { OnOk result ((es : List EntryView) → IsPart scale.now es self.old → IsPart scale.now
             (es ++ filter (λ e. counts_by keeps.now (epoch_of e.tid)) (entries_in (body_of body))) self.new) }
         ensures records { length self.new.newest.places ≡ length self.old.newest.places }
@@ -92,7 +92,7 @@ impl Part {
     ) -> Result<(), AllocError>
         requires scale { IsScale scale.now }
         requires lawful { HaveLawfulWrites scale.now (map logged entries.items) }
-        requires records { length self.old.newest.places ≡ count_of_records scale.now }
+        requires records { length self.old.newest.places ≡ count_of_narrow scale.now }
         ensures part { OnOk result ((es : List EntryView) → IsPart scale.now es self.old
             → IsPart scale.now (es ++ filter (λ e. counts_by keeps.now (epoch_of e.tid))
             (map logged entries.items)) self.new) }
@@ -112,7 +112,7 @@ impl Part {
     fn add(&mut self, scale: &Scale, entry: &LoggedEntry) -> Result<(), AllocError>
         requires scale { IsScale scale.now }
         requires lawful { are_writes scale.now entry.now.writes.items ≡ true }
-        requires records { length self.old.newest.places ≡ count_of_records scale.now }
+        requires records { length self.old.newest.places ≡ count_of_narrow scale.now }
         ensures part { OnOk result ((es : List EntryView) → IsPart scale.now es self.old
             → IsPart scale.now (es ++ logged entry.now ∷ []) self.new) }
         ensures records { length self.new.newest.places ≡ length self.old.newest.places }
@@ -154,7 +154,7 @@ fn is_counted(entry: &LoggedEntry, keeps: &Keeps) -> bool
 /// Keeps each write of an entry that is newer than what is known of its record. Rows of HISTORY have no record.
 fn raise_all(newest: &mut Newest, scale: &Scale, entry: &LoggedEntry) -> Result<(), AllocError>
     requires lawful { are_writes scale.now entry.now.writes.items ≡ true }
-    requires records { length newest.old.places ≡ count_of_records scale.now }
+    requires records { length newest.old.places ≡ count_of_narrow scale.now }
     ensures raised { OnOk result ((n : ℕ) → known newest.new n
         ≡ fold (raised_by scale.now entry.now.tid entry.now.number n) (known newest.old n) entry.now.writes.items) }
     ensures records { length newest.new.places ≡ length newest.old.places }

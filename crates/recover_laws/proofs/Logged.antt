@@ -10,7 +10,7 @@ use Rattle.std.proofs.lemmas.Map.Keys.{IsDistinct-from_sorted}
 use Rattle.std.proofs.lemmas.Map.Lookups.{exact_unsigned}
 use Rattle.std.proofs.lemmas.Map.Views.{Contains-from_lookup, lookup-from_Contains, tells_apart}
 use Rattle.tables.specs.Sizes.{Sizes, IsScale}
-use Rattle.tables.specs.Records.{record_number, record_count, table_at, place_at, table_number, first_number}
+use Rattle.tables.specs.Records.{record_number, narrow_count, table_at, place_at, table_number, first_number}
 use Rattle.tables.specs.declared.rows.History.{History}
 use Rattle.tables.specs.declared.records.Table.TheVariants as table
 use Rattle.readset.specs.Writes.{value_for, added}
@@ -60,7 +60,7 @@ module _ (s : Sizes) (scale : IsScale s) (e : Entry) (ok : IsLoggable s e) where
       subst (λ (m : ℕ). value_for e.writes m ≡ Some value) same (here ∙ ap (λ (w : Write). Some w.words) found.2 ∙ ap Some h.words)
 
   -- its record isn't HISTORY's
-  pub no_history : (n : ℕ) → n < record_count s → (table_number (table_at s n) == 4) ≡ false
+  pub no_history : (n : ℕ) → n < narrow_count s → (table_number (table_at s n) == 4) ≡ false
   no_history n h =
       elim (nat_lt n (first_number s table.NewOrder)) as (λ b. nat_lt n (first_number s table.NewOrder) ≡ b → (table_number (table_at s n) == 4) ≡ false) [
         | true ↦ λ e. let low = before_history s n h (ltb-true n (first_number s table.NewOrder) e) in grind (arith, nat_tests)

@@ -34,6 +34,7 @@ no_rows table.Item words h = refl
 no_rows table.Stock words h = refl
 no_rows table.Oldest words h = refl
 no_rows table.Last words h = refl
+no_rows table.CustomerData words h = refl
 
 abbrev rows_of : Write → List History
 rows_of w = rows_in w.table w.words

@@ -1,7 +1,7 @@
 -- What the newest writes make of tables.
 use Rattle.std.specs.Prelude.{◌≡◌, ℕ, ◌<◌, Option, Some, None, List}
 use Rattle.tables.specs.Sizes.{Sizes}
-use Rattle.tables.specs.Records.{record_count, key_of}
+use Rattle.tables.specs.Records.{narrow_count, key_of}
 use Rattle.tables.specs.declared.keys.OrderKey.{OrderKey}
 use Rattle.tables.specs.declared.records.RecordKey.TheVariants as key
 use Rattle.encoding.specs.Puts.{MayHold}
@@ -9,7 +9,7 @@ use Rattle.recover_newest.specs.declared.latest.Latest.{Latest}
 
 -- a value may be put into the record of this number: what it may hold, and nothing only where the row is of NEW-ORDER
 pub record MayPut (s : Sizes) (n : ℕ) (value : Option (List ℕ)) : Type 0 where
-  pub number : n < record_count s
+  pub number : n < narrow_count s
   pub may_hold : MayHold s (key_of s n) value
   pub taken_out : value ≡ None → (k : OrderKey) × (key_of s n ≡ key.NewOrder k)
 

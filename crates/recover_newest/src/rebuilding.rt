@@ -1,7 +1,7 @@
 //! Tables from the newest writes of their records.
 ghost use Rattle.std.specs.Prelude.{◌≡◌, ℕ, Some, IfOk, OnOk, length};
 ghost use Rattle.tables.specs.Database.{Database, database};
-ghost use Rattle.tables.specs.Records.{record_count as count_of_records, key_of as key_of_number};
+ghost use Rattle.tables.specs.Records.{narrow_count as count_of_narrow, key_of as key_of_number};
 ghost use Rattle.tables.specs.Rows.{rows};
 ghost use Rattle.tables.specs.Sizes.{IsScale};
 ghost use Rattle.tables.specs.WellFormed.{IsWellFormed};
@@ -15,7 +15,7 @@ use crate::newest::Newest;
 use encoding::{put, take_out};
 use money::Payload;
 use std::alloc::{AllocError, Global};
-use tables::{RecordKey, Tables, key_of, record_count};
+use tables::{RecordKey, Tables, key_of, narrow_count};
 
 /// A copy of tables. Costs their memory, and a pass over their rows.
 pub fn copied(alloc: Global, tables: &Tables) -> Result<Tables, AllocError>
@@ -28,6 +28,7 @@ pub fn copied(alloc: Global, tables: &Tables) -> Result<Tables, AllocError>
         warehouses: tables.warehouses.clone()?,
         districts: tables.districts.clone()?,
         customers: tables.customers.clone()?,
+        texts: tables.texts.clone()?,
         history,
         new_orders: tables.new_orders.clone()?,
         orders: tables.orders.clone()?,
@@ -42,7 +43,7 @@ pub fn copied(alloc: Global, tables: &Tables) -> Result<Tables, AllocError>
 pub fn put_all(tables: &mut Tables, population: &Tables, newest: &Newest) -> Result<(), AllocError>
     requires population { IsWellFormed (database population.now) }
     requires lawful { IsScale (database population.now).scale }
-    requires records { length newest.now.places ≡ count_of_records (database population.now).scale }
+    requires records { length newest.now.places ≡ count_of_narrow (database population.now).scale }
     requires writes { (n : ℕ) (w : Latest) → known newest.now n ≡ Some w
         → MayPut (database population.now).scale n w.words }
     requires tables { AreTables (database population.now) (by_key (database population.now).scale
@@ -51,7 +52,7 @@ pub fn put_all(tables: &mut Tables, population: &Tables, newest: &Newest) -> Res
         (λ n. left_in (known newest.now n) (rows (database population.now) n))) (database tables.new)) }
     ensures history { OnOk result ((database tables.new).history ≡ (database tables.old).history) }
 {
-    for number in 0..record_count(&population.scale) {
+    for number in 0..narrow_count(&population.scale) {
         if let Some(write) = newest.get(number as usize) {
             put_one(tables, population, number, &write.words)?;
         }

@@ -60,6 +60,7 @@ module _ (s : Sizes) where
   rows_of_value table.Stock value e = All-nil (IsHistoryRow s)
   rows_of_value table.Oldest value e = All-nil (IsHistoryRow s)
   rows_of_value table.Last value e = All-nil (IsHistoryRow s)
+  rows_of_value table.CustomerData value e = All-nil (IsHistoryRow s)
 
   rows_of_write : (w : Write) → is_write s w ≡ true → All (IsHistoryRow s) (rows_in w.table w.words)
   rows_of_write w lawful =
@@ -108,6 +109,7 @@ module _ (t0 t : Database) (es : List EntryView) (wf : IsWellFormed t0) (lawful 
   key_holds (key.Stock k) is = row_holds (key.Stock k) is tt
   key_holds (key.Oldest k) is = tt
   key_holds (key.Last k) is = tt
+  key_holds (key.CustomerData k) is = tt
 
   history_in_ranges : All (IsHistoryRow s) t.history
   history_in_ranges =

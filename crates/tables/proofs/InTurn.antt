@@ -56,6 +56,7 @@ indexed table.Item = (omega arith, refl)
 indexed table.Stock = (omega arith, refl)
 indexed table.Oldest = (omega arith, refl)
 indexed table.Last = (omega arith, refl)
+indexed table.CustomerData = (omega arith, refl)
 
 module _ (s : Sizes) where
   -- the records of those tables that have smaller numbers

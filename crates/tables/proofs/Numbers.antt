@@ -4,7 +4,7 @@ use Rattle.std.proofs.lemmas.Nat.{div-mul-add, mod-mul-add, mul-add-lt, div-add-
 use Rattle.tables.specs.Sizes.{Sizes, IsNumber}
 use Rattle.tables.specs.Keys.{IsWarehouseKey, IsDistrictKey, IsCustomerKey, IsOrderKey, IsLineKey, IsStockKey, order_of}
 use Rattle.tables.specs.Records.{size, first_number, table_number, IsRowKey, record_number, record_count, table_of, place_of, district_place, customer_place}
-use Rattle.tables.specs.Records.{order_place, number_of_key, IsRecordKey, district_at, customer_at, order_at, line_at, stock_at, key_at, table_at, place_at}
+use Rattle.tables.specs.Records.{order_place, number_of_key, narrow_count, IsRecordKey, IsNarrowKey, district_at, customer_at, order_at, line_at, stock_at, key_at, table_at, place_at}
 use Rattle.tables.specs.Records.{key_of, NumbersNameKeys, NumbersNamePlaces}
 use Rattle.tables.specs.declared.limits.TheConstants.{MAX_ORDER_LINES}
 use Rattle.tables.proofs.InTurn.{located, found_among, earlier}
@@ -85,7 +85,7 @@ module _ (s : Sizes) where
       ∙ d.1 in
       (p.below, λ i. record { warehouse = (there i).warehouse; district = (there i).district; customer = p.column i })
 
-  customer_back : (p : ℕ) → p < s.warehouses * s.districts * s.customers → IsCustomerKey s (customer_at s p) × (customer_place s (customer_at s p) ≡ p)
+  pub customer_back : (p : ℕ) → p < s.warehouses * s.districts * s.customers → IsCustomerKey s (customer_at s p) × (customer_place s (customer_at s p) ≡ p)
   customer_back p h =
       let f = filled (s.warehouses * s.districts) s.customers p h in
       let d = district_back (p / s.customers) f.row in
@@ -148,6 +148,7 @@ module _ (s : Sizes) where
   key_there (key.Stock k) h = let c = stock_there s k h in (c.0, ap key.Stock c.1)
   key_there (key.Oldest k) h = let c = district_there s k h in (c.0, ap key.Oldest c.1)
   key_there (key.Last k) h = let c = customer_there s k h in (c.0, ap key.Last c.1)
+  key_there (key.CustomerData k) h = let c = customer_there s k h in (c.0, ap key.CustomerData c.1)
 
   -- a place has its key, and that key has the place
   key_back : (t : Table) (p : ℕ) → p < size s t → IsRecordKey s (key_at s t p) × (table_of (key_at s t p) ≡ t) × (place_of s (key_at s t p) ≡ p)
@@ -162,6 +163,7 @@ module _ (s : Sizes) where
   key_back table.Stock p h = let r = stock_back s p h in (r.0, refl, r.1)
   key_back table.Oldest p h = let r = district_back s p h in (r.0, refl, r.1)
   key_back table.Last p h = let r = customer_back s p h in (r.0, refl, r.1)
+  key_back table.CustomerData p h = let r = customer_back s p h in (r.0, refl, r.1)
 
   -- what a number names
   pub named : (k : RecordKey) → IsRecordKey s k → (number_of_key s k < record_count s) × (key_of s (number_of_key s k) ≡ k)
@@ -179,6 +181,60 @@ module _ (s : Sizes) where
 
   pub one_to_one : NumbersNameKeys s
   one_to_one = (named, numbered)
+
+  -- the narrow records come first
+  pub of_narrow : (k : RecordKey) → IsNarrowKey s k → IsRecordKey s k
+  of_narrow (key.Warehouse w) h = h
+  of_narrow (key.District k) h = h
+  of_narrow (key.Customer k) h = h
+  of_narrow (key.NewOrder k) h = h
+  of_narrow (key.Order k) h = h
+  of_narrow (key.OrderLine k) h = h
+  of_narrow (key.Stock k) h = h
+  of_narrow (key.Oldest k) h = h
+  of_narrow (key.Last k) h = h
+  of_narrow (key.CustomerData k) h = absurd h
+
+  narrow_below : (k : RecordKey) → IsNarrowKey s k → place_of s k < size s (table_of k) → number_of_key s k < narrow_count s
+  narrow_below (key.Warehouse w) h p = omega arith
+  narrow_below (key.District k) h p = omega arith
+  narrow_below (key.Customer k) h p = omega arith
+  narrow_below (key.NewOrder k) h p = omega arith
+  narrow_below (key.Order k) h p = omega arith
+  narrow_below (key.OrderLine k) h p = omega arith
+  narrow_below (key.Stock k) h p = omega arith
+  narrow_below (key.Oldest k) h p = omega arith
+  narrow_below (key.Last k) h p = omega arith
+  narrow_below (key.CustomerData k) h p = absurd h
+
+  pub narrow_named : (k : RecordKey) → IsNarrowKey s k → number_of_key s k < narrow_count s
+  narrow_named k h = narrow_below k h (key_there k (of_narrow k h)).0
+
+  narrow_at_place : (t : Table) (p : ℕ) → table_number t < table_number table.CustomerData → IsRecordKey s (key_at s t p) → IsNarrowKey s (key_at s t p)
+  narrow_at_place table.Warehouse p h is = is
+  narrow_at_place table.District p h is = is
+  narrow_at_place table.Customer p h is = is
+  narrow_at_place table.History p h is = is
+  narrow_at_place table.NewOrder p h is = is
+  narrow_at_place table.Order p h is = is
+  narrow_at_place table.OrderLine p h is = is
+  narrow_at_place table.Item p h is = is
+  narrow_at_place table.Stock p h is = is
+  narrow_at_place table.Oldest p h is = is
+  narrow_at_place table.Last p h is = is
+  narrow_at_place table.CustomerData p h is = absurd (omega (arith, h))
+
+  pub narrow_among : (n : ℕ) → n < narrow_count s → n < record_count s
+  narrow_among n h = omega arith
+
+  pub narrow_numbered : (n : ℕ) → n < narrow_count s → IsNarrowKey s (key_of s n)
+  narrow_numbered n h =
+      let all = narrow_among n h in
+      narrow_at_place (table_at s n) (place_at s n) (earlier s n table.CustomerData all h) (numbered n all).0
+
+  -- the wide records come behind them, in the order of their places
+  pub wide_named : (p : ℕ) → p < size s table.CustomerData → key_of s (narrow_count s + p) ≡ key.CustomerData (customer_at s p)
+  wide_named p h = let l = located s table.CustomerData p h in λ i. key_at s (l.at.table i) (l.at.place i)
 
   apart : (t u : Table) (p q : ℕ) → p < size s t → q < size s u → (record_number s t p < record_count s)
       × (record_number s t p ≡ record_number s u q → (t ≡ u) × (p ≡ q))
@@ -202,6 +258,7 @@ module _ (s : Sizes) where
   row_at_place table.Stock p h = tt
   row_at_place table.Oldest p h = absurd (omega (arith, h))
   row_at_place table.Last p h = absurd (omega (arith, h))
+  row_at_place table.CustomerData p h = absurd (omega (arith, h))
 
   -- the records before those of OLDEST and LAST are rows
   pub row_numbered : (n : ℕ) → n < record_count s → n < first_number s table.Oldest → IsRowKey (key_of s n)

@@ -1,5 +1,5 @@
--- The nine tables as finite maps and a list (TPC-C 1.3).
-use Rattle.std.specs.Prelude.{List, []}
+-- The nine tables as finite maps and a list (TPC-C 1.3), with C_DATA of CUSTOMER in a map of its own.
+use Rattle.std.specs.Prelude.{ℕ, Bool, false, List, []}
 use Rattle.std.specs.Ordering.{nat_cmp}
 use Rattle.std.specs.FinMap.{FinMap, from_entries, empty}
 use Rattle.tables.specs.Sizes.{Sizes}
@@ -17,9 +17,13 @@ use Rattle.tables.specs.declared.rows.Stock.{Stock}
 
 pub record Database : Type 0 where
   pub scale : Sizes
+  -- whether Payments change C_DATA: no transaction changes this
+  pub keeps_texts : Bool
   pub warehouses : FinMap nat_cmp Warehouse
   pub districts : FinMap district_cmp District
   pub customers : FinMap customer_cmp Customer
+  -- C_DATA of each customer
+  pub texts : FinMap customer_cmp (List ℕ)
   pub history : List History
   pub new_orders : FinMap order_cmp NewOrder
   pub orders : FinMap order_cmp Order
@@ -27,13 +31,15 @@ pub record Database : Type 0 where
   pub items : FinMap nat_cmp Item
   pub stock : FinMap stock_cmp Stock
 
--- what `Tables` hold
+-- what `Tables` hold; their C_DATA stays as it is
 abbrev pub database : Tables → Database
 database t = record {
   scale = t.scale;
+  keeps_texts = false;
   warehouses = from_entries t.warehouses.entries;
   districts = from_entries t.districts.entries;
   customers = from_entries t.customers.entries;
+  texts = from_entries t.texts.entries;
   history = t.history.items;
   new_orders = from_entries t.new_orders.entries;
   orders = from_entries t.orders.entries;
@@ -46,9 +52,11 @@ database t = record {
 abbrev pub empty_database : Sizes → Database
 empty_database s = record {
   scale = s;
+  keeps_texts = false;
   warehouses = empty;
   districts = empty;
   customers = empty;
+  texts = empty;
   history = [];
   new_orders = empty;
   orders = empty;

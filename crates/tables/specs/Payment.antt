@@ -1,5 +1,10 @@
 -- Payment (TPC-C 2.5): the ranges of its input, what it does to the tables, and its reply.
-use Rattle.std.specs.Prelude.{ℕ, ℤ, ◌+◌, ◌+ℤ◌, ◌-ℤ◌, ◌≤ℤ◌, ◌==◌, [], ◌∷◌, ◌++◌}
+use Rattle.std.specs.Prelude.{ℕ, ℤ, ◌+◌, ◌+ℤ◌, ◌-ℤ◌, ◌≤ℤ◌, Bool, true, false, ◌==◌, ◌&&◌, [], ◌∷◌, ◌++◌}
+use Rattle.std.specs.Option.{option_map_or}
+use Rattle.std.specs.FinMap.{get}
+use Rattle.customer_data.specs.Text.{put_left}
+use Rattle.customer_data.specs.Payments.{payment_text}
+use Rattle.customer_data.specs.declared.payments.PaymentText.{PaymentText}
 use Rattle.tables.specs.Sizes.{Sizes, IsBetween, IsNumber}
 use Rattle.tables.specs.Keys.{is_district, is_customer}
 use Rattle.tables.specs.Maps.{update_where, column}
@@ -8,6 +13,8 @@ use Rattle.tables.specs.Customer.{IsWho, customer_number}
 use Rattle.tables.specs.declared.limits.TheConstants.{MAX_DATE, MIN_PAYMENT, MAX_PAYMENT}
 use Rattle.tables.specs.declared.keys.CustomerKey.{CustomerKey}
 use Rattle.tables.specs.declared.rows.Warehouse.{Warehouse}
+use Rattle.tables.specs.declared.rows.Credit.{Credit}
+use Rattle.tables.specs.declared.rows.Credit.TheVariants.{Good, Bad}
 use Rattle.tables.specs.declared.rows.District.{District}
 use Rattle.tables.specs.declared.rows.Customer.{Customer}
 use Rattle.tables.specs.declared.rows.History.{History}
@@ -57,6 +64,28 @@ history_row x c = record {
   amount = x.amount;
 }
 
+-- what it puts at the left of C_DATA where customer c pays
+abbrev pub front_of : PaymentInput → ℕ → PaymentText
+front_of x c = record {
+  customer = c;
+  customer_district = x.customer_district;
+  customer_warehouse = x.customer_warehouse;
+  district = x.district;
+  warehouse = x.warehouse;
+  amount = x.amount;
+}
+
+abbrev pub is_bad : Credit → Bool
+is_bad Good = false
+is_bad Bad = true
+
+abbrev pub has_bad_credit : Database → CustomerKey → Bool
+has_bad_credit t k = option_map_or (λ r. is_bad r.credit) (get t.customers k) false
+
+-- whether C_DATA of a customer changes where customer c pays: that one's does, if its credit is bad
+abbrev pub changes_text : Database → PaymentInput → ℕ → CustomerKey → Bool
+changes_text t x c k = t.keeps_texts && (is_customer x.customer_warehouse x.customer_district c k && has_bad_credit t k)
+
 -- the tables after it (TPC-C 2.5.2.2), where customer c pays
 abbrev pub after_payment_of : Database → PaymentInput → ℕ → Database
 after_payment_of t x c = record t {
@@ -64,6 +93,7 @@ after_payment_of t x c = record t {
   districts = update_where (is_district x.warehouse x.district) (raised_district x.amount) t.districts;
   customers = update_where (is_customer x.customer_warehouse x.customer_district c) (charged_customer x.amount)
       t.customers;
+  texts = update_where (changes_text t x c) (put_left (payment_text (front_of x c))) t.texts;
   history = t.history ++ history_row x c ∷ [];
 }
 

@@ -16,7 +16,7 @@ use Rattle.tables.specs.declared.records.RecordKey.TheVariants as key
 
 abbrev pub tables : List Table
 tables = table.Warehouse ∷ table.District ∷ table.Customer ∷ table.History ∷ table.NewOrder ∷ table.Order
-    ∷ table.OrderLine ∷ table.Item ∷ table.Stock ∷ table.Oldest ∷ table.Last ∷ []
+    ∷ table.OrderLine ∷ table.Item ∷ table.Stock ∷ table.Oldest ∷ table.Last ∷ table.CustomerData ∷ []
 
 abbrev pub table_number : Table → ℕ
 table_number table.Warehouse = 1
@@ -30,6 +30,7 @@ table_number table.Item = 8
 table_number table.Stock = 9
 table_number table.Oldest = 10
 table_number table.Last = 11
+table_number table.CustomerData = 12
 
 -- the table of a number, if it is one's
 abbrev pub table_numbered : ℕ → Option Table
@@ -48,6 +49,7 @@ size s table.Item = 0
 size s table.Stock = s.warehouses * s.items
 size s table.Oldest = s.warehouses * s.districts
 size s table.Last = s.warehouses * s.districts * s.customers
+size s table.CustomerData = s.warehouses * s.districts * s.customers
 
 -- the number of a table's first record: the sum of the sizes of the tables with smaller numbers
 abbrev pub first_number : Sizes → Table → ℕ
@@ -56,6 +58,11 @@ first_number s t = sum_by (size s) (filter (λ u. nat_lt (table_number u) (table
 -- the number of all records
 abbrev pub record_count : Sizes → ℕ
 record_count s = sum_by (size s) tables
+
+-- the number of the narrow ones, which hold the columns of a row or a number of the engine's own. Those behind them are
+-- wide: they hold C_DATA
+abbrev pub narrow_count : Sizes → ℕ
+narrow_count s = first_number s table.CustomerData
 
 abbrev pub record_number : Sizes → Table → ℕ → ℕ
 record_number s t place = first_number s t + place
@@ -71,6 +78,7 @@ table_of (key.OrderLine k) = table.OrderLine
 table_of (key.Stock k) = table.Stock
 table_of (key.Oldest k) = table.Oldest
 table_of (key.Last k) = table.Last
+table_of (key.CustomerData k) = table.CustomerData
 
 abbrev pub district_place : Sizes → ℕ → ℕ → ℕ
 district_place s w d = (w - 1) * s.districts + (d - 1)
@@ -91,6 +99,7 @@ place_of s (key.OrderLine k) = order_place s (order_of k) * MAX_ORDER_LINES + (k
 place_of s (key.Stock k) = (k.warehouse - 1) * s.items + (k.item - 1)
 place_of s (key.Oldest k) = district_place s k.warehouse k.district
 place_of s (key.Last k) = customer_place s k
+place_of s (key.CustomerData k) = customer_place s k
 
 -- the number of a key
 abbrev pub number_of_key : Sizes → RecordKey → ℕ
@@ -107,6 +116,12 @@ IsRecordKey s (key.OrderLine k) = IsLineKey s k
 IsRecordKey s (key.Stock k) = IsStockKey s k
 IsRecordKey s (key.Oldest k) = IsDistrictKey s k
 IsRecordKey s (key.Last k) = IsCustomerKey s k
+IsRecordKey s (key.CustomerData k) = IsCustomerKey s k
+
+-- those of narrow records: all but the keys of C_DATA
+abbrev pub IsNarrowKey : Sizes → RecordKey → Type 0
+IsNarrowKey s (key.CustomerData k) = ⊥
+IsNarrowKey s k = IsRecordKey s k
 
 -- the key at a place
 abbrev pub district_at : Sizes → ℕ → DistrictKey
@@ -140,6 +155,7 @@ key_at s table.Item p = key.Warehouse 0
 key_at s table.Stock p = key.Stock (stock_at s p)
 key_at s table.Oldest p = key.Oldest (district_at s p)
 key_at s table.Last p = key.Last (customer_at s p)
+key_at s table.CustomerData p = key.CustomerData (customer_at s p)
 
 -- of these tables, whose records follow one another, the first whose records end behind a number
 unfoldable pub table_among : Sizes → List Table → ℕ → Table
@@ -162,10 +178,11 @@ place_at s n = place_among s tables n
 abbrev pub key_of : Sizes → ℕ → RecordKey
 key_of s n = key_at s (table_at s n) (place_at s n)
 
--- the key of a row, and of none of the two index records
+-- the key of a row's columns: of none of the two index records, nor of a customer's C_DATA
 abbrev pub IsRowKey : RecordKey → Type 0
 IsRowKey (key.Oldest k) = ⊥
 IsRowKey (key.Last k) = ⊥
+IsRowKey (key.CustomerData k) = ⊥
 IsRowKey k = Unit {0}
 
 -- the keys of a scale and the numbers below `record_count` are one to one: each key's number has that key, and each

@@ -1,9 +1,11 @@
--- What records hold: the columns that change, as words, or nothing where a record is absent.
+-- What records hold: the columns that change, as words, or nothing where a record is absent. C_DATA has a record of its
+-- own.
 use Rattle.std.specs.Prelude.{ℕ, ◌-◌, ℤ, cond, Option, Some, List, [], ◌∷◌, ◌++◌, length, replicate, ◌==◌, ◌&&◌}
 use Rattle.std.specs.Int.{w64, cast_unsigned, cast_signed}
 use Rattle.std.specs.Option.{option_map, unwrap_or}
 use Rattle.std.specs.FinMap.{get}
 use Rattle.money.specs.declared.payload.TheConstants.{PAYLOAD_WORDS}
+use Rattle.customer_data.specs.Words.{data_words}
 use Rattle.tables.specs.Database.{Database}
 use Rattle.tables.specs.OrderNumbers.{least, greatest, order_numbers, numbers_in, next_order}
 use Rattle.tables.specs.Records.{key_of}
@@ -77,6 +79,7 @@ row_at t (key.OrderLine k) = option_map line_words (get t.lines k)
 row_at t (key.Stock k) = option_map stock_words (get t.stock k)
 row_at t (key.Oldest k) = Some (number_words (oldest t k))
 row_at t (key.Last k) = Some (number_words (last t k))
+row_at t (key.CustomerData k) = option_map data_words (get t.texts k)
 
 -- what the record of a number holds
 abbrev pub rows : Database → ℕ → Option (List ℕ)

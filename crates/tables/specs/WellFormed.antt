@@ -1,8 +1,9 @@
 -- Which tables are well-formed: keys within the scale, columns within their ranges, and no row that names a missing
 -- one.
-use Rattle.std.specs.Prelude.{◌≡◌, ℕ, ◌+◌, ◌*◌, ◌<◌, ◌≤◌, ℤ, pos, neg_ℤ, ◌+ℤ◌, ◌-ℤ◌, ◌≤ℤ◌, Some, IsSome, All}
+use Rattle.std.specs.Prelude.{◌≡◌, ℕ, ◌+◌, ◌*◌, ◌<◌, ◌≤◌, ℤ, pos, neg_ℤ, ◌+ℤ◌, ◌-ℤ◌, ◌≤ℤ◌, Some, false, IsSome, All}
 use Rattle.std.specs.Option.{ForSome}
 use Rattle.std.specs.FinMap.{get}
+use Rattle.customer_data.specs.Text.{IsData}
 use Rattle.tables.specs.Sizes.{Sizes, IsBetween, IsNumber}
 use Rattle.tables.specs.Keys.{IsWarehouseKey, IsDistrictKey, IsCustomerKey, IsOrderKey, IsLineKey, IsItemKey}
 use Rattle.tables.specs.Keys.{IsStockKey, order_of}
@@ -92,21 +93,25 @@ HasLastNames t = (d : DistrictKey) → IsDistrictKey t.scale d → (n : ℕ) →
     → IsSome (customer_named (names t.customers) d n)
 
 pub record IsWellFormed (t : Database) : Type 0 where
-  -- a row of WAREHOUSE, DISTRICT, CUSTOMER and STOCK for each key of the scale
+  -- a row of WAREHOUSE, DISTRICT, CUSTOMER and STOCK for each key of the scale, and C_DATA of each customer
   pub warehouses : RowsAt (IsWarehouseKey t.scale) t.warehouses
   pub districts : RowsAt (IsDistrictKey t.scale) t.districts
   pub customers : RowsAt (IsCustomerKey t.scale) t.customers
+  pub texts : RowsAt (IsCustomerKey t.scale) t.texts
   pub stock : RowsAt (IsStockKey t.scale) t.stock
   -- the other keys within the scale
   pub new_orders : RowsWithin (IsOrderKey t.scale) t.new_orders
   pub orders : RowsWithin (IsOrderKey t.scale) t.orders
   pub lines : RowsWithin (IsLineKey t.scale) t.lines
+  -- no Payment changes C_DATA
+  pub keeps_texts : t.keeps_texts ≡ false
   -- ITEM may lack an item of the scale: an order of it is rolled back
   pub items : RowsWithin (IsItemKey t.scale) t.items
   -- columns within their ranges
   pub warehouse_rows : EachRow (λ k r. IsMoney r.year_to_date) t.warehouses
   pub district_rows : EachRow (λ k r. IsDistrictRow t.scale r) t.districts
   pub customer_rows : EachRow (λ k r. IsCustomerRow r) t.customers
+  pub text_rows : EachRow (λ k text. IsData text) t.texts
   pub history_rows : All (IsHistoryRow t.scale) t.history
   pub order_rows : EachRow (λ k r. IsOrderRow r) t.orders
   pub line_rows : EachRow (λ k r. IsLineRow t.scale r) t.lines

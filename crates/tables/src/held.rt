@@ -13,7 +13,7 @@ use money::Payload;
 
 impl Tables {
     /// The words of the row of a key: its columns that change, or None where the tables have no such row. One look-up.
-    /// The two index records have no row, so no words are asked of them.
+    /// The two index records have no row, and C_DATA has other words: none are asked of them here.
     pub fn words(&self, key: RecordKey) -> Option<Payload>
         requires { IsRowKey key }
         ensures { result ≡ row_at (database self.now) key }
@@ -26,7 +26,7 @@ impl Tables {
             RecordKey::Order(key) => order(self, key),
             RecordKey::OrderLine(key) => line(self, key),
             RecordKey::Stock(key) => stock(self, key),
-            RecordKey::Oldest(_) | RecordKey::Last(_) => None,
+            RecordKey::Oldest(_) | RecordKey::Last(_) | RecordKey::CustomerData(_) => None,
         }
     }
 }

@@ -24,6 +24,7 @@ mod stock_level;
 mod words;
 
 pub use customer::Who;
+use customer_data::CustomerData;
 pub use delivery::{DeliveredOrder, DeliveryInput, DeliveryReply};
 pub use input::Input;
 pub use keys::{CustomerKey, DistrictKey, LineKey, OrderKey, StockKey};
@@ -35,8 +36,8 @@ pub use order_lines::Lines;
 pub use order_status::{LastOrder, OrderStatusInput, OrderStatusReply};
 pub use payment::{PaymentInput, PaymentReply};
 pub use records::{
-    RecordKey, Table, place_of_customer, place_of_district, place_of_order, rec, record_count,
-    records_have_one_number_each,
+    RecordKey, Table, narrow_count, place_of_customer, place_of_district, place_of_order, rec,
+    record_count, records_have_one_number_each,
 };
 pub use reply::Reply;
 pub use rows::{
@@ -49,7 +50,7 @@ pub use stock_level::{StockLevelInput, StockLevelReply};
 pub use words::{money_from_word, money_to_word};
 
 /// The nine tables (TPC-C 1.3): eight maps from key to row, and HISTORY, which has no key, as a list in
-/// the order in which its rows came.
+/// the order in which its rows came. C_DATA, the longest column of CUSTOMER, has a map of its own.
 ///
 /// Contracts see them as the finite maps and the list of `database` in `specs/Database.antt`.
 #[derive(Debug, Drop)]
@@ -58,6 +59,8 @@ pub struct Tables {
     pub warehouses: BTreeMap<u32, Warehouse>,
     pub districts: BTreeMap<DistrictKey, District>,
     pub customers: BTreeMap<CustomerKey, Customer>,
+    /// C_DATA of each customer.
+    pub texts: BTreeMap<CustomerKey, CustomerData>,
     pub history: Vec<History>,
     pub new_orders: BTreeMap<OrderKey, NewOrder>,
     pub orders: BTreeMap<OrderKey, Order>,
@@ -79,6 +82,7 @@ impl Tables {
             warehouses: BTreeMap::new(alloc),
             districts: BTreeMap::new(alloc),
             customers: BTreeMap::new(alloc),
+            texts: BTreeMap::new(alloc),
             history: Vec::new(alloc),
             new_orders: BTreeMap::new(alloc),
             orders: BTreeMap::new(alloc),

@@ -12,7 +12,7 @@ use crate::records::{RecordKey, Table};
 use crate::scale::Scale;
 
 /// The tables, in the order of their records' numbers.
-const TABLES: [Table; 11] = [
+const TABLES: [Table; 12] = [
     Table::Warehouse,
     Table::District,
     Table::Customer,
@@ -24,6 +24,7 @@ const TABLES: [Table; 11] = [
     Table::Stock,
     Table::Oldest,
     Table::Last,
+    Table::CustomerData,
 ];
 
 /// The key of the record of a number. Constant time.
@@ -72,6 +73,7 @@ fn key_at(scale: &Scale, table: Table, place: u32) -> RecordKey
         Table::Stock => RecordKey::Stock(stock_at(scale, place)),
         Table::Oldest => RecordKey::Oldest(district_at(scale, place)),
         Table::Last => RecordKey::Last(customer_at(scale, place)),
+        Table::CustomerData => RecordKey::CustomerData(customer_at(scale, place)),
         // Without places.
         Table::History | Table::Item => RecordKey::Warehouse(0),
     }
@@ -88,7 +90,7 @@ pub fn district_at(scale: &Scale, place: u32) -> DistrictKey
     }
 }
 
-/// The customer at a place of CUSTOMER, or of LAST. Constant time.
+/// The customer at a place of CUSTOMER, of LAST, or of the records of C_DATA. Constant time.
 pub fn customer_at(scale: &Scale, place: u32) -> CustomerKey
     requires { place < 2 ^ 31 }
     ensures { result ≡ customer_at scale.now place }

@@ -2,7 +2,7 @@
 
 ghost use Rattle.std.specs.Prelude.{◌≡◌, ◌<◌, ◌^◌};
 ghost use Rattle.std.proofs.Props.{props};
-ghost use Rattle.tables.specs.Records.{first_number, record_count, IsRecordKey, number_of_key};
+ghost use Rattle.tables.specs.Records.{first_number, record_count, narrow_count, IsRecordKey, IsNarrowKey, number_of_key};
 ghost use Rattle.tables.specs.declared.records.Table.TheVariants as table;
 
 use crate::records::{
@@ -24,6 +24,7 @@ pub struct Numbering {
     stocks: u32,
     oldest: u32,
     last: u32,
+    texts: u32,
     ghost districts_first: { districts ≡ first_number scale table.District } by { Prim.hlevel props },
     ghost customers_first: { customers ≡ first_number scale table.Customer } by { Prim.hlevel props },
     ghost new_orders_first: { new_orders ≡ first_number scale table.NewOrder } by { Prim.hlevel props },
@@ -32,6 +33,7 @@ pub struct Numbering {
     ghost stocks_first: { stocks ≡ first_number scale table.Stock } by { Prim.hlevel props },
     ghost oldest_first: { oldest ≡ first_number scale table.Oldest } by { Prim.hlevel props },
     ghost last_first: { last ≡ first_number scale table.Last } by { Prim.hlevel props },
+    ghost texts_first: { texts ≡ first_number scale table.CustomerData } by { Prim.hlevel props },
     ghost fits: { record_count scale < 2 ^ 32 } by { Prim.hlevel props },
 }
 
@@ -51,6 +53,7 @@ impl Numbering {
             stocks: Table::Stock.first(scale),
             oldest: Table::Oldest.first(scale),
             last: Table::Last.first(scale),
+            texts: Table::CustomerData.first(scale),
         }
     }
 
@@ -60,6 +63,7 @@ impl Numbering {
         requires { IsRecordKey self.now.scale key }
         ensures value { result ≡ number_of_key self.now.scale key }
         ensures limit { result < record_count self.now.scale }
+        ensures narrow { IsNarrowKey self.now.scale key → result < narrow_count self.now.scale }
     {
         let scale = &self.scale;
         match key {
@@ -72,6 +76,7 @@ impl Numbering {
             RecordKey::Stock(key) => self.stocks + place_of_stock(scale, key),
             RecordKey::Oldest(key) => self.oldest + place_of_district(scale, key),
             RecordKey::Last(key) => self.last + place_of_customer(scale, key),
+            RecordKey::CustomerData(key) => self.texts + place_of_customer(scale, key),
         }
     }
 }
@@ -83,6 +88,7 @@ pub fn number_of_key(scale: &Scale, key: RecordKey) -> u32
     requires { IsRecordKey scale.now key }
     ensures value { result ≡ number_of_key scale.now key }
     ensures limit { result < record_count scale.now }
+    ensures narrow { IsNarrowKey scale.now key → result < narrow_count scale.now }
 {
     Numbering::of(scale).number_of_key(key)
 }

@@ -5,7 +5,7 @@
 ghost use Rattle.std.specs.Prelude.{◌≡◌, ◌+◌, ◌-◌, ◌*◌, ◌<◌, ◌≤◌, ◌^◌};
 ghost use Rattle.tables.specs.Sizes.{Sizes};
 ghost use Rattle.tables.specs.Keys.{IsDistrictKey, IsCustomerKey, IsOrderKey, IsLineKey, IsStockKey};
-ghost use Rattle.tables.specs.Records.{size, first_number, record_number, record_count};
+ghost use Rattle.tables.specs.Records.{size, first_number, record_number, record_count, narrow_count};
 ghost use Rattle.tables.specs.Records.{district_place, customer_place, order_place, place_of, NumbersNameKeys};
 ghost use Rattle.tables.specs.Records.{NumbersNamePlaces, table_number, table_numbered};
 ghost use Rattle.tables.specs.declared.records.Table.TheVariants as table;
@@ -32,6 +32,8 @@ pub enum Table {
     Oldest,
     /// The greatest O_ID of a customer, or 0 where it has no order.
     Last,
+    /// C_DATA of a customer, apart from the other columns of CUSTOMER.
+    CustomerData,
 }
 
 /// A record by its table and key.
@@ -46,13 +48,14 @@ pub enum RecordKey {
     Stock(StockKey),
     Oldest(DistrictKey),
     Last(CustomerKey),
+    CustomerData(CustomerKey),
 }
 
 impl Table {
-    /// The table's number, from 1 to 11.
+    /// The table's number, from 1 to 12.
     pub fn number(self) -> u8
         ensures number { result ≡ table_number self }
-        ensures limit { result ≤ 11 }
+        ensures limit { result ≤ 12 }
     {
         match self {
             Table::Warehouse => 1,
@@ -66,10 +69,11 @@ impl Table {
             Table::Stock => 9,
             Table::Oldest => 10,
             Table::Last => 11,
+            Table::CustomerData => 12,
         }
     }
 
-    /// The table of a number, which is None but from 1 to 11.
+    /// The table of a number, which is None but from 1 to 12.
     pub fn of_number(number: u8) -> Option<Table>
         ensures { result ≡ table_numbered number }
     {
@@ -85,6 +89,7 @@ impl Table {
             9 => Some(Table::Stock),
             10 => Some(Table::Oldest),
             11 => Some(Table::Last),
+            12 => Some(Table::CustomerData),
             _ => None,
         }
     }
@@ -98,7 +103,7 @@ impl Table {
         match self {
             Table::Warehouse => scale.warehouses(),
             Table::District | Table::Oldest => districts,
-            Table::Customer | Table::Last => districts * scale.customers(),
+            Table::Customer | Table::Last | Table::CustomerData => { districts * scale.customers() }
             Table::NewOrder | Table::Order => districts * scale.orders(),
             Table::OrderLine => districts * scale.orders() * MAX_ORDER_LINES,
             Table::Stock => scale.warehouses() * scale.items(),
@@ -128,6 +133,7 @@ impl Table {
             Table::Item | Table::Stock => before_stock,
             Table::Oldest => before_oldest,
             Table::Last => before_oldest + districts,
+            Table::CustomerData => before_oldest + districts + customers,
         }
     }
 
@@ -144,7 +150,15 @@ impl Table {
 pub fn record_count(scale: &Scale) -> u32
     ensures { result ≡ record_count scale.now }
 {
-    Table::Last.end(scale)
+    Table::CustomerData.end(scale)
+}
+
+/// How many of them are narrow: hold the columns of a row, or a number of the engine's own. The wide ones, of C_DATA,
+/// come behind them. Constant time.
+pub fn narrow_count(scale: &Scale) -> u32
+    ensures { result ≡ narrow_count scale.now }
+{
+    Table::CustomerData.first(scale)
 }
 
 /// The number of a record: its place in its table, from 0, after the records of all tables with smaller
@@ -168,7 +182,7 @@ pub fn place_of_district(scale: &Scale, key: DistrictKey) -> u32
     place(size, key.warehouse - 1, scale.districts(), key.district)
 }
 
-/// The place of a customer in CUSTOMER, and in LAST. Constant time.
+/// The place of a customer in CUSTOMER, in LAST and among the records of C_DATA. Constant time.
 #[tactic(auto, using(crate::proofs::Numbers::customer_there))]
 pub fn place_of_customer(scale: &Scale, key: CustomerKey) -> u32
     requires { IsCustomerKey scale.now key }

@@ -163,14 +163,17 @@ module _ (t : Database) (x : DeliveryInput) where
         warehouses = wf.warehouses;
         districts = wf.districts;
         customers = updated_rows exact_customer (IsCustomerKey t.scale) credits t.customers wf.customers;
+        texts = wf.texts;
         stock = wf.stock;
         new_orders = λ k some. wf.new_orders k (was_there exact_order _ t.new_orders k some);
         orders = order_keys;
         lines = line_keys;
         items = wf.items;
+        keeps_texts = wf.keeps_texts;
         warehouse_rows = wf.warehouse_rows;
         district_rows = wf.district_rows;
         customer_rows = customer_rows;
+        text_rows = wf.text_rows;
         history_rows = wf.history_rows;
         order_rows = order_rows;
         line_rows = line_rows;

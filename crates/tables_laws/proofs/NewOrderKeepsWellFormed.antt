@@ -142,6 +142,7 @@ module _ (most : ℤ) (top : ℕ) (low : most ≤ℤ MAX_MONEY) (few : top ≤ M
       districts = updated_rows exact_district (IsDistrictKey t.scale) (λ k r. cond (is_district x.warehouse x.district k) (numbered_district r) r) t.districts
           wf.districts;
       customers = wf.customers;
+      texts = wf.texts;
       stock = draws_rows t.scale x.warehouse x.lines t.stock wf.stock;
       new_orders = within_inserted exact_order (IsOrderKey t.scale) t.new_orders (new_key t x) (record {}) wf.new_orders (ok.warehouse, ok.district, number_is);
       orders = within_inserted exact_order (IsOrderKey t.scale) t.orders (new_key t x) (order_row x) wf.orders (ok.warehouse, ok.district, number_is);
@@ -149,9 +150,11 @@ module _ (most : ℤ) (top : ℕ) (low : most ≤ℤ MAX_MONEY) (few : top ≤ M
           (new_lines (λ k r. IsLineKey t.scale k) (λ k r f. wf.lines k (ap is_some f))
           (λ i l low high s. (ok.warehouse, ok.district, number_is, (low, omega (arith, high, ok.line_count.1)))));
       items = wf.items;
+      keeps_texts = wf.keeps_texts;
       warehouse_rows = wf.warehouse_rows;
       district_rows = district_rows;
       customer_rows = wf.customer_rows;
+      text_rows = wf.text_rows;
       history_rows = wf.history_rows;
       order_rows = each_inserted exact_order (λ k r. IsOrderRow r) t.orders (new_key t x) (order_row x) wf.order_rows
           (record { entry_date = ok.date; carrier = λ c e. cc; line_count = ok.line_count });

@@ -1,15 +1,18 @@
 -- A Payment keeps tables well-formed and consistent.
-use Rattle.std.proofs.Common.{◌≡◌, ℕ, ◌+◌, ◌≤◌, ℤ, pos, ◌+ℤ◌, ◌-ℤ◌, ◌≤ℤ◌, Bool, true, false, cond, ◌==◌, Option, refl, sym, ap, ◌∙◌, subst, arith}
+use Rattle.std.proofs.Common.{◌≡◌, ℕ, ◌+◌, ◌≤◌, ℤ, pos, ◌+ℤ◌, ◌-ℤ◌, ◌≤ℤ◌, Bool, true, false, cond, ◌==◌, ◌&&◌, List, Option, refl, sym, ap, ◌∙◌, subst, arith}
 use Rattle.std.proofs.lemmas.Int.{ints}
 use Rattle.std.proofs.lemmas.List.Sums.{fold_push}
 use Rattle.std.proofs.lemmas.List.Elements.{All-push}
 use Rattle.std.specs.Option.{option_map, option_map_or}
+use Rattle.customer_data.specs.Text.{IsData, put_left}
+use Rattle.customer_data.specs.Payments.{payment_text}
+use Rattle.customer_data.proofs.Printable.{kept}
 use Rattle.tables.specs.Sizes.{IsNumber}
 use Rattle.tables.specs.Keys.{is_district, is_customer, IsWarehouseKey, IsDistrictKey, IsCustomerKey}
 use Rattle.tables.specs.Maps.{total, EachRow}
 use Rattle.tables.specs.OrderNumbers.{next_order}
 use Rattle.tables.specs.Database.{Database}
-use Rattle.tables.specs.Payment.{IsPayment, raised_warehouse, raised_district, charged_customer, after_payment_of, history_row}
+use Rattle.tables.specs.Payment.{IsPayment, raised_warehouse, raised_district, charged_customer, after_payment_of, history_row, front_of, changes_text, has_bad_credit}
 use Rattle.tables.specs.Constant.{IsOf}
 use Rattle.tables.specs.Conditions.{IsConsistent, Condition1At, Condition2At, Condition8At, Condition9At, Condition10At, Condition12At, paid_at_warehouse}
 use Rattle.tables.specs.Conditions.{paid_at_district, paid_by_customer, delivered_amount}
@@ -25,7 +28,7 @@ use Rattle.tables.specs.declared.rows.History.{History}
 use Rattle.tables.specs.declared.payment.PaymentInput.{PaymentInput}
 use Rattle.tables.proofs.Orders.{exact_number, exact_district, exact_customer}
 use Rattle.tables.proofs.KeyTests.{is_district-key}
-use Rattle.tables_laws.proofs.Updates.{column-update_where, total-update_where, kept-update_where, is_some-map_rows}
+use Rattle.tables_laws.proofs.Updates.{column-update_where, total-update_where, kept-update_where, update_where-none, is_some-map_rows}
 use Rattle.tables_laws.proofs.NamesKept.{IsOf-itself, last_names_stay}
 use Rattle.tables_laws.proofs.Room.{money_stays, count_stays, is_money, is_count}
 use Rattle.tables_laws.proofs.Rows.{there, updated_rows, each_updated}
@@ -142,6 +145,9 @@ module _ (t : Database) (x : PaymentInput) (c : ℕ) (ok : IsPayment t.scale x) 
 pub payment_keeps_constants : (t0 t : Database) (x : PaymentInput) (c : ℕ) → IsOf t0 t → IsOf t0 (after_payment_of t x c)
 payment_keeps_constants t0 t x c h = record {
   scale = h.scale;
+  keeps = h.keeps;
+  texts = λ none. update_where-none exact_customer (changes_text t x c) (put_left (payment_text (front_of x c))) t.texts
+      (λ k. ap (λ b. b && (is_customer x.customer_warehouse x.customer_district c k && has_bad_credit t k)) (h.keeps ∙ none)) ∙ h.texts none;
   warehouse_taxes = λ w. kept-update_where exact_number (λ k. x.warehouse == k) (raised_warehouse x.amount) (option_map (λ r. r.tax)) t.warehouses w
       (λ _ r. refl) ∙ h.warehouse_taxes w;
   district_taxes = λ k. kept-update_where exact_district (is_district x.warehouse x.district) (raised_district x.amount) (option_map (λ r. r.tax)) t.districts k
@@ -230,6 +236,14 @@ module _ (most : ℤ) (top : ℕ) (low : most ≤ℤ MAX_MONEY) (few : top ≤ M
         deliveries = h.0.deliveries;
       })
 
+  abbrev writes : CustomerKey → List ℕ → List ℕ
+  writes k text = cond (changes_text t x c k) (put_left (payment_text (front_of x c)) text) text
+
+  text_rows : EachRow (λ k text. IsData text) (after_payment_of t x c).texts
+  text_rows = each_updated exact_customer (λ k text. IsData text) (λ k text. IsData text) writes t.texts wf.text_rows
+      (λ k text h. elim (changes_text t x c k) as (λ b. IsData (cond b (put_left (payment_text (front_of x c)) text) text))
+      [ true ↦ kept (front_of x c) text h | false ↦ h ])
+
   abbrev added : IsHistoryRow t.scale (history_row x c)
   added = record {
     customer = is_customer_number;
@@ -248,14 +262,17 @@ module _ (most : ℤ) (top : ℕ) (low : most ≤ℤ MAX_MONEY) (few : top ≤ M
     districts = updated_rows exact_district (IsDistrictKey t.scale) (λ k r. cond (is_district x.warehouse x.district k) (raised_district x.amount r) r)
         t.districts wf.districts;
     customers = updated_rows exact_customer (IsCustomerKey t.scale) pays t.customers wf.customers;
+    texts = updated_rows exact_customer (IsCustomerKey t.scale) writes t.texts wf.texts;
     stock = wf.stock;
     new_orders = wf.new_orders;
     orders = wf.orders;
     lines = wf.lines;
     items = wf.items;
+    keeps_texts = wf.keeps_texts;
     warehouse_rows = λ w r f. is_money most n low r.year_to_date (warehouse_room w r f);
     district_rows = district_rows;
     customer_rows = customer_rows;
+    text_rows = text_rows;
     history_rows = All-push (IsHistoryRow t.scale) t.history (history_row x c) wf.history_rows added;
     order_rows = wf.order_rows;
     line_rows = wf.line_rows;

@@ -135,6 +135,15 @@ module _ {K X : Type 0} {R : K → K → Ordering} (o : IsExact R) where
       before None is e = cc
       before (Some r) is e = (r, is, sym (same_Some _ _ e))
 
+  -- an update of no row changes nothing
+  pub update_where-none : (p : K → Bool) (g : X → X) (m : FinMap R X) → ((k : K) → p k ≡ false) → update_where p g m ≡ m
+  update_where-none p g m none = same_map o.total o.same _ _ (λ q.
+      get-map_rows (λ j s. cond (p j) (g s) s) m q ∙ ap (λ b. option_map (λ s. cond b (g s) s) (get m q)) (none q) ∙ unchanged (get m q))
+    where
+      unchanged : (w : Option X) → option_map (λ s. s) w ≡ w
+      unchanged None = refl
+      unchanged (Some s) = refl
+
   -- an update of the one row at k puts its new row there
   pub update_where-insert : (p : K → Bool) (g : X → X) (k : K) (r : X) (m : FinMap R X) → ((j : K) → p j ≡ eq_by_cmp R k j) → get m k ≡ Some r
       → update_where p g m ≡ insert m k (g r)

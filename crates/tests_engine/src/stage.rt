@@ -3,7 +3,7 @@
 ghost use Rattle.std.specs.Prelude.{◌≡◌, ◌≢◌, ◌<◌, ℕ, length, IfOk};
 ghost use Rattle.population.specs.Initial.{initial};
 ghost use Rattle.tables.specs.Inputs.{IsInput};
-ghost use Rattle.tables.specs.Records.{record_count};
+ghost use Rattle.tables.specs.Records.{narrow_count};
 ghost use Rattle.cells.specs.Records.{at};
 ghost use Rattle.cells.specs.Versions.{last_tid};
 
@@ -29,7 +29,7 @@ pub(crate) const DISTRICT: Payload = [10_000, 11, 0, 0, 0, 0, 0];
 pub(crate) const CUSTOMER: Payload = [u64::MAX - 999, 1_000, 1, 0, 0, 0, 0];
 
 pub(crate) fn small(alloc: Global) -> Result<Population, Refusal>
-    ensures { IfOk result (λ population. record_count (initial population).scale ≡ 1085) }
+    ensures { IfOk result (λ population. narrow_count (initial population).scale ≡ 1085) }
 {
     Population::plain(alloc, Scale::new(1, 2, 10, 20, 30, 1_000)?)
 }
@@ -45,7 +45,7 @@ pub(crate) struct Stage {
 
 pub(crate) fn open<R: Wait>(rt: &R, alloc: Global) -> Result<Stage, Fail>
     ensures count { IfOk result (λ s. length s.cells.narrow ≡ 1085) }
-    ensures scale { IfOk result (λ s. length s.cells.narrow ≡ record_count (initial s.population).scale) }
+    ensures scale { IfOk result (λ s. length s.cells.narrow ≡ narrow_count (initial s.population).scale) }
     ensures pen { IfOk result (λ s. s.pen.cells ≡ s.cells) }
     ensures reader { IfOk result (λ s. s.reader.cells ≡ s.cells) }
     ensures first { IfOk result (λ s. (n : ℕ) → n < length s.cells.narrow → last_tid (at s.pen.all n) ≡ 0) }
@@ -70,7 +70,7 @@ pub(crate) fn execute_on<R: Wait>(
     input: &Input,
 ) -> Result<Work, Refusal>
     requires input { IsInput (initial stage.old.population).scale input.now }
-    requires scale { length stage.old.cells.narrow ≡ record_count (initial stage.old.population).scale }
+    requires scale { length stage.old.cells.narrow ≡ narrow_count (initial stage.old.population).scale }
     requires reader { stage.old.reader.cells ≡ stage.old.cells }
     ensures population { stage.new.population ≡ stage.old.population }
     ensures cells { stage.new.cells ≡ stage.old.cells }

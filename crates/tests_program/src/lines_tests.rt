@@ -45,6 +45,7 @@ fn requests_are_read(rt: HostRuntime) {
         customer: 3,
     };
     assert_shows(&rt, b"show customer 1 1 3", ShowKey::Customer(customer));
+    assert_shows(&rt, b"show data 1 1 3", ShowKey::CustomerData(customer));
     let stock = StockKey {
         warehouse: 1,
         item: 4294967295,
@@ -150,6 +151,9 @@ fn other_lines_are_bad(rt: HostRuntime) {
     assert!(rt; is_bad_line(alloc, b"show warehouse 1\r"));
     assert!(rt; is_bad_line(alloc, b"show warehouse \x00"));
     assert!(rt; is_bad_line(alloc, b"show warehouse \xff"));
+    assert!(rt; is_bad_line(alloc, b"show data 1 1"));
+    assert!(rt; is_bad_line(alloc, b"show data 1 1 1 1"));
+    assert!(rt; is_bad_line(alloc, b"show date 1 1 1"));
     assert!(rt; is_bad_line(alloc, b"show stock 1"));
     assert!(rt; is_bad_line(alloc, b"show stock 1 1 1"));
     assert!(rt; is_bad_line(alloc, b"show stocks 1 1"));

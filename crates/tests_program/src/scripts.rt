@@ -86,6 +86,20 @@ fn worked_rows(rt: HostRuntime) -> Result<(), Fail> {
              customer 1 1 3 balance -22.34 paid 22.34 payments 2 deliveries 0\n",
             1,
         ),
+        // A customer with bad credit, whose C_DATA no Payment changes.
+        (
+            1_000,
+            "show data 1 1 10\npayment 1 1 1 1 10 12.34\nshow data 1 1 10\n",
+            "data 1 1 10 300 \
+             xxxxxxxxxxxxxxxxxxxxxxxxxxxxxxxxxxxxxxxxxxxxxxxxxxxxxxxxxxxxxxxxxxxxxxxxxxxxxxxxxxxxxxxxxxxxxxxxxxxx\
+             xxxxxxxxxxxxxxxxxxxxxxxxxxxxxxxxxxxxxxxxxxxxxxxxxxxxxxxxxxxxxxxxxxxxxxxxxxxxxxxxxxxxxxxxxxxxxxxxxxxx\
+             xxxxxxxxxxxxxxxxxxxxxxxxxxxxxxxxxxxxxxxxxxxxxxxxxxxxxxxxxxxxxxxxxxxxxxxxxxxxxxxxxxxxxxxxxxxxxxxxxxxx\n\
+             payment 1 1 customer 1 1 10 balance -22.34\ndata 1 1 10 300 \
+             xxxxxxxxxxxxxxxxxxxxxxxxxxxxxxxxxxxxxxxxxxxxxxxxxxxxxxxxxxxxxxxxxxxxxxxxxxxxxxxxxxxxxxxxxxxxxxxxxxxx\
+             xxxxxxxxxxxxxxxxxxxxxxxxxxxxxxxxxxxxxxxxxxxxxxxxxxxxxxxxxxxxxxxxxxxxxxxxxxxxxxxxxxxxxxxxxxxxxxxxxxxx\
+             xxxxxxxxxxxxxxxxxxxxxxxxxxxxxxxxxxxxxxxxxxxxxxxxxxxxxxxxxxxxxxxxxxxxxxxxxxxxxxxxxxxxxxxxxxxxxxxxxxxx\n",
+            1,
+        ),
         (
             1_000,
             "payment 1 1 1 1 3 1.00\npayment 1 1 1 1 3 5000.00\npayment 1 1 1 1 3 0.99\n\
@@ -138,6 +152,11 @@ fn refused_lines(rt: HostRuntime) -> Result<(), Fail> {
         ("show warehouse 0", 2),
         ("show district 1 3", 2),
         ("show customer 1 1 11", 2),
+        ("show data 1 1 11", 2),
+        ("show data 1 3 10", 2),
+        ("show data 2 1 10", 2),
+        ("show data 1 1 0", 2),
+        ("show data 1 1", 14),
         ("payment 2 1 1 1 3 1.00", 2),
         ("payment 1 1 1 1 3 99999999999999999999999.00", 2),
         ("payment 1 1 1 1 3 -1.00", 2),

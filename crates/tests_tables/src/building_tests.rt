@@ -2,7 +2,7 @@
 //! and an order.
 
 ghost use Rattle.std.specs.Prelude.{◌≡◌, Some, length, IfOk, OnOk};
-ghost use Rattle.tables.specs.Records.{IsRecordKey, record_count};
+ghost use Rattle.tables.specs.Records.{IsNarrowKey, narrow_count};
 ghost use Rattle.tables.specs.Sizes.{sizes};
 ghost use Rattle.population.specs.Initial.{initial};
 ghost use Rattle.cells.specs.Versions.{value_in};
@@ -118,7 +118,7 @@ fn tables_of_changed<R: Wait>(
 /// The versions that the population's records begin with, but for those that are changed.
 fn changed_versions(alloc: Global, population: &Population) -> Result<FirstVersions, AllocError>
     requires { (initial population.now).scale ≡ sizes 1 2 10 20 30 1000 }
-    ensures count { IfOk result (λ first. length first ≡ record_count (initial population.now).scale) }
+    ensures count { IfOk result (λ first. length first ≡ narrow_count (initial population.now).scale) }
     ensures lawful { IfOk result (λ first. AreLawful (initial population.now).scale
         (λ n. value_in (words_at first n))) }
 {
@@ -130,9 +130,9 @@ fn changed_versions(alloc: Global, population: &Population) -> Result<FirstVersi
 /// Another D_YTD and D_NEXT_O_ID of a district, and an order that wasn't there.
 fn change(first: &mut FirstVersions, scale: &Scale) -> Result<(), AllocError>
     requires scale { scale.now ≡ sizes 1 2 10 20 30 1000 }
-    requires count { length first.old ≡ record_count scale.now }
+    requires count { length first.old ≡ narrow_count scale.now }
     requires lawful { AreLawful scale.now (λ n. value_in (words_at first.old n)) }
-    ensures count { OnOk result (length first.new ≡ record_count scale.now) }
+    ensures count { OnOk result (length first.new ≡ narrow_count scale.now) }
     ensures lawful { OnOk result (AreLawful scale.now (λ n. value_in (words_at first.new n))) }
 {
     let district = RecordKey::District(DISTRICT);
@@ -149,11 +149,11 @@ fn write(
     key: RecordKey,
     words: Payload,
 ) -> Result<(), AllocError>
-    requires key { IsRecordKey scale.now key }
+    requires key { IsNarrowKey scale.now key }
     requires words { MayHold scale.now key (Some words) }
-    requires count { length first.old ≡ record_count scale.now }
+    requires count { length first.old ≡ narrow_count scale.now }
     requires lawful { AreLawful scale.now (λ n. value_in (words_at first.old n)) }
-    ensures count { OnOk result (length first.new ≡ record_count scale.now) }
+    ensures count { OnOk result (length first.new ≡ narrow_count scale.now) }
     ensures lawful { OnOk result (AreLawful scale.now (λ n. value_in (words_at first.new n))) }
 {
     let number = number_of_key(scale, key);

@@ -22,6 +22,7 @@ fn counts_of_rows(rt: HostRuntime) -> Result<(), Fail> {
     assert_eq!(rt; tables.warehouses.len(), 1);
     assert_eq!(rt; tables.districts.len(), 2);
     assert_eq!(rt; tables.customers.len(), 20);
+    assert_eq!(rt; tables.texts.len(), 20);
     assert_eq!(rt; tables.history.len(), 20);
     assert_eq!(rt; tables.new_orders.len(), 6);
     assert_eq!(rt; tables.orders.len(), 20);

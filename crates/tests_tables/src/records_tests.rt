@@ -5,7 +5,7 @@ use std::test::Fail;
 use tables::{
     Credit, Customer, CustomerKey, District, DistrictKey, Input, LineKey, Order, OrderKey,
     OrderLine, PaymentInput, RecordKey, Scale, Stock, StockKey, Table, Tables, Warehouse, Who,
-    key_of, money_from_word, money_to_word, number_of_key, rec,
+    key_of, money_from_word, money_to_word, narrow_count, number_of_key, rec, record_count,
 };
 
 fn small() -> Result<Scale, Fail> {
@@ -62,6 +62,7 @@ fn no_rows_at_first(rt: HostRuntime) -> Result<(), Fail> {
     let tables = Tables::new(rt.alloc(), small()?);
     assert_eq!(rt; tables.scale, small()?);
     assert!(rt; tables.warehouses.is_empty() && tables.history.is_empty());
+    assert!(rt; tables.texts.is_empty());
     Ok(())
 }
 
@@ -78,6 +79,7 @@ fn record_numbers(rt: HostRuntime) -> Result<(), Fail> {
         (Table::Stock, 20, 1_043),
         (Table::Oldest, 2, 1_063),
         (Table::Last, 20, 1_065),
+        (Table::CustomerData, 20, 1_085),
     ];
     for (table, size, first) in firsts {
         assert_eq!(rt; table.size(&scale), size, "{table:?}");
@@ -87,6 +89,10 @@ fn record_numbers(rt: HostRuntime) -> Result<(), Fail> {
     }
     assert_eq!(rt; Table::History.size(&scale), 0);
     assert_eq!(rt; Table::Item.size(&scale), 0);
+    assert_eq!(rt;
+        (narrow_count(&scale), record_count(&scale)),
+        (1_085, 1_105)
+    );
     let customer = CustomerKey {
         warehouse: 1,
         district: 2,
@@ -94,6 +100,10 @@ fn record_numbers(rt: HostRuntime) -> Result<(), Fail> {
     };
     assert_eq!(rt; number_of_key(&scale, RecordKey::Customer(customer)), 15);
     assert_eq!(rt; number_of_key(&scale, RecordKey::Last(customer)), 1_077);
+    assert_eq!(rt;
+        number_of_key(&scale, RecordKey::CustomerData(customer)),
+        1_097
+    );
     Ok(())
 }
 
@@ -147,6 +157,7 @@ fn keys_of_numbers(rt: HostRuntime) -> Result<(), Fail> {
     assert_eq!(rt; key_of(&scale, 15), RecordKey::Customer(customer));
     assert_eq!(rt; key_of(&scale, 607), RecordKey::OrderLine(line));
     assert_eq!(rt; key_of(&scale, 1_077), RecordKey::Last(customer));
+    assert_eq!(rt; key_of(&scale, 1_097), RecordKey::CustomerData(customer));
     Ok(())
 }
 

@@ -6,14 +6,14 @@ use Rattle.std.specs.Int.{Width, w8, w64}
 use Rattle.std.specs.Int.RustNames.{FitsSigned}
 use Rattle.tables.specs.Sizes.{IsScale}
 use Rattle.tables.specs.Keys.{IsOrderKey}
-use Rattle.tables.specs.Records.{number_of_key, record_count}
+use Rattle.tables.specs.Records.{number_of_key, narrow_count}
 use Rattle.tables.specs.Rows.{rows, row_at, district_words, order_words, new_order_words, line_words}
 use Rattle.tables.specs.Conditions.{IsConsistent}
 use Rattle.tables.specs.WellFormed.{IsWellFormed}
 use Rattle.tables.specs.Database.{Database}
 use Rattle.tables.specs.declared.keys.OrderKey.{OrderKey}
 use Rattle.tables.specs.declared.records.RecordKey.TheVariants as key
-use Rattle.tables.proofs.Numbers.{one_to_one, warehouse_there, district_there, customer_there, order_there}
+use Rattle.tables.proofs.Numbers.{named, narrow_named, warehouse_there, district_there, customer_there, order_there}
 use Rattle.tables.proofs.Orders.{exact_district, exact_order, exact_line}
 use Rattle.totals.specs.Totals.{SumsView, AreSums, amount_in}
 use Rattle.totals.specs.Worth.{year_to_date_of, line_count_in, line_in, line_of, one_in, delivered_to}
@@ -42,11 +42,10 @@ begun w fits_none n p b z y inside moves is fits =
     none_before a = omega (arith, ints)
 
 module _ (t : Database) (scale : IsScale t.scale) (wf : IsWellFormed t) (con : IsConsistent t) (held : ℕ → Option (List ℕ))
-    (latest : (n : ℕ) → n < record_count t.scale → held n ≡ rows t n) where
+    (latest : (n : ℕ) → n < narrow_count t.scale → held n ≡ rows t n) where
   ordered : (j : OrderKey) → IsOrderKey t.scale j → order_before t.scale held j ≡ row_at t (key.Order j)
   ordered j is =
-      let named = (one_to_one t.scale).0 (key.Order j) is in
-      latest (number_of_key t.scale (key.Order j)) named.0 ∙ ap (row_at t) named.1
+      latest (number_of_key t.scale (key.Order j)) (narrow_named t.scale (key.Order j) is) ∙ ap (row_at t) (named t.scale (key.Order j) is).1
 
   pub sums_begin : (v : SumsView) → SumsOpen t.scale held t.history v → AreSums t.scale t v
   sums_begin v opened =

@@ -13,12 +13,12 @@ use Rattle.std.specs.FinMap.{FinMap, get, get-empty, empty}
 use Rattle.std.specs.declared.cmp.Ordering.{Ordering}
 use Rattle.std.specs.declared.cmp.Ordering.TheVariants.{Less}
 use Rattle.tables.specs.Maps.{total, RowsWithin}
-use Rattle.tables.specs.Records.{key_of, number_of_key, record_count, IsRecordKey}
+use Rattle.tables.specs.Records.{key_of, number_of_key, narrow_count, record_count, IsNarrowKey}
 use Rattle.tables.specs.Rows.{row_at, rows}
 use Rattle.tables.specs.Database.{Database}
 use Rattle.tables.specs.declared.records.RecordKey.{RecordKey}
 use Rattle.tables.proofs.Orders.{IsExact}
-use Rattle.tables.proofs.Numbers.{one_to_one}
+use Rattle.tables.proofs.Numbers.{narrow_among, narrow_named, of_narrow}
 use Rattle.tables.proofs.Totals.{total-zero}
 use Rattle.totals.specs.Worth.{Worth}
 use Rattle.totals.specs.Opening.{records_from, worth_from}
@@ -65,24 +65,24 @@ some_from held (suc k) n m low high = elim (is_eq (nat_cmp m n)) as (λ b. is_eq
     above m n low other = grind (arith, low, other)
 
 module _ {K X : Type 0} {R : K → K → Ordering} {c : K → RecordKey} {pick : RecordKey → Option K} (o : IsExact R) (kind : IsKind c pick) (t : Database)
-    (held : ℕ → Option (List ℕ)) (latest : (n : ℕ) → n < record_count t.scale → held n ≡ rows t n) where
+    (held : ℕ → Option (List ℕ)) (latest : (n : ℕ) → n < narrow_count t.scale → held n ≡ rows t n) where
   -- the sum of what the rows of a table are worth
   pub total-opened : (f : Worth) → ((key : RecordKey) → pick key ≡ None → (words : List ℕ) → f key words ≡ pos 0)
       → (words : X → List ℕ) (m : FinMap R X)
       → ((k : K) → row_at t (c k) ≡ option_map words (get m k))
-      → RowsWithin (λ k. IsRecordKey t.scale (c k)) m
-      → total (λ k r. f (c k) (words r)) m ≡ worth_from t.scale held (record_count t.scale) 0 f
+      → RowsWithin (λ k. IsNarrowKey t.scale (c k)) m
+      → total (λ k r. f (c k) (words r)) m ≡ worth_from t.scale held (narrow_count t.scale) 0 f
   total-opened f off words m at within =
-      let ws = records_from held (record_count t.scale) 0 in
+      let ws = records_from held (narrow_count t.scale) 0 in
       let none : FinMap R (List ℕ) = empty in
       sym (total-by_words words (λ k r. f (c k) r) m)
       ∙ total-differs o (λ k r. f (c k) r) none (by_words words m) (keys_among pick t.scale ws)
-      (keys_apart o kind t.scale ws (all_here (λ e. e.0 < record_count t.scale) held (record_count t.scale) (λ m high. high)) (ascending held (record_count t.scale) 0)) (λ q absent. get-by_words words m q ∙ no_row q absent ∙ sym (get-empty R q))
+      (keys_apart o kind t.scale ws (all_here (λ e. e.0 < record_count t.scale) held (narrow_count t.scale) (λ m high. narrow_among t.scale m high)) (ascending held (narrow_count t.scale) 0)) (λ q absent. get-by_words words m q ∙ no_row q absent ∙ sym (get-empty R q))
       ∙ and_none (total (λ k r. f (c k) r) none) (changes (λ k r. f (c k) r) none (by_words words m) (keys_among pick t.scale ws))
       (total-zero o (λ k r. f (c k) r) none (λ k r e. absurd (true≢false (ap is_some (sym e ∙ get-empty R k)))))
       ∙ changes-moved kind f off t.scale none (by_words words m) (λ n. None) ws
-      (all_here (λ e. (k : K) → key_of t.scale e.0 ≡ c k → get none k ≡ None) held (record_count t.scale) (λ n high k key. get-empty R k))
-      (all_here (λ e. (k : K) → key_of t.scale e.0 ≡ c k → get (by_words words m) k ≡ e.1) held (record_count t.scale)
+      (all_here (λ e. (k : K) → key_of t.scale e.0 ≡ c k → get none k ≡ None) held (narrow_count t.scale) (λ n high k key. get-empty R k))
+      (all_here (λ e. (k : K) → key_of t.scale e.0 ≡ c k → get (by_words words m) k ≡ e.1) held (narrow_count t.scale)
       (λ n high k key. get-by_words words m k ∙ sym (at k) ∙ ap (row_at t) (sym key) ∙ sym (latest n high)))
     where
       there : (n k : ℕ) → n < k → n < 0 + k
@@ -91,13 +91,13 @@ module _ {K X : Type 0} {R : K → K → Ordering} {c : K → RecordKey} {pick :
       and_none : (z a : ℤ) → z ≡ pos 0 → z +ℤ a ≡ a
       and_none z a e = omega (arith, ints)
 
-      no_row : (q : K) → is_among R q (keys_among pick t.scale (records_from held (record_count t.scale) 0)) ≡ false → option_map words (get m q) ≡ None
+      no_row : (q : K) → is_among R q (keys_among pick t.scale (records_from held (narrow_count t.scale) 0)) ≡ false → option_map words (get m q) ≡ None
       no_row q absent = either (get m q) refl
         where
           either : (v : Option X) → get m q ≡ v → option_map words (get m q) ≡ None
           either None e = ap (option_map words) e
           either (Some r) e =
-              let is : IsRecordKey t.scale (c q) = within q (ap is_some e) in
-              absurd (some_from held (record_count t.scale) 0 (number_of_key t.scale (c q)) (omega arith)
-              (there (number_of_key t.scale (c q)) (record_count t.scale) ((one_to_one t.scale).0 (c q) is).0)
-              (not_written o kind t.scale q is (records_from held (record_count t.scale) 0) absent))
+              let is : IsNarrowKey t.scale (c q) = within q (ap is_some e) in
+              absurd (some_from held (narrow_count t.scale) 0 (number_of_key t.scale (c q)) (omega arith)
+              (there (number_of_key t.scale (c q)) (narrow_count t.scale) (narrow_named t.scale (c q) is))
+              (not_written o kind t.scale q (of_narrow t.scale (c q) is) (records_from held (narrow_count t.scale) 0) absent))

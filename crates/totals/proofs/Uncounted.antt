@@ -1,10 +1,10 @@
 -- Records of tables that no sum counts.
 use Rattle.std.proofs.Common.{◌≡◌, ℕ, ◌<◌, ◌≤◌, ◌⊎◌, inl, inr, refl, arith}
 use Rattle.tables.specs.Sizes.{Sizes}
-use Rattle.tables.specs.Records.{number_of_key, key_of, record_count, IsRecordKey}
+use Rattle.tables.specs.Records.{number_of_key, key_of, narrow_count, IsRecordKey}
 use Rattle.tables.specs.declared.records.RecordKey.{RecordKey}
 use Rattle.tables.specs.declared.records.RecordKey.TheVariants as key
-use Rattle.tables.proofs.Numbers.{one_to_one, district_there, order_there, line_there}
+use Rattle.tables.proofs.Numbers.{narrow_among, one_to_one, district_there, order_there, line_there}
 use Rattle.totals.specs.Counted.{counted_in, IsOfAnotherTable}
 use Rattle.totals.proofs.Moving.{IsOther}
 
@@ -38,6 +38,7 @@ module _ (s : Sizes) (n : ℕ) where
   of_kind past (key.Stock k) is same = λ order words. ((λ w. refl), (λ w. refl), (λ w. refl), (λ w. refl), (λ w. refl), (λ w. refl))
   of_kind past (key.Oldest k) is same = λ order words. ((λ w. refl), (λ w. refl), (λ w. refl), (λ w. refl), (λ w. refl), (λ w. refl))
   of_kind past (key.Last k) is same = λ order words. ((λ w. refl), (λ w. refl), (λ w. refl), (λ w. refl), (λ w. refl), (λ w. refl))
+  of_kind past (key.CustomerData k) is same = λ order words. ((λ w. refl), (λ w. refl), (λ w. refl), (λ w. refl), (λ w. refl), (λ w. refl))
 
-  pub other_there : n < record_count s → IsOfAnotherTable (counted_in s) n → IsOther (key_of s n)
-  other_there below past = let back = (one_to_one s).1 n below in of_kind past (key_of s n) back.0 back.1
+  pub other_there : n < narrow_count s → IsOfAnotherTable (counted_in s) n → IsOther (key_of s n)
+  other_there below past = let back = (one_to_one s).1 n (narrow_among s n below) in of_kind past (key_of s n) back.0 back.1

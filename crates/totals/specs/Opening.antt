@@ -2,7 +2,7 @@
 use Rattle.std.specs.Prelude.{ℕ, zero, suc, ◌+◌, ◌*◌, ℤ, pos, Option, None, List, [], ◌∷◌, replicate}
 use Rattle.tables.specs.Sizes.{Sizes}
 use Rattle.tables.specs.Maps.{sum_of}
-use Rattle.tables.specs.Records.{record_count}
+use Rattle.tables.specs.Records.{narrow_count}
 use Rattle.tables.specs.declared.rows.History.{History}
 use Rattle.totals.specs.Totals.{SumsView}
 use Rattle.totals.specs.Worth.{Worth}
@@ -34,5 +34,5 @@ worth_from s held k n f = moved s (λ m. None) (records_from held k n) f
 
 -- the sums have counted all records, which hold these words, and these HISTORY rows
 abbrev pub SumsOpen : Sizes → (ℕ → Option (List ℕ)) → List History → SumsView → Type 0
-SumsOpen s held history v = MovesSums s (order_before s held) (worth_from s held (record_count s) 0)
+SumsOpen s held history v = MovesSums s (order_before s held) (worth_from s held (narrow_count s) 0)
     (λ f. sum_of f history) (no_sums s) v

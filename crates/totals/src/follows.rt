@@ -4,7 +4,7 @@ ghost use Rattle.std.specs.Prelude.{◌≡◌, ℕ, ◌<◌, Option, List};
 ghost use Rattle.tables.specs.Sizes.{IsScale};
 ghost use Rattle.tables.specs.Inputs.{IsInput};
 ghost use Rattle.tables.specs.Apply.{after};
-ghost use Rattle.tables.specs.Records.{record_count};
+ghost use Rattle.tables.specs.Records.{narrow_count};
 ghost use Rattle.tables.specs.Rows.{rows};
 ghost use Rattle.tables.specs.WellFormed.{IsWellFormed};
 ghost use Rattle.tables.specs.Conditions.{IsConsistent};
@@ -24,13 +24,13 @@ pub fn sums_follow_commits()
     ensures { (t : Database) (x : Input) (writes : WriteSetView) (reply : Reply) (held : ℕ → Option (List ℕ))
         (v next : SumsView) → IsScale t.scale → IsInput t.scale x → IsWellFormed t → IsConsistent t
         → IsWellFormed (after t x) → IsCommitOf t x writes reply → AreWrites t.scale writes
-        → ((n : ℕ) → n < record_count t.scale → held n ≡ rows t n) → AreSums t.scale t v
+        → ((n : ℕ) → n < narrow_count t.scale → held n ≡ rows t n) → AreSums t.scale t v
         → SumsFollow t.scale held writes v next → AreSums (after t x).scale (after t x) next }
 {}
 
 /// The sums that have counted all records and HISTORY rows of well-formed, consistent tables are those of the tables.
 pub fn sums_begin_with_tables()
     ensures { (t : Database) (held : ℕ → Option (List ℕ)) (v : SumsView) → IsScale t.scale → IsWellFormed t
-        → IsConsistent t → ((n : ℕ) → n < record_count t.scale → held n ≡ rows t n)
+        → IsConsistent t → ((n : ℕ) → n < narrow_count t.scale → held n ≡ rows t n)
         → SumsOpen t.scale held t.history v → AreSums t.scale t v }
 {}

@@ -2,9 +2,10 @@
 
 ghost use Rattle.std.specs.Prelude.{◌≡◌, ◌<◌, pos, All, IfOk, length, None, replicate};
 ghost use Rattle.tables.specs.Maps.{sum_of};
-ghost use Rattle.tables.specs.Records.{record_count, key_of};
+ghost use Rattle.tables.specs.Records.{narrow_count, key_of};
 ghost use Rattle.tables.specs.WellFormed.{IsHistoryRow};
-ghost use Rattle.cells.specs.Records.{AreNarrow, held_by};
+ghost use Rattle.cells.specs.Records.{held_by};
+ghost use Rattle.readset.specs.Cells.{AreCellsOf};
 ghost use Rattle.totals.specs.Moves.{MovesSums, HasBuyers, order_before, step, no_history, no_record};
 ghost use Rattle.totals.specs.Counted.{counted_in};
 ghost use Rattle.totals.specs.Opening.{no_sums, worth_from, SumsOpen};
@@ -13,7 +14,7 @@ use crate::places::{Counted, counted_records, is_past};
 use crate::running::RunningSums;
 use cells::{Cells, Pen};
 use std::alloc::{AllocError, Global};
-use tables::{History, Scale, Table, record_count};
+use tables::{History, Scale, Table, narrow_count};
 
 impl RunningSums {
     /// The sums of the tables whose records hold what their newest versions say, and whose HISTORY has these rows.
@@ -26,7 +27,7 @@ impl RunningSums {
         history: &[History],
     ) -> Result<RunningSums, AllocError>
         requires own { pen.old.cells ≡ cells.now }
-        requires count { AreNarrow (record_count scale.now) cells.now }
+        requires count { AreCellsOf scale.now cells.now }
         requires buyers { HasBuyers scale.now (held_by pen.old) }
         requires rows { All (IsHistoryRow scale.now) history.now }
         ensures pen { pen.new ≡ pen.old }
@@ -62,16 +63,16 @@ impl RunningSums {
     /// Counts all records, none of which was counted.
     fn count_records(&mut self, cells: &Cells, pen: &mut Pen)
         requires own { pen.old.cells ≡ cells.now }
-        requires count { AreNarrow (record_count self.old.scale) cells.now }
+        requires count { AreCellsOf self.old.scale cells.now }
         requires buyers { HasBuyers self.old.scale (held_by pen.old) }
         ensures pen { pen.new ≡ pen.old }
         ensures scale { self.new.scale ≡ self.old.scale }
         ensures moves { MovesSums self.old.scale (order_before self.old.scale (held_by pen.old))
-            (worth_from self.old.scale (held_by pen.old) (record_count self.old.scale) 0) no_history
+            (worth_from self.old.scale (held_by pen.old) (narrow_count self.old.scale) 0) no_history
             self.old self.new }
     {
         let counted = counted_records(&self.scale);
-        let count = record_count(&self.scale);
+        let count = narrow_count(&self.scale);
         for number in 0..count {
             self.count_record(cells, pen, &counted, number);
         }
@@ -80,9 +81,9 @@ impl RunningSums {
     /// Counts a record, which wasn't counted.
     fn count_record(&mut self, cells: &Cells, pen: &mut Pen, counted: &Counted, number: u32)
         requires own { pen.old.cells ≡ cells.now }
-        requires count { AreNarrow (record_count self.old.scale) cells.now }
+        requires count { AreCellsOf self.old.scale cells.now }
         requires counted { counted.now ≡ counted_in self.old.scale }
-        requires number { number < record_count self.old.scale }
+        requires number { number < narrow_count self.old.scale }
         requires buyers { HasBuyers self.old.scale (held_by pen.old) }
         ensures pen { pen.new ≡ pen.old }
         ensures scale { self.new.scale ≡ self.old.scale }

@@ -4,10 +4,11 @@ ghost use Rattle.std.specs.Prelude.{◌≡◌, ◌<◌, ◌≤◌, ℕ, pos, Lis
 ghost use Rattle.std.specs.Option.{ForSome, option_copied};
 ghost use Rattle.tables.specs.Sizes.{IsNumber};
 ghost use Rattle.tables.specs.Keys.{order_of};
-ghost use Rattle.tables.specs.Records.{record_count, key_of, size, first_number, district_at, order_at, line_at};
+ghost use Rattle.tables.specs.Records.{narrow_count, key_of, size, first_number, district_at, order_at, line_at};
 ghost use Rattle.tables.specs.WellFormed.{IsHistoryRow};
 ghost use Rattle.tables.specs.declared.records.Table.TheVariants as table;
-ghost use Rattle.cells.specs.Records.{AreNarrow, held_by};
+ghost use Rattle.cells.specs.Records.{held_by};
+ghost use Rattle.readset.specs.Cells.{AreCellsOf};
 ghost use Rattle.readset.specs.Writes.{WritesAreNarrow};
 ghost use Rattle.totals.specs.Moves.{MovesSums, SumsFollow, HasBuyers, order_before, step, moved, no_history};
 ghost use Rattle.totals.specs.Counted.{counted_in};
@@ -161,7 +162,7 @@ impl RunningSums {
         new: Option<&Payload>,
     )
         requires own { pen.old.cells ≡ cells.now }
-        requires count { AreNarrow (record_count self.old.scale) cells.now }
+        requires count { AreCellsOf self.old.scale cells.now }
         requires counted { counted.now ≡ counted_in self.old.scale }
         requires place { place < size self.old.scale table.OrderLine }
         requires buyers { HasBuyers self.old.scale (held_by pen.old) }
@@ -232,8 +233,8 @@ impl RunningSums {
     /// Follows the values that a commit writes, where the records held what their newest versions have.
     fn follow_values(&mut self, cells: &Cells, pen: &mut Pen, writes: &WriteList)
         requires own { pen.old.cells ≡ cells.now }
-        requires count { AreNarrow (record_count self.old.scale) cells.now }
-        requires below { All (λ e. e.0 < record_count self.old.scale) writes.now.values }
+        requires count { AreCellsOf self.old.scale cells.now }
+        requires below { All (λ e. e.0 < narrow_count self.old.scale) writes.now.values }
         requires narrow { WritesAreNarrow writes.now }
         requires buyers { HasBuyers self.old.scale (held_by pen.old) }
         ensures pen { pen.new ≡ pen.old }
@@ -252,8 +253,8 @@ impl RunningSums {
     /// and a load of its words, at a line that is being delivered of its order's too.
     pub fn follow(&mut self, cells: &Cells, pen: &mut Pen, writes: &WriteList)
         requires own { pen.old.cells ≡ cells.now }
-        requires count { AreNarrow (record_count self.old.scale) cells.now }
-        requires below { All (λ e. e.0 < record_count self.old.scale) writes.now.values }
+        requires count { AreCellsOf self.old.scale cells.now }
+        requires below { All (λ e. e.0 < narrow_count self.old.scale) writes.now.values }
         requires narrow { WritesAreNarrow writes.now }
         requires row { ForSome writes.now.history_row (IsHistoryRow self.old.scale) }
         requires buyers { HasBuyers self.old.scale (held_by pen.old) }
@@ -278,9 +279,9 @@ impl RunningSums {
         new: &Option<Payload>,
     )
         requires own { pen.old.cells ≡ cells.now }
-        requires count { AreNarrow (record_count self.old.scale) cells.now }
+        requires count { AreCellsOf self.old.scale cells.now }
         requires counted { counted.now ≡ counted_in self.old.scale }
-        requires number { number < record_count self.old.scale }
+        requires number { number < narrow_count self.old.scale }
         requires buyers { HasBuyers self.old.scale (held_by pen.old) }
         ensures pen { pen.new ≡ pen.old }
         ensures scale { self.new.scale ≡ self.old.scale }
@@ -308,7 +309,7 @@ impl RunningSums {
         new: Option<&Payload>,
     )
         requires own { pen.old.cells ≡ cells.now }
-        requires count { AreNarrow (record_count self.old.scale) cells.now }
+        requires count { AreCellsOf self.old.scale cells.now }
         requires counted { counted.now ≡ counted_in self.old.scale }
         requires first { counted.now.first_district ≤ number }
         requires between { counted.now.end_districts ≤ number → counted.now.first_new_order ≤ number }

@@ -1,12 +1,12 @@
 //! The running totals of a database.
 
 ghost use Rattle.std.specs.Prelude.{◌≡◌, ◌<◌, All, IfOk, length};
-ghost use Rattle.cells.specs.Records.{AreNarrow};
+ghost use Rattle.readset.specs.Cells.{AreCellsOf};
 ghost use Rattle.readset.specs.Writes.{WritesAreNarrow};
 ghost use Rattle.std.specs.Option.{ForSome};
 ghost use Rattle.tables.specs.Sizes.{IsScale};
 ghost use Rattle.tables.specs.Apply.{after};
-ghost use Rattle.tables.specs.Records.{record_count};
+ghost use Rattle.tables.specs.Records.{narrow_count};
 ghost use Rattle.tables.specs.WellFormed.{IsHistoryRow};
 ghost use Rattle.tables.specs.Database.{Database};
 ghost use Rattle.tables.specs.declared.input.Input.{Input as InputOf};
@@ -99,8 +99,8 @@ impl Totals {
     /// Follows it once they are stored: the least and greatest order numbers. Costs what `OrderBounds::follow` does.
     pub fn follow_stores(&mut self, cells: &Cells, pen: &mut Pen, writes: &WriteList)
         requires own { pen.old.cells ≡ cells.now }
-        requires count { AreNarrow (record_count self.old.bounds.scale) cells.now }
-        requires below { All (λ e. e.0 < record_count self.old.bounds.scale) writes.now.values }
+        requires count { AreCellsOf self.old.bounds.scale cells.now }
+        requires below { All (λ e. e.0 < narrow_count self.old.bounds.scale) writes.now.values }
         requires narrow { WritesAreNarrow writes.now }
         ensures pen { pen.new ≡ pen.old }
         ensures sums { self.new.sums ≡ self.old.sums }

@@ -4,13 +4,13 @@ use Rattle.std.specs.Option.{option_map}
 use Rattle.std.specs.FinMap.{get}
 use Rattle.tables.specs.Sizes.{Sizes, IsNumber}
 use Rattle.tables.specs.Keys.{IsDistrictKey}
-use Rattle.tables.specs.Records.{number_of_key, record_count, IsRecordKey}
+use Rattle.tables.specs.Records.{number_of_key, narrow_count, IsNarrowKey}
 use Rattle.tables.specs.Rows.{rows, row_at, order_words, new_order_words}
 use Rattle.tables.specs.Database.{Database}
 use Rattle.tables.specs.declared.keys.DistrictKey.{DistrictKey}
 use Rattle.tables.specs.declared.records.RecordKey.{RecordKey}
 use Rattle.tables.specs.declared.records.RecordKey.TheVariants as key
-use Rattle.tables.proofs.Numbers.{one_to_one}
+use Rattle.tables.proofs.Numbers.{named, narrow_named, of_narrow}
 use Rattle.readset.specs.Writes.{WriteSetView, value_for}
 use Rattle.totals_bounds.specs.Bounds.{BoundsView, AreBounds}
 use Rattle.totals_bounds.specs.Written.{HasOrdersWithin, AreRowsOf, IsWith}
@@ -23,9 +23,10 @@ is_some-map f None = refl
 is_some-map f (Some x) = refl
 
 -- what the record of a key holds
-held_at : (t : Database) (held : ℕ → Option (List ℕ)) → AreRowsOf t held → (k : RecordKey) → IsRecordKey t.scale k
+held_at : (t : Database) (held : ℕ → Option (List ℕ)) → AreRowsOf t held → (k : RecordKey) → IsNarrowKey t.scale k
     → held (number_of_key t.scale k) ≡ row_at t k
-held_at t held are k is = let named = (one_to_one t.scale).0 k is in are (number_of_key t.scale k) named.0 ∙ ap (row_at t) named.1
+held_at t held are k is =
+    are (number_of_key t.scale k) (narrow_named t.scale k is) ∙ ap (row_at t) (named t.scale k (of_narrow t.scale k is)).1
 
 module _ (t : Database) (held : ℕ → Option (List ℕ)) (are : AreRowsOf t held) (within : HasOrdersWithin t) (k : DistrictKey) (is : IsDistrictKey t.scale k) where
   order_there : (n : ℕ) → IsNumber t.scale.orders n → is_some (get t.orders (order_in k n)) ≡ is_there held (first_order t.scale k) n
@@ -66,9 +67,9 @@ module _ (t : Database) (held : ℕ → Option (List ℕ)) (are : AreRowsOf t he
   }
 
 -- where records that aren't left hold what they held, the bounds are right but for those that are
-module _ (s : Sizes) (before held : ℕ → Option (List ℕ)) (left : ℕ → Bool) (same : (n : ℕ) → n < record_count s → left n ≡ false → held n ≡ before n)
+module _ (s : Sizes) (before held : ℕ → Option (List ℕ)) (left : ℕ → Bool) (same : (n : ℕ) → n < narrow_count s → left n ≡ false → held n ≡ before n)
   where
-    greatest_still : (first : ℕ) → ((n : ℕ) → IsNumber s.orders n → numbered first n < record_count s) → (high : ℕ)
+    greatest_still : (first : ℕ) → ((n : ℕ) → IsNumber s.orders n → numbered first n < narrow_count s) → (high : ℕ)
         → IsGreatest s.orders (is_there before first) none_left high → IsGreatest s.orders (is_there held first) (λ n. left (numbered first n)) high
     greatest_still first below high was = record {
       within = λ n is found kept. was.within n is (ap is_some (sym (same _ (below n is) kept)) ∙ found) refl;
@@ -76,7 +77,7 @@ module _ (s : Sizes) (before held : ℕ → Option (List ℕ)) (left : ℕ → B
       limit = was.limit;
     }
 
-    least_still : (first : ℕ) → ((n : ℕ) → IsNumber s.orders n → numbered first n < record_count s) → (low : ℕ)
+    least_still : (first : ℕ) → ((n : ℕ) → IsNumber s.orders n → numbered first n < narrow_count s) → (low : ℕ)
         → IsLeast s.orders (is_there before first) none_left low → IsLeast s.orders (is_there held first) (λ n. left (numbered first n)) low
     least_still first below low was = record {
       within = λ n is found kept. was.within n is (ap is_some (sym (same _ (below n is) kept)) ∙ found) refl;
@@ -84,13 +85,13 @@ module _ (s : Sizes) (before held : ℕ → Option (List ℕ)) (left : ℕ → B
       limit = was.limit;
     }
 
-    order_below : (k : DistrictKey) → IsDistrictKey s k → (n : ℕ) → IsNumber s.orders n → numbered (first_order s k) n < record_count s
+    order_below : (k : DistrictKey) → IsDistrictKey s k → (n : ℕ) → IsNumber s.orders n → numbered (first_order s k) n < narrow_count s
     order_below k is n at =
-        subst (λ m. m < record_count s) (sym (order_numbered s k n)) ((one_to_one s).0 (key.Order (order_in k n)) (is.0, is.1, at)).0
+        subst (λ m. m < narrow_count s) (sym (order_numbered s k n)) (narrow_named s (key.Order (order_in k n)) (is.0, is.1, at))
 
-    new_order_below : (k : DistrictKey) → IsDistrictKey s k → (n : ℕ) → IsNumber s.orders n → numbered (first_new_order s k) n < record_count s
+    new_order_below : (k : DistrictKey) → IsDistrictKey s k → (n : ℕ) → IsNumber s.orders n → numbered (first_new_order s k) n < narrow_count s
     new_order_below k is n at =
-        subst (λ m. m < record_count s) (sym (new_order_numbered s k n)) ((one_to_one s).0 (key.NewOrder (order_in k n)) (is.0, is.1, at)).0
+        subst (λ m. m < narrow_count s) (sym (new_order_numbered s k n)) (narrow_named s (key.NewOrder (order_in k n)) (is.0, is.1, at))
 
     pub ends_still : (v : BoundsView) → AreEnds s before none_left v → AreEnds s held left v
     ends_still v was = record {
@@ -109,7 +110,7 @@ pub ends_before : (t u : Database) (writes : WriteSetView) (held : ℕ → Optio
 ends_before t u writes held v within after are bounds =
     ends_still t.scale (rows t) held (is_among writes.values) same v (ends_of t (rows t) (λ n _. refl) within v bounds)
   where
-    same : (n : ℕ) → n < record_count t.scale → is_among writes.values n ≡ false → held n ≡ rows t n
+    same : (n : ℕ) → n < narrow_count t.scale → is_among writes.values n ≡ false → held n ≡ rows t n
     same n below kept =
-        are n (subst (λ s. n < record_count s) (sym after.scale) below) ∙ after.rows n below
+        are n (subst (λ s. n < narrow_count s) (sym after.scale) below) ∙ after.rows n below
         ∙ ap (λ w. unwrap_or w (rows t n)) (none (value_for writes n) kept)

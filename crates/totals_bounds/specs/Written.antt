@@ -2,7 +2,7 @@
 use Rattle.std.specs.Prelude.{◌≡◌, ℕ, ◌<◌, Option, List}
 use Rattle.tables.specs.Keys.{IsOrderKey}
 use Rattle.tables.specs.Maps.{RowsWithin}
-use Rattle.tables.specs.Records.{record_count}
+use Rattle.tables.specs.Records.{narrow_count}
 use Rattle.tables.specs.Rows.{rows}
 use Rattle.tables.specs.Database.{Database}
 use Rattle.readset.specs.Writes.{WriteSetView, rows_with}
@@ -14,9 +14,9 @@ pub record HasOrdersWithin (t : Database) : Type 0 where
 
 -- these are what the records of tables hold
 abbrev pub AreRowsOf : Database → (ℕ → Option (List ℕ)) → Type 0
-AreRowsOf t held = (n : ℕ) → n < record_count t.scale → held n ≡ rows t n
+AreRowsOf t held = (n : ℕ) → n < narrow_count t.scale → held n ≡ rows t n
 
 -- the tables u are of the scale of t, and have its rows but for these values
 pub record IsWith (t u : Database) (writes : WriteSetView) : Type 0 where
   pub scale : u.scale ≡ t.scale
-  pub rows : (n : ℕ) → n < record_count t.scale → rows u n ≡ rows_with writes (rows t) n
+  pub rows : (n : ℕ) → n < narrow_count t.scale → rows u n ≡ rows_with writes (rows t) n

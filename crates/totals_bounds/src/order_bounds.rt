@@ -2,10 +2,11 @@
 
 ghost use Rattle.std.specs.Prelude.{◌≡◌, ◌+◌, ◌<◌, ◌≤◌, ◌*◌, ◌/◌, ◌%◌, ◌^◌, All, IfOk, false, length, slice_index};
 ghost use Rattle.tables.specs.Keys.{IsDistrictKey};
-ghost use Rattle.tables.specs.Records.{record_count, record_number, district_place, first_number, size};
+ghost use Rattle.tables.specs.Records.{narrow_count, record_number, district_place, first_number, size};
 ghost use Rattle.tables.specs.declared.records.Table.TheVariants as table;
 ghost use Rattle.tables.specs.Database.{Database, empty_database};
-ghost use Rattle.cells.specs.Records.{AreNarrow, cell_count, held_by};
+ghost use Rattle.cells.specs.Records.{cell_count, held_by};
+ghost use Rattle.readset.specs.Cells.{AreCellsOf};
 ghost use Rattle.readset.specs.Writes.{WritesAreNarrow};
 ghost use Rattle.totals_bounds.specs.Bounds.{AreBounds, no_bounds};
 ghost use Rattle.totals_bounds.specs.Written.{HasOrdersWithin, AreRowsOf, IsWith};
@@ -73,7 +74,7 @@ impl OrderBounds {
         pen: &mut Pen,
     ) -> Result<OrderBounds, AllocError>
         requires own { pen.old.cells ≡ cells.now }
-        requires count { AreNarrow (record_count scale) cells.now }
+        requires count { AreCellsOf scale cells.now }
         ensures pen { pen.new ≡ pen.old }
         ensures scale { IfOk result (λ bounds. bounds.scale ≡ scale) }
         ensures bounds { IfOk result (λ bounds. (t : Database) → t.scale ≡ scale → HasOrdersWithin t
@@ -175,7 +176,7 @@ impl OrderBounds {
     /// Looks at the records that a commit has written.
     fn follow_values(&mut self, cells: &Cells, pen: &mut Pen, writes: &WriteList)
         requires own { pen.old.cells ≡ cells.now }
-        requires count { AreNarrow (record_count self.old.scale) cells.now }
+        requires count { AreCellsOf self.old.scale cells.now }
         requires narrow { WritesAreNarrow writes.now }
         ensures pen { pen.new ≡ pen.old }
         ensures scale { self.new.scale ≡ self.old.scale }
@@ -191,7 +192,7 @@ impl OrderBounds {
     /// Looks at all records of ORDER and of NEW-ORDER.
     fn follow_all(&mut self, cells: &Cells, pen: &mut Pen)
         requires own { pen.old.cells ≡ cells.now }
-        requires count { AreNarrow (record_count self.old.scale) cells.now }
+        requires count { AreCellsOf self.old.scale cells.now }
         ensures pen { pen.new ≡ pen.old }
         ensures scale { self.new.scale ≡ self.old.scale }
         ensures ends { self.old ≡ no_bounds self.old.scale
@@ -209,8 +210,8 @@ impl OrderBounds {
     /// the least or the greatest, the next one is looked for, and that is its neighbour in sound tables.
     pub fn follow(&mut self, cells: &Cells, pen: &mut Pen, writes: &WriteList)
         requires own { pen.old.cells ≡ cells.now }
-        requires count { AreNarrow (record_count self.old.scale) cells.now }
-        requires below { All (λ e. e.0 < record_count self.old.scale) writes.now.values }
+        requires count { AreCellsOf self.old.scale cells.now }
+        requires below { All (λ e. e.0 < narrow_count self.old.scale) writes.now.values }
         requires narrow { WritesAreNarrow writes.now }
         ensures pen { pen.new ≡ pen.old }
         ensures scale { self.new.scale ≡ self.old.scale }
@@ -224,7 +225,7 @@ impl OrderBounds {
 
 /// The first record of NEW-ORDER, and the one behind the last of ORDER, whose records follow.
 fn order_records(scale: &Scale) -> (u32, u32)
-    ensures few { record_count scale.now < 2 ^ 32 }
+    ensures few { narrow_count scale.now < 2 ^ 32 }
     ensures first { result.0 ≡ first_number scale.now table.NewOrder }
     ensures end { result.1 ≡ first_number scale.now table.NewOrder
         + (size scale.now table.NewOrder + size scale.now table.Order) }

@@ -98,11 +98,13 @@ passed_other t n r j at other found = record {
 }
 
 pub are_other : (j : RecordKey) → ((k : OrderKey) × (j ≡ key.NewOrder k)) ⊎ (((k : StockKey) × (j ≡ key.Stock k)) ⊎ (((k : DistrictKey) × (j ≡ key.Oldest k))
-    ⊎ ((k : CustomerKey) × (j ≡ key.Last k)))) → IsOther j
+    ⊎ (((k : CustomerKey) × (j ≡ key.Last k)) ⊎ ((k : CustomerKey) × (j ≡ key.CustomerData k)))))
+    → IsOther j
 are_other j (inl is) = ((λ k e. let f = e ∙ is.1 in absurd cc), (λ k e. let f = e ∙ is.1 in absurd cc), (λ k e. let f = e ∙ is.1 in absurd cc), (λ k e. let f = e ∙ is.1 in absurd cc), (λ k e. let f = e ∙ is.1 in absurd cc))
 are_other j (inr (inl is)) = ((λ k e. let f = e ∙ is.1 in absurd cc), (λ k e. let f = e ∙ is.1 in absurd cc), (λ k e. let f = e ∙ is.1 in absurd cc), (λ k e. let f = e ∙ is.1 in absurd cc), (λ k e. let f = e ∙ is.1 in absurd cc))
 are_other j (inr (inr (inl is))) = ((λ k e. let f = e ∙ is.1 in absurd cc), (λ k e. let f = e ∙ is.1 in absurd cc), (λ k e. let f = e ∙ is.1 in absurd cc), (λ k e. let f = e ∙ is.1 in absurd cc), (λ k e. let f = e ∙ is.1 in absurd cc))
-are_other j (inr (inr (inr is))) = ((λ k e. let f = e ∙ is.1 in absurd cc), (λ k e. let f = e ∙ is.1 in absurd cc), (λ k e. let f = e ∙ is.1 in absurd cc), (λ k e. let f = e ∙ is.1 in absurd cc), (λ k e. let f = e ∙ is.1 in absurd cc))
+are_other j (inr (inr (inr (inl is)))) = ((λ k e. let f = e ∙ is.1 in absurd cc), (λ k e. let f = e ∙ is.1 in absurd cc), (λ k e. let f = e ∙ is.1 in absurd cc), (λ k e. let f = e ∙ is.1 in absurd cc), (λ k e. let f = e ∙ is.1 in absurd cc))
+are_other j (inr (inr (inr (inr is)))) = ((λ k e. let f = e ∙ is.1 in absurd cc), (λ k e. let f = e ∙ is.1 in absurd cc), (λ k e. let f = e ∙ is.1 in absurd cc), (λ k e. let f = e ∙ is.1 in absurd cc), (λ k e. let f = e ∙ is.1 in absurd cc))
 
 -- a record that was asked
 pub asked_warehouse : (t : Database) (k : ℕ) → IsWarehouseKey t.scale k → (r : Report) (b1 b8 : Bool) → IsTrue b1 ↔ Condition1At t k → IsTrue b8 ↔ Condition8At t k

@@ -8,7 +8,7 @@ use Rattle.std.specs.declared.cmp.Ordering.{Ordering}
 use Rattle.std.specs.declared.cmp.Ordering.TheVariants.{Less, Equal, Greater}
 use Rattle.tables.specs.Sizes.{Sizes, IsNumber}
 use Rattle.tables.specs.Keys.{district_cmp, customer_cmp, order_cmp, line_cmp, IsWarehouseKey, IsDistrictKey, IsCustomerKey, IsOrderKey, IsLineKey, order_of}
-use Rattle.tables.specs.Records.{number_of_key, record_count, IsRecordKey, district_place, customer_place, order_place}
+use Rattle.tables.specs.Records.{number_of_key, narrow_count, IsNarrowKey, IsRecordKey, district_place, customer_place, order_place}
 use Rattle.tables.specs.Conditions.{Condition7At, IsConsistent}
 use Rattle.tables.specs.Database.{Database}
 use Rattle.tables.specs.declared.limits.TheConstants.{MAX_ORDER_LINES}
@@ -19,7 +19,7 @@ use Rattle.tables.specs.declared.keys.LineKey.{LineKey}
 use Rattle.tables.specs.declared.rows.Order.{Order}
 use Rattle.tables.specs.declared.records.RecordKey.{RecordKey}
 use Rattle.tables.specs.declared.records.RecordKey.TheVariants as key
-use Rattle.tables.proofs.Numbers.{one_to_one}
+use Rattle.tables.proofs.Numbers.{narrow_named, of_narrow}
 use Rattle.conditions.specs.Finds.{FindsLeast}
 use Rattle.conditions.specs.Report.{IsReportOf, IsGood}
 use Rattle.conditions.specs.declared.report.Report.{Report}
@@ -28,11 +28,11 @@ use Rattle.totals_report.specs.Found.{IsLeastBroken, IsFound}
 
 -- what was found of all records is the least of the keys that a condition is asked of
 module _ {K : Type 0} (R : K → K → Ordering) (c : K → RecordKey) (s : Sizes) (IsKey HoldsAt : K → Type 0)
-    (within : (k : K) → IsKey k → IsRecordKey s (c k)) (back : (k : K) → IsRecordKey s (c k) → (HoldsAt k → ⊥) → IsKey k)
+    (within : (k : K) → IsKey k → IsNarrowKey s (c k)) (back : (k : K) → IsRecordKey s (c k) → (HoldsAt k → ⊥) → IsKey k)
     (rises : (j k : K) → IsRecordKey s (c j) → IsRecordKey s (c k) → R j k ≡ Less → number_of_key s (c j) < number_of_key s (c k)) where
-  least_of_all : (r : Option K) → IsLeastBroken c s HoldsAt (record_count s) r → FindsLeast R IsKey HoldsAt r
-  least_of_all None found = λ k is. found k (within k is) ((one_to_one s).0 (c k) (within k is)).0
-  least_of_all (Some k) found = (back k found.0 found.1, found.1, λ j is less. found.2 j (within j is) (rises j k (within j is) found.0 less))
+  least_of_all : (r : Option K) → IsLeastBroken c s HoldsAt (narrow_count s) r → FindsLeast R IsKey HoldsAt r
+  least_of_all None found = λ k is. found k (of_narrow s (c k) (within k is)) (narrow_named s (c k) (within k is))
+  least_of_all (Some k) found = (back k found.0 found.1, found.1, λ j is less. found.2 j (of_narrow s (c j) (within j is)) (rises j k (of_narrow s (c j) (within j is)) found.0 less))
 
 -- ---- the order of keys is that of their records
 -- column by column
@@ -170,7 +170,7 @@ some_row P None broken = absurd (broken (λ x e. absurd (true≢false (sym (ap i
 some_row P (Some r) broken = refl
 
 -- the report
-pub report_of_all : (t : Database) → IsWellFormed t → (r : Report) → IsFound t (record_count t.scale) r → IsReportOf t r
+pub report_of_all : (t : Database) → IsWellFormed t → (r : Report) → IsFound t (narrow_count t.scale) r → IsReportOf t r
 report_of_all t wf r found = record {
   condition_1 = warehouses _ r.condition_1 found.warehouses.condition_1;
   condition_2 = districts _ r.condition_2 found.districts.condition_2;
@@ -186,21 +186,21 @@ report_of_all t wf r found = record {
   condition_12 = customers _ r.condition_12 found.customers.condition_12;
 }
   where
-    warehouses : (H : ℕ → Type 0) (r : Option ℕ) → IsLeastBroken key.Warehouse t.scale H (record_count t.scale) r → FindsLeast nat_cmp (IsWarehouseKey t.scale) H r
+    warehouses : (H : ℕ → Type 0) (r : Option ℕ) → IsLeastBroken key.Warehouse t.scale H (narrow_count t.scale) r → FindsLeast nat_cmp (IsWarehouseKey t.scale) H r
     warehouses H = least_of_all nat_cmp key.Warehouse t.scale (IsWarehouseKey t.scale) H (λ k is. is) (λ k is broken. is)
         (λ j k at_j at_k e. rises_warehouse t.scale j k at_j e)
 
-    districts : (H : DistrictKey → Type 0) (r : Option DistrictKey) → IsLeastBroken key.District t.scale H (record_count t.scale) r
+    districts : (H : DistrictKey → Type 0) (r : Option DistrictKey) → IsLeastBroken key.District t.scale H (narrow_count t.scale) r
         → FindsLeast district_cmp (IsDistrictKey t.scale) H r
     districts H = least_of_all district_cmp key.District t.scale (IsDistrictKey t.scale) H (λ k is. is) (λ k is broken. is)
         (λ j k at_j at_k e. behind _ _ _ (district_rises t.scale j k at_j e))
 
-    customers : (H : CustomerKey → Type 0) (r : Option CustomerKey) → IsLeastBroken key.Customer t.scale H (record_count t.scale) r
+    customers : (H : CustomerKey → Type 0) (r : Option CustomerKey) → IsLeastBroken key.Customer t.scale H (narrow_count t.scale) r
         → FindsLeast customer_cmp (IsCustomerKey t.scale) H r
     customers H = least_of_all customer_cmp key.Customer t.scale (IsCustomerKey t.scale) H (λ k is. is) (λ k is broken. is)
         (λ j k at_j at_k e. behind _ _ _ (customer_rises t.scale j k at_j e))
 
-    orders : (P : OrderKey → Order → Type 0) (r : Option OrderKey) → IsLeastBroken key.Order t.scale (λ k. ForSome (get t.orders k) (P k)) (record_count t.scale) r
+    orders : (P : OrderKey → Order → Type 0) (r : Option OrderKey) → IsLeastBroken key.Order t.scale (λ k. ForSome (get t.orders k) (P k)) (narrow_count t.scale) r
         → FindsLeast order_cmp (λ k. IsSome (get t.orders k)) (λ k. ForSome (get t.orders k) (P k)) r
     orders P = least_of_all order_cmp key.Order t.scale (λ k. IsSome (get t.orders k)) (λ k. ForSome (get t.orders k) (P k)) wf.orders
         (λ k is broken. some_row _ (get t.orders k) broken) (λ j k at_j at_k e. behind _ _ _ (order_rises t.scale j k at_j e))

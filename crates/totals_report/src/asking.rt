@@ -1,9 +1,9 @@
 //! What a report notes when it asks a record.
 
 ghost use Rattle.std.specs.Prelude.{◌≡◌, ◌+◌, ◌<◌, Some, length};
-ghost use Rattle.cells.specs.Records.{AreNarrow};
+ghost use Rattle.readset.specs.Cells.{AreCellsOf};
 ghost use Rattle.tables.specs.Keys.{IsWarehouseKey, IsDistrictKey, IsCustomerKey, IsOrderKey, IsLineKey, order_of};
-ghost use Rattle.tables.specs.Records.{record_count, key_of, number_of_key};
+ghost use Rattle.tables.specs.Records.{narrow_count, key_of, number_of_key};
 ghost use Rattle.tables.specs.Rows.{row_at};
 ghost use Rattle.tables.specs.Database.{Database};
 ghost use Rattle.tables.specs.declared.records.RecordKey.TheVariants as record_key;
@@ -37,8 +37,8 @@ pub fn ask(
     requires sums { sums.now.scale ≡ scale.now }
     requires bounds { bounds.now.scale ≡ scale.now }
     requires own { pen.old.cells ≡ cells.now }
-    requires count { AreNarrow (record_count scale.now) cells.now }
-    requires number { number < record_count scale.now }
+    requires count { AreCellsOf scale.now cells.now }
+    requires number { number < narrow_count scale.now }
     ensures pen { pen.new ≡ pen.old }
     ensures found { (t : Database) → HasTotals sums.now bounds.now t → AreHeld pen.old t → IsFound t number report.old
         → IsFound t (number + 1) report.new }
@@ -62,8 +62,11 @@ pub fn ask(
             let order = cells.held(pen, number);
             ask_line(report, sums, bounds, key, &words, &order);
         }
-        RecordKey::NewOrder(_) | RecordKey::Stock(_) | RecordKey::Oldest(_) | RecordKey::Last(_) =>
-            {}
+        RecordKey::NewOrder(_)
+        | RecordKey::Stock(_)
+        | RecordKey::Oldest(_)
+        | RecordKey::Last(_)
+        | RecordKey::CustomerData(_) => {}
     }
 }
 

@@ -1,8 +1,8 @@
 //! The report.
 
 ghost use Rattle.std.specs.Prelude.{◌≡◌, length};
-ghost use Rattle.cells.specs.Records.{AreNarrow};
-ghost use Rattle.tables.specs.Records.{record_count};
+ghost use Rattle.readset.specs.Cells.{AreCellsOf};
+ghost use Rattle.tables.specs.Records.{narrow_count};
 ghost use Rattle.tables.specs.Conditions.{IsConsistent};
 ghost use Rattle.tables.specs.Database.{Database};
 ghost use Rattle.conditions.specs.Report.{IsReportOf, IsGood};
@@ -12,7 +12,7 @@ ghost use Rattle.totals_report.specs.Told.{HasTotals};
 use crate::asking::ask;
 use cells::{Cells, Pen};
 use conditions::Report;
-use tables::{Scale, record_count};
+use tables::{Scale, narrow_count};
 use totals::RunningSums;
 use totals_bounds::OrderBounds;
 
@@ -29,14 +29,14 @@ pub fn report_of(
     requires sums { sums.now.scale ≡ scale.now }
     requires bounds { bounds.now.scale ≡ scale.now }
     requires own { pen.old.cells ≡ cells.now }
-    requires count { AreNarrow (record_count scale.now) cells.now }
+    requires count { AreCellsOf scale.now cells.now }
     ensures pen { pen.new ≡ pen.old }
     ensures report { (t : Database) → HasTotals sums.now bounds.now t → AreHeld pen.old t → IsReportOf t result }
     ensures good { (t : Database) → HasTotals sums.now bounds.now t → AreHeld pen.old t → IsConsistent t
         → IsGood result }
 {
     let mut report = Report::default();
-    for number in 0..record_count(scale) {
+    for number in 0..narrow_count(scale) {
         ask(&mut report, scale, cells, pen, sums, bounds, number);
     }
     report

@@ -1,7 +1,7 @@
 //! Which crate executes an input: one arm a transaction.
 ghost use Rattle.std.specs.Prelude.{◌≡◌, length, IfOk, IfErr, OnOk};
 ghost use Rattle.tables.specs.Inputs.{IsInput};
-ghost use Rattle.tables.specs.Records.{record_count};
+ghost use Rattle.tables.specs.Records.{narrow_count};
 ghost use Rattle.population.specs.Initial.{initial};
 ghost use Rattle.cells.specs.Records.{HasGrown};
 ghost use Rattle.readset.specs.Reads.{AreRead};
@@ -39,7 +39,7 @@ pub fn execute<R: Wait>(
 ) -> Result<Work, Refusal>
     requires input { IsInput (initial population.now).scale input.now }
     requires own { reader.old.cells ≡ cells.now }
-    requires cells { length cells.now.narrow ≡ record_count (initial population.now).scale }
+    requires cells { length cells.now.narrow ≡ narrow_count (initial population.now).scale }
     ensures input { IfOk result (λ work. work.input ≡ input.now) }
     ensures none_missing { OnOk result (NoneMissing (initial population.now) input.now) }
     ensures within_cap { IfOk result (λ work. ¬ IsAboveCap (initial population.now).scale input.now work.reads) }
@@ -70,7 +70,7 @@ fn run<K: Start, R: Wait>(
     requires tables { initial population.now ≡ K.tables }
     requires reader { reader ≡ K.reader }
     requires own { reader.cells ≡ cells.now }
-    requires cells { length cells.now.narrow ≡ record_count K.tables.scale }
+    requires cells { length cells.now.narrow ≡ narrow_count K.tables.scale }
     ensures { IsExecuted K.tables input.now K.reader result.0 result.1 }
 {
     let transaction = Transaction::<K>::begin(alloc, cells, population, reader);

@@ -1,6 +1,7 @@
 use Rattle.std.proofs.Common.{◌≡◌, sym, ap, ◌∙◌, subst}
 use Rattle.tables.specs.Apply.{after}
 use Rattle.tables_laws.proofs.Kept.{after-scale}
+use Rattle.tables.proofs.Numbers.{narrow_among}
 use Rattle.cells.specs.Records.{PenView}
 use Rattle.totals_bounds.specs.Bounds.{BoundsView, AreBounds}
 use Rattle.totals.specs.Counts.{AreHeld}
@@ -18,5 +19,5 @@ returns-clause-totals g c = λ t x reply may held.
     (c.follow_stores.ensures.scale ∙ ap (λ (b : BoundsView). b.scale) same)
     (subst (AreSums (after t x).scale (after t x)) (sym kept) (c.follow.ensures.sums t x reply may))
     (c.follow_stores.ensures.bounds t (after t x) scale (within t may.records.well_formed) (within (after t x) may.leaves)
-    (record { scale = after-scale t x; rows = may.commit.rows }) (subst (λ (pen : PenView). AreHeld pen (after t x)) c.follow_stores.ensures.pen held)
+    (record { scale = after-scale t x; rows = λ n below. may.commit.rows n (narrow_among t.scale n below) }) (subst (λ (pen : PenView). AreHeld pen (after t x)) c.follow_stores.ensures.pen held)
     (subst (AreBounds t.scale t) (sym same) may.totals.bounds))

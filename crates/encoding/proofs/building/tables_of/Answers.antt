@@ -1,4 +1,4 @@
-use Rattle.std.proofs.Common.{◌≡◌, ℕ, ◌++◌, List, Option, None, sym, ap, ◌∙◌, subst}
+use Rattle.std.proofs.Common.{◌≡◌, ℕ, ◌++◌, List, Option, None, refl, sym, ap, ◌∙◌, subst}
 use Rattle.tables.specs.Database.{Database, database}
 use Rattle.population.specs.Initial.{initial}
 use Rattle.cells.specs.Records.{held_by}
@@ -12,7 +12,7 @@ use Rattle.encoding.proofs.building.tables_of.Goals as goal
 pub put_rows-requires-clause-none : goal.put_rows-requires-clause-none
 put_rows-requires-clause-none c =
     let t0 = database c.tables-first.result.now in
-    subst (AreTables t0 (λ k. None)) (sym c.in_ok-tables.ensures) (no_records t0 _)
+    subst (AreTables t0 (λ k. None)) (sym c.in_ok-tables.ensures) (no_records t0 _ refl)
 
 -- the tables that the loop has made, of the population's tables
 module _ (first t0 t : Database) (values : ℕ → Option (List ℕ)) (lent : first ≡ t0) (made : AreTables first (by_key first.scale values) t) where

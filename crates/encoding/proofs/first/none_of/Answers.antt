@@ -6,6 +6,6 @@ use Rattle.encoding.proofs.first.none_of.Goals as goal
 pub returns : goal.returns
 returns c =
     IfOk-weaker c.absent.result _ _
-    (λ first is. absent_begun c.args.scale.now (record { word = 6; payload = 0 ∷ 0 ∷ 0 ∷ 0 ∷ 0 ∷ 0 ∷ 0 ∷ [] }) refl c.record_count.result first is
-    c.record_count.ensures)
+    (λ first is. absent_begun c.args.scale.now (record { word = 6; payload = 0 ∷ 0 ∷ 0 ∷ 0 ∷ 0 ∷ 0 ∷ 0 ∷ [] }) refl c.narrow_count.result first is
+    c.narrow_count.ensures)
     c.absent.ensures

@@ -1,5 +1,5 @@
 use Rattle.std.proofs.Common.{◌≡◌, ℕ, ◌<◌, List, Option, Some, All, subst, sym}
-use Rattle.tables.specs.Records.{record_count}
+use Rattle.tables.specs.Records.{narrow_count}
 use Rattle.readset.specs.Writes.{WriteSetView, value_for}
 use Rattle.log_entries.proofs.writing.put_writes.Goals as goal
 
@@ -10,9 +10,9 @@ below : (count : ℕ) (writes : WriteSetView) (values : List (ℕ × Option (Lis
 below count writes values e found small = subst (λ vs. All (λ e. e.0 < count) vs) (sym e) (λ k d inside. small _ _ (found k d inside))
 
 pub put_before-requires-clause-numbers : goal.put_before-requires-clause-numbers
-put_before-requires-clause-numbers c = below (record_count c.args.scale.now) c.args.writes.now c.values-values.result.now c.values-values.ensures.values
+put_before-requires-clause-numbers c = below (narrow_count c.args.scale.now) c.args.writes.now c.values-values.result.now c.values-values.ensures.values
     c.values-values.ensures.found c.requires.numbers
 
 pub put_behind-requires-clause-numbers : goal.put_behind-requires-clause-numbers
-put_behind-requires-clause-numbers c = below (record_count c.args.scale.now) c.args.writes.now c.values-values.result.now c.values-values.ensures.values
+put_behind-requires-clause-numbers c = below (narrow_count c.args.scale.now) c.args.writes.now c.values-values.result.now c.values-values.ensures.values
     c.values-values.ensures.found c.requires.numbers

@@ -23,20 +23,20 @@ returns-in-Ok-Transaction-clause-turn g c =
           (sym c.in-Ok-Transaction.field-0-is ∙ ok.0, in_range) told.2,
     )) c.commit.ensures.turn
 
-pub returns-in-Ok-Show-clause-turn : goal.returns-in-Ok-Show-clause-turn
-returns-in-Ok-Show-clause-turn g c =
+pub returns-in_ok-row-in-Ok-Show-clause-turn : goal.returns-in_ok-row-in-Ok-Show-clause-turn
+returns-in_ok-row-in-Ok-Show-clause-turn g c =
     let t0 = g.K.Run.first in
     let scale = c.scale-scale.ensures ∙ ap (λ (t : Database). t.scale) c.population.ensures in
     let ok = c.in-Ok-Show.ensures.ranges in
     let in_range = subst (λ (s : Sizes). IsInRange s c.args.request) scale ok.1 in
     on_ok_weaker c.print.result (λ told. (
-      answer.Row c.show.result,
+      answer.Row c.in_ok-row-in-Ok-Show.row,
       told,
       within_turn t0 c.args.session.now c.args.number c.args.request (Show c.in-Ok-Show.key) _
           (sym c.in-Ok-Show.field-0-is ∙ ok.0, in_range) (
-            c.show.result,
-            c.show.ensures.row,
-            ap (λ (v : SessionView). record { answer = answer.Row c.show.result; state = state_of t0 v }) c.show.ensures.same,
+            c.in_ok-row-in-Ok-Show.row,
+            c.in_ok-row-in-Ok-Show.ensures.row,
+            ap (λ (v : SessionView). record { answer = answer.Row c.in_ok-row-in-Ok-Show.row; state = state_of t0 v }) c.show.ensures.same,
           ),
     )) c.print.ensures.ok
 

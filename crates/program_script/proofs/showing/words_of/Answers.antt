@@ -1,6 +1,7 @@
-use Rattle.std.proofs.Common.{◌≡◌, ap, ◌∙◌}
+use Rattle.std.proofs.Common.{◌≡◌, ◌<◌, sym, ap, ◌∙◌, subst}
 use Rattle.tables.specs.Sizes.{Sizes}
-use Rattle.tables.specs.Records.{number_of_key}
+use Rattle.tables.specs.Records.{number_of_key, narrow_count, IsNarrowKey, IsRecordKey}
+use Rattle.tables.proofs.Numbers.{of_narrow}
 use Rattle.tables.specs.Rows.{rows}
 use Rattle.book.specs.History.{replay}
 use Rattle.tables.specs.Database.{Database}
@@ -14,4 +15,14 @@ returns-clause-words g c =
     let t = replay t0 c.args.session.now.history in
     let scale : c.scale-scale.result ≡ t0.scale = c.scale-scale.ensures ∙ ap (λ (t : Database). t.scale) c.population.ensures in
     c.record.ensures.words ∙ ap (rows t) (c.number_of_key.ensures.value ∙ ap (λ (z : Sizes). number_of_key z c.args.key) scale)
-    ∙ record_at t0 t (replay-IsOf t0 c.args.session.now.history) c.args.key c.requires
+    ∙ record_at t0 t (replay-IsOf t0 c.args.session.now.history) c.args.key (of_narrow t0.scale c.args.key c.requires)
+
+pub number_of_key-requires : goal.number_of_key-requires
+number_of_key-requires g c = subst (λ (z : Sizes). IsRecordKey z c.args.key)
+    (sym (c.scale-scale.ensures ∙ ap (λ (t : Database). t.scale) c.population.ensures)) (of_narrow g.K.Run.first.scale c.args.key c.requires)
+
+pub record-requires : goal.record-requires
+record-requires g c =
+    let scale = c.scale-scale.ensures ∙ ap (λ (t : Database). t.scale) c.population.ensures in
+    subst (λ (z : Sizes). c.number_of_key.result < narrow_count z) scale
+    (c.number_of_key.ensures.narrow (subst (λ (z : Sizes). IsNarrowKey z c.args.key) (sym scale) c.requires))

@@ -24,6 +24,12 @@ returns-in-customer c =
     let parts = c.in_ok-table.ensures ∙ ap (λ w. w ∷ words c.in_ok-table.key.now) is in
     subst (λ ws. AnswersKey ws c.show_customer.result) (sym parts) c.show_customer.ensures
 
+pub returns-in-data : goal.returns-in-data
+returns-in-data c =
+    let is : c.in_ok-table.table.now ≡ codes "data" = text_from_reads c.in_ok-table.table.now (codes "data") (omega arith) (search rules) in
+    let parts = c.in_ok-table.ensures ∙ ap (λ w. w ∷ words c.in_ok-table.key.now) is in
+    subst (λ ws. AnswersKey ws c.show_data.result) (sym parts) c.show_data.ensures
+
 pub returns-in-stock : goal.returns-in-stock
 returns-in-stock c =
     let is : c.in_ok-table.table.now ≡ codes "stock" = text_from_reads c.in_ok-table.table.now (codes "stock") (omega arith) (search rules) in
@@ -42,8 +48,9 @@ returns-in_default c =
     let no_warehouse : table ≢ codes "warehouse" = λ e. grind (arith, ap length e) in
     let no_district : table ≢ codes "district" = λ e. grind (arith, ap length e) in
     let no_customer : table ≢ codes "customer" = λ e. grind (arith, ap length e) in
+    let no_data : table ≢ codes "data" = λ e. grind (arith, ap length e) in
     let no_stock : table ≢ codes "stock" = λ e. grind (arith, ap length e) in
     let no_order : table ≢ codes "order" = λ e. grind (arith, ap length e) in
     let shows = c.in_ok-table.ensures in
     subst (λ ws. AnswersKey ws (Err BadLine)) (sym shows)
-    (refl, λ key h. no_table (table ∷ words c.in_ok-table.key.now) no_warehouse no_district no_customer no_stock no_order key)
+    (refl, λ key h. no_table (table ∷ words c.in_ok-table.key.now) no_warehouse no_district no_customer no_data no_stock no_order key)

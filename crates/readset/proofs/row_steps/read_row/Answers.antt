@@ -2,7 +2,8 @@ use Rattle.std.proofs.Common.{◌≡◌, ◌≢◌, ℕ, Option, Some, List, sym
 use Rattle.std.specs.Option.{option_map}
 use Rattle.std.proofs.lemmas.Option.{none-some, same_Some}
 use Rattle.tables.specs.Sizes.{Sizes}
-use Rattle.tables.specs.Records.{IsRecordKey, number_of_key}
+use Rattle.tables.specs.Records.{IsNarrowKey, number_of_key}
+use Rattle.tables.proofs.Numbers.{of_narrow}
 use Rattle.tables.specs.Rows.{row_at}
 use Rattle.tables.specs.declared.records.RecordKey.{RecordKey}
 use Rattle.readset.specs.Reads.{IsReadAs}
@@ -29,7 +30,7 @@ returns-in-None-clause-row g c = λ t h.
     sym (c.in_ok-words.ensures.words t h ∙ c.in-Some.is) ∙ ap (row_at t) c.key.ensures ∙ g.met.T.Keyed.record_holds_row t c.args.key in
     no_row (g.T.Keyed.are c.scale.result) g.T.Keyed.words_of c.in-Some.words c.read-2.result c.read-2.ensures c.in-None.is (g.T.Keyed.at t c.args.key)
     (λ r is. subst (λ (q : Sizes). g.T.Keyed.are q r) (h.of_population.scale ∙ sym s) (g.met.T.Keyed.within t c.args.key r h.well_formed
-    (subst (λ (q : Sizes). IsRecordKey q (g.T.Keyed.record_of c.args.key)) (sym h.of_population.scale) c.requires) is)) held
+    (of_narrow t.scale (g.T.Keyed.record_of c.args.key) (subst (λ (q : Sizes). IsNarrowKey q (g.T.Keyed.record_of c.args.key)) (sym h.of_population.scale) c.requires)) is)) held
 
 pub returns-in_default-clause-version : goal.returns-in_default-clause-version
 returns-in_default-clause-version g c =

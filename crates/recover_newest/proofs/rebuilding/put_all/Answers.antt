@@ -1,7 +1,8 @@
 use Rattle.std.proofs.Common.{◌≡◌, ◌+◌, ◌<◌, ℕ, List, Option, sym, ap, ◌∙◌, subst}
 use Rattle.tables.specs.Database.{Database, database}
-use Rattle.tables.specs.Records.{record_count}
+use Rattle.tables.specs.Records.{narrow_count}
 use Rattle.tables.specs.Rows.{rows}
+use Rattle.tables.proofs.Numbers.{narrow_among}
 use Rattle.encoding.specs.Held.{by_key, AreTables}
 use Rattle.recover_newest.specs.Known.{known}
 use Rattle.recover_newest.proofs.Putting.{put_below, next_stays, next_put}
@@ -13,12 +14,12 @@ loop-number-preserved c =
     let t0 = database c.args.population.now in
     let next = c.loop-number.number in
     let newest = known c.args.newest.now in
-    let small : next < record_count t0.scale = subst (λ (n : ℕ). next < n) c.record_count-number-end.ensures c.loop-number-test.true in
+    let small : next < narrow_count t0.scale = subst (λ (n : ℕ). next < n) c.narrow_count-number-end.ensures c.loop-number-test.true in
     elim c.match-get.branch [
       | in-Some+in_ok-put_one w ↦
           let puts = w.in_ok-put_one.ensures in
           let new = database w.put_one.new.tables in
-          let tables = next_put newest (rows t0) t0 next w.in-Some.write (database c.loop-number.tables) new small
+          let tables = next_put newest (rows t0) t0 next w.in-Some.write (database c.loop-number.tables) new (narrow_among t0.scale next small)
           (sym c.get.ensures ∙ w.in-Some.is) c.loop-number.invariant.tables puts in
           record {
             tables = subst (λ (t : Database). AreTables t0 (by_key t0.scale (put_below (next + 1) newest (rows t0))) t)

@@ -1,7 +1,7 @@
 use Rattle.std.proofs.Common.{◌<◌, ◌≤◌, List, sym, ap, ◌∙◌, subst, arith}
 use Rattle.tables.specs.Sizes.{Sizes}
 use Rattle.tables.specs.Database.{Database}
-use Rattle.tables.specs.Records.{key_of, record_count}
+use Rattle.tables.specs.Records.{key_of, narrow_count}
 use Rattle.tables.specs.Rows.{rows}
 use Rattle.population.specs.Initial.{initial}
 use Rattle.cells.specs.Versions.{value_in}
@@ -14,13 +14,13 @@ use Rattle.encoding.proofs.Values.{lawful_values}
 use Rattle.tables.specs.WellFormed.{IsWellFormed}
 use Rattle.tests_tables.proofs.building_tests.changed_versions.Goals as goal
 
-rows_first : (s : Sizes) → row_count s ≤ record_count s
+rows_first : (s : Sizes) → row_count s ≤ narrow_count s
 rows_first s = omega arith
 
 -- what the records of well-formed tables begin with is lawful
 begins_lawful : (t0 : Database) (first : List Newest) → IsWellFormed t0 → AreFirst t0 first → AreLawful t0.scale (λ n. value_in (words_at first n))
 begins_lawful t0 first well_formed are n h =
-    let small : n < record_count t0.scale = omega (arith, h, rows_first t0.scale) in
+    let small : n < narrow_count t0.scale = omega (arith, h, rows_first t0.scale) in
     subst (MayHold t0.scale (key_of t0.scale n)) (sym (ap value_in (are.words n small) ∙ first_value (rows t0 n)))
     (lawful_values t0 well_formed n h)
 

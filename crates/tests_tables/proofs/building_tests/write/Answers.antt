@@ -3,7 +3,7 @@ use Rattle.std.specs.Option.{option_map_or}
 use Rattle.std.proofs.lemmas.Bool.{cases_eq}
 use Rattle.tables.specs.Sizes.{Sizes}
 use Rattle.tables.specs.Records.{key_of}
-use Rattle.tables.proofs.Numbers.{named}
+use Rattle.tables.proofs.Numbers.{named, of_narrow}
 use Rattle.cells.specs.Versions.{value_in}
 use Rattle.cells.specs.Records.{newest_words}
 use Rattle.cells.specs.declared.cells.Newest.{Newest}
@@ -26,7 +26,7 @@ returns-clause-lawful c =
     let s = c.args.scale.now in
     let i = c.number_of_key-number.result in
     let version : Newest = record { word = 2; payload = c.args.words } in
-    let key : key_of s i ≡ c.args.key = ap (key_of s) c.number_of_key-number.ensures.value ∙ (named s c.args.key c.requires.key).1 in
+    let key : key_of s i ≡ c.args.key = ap (key_of s) c.number_of_key-number.ensures.value ∙ (named s c.args.key (of_narrow s c.args.key c.requires.key)).1 in
     subst (λ (l : List Newest). AreLawful s (λ n. value_in (words_at l n))) (sym c.in_ok-set.ensures.ok)
-    (lawful c.args.first.now i version s (omega (arith, c.requires.count, c.number_of_key-number.ensures.limit)) c.requires.lawful
+    (lawful c.args.first.now i version s (omega (arith, c.requires.count, c.number_of_key-number.ensures.narrow c.requires.key)) c.requires.lawful
     (subst (λ k. MayHold s k (Some c.args.words)) (sym key) c.requires.words))

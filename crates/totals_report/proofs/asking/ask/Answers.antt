@@ -1,12 +1,12 @@
 use Rattle.std.proofs.Common.{◌≡◌, ℕ, ◌+◌, ◌<◌, sym, ap, ◌∙◌, subst}
 use Rattle.tables.specs.Sizes.{Sizes}
 use Rattle.tables.specs.Keys.{order_of}
-use Rattle.tables.specs.Records.{record_count, key_of, number_of_key, IsRecordKey}
+use Rattle.tables.specs.Records.{narrow_count, key_of, number_of_key, IsNarrowKey}
 use Rattle.tables.specs.Rows.{row_at}
 use Rattle.tables.specs.Database.{Database}
 use Rattle.tables.specs.declared.records.RecordKey.{RecordKey}
 use Rattle.tables.specs.declared.records.RecordKey.TheVariants as record_key
-use Rattle.tables.proofs.Numbers.{one_to_one}
+use Rattle.tables.proofs.Numbers.{named, numbered, narrow_among, narrow_named, narrow_numbered, of_narrow}
 use Rattle.cells.specs.Records.{PenView, held_by}
 use Rattle.totals.specs.Counts.{AreHeld}
 use Rattle.totals_report.specs.Found.{IsFound}
@@ -18,22 +18,22 @@ record IsOf (t : Database) (pen : PenView) (n : ℕ) (k : RecordKey) : Type 0 wh
   number : number_of_key t.scale k ≡ n
   row : row_at t k ≡ held_by pen n
 
-of_key : (t : Database) (pen : PenView) (s : Sizes) → s ≡ t.scale → AreHeld pen t → (k : RecordKey) → IsRecordKey s k
+of_key : (t : Database) (pen : PenView) (s : Sizes) → s ≡ t.scale → AreHeld pen t → (k : RecordKey) → IsNarrowKey s k
     → IsOf t pen (number_of_key s k) k
 of_key t pen s scale are k is =
-    let named = (one_to_one t.scale).0 k (subst (λ z. IsRecordKey z k) scale is) in
+    let at = subst (λ z. IsNarrowKey z k) scale is in
     let same : number_of_key t.scale k ≡ number_of_key s k = ap (λ z. number_of_key z k) (sym scale) in
     record {
       number = same;
-      row = ap (row_at t) (sym named.1) ∙ sym (are (number_of_key t.scale k) named.0) ∙ ap (held_by pen) same;
+      row = ap (row_at t) (sym (named t.scale k (of_narrow t.scale k at)).1) ∙ sym (are (number_of_key t.scale k) (narrow_named t.scale k at))
+          ∙ ap (held_by pen) same;
     }
 
-of_number : (t : Database) (pen : PenView) (s : Sizes) → s ≡ t.scale → AreHeld pen t → (n : ℕ) → n < record_count s → (k : RecordKey) → k ≡ key_of s n
+of_number : (t : Database) (pen : PenView) (s : Sizes) → s ≡ t.scale → AreHeld pen t → (n : ℕ) → n < narrow_count s → (k : RecordKey) → k ≡ key_of s n
     → IsOf t pen n k
 of_number t pen s scale are n below k key =
-    let back = (one_to_one s).1 n below in
-    let is : IsRecordKey s k = subst (IsRecordKey s) (sym key) back.0 in
-    subst (λ m. IsOf t pen m k) (ap (number_of_key s) key ∙ back.1) (of_key t pen s scale are k is)
+    let is : IsNarrowKey s k = subst (IsNarrowKey s) (sym key) (narrow_numbered s n below) in
+    subst (λ m. IsOf t pen m k) (ap (number_of_key s) key ∙ (numbered s n (narrow_among s n below)).1) (of_key t pen s scale are k is)
 
 pub returns-in_default-clause-found : goal.returns-in_default-clause-found
 returns-in_default-clause-found c = λ t totals are found.

@@ -2,7 +2,8 @@ use Rattle.std.proofs.Common.{◌≡◌, ◌∙◌, ap, sym, subst, IsSome, Some
 use Rattle.cells.specs.Records.{CellsView}
 use Rattle.tables.specs.Sizes.{Sizes}
 use Rattle.tables.specs.Database.{Database}
-use Rattle.tables.specs.Records.{number_of_key}
+use Rattle.tables.specs.Records.{number_of_key, IsNarrowKey, IsRecordKey, narrow_count}
+use Rattle.tables.proofs.Numbers.{of_narrow}
 use Rattle.readset.specs.Reads.{AreReadOfKind, held, value_of}
 use Rattle.readset.specs.Transaction.{TransactionView}
 use Rattle.readset.proofs.UnderWay.{loaded_under_way, row_told, some_is}
@@ -20,6 +21,10 @@ invariant_of-self-2 g c =
           i.3 i.1 loaded.chain loaded.grown_since loaded.within loaded.kinds loaded.keeps,
     )
 
+pub number_of_key-number-requires : goal.number_of_key-number-requires
+number_of_key-number-requires g c = subst (λ (q : Sizes). IsRecordKey q c.args.key)
+    (sym (c.numbering.ensures ∙ ap (λ (t : Database). t.scale) c.self.invariant.0)) (of_narrow g.K.Start.tables.scale c.args.key c.requires)
+
 pub get-requires-clause-kinds : goal.get-requires-clause-kinds
 get-requires-clause-kinds g c = subst (λ (cells : CellsView). AreReadOfKind cells c.self.inside.reads) (sym c.self.invariant.1) c.self.invariant.3.reads_kinds
 
@@ -27,7 +32,7 @@ pub returns-clause-words : goal.returns-clause-words
 returns-clause-words g c =
     let at = c.number_of_key-number.ensures.value
     ∙ ap (λ (q : Sizes). number_of_key q c.args.key) (c.numbering.ensures ∙ ap (λ (t : Database). t.scale) c.self.invariant.0) in
-    row_told g.K.Start.tables c.get.new.self c.args.key c.number_of_key-number.result c.in_ok-version.version c.value_of.result at c.requires
+    row_told g.K.Start.tables c.get.new.self c.args.key c.number_of_key-number.result c.in_ok-version.version c.value_of.result at (of_narrow g.K.Start.tables.scale c.args.key c.requires)
     c.in_ok-version.ensures.holds c.value_of.ensures
 
 pub returns-clause-holds : goal.returns-clause-holds

@@ -1,6 +1,6 @@
 use Rattle.std.proofs.Common.{◌≡◌, ℕ, suc, ◌+◌, ◌-◌, ◌<◌, ◌≤◌, None, sym, ap, ◌∙◌, subst, arith}
 use Rattle.tables.specs.Sizes.{Sizes}
-use Rattle.tables.specs.Records.{record_count, key_of}
+use Rattle.tables.specs.Records.{narrow_count, key_of}
 use Rattle.totals.specs.Totals.{SumsView}
 use Rattle.cells.specs.Records.{PenView, held_by}
 use Rattle.totals.specs.Moves.{MovesSums, order_before, step, no_history}
@@ -19,7 +19,7 @@ loop-number-preserved c =
     let s = c.args.self.now.scale in
     let held = held_by c.args.pen.now in
     let n = c.loop-number.number in
-    let count = c.record_count-count.result in
+    let count = c.narrow_count-count.result in
     record {
       pen = c.count_record.ensures.pen ∙ c.loop-number.invariant.pen;
       scale = c.count_record.ensures.scale ∙ c.loop-number.invariant.scale;
@@ -39,9 +39,9 @@ returns-clause-moves c =
     let s = c.args.self.now.scale in
     let held = held_by c.args.pen.now in
     let n = c.loop-number.number in
-    let count = c.record_count-count.result in
+    let count = c.narrow_count-count.result in
     subst (λ m. MovesSums s (order_before s held) (worth_from s held m 0) no_history c.args.self.now c.loop-number.self)
-    (c.record_count-count.ensures ∙ ap (λ (w : SumsView). record_count w.scale) c.self.view_is)
+    (c.narrow_count-count.ensures ∙ ap (λ (w : SumsView). narrow_count w.scale) c.self.view_is)
     (c.loop-number.invariant.rest c.loop-number.self
     (subst (λ m. MovesSums s (order_before s held) (worth_from s held m n) no_history c.loop-number.self c.loop-number.self)
     (sym (none_left count n c.loop-number-test.false))

@@ -1,8 +1,9 @@
 use Rattle.std.proofs.Common.{◌+◌, ◌<◌, ◌≡◌, None, All, [], drop, get_or, refl, sym, ap, ◌∙◌, subst}
 use Rattle.std.proofs.lemmas.List.{drop_more, drop_all}
 use Rattle.tables.specs.Sizes.{Sizes}
-use Rattle.tables.specs.Records.{key_of, record_count}
+use Rattle.tables.specs.Records.{key_of, narrow_count}
 use Rattle.cells.specs.Records.{PenView, held_by}
+use Rattle.readset.specs.Cells.{AreCellsOf}
 use Rattle.totals.specs.Moves.{MovesSums, HasBuyers, order_before, step, moved, no_history}
 use Rattle.totals.proofs.Moving.{then_moves, none_moves}
 use Rattle.totals.proofs.running.RunningSums.follow_values.Goals as goal
@@ -17,12 +18,12 @@ loop-number-init c = record {
 
 pub follow_record-requires-clause-number : goal.follow_record-requires-clause-number
 follow_record-requires-clause-number c =
-    subst (λ z. (get_or c.values-number-items.result.now c.loop-number.number-index (0, None)).0 < record_count z) (sym c.loop-number.invariant.scale)
-    (subst (λ ws. All (λ e. e.0 < record_count c.args.self.now.scale) ws) (sym c.values-number-items.ensures.values) c.requires.below c.loop-number.number-index
+    subst (λ z. (get_or c.values-number-items.result.now c.loop-number.number-index (0, None)).0 < narrow_count z) (sym c.loop-number.invariant.scale)
+    (subst (λ ws. All (λ e. e.0 < narrow_count c.args.self.now.scale) ws) (sym c.values-number-items.ensures.values) c.requires.below c.loop-number.number-index
     (0, None) c.loop-number-test.true)
 
 pub follow_record-requires-clause-count : goal.follow_record-requires-clause-count
-follow_record-requires-clause-count c = (c.requires.count.0 ∙ ap record_count (sym c.loop-number.invariant.scale), c.requires.count.1)
+follow_record-requires-clause-count c = subst (λ s. AreCellsOf s c.args.cells.now) (sym c.loop-number.invariant.scale) c.requires.count
 
 pub follow_record-requires-clause-buyers : goal.follow_record-requires-clause-buyers
 follow_record-requires-clause-buyers c = subst (λ (q : Sizes × PenView). HasBuyers q.0 (held_by q.1))

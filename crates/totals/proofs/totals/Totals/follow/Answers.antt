@@ -2,11 +2,12 @@ use Rattle.std.proofs.Common.{◌≡◌, ◌<◌, All, sym, ap, ◌∙◌, subst
 use Rattle.std.specs.Option.{ForSome}
 use Rattle.tables.specs.Sizes.{Sizes, IsScale}
 use Rattle.tables.specs.Apply.{after}
-use Rattle.tables.specs.Records.{record_count}
+use Rattle.tables.specs.Records.{narrow_count}
 use Rattle.tables.specs.WellFormed.{IsHistoryRow}
 use Rattle.tables_laws.proofs.Kept.{after-scale}
 use Rattle.totals.specs.Totals.{TotalsView, SumsView}
-use Rattle.cells.specs.Records.{AreNarrow, held_by}
+use Rattle.cells.specs.Records.{held_by}
+use Rattle.readset.specs.Cells.{AreCellsOf}
 use Rattle.totals.specs.Moves.{HasBuyers, SumsFollow}
 use Rattle.totals.proofs.Recorded.{buyers_named, row_added}
 use Rattle.totals.proofs.totals.Totals.follow.Goals as goal
@@ -14,7 +15,7 @@ use Rattle.totals.proofs.totals.Totals.follow.Goals as goal
 pub follow-requires-clause-below : goal.follow-requires-clause-below
 follow-requires-clause-below c =
     let may = c.requires.may.3 in
-    subst (λ s. All (λ e. e.0 < record_count s) c.args.writes.now.values) (sym may.totals.sums_scale ∙ ap (λ (v : TotalsView). v.sums.scale) (sym c.self.view_is))
+    subst (λ s. All (λ e. e.0 < narrow_count s) c.args.writes.now.values) (sym may.totals.sums_scale ∙ ap (λ (v : TotalsView). v.sums.scale) (sym c.self.view_is))
     may.ordered.below
 
 pub follow-requires-clause-row : goal.follow-requires-clause-row
@@ -29,8 +30,8 @@ follow-requires-clause-row c =
 pub follow-requires-clause-count : goal.follow-requires-clause-count
 follow-requires-clause-count c =
     let may = c.requires.may in
-    let cells = subst (AreNarrow (record_count may.0.scale)) c.requires.own may.3.records.count in
-    (cells.0 ∙ ap record_count (sym may.3.totals.sums_scale ∙ ap (λ (v : TotalsView). v.sums.scale) (sym c.self.view_is)), cells.1)
+    let cells = subst (AreCellsOf may.0.scale) c.requires.own may.3.records.count in
+    subst (λ s. AreCellsOf s c.args.cells.now) (sym may.3.totals.sums_scale ∙ ap (λ (v : TotalsView). v.sums.scale) (sym c.self.view_is)) cells
 
 pub follow-requires-clause-buyers : goal.follow-requires-clause-buyers
 follow-requires-clause-buyers c =
