@@ -8,7 +8,7 @@ ghost use Rattle.cells.specs.Versions.{last_tid};
 ghost use Rattle.cells.specs.Records.{at};
 
 use anyhow::bail;
-use cells::{Cells, FirstVersions, Pen, Reader, WideNewest};
+use cells::{Cells, FirstVersions, FirstWideVersions, Pen, Reader, WideNewest};
 use std::rt::{Clock, Env, Files};
 use std::sync::Wait;
 use std::time::Instant;
@@ -23,6 +23,12 @@ const PAGE: u64 = 4096;
 
 /// A step between records that scatters them: a prime, so that all of them come.
 const SCATTERED: u32 = 148_381;
+
+/// What a wide cell begins with: an absent record.
+const ABSENT: WideNewest = WideNewest {
+    word: TidWord::ABSENT,
+    payload: [0; 63],
+};
 
 /// The cells and their holders.
 #[derive(Drop)]
@@ -161,15 +167,13 @@ fn next_turn<R: Wait>(
 }
 
 /// The first versions of this many wide cells: absent ones.
-fn first_wide<R: AllocGlobal>(rt: &R, count: u32) -> anyhow::Result<Vec<WideNewest>>
-    ensures { IfOk result (λ first. length first.items ≡ count) }
+fn first_wide<R: AllocGlobal>(rt: &R, count: u32) -> anyhow::Result<FirstWideVersions>
+    ensures { IfOk result (λ first. length first ≡ count) }
 {
-    let absent = WideNewest {
-        word: TidWord::ABSENT,
-        payload: [0; 63],
-    };
-    let mut first = Vec::new(rt.alloc());
-    first.resize(count as usize, absent)?;
+    let mut first = FirstWideVersions::new(rt.alloc());
+    for _ in 0..count {
+        first.push(ABSENT)?;
+    }
     Ok(first)
 }
 
@@ -178,10 +182,10 @@ fn bench_of<R: Wait + Files + AllocGlobal>(rt: &R, count: u32) -> anyhow::Result
     if count == 0 || count > MAX_CELLS {
         bail!("CELLS is from 1 to {MAX_CELLS}");
     }
+    let before = resident(rt)?;
     let first = FirstVersions::absent(rt.alloc(), count as usize)?;
     let wide = first_wide(rt, count)?;
-    let before = resident(rt)?;
-    let (cells, mut pen, mut readers) = Cells::with_wide(rt, rt.alloc(), first, &wide, 1)?;
+    let (cells, mut pen, mut readers) = Cells::with_wide(rt, rt.alloc(), first, wide, 1)?;
     let bytes = resident(rt)?.saturating_sub(before);
     let Some(mut reader) = readers.pop() else {
         bail!("no reader");

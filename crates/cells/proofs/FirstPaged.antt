@@ -1,14 +1,11 @@
 -- The first versions of records, page by page.
-use Rattle.std.proofs.Common.{◌≡◌, ℕ, zero, suc, ◌+◌, ◌*◌, ◌/◌, ◌%◌, ◌<◌, ◌≤◌, List, [], ◌∷◌, ◌++◌, map, length, get_or, set, replicate, refl, sym, ap, ◌∙◌, subst, arith, length-append, append_assoc, div-add-mod'}
+use Rattle.std.proofs.Common.{◌≡◌, ℕ, zero, suc, ◌+◌, ◌*◌, ◌/◌, ◌%◌, ◌<◌, List, [], ◌∷◌, ◌++◌, map, length, get_or, set, replicate, refl, sym, ap, ◌∙◌, subst, arith, length-append, div-add-mod'}
 use Rattle.std.specs.List.{flat_map}
 use Rattle.std.proofs.Math.Seq.{map-set_same}
-use Rattle.std.proofs.lemmas.List.{length-replicate, replicate-append-replicate, map-append, length-map}
+use Rattle.std.proofs.lemmas.List.{length-replicate, replicate-append-replicate, map-append}
 use Rattle.cells.specs.declared.cells.Newest.{Newest}
-use Rattle.atomic_table.specs.Seated.{TableId}
-use Rattle.cells_holders.specs.Records.{PagesPen}
-use Rattle.cells.specs.First.{absent_version, firsts}
+use Rattle.cells.specs.First.{absent_version}
 use Rattle.cells_holders.specs.Pages.{IsPaged}
-use Rattle.cells_holders.specs.Opening.{AreFull}
 use Rattle.cells_holders.proofs.Paged.{total, paged_more, stands, stands_within, found, set_in, flat_push}
 
 abbrev pub joined : List (List Newest) → List Newest
@@ -93,45 +90,3 @@ absent_and count k rest e some few =
           ∙ replicate-append-replicate (k * 4096) rest absent_version
           ∙ ap (λ n. replicate n absent_version) (sym e);
     }
-
--- cells are made of a page's versions, and of the next ones
-first_paged : (page : List Newest) (rest : List (List Newest)) → IsPaged (map length (page ∷ rest)) → (0 < length page) × (length page ≤ 4096)
-first_paged page [] h = h
-first_paged page (next ∷ rest) h = (omega (arith, h.0), omega (arith, h.0))
-
-rest_paged : (page : List Newest) (rest : List (List Newest)) → IsPaged (map length (page ∷ rest)) → IsPaged (map length rest)
-rest_paged page [] h = tt
-rest_paged page (next ∷ rest) h = h.1
-
-first_full : (page : List Newest) (rest : List (List Newest)) → IsPaged (map length (page ∷ rest)) → 0 < length rest → length page ≡ 4096
-first_full page [] h some = absurd (omega (arith, some))
-first_full page (next ∷ rest) h some = h.0
-
-module _ (page : List Newest) (rest left : List (List Newest)) (is : left ≡ page ∷ rest) (paged : IsPaged (map length left)) where
-  this : IsPaged (map length (page ∷ rest))
-  this = subst (λ (l : List (List Newest)). IsPaged (map length l)) is paged
-
-  pub some_left : 0 < length left
-  some_left = omega (arith, ap length is)
-
-  pub page_paged : (0 < length page) × (length page ≤ 4096)
-  page_paged = first_paged page rest this
-
-  pub paged_on : IsPaged (map length rest)
-  paged_on = rest_paged page rest this
-
-  module _ (w : PagesPen) (cells : List TableId) (count : length cells ≡ length (firsts page)) where
-    cells_count : length (w.cells ++ cells) ≡ length w.cells + length page
-    cells_count = length-append w.cells cells ∙ ap (λ n. length w.cells + n) (count ∙ length-map page _)
-
-    pub cells_on : (first : List Newest) → length w.cells + length (joined left) ≡ length first → length (w.cells ++ cells) + length (joined rest) ≡ length first
-    cells_on first e = let all : length (joined left) ≡ length page + length (joined rest) = ap (λ (l : List (List Newest)). length (joined l)) is ∙ length-append page (joined rest) in
-        omega (arith, cells_count, all, e)
-
-    pub versions_on : (first : List Newest) → w.all ++ firsts (joined left) ≡ firsts first → (w.all ++ firsts page) ++ firsts (joined rest) ≡ firsts first
-    versions_on first e = append_assoc w.all (firsts page) (firsts (joined rest))
-        ∙ ap (λ l. w.all ++ l) (sym (map-append _ page (joined rest)) ∙ ap (λ (l : List (List Newest)). firsts (joined l)) (sym is))
-        ∙ e
-
-    pub full_on : AreFull w.cells → 0 < length rest → AreFull (w.cells ++ cells)
-    full_on full some = let whole_page = first_full page rest this some in omega (arith, cells_count, whole_page, full)

@@ -7,9 +7,11 @@ mod cells;
 mod first;
 mod populate;
 mod wide;
+mod wide_first;
 mod wide_opening;
 
 pub use both::{Pen, Reader};
 pub use cells::{Cells, Newest, Version};
 pub use first::FirstVersions;
 pub use wide::{WideNewest, WideVersion};
+pub use wide_first::FirstWideVersions;

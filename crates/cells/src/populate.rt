@@ -11,7 +11,7 @@ ghost use Rattle.cells.specs.First.{absent_version, firsts};
 use crate::both::{CELL_WORDS, Pen, Reader, WIDE_WORDS};
 use crate::cells::{Cells, Newest, words};
 use crate::first::{FirstPage, FirstVersions};
-use crate::wide::WideNewest;
+use crate::wide_first::FirstWideVersions;
 use crate::wide_opening::open_wide;
 use cells_holders::{OpeningOf, ReaderOf};
 use cells_pages::PAGE_RECORDS;
@@ -41,10 +41,11 @@ impl Cells {
             × All (λ reader. reader ≡ seen_all made.1) made.2.items) }
         ensures only_memory { IfErr result (λ refusal. refusal ≡ OutOfMemory) }
     {
-        Cells::with_wide(rt, alloc, first, &[], readers)
+        Cells::with_wide(rt, alloc, first, FirstWideVersions::new(alloc), readers)
     }
 
-    /// The same, with a cell for each of these versions of wide records behind those of the narrow ones.
+    /// The same, with a cell for each of these versions of wide records behind those of the narrow ones. They are spent
+    /// a page at a time too.
     ///
     /// # Errors
     ///
@@ -53,13 +54,13 @@ impl Cells {
         _rt: &R,
         alloc: Global,
         first: FirstVersions,
-        wide: &[WideNewest],
+        wide: FirstWideVersions,
         readers: usize,
     ) -> Result<(Cells, Pen, Vec<Reader>), Refusal>
         ensures cells { IfOk result (λ made. (length made.0.narrow ≡ length first)
-            × (length made.0.wide ≡ length wide.now)) }
+            × (length made.0.wide ≡ length wide)) }
         ensures pen { IfOk result (λ made. made.1
-            ≡ record { cells = made.0; all = firsts first ++ wide_firsts wide.now }) }
+            ≡ record { cells = made.0; all = firsts first ++ wide_firsts wide }) }
         ensures readers { IfOk result (λ made. (length made.2.items ≡ readers)
             × All (λ reader. reader ≡ seen_all made.1) made.2.items) }
         ensures only_memory { IfErr result (λ refusal. refusal ≡ OutOfMemory) }

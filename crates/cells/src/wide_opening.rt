@@ -8,29 +8,38 @@ ghost use Rattle.cells.specs.First.{wide_firsts};
 
 use crate::both::WIDE_WORDS;
 use crate::wide::{WideNewest, wide_words};
+use crate::wide_first::FirstWideVersions;
 use cells_holders::OpeningOf;
-use cells_pages::PAGE_RECORDS;
 use money::Refusal;
 use std::alloc::Global;
 
 // The pages, in the order of the versions.
 pub(crate) fn open_wide(
     alloc: Global,
-    wide: &[WideNewest],
+    wide: FirstWideVersions,
     readers: usize,
 ) -> Result<OpeningOf<WIDE_WORDS>, Refusal>
-    ensures cells { IfOk result (λ made. length made.written.cells ≡ length wide.now) }
-    ensures all { IfOk result (λ made. made.written.all ≡ wide_firsts wide.now) }
+    ensures cells { IfOk result (λ made. length made.written.cells ≡ length wide) }
+    ensures all { IfOk result (λ made. made.written.all ≡ wide_firsts wide) }
     ensures readers { IfOk result (λ made. made.readers ≡ readers) }
     ensures only_memory { IfErr result (λ refusal. refusal ≡ OutOfMemory) }
 {
     let mut opening = OpeningOf::new(alloc, readers)?;
     let mut laid = Vec::new(alloc);
-    for page in wide.chunks(PAGE_RECORDS) {
-        lay_wide(page, &mut laid)?;
+    for page in wide.into_pages() {
+        lay_wide_page(page, &mut laid)?;
         opening = opening.add(alloc, &laid)?;
     }
     Ok(opening)
+}
+
+// The words of a page's versions, in place of what was laid before. The page is spent.
+fn lay_wide_page(page: Vec<WideNewest>, laid: &mut Vec<u64>) -> Result<(), Refusal>
+    ensures wide { OnOk result (length laid.new.items ≡ length page.items * 64) }
+    ensures ok { OnOk result (first_versions 64 laid.new.items ≡ wide_firsts page.items) }
+    ensures memory { IfErr result (λ refusal. refusal ≡ OutOfMemory) }
+{
+    lay_wide(&page, laid)
 }
 
 // The words of these versions, one after another, in place of what was laid before.

@@ -5,7 +5,9 @@ ghost use Rattle.tidword.specs.TidWord.{tid_of};
 ghost use Rattle.cells.specs.Records.{at};
 ghost use Rattle.cells.specs.Versions.{last_tid};
 
-use cells::{Cells, FirstVersions, Newest, Pen, Reader, Version, WideNewest, WideVersion};
+use cells::{
+    Cells, FirstVersions, FirstWideVersions, Newest, Pen, Reader, Version, WideNewest, WideVersion,
+};
 use money::Refusal;
 use std::alloc::Global;
 use std::sync::Wait;
@@ -80,11 +82,11 @@ fn first_versions(alloc: Global) -> Result<FirstVersions, Refusal>
 }
 
 /// Those of the wide cells.
-fn first_wide(alloc: Global) -> Result<Vec<WideNewest>, Refusal>
-    ensures count { IfOk result (λ first. length first.items ≡ 4098) }
-    ensures zero { IfOk result (λ first. All (λ newest. tid_of newest.word ≡ 0) first.items) }
+fn first_wide(alloc: Global) -> Result<FirstWideVersions, Refusal>
+    ensures count { IfOk result (λ first. length first ≡ 4098) }
+    ensures zero { IfOk result (All (λ newest. tid_of newest.word ≡ 0)) }
 {
-    let mut first = Vec::new(alloc);
+    let mut first = FirstWideVersions::new(alloc);
     for record in 0..CELLS {
         let WideVersion { word, payload, .. } = wide_of(CELLS + record, 0);
         first.push(WideNewest { word, payload })?;
@@ -101,7 +103,7 @@ fn made<R: Wait>(rt: &R, alloc: Global) -> Result<(Cells, Pen, Vec<Reader>), Ref
 {
     let first = first_versions(alloc)?;
     let wide = first_wide(alloc)?;
-    Cells::with_wide(rt, alloc, first, &wide, 2)
+    Cells::with_wide(rt, alloc, first, wide, 2)
 }
 
 fn open<R: Wait>(rt: &R, alloc: Global) -> Result<Pages, Fail>

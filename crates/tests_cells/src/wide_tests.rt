@@ -3,10 +3,10 @@ ghost use Rattle.std.specs.Prelude.{◌≡◌, All, length, IfOk};
 ghost use Rattle.cells.specs.Records.{at};
 ghost use Rattle.cells.specs.Versions.{last_tid};
 
-use cells::{Cells, FirstVersions, Pen, Reader, WideNewest};
+use cells::{Cells, FirstVersions, FirstWideVersions, Pen, Reader, WideNewest};
 use customer_data::DataWords;
 use money::Refusal;
-use std::alloc::Global;
+use std::alloc::{AllocError, Global};
 use std::sync::Wait;
 use std::test::Fail;
 use tidword::TidWord;
@@ -41,6 +41,17 @@ struct Answers {
     learnt: (u64, u64),
 }
 
+/// These versions, as cells are made of them.
+fn versions_of(alloc: Global, list: &[WideNewest]) -> Result<FirstWideVersions, AllocError>
+    ensures { IfOk result (λ wide. wide ≡ list.now) }
+{
+    let mut wide = FirstWideVersions::new(alloc);
+    for version in list {
+        wide.push(*version)?;
+    }
+    Ok(wide)
+}
+
 /// Two narrow cells and three wide ones, with their pen and a reader.
 fn made<R: Wait>(rt: &R, alloc: Global) -> Result<(Cells, Pen, Vec<Reader>), Refusal>
     ensures count { IfOk result (λ p. (length p.0.narrow ≡ 2) × (length p.0.wide ≡ 3)) }
@@ -49,7 +60,8 @@ fn made<R: Wait>(rt: &R, alloc: Global) -> Result<(Cells, Pen, Vec<Reader>), Ref
     ensures first { IfOk result (λ p. last_tid (at p.1.all 2) ≡ 0) }
 {
     let first = FirstVersions::absent(alloc, 2)?;
-    Cells::with_wide(rt, alloc, first, &FIRST, 1)
+    let wide = versions_of(alloc, &FIRST)?;
+    Cells::with_wide(rt, alloc, first, wide, 1)
 }
 
 /// The data that are stored: each word is another.

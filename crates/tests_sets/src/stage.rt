@@ -1,9 +1,9 @@
 //! Two narrow cells, of which the second is there, and two wide ones.
 ghost use Rattle.std.specs.Prelude.{◌≡◌, length, IfOk};
 
-use cells::{Cells, FirstVersions, Newest, Reader, WideNewest};
+use cells::{Cells, FirstVersions, FirstWideVersions, Newest, Reader, WideNewest};
 use money::Payload;
-use std::alloc::Global;
+use std::alloc::{AllocError, Global};
 use std::sync::Wait;
 use std::test::Fail;
 use tidword::TidWord;
@@ -22,6 +22,16 @@ const WIDE: [WideNewest; 2] = [
         payload: [3; 63],
     },
 ];
+
+/// These, as the cells are made of them.
+fn wide_versions(alloc: Global) -> Result<FirstWideVersions, AllocError>
+    ensures { IfOk result (λ wide. length wide ≡ 2) }
+{
+    let mut wide = FirstWideVersions::new(alloc);
+    wide.push(WIDE[0])?;
+    wide.push(WIDE[1])?;
+    Ok(wide)
+}
 
 /// The cells, and a reader.
 #[derive(Drop)]
@@ -43,7 +53,8 @@ pub(crate) fn open<R: Wait>(rt: &R, alloc: Global) -> Result<Stage, Fail>
             payload: NARROW,
         },
     )?;
-    let (cells, _, mut readers) = Cells::with_wide(rt, alloc, first, &WIDE, 1)?;
+    let wide = wide_versions(alloc)?;
+    let (cells, _, mut readers) = Cells::with_wide(rt, alloc, first, wide, 1)?;
     let reader = readers.pop().ok_or("reader")?;
     Ok(Stage { cells, reader })
 }

@@ -1,9 +1,15 @@
-use Rattle.std.proofs.Common.{◌≡◌, ◌++◌, ◌+◌, length, sym, ap, ◌∙◌, subst, arith}
+use Rattle.std.proofs.Common.{◌≡◌, ◌++◌, ◌+◌, List, length, sym, ap, ◌∙◌, subst, arith}
 use Rattle.std.specs.Vec.Iter.{into_iter_items}
 use Rattle.cells.specs.First.{firsts}
 use Rattle.cells_holders.specs.Opening.{Opened, AreFull}
-use Rattle.cells.proofs.FirstPaged.{joined, some_left, paged_on, cells_on, versions_on, full_on}
+use Rattle.cells.specs.Records.{newest_words}
+use Rattle.cells.specs.declared.cells.Newest.{Newest}
+use Rattle.cells.proofs.FirstPaged.{joined}
+use Rattle.cells.proofs.Spent.{some_left, paged_on, cells_on, versions_on, full_on}
 use Rattle.cells.proofs.populate.open_all.Goals as goal
+
+abbrev versions : List Newest → List Newest
+versions page = page
 
 pub loop-page-preserved : goal.loop-page-preserved
 loop-page-preserved c =
@@ -18,11 +24,11 @@ loop-page-preserved c =
     record {
       count = omega (arith, c.in-Some.ensures.steps.1, i.count, ap length is);
       cells = subst (λ (o : Opened). length o.written.cells + length (joined rest) ≡ length first) (sym made.2)
-          (cells_on page rest left is i.paged w made.0 made.1 first i.cells);
+          (cells_on versions newest_words page rest left is i.paged w made.0 made.1 first i.cells);
       all = subst (λ (o : Opened). o.written.all ++ firsts (joined rest) ≡ firsts first) (sym made.2)
-          (versions_on page rest left is i.paged w made.0 made.1 first i.all);
+          (versions_on versions newest_words page rest left is i.paged w made.0 made.1 first i.all);
       readers = ap (λ (o : Opened). o.readers) made.2 ∙ i.readers;
-      paged = paged_on page rest left is i.paged;
+      paged = paged_on versions newest_words page rest left is i.paged;
       full = λ some. subst (λ (o : Opened). AreFull o.written.cells) (sym made.2)
-          (full_on page rest left is i.paged w made.0 made.1 (i.full (some_left page rest left is i.paged)) some);
+          (full_on versions newest_words page rest left is i.paged w made.0 made.1 (i.full (some_left versions newest_words page rest left is i.paged)) some);
     }

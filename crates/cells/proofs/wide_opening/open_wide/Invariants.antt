@@ -1,14 +1,17 @@
-use Rattle.std.proofs.Common.{◌≡◌, ◌+◌, ◌<◌, ◌++◌, length}
-use Rattle.std.specs.Slice.Iter.{chunks_rest, chunks_size}
+use Rattle.std.proofs.Common.{◌≡◌, ◌+◌, ◌<◌, ◌++◌, map, length}
+use Rattle.std.specs.List.{flat_map}
+use Rattle.std.specs.Vec.Iter.{into_iter_items, into_iter_len}
 use Rattle.cells.specs.First.{wide_firsts}
+use Rattle.cells_holders.specs.Pages.{IsPaged}
 use Rattle.cells_holders.specs.Opening.{AreFull}
 use Rattle.cells.proofs.wide_opening.open_wide.Given as goal
 
 abbrev pub invariant-loop-page : goal.invariant-loop-page
-invariant-loop-page l = let left = chunks_rest l.page-iterator in record {
-  size : chunks_size l.page-iterator ≡ 4096;
-  cells : length l.opening.written.cells + length left ≡ length l.fn.wide;
-  all : l.opening.written.all ++ wide_firsts left ≡ wide_firsts l.fn.wide;
-  readers : l.opening.readers ≡ l.fn.readers;
+invariant-loop-page l = let left = into_iter_items l.page-iterator in record {
+  count : into_iter_len l.page-iterator ≡ length left;
+  cells : length l.opening.written.cells + length (flat_map (λ page. page.items) left) ≡ length l.fn.wide;
+  all : l.opening.written.all ++ wide_firsts (flat_map (λ page. page.items) left) ≡ wide_firsts l.fn.wide;
+  readers : l.opening.readers ≡ l.readers;
+  paged : IsPaged (map (λ page. length page.items) left);
   full : 0 < length left → AreFull l.opening.written.cells;
 }

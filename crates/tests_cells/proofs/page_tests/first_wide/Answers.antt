@@ -11,7 +11,7 @@ pub loop-record-preserved : goal.loop-record-preserved
 loop-record-preserved c =
     let was = c.loop-record.invariant in
     let made : WideNewest = record { word = c.wide_of-word.result.word; payload = c.wide_of-word.result.payload } in
-    let more = length-append c.loop-record.first.items (made ∷ []) in (
-      ap length c.in_ok-push.ensures.items ∙ omega (arith, more, was.0),
-      subst (All IsFirst) (sym c.in_ok-push.ensures.items) (All-push IsFirst c.loop-record.first.items made was.1 (ap tid_of c.wide_of-word.ensures.word)),
+    let more = length-append c.loop-record.first (made ∷ []) in (
+      ap length c.in_ok-push.ensures.ok ∙ omega (arith, more, was.0),
+      subst (All IsFirst) (sym c.in_ok-push.ensures.ok) (All-push IsFirst c.loop-record.first made was.1 (ap tid_of c.wide_of-word.ensures.word)),
     )

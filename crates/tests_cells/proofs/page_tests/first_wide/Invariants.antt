@@ -3,4 +3,4 @@ use Rattle.tidword.specs.TidWord.{tid_of}
 use Rattle.tests_cells.proofs.page_tests.first_wide.Given as goal
 
 abbrev pub invariant-loop-record : goal.invariant-loop-record
-invariant-loop-record l = (length l.first.items ≡ l.record) × All (λ newest. tid_of newest.word ≡ 0) l.first.items
+invariant-loop-record l = (length l.first ≡ l.record) × All (λ newest. tid_of newest.word ≡ 0) l.first

@@ -1,4 +1,4 @@
-use Rattle.std.proofs.Common.{◌≡◌, ◌+◌, ◌<◌, ◌++◌, [], ◌∷◌, List, ℕ, All, length, length-append, sym, ap, ◌∙◌, subst, arith}
+use Rattle.std.proofs.Common.{◌≡◌, ◌<◌, ◌++◌, [], ◌∷◌, List, ℕ, All, length-append, ap, ◌∙◌, arith}
 use Rattle.std.proofs.lemmas.List.{length-map}
 use Rattle.std.proofs.lemmas.Result.{IfOk-weaker}
 use Rattle.std.proofs.lemmas.List.Elements.{All-append, All-map}
@@ -22,15 +22,13 @@ all_first narrow wide narrow_first wide_first = All-append IsFirst (firsts narro
 pub returns-clause-first : goal.returns-clause-first
 returns-clause-first g c =
     let narrow = c.in_ok-first.first in
-    let wide = c.deref.result.now in
-    let zero = subst (All (λ (v : WideNewest). tid_of v.word ≡ 0)) (sym c.deref.ensures.value) c.in_ok-wide.ensures.zero in
-    let all = all_first narrow wide c.in_ok-first.ensures.zero zero in
+    let wide = c.in_ok-wide.wide in
+    let all = all_first narrow wide c.in_ok-first.ensures.zero c.in_ok-wide.ensures.zero in
     let narrow_count = length-map narrow (λ (v : Newest). newest_words v ∷ []) in
     let wide_count = length-map wide (λ (v : WideNewest). wide_newest_words v ∷ []) in
-    let wide_items = ap length c.deref.ensures.value in
     let count = length-append (firsts narrow) (wide_firsts wide) in
     IfOk-weaker c.with_wide.result (λ p. p.1 ≡ record { cells = p.0; all = firsts narrow ++ wide_firsts wide })
     (λ p. (n : ℕ) → n < 8196 → last_tid (at p.1.all n) ≡ 0)
     (λ p is n h. ap (λ (w : PenView). last_tid (at w.all n)) is
-    ∙ all n [] (omega (arith, h, count, narrow_count, wide_count, wide_items, c.in_ok-first.ensures.count, c.in_ok-wide.ensures.count)))
+    ∙ all n [] (omega (arith, h, count, narrow_count, wide_count, c.in_ok-first.ensures.count, c.in_ok-wide.ensures.count)))
     c.with_wide.ensures.pen

@@ -1,4 +1,4 @@
-use Rattle.std.proofs.Common.{◌≡◌, ◌≢◌, ◌+◌, ◌*◌, ◌<◌, ℕ, sym, ap, ◌∙◌, subst, arith, set}
+use Rattle.std.proofs.Common.{◌≡◌, ◌≢◌, ◌+◌, ℕ, ap, ◌∙◌, arith}
 use Rattle.tidword.specs.TidWord.{tid_of}
 use Rattle.cells.specs.Versions.{last_tid}
 use Rattle.cells.specs.Records.{at}

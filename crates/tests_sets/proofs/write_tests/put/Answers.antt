@@ -1,5 +1,4 @@
 use Rattle.tests_sets.proofs.Putting.{below, still}
-use Rattle.cells.specs.Records.{IsOfKind}
 use Rattle.readset.proofs.NarrowOrWide.{narrow_kind}
 use Rattle.tests_sets.proofs.write_tests.put.Goals as goal
 
