@@ -10,7 +10,6 @@ pub becomes : {p t0 t : Database} → IsOf p t0 → IsOf t0 t → IsOf p t
 becomes first then = record {
   scale = then.scale ∙ first.scale;
   keeps = then.keeps ∙ first.keeps;
-  texts = λ none. then.texts (first.keeps ∙ none) ∙ first.texts none;
   warehouse_taxes = λ w. then.warehouse_taxes w ∙ first.warehouse_taxes w;
   district_taxes = λ k. then.district_taxes k ∙ first.district_taxes k;
   first_names = λ k. then.first_names k ∙ first.first_names k;

@@ -5,7 +5,6 @@ use Rattle.std.proofs.lemmas.List.Elements.{All-nil, All-push}
 use Rattle.tables.specs.Sizes.{Sizes}
 use Rattle.tables.specs.Database.{Database}
 use Rattle.tables.specs.Apply.{after}
-use Rattle.tables.specs.Records.{narrow_count}
 use Rattle.tables.specs.WellFormed.{IsWellFormed}
 use Rattle.cells.specs.Records.{CellsView, ReaderView}
 use Rattle.readset.specs.Cells.{AreCellsOf}

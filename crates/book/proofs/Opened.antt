@@ -4,7 +4,6 @@ use Rattle.std.proofs.lemmas.List.Elements.{All-nil}
 use Rattle.std.proofs.lemmas.List.{length-replicate, get_or-replicate}
 use Rattle.std.specs.Prelude.{slice_index}
 use Rattle.tables.specs.Database.{Database}
-use Rattle.tables.specs.Records.{record_count}
 use Rattle.tables.specs.Rows.{rows}
 use Rattle.tables.specs.Conditions.{IsConsistent}
 use Rattle.tables.specs.WellFormed.{IsWellFormed, HasRoom}

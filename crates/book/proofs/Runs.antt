@@ -26,7 +26,6 @@ use Rattle.commit.proofs.Woven.{woven}
 use Rattle.commit.proofs.OwnEvents.{section_own, full_section_own, stale_section_own}
 use Rattle.commit.proofs.Current.{current_or_stale, next_of_reads}
 use Rattle.tables.specs.Database.{Database}
-use Rattle.tables.specs.Records.{record_count}
 use Rattle.cells.specs.Versions.{EndsWith, last_tid, value_in, newest as newest_of}
 use Rattle.readset.proofs.CellsOf.{count_of}
 use Rattle.cells.specs.Records.{CellsView, PenView, ReaderView, at, words_of, cell_count}

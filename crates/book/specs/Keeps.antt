@@ -3,7 +3,6 @@ use Rattle.std.specs.Prelude.{◌≡◌, ℕ, ◌+◌, ◌<◌, ◌^◌, List, l
 use Rattle.std.specs.List.{All}
 use Rattle.tables.specs.Database.{Database}
 use Rattle.tables.specs.Constant.{IsOf}
-use Rattle.tables.specs.Records.{narrow_count}
 use Rattle.tables.specs.declared.rows.History.{History}
 use Rattle.cells.specs.Records.{CellsView, PenView, ReaderView}
 use Rattle.readset.specs.Cells.{AreCellsOf}

@@ -5,7 +5,6 @@ use Rattle.tables.specs.Database.{Database}
 use Rattle.tables.specs.Constant.{IsOf}
 use Rattle.tables.specs.WellFormed.{HasRoom}
 use Rattle.tables.specs.declared.limits.TheConstants.{MAX_COMMITS}
-use Rattle.tables.specs.Records.{narrow_count}
 use Rattle.tidword.specs.TidWord.{is_locked, is_latest, epoch_of}
 use Rattle.cells.specs.Versions.{EndsWith, last_tid, word_in}
 use Rattle.cells.specs.Records.{CellsView, PenView, at, cell_count}

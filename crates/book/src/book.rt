@@ -8,6 +8,7 @@ use crate::untaken::Untaken;
 use board::BookSeat;
 use cells::{Cells, Pen};
 use conditions::Report;
+use customer_data::DataWords;
 use encoding::tables_of;
 use money::{Payload, Refusal};
 use population::Population;
@@ -88,7 +89,7 @@ impl<K: Run> Book<K> {
     ghost use Rattle.money.specs.declared.refusal.Refusal.TheVariants.{OutOfMemory};
     ghost use Rattle.tables.specs.Database.{database};
     ghost use Rattle.tables.specs.declared.limits.TheConstants.{MAX_COMMITS};
-    ghost use Rattle.tables.specs.Records.{narrow_count};
+    ghost use Rattle.tables.specs.Records.{narrow_count, record_count};
     ghost use Rattle.tables.specs.Rows.{rows};
     ghost use Rattle.conditions.specs.Report.{IsReportOf, IsGood};
     ghost use Rattle.book.specs.History.{replay};
@@ -122,7 +123,7 @@ impl<K: Run> Book<K> {
         self.history.len() as u64
     }
 
-    /// What a record holds in the committed tables: the columns of its row that change, or an index record's number,
+    /// What a narrow record holds in the committed tables: the columns of its row that change, or an index record's number,
     /// and nothing where it is absent. Constant time, no memory.
     pub fn record(&mut self, cells: &Cells, number: u32) -> Option<Payload>
         requires cells { cells.now ≡ K.cells }
@@ -131,6 +132,17 @@ impl<K: Run> Book<K> {
         ensures held { result ≡ rows (replay K.first self.old.history) number }
     {
         cells.held(&mut self.pen, number)
+    }
+
+    /// What a wide record holds in the committed tables: the words of a customer's C_DATA. It is always there, since the
+    /// tables are well-formed. Constant time, no memory.
+    pub fn record_wide(&mut self, cells: &Cells, number: u32) -> Option<DataWords>
+        requires cells { cells.now ≡ K.cells }
+        requires is_record { (narrow_count K.first.scale ≤ number) × (number < record_count K.first.scale) }
+        ensures same { self.new ≡ self.old }
+        ensures held { result ≡ rows (replay K.first self.old.history) number }
+    {
+        cells.held_wide(&mut self.pen, number)
     }
 
     /// The committed tables, made of their records. Costs what populating costs, a look at each record, and a pass over

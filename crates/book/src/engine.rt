@@ -3,7 +3,6 @@ ghost use Rattle.readset.specs.Cells.{AreCellsOf};
 ghost use Rattle.std.specs.Prelude.{◌≡◌, ◌+◌, length, IfSome, IfNone};
 ghost use Rattle.population.specs.Initial.{initial};
 ghost use Rattle.tables.specs.Constant.{IsOf};
-ghost use Rattle.tables.specs.Records.{narrow_count};
 ghost use Rattle.board.specs.declared.rule.Role.TheVariants.{Clock, Terminal};
 ghost use Rattle.board.specs.Seats.{new_seat};
 ghost use Rattle.board.specs.Opening.{logger_seats};

@@ -1,8 +1,8 @@
 //! A terminal that has the book to itself.
 
-ghost use Rattle.std.specs.Prelude.{◌≡◌, ◌⊎◌, ◌<◌, [], ◌∷◌, ◌++◌, length, IfOk, IfErr, OnOk, OnErr};
+ghost use Rattle.std.specs.Prelude.{◌≡◌, ◌⊎◌, ◌<◌, ◌≤◌, [], ◌∷◌, ◌++◌, length, IfOk, IfErr, OnOk, OnErr};
 ghost use Rattle.tables.specs.Inputs.{IsInput};
-ghost use Rattle.tables.specs.Records.{narrow_count};
+ghost use Rattle.tables.specs.Records.{narrow_count, record_count};
 ghost use Rattle.tables.specs.Rows.{rows};
 ghost use Rattle.tables.specs.WellFormed.{IsWellFormed};
 ghost use Rattle.population.specs.Initial.{initial};
@@ -15,6 +15,7 @@ ghost use Rattle.money.specs.declared.refusal.Refusal.TheVariants.{OutOfMemory};
 use crate::attempting::persist;
 use book::{Book, Done, Engine, Run, Seat};
 use conditions::Report;
+use customer_data::DataWords;
 use money::{Payload, Refusal};
 use population::Population;
 use std::alloc::Global;
@@ -76,7 +77,7 @@ impl<'e, K: Run> Session<'e, K> {
         self.engine.population()
     }
 
-    /// What one record holds in the committed tables, which are well-formed: its row's columns that change, as
+    /// What one narrow record holds in the committed tables, which are well-formed: its row's columns that change, as
     /// words, or nothing where it is absent. Constant time, no memory.
     pub fn record(&mut self, number: u32) -> Option<Payload>
         requires { number < narrow_count K.first.scale }
@@ -88,6 +89,19 @@ impl<'e, K: Run> Session<'e, K> {
         let _ = self.book.history();
         let engine = self.engine;
         self.book.record(engine.cells(), number)
+    }
+
+    /// The same of a wide record: the words of a customer's C_DATA. It is always there.
+    pub fn record_wide(&mut self, number: u32) -> Option<DataWords>
+        requires { (narrow_count K.first.scale ≤ number) × (number < record_count K.first.scale) }
+        ensures same { self.new ≡ self.old }
+        ensures words { result ≡ rows (replay K.first self.old.history) number }
+        ensures well_formed { IsWellFormed (replay K.first self.old.history) }
+    {
+        // The history's contract says that the committed tables are well-formed.
+        let _ = self.book.history();
+        let engine = self.engine;
+        self.book.record_wide(engine.cells(), number)
     }
 
     /// Commits a transaction, and tries again for as long as what it read isn't the latest. What the terminal is told

@@ -2,7 +2,8 @@
 use Rattle.std.specs.Prelude.{ℕ, ◌≤◌, List, ◌++◌, length, take, replicate, All}
 use Rattle.customer_data.specs.declared.words.TheConstants.{MIN_DATA, MAX_DATA}
 
--- C_DATA is a variable text of 300 to 500 characters (TPC-C 1.3.1), here the printable ones of ASCII
+-- C_DATA is a variable text of at most 500 characters (TPC-C 1.3.1), which is given at least 300 (TPC-C 4.3.3.1); here
+-- the printable ones of ASCII
 pub record IsData (text : List ℕ) : Type 0 where
   pub at_least : MIN_DATA ≤ length text
   pub at_most : length text ≤ MAX_DATA

@@ -11,8 +11,8 @@ use std::marker::Model;
 
 /// C_DATA, a customer's text (TPC-C 1.3.1). Contracts see the list of its characters, and it prints as these.
 ///
-/// Each text begins as letters `x` alone, at whose left a Payment puts more. So what was put there is kept as it is, and
-/// of the letters behind it only their number: a text that no Payment has touched takes no memory.
+/// Each text begins as letters `x` alone, at whose left a Payment puts more. So what was put there is kept as it is,
+/// and of the letters behind it only their number: a text that no Payment has touched takes no memory.
 #[derive(Debug, Drop)]
 pub struct CustomerData {
     front: String,
@@ -38,8 +38,8 @@ impl CustomerData {
         }
     }
 
-    /// The text that these words stand for. Of words that stand for none nothing is said. Takes memory for what stands in
-    /// front of the letters `x` at its end.
+    /// The text that these words stand for. Of words that stand for none nothing is said. Takes memory for what stands
+    /// in front of the letters `x` at its end, and is refused for want of it alone.
     pub fn of_words(alloc: Global, words: &DataWords) -> Result<CustomerData, AllocError>
         ensures { (text : List ℕ) → IsData text → words.now ≡ data_words text
             → IfOk result (λ kept. kept ≡ text) }

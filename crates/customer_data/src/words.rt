@@ -8,7 +8,7 @@ ghost use Rattle.customer_data.specs.Words.{words_in, data_bytes, data_words};
 
 use byteorder::{ByteOrder, LittleEndian};
 
-/// The fewest characters of C_DATA (TPC-C 1.3.1), a byte each.
+/// The fewest characters of C_DATA (TPC-C 4.3.3.1), a byte each.
 pub const MIN_DATA: usize = 300;
 
 /// The most characters of C_DATA (TPC-C 1.3.1), a byte each.

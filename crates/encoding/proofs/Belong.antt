@@ -3,6 +3,7 @@ use Rattle.std.proofs.Common.{◌≡◌, ◌↔◌, ℕ, List, Option, Some, IsS
 use Rattle.std.specs.FinMap.{FinMap, get}
 use Rattle.std.specs.declared.cmp.Ordering.{Ordering}
 use Rattle.customer_data.specs.Text.{IsData}
+use Rattle.customer_data.specs.Words.{data_words}
 use Rattle.tables.specs.Maps.{RowsAt}
 use Rattle.tables.specs.Keys.{IsWarehouseKey, IsDistrictKey, IsCustomerKey, IsItemKey, IsStockKey}
 use Rattle.tables.specs.WellFormed.{IsWellFormed, IsMoney, IsDistrictRow, IsCustomerRow, IsHistoryRow, IsItemRow, IsStockRow, orderer}
@@ -50,8 +51,7 @@ module _ (t0 t : Database) (values : RecordKey → Option (List ℕ)) (wf : IsWe
     districts = all_stand (IsDistrictKey t0.scale) _ (IsDistrictRow t0.scale) district_words _ t.districts a.districts (λ k. may (key.District k));
     customers = customers_stand;
     stock = all_stand (IsStockKey t0.scale) _ IsStockRow stock_words _ t.stock a.stock (λ k. may (key.Stock k));
-    keeps_texts = a.keeps ∙ wf.keeps_texts;
-    texts = subst (RowsAt (IsCustomerKey t0.scale)) (sym a.texts) wf.texts;
+    texts = all_stand (IsCustomerKey t0.scale) _ IsData data_words _ t.texts a.texts (λ k. may (key.CustomerData k));
     new_orders = a.new_orders.within;
     orders = a.orders.within;
     lines = a.lines.within;
@@ -59,7 +59,7 @@ module _ (t0 t : Database) (values : RecordKey → Option (List ℕ)) (wf : IsWe
     warehouse_rows = λ k r e. (a.warehouses.each k r e).range;
     district_rows = λ k r e. (a.districts.each k r e).range;
     customer_rows = λ k r e. (a.customers.each k r e).range;
-    text_rows = λ k text. subst (λ m. get m k ≡ Some text → IsData text) (sym a.texts) (wf.text_rows k text);
+    text_rows = a.texts.each;
     history_rows = history;
     order_rows = λ k r e. (a.orders.each k r e).row;
     line_rows = a.lines.each;

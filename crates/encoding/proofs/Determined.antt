@@ -4,6 +4,9 @@ use Rattle.std.specs.Option.{option_map}
 use Rattle.std.specs.FinMap.{FinMap, get, same_map}
 use Rattle.std.specs.declared.cmp.Ordering.{Ordering}
 use Rattle.std.proofs.lemmas.Option.{none-some, same_Some}
+use Rattle.customer_data.specs.Text.{IsData}
+use Rattle.customer_data.specs.Words.{data_words}
+use Rattle.customer_data.proofs.Texts.{text_back}
 use Rattle.tables.specs.Database.{Database}
 use Rattle.tables.specs.WellFormed.{IsLineRow, IsStockRow}
 use Rattle.tables.specs.Keys.{IsWarehouseKey, IsDistrictKey, IsCustomerKey, IsOrderKey, IsLineKey, IsStockKey}
@@ -84,7 +87,7 @@ determined t0 values t u a b history =
     same_database t u (record {
       scale = a.scale ∙ sym b.scale;
       keeps_texts = a.keeps ∙ sym b.keeps;
-      texts = a.texts ∙ sym b.texts;
+      texts = same_table exact_customer (IsCustomerKey s) (λ k text. IsData text) data_words _ _ _ (λ k. text_back) a.texts b.texts;
       warehouses = same_table exact_number (IsWarehouseKey s) (IsWarehouseOf t0) warehouse_words _ _ _ (same_warehouse t0) a.warehouses b.warehouses;
       districts = same_table exact_district (IsDistrictKey s) (IsDistrictOf t0) district_words _ _ _ (same_district t0) a.districts b.districts;
       customers = same_table exact_customer (IsCustomerKey s) (IsCustomerOf t0) customer_words _ _ _ (same_customer t0) a.customers b.customers;

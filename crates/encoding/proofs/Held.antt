@@ -1,5 +1,5 @@
 -- Well-formed tables of a population are those that their records say.
-use Rattle.std.proofs.Common.{◌≡◌, ℕ, ◌<◌, List, Option, Some, refl, sym, ap, ◌∙◌, subst}
+use Rattle.std.proofs.Common.{◌≡◌, ℕ, List, Option, Some, refl, sym, ap, ◌∙◌, subst}
 use Rattle.std.specs.Option.{option_map}
 use Rattle.std.specs.FinMap.{get}
 use Rattle.tables.specs.Sizes.{Sizes, IsNumber}
@@ -7,21 +7,21 @@ use Rattle.tables.specs.Keys.{IsWarehouseKey, IsDistrictKey, IsCustomerKey, IsOr
 use Rattle.tables.specs.WellFormed.{IsWellFormed, IsDistrictRow, IsLineRow, orderer}
 use Rattle.tables.specs.Constant.{IsOf}
 use Rattle.tables.specs.Database.{Database}
-use Rattle.tables.specs.Records.{number_of_key, IsRecordKey, IsRowKey}
+use Rattle.tables.specs.Records.{number_of_key, IsRecordKey}
 use Rattle.tables.specs.Rows.{row_at, rows}
 use Rattle.tables.specs.declared.keys.OrderKey.{OrderKey}
 use Rattle.tables.specs.declared.rows.Order.{Order}
 use Rattle.tables.specs.declared.records.RecordKey.{RecordKey}
 use Rattle.tables.specs.declared.records.RecordKey.TheVariants as key
-use Rattle.encoding.specs.Held.{row_count, by_key, AreTables}
-use Rattle.encoding.proofs.Numbered.{row_below, record_at}
+use Rattle.encoding.specs.Held.{IsTableRecord, by_key, AreTables}
+use Rattle.encoding.proofs.Numbered.{IsTableKey, table_record, record_at}
 use Rattle.encoding.proofs.Determined.{determined}
 
 module _ (t0 t : Database) (of : IsOf t0 t) (wf : IsWellFormed t) (values : ℕ → Option (List ℕ))
-    (agree : (n : ℕ) → n < row_count t0.scale → rows t n ≡ values n) where
+    (agree : (n : ℕ) → IsTableRecord t0.scale n → rows t n ≡ values n) where
   -- what the record of a row's key holds
-  held : (k : RecordKey) → IsRecordKey t0.scale k → IsRowKey k → row_at t k ≡ by_key t0.scale values k
-  held k is row = sym (record_at t0 t of k is) ∙ agree (number_of_key t0.scale k) (row_below t0.scale k is row)
+  held : (k : RecordKey) → IsRecordKey t0.scale k → IsTableKey k → row_at t k ≡ by_key t0.scale values k
+  held k is row = sym (record_at t0 t of k is) ∙ agree (number_of_key t0.scale k) (table_record t0.scale k is row)
 
   -- an order's customer
   ordered : (k : OrderKey) (r : Order) → get t.orders k ≡ Some r → IsNumber t0.scale.customers r.customer
@@ -32,7 +32,6 @@ module _ (t0 t : Database) (of : IsOf t0 t) (wf : IsWellFormed t) (values : ℕ 
     scale = of.scale;
     keeps = of.keeps;
     items = of.items;
-    texts = of.texts (sym of.keeps ∙ wf.keeps_texts);
     warehouses = record {
       within = λ k some. subst (λ s. IsWarehouseKey s k) of.scale ((wf.warehouses k).0 some);
       each = λ k r e. record { range = wf.warehouse_rows k r e; tax = sym (of.warehouse_taxes k) ∙ ap (option_map (λ r. r.tax)) e };
@@ -57,6 +56,11 @@ module _ (t0 t : Database) (of : IsOf t0 t) (wf : IsWellFormed t) (values : ℕ 
       };
       rows = λ k is. held (key.Customer k) is tt;
     };
+    texts = record {
+      within = λ k some. subst (λ s. IsCustomerKey s k) of.scale ((wf.texts k).0 some);
+      each = wf.text_rows;
+      rows = λ k is. held (key.CustomerData k) is tt;
+    };
     new_orders = record {
       within = λ k some. subst (λ s. IsOrderKey s k) of.scale (wf.new_orders k some);
       each = λ k r e. tt;
@@ -79,7 +83,7 @@ module _ (t0 t : Database) (of : IsOf t0 t) (wf : IsWellFormed t) (values : ℕ 
     };
   }
 
-pub one_database : (t0 t u : Database) → IsOf t0 t → IsOf t0 u → IsWellFormed t → IsWellFormed u → ((n : ℕ) → n < row_count t0.scale → rows t n ≡ rows u n)
+pub one_database : (t0 t u : Database) → IsOf t0 t → IsOf t0 u → IsWellFormed t → IsWellFormed u → ((n : ℕ) → IsTableRecord t0.scale n → rows t n ≡ rows u n)
     → t.history ≡ u.history → t ≡ u
 one_database t0 t u of_t of_u wf_t wf_u same history =
     determined t0 (by_key t0.scale (rows u)) t u (are_tables t0 t of_t wf_t (rows u) same) (are_tables t0 u of_u wf_u (rows u) (λ n h. refl)) history

@@ -23,7 +23,7 @@ use Rattle.cells.specs.Versions.{AllVersions, newest as newest_of, value_in}
 use Rattle.cells.specs.Records.{PenView, at, held_by, newest_words, wide_newest_words}
 use Rattle.cells.specs.declared.cells.Newest.{Newest}
 use Rattle.cells.specs.declared.wide.WideNewest.{WideNewest}
-use Rattle.encoding.specs.Newest.{words_at, AreFirst, first_text_of, first_texts_of}
+use Rattle.encoding.specs.Newest.{words_at, AreFirst, text_version_of, text_versions_of}
 
 -- the words of the version found at a number
 pub words_found : (newest : List Newest) (n : ℕ) (v : Newest) → n < length newest → v ≡ slice_index_or newest n v → words_at newest n ≡ newest_words v
@@ -72,37 +72,41 @@ module _ (t : Database) (wf : IsWellFormed t) where
       found None some = absurd (true≢false (sym some))
       found (Some text) some = refl
 
-  at_text : (p : ℕ) → p < size t.scale table.CustomerData → at (wide_firsts (first_texts_of t)) p ≡ first_version (rows t (narrow_count t.scale + p)) ∷ []
+  at_text : (p : ℕ) → p < size t.scale table.CustomerData → at (wide_firsts (text_versions_of t)) p ≡ first_version (rows t (narrow_count t.scale + p)) ∷ []
   at_text p h =
       let count : ℕ = size t.scale table.CustomerData in
-      let long = length-map-range_with_len (first_text_of t) 0 count in
-      let own : get_or (first_texts_of t) p (first_text_of t p) ≡ first_text_of t p =
-      get_or-map-range_with_len (first_text_of t) 0 count p p (first_text_of t p) h (omega arith) in
-      at_wide (first_texts_of t) p (first_text_of t p) (omega (arith, h, long))
+      let long = length-map-range_with_len (text_version_of t) 0 count in
+      let own : get_or (text_versions_of t) p (text_version_of t p) ≡ text_version_of t p =
+      get_or-map-range_with_len (text_version_of t) 0 count p p (text_version_of t p) h (omega arith) in
+      at_wide (text_versions_of t) p (text_version_of t p) (omega (arith, h, long))
       ∙ ap (λ (v : WideNewest). wide_newest_words v ∷ []) own
       ∙ ap (λ (w : List ℕ). w ∷ []) (text_first (customer_at t.scale p) (customer_back t.scale p h).0
       ∙ ap (λ (k : RecordKey). first_version (row_at t k)) (sym (wide_named t.scale p h)))
 
-  -- what all records begin with
+  -- what all records begin with: narrow ones with these versions, and wide ones with the texts of the tables
+  module _ (first : List Newest) (count : length first ≡ narrow_count t.scale) where
+    counted : length (firsts first) ≡ narrow_count t.scale
+    counted = length-map first (λ v. newest_words v ∷ []) ∙ count
+
+    pub at_narrow : (n : ℕ) → n < narrow_count t.scale → at (firsts first ++ wide_firsts (text_versions_of t)) n ≡ words_at first n ∷ []
+    at_narrow n low =
+        get_or_append_left (firsts first) (wide_firsts (text_versions_of t)) [] n (omega (arith, low, counted))
+        ∙ at_first first n (omega (arith, low, count))
+
+    pub at_behind : (n : ℕ) → narrow_count t.scale ≤ n → n < record_count t.scale
+        → at (firsts first ++ wide_firsts (text_versions_of t)) n ≡ first_version (rows t n) ∷ []
+    at_behind n high h =
+        let p : ℕ = n - narrow_count t.scale in
+        let back : narrow_count t.scale + p ≡ n = omega (arith, high) in
+        get_or-append_right (firsts first) (wide_firsts (text_versions_of t)) (narrow_count t.scale) n [] counted high
+        ∙ at_text p (omega (arith, h, high)) ∙ ap (λ m. first_version (rows t m) ∷ []) back
+
   pub at_begin : (first : List Newest) → AreFirst t first → (n : ℕ) → n < record_count t.scale
-      → at (firsts first ++ wide_firsts (first_texts_of t)) n ≡ first_version (rows t n) ∷ []
-  at_begin first are n h = ⊎_elim narrow wide (cases_lt n (narrow_count t.scale))
-    where
-      long : length (firsts first) ≡ narrow_count t.scale
-      long = length-map first (λ v. newest_words v ∷ []) ∙ are.count
-
-      narrow : n < narrow_count t.scale → at (firsts first ++ wide_firsts (first_texts_of t)) n ≡ first_version (rows t n) ∷ []
-      narrow low =
-          get_or_append_left (firsts first) (wide_firsts (first_texts_of t)) [] n (omega (arith, low, long))
-          ∙ at_first first n (omega (arith, low, are.count)) ∙ ap (λ (w : List ℕ). w ∷ []) (are.words n low)
-
-      wide : narrow_count t.scale ≤ n → at (firsts first ++ wide_firsts (first_texts_of t)) n ≡ first_version (rows t n) ∷ []
-      wide high =
-          let p : ℕ = n - narrow_count t.scale in
-          let back : narrow_count t.scale + p ≡ n = omega (arith, high) in
-          get_or-append_right (firsts first) (wide_firsts (first_texts_of t)) (narrow_count t.scale) n [] long high
-          ∙ at_text p (omega (arith, h, high)) ∙ ap (λ m. first_version (rows t m) ∷ []) back
+      → at (firsts first ++ wide_firsts (text_versions_of t)) n ≡ first_version (rows t n) ∷ []
+  at_begin first are n h = ⊎_elim
+      (λ low. at_narrow first are.count n low ∙ ap (λ (w : List ℕ). w ∷ []) (are.words n low))
+      (λ high. at_behind first are.count n high h) (cases_lt n (narrow_count t.scale))
 
   -- one for each
-  pub count_begin : length (first_texts_of t) ≡ size t.scale table.CustomerData
-  count_begin = length-map-range_with_len (first_text_of t) 0 (size t.scale table.CustomerData)
+  pub count_begin : length (text_versions_of t) ≡ size t.scale table.CustomerData
+  count_begin = length-map-range_with_len (text_version_of t) 0 (size t.scale table.CustomerData)

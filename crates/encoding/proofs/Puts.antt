@@ -8,6 +8,8 @@ use Rattle.std.specs.BTreeMap.{BTreeMap, is_at}
 use Rattle.std.specs.FinMap.{FinMap, get, get-insert, insert, get-remove, remove, from_entries, same_map}
 use Rattle.std.specs.declared.cmp.Ordering.{Ordering}
 use Rattle.std.proofs.lemmas.Option.{none-some, same_Some}
+use Rattle.customer_data.specs.Text.{IsData}
+use Rattle.customer_data.specs.Words.{data_words}
 use Rattle.tables.specs.Database.{Database}
 use Rattle.tables.specs.Records.{IsRecordKey}
 use Rattle.tables.specs.Keys.{IsWarehouseKey, IsDistrictKey, IsCustomerKey, IsOrderKey, IsLineKey, IsStockKey, district_cmp, customer_cmp, order_cmp, line_cmp}
@@ -97,6 +99,11 @@ module _ (t0 t : Database) (values more : RecordKey → Option (List ℕ)) (k : 
   kept_customers apart = same_values (IsCustomerKey t0.scale) (IsCustomerOf t0) customer_words _ _ t.customers (λ q is. others (key.Customer q) is (apart q))
       a.customers
 
+  kept_texts : ((q : CustomerKey) → key.CustomerData q ≢ k) → IsTableOf (IsCustomerKey t0.scale) (λ k text. IsData text) data_words
+      (λ q. more (key.CustomerData q)) t.texts
+  kept_texts apart = same_values (IsCustomerKey t0.scale) (λ k text. IsData text) data_words _ _ t.texts
+      (λ q is. others (key.CustomerData q) is (apart q)) a.texts
+
   kept_new_orders : ((q : OrderKey) → key.NewOrder q ≢ k) → IsTableOf (IsOrderKey t0.scale) (λ k r. Unit {0}) new_order_words (λ q. more (key.NewOrder q))
       t.new_orders
   kept_new_orders apart = same_values (IsOrderKey t0.scale) (λ k r. Unit {0}) new_order_words _ _ t.new_orders (λ q is. others (key.NewOrder q) is (apart q))
@@ -124,12 +131,12 @@ module _ (t0 : Database) (ws : List ℕ) (t : Database) where
       scale = a.scale;
       keeps = a.keeps;
       items = a.items;
-      texts = a.texts;
       warehouses = subst (IsTableOf (IsWarehouseKey t0.scale) (IsWarehouseOf t0) warehouse_words (λ q. more (key.Warehouse q))) (sym e)
           (same_insert exact_number t.warehouses k r (IsWarehouseKey t0.scale) (IsWarehouseOf t0) warehouse_words _ _ is is_in (here ∙ ap Some same)
           (λ q at other. others (key.Warehouse q) at (λ (p : key.Warehouse q ≡ key.Warehouse k). other cc)) a.warehouses);
       districts = kept_districts t0 t values more (key.Warehouse k) others a (λ q p. cc);
       customers = kept_customers t0 t values more (key.Warehouse k) others a (λ q p. cc);
+      texts = kept_texts t0 t values more (key.Warehouse k) others a (λ q p. cc);
       new_orders = kept_new_orders t0 t values more (key.Warehouse k) others a (λ q p. cc);
       orders = kept_orders t0 t values more (key.Warehouse k) others a (λ q p. cc);
       lines = kept_lines t0 t values more (key.Warehouse k) others a (λ q p. cc);
@@ -145,12 +152,12 @@ module _ (t0 : Database) (ws : List ℕ) (t : Database) where
       scale = a.scale;
       keeps = a.keeps;
       items = a.items;
-      texts = a.texts;
       warehouses = kept_warehouses t0 t values more (key.District k) others a (λ q p. cc);
       districts = subst (IsTableOf (IsDistrictKey t0.scale) (IsDistrictOf t0) district_words (λ q. more (key.District q))) (sym e)
           (same_insert exact_district t.districts k r (IsDistrictKey t0.scale) (IsDistrictOf t0) district_words _ _ is is_in (here ∙ ap Some same)
           (λ q at other. others (key.District q) at (λ (p : key.District q ≡ key.District k). other cc)) a.districts);
       customers = kept_customers t0 t values more (key.District k) others a (λ q p. cc);
+      texts = kept_texts t0 t values more (key.District k) others a (λ q p. cc);
       new_orders = kept_new_orders t0 t values more (key.District k) others a (λ q p. cc);
       orders = kept_orders t0 t values more (key.District k) others a (λ q p. cc);
       lines = kept_lines t0 t values more (key.District k) others a (λ q p. cc);
@@ -166,16 +173,37 @@ module _ (t0 : Database) (ws : List ℕ) (t : Database) where
       scale = a.scale;
       keeps = a.keeps;
       items = a.items;
-      texts = a.texts;
       warehouses = kept_warehouses t0 t values more (key.Customer k) others a (λ q p. cc);
       districts = kept_districts t0 t values more (key.Customer k) others a (λ q p. cc);
       customers = subst (IsTableOf (IsCustomerKey t0.scale) (IsCustomerOf t0) customer_words (λ q. more (key.Customer q))) (sym e)
           (same_insert exact_customer t.customers k r (IsCustomerKey t0.scale) (IsCustomerOf t0) customer_words _ _ is is_in (here ∙ ap Some same)
           (λ q at other. others (key.Customer q) at (λ (p : key.Customer q ≡ key.Customer k). other cc)) a.customers);
+      texts = kept_texts t0 t values more (key.Customer k) others a (λ q p. cc);
       new_orders = kept_new_orders t0 t values more (key.Customer k) others a (λ q p. cc);
       orders = kept_orders t0 t values more (key.Customer k) others a (λ q p. cc);
       lines = kept_lines t0 t values more (key.Customer k) others a (λ q p. cc);
       stock = kept_stock t0 t values more (key.Customer k) others a (λ q p. cc);
+    };
+  }
+
+  pub puts_text : (k : CustomerKey) (text : List ℕ) (rows : FinMap customer_cmp (List ℕ)) → rows ≡ insert t.texts k text → IsCustomerKey t0.scale k
+      → IsData text → ws ≡ data_words text → Puts t0 (key.CustomerData k) (Some ws) t (record t { texts = rows })
+  puts_text k text rows e is is_in same = record {
+    history = refl;
+    tables = λ values more here others a. record {
+      scale = a.scale;
+      keeps = a.keeps;
+      items = a.items;
+      warehouses = kept_warehouses t0 t values more (key.CustomerData k) others a (λ q p. cc);
+      districts = kept_districts t0 t values more (key.CustomerData k) others a (λ q p. cc);
+      customers = kept_customers t0 t values more (key.CustomerData k) others a (λ q p. cc);
+      texts = subst (IsTableOf (IsCustomerKey t0.scale) (λ k text. IsData text) data_words (λ q. more (key.CustomerData q))) (sym e)
+          (same_insert exact_customer t.texts k text (IsCustomerKey t0.scale) (λ k text. IsData text) data_words _ _ is is_in (here ∙ ap Some same)
+          (λ q at other. others (key.CustomerData q) at (λ (p : key.CustomerData q ≡ key.CustomerData k). other cc)) a.texts);
+      new_orders = kept_new_orders t0 t values more (key.CustomerData k) others a (λ q p. cc);
+      orders = kept_orders t0 t values more (key.CustomerData k) others a (λ q p. cc);
+      lines = kept_lines t0 t values more (key.CustomerData k) others a (λ q p. cc);
+      stock = kept_stock t0 t values more (key.CustomerData k) others a (λ q p. cc);
     };
   }
 
@@ -187,10 +215,10 @@ module _ (t0 : Database) (ws : List ℕ) (t : Database) where
       scale = a.scale;
       keeps = a.keeps;
       items = a.items;
-      texts = a.texts;
       warehouses = kept_warehouses t0 t values more (key.NewOrder k) others a (λ q p. cc);
       districts = kept_districts t0 t values more (key.NewOrder k) others a (λ q p. cc);
       customers = kept_customers t0 t values more (key.NewOrder k) others a (λ q p. cc);
+      texts = kept_texts t0 t values more (key.NewOrder k) others a (λ q p. cc);
       new_orders = subst (IsTableOf (IsOrderKey t0.scale) (λ k r. Unit {0}) new_order_words (λ q. more (key.NewOrder q))) (sym e)
           (same_insert exact_order t.new_orders k r (IsOrderKey t0.scale) (λ k r. Unit {0}) new_order_words _ _ is tt (here ∙ ap Some same)
           (λ q at other. others (key.NewOrder q) at (λ (p : key.NewOrder q ≡ key.NewOrder k). other cc)) a.new_orders);
@@ -208,10 +236,10 @@ module _ (t0 : Database) (ws : List ℕ) (t : Database) where
       scale = a.scale;
       keeps = a.keeps;
       items = a.items;
-      texts = a.texts;
       warehouses = kept_warehouses t0 t values more (key.Order k) others a (λ q p. cc);
       districts = kept_districts t0 t values more (key.Order k) others a (λ q p. cc);
       customers = kept_customers t0 t values more (key.Order k) others a (λ q p. cc);
+      texts = kept_texts t0 t values more (key.Order k) others a (λ q p. cc);
       new_orders = kept_new_orders t0 t values more (key.Order k) others a (λ q p. cc);
       orders = subst (IsTableOf (IsOrderKey t0.scale) (λ k r. IsOrderOfScale t0.scale r) order_words (λ q. more (key.Order q))) (sym e)
           (same_insert exact_order t.orders k r (IsOrderKey t0.scale) (λ k r. IsOrderOfScale t0.scale r) order_words _ _ is is_in (here ∙ ap Some same)
@@ -229,10 +257,10 @@ module _ (t0 : Database) (ws : List ℕ) (t : Database) where
       scale = a.scale;
       keeps = a.keeps;
       items = a.items;
-      texts = a.texts;
       warehouses = kept_warehouses t0 t values more (key.OrderLine k) others a (λ q p. cc);
       districts = kept_districts t0 t values more (key.OrderLine k) others a (λ q p. cc);
       customers = kept_customers t0 t values more (key.OrderLine k) others a (λ q p. cc);
+      texts = kept_texts t0 t values more (key.OrderLine k) others a (λ q p. cc);
       new_orders = kept_new_orders t0 t values more (key.OrderLine k) others a (λ q p. cc);
       orders = kept_orders t0 t values more (key.OrderLine k) others a (λ q p. cc);
       lines = subst (IsTableOf (IsLineKey t0.scale) (λ k r. IsLineRow t0.scale r) line_words (λ q. more (key.OrderLine q))) (sym e)
@@ -250,10 +278,10 @@ module _ (t0 : Database) (ws : List ℕ) (t : Database) where
       scale = a.scale;
       keeps = a.keeps;
       items = a.items;
-      texts = a.texts;
       warehouses = kept_warehouses t0 t values more (key.Stock k) others a (λ q p. cc);
       districts = kept_districts t0 t values more (key.Stock k) others a (λ q p. cc);
       customers = kept_customers t0 t values more (key.Stock k) others a (λ q p. cc);
+      texts = kept_texts t0 t values more (key.Stock k) others a (λ q p. cc);
       new_orders = kept_new_orders t0 t values more (key.Stock k) others a (λ q p. cc);
       orders = kept_orders t0 t values more (key.Stock k) others a (λ q p. cc);
       lines = kept_lines t0 t values more (key.Stock k) others a (λ q p. cc);
@@ -279,10 +307,10 @@ takes_new_order t0 t k rows e = record {
     scale = a.scale;
     keeps = a.keeps;
     items = a.items;
-    texts = a.texts;
     warehouses = kept_warehouses t0 t values more (key.NewOrder k) others a (λ q p. cc);
     districts = kept_districts t0 t values more (key.NewOrder k) others a (λ q p. cc);
     customers = kept_customers t0 t values more (key.NewOrder k) others a (λ q p. cc);
+    texts = kept_texts t0 t values more (key.NewOrder k) others a (λ q p. cc);
     new_orders = subst (IsTableOf (IsOrderKey t0.scale) (λ k r. Unit {0}) new_order_words (λ q. more (key.NewOrder q))) (sym e)
         (same_remove exact_order t.new_orders k (IsOrderKey t0.scale) (λ k r. Unit {0}) new_order_words _ _ here
         (λ q at other. others (key.NewOrder q) at (λ (p : key.NewOrder q ≡ key.NewOrder k). other cc)) a.new_orders);

@@ -1,24 +1,26 @@
 -- What the records of tables hold may be held; and tables of some values hold these, and are of the population.
-use Rattle.std.proofs.Common.{◌≡◌, ℕ, ◌<◌, List, Option, Some, None, IsSome, true≢false, refl, sym, ap, ◌∙◌, subst, arith}
+use Rattle.std.proofs.Common.{◌≡◌, ℕ, List, Option, Some, None, IsSome, true≢false, refl, sym, ap, ◌∙◌, subst}
 use Rattle.std.specs.Option.{option_map}
 use Rattle.std.specs.FinMap.{FinMap, get}
 use Rattle.std.specs.declared.cmp.Ordering.{Ordering}
 use Rattle.std.proofs.lemmas.Option.{none-some}
+use Rattle.customer_data.specs.Text.{IsData}
+use Rattle.customer_data.specs.Words.{data_words}
 use Rattle.tables.specs.Maps.{RowsAt}
-use Rattle.tables.specs.Sizes.{Sizes}
 use Rattle.tables.specs.Keys.{IsWarehouseKey, IsDistrictKey, IsCustomerKey, IsStockKey}
 use Rattle.tables.specs.WellFormed.{IsWellFormed, IsMoney, IsDistrictRow, IsCustomerRow, IsStockRow}
 use Rattle.tables.specs.Constant.{IsOf}
 use Rattle.tables.specs.Database.{Database}
-use Rattle.tables.specs.Records.{record_count, key_of, IsRecordKey, IsRowKey}
+use Rattle.tables.specs.Records.{key_of, IsRecordKey}
 use Rattle.tables.specs.Rows.{row_at, rows, warehouse_words, district_words, customer_words, stock_words}
 use Rattle.tables.specs.declared.records.RecordKey.{RecordKey}
 use Rattle.tables.specs.declared.records.RecordKey.TheVariants as key
-use Rattle.tables.proofs.Numbers.{numbered, row_numbered}
+use Rattle.tables.proofs.Numbers.{numbered}
 use Rattle.rows.specs.Laws.{order_within}
-use Rattle.encoding.specs.Held.{row_count, by_key, IsTableOf, AreTables}
+use Rattle.encoding.specs.Held.{IsTableRecord, by_key, IsTableOf, AreTables}
 use Rattle.encoding.specs.Newest.{AreLawful}
 use Rattle.encoding.specs.Puts.{IsRow, MayHold}
+use Rattle.encoding.proofs.Numbered.{IsTableKey, among_all, table_key}
 
 -- the value at a key where a row always stands
 row_there : {K X : Type 0} {R : K → K → Ordering} (IsKey : K → Type 0) (IsIn : X → Type 0) (words : X → List ℕ) (m : FinMap R X) (k : K) → RowsAt IsKey m
@@ -42,9 +44,9 @@ lawful_rows t wf (key.OrderLine k) is = (get t.lines k, refl, wf.line_rows k)
 lawful_rows t wf (key.Stock k) is = row_there (IsStockKey t.scale) IsStockRow stock_words t.stock k wf.stock (wf.stock_rows k) is
 lawful_rows t wf (key.Oldest k) is = tt
 lawful_rows t wf (key.Last k) is = tt
-lawful_rows t wf (key.CustomerData k) is = tt
+lawful_rows t wf (key.CustomerData k) is = row_there (IsCustomerKey t.scale) IsData data_words t.texts k wf.texts (wf.text_rows k) is
 
-row_held : (t0 : Database) (values : RecordKey → Option (List ℕ)) (t : Database) → AreTables t0 values t → (k : RecordKey) → IsRecordKey t0.scale k → IsRowKey k
+row_held : (t0 : Database) (values : RecordKey → Option (List ℕ)) (t : Database) → AreTables t0 values t → (k : RecordKey) → IsRecordKey t0.scale k → IsTableKey k
     → row_at t k ≡ values k
 row_held t0 values t a (key.Warehouse k) is row = a.warehouses.rows k is
 row_held t0 values t a (key.District k) is row = a.districts.rows k is
@@ -55,21 +57,17 @@ row_held t0 values t a (key.OrderLine k) is row = a.lines.rows k is
 row_held t0 values t a (key.Stock k) is row = a.stock.rows k is
 row_held t0 values t a (key.Oldest k) is row = absurd row
 row_held t0 values t a (key.Last k) is row = absurd row
-row_held t0 values t a (key.CustomerData k) is row = absurd row
-
-among_all : (s : Sizes) (n : ℕ) → n < row_count s → n < record_count s
-among_all s n h = omega arith
+row_held t0 values t a (key.CustomerData k) is row = a.texts.rows k is
 
 pub lawful_values : (t : Database) → IsWellFormed t → AreLawful t.scale (rows t)
 lawful_values t wf n h = lawful_rows t wf (key_of t.scale n) (numbered t.scale n (among_all t.scale n h)).0
 
-pub rows_held : (t0 : Database) (values : ℕ → Option (List ℕ)) (t : Database) → AreTables t0 (by_key t0.scale values) t → (n : ℕ) → n < row_count t0.scale
+pub rows_held : (t0 : Database) (values : ℕ → Option (List ℕ)) (t : Database) → AreTables t0 (by_key t0.scale values) t → (n : ℕ) → IsTableRecord t0.scale n
     → rows t n ≡ values n
 rows_held t0 values t a n h =
     let s = t0.scale in
-    let all = among_all s n h in
-    let named = numbered s n all in
-    ap (λ z. row_at t (key_of z n)) a.scale ∙ (row_held t0 (by_key s values) t a (key_of s n) named.0 (row_numbered s n all h) ∙ ap values named.1)
+    let named = numbered s n (among_all s n h) in
+    ap (λ z. row_at t (key_of z n)) a.scale ∙ (row_held t0 (by_key s values) t a (key_of s n) named.0 (table_key s n h) ∙ ap values named.1)
 
 module _ {K X Y : Type 0} {R : K → K → Ordering} (IsKey : K → Type 0) (f : X → Y) (m first : FinMap R X) where
   -- a column that never changes, where rows always stand
@@ -102,7 +100,6 @@ is_of t0 values t wf may a =
     record {
       scale = a.scale;
       keeps = a.keeps;
-      texts = λ _. a.texts;
       warehouse_taxes = column_of (IsWarehouseKey s) (λ r. r.tax) t.warehouses t0.warehouses wf.warehouses warehouse (λ k r e. (a.warehouses.each k r e).tax);
       district_taxes = column_of (IsDistrictKey s) (λ r. r.tax) t.districts t0.districts wf.districts district (λ k r e. (a.districts.each k r e).tax);
       first_names = column_of (IsCustomerKey s) (λ r. r.first_name) t.customers t0.customers wf.customers customer

@@ -2,3 +2,4 @@ pub mod Held
 pub mod Puts
 pub mod Newest
 pub mod Begun
+pub mod Building

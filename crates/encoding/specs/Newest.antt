@@ -13,26 +13,26 @@ use Rattle.cells.specs.Records.{newest_words}
 use Rattle.cells.specs.First.{first_version, populated_word}
 use Rattle.cells.specs.declared.cells.Newest.{Newest}
 use Rattle.cells.specs.declared.wide.WideNewest.{WideNewest}
-use Rattle.encoding.specs.Held.{row_count}
+use Rattle.encoding.specs.Held.{IsTableRecord}
 use Rattle.encoding.specs.Puts.{MayHold}
 
 -- the words of record n's version
 abbrev pub words_at : List Newest → ℕ → List ℕ
 words_at newest n = option_map_or newest_words (slice_get newest n) []
 
--- each record of a row holds what it may hold
+-- each record of a table's row holds what it may hold
 abbrev pub AreLawful : Sizes → (ℕ → Option (List ℕ)) → Type 0
-AreLawful s values = (n : ℕ) → n < row_count s → MayHold s (key_of s n) (values n)
+AreLawful s values = (n : ℕ) → IsTableRecord s n → MayHold s (key_of s n) (values n)
 
 -- what the records of C_DATA begin with, by place
-abbrev pub first_text_of : Database → ℕ → WideNewest
-first_text_of t p = record {
+abbrev pub text_version_of : Database → ℕ → WideNewest
+text_version_of t p = record {
   word = populated_word;
   payload = data_words (unwrap_or (get t.texts (customer_at t.scale p)) []);
 }
 
-abbrev pub first_texts_of : Database → List WideNewest
-first_texts_of t = map (first_text_of t) (range_with_len 0 (size t.scale table.CustomerData))
+abbrev pub text_versions_of : Database → List WideNewest
+text_versions_of t = map (text_version_of t) (range_with_len 0 (size t.scale table.CustomerData))
 
 -- what the narrow records of tables begin with
 pub record AreFirst (t0 : Database) (newest : List Newest) : Type 0 where

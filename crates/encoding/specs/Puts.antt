@@ -1,6 +1,8 @@
 -- Which values records may hold, and what it is to put one value into tables.
 use Rattle.std.specs.Prelude.{◌≡◌, ◌≢◌, Option, Some, List, ℕ}
 use Rattle.std.specs.Option.{ForSome, option_map}
+use Rattle.customer_data.specs.Text.{IsData}
+use Rattle.customer_data.specs.Words.{data_words}
 use Rattle.tables.specs.Sizes.{Sizes}
 use Rattle.tables.specs.WellFormed.{IsMoney, IsDistrictRow, IsCustomerRow, IsLineRow, IsStockRow}
 use Rattle.tables.specs.Database.{Database}
@@ -20,8 +22,8 @@ IsRow {X} words IsIn value = (r : X) × (value ≡ Some (words r)) × IsIn r
 abbrev pub MayBeRow : {X : Type 0} → (X → List ℕ) → (X → Type 0) → Option (List ℕ) → Type 0
 MayBeRow {X} words IsIn value = (row : Option X) × (value ≡ option_map words row) × ForSome row IsIn
 
--- what the record of a key may hold: a row of WAREHOUSE, DISTRICT, CUSTOMER and STOCK is always there. Nothing is said
--- of the index records and of C_DATA
+-- what the record of a key may hold: a row of WAREHOUSE, DISTRICT, CUSTOMER and STOCK is always there, and so is a
+-- customer's C_DATA. Nothing is said of the index records
 abbrev pub MayHold : Sizes → RecordKey → Option (List ℕ) → Type 0
 MayHold s (key.Warehouse k) = IsRow warehouse_words (λ r. IsMoney r.year_to_date)
 MayHold s (key.District k) = IsRow district_words (IsDistrictRow s)
@@ -32,7 +34,7 @@ MayHold s (key.OrderLine k) = MayBeRow line_words (IsLineRow s)
 MayHold s (key.Stock k) = IsRow stock_words IsStockRow
 MayHold s (key.Oldest k) = λ value. Unit {0}
 MayHold s (key.Last k) = λ value. Unit {0}
-MayHold s (key.CustomerData k) = λ value. Unit {0}
+MayHold s (key.CustomerData k) = IsRow data_words IsData
 
 -- the record of this key now holds this value, and every other one what it held: tables of some values are then tables
 -- of the values with this one

@@ -22,7 +22,7 @@ use cells::{FirstVersions, Newest};
 use money::Payload;
 use std::alloc::{AllocError, Global};
 use std::collections::BTreeMap;
-use tables::{RecordKey, Scale, Table, Tables, narrow_count, number_of_key};
+use tables::{RecordKey, Scale, Tables, narrow_count, number_of_key};
 use tidword::TidWord;
 
 /// How a row of a table gives a record its first words.

@@ -1,24 +1,27 @@
 //! A record's words put into tables: the row of its key is inserted, or replaced. A NEW-ORDER row taken out.
 
 ghost use Rattle.std.specs.Prelude.{◌≡◌, Some, None, OnOk};
+ghost use Rattle.customer_data.specs.Text.{IsData};
+ghost use Rattle.customer_data.specs.Words.{data_words};
 ghost use Rattle.tables.specs.Database.{Database, database};
-ghost use Rattle.tables.specs.Records.{IsRecordKey};
+ghost use Rattle.tables.specs.Keys.{IsCustomerKey};
+ghost use Rattle.tables.specs.Records.{IsNarrowKey, IsRecordKey};
 ghost use Rattle.tables.specs.Sizes.{IsScale};
 ghost use Rattle.tables.specs.WellFormed.{IsWellFormed};
 ghost use Rattle.tables.specs.declared.records.RecordKey.TheVariants as record_key;
 ghost use Rattle.encoding.specs.Puts.{IsRow, MayHold, Puts};
 
+use customer_data::{CustomerData, DataWords};
 use money::Payload;
 use rows::{CustomerColumns, DistrictColumns, Row, WarehouseColumns};
-use std::alloc::AllocError;
+use std::alloc::{AllocError, Global};
 use tables::{
     Customer, CustomerKey, District, DistrictKey, LineKey, NewOrder, Order, OrderKey, OrderLine,
     RecordKey, Scale, Stock, StockKey, Tables, Warehouse,
 };
 
-/// Puts the words of a record into tables: its row then has these words, and the columns that never change from
-/// the population's row. One look-up and one insert. The words of an index record and of C_DATA change nothing,
-/// since they have no row.
+/// Puts the words of a narrow record into tables: its row then has these words, and the columns that never change from
+/// the population's row. One look-up and one insert. The words of an index record change nothing, since it has no row.
 ///
 /// # Errors
 ///
@@ -31,7 +34,7 @@ pub fn put(
 ) -> Result<(), AllocError>
     requires population { IsWellFormed (database population.now) }
     requires lawful { IsScale (database population.now).scale }
-    requires key { IsRecordKey (database population.now).scale key }
+    requires key { IsNarrowKey (database population.now).scale key }
     requires words { MayHold (database population.now).scale key (Some words.now) }
     ensures { OnOk result (Puts (database population.now) key (Some words.now)
         (database tables.old) (database tables.new)) }
@@ -44,8 +47,29 @@ pub fn put(
         RecordKey::Order(key) => put_order(tables, population, key, words),
         RecordKey::OrderLine(key) => put_line(tables, population, key, words),
         RecordKey::Stock(key) => put_stock(tables, population, key, words),
-        RecordKey::Oldest(_) | RecordKey::Last(_) | RecordKey::CustomerData(_) => Ok(()),
+        RecordKey::Oldest(_) | RecordKey::Last(_) => Ok(()),
+        RecordKey::CustomerData(_) => unreachable!(),
     }
+}
+
+/// Puts the words of a customer's C_DATA into tables: its text is then the one of these words. One insert.
+///
+/// # Errors
+///
+/// Want of memory.
+pub fn put_text(
+    alloc: Global,
+    tables: &mut Tables,
+    key: CustomerKey,
+    words: &DataWords,
+) -> Result<(), AllocError>
+    requires { IsRow data_words IsData (Some words.now) }
+    ensures { OnOk result ((t0 : Database) → IsCustomerKey t0.scale key
+        → Puts t0 (record_key.CustomerData key) (Some words.now) (database tables.old) (database tables.new)) }
+{
+    let text = CustomerData::of_words(alloc, words)?;
+    tables.texts.insert(key, text)?;
+    Ok(())
 }
 
 /// Takes the NEW-ORDER row of an order out, if it is there: its record is then absent, as a Delivery leaves it. No

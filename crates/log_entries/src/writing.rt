@@ -18,7 +18,7 @@ use readset::WriteList;
 use std::alloc::AllocError;
 use tables::{History, Scale, Table, locate};
 
-/// Appends an entry of the history, as an entry of a log file.
+/// Appends an entry of the history, which writes narrow records alone, as an entry of a log file.
 ///
 /// # Errors
 ///

@@ -1,5 +1,5 @@
 -- What a Payment reads explains what it writes and replies.
-use Rattle.std.proofs.Common.{◌≡◌, ℕ, ◌+◌, ◌+ℤ◌, ◌-ℤ◌, [], ◌∷◌, ◌++◌, Option, Some, None, refl, sym, ap, ◌∙◌, subst}
+use Rattle.std.proofs.Common.{◌≡◌, ℕ, false, ◌+◌, ◌+ℤ◌, ◌-ℤ◌, [], ◌∷◌, ◌++◌, Option, Some, None, refl, sym, ap, ◌∙◌, subst}
 use Rattle.std.specs.Option.{option_map}
 use Rattle.std.specs.FinMap.{get}
 use Rattle.tables.specs.Database.{Database}
@@ -33,7 +33,7 @@ use Rattle.payment.proofs.Changed.{others, warehouse_changed, district_changed, 
 module _ (t0 : Database) (x : PaymentInput) (id : ℕ) (reads : ReadSetView) (found : Rows) (valid : IsPayment t0.scale x)
     (is_number : IsNumber t0.scale.customers id)
     (read : (t : Database) → IsCandidate t0 reads t → ArePaymentRows x id found t)
-    (at_id : id ≡ payer_number t0 x)
+    (at_id : id ≡ payer_number t0 x) (keeps : t0.keeps_texts ≡ false)
   where
     -- the three rows of tables that may have been read
     record Found (t : Database) : Type 0 where
@@ -101,7 +101,7 @@ module _ (t0 : Database) (x : PaymentInput) (id : ℕ) (reads : ReadSetView) (fo
             ),
           ),
         )
-        (λ j _ apart. others t x id h.well_formed.keeps_texts j apart.0 apart.1.0 apart.1.1.0)
+        (λ j _ apart. others t x id (h.of_population.keeps ∙ keeps) j apart.0 apart.1.0 apart.1.1.0)
 
     pub commits : (writes : WriteSetView)
         → writes ≡ record { values = (puts_all t0.scale no_writes (changes_of x id (paid x.amount found))).values; history_row = Some (history_row x id) }

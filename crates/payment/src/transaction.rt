@@ -1,5 +1,5 @@
 //! A Payment on record cells.
-ghost use Rattle.std.specs.Prelude.{◌≡◌, ◌≤◌, ◌≤ℤ◌, pos, IsSome, [], length, Some, IfOk, IfErr, OnOk};
+ghost use Rattle.std.specs.Prelude.{◌≡◌, ◌≤◌, ◌≤ℤ◌, pos, false, IsSome, [], length, Some, IfOk, IfErr, OnOk};
 ghost use Rattle.tables.specs.Sizes.{Sizes, IsNumber};
 ghost use Rattle.tables.specs.Payment.{IsPayment, payer, payer_number, history_row};
 ghost use Rattle.tables.specs.declared.limits.TheConstants.{MAX_PAYMENT};
@@ -74,6 +74,7 @@ fn pay<R: Wait, K: Start>(
     requires input { IsPayment K.tables.scale payment.now }
     requires payer { customer ≡ payer_number K.tables payment.now }
     requires customer { IsNumber K.tables.scale.customers customer }
+    requires keeps { K.tables.keeps_texts ≡ false }
     requires begun { transaction.old ≡ record { reads = []; writes = no_writes } }
     ensures reply { Finds K.tables transaction.new result (λ reply t.
         IsCommitOf t (input_variants.Payment payment.now) transaction.new.writes reply) }

@@ -130,7 +130,6 @@ module _ (t : Database) (fit : IsFit t.scale) (seeded : IsSeeded t.scale t) wher
     new_orders = within seeded.new_orders _ (λ k h. (h.0, h.1, (omega (arith, h.2), omega (arith, h.2, fit.orders))));
     orders = within seeded.orders _ (λ k h. (h.0, h.1, (h.2.0, omega (arith, h.2, fit.orders))));
     lines = within seeded.lines _ (λ k h. (h.0.0, h.0.1, (h.0.2.0, omega (arith, h.0.2, fit.orders)), (h.1.0, fifteen k h)));
-    keeps_texts = seeded.keeps_texts;
     items = within seeded.items _ (λ k h. h);
     warehouse_rows = each seeded.warehouses _ (λ k r h d. money _ (t.scale.districts * (t.scale.customers * 1000)) d.year_to_date (omega (arith, total)));
     district_rows = each seeded.districts _ (λ k r h d. record {

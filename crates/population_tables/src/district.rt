@@ -6,7 +6,8 @@ ghost use Rattle.tables.specs.Sizes.{IsNumber, IsBetween};
 ghost use Rattle.tables.specs.Database.{database};
 ghost use Rattle.tables.specs.declared.limits.TheConstants.{MIN_ORDER_LINES, MAX_ORDER_LINES};
 ghost use Rattle.population_tables.specs.Plain.{delivered_orders, district_payments};
-ghost use Rattle.population_tables.specs.Adds.{is_in, is_number, is_at, is_order_at, is_order_in, AddsCustomers, AddsTexts, AddsOrders};
+ghost use Rattle.population_tables.specs.Adds.{is_in, is_number, is_at, is_order_at, is_order_in};
+ghost use Rattle.population_tables.specs.Adds.{AddsCustomers, AddsTexts, AddsOrders};
 ghost use Rattle.population_tables.specs.Adds.{AddsNewOrders, AddsLines, AddsDistricts, KeepsOtherTables, is_line_in};
 
 use crate::plain::{delivered, history_row};

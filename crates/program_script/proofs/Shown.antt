@@ -1,9 +1,19 @@
 -- A row that is shown: what its record says, and what the population's row has of it.
-use Rattle.std.proofs.Common.{◌≡◌, ℕ, Option, Some, None, List, refl, sym, ap, ◌∙◌}
+use Rattle.std.proofs.Common.{◌≡◌, ℕ, Option, Some, None, IsSome, List, refl, sym, ap, ◌∙◌}
 use Rattle.std.specs.Option.{option_map}
 use Rattle.std.specs.FinMap.{get}
 use Rattle.std.proofs.lemmas.Option.{none-some, same_Some}
+use Rattle.customer_data.specs.Text.{IsData}
+use Rattle.customer_data.specs.Words.{data_words}
 use Rattle.tables.specs.Constant.{IsOf}
+use Rattle.tables.specs.Keys.{IsCustomerKey}
+use Rattle.tables.specs.Records.{number_of_key, IsRecordKey}
+use Rattle.tables.specs.Rows.{row_at, rows}
+use Rattle.tables.specs.Sizes.{Sizes}
+use Rattle.tables.specs.WellFormed.{IsWellFormed}
+use Rattle.tables.specs.declared.records.RecordKey.{RecordKey}
+use Rattle.tables.specs.declared.records.RecordKey.TheVariants as key
+use Rattle.encoding.proofs.Numbered.{record_at}
 use Rattle.tables.specs.Database.{Database}
 use Rattle.tables.specs.declared.keys.DistrictKey.{DistrictKey}
 use Rattle.tables.specs.declared.keys.CustomerKey.{CustomerKey}
@@ -30,6 +40,33 @@ one_row : {X C : Type 0} (f : X → C) (made : X) (c : C) (o : Option X) → opt
 one_row f made c o held same =
     let row = found_row f o c held in
     row.1 ∙ ap Some (sym (same row.0 row.1 row.2))
+
+-- what the record of a key holds, asked for by the number that the key has at the scale
+pub record_held : (t0 t : Database) → IsOf t0 t → (k : RecordKey) → IsRecordKey t0.scale k → (s : Sizes) (number : ℕ) (words : Option (List ℕ)) → s ≡ t0.scale
+    → number ≡ number_of_key s k → words ≡ rows t number → words ≡ row_at t k
+record_held t0 t of k is s number words scale named found =
+    found ∙ ap (rows t) (named ∙ ap (λ (z : Sizes). number_of_key z k) scale) ∙ record_at t0 t of k is
+
+-- a customer of the scale has a text, and the record of it its words
+pub text_stands : (t : Database) → IsWellFormed t → (k : CustomerKey) → IsCustomerKey t.scale k → IsSome (row_at t (key.CustomerData k))
+text_stands t wf k is = stands (get t.texts k) ((wf.texts k).1 is)
+  where
+    stands : (text : Option (List ℕ)) → IsSome text → IsSome (option_map data_words text)
+    stands None none = none
+    stands (Some text) some = refl
+
+pub record TextOf (t : Database) (k : CustomerKey) (words : List ℕ) : Type 0 where
+  pub text : List ℕ
+  pub there : get t.texts k ≡ Some text
+  pub words_are : words ≡ data_words text
+  pub is : IsData text
+
+pub text_of_record : (t : Database) → IsWellFormed t → (k : CustomerKey) (words : List ℕ) → Some words ≡ row_at t (key.CustomerData k) → TextOf t k words
+text_of_record t wf k words held = told (get t.texts k) refl
+  where
+    told : (o : Option (List ℕ)) → get t.texts k ≡ o → TextOf t k words
+    told None e = absurd (none-some words (sym (held ∙ ap (option_map data_words) e)))
+    told (Some text) e = record { text = text; there = e; words_are = same_Some _ _ (held ∙ ap (option_map data_words) e); is = wf.text_rows k text e }
 
 module _ (t0 t : Database) (of : IsOf t0 t) where
   pub warehouse_from : (k : ℕ) (first : Warehouse) (c : WarehouseColumns) → get t0.warehouses k ≡ Some first

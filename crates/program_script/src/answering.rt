@@ -43,7 +43,7 @@ pub fn answer_line<K: Run, R: Wait>(
         return refuse(Refusal::BadLine, number, output);
     };
     match read_request(alloc, text, number) {
-        Ok(request) => answer_request(rt, session, request, number, output),
+        Ok(request) => answer_request(rt, alloc, session, request, number, output),
         Err(refusal) => decline(refusal, number, output),
     }
 }
@@ -51,6 +51,7 @@ pub fn answer_line<K: Run, R: Wait>(
 /// Answers a request, or refuses it outside its ranges.
 fn answer_request<K: Run, R: Wait>(
     rt: &R,
+    alloc: Global,
     session: &mut Session<'_, K>,
     request: Request,
     number: u32,
@@ -66,7 +67,7 @@ fn answer_request<K: Run, R: Wait>(
     match in_range(&scale, request) {
         Ok(Request::Transaction(input)) => commit(rt, session, &input, number, output),
         Ok(Request::Show(key)) => {
-            let row = show(session, key)?;
+            let row = show(alloc, session, key)?;
             Answer::Row(row).print(output)
         }
         Err(refusal) => refuse(refusal, number, output),

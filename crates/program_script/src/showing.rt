@@ -5,6 +5,7 @@ ghost use Rattle.std.specs.FinMap.{get};
 ghost use Rattle.tables.specs.Keys.{IsWarehouseKey, IsDistrictKey, IsCustomerKey};
 ghost use Rattle.tables.specs.Database.{database};
 ghost use Rattle.tables.specs.Records.{IsNarrowKey};
+ghost use Rattle.tables.specs.declared.records.RecordKey.TheVariants as record_key;
 ghost use Rattle.tables.specs.Rows.{row_at};
 ghost use Rattle.tables.specs.WellFormed.{IsWellFormed};
 ghost use Rattle.book.specs.History.{replay};
@@ -13,18 +14,19 @@ ghost use Rattle.program_script.specs.Turns.{row_of};
 
 use book::Run;
 use book_session::Session;
-use customer_data::CustomerData;
+use customer_data::{CustomerData, DataWords};
 use money::Payload;
 use program_script_text::{ShowKey, ShownRow};
 use rows::{CustomerColumns, DistrictColumns, Present, Row, WarehouseColumns};
-use std::alloc::AllocError;
+use std::alloc::{AllocError, Global};
 use tables::{
     Customer, CustomerKey, District, DistrictKey, RecordKey, Tables, Warehouse, number_of_key,
 };
 
 /// The row at a key of the scale, or that there is no such order. Costs one record, and for a row with columns that
-/// never change, as for C_DATA, a look-up in the population. Only C_DATA may take memory.
+/// never change a look-up in the population. Only C_DATA may take memory.
 pub(crate) fn show<K: Run>(
+    alloc: Global,
     session: &mut Session<'_, K>,
     key: ShowKey,
 ) -> Result<ShownRow, AllocError>
@@ -46,7 +48,7 @@ pub(crate) fn show<K: Run>(
             ShownRow::Customer { key, row }
         }
         ShowKey::CustomerData(key) => {
-            let text = text_at(session, key)?;
+            let text = text_at(alloc, session, key)?;
             ShownRow::CustomerData { key, text }
         }
         ShowKey::Stock(key) => {
@@ -107,8 +109,9 @@ fn customer_at<K: Run>(session: &mut Session<'_, K>, key: CustomerKey) -> Custom
     }
 }
 
-/// C_DATA of a customer of the scale, which is the population's, since no transaction changes it.
+/// C_DATA of a customer of the scale, as its record holds it.
 fn text_at<K: Run>(
+    alloc: Global,
     session: &mut Session<'_, K>,
     key: CustomerKey,
 ) -> Result<CustomerData, AllocError>
@@ -116,9 +119,20 @@ fn text_at<K: Run>(
     ensures same { session.new ≡ session.old }
     ensures row { IfOk result (λ text. get (replay K.first session.old.history).texts key ≡ Some text) }
 {
-    let text = first_tables(session).texts.get(&key).unwrap();
-    let copy = text.clone()?;
-    Ok(copy)
+    let words = text_words(session, key);
+    CustomerData::of_words(alloc, &words)
+}
+
+/// What the record of a customer's C_DATA holds in the committed tables, which are well-formed.
+fn text_words<K: Run>(session: &mut Session<'_, K>, key: CustomerKey) -> DataWords
+    requires { IsCustomerKey K.first.scale key }
+    ensures same { session.new ≡ session.old }
+    ensures words { Some result ≡ row_at (replay K.first session.old.history) (record_key.CustomerData key) }
+    ensures well_formed { IsWellFormed (replay K.first session.old.history) }
+{
+    let scale = session.population().scale();
+    let number = number_of_key(&scale, RecordKey::CustomerData(key));
+    session.record_wide(number).unwrap()
 }
 
 /// The row at a key of the scale, of a table that has one at each.

@@ -127,7 +127,7 @@ impl<'a, K: Start> Transaction<'a, K> {
         self.population
     }
 
-    /// The words of a record, or nothing where it is absent: as it was read before, or else by a load. Costs what
+    /// The words of a narrow record, or nothing where it is absent: as it was read before, or else by a load. Costs what
     /// `ReadSet::get` does.
     ///
     /// # Errors
@@ -151,7 +151,7 @@ impl<'a, K: Start> Transaction<'a, K> {
         Ok(value_of(&version))
     }
 
-    /// Says what a record that was read is to hold, in the place of what was said of it before. Costs what
+    /// Says what a narrow record that was read is to hold, in the place of what was said of it before. Costs what
     /// `WriteSet::put` does.
     ///
     /// # Errors

@@ -91,26 +91,27 @@ module _ (s : Sizes) where
       sym at.1 ∙ (λ i. key_at s (same.0 i) (same.1 i))
 
   -- what is lawful at a place may be held by the place's record
-  place_may_hold : (t : Table) (p : ℕ) (value : Option (List ℕ)) → p < size s t → is_value s t value ≡ true → MayHold s (key_at s t p) value
-  place_may_hold table.Warehouse p None h e = absurd (true≢false (sym e))
-  place_may_hold table.Warehouse p (Some words) h e = warehouse_row s words e
-  place_may_hold table.District p None h e = absurd (true≢false (sym e))
-  place_may_hold table.District p (Some words) h e = district_row s words e
-  place_may_hold table.Customer p None h e = absurd (true≢false (sym e))
-  place_may_hold table.Customer p (Some words) h e = customer_row s words e
-  place_may_hold table.History p value h e = absurd (not-suc-le-zero h)
-  place_may_hold table.NewOrder p None h e = (None, refl, λ r is. absurd (none-some r is))
-  place_may_hold table.NewOrder p (Some words) h e = there new_order_words (λ r. Unit {0}) (Some words) (new_order_row s words e)
-  place_may_hold table.Order p None h e = absurd (true≢false (sym e))
-  place_may_hold table.Order p (Some words) h e = there order_words (IsOrderOfScale s) (Some words) (order_row s words e)
-  place_may_hold table.OrderLine p None h e = absurd (true≢false (sym e))
-  place_may_hold table.OrderLine p (Some words) h e = there line_words (IsLineRow s) (Some words) (line_row s words e)
-  place_may_hold table.Item p value h e = absurd (not-suc-le-zero h)
-  place_may_hold table.Stock p None h e = absurd (true≢false (sym e))
-  place_may_hold table.Stock p (Some words) h e = stock_row s words e
-  place_may_hold table.Oldest p value h e = tt
-  place_may_hold table.Last p value h e = tt
-  place_may_hold table.CustomerData p value h e = tt
+  place_may_hold : (t : Table) (p : ℕ) (value : Option (List ℕ)) → p < size s t → p < places s t → is_value s t value ≡ true
+      → MayHold s (key_at s t p) value
+  place_may_hold table.Warehouse p None h l e = absurd (true≢false (sym e))
+  place_may_hold table.Warehouse p (Some words) h l e = warehouse_row s words e
+  place_may_hold table.District p None h l e = absurd (true≢false (sym e))
+  place_may_hold table.District p (Some words) h l e = district_row s words e
+  place_may_hold table.Customer p None h l e = absurd (true≢false (sym e))
+  place_may_hold table.Customer p (Some words) h l e = customer_row s words e
+  place_may_hold table.History p value h l e = absurd (not-suc-le-zero h)
+  place_may_hold table.NewOrder p None h l e = (None, refl, λ r is. absurd (none-some r is))
+  place_may_hold table.NewOrder p (Some words) h l e = there new_order_words (λ r. Unit {0}) (Some words) (new_order_row s words e)
+  place_may_hold table.Order p None h l e = absurd (true≢false (sym e))
+  place_may_hold table.Order p (Some words) h l e = there order_words (IsOrderOfScale s) (Some words) (order_row s words e)
+  place_may_hold table.OrderLine p None h l e = absurd (true≢false (sym e))
+  place_may_hold table.OrderLine p (Some words) h l e = there line_words (IsLineRow s) (Some words) (line_row s words e)
+  place_may_hold table.Item p value h l e = absurd (not-suc-le-zero h)
+  place_may_hold table.Stock p None h l e = absurd (true≢false (sym e))
+  place_may_hold table.Stock p (Some words) h l e = stock_row s words e
+  place_may_hold table.Oldest p value h l e = tt
+  place_may_hold table.Last p value h l e = tt
+  place_may_hold table.CustomerData p value h l e = absurd (not-suc-le-zero l)
 
   -- only a row of NEW-ORDER is taken out
   none_is_new_order : (t : Table) (p : ℕ) → is_value s t None ≡ true → (k : OrderKey) × (key_at s t p ≡ key.NewOrder k)
@@ -132,20 +133,22 @@ module _ (s : Sizes) where
     value_lawful : is_value s w.table w.words ≡ true
     value_lawful = (and_split (nat_lt w.place (places s w.table)) (is_value s w.table w.words) lawful).1
 
+    place_lawful : w.place < places s w.table
+    place_lawful = ltb-true w.place (places s w.table) (and_split (nat_lt w.place (places s w.table)) (is_value s w.table w.words) lawful).0
+
     -- a write beside HISTORY has a record's place, number and key, and leaves what the record may hold
     pub place_below : is_history w ≡ false → w.place < size s w.table
-    place_below other = in_size s w.table w.place
-        (ltb-true w.place (places s w.table) (and_split (nat_lt w.place (places s w.table)) (is_value s w.table w.words) lawful).0) other
+    place_below other = in_size s w.table w.place place_lawful other
 
     pub written_below : is_history w ≡ false → number_of s w < narrow_count s
-    written_below other = in_narrow s w.table w.place
-        (ltb-true w.place (places s w.table) (and_split (nat_lt w.place (places s w.table)) (is_value s w.table w.words) lawful).0) other
+    written_below other = in_narrow s w.table w.place place_lawful other
 
     pub written_key : is_history w ≡ false → key_of s (number_of s w) ≡ key_at s w.table w.place
     written_key other = number_named w.table w.place (place_below other)
 
     pub written_may_hold : is_history w ≡ false → MayHold s (key_of s (number_of s w)) w.words
-    written_may_hold other = subst (λ k. MayHold s k w.words) (sym (written_key other)) (place_may_hold w.table w.place w.words (place_below other) value_lawful)
+    written_may_hold other = subst (λ k. MayHold s k w.words) (sym (written_key other))
+        (place_may_hold w.table w.place w.words (place_below other) place_lawful value_lawful)
 
   module _ (e : EntryView) (lawful : are_writes s e.writes ≡ true) (n : ℕ) where
     -- what an entry leaves in a record is what it may hold

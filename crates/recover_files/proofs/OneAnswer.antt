@@ -12,14 +12,14 @@ use Rattle.money.specs.declared.refusal.Refusal.{Refusal}
 use Rattle.money.specs.declared.refusal.Refusal.TheVariants as refusal
 use Rattle.tables.specs.Sizes.{Sizes}
 use Rattle.tables.specs.Database.{Database, database}
-use Rattle.tables.specs.Records.{size, table_number, number_of_key, IsRecordKey, IsRowKey}
+use Rattle.tables.specs.Records.{size, table_number, number_of_key, IsRecordKey}
 use Rattle.tables.specs.Rows.{rows}
 use Rattle.tables.specs.declared.limits.TheConstants.{MAX_WRITES}
 use Rattle.tables.specs.declared.records.RecordKey.{RecordKey}
 use Rattle.tables.specs.declared.records.RecordKey.TheVariants as key
 use Rattle.tables.proofs.Numbers.{places as one_to_one}
-use Rattle.encoding.specs.Held.{row_count, by_key, IsTableOf, AreTables}
-use Rattle.encoding.proofs.Numbered.{row_below}
+use Rattle.encoding.specs.Held.{IsTableRecord, by_key, IsTableOf, AreTables}
+use Rattle.encoding.proofs.Numbered.{IsTableKey, table_record}
 use Rattle.log_text.specs.Bodies.{BodyView}
 use Rattle.log_text.specs.Entries.{EntryView}
 use Rattle.log_text.specs.Writes.{is_history, is_write, rank, rise_from, are_writes}
@@ -131,23 +131,23 @@ told more same a = record { within = a.within; each = a.each; rows = λ k is. a.
 
 -- and tables whose records hold the same are told by the values of either
 told_by : (t0 t : Database) (values : ℕ → Option (List ℕ)) → AreTables t0 (by_key t0.scale (rows t)) t
-    → ((n : ℕ) → n < row_count t0.scale → rows t n ≡ values n) → AreTables t0 (by_key t0.scale values) t
+    → ((n : ℕ) → IsTableRecord t0.scale n → rows t n ≡ values n) → AreTables t0 (by_key t0.scale values) t
 told_by t0 t values a same = record {
   scale = a.scale;
   keeps = a.keeps;
   items = a.items;
-  texts = a.texts;
   warehouses = told (λ k. by_key t0.scale values (key.Warehouse k)) (λ k is. here (key.Warehouse k) is tt) a.warehouses;
   districts = told (λ k. by_key t0.scale values (key.District k)) (λ k is. here (key.District k) is tt) a.districts;
   customers = told (λ k. by_key t0.scale values (key.Customer k)) (λ k is. here (key.Customer k) is tt) a.customers;
+  texts = told (λ k. by_key t0.scale values (key.CustomerData k)) (λ k is. here (key.CustomerData k) is tt) a.texts;
   new_orders = told (λ k. by_key t0.scale values (key.NewOrder k)) (λ k is. here (key.NewOrder k) is tt) a.new_orders;
   orders = told (λ k. by_key t0.scale values (key.Order k)) (λ k is. here (key.Order k) is tt) a.orders;
   lines = told (λ k. by_key t0.scale values (key.OrderLine k)) (λ k is. here (key.OrderLine k) is tt) a.lines;
   stock = told (λ k. by_key t0.scale values (key.Stock k)) (λ k is. here (key.Stock k) is tt) a.stock;
 }
   where
-    here : (k : RecordKey) → IsRecordKey t0.scale k → IsRowKey k → by_key t0.scale (rows t) k ≡ by_key t0.scale values k
-    here k is row = same (number_of_key t0.scale k) (row_below t0.scale k is row)
+    here : (k : RecordKey) → IsRecordKey t0.scale k → IsTableKey k → by_key t0.scale (rows t) k ≡ by_key t0.scale values k
+    here k is row = same (number_of_key t0.scale k) (table_record t0.scale k is row)
 
 module _ (one : (t0 t u : Database) (values : RecordKey → Option (List ℕ)) → AreTables t0 values t
     → AreTables t0 values u → t.history ≡ u.history → t ≡ u) (t0 : Database) (seed : ℕ) (strings : List (List ℕ)) where
@@ -163,7 +163,7 @@ module _ (one : (t0 t u : Database) (values : RecordKey → Option (List ℕ)) �
       same : a.commits ≡ b.commits
       same = same_commits s es lawful a.commits a.in_order b.commits b.in_order
 
-      same_rows : (n : ℕ) → n < row_count s → rows t n ≡ rows u n
+      same_rows : (n : ℕ) → IsTableRecord s n → rows t n ≡ rows u n
       same_rows n h =
           one_left s es lawful a.commits a.in_order n (rows t0 n) (rows t n) (rows u n) (a.records n h) (b.records n h)
 

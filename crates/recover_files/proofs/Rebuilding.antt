@@ -1,5 +1,5 @@
 -- What a part's entries make of the tables.
-use Rattle.std.proofs.Common.{◌++◌, map, ◌≡◌, inl, inr, true, ℕ, ◌<◌, List, [], ◌∷◌, Option, Some, None, refl, sym, ap, ◌∙◌, subst}
+use Rattle.std.proofs.Common.{◌++◌, map, ◌≡◌, inl, inr, true, ℕ, List, [], ◌∷◌, Option, Some, None, refl, sym, ap, ◌∙◌, subst}
 use Rattle.std.specs.List.{flat_map}
 use Rattle.std.specs.Option.{option_to_list}
 use Rattle.std.proofs.lemmas.List.Concat.{flat_map-cons}
@@ -11,7 +11,7 @@ use Rattle.tables.specs.Database.{Database}
 use Rattle.tables.specs.Rows.{rows}
 use Rattle.tables.specs.declared.rows.History.{History}
 use Rattle.tables.specs.declared.records.RecordKey.{RecordKey}
-use Rattle.encoding.specs.Held.{row_count, by_key, AreTables}
+use Rattle.encoding.specs.Held.{IsTableRecord, by_key, AreTables}
 use Rattle.log_text.specs.Entries.{EntryView}
 use Rattle.log_text.specs.Writes.{are_writes}
 use Rattle.recover_found.specs.Rebuilt.{LeavesInRecord, IsNewest, AreLeft, AreNumbered, IsRebuilt, added_by}
@@ -79,7 +79,7 @@ module _ (t0 : Database) (es : List EntryView) (p : Part) where
       → t.history ≡ t0.history → u ≡ record t { history = t.history ++ flat_map (λ (c : Commit). option_to_list c.row) (map commit_of sorted) }
       → IsPermutation es sorted → AreNumbered 1 sorted
       → ((v : ℕ → Option (List ℕ)) → AreTables t0 (by_key t0.scale v) u → AreTables t0 (by_key t0.scale (rows u)) u)
-      → ((v : ℕ → Option (List ℕ)) → AreTables t0 (by_key t0.scale v) u → (n : ℕ) → n < row_count t0.scale → rows u n ≡ v n)
+      → ((v : ℕ → Option (List ℕ)) → AreTables t0 (by_key t0.scale v) u → (n : ℕ) → IsTableRecord t0.scale n → rows u n ≡ v n)
       → IsRebuilt t0 es u
   rebuilt_of t u sorted part lawful tables history new same numbers own held = record {
     tables = own values now;

@@ -36,7 +36,7 @@ row_added writes = slice_get (flat_map (λ w. rows_in w.table w.words) writes) 0
 abbrev pub commit_of : EntryView → Commit
 commit_of e = record { number = e.number; row = row_added e.writes }
 
--- a part knows of each record of the scale what these entries say, and has what is kept of each
+-- a part knows of each narrow record of the scale what these entries say, and has what is kept of each
 pub record IsPart (s : Sizes) (es : List EntryView) (p : Part) : Type 0 where
   pub records : length p.newest.places ≡ narrow_count s
   pub known : (n : ℕ) → IsKnown s es n (known_of p.newest n)

@@ -20,7 +20,7 @@ use std::alloc::{AllocError, Global};
 use tables::{Scale, Table, narrow_count, rec};
 
 /// What entries of log files say: of each record what the newest of those that write it has left there, and of each
-/// entry its commit number and its row of HISTORY. Takes 4 bytes for each record of the scale; the rest goes by what
+/// entry its commit number and its row of HISTORY. Takes 4 bytes for each narrow record of the scale; the rest goes by what
 /// was written.
 #[derive(Drop)]
 pub struct Part {

@@ -10,7 +10,7 @@ use Rattle.tables.specs.Rows.{rows, money_of}
 use Rattle.tables.specs.declared.rows.History.{History}
 use Rattle.tables.specs.declared.records.Table.{Table}
 use Rattle.tables.specs.declared.records.Table.TheVariants as table
-use Rattle.encoding.specs.Held.{row_count, by_key, AreTables}
+use Rattle.encoding.specs.Held.{IsTableRecord, by_key, AreTables}
 use Rattle.log_text.specs.Entries.{EntryView}
 use Rattle.log_text.specs.Writes.{is_history}
 use Rattle.log_text.specs.declared.write.Write.{Write}
@@ -80,11 +80,12 @@ pub record AreInOrder (es commits : List EntryView) : Type 0 where
 abbrev pub HaveNoGap : List EntryView → Type 0
 HaveNoGap es = (commits : List EntryView) × AreInOrder es commits
 
--- tables in which each record of a row holds what the newest write left there, and HISTORY has the rows that were added,
--- in the order of commit numbers. Rows are within their ranges, and their columns that never change are the first ones
+-- tables in which each record of a table's row holds what the newest write left there, and HISTORY has the rows that
+-- were added, in the order of commit numbers. Rows are within their ranges, and their columns that never change are the
+-- first ones
 pub record IsRebuilt (t0 : Database) (es : List EntryView) (t : Database) : Type 0 where
   pub tables : AreTables t0 (by_key t0.scale (rows t)) t
-  pub records : (n : ℕ) → n < row_count t0.scale → AreLeft t0.scale es n (rows t0 n) (rows t n)
+  pub records : (n : ℕ) → IsTableRecord t0.scale n → AreLeft t0.scale es n (rows t0 n) (rows t n)
   pub commits : List EntryView
   pub in_order : AreInOrder es commits
   pub history : t.history ≡ t0.history ++ flat_map added_by commits

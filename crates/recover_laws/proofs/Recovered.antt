@@ -14,7 +14,7 @@ use Rattle.tables.specs.Constant.{IsOf}
 use Rattle.tables.specs.Rows.{rows}
 use Rattle.tables.specs.WellFormed.{IsWellFormed, HasRoom}
 use Rattle.tables.specs.declared.records.RecordKey.{RecordKey}
-use Rattle.encoding.specs.Held.{row_count, by_key, AreTables}
+use Rattle.encoding.specs.Held.{IsTableRecord, by_key, AreTables}
 use Rattle.book.specs.History.{Replays, replay}
 use Rattle.book.specs.Loggable.{IsLoggable}
 use Rattle.book.specs.Stamps.{AreStamped}
@@ -136,11 +136,11 @@ module _ (t0 : Database) (files : List (List BodyView)) (history : List Entry) (
         rebuilt.history ∙ ap (λ (l : List EntryView). t0.history ++ flat_map added_by l) commits_are ∙ ap (λ l. t0.history ++ l) ends.listed
         ∙ sym (replay-history 1 t0 kept_front replays)
 
-    rows_are : (n : ℕ) → n < row_count s → rows (replay t0 kept_front) n ≡ rows t n
+    rows_are : (n : ℕ) → IsTableRecord s n → rows (replay t0 kept_front) n ≡ rows t n
     rows_are n lt = sym (one_left n (rows t0 n) (rows t n) (rows (replay t0 kept_front) n) (rebuilt.records n lt) (ends.left n lt))
 
     pub is_replay : ((t0 t : Database) (values : ℕ → Option (List ℕ)) → IsOf t0 t → IsWellFormed t
-        → ((n : ℕ) → n < row_count t0.scale → rows t n ≡ values n) → AreTables t0 (by_key t0.scale values) t)
+        → ((n : ℕ) → IsTableRecord t0.scale n → rows t n ≡ values n) → AreTables t0 (by_key t0.scale values) t)
         → ((t0 t u : Database) (values : RecordKey → Option (List ℕ)) → AreTables t0 values t → AreTables t0 values u → t.history ≡ u.history → t ≡ u)
         → t ≡ replay t0 kept_front
     is_replay of_records one = one t0 t (replay t0 kept_front) (by_key s (rows t)) rebuilt.tables

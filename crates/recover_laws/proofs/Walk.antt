@@ -17,7 +17,8 @@ use Rattle.tables.specs.WellFormed.{IsWellFormed, HasRoom, IsHistoryRow}
 use Rattle.tables.specs.declared.rows.History.{History}
 use Rattle.tables_laws.proofs.Kept.{after-IsWellFormed, after-HasRoom, after-IsConsistent, after-IsOf}
 use Rattle.tables_laws.proofs.NamesKept.{IsOf-itself}
-use Rattle.encoding.specs.Held.{row_count}
+use Rattle.encoding.specs.Held.{IsTableRecord}
+use Rattle.encoding.proofs.Numbered.{among_all}
 use Rattle.readset.specs.Writes.{value_for, rows_with, added}
 use Rattle.book.specs.History.{CommitsAt, Replays, replay, rows_added}
 use Rattle.book.specs.Loggable.{IsLoggable}
@@ -45,9 +46,6 @@ follows_front (x ∷ done) e es h d (inl same) = subst (λ (z : Entry). Follows 
     from_all (y ∷ xs) all = from_all xs (All-tail (Follows x) y (xs ++ e ∷ es) all)
 follows_front (x ∷ done) e es h d (inr k) = follows_front done e es h.2 d k
 
-records_few : (s : Sizes) (n : ℕ) → n < row_count s → n < record_count s
-records_few s n h = omega (arith, h)
-
 module _ (t0 : Database) (scale : IsScale t0.scale) where
   abbrev logged : List Entry → List EntryView
   logged es = map (logged_entry t0.scale) es
@@ -62,7 +60,7 @@ module _ (t0 : Database) (scale : IsScale t0.scale) where
     pub consistent : IsConsistent t
     pub room_left : HasRoom room t
     pub loggable : (e : Entry) → Has done e → IsLoggable t0.scale e
-    pub left : (n : ℕ) → n < row_count t0.scale → AreLeft t0.scale (logged done) n (rows t0 n) (rows t n)
+    pub left : (n : ℕ) → IsTableRecord t0.scale n → AreLeft t0.scale (logged done) n (rows t0 n) (rows t n)
     pub listed : flat_map added_by (logged done) ≡ rows_added done
 
   module _ (room : ℕ) (done : List Entry) (t : Database) (here : IsReached (room + 1) done t) (e : Entry) (ok : IsLoggable t0.scale e)
@@ -134,10 +132,10 @@ module _ (t0 : Database) (scale : IsScale t0.scale) where
               (λ x. absurd (never x.1)) (who n d other (has_from _ d among) leaves);
         }
 
-    left_next : (n : ℕ) → n < row_count s → AreLeft s (logged (done ++ e ∷ [])) n (rows t0 n) (rows next n)
+    left_next : (n : ℕ) → IsTableRecord s n → AreLeft s (logged (done ++ e ∷ [])) n (rows t0 n) (rows next n)
     left_next n h =
         let same : rows next n ≡ rows_with e.writes (rows t) n
-        = commits.commit.rows n (subst (λ (z : Sizes). n < record_count z) (sym here.of.scale) (records_few s n h)) in
+        = commits.commit.rows n (subst (λ (z : Sizes). n < record_count z) (sym here.of.scale) (among_all s n h)) in
         elim (value_for e.writes n) as (λ o. value_for e.writes n ≡ o → AreLeft s (logged (done ++ e ∷ [])) n (rows t0 n) (rows next n)) [
           | None ↦ λ none. subst (AreLeft s (logged (done ++ e ∷ [])) n (rows t0 n)) (sym (same ∙ ap (λ o. unwrap_or o (rows t n)) none))
               (stays n (rows t0 n) (rows t n) none (here.left n h))

@@ -8,7 +8,7 @@ use std::alloc::{AllocError, Global};
 use std::marker::Model;
 
 /// The newest writes of records, as far as writes were looked at: a list of them, and of each record its place there.
-/// It takes 4 bytes for each record of the scale, and a write for each record that was written.
+/// It takes 4 bytes for each record that it was made for, and a write for each record that was written.
 #[derive(Drop)]
 pub struct Newest {
     /// By record number: 0 where no write is known, else the place of the newest in the list, from 1.

@@ -1,6 +1,6 @@
 -- What is rebuilt of log files: records hold what they may, HISTORY rows are within their ranges, and the tables are
 -- what the first ones may have become.
-use Rattle.std.proofs.Common.{◌≡◌, ◌↔◌, ⊎_elim, ℕ, ◌<◌, true, List, ◌++◌, length, drop, Option, Some, None, sym, ap, ◌∙◌, subst}
+use Rattle.std.proofs.Common.{◌≡◌, ◌↔◌, ⊎_elim, ℕ, true, List, ◌++◌, length, drop, Option, Some, None, sym, ap, ◌∙◌, subst}
 use Rattle.std.specs.Prelude.{flat_map, nat_lt}
 use Rattle.std.specs.List.{All}
 use Rattle.std.proofs.Math.Seq.{drop-append_seam}
@@ -8,7 +8,7 @@ use Rattle.std.proofs.lemmas.List.Elements.{All-nil, All-append, All-contains, A
 use Rattle.std.proofs.lemmas.List.Sorted.{All-permutation}
 use Rattle.tables.specs.Database.{Database}
 use Rattle.tables.specs.Reach.{BelongToOrders}
-use Rattle.tables.specs.Records.{key_of, number_of_key, IsRecordKey, IsRowKey}
+use Rattle.tables.specs.Records.{key_of, number_of_key, IsRecordKey}
 use Rattle.tables.specs.Rows.{rows}
 use Rattle.tables.specs.Sizes.{Sizes}
 use Rattle.tables.specs.WellFormed.{IsWellFormed, IsHistoryRow}
@@ -18,10 +18,10 @@ use Rattle.tables.specs.declared.records.Table.{Table}
 use Rattle.tables.specs.declared.records.Table.TheVariants as table
 use Rattle.tables.specs.declared.rows.History.{History}
 use Rattle.tables.proofs.Numbers.{named}
-use Rattle.encoding.specs.Held.{row_count, by_key}
+use Rattle.encoding.specs.Held.{IsTableRecord, by_key}
 use Rattle.encoding.specs.Puts.{MayHold}
 use Rattle.encoding.proofs.Belong.{well_formed_where_rows_belong}
-use Rattle.encoding.proofs.Numbered.{row_below}
+use Rattle.encoding.proofs.Numbered.{IsTableKey, table_record}
 use Rattle.encoding.proofs.Values.{is_of, lawful_values}
 use Rattle.book.specs.Base.{HasBecome}
 use Rattle.log_text.specs.Bodies.{BodyView}
@@ -87,17 +87,17 @@ module _ (t0 t : Database) (es : List EntryView) (wf : IsWellFormed t0) (lawful 
   abbrev s : Sizes
   s = t0.scale
 
-  record_holds : (n : ℕ) → n < row_count s → MayHold s (key_of s n) (rows t n)
+  record_holds : (n : ℕ) → IsTableRecord s n → MayHold s (key_of s n) (rows t n)
   record_holds n less = ⊎_elim
       (λ newest. (left_may_hold s newest.entry (All-contains (HasLawful s) es newest.entry lawful newest.among) n
       (rows t n) newest.leaves).1)
       (λ unwritten. subst (MayHold s (key_of s n)) (sym unwritten.1) (lawful_values t0 wf n less))
       (rebuilt.records n less)
 
-  row_holds : (k : RecordKey) → IsRecordKey s k → IsRowKey k → MayHold s k (by_key s (rows t) k)
+  row_holds : (k : RecordKey) → IsRecordKey s k → IsTableKey k → MayHold s k (by_key s (rows t) k)
   row_holds k is row =
       subst (λ j. MayHold s j (by_key s (rows t) k)) (named s k is).1
-      (record_holds (number_of_key s k) (row_below s k is row))
+      (record_holds (number_of_key s k) (table_record s k is row))
 
   key_holds : (k : RecordKey) → IsRecordKey s k → MayHold s k (by_key s (rows t) k)
   key_holds (key.Warehouse k) is = row_holds (key.Warehouse k) is tt
@@ -109,7 +109,7 @@ module _ (t0 t : Database) (es : List EntryView) (wf : IsWellFormed t0) (lawful 
   key_holds (key.Stock k) is = row_holds (key.Stock k) is tt
   key_holds (key.Oldest k) is = tt
   key_holds (key.Last k) is = tt
-  key_holds (key.CustomerData k) is = tt
+  key_holds (key.CustomerData k) is = row_holds (key.CustomerData k) is tt
 
   history_in_ranges : All (IsHistoryRow s) t.history
   history_in_ranges =

@@ -17,7 +17,7 @@ use Rattle.tables.specs.declared.rows.Stock.{Stock}
 
 pub record Database : Type 0 where
   pub scale : Sizes
-  -- whether Payments change C_DATA: no transaction changes this
+  -- whether Payments change C_DATA (TPC-C 2.5.2.2), which no transaction changes
   pub keeps_texts : Bool
   pub warehouses : FinMap nat_cmp Warehouse
   pub districts : FinMap district_cmp District
@@ -31,7 +31,7 @@ pub record Database : Type 0 where
   pub items : FinMap nat_cmp Item
   pub stock : FinMap stock_cmp Stock
 
--- what `Tables` hold; their C_DATA stays as it is
+-- what `Tables` hold; no Payment changes their C_DATA
 abbrev pub database : Tables → Database
 database t = record {
   scale = t.scale;

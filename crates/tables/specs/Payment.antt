@@ -82,7 +82,8 @@ is_bad Bad = true
 abbrev pub has_bad_credit : Database → CustomerKey → Bool
 has_bad_credit t k = option_map_or (λ r. is_bad r.credit) (get t.customers k) false
 
--- whether C_DATA of a customer changes where customer c pays: that one's does, if its credit is bad
+-- whether C_DATA of a customer changes where customer c pays: that one's does, if its credit is bad and Payments change
+-- C_DATA at all
 abbrev pub changes_text : Database → PaymentInput → ℕ → CustomerKey → Bool
 changes_text t x c k = t.keeps_texts && (is_customer x.customer_warehouse x.customer_district c k && has_bad_credit t k)
 

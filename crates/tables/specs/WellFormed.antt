@@ -1,6 +1,6 @@
 -- Which tables are well-formed: keys within the scale, columns within their ranges, and no row that names a missing
 -- one.
-use Rattle.std.specs.Prelude.{◌≡◌, ℕ, ◌+◌, ◌*◌, ◌<◌, ◌≤◌, ℤ, pos, neg_ℤ, ◌+ℤ◌, ◌-ℤ◌, ◌≤ℤ◌, Some, false, IsSome, All}
+use Rattle.std.specs.Prelude.{◌≡◌, ℕ, ◌+◌, ◌*◌, ◌<◌, ◌≤◌, ℤ, pos, neg_ℤ, ◌+ℤ◌, ◌-ℤ◌, ◌≤ℤ◌, Some, IsSome, All}
 use Rattle.std.specs.Option.{ForSome}
 use Rattle.std.specs.FinMap.{get}
 use Rattle.customer_data.specs.Text.{IsData}
@@ -103,8 +103,6 @@ pub record IsWellFormed (t : Database) : Type 0 where
   pub new_orders : RowsWithin (IsOrderKey t.scale) t.new_orders
   pub orders : RowsWithin (IsOrderKey t.scale) t.orders
   pub lines : RowsWithin (IsLineKey t.scale) t.lines
-  -- no Payment changes C_DATA
-  pub keeps_texts : t.keeps_texts ≡ false
   -- ITEM may lack an item of the scale: an order of it is rolled back
   pub items : RowsWithin (IsItemKey t.scale) t.items
   -- columns within their ranges

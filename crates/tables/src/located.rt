@@ -2,8 +2,8 @@
 
 ghost use Rattle.std.specs.Prelude.{◌≡◌, ◌<◌, ◌^◌};
 ghost use Rattle.tables.specs.Records.{size, first_number, record_count, table_at, place_at, key_at, key_of};
-ghost use Rattle.tables.specs.Records.{district_at};
-ghost use Rattle.tables.specs.Records.{customer_at, order_at, line_at, stock_at, IsRecordKey, IsRowKey};
+ghost use Rattle.tables.specs.Records.{district_at, customer_at, order_at, line_at, stock_at};
+ghost use Rattle.tables.specs.Records.{narrow_count, IsRecordKey, IsNarrowKey, IsRowKey};
 ghost use Rattle.tables.specs.declared.records.Table.TheVariants as table;
 
 use crate::keys::{CustomerKey, DistrictKey, LineKey, OrderKey, StockKey};
@@ -32,6 +32,7 @@ pub fn key_of(scale: &Scale, number: u32) -> RecordKey
     requires { number < record_count scale.now }
     ensures value { result ≡ key_of scale.now number }
     ensures key { IsRecordKey scale.now result }
+    ensures narrow { number < narrow_count scale.now → IsNarrowKey scale.now result }
     ensures row { number < first_number scale.now table.Oldest → IsRowKey result }
 {
     let (table, place) = locate(scale, number);

@@ -2,7 +2,8 @@
 
 ghost use Rattle.std.specs.Prelude.{◌≡◌, ◌<◌, ◌^◌};
 ghost use Rattle.std.proofs.Props.{props};
-ghost use Rattle.tables.specs.Records.{first_number, record_count, narrow_count, IsRecordKey, IsNarrowKey, number_of_key};
+ghost use Rattle.tables.specs.Records.{first_number, record_count, narrow_count, number_of_key};
+ghost use Rattle.tables.specs.Records.{IsRecordKey, IsNarrowKey};
 ghost use Rattle.tables.specs.declared.records.Table.TheVariants as table;
 
 use crate::records::{

@@ -37,7 +37,6 @@ module _ (t : Database) (x : DeliveryInput) where
   kept_constants t0 h = record {
     scale = h.scale;
     keeps = h.keeps;
-    texts = h.texts;
     warehouse_taxes = h.warehouse_taxes;
     district_taxes = h.district_taxes;
     first_names = λ k. column_left (λ r. r.first_name) (λ _ _. refl) k ∙ h.first_names k;

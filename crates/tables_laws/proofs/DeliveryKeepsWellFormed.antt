@@ -169,7 +169,6 @@ module _ (t : Database) (x : DeliveryInput) where
         orders = order_keys;
         lines = line_keys;
         items = wf.items;
-        keeps_texts = wf.keeps_texts;
         warehouse_rows = wf.warehouse_rows;
         district_rows = wf.district_rows;
         customer_rows = customer_rows;

@@ -77,7 +77,6 @@ pub IsOf-itself : (t : Database) → IsOf t t
 IsOf-itself t = record {
   scale = refl;
   keeps = refl;
-  texts = λ _. refl;
   warehouse_taxes = λ w. refl;
   district_taxes = λ k. refl;
   first_names = λ k. refl;

@@ -13,7 +13,6 @@ pub new_order_keeps_constants : (t0 t : Database) (x : NewOrderInput) → IsOf t
 new_order_keeps_constants t0 t x h = record {
   scale = h.scale;
   keeps = h.keeps;
-  texts = h.texts;
   warehouse_taxes = h.warehouse_taxes;
   district_taxes = λ k. kept-update_where exact_district (is_district x.warehouse x.district) numbered_district (option_map (λ r. r.tax)) t.districts k
       (λ _ r. refl) ∙ h.district_taxes k;

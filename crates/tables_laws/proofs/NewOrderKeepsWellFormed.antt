@@ -150,7 +150,6 @@ module _ (most : ℤ) (top : ℕ) (low : most ≤ℤ MAX_MONEY) (few : top ≤ M
           (new_lines (λ k r. IsLineKey t.scale k) (λ k r f. wf.lines k (ap is_some f))
           (λ i l low high s. (ok.warehouse, ok.district, number_is, (low, omega (arith, high, ok.line_count.1)))));
       items = wf.items;
-      keeps_texts = wf.keeps_texts;
       warehouse_rows = wf.warehouse_rows;
       district_rows = district_rows;
       customer_rows = wf.customer_rows;

@@ -1,5 +1,5 @@
 -- A Payment keeps tables well-formed and consistent.
-use Rattle.std.proofs.Common.{◌≡◌, ℕ, ◌+◌, ◌≤◌, ℤ, pos, ◌+ℤ◌, ◌-ℤ◌, ◌≤ℤ◌, Bool, true, false, cond, ◌==◌, ◌&&◌, List, Option, refl, sym, ap, ◌∙◌, subst, arith}
+use Rattle.std.proofs.Common.{◌≡◌, ℕ, ◌+◌, ◌≤◌, ℤ, pos, ◌+ℤ◌, ◌-ℤ◌, ◌≤ℤ◌, Bool, true, false, cond, ◌==◌, List, Option, refl, sym, ap, ◌∙◌, subst, arith}
 use Rattle.std.proofs.lemmas.Int.{ints}
 use Rattle.std.proofs.lemmas.List.Sums.{fold_push}
 use Rattle.std.proofs.lemmas.List.Elements.{All-push}
@@ -12,7 +12,7 @@ use Rattle.tables.specs.Keys.{is_district, is_customer, IsWarehouseKey, IsDistri
 use Rattle.tables.specs.Maps.{total, EachRow}
 use Rattle.tables.specs.OrderNumbers.{next_order}
 use Rattle.tables.specs.Database.{Database}
-use Rattle.tables.specs.Payment.{IsPayment, raised_warehouse, raised_district, charged_customer, after_payment_of, history_row, front_of, changes_text, has_bad_credit}
+use Rattle.tables.specs.Payment.{IsPayment, raised_warehouse, raised_district, charged_customer, after_payment_of, history_row, front_of, changes_text}
 use Rattle.tables.specs.Constant.{IsOf}
 use Rattle.tables.specs.Conditions.{IsConsistent, Condition1At, Condition2At, Condition8At, Condition9At, Condition10At, Condition12At, paid_at_warehouse}
 use Rattle.tables.specs.Conditions.{paid_at_district, paid_by_customer, delivered_amount}
@@ -28,7 +28,7 @@ use Rattle.tables.specs.declared.rows.History.{History}
 use Rattle.tables.specs.declared.payment.PaymentInput.{PaymentInput}
 use Rattle.tables.proofs.Orders.{exact_number, exact_district, exact_customer}
 use Rattle.tables.proofs.KeyTests.{is_district-key}
-use Rattle.tables_laws.proofs.Updates.{column-update_where, total-update_where, kept-update_where, update_where-none, is_some-map_rows}
+use Rattle.tables_laws.proofs.Updates.{column-update_where, total-update_where, kept-update_where, is_some-map_rows}
 use Rattle.tables_laws.proofs.NamesKept.{IsOf-itself, last_names_stay}
 use Rattle.tables_laws.proofs.Room.{money_stays, count_stays, is_money, is_count}
 use Rattle.tables_laws.proofs.Rows.{there, updated_rows, each_updated}
@@ -146,8 +146,6 @@ pub payment_keeps_constants : (t0 t : Database) (x : PaymentInput) (c : ℕ) →
 payment_keeps_constants t0 t x c h = record {
   scale = h.scale;
   keeps = h.keeps;
-  texts = λ none. update_where-none exact_customer (changes_text t x c) (put_left (payment_text (front_of x c))) t.texts
-      (λ k. ap (λ b. b && (is_customer x.customer_warehouse x.customer_district c k && has_bad_credit t k)) (h.keeps ∙ none)) ∙ h.texts none;
   warehouse_taxes = λ w. kept-update_where exact_number (λ k. x.warehouse == k) (raised_warehouse x.amount) (option_map (λ r. r.tax)) t.warehouses w
       (λ _ r. refl) ∙ h.warehouse_taxes w;
   district_taxes = λ k. kept-update_where exact_district (is_district x.warehouse x.district) (raised_district x.amount) (option_map (λ r. r.tax)) t.districts k
@@ -268,7 +266,6 @@ module _ (most : ℤ) (top : ℕ) (low : most ≤ℤ MAX_MONEY) (few : top ≤ M
     orders = wf.orders;
     lines = wf.lines;
     items = wf.items;
-    keeps_texts = wf.keeps_texts;
     warehouse_rows = λ w r f. is_money most n low r.year_to_date (warehouse_room w r f);
     district_rows = district_rows;
     customer_rows = customer_rows;

@@ -332,10 +332,11 @@ fn writes_that_break_a_rule_are_refused(rt: HostRuntime) -> Result<(), Fail> {
         // the same write twice, and in the other order
         [WAREHOUSE, WAREHOUSE],
         [DISTRICT, WAREHOUSE],
-        // S_QUANTITY 9, an ORDER row taken out, ITEM, and HISTORY at place 1
+        // S_QUANTITY 9, an ORDER row taken out, ITEM, C_DATA, and HISTORY at place 1
         [WAREHOUSE, stock],
         [WAREHOUSE, absent],
         [WAREHOUSE, present(Table::Item, 0, [0; 7])],
+        [WAREHOUSE, present(Table::CustomerData, 0, [0; 7])],
         [
             WAREHOUSE,
             Write {

@@ -6,18 +6,25 @@ ghost use Rattle.tables.specs.Records.{IsNarrowKey, narrow_count};
 ghost use Rattle.tables.specs.Sizes.{sizes};
 ghost use Rattle.population.specs.Initial.{initial};
 ghost use Rattle.cells.specs.Versions.{value_in};
-ghost use Rattle.encoding.specs.Newest.{words_at, AreLawful};
-ghost use Rattle.encoding.specs.Puts.{MayHold};
+ghost use Rattle.encoding.specs.Newest.{words_at};
+ghost use Rattle.customer_data.specs.Text.{IsData};
+ghost use Rattle.customer_data.specs.Words.{data_words};
+ghost use Rattle.encoding.specs.Puts.{IsRow, MayHold};
+ghost use Rattle.tests_tables.specs.Lawful.{AreLawfulRows};
 
 use cells::{Cells, FirstVersions, Newest};
-use encoding::{first_versions, tables_of};
+use customer_data::{
+    CustomerData, DataWords, PaymentText, data_after, first_text_is_one, payments_keep_texts,
+};
+use encoding::{first_texts, first_versions, put_text, tables_of};
 use money::{Cents, Payload, Rate, Refusal};
 use population::Population;
 use std::alloc::{AllocError, Global};
 use std::sync::Wait;
 use std::test::Fail;
 use tables::{
-    District, DistrictKey, History, Order, OrderKey, RecordKey, Scale, Tables, number_of_key,
+    CustomerKey, District, DistrictKey, History, Order, OrderKey, RecordKey, Scale, Tables,
+    number_of_key,
 };
 use tidword::TidWord;
 
@@ -66,6 +73,42 @@ fn rows_of_changed_records(rt: HostRuntime) -> Result<(), Fail> {
     Ok(())
 }
 
+const CUSTOMER: CustomerKey = CustomerKey {
+    warehouse: 1,
+    district: 2,
+    customer: 3,
+};
+
+// A Payment of 12.34 by customer 3 puts 16 characters at the left of 300 letters.
+#[test]
+fn a_text_is_put(rt: HostRuntime) -> Result<(), Fail> {
+    let mut tables = built(&rt, rt.alloc())?;
+    put_text(rt.alloc(), &mut tables, CUSTOMER, &paid_words(rt.alloc())?)?;
+    let text = tables.texts.get(&CUSTOMER).ok_or("C_DATA")?;
+    assert_eq!(rt; text.len(), 316);
+    let text = format!(in rt.alloc(); "{text}")?;
+    assert!(rt; text.as_str().starts_with("3 2 1 2 1 12.34|xxx"));
+    assert!(rt; text.as_str().ends_with("xxx"));
+    Ok(())
+}
+
+/// The words of the first text after a Payment.
+fn paid_words(alloc: Global) -> Result<DataWords, AllocError>
+    ensures { IfOk result (λ words. IsRow data_words IsData (Some words)) }
+{
+    first_text_is_one();
+    payments_keep_texts();
+    let payment = PaymentText {
+        customer: 3,
+        customer_district: 2,
+        customer_warehouse: 1,
+        district: 2,
+        warehouse: 1,
+        amount: Cents::new(1_234),
+    };
+    data_after(alloc, &CustomerData::first(alloc).words(), &payment)
+}
+
 fn changed_rows(tables: &Tables) -> (Option<District>, Option<Order>, Option<History>) {
     (
         tables.districts.get(&DISTRICT).copied(),
@@ -78,16 +121,17 @@ fn changed_rows(tables: &Tables) -> (Option<District>, Option<Order>, Option<His
 #[test]
 fn counts_of_built_rows(rt: HostRuntime) -> Result<(), Fail> {
     let counts = counts(&built(&rt, rt.alloc())?);
-    assert_eq!(rt; counts, [1, 2, 20, 21, 6, 21, 100, 20, 20]);
+    assert_eq!(rt; counts, [1, 2, 20, 20, 21, 6, 21, 100, 20, 20]);
     Ok(())
 }
 
-/// How many rows each table has, in the order of their numbers.
-fn counts(tables: &Tables) -> [usize; 9] {
+/// How many rows each table has, in the order of their numbers, but for C_DATA, which stands behind CUSTOMER.
+fn counts(tables: &Tables) -> [usize; 10] {
     [
         tables.warehouses.len(),
         tables.districts.len(),
         tables.customers.len(),
+        tables.texts.len(),
         tables.history.len(),
         tables.new_orders.len(),
         tables.orders.len(),
@@ -111,7 +155,8 @@ fn tables_of_changed<R: Wait>(
     requires { (initial population.now).scale ≡ sizes 1 2 10 20 30 1000 }
 {
     let first = changed_versions(alloc, population)?;
-    let (cells, mut pen, _) = Cells::new(rt, alloc, first, 1)?;
+    let texts = first_texts(alloc, population.tables())?;
+    let (cells, mut pen, _) = Cells::with_wide(rt, alloc, first, texts, 1)?;
     tables_of(alloc, population, &cells, &mut pen, &[payment()])
 }
 
@@ -119,7 +164,7 @@ fn tables_of_changed<R: Wait>(
 fn changed_versions(alloc: Global, population: &Population) -> Result<FirstVersions, AllocError>
     requires { (initial population.now).scale ≡ sizes 1 2 10 20 30 1000 }
     ensures count { IfOk result (λ first. length first ≡ narrow_count (initial population.now).scale) }
-    ensures lawful { IfOk result (λ first. AreLawful (initial population.now).scale
+    ensures lawful { IfOk result (λ first. AreLawfulRows (initial population.now).scale
         (λ n. value_in (words_at first n))) }
 {
     let mut first = first_versions(alloc, population.tables())?;
@@ -131,9 +176,9 @@ fn changed_versions(alloc: Global, population: &Population) -> Result<FirstVersi
 fn change(first: &mut FirstVersions, scale: &Scale) -> Result<(), AllocError>
     requires scale { scale.now ≡ sizes 1 2 10 20 30 1000 }
     requires count { length first.old ≡ narrow_count scale.now }
-    requires lawful { AreLawful scale.now (λ n. value_in (words_at first.old n)) }
+    requires lawful { AreLawfulRows scale.now (λ n. value_in (words_at first.old n)) }
     ensures count { OnOk result (length first.new ≡ narrow_count scale.now) }
-    ensures lawful { OnOk result (AreLawful scale.now (λ n. value_in (words_at first.new n))) }
+    ensures lawful { OnOk result (AreLawfulRows scale.now (λ n. value_in (words_at first.new n))) }
 {
     let district = RecordKey::District(DISTRICT);
     write(first, scale, district, [11_234, 12, 0, 0, 0, 0, 0])?;
@@ -152,9 +197,9 @@ fn write(
     requires key { IsNarrowKey scale.now key }
     requires words { MayHold scale.now key (Some words) }
     requires count { length first.old ≡ narrow_count scale.now }
-    requires lawful { AreLawful scale.now (λ n. value_in (words_at first.old n)) }
+    requires lawful { AreLawfulRows scale.now (λ n. value_in (words_at first.old n)) }
     ensures count { OnOk result (length first.new ≡ narrow_count scale.now) }
-    ensures lawful { OnOk result (AreLawful scale.now (λ n. value_in (words_at first.new n))) }
+    ensures lawful { OnOk result (AreLawfulRows scale.now (λ n. value_in (words_at first.new n))) }
 {
     let number = number_of_key(scale, key);
     let version = Newest {

@@ -60,7 +60,7 @@ impl RunningSums {
         })
     }
 
-    /// Counts all records, none of which was counted.
+    /// Counts all narrow records, none of which was counted.
     fn count_records(&mut self, cells: &Cells, pen: &mut Pen)
         requires own { pen.old.cells ≡ cells.now }
         requires count { AreCellsOf self.old.scale cells.now }

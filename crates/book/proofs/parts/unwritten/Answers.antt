@@ -10,7 +10,7 @@ pub returns-clause-records : goal.returns-clause-records
 returns-clause-records g c =
     let t = database c.args.tables.now in
     let first = c.in_ok-first.ensures in
-    let texts = c.deref.ensures.value ∙ c.in_ok-texts.ensures in
+    let texts = c.in_ok-texts.ensures in
     let made = c.in_ok-cells.ensures in
     record {
       cells = ap (λ (w : PenView). w.cells) made.pen;

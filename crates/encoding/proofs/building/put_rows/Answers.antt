@@ -2,9 +2,10 @@ use Rattle.std.proofs.Common.{◌≡◌, ◌+◌, sym, ap, ◌∙◌, subst, ari
 use Rattle.tables.specs.Database.{database}
 use Rattle.tables.specs.declared.Tables.{Tables}
 use Rattle.cells.specs.Records.{PenView, held_by}
-use Rattle.encoding.specs.Held.{by_key, AreTables}
+use Rattle.encoding.specs.Held.{row_count, by_key, AreTables}
 use Rattle.encoding.specs.Puts.{Puts}
-use Rattle.encoding.proofs.Below.{below, goes_on, passes, ends}
+use Rattle.encoding.specs.Building.{below}
+use Rattle.encoding.proofs.Below.{goes_on, passes}
 use Rattle.encoding.proofs.building.put_rows.Goals as goal
 use Rattle.encoding.proofs.building.put_rows.Goals.{in-Some+in_ok-put, in_default}
 
@@ -37,4 +38,5 @@ loop-number-preserved c =
 pub returns-clause-tables : goal.returns-clause-tables
 returns-clause-tables c =
     let t0 = database c.args.population.now in
-    ends t0 (held_by c.args.pen.now) (database c.loop-number.tables) c.loop-number.number (omega arith) c.loop-number.invariant.tables
+    let all : c.loop-number.number ≡ row_count t0.scale = omega (arith, c.row_count-number-end.ensures.value) in
+    subst (λ n. AreTables t0 (by_key t0.scale (below n (held_by c.args.pen.now))) (database c.loop-number.tables)) all c.loop-number.invariant.tables

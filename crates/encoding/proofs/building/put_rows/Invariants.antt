@@ -2,7 +2,7 @@ use Rattle.std.proofs.Common.{◌≡◌}
 use Rattle.tables.specs.Database.{database}
 use Rattle.cells.specs.Records.{held_by}
 use Rattle.encoding.specs.Held.{by_key, AreTables}
-use Rattle.encoding.proofs.Below.{below}
+use Rattle.encoding.specs.Building.{below}
 use Rattle.encoding.proofs.building.put_rows.Given as goal
 
 -- the records below this number hold their values, and the pen is as it was

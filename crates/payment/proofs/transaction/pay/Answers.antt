@@ -25,5 +25,5 @@ returns-clause-reply g c = λ t h.
     c.raised-rows.ensures in
     subst (λ (r : PaymentReply). IsCommitOf t (input.Payment x) c.write.new.transaction.writes (reply.Payment r))
     (sym (c.reply.ensures ∙ ap (λ (rows : Rows). reply_of rows x id) c.raised-rows.ensures))
-    (commits t0 x id c.read.new.transaction.reads found c.requires.input c.requires.customer c.in_ok-rows.ensures.rows c.requires.payer
+    (commits t0 x id c.read.new.transaction.reads found c.requires.input c.requires.customer c.in_ok-rows.ensures.rows c.requires.payer c.requires.keeps
     c.write.new.transaction.writes written t (subst (λ (r : ReadSetView). IsCandidate t0 r t) c.write.ensures.reads h))

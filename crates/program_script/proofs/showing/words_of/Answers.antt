@@ -1,21 +1,19 @@
-use Rattle.std.proofs.Common.{◌≡◌, ◌<◌, sym, ap, ◌∙◌, subst}
+use Rattle.std.proofs.Common.{◌<◌, sym, ap, ◌∙◌, subst}
 use Rattle.tables.specs.Sizes.{Sizes}
-use Rattle.tables.specs.Records.{number_of_key, narrow_count, IsNarrowKey, IsRecordKey}
+use Rattle.tables.specs.Records.{narrow_count, IsNarrowKey, IsRecordKey}
 use Rattle.tables.proofs.Numbers.{of_narrow}
-use Rattle.tables.specs.Rows.{rows}
 use Rattle.book.specs.History.{replay}
 use Rattle.tables.specs.Database.{Database}
 use Rattle.book.proofs.Replaying.{replay-IsOf}
-use Rattle.encoding.proofs.Numbered.{record_at}
+use Rattle.program_script.proofs.Shown.{record_held}
 use Rattle.program_script.proofs.showing.words_of.Goals as goal
 
 pub returns-clause-words : goal.returns-clause-words
 returns-clause-words g c =
     let t0 = g.K.Run.first in
-    let t = replay t0 c.args.session.now.history in
-    let scale : c.scale-scale.result ≡ t0.scale = c.scale-scale.ensures ∙ ap (λ (t : Database). t.scale) c.population.ensures in
-    c.record.ensures.words ∙ ap (rows t) (c.number_of_key.ensures.value ∙ ap (λ (z : Sizes). number_of_key z c.args.key) scale)
-    ∙ record_at t0 t (replay-IsOf t0 c.args.session.now.history) c.args.key (of_narrow t0.scale c.args.key c.requires)
+    let history = c.args.session.now.history in
+    record_held t0 (replay t0 history) (replay-IsOf t0 history) c.args.key (of_narrow t0.scale c.args.key c.requires) c.scale-scale.result _ _
+    (c.scale-scale.ensures ∙ ap (λ (t : Database). t.scale) c.population.ensures) c.number_of_key.ensures.value c.record.ensures.words
 
 pub number_of_key-requires : goal.number_of_key-requires
 number_of_key-requires g c = subst (λ (z : Sizes). IsRecordKey z c.args.key)

@@ -1,15 +1,8 @@
-use Rattle.std.proofs.Common.{rules, List, Vec, Global, Err, sym, ap, ◌∙◌, subst}
-use Rattle.std.specs.List.{All}
-use Rattle.tables.specs.Sizes.{Sizes}
-use Rattle.log_text.specs.declared.body.Body.{Body}
+use Rattle.std.proofs.Common.{rules, Err}
 use Rattle.population.specs.Initial.{initial, seed_of}
-use Rattle.recover_found.specs.Found.{durable_of, entries_of, keeps}
 use Rattle.recover_files.specs.Answers.{IsAnswerOn}
-use Rattle.recover_files.specs.Parts.{HaveLawfulWrites}
 use Rattle.recover_files.proofs.AllRead.{found_all}
-use Rattle.recover_files.proofs.Answering.{unread, settled_answer, merged_of}
-use Rattle.recover_files.proofs.Found.{files_lawful}
-use Rattle.recover_files.proofs.HalvesOfFiles.{bodies_of}
+use Rattle.recover_files.proofs.Answering.{unread, settled_answer}
 use Rattle.recover_files.proofs.recovering.recover.Goals as goal
 
 pub recover_bodies-requires : goal.recover_bodies-requires

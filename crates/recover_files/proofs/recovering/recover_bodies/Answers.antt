@@ -1,4 +1,4 @@
-use Rattle.std.proofs.Common.{rules, List, Vec, Global, ap, sym, ◌∙◌, subst}
+use Rattle.std.proofs.Common.{List, Vec, Global, ap, sym, ◌∙◌, subst}
 use Rattle.std.specs.List.{All}
 use Rattle.tables.specs.Sizes.{Sizes}
 use Rattle.log_text.specs.declared.body.Body.{Body}

@@ -1,4 +1,4 @@
-use Rattle.std.proofs.Common.{◌≡◌, ℕ, ◌<◌, ◌≤◌, ◌++◌, List, map, length, refl, sym, ap, ◌∙◌, subst}
+use Rattle.std.proofs.Common.{◌≡◌, ℕ, ◌++◌, List, map, refl, sym, ap, ◌∙◌, subst}
 use Rattle.std.proofs.lemmas.Result.{IfOk-weaker}
 use Rattle.std.specs.Arc.{arc_value}
 use Rattle.tables.specs.Constant.{IsOf}
@@ -8,19 +8,27 @@ use Rattle.tables.specs.WellFormed.{IsWellFormed}
 use Rattle.tables.specs.declared.rows.History.{History}
 use Rattle.population.specs.Initial.{initial}
 use Rattle.cells.specs.Records.{CellsView, PenView, held_by}
-use Rattle.encoding.specs.Held.{row_count}
+use Rattle.encoding.specs.Held.{IsTableRecord}
 use Rattle.encoding.specs.Newest.{AreLawful}
+use Rattle.readset.specs.Cells.{AreCellsOf}
 use Rattle.book.specs.Book.{BookView, IsSound}
 use Rattle.book.specs.History.{replay, rows_added}
-use Rattle.book.proofs.Held.{enough, lawful_there, are_committed}
+use Rattle.book.proofs.Held.{cells_there, lawful_there, are_committed}
 use Rattle.book.proofs.book.Book.tables.Goals as goal
 
-pub tables_of-requires-clause-count : goal.tables_of-requires-clause-count
-tables_of-requires-clause-count g c =
+-- the run's cells are those of the population's records
+are_there : {t0 first : Database} {cells run_cells : CellsView} → first ≡ t0 → cells ≡ run_cells → AreCellsOf t0.scale run_cells → AreCellsOf first.scale cells
+are_there a b = subst (λ (q : Database × CellsView). AreCellsOf q.0.scale q.1) (λ j. (sym a j, sym b j))
+
+pub tables_of-requires-clause-narrow : goal.tables_of-requires-clause-narrow
+tables_of-requires-clause-narrow g c =
     let kept = c.self.invariant in
-    subst (λ (q : Database × CellsView). row_count q.0.scale ≤ length q.1.narrow)
-    (λ j. (sym (ap initial c.deref-3.ensures ∙ kept.population) j, sym c.requires j))
-    (enough kept.sound kept.ready kept.become)
+    (are_there (ap initial c.deref-3.ensures ∙ kept.population) c.requires (cells_there kept.sound kept.ready kept.become)).narrow
+
+pub tables_of-requires-clause-wide : goal.tables_of-requires-clause-wide
+tables_of-requires-clause-wide g c =
+    let kept = c.self.invariant in
+    (are_there (ap initial c.deref-3.ensures ∙ kept.population) c.requires (cells_there kept.sound kept.ready kept.become)).wide
 
 pub tables_of-requires-clause-lawful : goal.tables_of-requires-clause-lawful
 tables_of-requires-clause-lawful g c =
@@ -30,13 +38,13 @@ tables_of-requires-clause-lawful g c =
 
 -- what is so of the tables made of any parts is so of those made of the book's
 are_made : (pen : PenView) {first t0 made : Database} {rows_given rows_here : List History} → first ≡ t0 → rows_given ≡ rows_here
-    → ((u : Database) → IsOf first u → IsWellFormed u → ((n : ℕ) → n < row_count first.scale → rows u n ≡ held_by pen n) → u.history ≡ first.history
+    → ((u : Database) → IsOf first u → IsWellFormed u → ((n : ℕ) → IsTableRecord first.scale n → rows u n ≡ held_by pen n) → u.history ≡ first.history
     ++ rows_given → made ≡ u)
-    → (u : Database) → IsOf t0 u → IsWellFormed u → ((n : ℕ) → n < row_count t0.scale → rows u n ≡ held_by pen n) → u.history ≡ t0.history ++ rows_here
+    → (u : Database) → IsOf t0 u → IsWellFormed u → ((n : ℕ) → IsTableRecord t0.scale n → rows u n ≡ held_by pen n) → u.history ≡ t0.history ++ rows_here
     → made ≡ u
 are_made pen {made = made} a d =
     subst (λ (q : Database × List History). (u : Database) → IsOf q.0 u → IsWellFormed u
-    → ((n : ℕ) → n < row_count q.0.scale → rows u n ≡ held_by pen n) → u.history ≡ q.0.history ++ q.1 → made ≡ u)
+    → ((n : ℕ) → IsTableRecord q.0.scale n → rows u n ≡ held_by pen n) → u.history ≡ q.0.history ++ q.1 → made ≡ u)
     (λ i. (a i, d i))
 
 pub returns-clause-tables : goal.returns-clause-tables

@@ -2,7 +2,7 @@ use Rattle.std.proofs.Common.{◌≡◌, ◌∙◌, ap, sym, subst, IsSome, Some
 use Rattle.cells.specs.Records.{CellsView}
 use Rattle.tables.specs.Sizes.{Sizes}
 use Rattle.tables.specs.Database.{Database}
-use Rattle.tables.specs.Records.{number_of_key, IsNarrowKey, IsRecordKey, narrow_count}
+use Rattle.tables.specs.Records.{number_of_key, IsRecordKey}
 use Rattle.tables.proofs.Numbers.{of_narrow}
 use Rattle.readset.specs.Reads.{AreReadOfKind, held, value_of}
 use Rattle.readset.specs.Transaction.{TransactionView}

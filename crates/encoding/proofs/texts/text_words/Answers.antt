@@ -1,11 +1,9 @@
-use Rattle.std.proofs.Common.{◌≡◌, Option, List, ℕ, [], sym, ap, ◌∙◌}
+use Rattle.std.proofs.Common.{Option, List, ℕ, [], sym, ap, ◌∙◌}
 use Rattle.std.specs.Prelude.{unwrap_or}
-use Rattle.std.specs.FinMap.{get}
 use Rattle.customer_data.specs.Words.{data_words}
-use Rattle.tables.specs.Database.{database}
 use Rattle.tables.proofs.Orders.{exact_customer}
 use Rattle.encoding.proofs.Given.{is_there, row_there}
-use Rattle.encoding.proofs.texts.words_at.Goals as goal
+use Rattle.encoding.proofs.texts.text_words.Goals as goal
 
 pub unwrap-requires : goal.unwrap-requires
 unwrap-requires c =
