@@ -82,7 +82,7 @@ class Table:
 
 
 def tables_of(scale):
-    """The tables by number. ITEM, table 8, has no writes."""
+    """The tables by number. ITEM, table 8, and C_DATA, table 12, have no writes."""
     warehouses, districts, customers, items, orders, _ = scale
     all_districts = warehouses * districts
     all_customers, all_orders = all_districts * customers, all_districts * orders

@@ -139,7 +139,7 @@ pub const LEAST_STOCK: u32 = 10;
 
 pub const RESTOCK: u32 = 91;
 
-/// The letters `x` of each customer's C_DATA (TPC-C 1.3.1 has texts of at least so many).
+/// The letters `x` of each customer's C_DATA (TPC-C 4.3.3.1 draws texts of at least so many).
 pub const FIRST_DATA: u32 = 300;
 
 /// What each customer has paid at first.

@@ -41,7 +41,7 @@ def write(draws, log):
     places = table.places if table else 1
     match draws.randrange(4):
         case 0:
-            one.table = draws.choice((near(draws, one.table), 0, 8, 12))
+            one.table = draws.choice((near(draws, one.table), 0, 8, 12, 13))
         case 1:
             one.place = draws.choice((near(draws, one.place), 0, places - 1, places, draws.randrange(places)))
         case 2:
