@@ -106,7 +106,9 @@ fn paid_words(alloc: Global) -> Result<DataWords, AllocError>
         warehouse: 1,
         amount: Cents::new(1_234),
     };
-    data_after(alloc, &CustomerData::first(alloc).words(), &payment)
+    let first = CustomerData::first(alloc);
+    let words = first.words();
+    data_after(alloc, &words, &payment)
 }
 
 fn changed_rows(tables: &Tables) -> (Option<District>, Option<Order>, Option<History>) {

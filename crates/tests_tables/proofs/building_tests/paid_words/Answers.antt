@@ -8,4 +8,4 @@ pub returns : goal.returns
 returns c =
     let first = c.first_text_is_one.ensures in
     IfOk-weaker c.data_after.result _ _ (λ after is. (_, ap Some is, c.payments_keep_texts.ensures _ first_text first))
-    (c.data_after.ensures first_text first (c.words.ensures ∙ ap data_words c.first.ensures))
+    (c.data_after.ensures first_text first (c.words-words.ensures ∙ ap data_words c.first-first.ensures))

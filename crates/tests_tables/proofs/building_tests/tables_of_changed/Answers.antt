@@ -1,4 +1,4 @@
-use Rattle.std.proofs.Common.{◌≡◌, ◌<◌, ◌≤◌, ◌∷◌, [], ◌++◌, ℕ, List, length, inl, inr, refl, sym, ap, ◌∙◌, subst, arith}
+use Rattle.std.proofs.Common.{◌≡◌, ◌∷◌, [], ◌++◌, ℕ, List, length, inl, inr, sym, ap, ◌∙◌, subst, arith}
 use Rattle.tables.specs.Database.{Database}
 use Rattle.tables.specs.Records.{key_of, narrow_count}
 use Rattle.tables.specs.Rows.{rows}
