@@ -2,11 +2,12 @@
 use Rattle.std.proofs.Common.{◌≡◌, ℕ, zero, suc, ◌+◌, ◌-◌, ◌*◌, ◌^◌, ◌<◌, ◌≤◌, pos, Bool, true, false, ◌&&◌, Option, Some, None, List, [], ◌∷◌, ◌++◌}
 use Rattle.std.proofs.Common.{length, take, drop, replicate, refl, sym, ap, ◌∙◌, subst, arith, mul-le-mul, true≢false}
 use Rattle.std.proofs.lemmas.Int.{ints}
-use Rattle.std.proofs.lemmas.Bool.{leb-true, ltb-true}
+use Rattle.std.proofs.lemmas.Bool.{leb-true, ltb-true, not-true}
 use Rattle.std.specs.Prelude.{◌==◌, nat_le, nat_lt, int_le, not, cond}
 use Rattle.std.specs.List.{AllByRecursion, list_all, count_by}
 use Rattle.std.proofs.lemmas.List.{take-append-drop}
 use Rattle.std.proofs.lemmas.List.Sums.{sum_by-cons}
+use Rattle.customer_data.specs.declared.words.TheConstants.{MIN_DATA, MAX_DATA}
 use Rattle.money.specs.declared.payload.TheConstants.{PAYLOAD_WORDS}
 use Rattle.tables.specs.Sizes.{Sizes, IsScale}
 use Rattle.tables.specs.Records.{table_number}
@@ -14,11 +15,13 @@ use Rattle.tables.specs.Rows.{money_of}
 use Rattle.tables.specs.declared.limits.TheConstants.{MAX_ORDER_LINES}
 use Rattle.tables.specs.declared.records.Table.{Table}
 use Rattle.tables.specs.declared.records.Table.TheVariants as table
-use Rattle.log_text.specs.Columns.{span, columns, width, ranges, is_within, are_within}
-use Rattle.log_text.specs.Writes.{places, is_value, is_write, is_history, rank, rise_from, are_writes}
+use Rattle.log_text.specs.Columns.{span, columns, has_text, width, ranges, is_within, are_within}
+use Rattle.log_text.specs.Writes.{places, is_data, is_value, is_write, is_history, rank, rise_from, are_writes}
 use Rattle.log_text.specs.declared.columns.Range.{Range}
 use Rattle.tables.specs.declared.limits.TheConstants.{MAX_WRITES}
 use Rattle.log_text.specs.declared.write.Write.{Write}
+use Rattle.log_text.specs.declared.write.Value.{Value}
+use Rattle.log_text.specs.declared.write.Value.TheVariants as value
 use Rattle.log_text.proofs.Texts.{FitsWords, FitsValue, FitsWrite}
 
 pub and_split : (a b : Bool) → a && b ≡ true → (a ≡ true) × (b ≡ true)
@@ -103,9 +106,20 @@ words_fit s t words e =
           ∙ take-append-drop (width t) words;
     }
 
-value_fits : (s : Sizes) (t : Table) (words : Option (List ℕ)) → is_value s t words ≡ true → FitsValue t words
-value_fits s t None e = tt
-value_fits s t (Some words) e = words_fit s t words e
+-- a text of C_DATA has a length of two bytes
+data_fits : (text : List ℕ) → is_data text ≡ true → length text < 256 ^ 2
+data_fits text e =
+    let halves = and_split (nat_le MIN_DATA (length text) && nat_le (length text) MAX_DATA) (list_all (λ b. nat_le 32 b && nat_le b 126) text) e in
+    omega (arith, leb-true (length text) MAX_DATA (and_split (nat_le MIN_DATA (length text)) (nat_le (length text) MAX_DATA) halves.0).1)
+
+value_fits : (s : Sizes) (t : Table) (v : Value) → is_value s t v ≡ true → FitsValue t v
+value_fits s t value.Absent e = tt
+value_fits s t (value.Columns words) e =
+    let parts = and_split (not (has_text t)) (are_within (ranges s t) words) e in
+    (not-true (has_text t) parts.0, words_fit s t words parts.1)
+value_fits s t (value.Text text) e =
+    let parts = and_split (has_text t) (is_data text) e in
+    (parts.0, data_fits text parts.1)
 
 few_districts : (s : Sizes) → IsScale s → s.warehouses * s.districts ≤ 8 * 10
 few_districts s is = mul-le-mul is.warehouses.1 is.districts.1
@@ -126,12 +140,12 @@ few_places s is table.Item = omega arith
 few_places s is table.Stock = omega (arith, mul-le-mul is.warehouses.1 is.items.1)
 few_places s is table.Oldest = omega (arith, few_districts s is)
 few_places s is table.Last = omega (arith, mul-le-mul (few_districts s is) is.customers.1)
-few_places s is table.CustomerData = omega arith
+few_places s is table.CustomerData = omega (arith, mul-le-mul (few_districts s is) is.customers.1)
 
 write_fits : (s : Sizes) → IsScale s → (w : Write) → is_write s w ≡ true → FitsWrite w
 write_fits s is w e =
-    let parts = and_split (nat_lt w.place (places s w.table)) (is_value s w.table w.words) e in
-    record { place = omega (arith, ltb-true w.place (places s w.table) parts.0, few_places s is w.table); words = value_fits s w.table w.words parts.1 }
+    let parts = and_split (nat_lt w.place (places s w.table)) (is_value s w.table w.value) e in
+    record { place = omega (arith, ltb-true w.place (places s w.table) parts.0, few_places s is w.table); value = value_fits s w.table w.value parts.1 }
 
 writes_fit : (s : Sizes) → IsScale s → (ws : List Write) → list_all (is_write s) ws ≡ true → AllByRecursion FitsWrite ws
 writes_fit s is [] e = tt
@@ -142,7 +156,7 @@ writes_fit s is (w ∷ ws) e =
 -- a write to HISTORY has the place 0
 history_rank : (s : Sizes) (w : Write) → is_write s w ≡ true → is_history w ≡ true → rank w ≡ 4 * 2 ^ 32
 history_rank s w e h =
-    let parts = and_split (nat_lt w.place (places s w.table)) (is_value s w.table w.words) e in
+    let parts = and_split (nat_lt w.place (places s w.table)) (is_value s w.table w.value) e in
     first w.table w.place (ltb-true w.place (places s w.table) parts.0) h
   where
     first : (t : Table) (place : ℕ) → place < places s t → (table_number t == 4) ≡ true → table_number t * 2 ^ 32 + place ≡ 4 * 2 ^ 32

@@ -7,7 +7,7 @@ use Rattle.std.specs.Option.{option_and_then}
 use Rattle.tidword.specs.TidWord.{epoch_of}
 use Rattle.log_codec.proofs.Codecs.{and_then_some}
 use Rattle.log_header.specs.Header.{HeaderView, IsHeader}
-use Rattle.log_text.specs.Writes.{are_writes}
+use Rattle.log_text.specs.Writes.{are_of_version, are_writes}
 use Rattle.log_text.specs.Entries.{EntryView}
 use Rattle.log_text.specs.Bodies.{BodyView, Entries, Void, is_next, is_timed, is_asked, is_entry, behind, entries_after, marked, may_be_void, body_after}
 use Rattle.log_text.specs.declared.body.TheConstants.{VOID_MARK}
@@ -27,9 +27,11 @@ FitsBody (Void low high) = (low < 256 ^ 8) × (high < 256 ^ 8)
 
 entry_fits : (h : HeaderView) → IsHeader h → (mark number : ℕ) (last : Last) (e : EntryView) → mark ≤ MAX_MARK → is_entry h mark number last e ≡ true → FitsEntry e
 entry_fits h is mark number last e small lawful =
-    let halves = and_split (is_next h number e.number && is_timed mark last e.tid) (is_asked h e.terminal && are_writes h.scale e.writes) lawful in
+    let halves = and_split (is_next h number e.number && is_timed mark last e.tid) 
+    (is_asked h e.terminal && (are_writes h.scale e.writes && are_of_version h.version e.writes)) lawful in
     let first = and_split (is_next h number e.number) (is_timed mark last e.tid) halves.0 in
-    let second = and_split (is_asked h e.terminal) (are_writes h.scale e.writes) halves.1 in
+    let second = and_split (is_asked h e.terminal) (are_writes h.scale e.writes && are_of_version h.version e.writes) halves.1 in
+    let writes = (and_split (are_writes h.scale e.writes) (are_of_version h.version e.writes) second.1).0 in
     let next = and_split (nat_lt number e.number) (nat_le e.number h.scale.commits) first.0 in
     let bits = and_split (e.tid % 8 == 0)
     (nat_le last.epoch (epoch_of e.tid) && (nat_lt last.mark (epoch_of e.tid) && nat_le (epoch_of e.tid) (mark + 1))) first.1 in
@@ -40,8 +42,8 @@ entry_fits h is mark number last e small lawful =
       number = omega (arith, leb-true e.number h.scale.commits next.1, is.scale.commits.1);
       tid = omega (arith, leb-true (epoch_of e.tid) (mark + 1) timed.1, small);
       terminal = omega (arith, ltb-true e.terminal MAX_TERMINALS asked.0);
-      count = few_writes h.scale e.writes second.1;
-      writes = all_writes_fit h.scale is.scale e.writes second.1;
+      count = few_writes h.scale e.writes writes;
+      writes = all_writes_fit h.scale is.scale e.writes writes;
     }
 
 entries_fit : (h : HeaderView) → IsHeader h → (mark number : ℕ) (last : Last) (es : List EntryView) (now : Last) → mark ≤ MAX_MARK

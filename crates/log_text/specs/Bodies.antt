@@ -7,7 +7,7 @@ use Rattle.log_codec.specs.Numbers.{number}
 use Rattle.tidword.specs.TidWord.{epoch_of}
 use Rattle.log_text.specs.Entries.{EntryView, entry_text, logged}
 use Rattle.log_header.specs.Header.{HeaderView}
-use Rattle.log_text.specs.Writes.{are_writes}
+use Rattle.log_text.specs.Writes.{are_of_version, are_writes}
 use Rattle.tables.specs.declared.limits.TheConstants.{MAX_MARK, MAX_TERMINALS}
 use Rattle.log_text.specs.declared.body.Body.{Body}
 use Rattle.log_text.specs.declared.body.Body.TheVariants as body
@@ -71,7 +71,7 @@ is_asked h terminal = nat_lt terminal MAX_TERMINALS && (terminal % h.loggers == 
 -- behind an entry of this number, and 0 where it is the first of its body
 abbrev pub is_entry : HeaderView → ℕ → ℕ → Last → EntryView → Bool
 is_entry h mark number last e = (is_next h number e.number && is_timed mark last e.tid)
-    && (is_asked h e.terminal && are_writes h.scale e.writes)
+    && (is_asked h e.terminal && (are_writes h.scale e.writes && are_of_version h.version e.writes))
 
 -- where a file stands behind one entry more, and behind some, in a body of this mark
 abbrev pub behind : Last → EntryView → Last

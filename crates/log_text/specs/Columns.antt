@@ -1,9 +1,10 @@
 -- The columns that the records of each table have in a log file, and the ranges in which they stand.
-use Rattle.std.specs.Prelude.{ℕ, ◌+◌, ◌-◌, ◌^◌, pos, neg_ℤ, nat_lt, int_le, Bool, true, false, ◌&&◌}
+use Rattle.std.specs.Prelude.{ℕ, ◌+◌, ◌-◌, ◌^◌, pos, neg_ℤ, nat_lt, int_le, ◌==◌, Bool, true, false, ◌&&◌}
 use Rattle.std.specs.Prelude.{List, [], ◌∷◌, ◌++◌, length, replicate}
 use Rattle.money.specs.declared.cents.TheConstants.{MAX_MONEY}
 use Rattle.money.specs.declared.payload.TheConstants.{PAYLOAD_WORDS}
 use Rattle.tables.specs.Sizes.{Sizes, sizes}
+use Rattle.tables.specs.Records.{table_number}
 use Rattle.tables.specs.Rows.{money_of}
 use Rattle.tables.specs.declared.limits.TheConstants.{MAX_CARRIER, MAX_COUNT, MAX_DATE, MAX_LINE_AMOUNT}
 use Rattle.tables.specs.declared.limits.TheConstants.{MAX_ORDER_LINES, MAX_PAYMENT, MAX_QUANTITY, MAX_STOCK}
@@ -42,6 +43,10 @@ columns s table.Stock = span MIN_STOCK MAX_STOCK ∷ count_range ∷ count_range
 columns s table.Oldest = span 1 (s.orders + 1) ∷ []
 columns s table.Last = span 0 s.orders ∷ []
 columns s table.CustomerData = []
+
+-- the records of C_DATA, table 12, hold a text in place of columns
+abbrev pub has_text : Table → Bool
+has_text t = table_number t == 12
 
 -- how many columns a table has, at whatever scale
 abbrev pub width : Table → ℕ

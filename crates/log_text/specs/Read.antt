@@ -1,5 +1,5 @@
 -- How bytes are read as writes, entries and bodies, before their rules are asked.
-use Rattle.std.specs.Prelude.{◌≡◌, ◌≢◌, ℕ, ◌+◌, ◌-◌, nat_le, ◌==◌, ◌&&◌, Bool, true, false, Option, Some, None}
+use Rattle.std.specs.Prelude.{◌≡◌, ◌≢◌, ℕ, ◌+◌, ◌-◌, nat_le, nat_lt, ◌==◌, ◌&&◌, Bool, true, false, Option, Some, None}
 use Rattle.std.specs.Prelude.{if◌then◌else◌, List, length, take, drop, Result, Ok, Err}
 use Rattle.std.specs.Option.{option_map, option_and_then}
 use Rattle.log_codec.specs.Numbers.{Reader, number_at}
@@ -9,12 +9,14 @@ use Rattle.money.specs.declared.refusal.Refusal.TheVariants.{OutOfMemory, Damage
 use Rattle.tables.specs.Records.{table_numbered}
 use Rattle.tables.specs.Rows.{payload_of}
 use Rattle.tables.specs.declared.records.Table.{Table}
-use Rattle.log_text.specs.Columns.{width}
+use Rattle.log_text.specs.Columns.{has_text, width}
 use Rattle.log_text.specs.Entries.{EntryView}
 use Rattle.log_text.specs.Bodies.{BodyView, Entries, Void}
 use Rattle.log_text.specs.declared.body.TheConstants.{VOID_MARK}
 use Rattle.tables.specs.declared.limits.TheConstants.{MAX_WRITES}
 use Rattle.log_text.specs.declared.write.Write.{Write}
+use Rattle.log_text.specs.declared.write.Value.{Value}
+use Rattle.log_text.specs.declared.write.Value.TheVariants as value
 
 unfoldable pub table_from : Reader Table
 table_from bytes = chosen table_numbered (number_at 1) bytes
@@ -23,19 +25,29 @@ table_from bytes = chosen table_numbered (number_at 1) bytes
 unfoldable pub words_from : ℕ → Reader (List ℕ)
 words_from n bytes = chosen (λ words. Some (payload_of words)) (many n (number_at 8)) bytes
 
+-- a text, whose length stands in front of it
+unfoldable pub text_from : Reader (List ℕ)
+text_from bytes = option_and_then (λ n. if nat_lt (length n.1) n.0 then None else Some (take n.0 n.1, drop n.0 n.1))
+    (number_at 2 bytes)
+
 -- whether a record of this kind is present
 abbrev pub kind_numbered : ℕ → Option Bool
 kind_numbered n = if n == 1 then Some true else if n == 0 then Some false else None
 
-abbrev pub words_if : ℕ → Bool → Reader (Option (List ℕ))
-words_if n true bytes = chosen (λ words. Some (Some words)) (words_from n) bytes
-words_if n false bytes = Some (None, bytes)
+-- what a present record holds: a text, or so many columns
+unfoldable pub present_from : Bool → ℕ → Reader Value
+present_from true n bytes = chosen (λ text. Some (value.Text text)) text_from bytes
+present_from false n bytes = chosen (λ words. Some (value.Columns words)) (words_from n) bytes
 
-unfoldable pub value_from : Table → Reader (Option (List ℕ))
-value_from t bytes = chosen (λ x. Some x.1) (both (chosen kind_numbered (number_at 1)) (words_if (width t))) bytes
+abbrev pub value_if : Table → Bool → Reader Value
+value_if t true bytes = present_from (has_text t) (width t) bytes
+value_if t false bytes = Some (value.Absent, bytes)
+
+unfoldable pub value_from : Table → Reader Value
+value_from t bytes = chosen (λ x. Some x.1) (both (chosen kind_numbered (number_at 1)) (value_if t)) bytes
 
 unfoldable pub write_from : Reader Write
-write_from bytes = chosen (λ x. Some (record { table = x.0; place = x.1.0; words = x.1.1 }))
+write_from bytes = chosen (λ x. Some (record { table = x.0; place = x.1.0; value = x.1.1 }))
     (both table_from (λ t. both (number_at 4) (λ place. value_from t))) bytes
 
 -- no entry has more writes than these, that of HISTORY among them

@@ -5,7 +5,7 @@ use crate::entry::LoggedEntry;
 pub const VOID_MARK: u64 = 18_446_744_073_709_551_615;
 
 /// A body of a log file.
-#[derive(PartialEq, Eq, Drop)]
+#[derive(Drop)]
 pub enum Body {
     /// The mark up to which the file is whole with it (Silo, section 4.10), and entries.
     Entries(u64, Vec<LoggedEntry>),

@@ -1,6 +1,6 @@
 //! Which columns the records of each table have in a log file, and within which ranges they stand.
 ghost use Rattle.std.specs.Prelude.{◌≡◌, ◌≤◌};
-ghost use Rattle.log_text.specs.Columns.{are_within, is_within, ranges, span, width};
+ghost use Rattle.log_text.specs.Columns.{are_within, has_text, is_within, ranges, span, width};
 
 use money::{MAX_MONEY, PAYLOAD_WORDS, Payload};
 use tables::limits::{
@@ -32,6 +32,13 @@ fn span(low: u32, high: u32) -> Range
         low: i64::from(low),
         high: i64::from(high),
     }
+}
+
+/// Whether the records of a table hold a text in place of columns.
+pub(crate) fn has_text(table: Table) -> bool
+    ensures { result ≡ has_text table }
+{
+    matches!(table, Table::CustomerData)
 }
 
 /// How many columns the records of a table have.

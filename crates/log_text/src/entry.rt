@@ -2,7 +2,7 @@
 use crate::write::Write;
 
 /// An entry of a log file.
-#[derive(PartialEq, Eq, Drop)]
+#[derive(Drop)]
 pub struct LoggedEntry {
     /// The commit number, from 1.
     pub number: u64,

@@ -27,9 +27,7 @@ fn writes_from(alloc: Global, count: u16, bytes: &[u8]) -> Result<(Vec<Write>, &
     let mut writes = Vec::with_capacity(alloc, most)?;
     let mut rest = bytes;
     'writes: for _ in 0..count {
-        let Some((write, behind)) = write_from(rest) else {
-            return Err(Refusal::Damaged);
-        };
+        let (write, behind) = write_from(alloc, rest)?;
         let Ok(()) = writes.push(write) else {
             return Err(Refusal::OutOfMemory);
         };

@@ -8,7 +8,7 @@ ghost use Rattle.tables.specs.declared.limits.TheConstants.{MAX_MARK};
 use crate::body::Body;
 use crate::entry::LoggedEntry;
 use crate::last::Last;
-use crate::write_rules::are_writes;
+use crate::write_rules::{are_of_version, are_writes};
 use log_header::Header;
 use tables::limits::{MAX_MARK, MAX_TERMINALS};
 
@@ -40,6 +40,7 @@ fn is_entry(header: &Header, mark: u64, number: u64, last: Last, entry: &LoggedE
         && is_timed(mark, last, entry.tid)
         && is_asked(header, entry.terminal)
         && are_writes(&header.scale, &entry.writes)
+        && are_of_version(header.version, &entry.writes)
 }
 
 fn behind(last: Last, entry: &LoggedEntry) -> Last

@@ -1,12 +1,15 @@
 //! Which writes an entry may have.
-ghost use Rattle.std.specs.Prelude.{◌≡◌, ◌≤◌, ◌<◌, ◌+◌, ◌*◌, ◌^◌, not};
+ghost use Rattle.std.specs.Prelude.{◌≡◌, ◌≤◌, ◌<◌, ◌+◌, ◌*◌, ◌^◌, ◌&&◌, nat_le, not};
 ghost use Rattle.std.specs.List.{list_all, count_by};
 ghost use Rattle.tables.specs.Records.{table_number};
-ghost use Rattle.log_text.specs.Writes.{are_writes, is_history, is_value, is_write, places, rank, rise_from};
+ghost use Rattle.log_text.specs.Columns.{has_text as holds_text};
+ghost use Rattle.log_text.specs.Writes.{are_of_version, are_writes, is_data, is_history, is_value, is_write, places};
+ghost use Rattle.log_text.specs.Writes.{rank, rise_from};
 
-use crate::columns::are_columns;
-use crate::write::Write;
-use money::Payload;
+use crate::columns::{are_columns, has_text};
+use crate::write::{Value, Write};
+use customer_data::{MAX_DATA, MIN_DATA};
+use log_header::VERSION;
 use tables::limits::MAX_WRITES;
 use tables::{Scale, Table};
 
@@ -15,24 +18,42 @@ fn places(scale: &Scale, table: Table) -> u32
 {
     match table {
         Table::History => 1,
-        Table::CustomerData => 0,
         other => other.size(scale),
     }
 }
 
-fn is_value(scale: &Scale, table: Table, words: &Option<Payload>) -> bool
-    ensures { result ≡ is_value scale.now table words.now }
+/// Whether each byte is a printable character of ASCII.
+fn are_printable(text: &[u8]) -> bool
+    ensures { result ≡ list_all (λ b. nat_le 32 b && nat_le b 126) text.now }
 {
-    match words {
-        Some(words) => are_columns(scale, table, words),
-        None => matches!(table, Table::NewOrder),
+    for byte in text {
+        if !(b' '..=b'~').contains(byte) {
+            return false;
+        }
+    }
+    true
+}
+
+fn is_data(text: &[u8]) -> bool
+    ensures { result ≡ is_data text.now }
+{
+    MIN_DATA <= text.len() && text.len() <= MAX_DATA && are_printable(text)
+}
+
+fn is_value(scale: &Scale, table: Table, value: &Value) -> bool
+    ensures { result ≡ is_value scale.now table value.now }
+{
+    match value {
+        Value::Absent => matches!(table, Table::NewOrder),
+        Value::Columns(words) => !has_text(table) && are_columns(scale, table, words),
+        Value::Text(text) => has_text(table) && is_data(text.as_bytes()),
     }
 }
 
 fn is_write(scale: &Scale, write: &Write) -> bool
     ensures { result ≡ is_write scale.now write.now }
 {
-    write.place < places(scale, write.table) && is_value(scale, write.table, &write.words)
+    write.place < places(scale, write.table) && is_value(scale, write.table, &write.value)
 }
 
 fn are_each(scale: &Scale, writes: &[Write]) -> bool
@@ -86,4 +107,23 @@ pub(crate) fn are_writes(scale: &Scale, writes: &[Write]) -> bool
     ensures { result ≡ are_writes scale.now writes.now }
 {
     are_each(scale, writes) && do_rise(writes) && records(writes) <= MAX_WRITES
+}
+
+/// Whether they may stand in a file of this version.
+pub(crate) fn are_of_version(version: u32, writes: &[Write]) -> bool
+    ensures { result ≡ are_of_version version writes.now }
+{
+    version == VERSION || have_no_text(writes)
+}
+
+/// Whether none is of a record that holds a text.
+fn have_no_text(writes: &[Write]) -> bool
+    ensures { result ≡ list_all (λ w. not (holds_text w.table)) writes.now }
+{
+    for write in writes {
+        if has_text(write.table) {
+            return false;
+        }
+    }
+    true
 }

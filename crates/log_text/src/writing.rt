@@ -4,16 +4,17 @@ ghost use Rattle.std.specs.List.{All};
 ghost use Rattle.log_codec.specs.Numbers.{number};
 ghost use Rattle.log_text.specs.Columns.{width};
 ghost use Rattle.log_text.specs.Writes.{value_text, write_text};
+ghost use Rattle.log_text.specs.declared.write.Value.TheVariants as value;
+ghost use Rattle.tables.specs.declared.records.Table.TheVariants as table;
 ghost use Rattle.log_text.specs.Entries.{entry_text, front_text, logged};
 ghost use Rattle.log_text.specs.Bodies.{Entries, HasFewWrites, Void, body_of, body_text, content_text};
 
 use crate::body::{Body, VOID_MARK};
 use crate::columns::width;
 use crate::entry::LoggedEntry;
-use crate::write::Write;
+use crate::write::{Value, Write};
 use byteorder::{ByteOrder, LittleEndian};
 use log_codec::{put_u8, put_u16, put_u32, put_u64};
-use money::Payload;
 use std::alloc::AllocError;
 use tables::Table;
 
@@ -27,15 +28,26 @@ fn put_words(out: &mut Vec<u8>, words: &[u64]) -> Result<(), AllocError>
     Ok(())
 }
 
-fn put_value(out: &mut Vec<u8>, table: Table, words: &Option<Payload>) -> Result<(), AllocError>
-    ensures { OnOk result (out.new.items ≡ out.old.items ++ value_text table words.now) }
+/// Appends a present text, of fewer than 65,536 bytes, behind its length.
+fn put_present_text(out: &mut Vec<u8>, table: Table, text: &[u8]) -> Result<(), AllocError>
+    requires { length text.now < 2 ^ 16 }
+    ensures { OnOk result (out.new.items ≡ out.old.items ++ value_text table (value.Text text.now)) }
 {
-    match words {
-        Some(words) => {
+    put_u8(out, 1)?;
+    put_u16(out, text.len() as u16)?;
+    out.extend_from_slice(text)
+}
+
+fn put_value(out: &mut Vec<u8>, table: Table, value: &Value) -> Result<(), AllocError>
+    ensures { OnOk result (out.new.items ≡ out.old.items ++ value_text table value.now) }
+{
+    match value {
+        Value::Absent => put_u8(out, 0),
+        Value::Columns(words) => {
             put_u8(out, 1)?;
             put_words(out, &words[..width(table)])
         }
-        None => put_u8(out, 0),
+        Value::Text(text) => put_present_text(out, table, text.as_bytes()),
     }
 }
 
@@ -45,7 +57,18 @@ pub fn put_write(out: &mut Vec<u8>, write: &Write) -> Result<(), AllocError>
 {
     put_u8(out, write.table.number())?;
     put_u32(out, write.place)?;
-    put_value(out, write.table, &write.words)
+    put_value(out, write.table, &write.value)
+}
+
+/// Appends the write of a customer's text, of fewer than 65,536 bytes, which isn't copied before.
+pub fn put_text(out: &mut Vec<u8>, place: u32, text: &[u8]) -> Result<(), AllocError>
+    requires { length text.now < 2 ^ 16 }
+    ensures { OnOk result (out.new.items ≡ out.old.items
+        ++ write_text (record { table = table.CustomerData; place = place; value = value.Text text.now })) }
+{
+    put_u8(out, Table::CustomerData.number())?;
+    put_u32(out, place)?;
+    put_present_text(out, Table::CustomerData, text)
 }
 
 /// Appends an entry, which has at most 201 writes.

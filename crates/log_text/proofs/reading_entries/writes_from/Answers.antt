@@ -1,4 +1,5 @@
-use Rattle.std.proofs.Common.{◌≡◌, ◌+◌, ◌-◌, suc, ℕ, List, refl, sym, ap, ◌∙◌, arith, rules}
+use Rattle.std.proofs.Common.{◌≡◌, ◌≢◌, ◌+◌, ◌-◌, suc, ℕ, List, None, sym, ap, ◌∙◌, arith, rules}
+use Rattle.money.specs.declared.refusal.Refusal.TheVariants.{OutOfMemory, Damaged}
 use Rattle.log_codec.specs.Read.{many}
 use Rattle.log_text.specs.Loops.{many_after}
 use Rattle.log_text.specs.Read.{write_from}
@@ -16,21 +17,25 @@ writes-init c = (
     whole : (n : ℕ) → n - 0 ≡ n
     whole n = omega arith
 
-pub returns-in_default : goal.returns-in_default
-returns-in_default c = λ other.
-    let left : c.args.count - c.writes.counter ≡ suc (c.args.count - (c.writes.counter + 1)) = search rules in (
-      refl,
+pub returns-in_err-write : goal.returns-in_err-write
+returns-in_err-write c =
+    let left : c.args.count - c.writes.counter ≡ suc (c.args.count - (c.writes.counter + 1)) = search rules in
+    let ends : c.in_err-write.field-0.0 ≢ OutOfMemory
+        → (c.in_err-write.field-0.0 ≡ Damaged) × (many c.args.count write_from c.args.bytes.now ≡ None) =
+    λ other. let h = c.in_err-write.ensures other in (
+      h.0,
       sym c.writes.invariant.1 ∙ ap (λ (n : ℕ). many_after c.writes.writes.items (many n write_from c.writes.rest.now)) left
-          ∙ many_ends write_from c.writes.writes.items (c.args.count - (c.writes.counter + 1)) c.writes.rest.now (sym c.in_default.ensures),
-    )
+          ∙ many_ends write_from c.writes.writes.items (c.args.count - (c.writes.counter + 1)) c.writes.rest.now h.1,
+    ) in
+    search (rules, ends)
 
 pub writes-preserved : goal.writes-preserved
 writes-preserved c =
     let left : c.args.count - c.writes.counter ≡ suc (c.args.count - (c.writes.counter + 1)) = search rules in (
       search rules,
-      ap (λ (l : List Write). many_after l (many (c.args.count - (c.writes.counter + 1)) write_from c.in-Some.behind.now)) c.in-Ok.ensures.items
-          ∙ sym (many_goes_on write_from c.writes.writes.items (c.args.count - (c.writes.counter + 1)) c.writes.rest.now c.in-Some.write c.in-Some.behind.now
-          (sym c.in-Some.ensures))
+      ap (λ (l : List Write). many_after l (many (c.args.count - (c.writes.counter + 1)) write_from c.in_ok-write.behind.now)) c.in-Ok.ensures.items
+          ∙ sym (many_goes_on write_from c.writes.writes.items (c.args.count - (c.writes.counter + 1)) c.writes.rest.now c.in_ok-write.write c.in_ok-write.behind.now
+          c.in_ok-write.ensures)
           ∙ ap (λ (n : ℕ). many_after c.writes.writes.items (many n write_from c.writes.rest.now)) (sym left) ∙ c.writes.invariant.1,
     )
 
