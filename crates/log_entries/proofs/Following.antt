@@ -15,8 +15,7 @@ use Rattle.std.proofs.Math.Logic.{∥∥₁_elim}
 use Rattle.tables.specs.Sizes.{Sizes, IsScale}
 use Rattle.tables.specs.Database.{Database}
 use Rattle.tables.specs.Apply.{after}
-use Rattle.tables.specs.Records.{narrow_count, key_of}
-use Rattle.tables.proofs.Numbers.{narrow_among}
+use Rattle.tables.specs.Records.{record_count, key_of}
 use Rattle.tables.specs.Rows.{rows}
 use Rattle.tables.specs.WellFormed.{IsHistoryRow}
 use Rattle.tables.specs.declared.keys.OrderKey.{OrderKey}
@@ -27,7 +26,9 @@ use Rattle.tables_laws.proofs.NamesKept.{IsOf-itself}
 use Rattle.readset.specs.Writes.{value_for, added}
 use Rattle.tidword.specs.TidWord.{epoch_of}
 use Rattle.log_header.specs.Header.{HeaderView}
-use Rattle.log_text.specs.Writes.{are_writes}
+use Rattle.log_header.specs.declared.header.TheConstants.{VERSION}
+use Rattle.log_text.specs.declared.write.Write.{Write}
+use Rattle.log_text.specs.Writes.{are_of_version, are_writes}
 use Rattle.log_text.specs.Bodies.{is_entry, entries_after, behind, marked, body_after}
 use Rattle.log_text.specs.declared.last.Last.{Last}
 use Rattle.tables.specs.declared.limits.TheConstants.{MAX_MARK, MAX_TERMINALS}
@@ -48,6 +49,7 @@ pub record IsFit (h : HeaderView) (least mark : ℕ) (e : Entry) : Type 0 where
   pub terminal : e.terminal < MAX_TERMINALS
   pub asked : e.terminal % h.loggers ≡ h.logger
   pub writes : are_writes h.scale (writes_of h.scale e.writes) ≡ true
+  pub of_version : are_of_version h.version (writes_of h.scale e.writes) ≡ true
 
 module _ (h : HeaderView) (mark : ℕ) where
   fits : (number : ℕ) (last : Last) (e : Entry) → number < e.number → last.epoch ≤ epoch_of e.tid → e.tid % 8 ≡ 0 → IsFit h last.mark mark e
@@ -61,7 +63,7 @@ module _ (h : HeaderView) (mark : ℕ) where
       (and_from _ _ (lt-ltb last.mark (epoch_of e.tid) fit.above) (le-leb (epoch_of e.tid) (mark + 1) fit.near)))))
       (and_from _ _
       (and_from _ _ (lt-ltb e.terminal MAX_TERMINALS fit.terminal) (eq-eqb (e.terminal % h.loggers) h.logger fit.asked))
-      fit.writes)
+      (and_from _ _ fit.writes fit.of_version))
 
   entries_follow : (number : ℕ) (last : Last) (es : List Entry) → NumbersRise number es → AreStamped es → All (λ (e : Entry). last.epoch ≤ epoch_of e.tid) es
       → All (IsFit h last.mark mark) es
@@ -85,16 +87,16 @@ done_writes s scale e h d =
     let same : t.scale ≡ s = (after-IsOf d.tables d.tables e.input (IsOf-itself d.tables)).scale ∙ d.scale in
     let commit = d.commits.commit in
     let stands : (n : ℕ) (value : Option (List ℕ)) → value_for e.writes n ≡ Some value → rows t n ≡ value
-    = (λ n value found. commit.rows n (narrow_among d.tables.scale n (subst (λ (z : Sizes). n < narrow_count z) (sym d.scale) (h.records n value found)))
+    = (λ n value found. commit.rows n (subst (λ (z : Sizes). n < record_count z) (sym d.scale) (h.records n value found))
     ∙ ap (λ (v : Option (Option (List ℕ))). unwrap_or v (rows d.tables n)) found) in
     let row : All (IsHistoryRow s) (added e.writes.history_row)
     = all_behind (IsHistoryRow s) d.tables.history (added e.writes.history_row)
     (subst (λ (z : Sizes). All (IsHistoryRow z) (d.tables.history ++ added e.writes.history_row)) same
     (subst (λ (l : List History). All (IsHistoryRow t.scale) l) commit.history d.well_formed.history_rows)) in
-    let absent : (n : ℕ) → n < narrow_count s → value_for e.writes n ≡ Some None → (k : OrderKey) × (key_of s n ≡ key.NewOrder k)
-    = subst (λ (z : Sizes). (n : ℕ) → n < narrow_count z → value_for e.writes n ≡ Some None → (k : OrderKey) × (key_of z n ≡ key.NewOrder k)) d.scale
-    (λ n below. commit.absent n (narrow_among d.tables.scale n below)) in
-    are_lawful s scale e.writes t same d.well_formed h.ordered h.limit h.records stands row absent
+    let absent : (n : ℕ) → n < record_count s → value_for e.writes n ≡ Some None → (k : OrderKey) × (key_of s n ≡ key.NewOrder k)
+    = subst (λ (z : Sizes). (n : ℕ) → n < record_count z → value_for e.writes n ≡ Some None → (k : OrderKey) × (key_of z n ≡ key.NewOrder k)) d.scale
+    (λ n below. commit.absent n below) in
+    are_lawful s scale e.writes t same d.well_formed h.ordered h.limit h.records h.texts stands row absent
 
 pub writes_lawful : (s : Sizes) → IsScale s → (e : Entry) → IsLoggable s e → are_writes s (writes_of s e.writes) ≡ true
 writes_lawful s scale e h = ∥∥₁_elim h.done (Coded-set coded_bool _ _) (λ d. done_writes s scale e h d)
@@ -104,10 +106,14 @@ rise_from_zero : (before : ℕ) (es : List Entry) → NumbersRise before es → 
 rise_from_zero before [] rise = tt
 rise_from_zero before (e ∷ es) rise = (omega (arith, rise.0), rise.1)
 
--- a batch that continues a file may follow where the file stands
-pub batch_follows : (h : HeaderView) (count number : ℕ) (last : Last) (b : BatchView) → IsBatch b → Continues h count number last b → last.epoch ≤ last.mark + 1
+-- in a file that is written today any writes may stand
+of_today : (version : ℕ) (ws : List Write) → version ≡ VERSION → are_of_version version ws ≡ true
+of_today version ws same = ap (λ (n : ℕ). are_of_version n ws) same
+
+-- a batch that continues a file of today's version may follow where the file stands
+pub batch_follows : (h : HeaderView) (count number : ℕ) (last : Last) (b : BatchView) → h.version ≡ VERSION → IsBatch b → Continues h count number last b → last.epoch ≤ last.mark + 1
     → IsScale b.scale → body_after h last (body_of_batch b) ≡ Some (behind_batch last b)
-batch_follows h count number last b is at epoch scale =
+batch_follows h count number last b version is at epoch scale =
     let marks : (nat_le last.mark b.mark && nat_le b.mark MAX_MARK) ≡ true
     = and_from _ _ (le-leb last.mark b.mark (omega (arith, at.mark_before, is.marks_rise))) (le-leb b.mark MAX_MARK (omega (arith, is.last_mark))) in
     let rise : NumbersRise 0 b.entries = rise_from_zero b.number_before b.entries is.rise in
@@ -118,6 +124,7 @@ batch_follows h count number last b is at epoch scale =
       terminal = (is.asked k d lt).0;
       asked = subst (λ (n : ℕ). (get_or b.entries k d).terminal % n ≡ h.logger) at.loggers ((is.asked k d lt).1 ∙ at.logger);
       writes = subst (λ (s : Sizes). are_writes s (writes_of s (get_or b.entries k d).writes) ≡ true) at.scale (writes_lawful b.scale scale (get_or b.entries k d) (is.each k d lt));
+      of_version = of_today h.version (writes_of h.scale (get_or b.entries k d).writes) version;
     }) in
     let epochs : All (λ (e : Entry). last.epoch ≤ epoch_of e.tid) b.entries
     = (λ k d lt. omega (arith, epoch, (is.epochs k d lt).0, at.mark_before)) in

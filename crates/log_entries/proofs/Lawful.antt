@@ -1,21 +1,24 @@
 -- What an entry of the history wrote keeps the rules of a log file.
 use Rattle.std.proofs.Common.{◌≡◌, ℕ, ◌+◌, ◌*◌, ◌^◌, ◌<◌, ◌≤◌, Bool, true, false, ◌&&◌, cond, List, [], ◌∷◌, ◌++◌, map, length, Option, Some, None, All}
-use Rattle.std.proofs.Common.{refl, sym, ◌∙◌, subst, arith}
+use Rattle.std.proofs.Common.{refl, sym, ap, ◌∙◌, subst, arith, ⊎_elim}
 use Rattle.std.specs.Prelude.{nat_lt, nat_le, not, ◌==◌}
 use Rattle.std.specs.List.{AllByRecursion, filter, list_all, count_by}
 use Rattle.std.specs.Map.{keys_of}
 use Rattle.std.specs.Ordering.{nat_cmp}
 use Rattle.std.specs.List.Sorted.{IsStrictlySortedBy}
 use Rattle.std.specs.declared.cmp.Ordering.TheVariants.{Less}
-use Rattle.std.proofs.lemmas.Bool.{and_from, le-leb, leb-true, lt-ltb, ltb-true, ltb-false, not-true}
+use Rattle.std.proofs.lemmas.Bool.{cases_lt, and_from, le-leb, leb-true, lt-ltb, ltb-true, ltb-false, not-true}
 use Rattle.std.proofs.lemmas.Bool.Decides.{nat_tests}
 use Rattle.std.proofs.lemmas.List.Elements.{recursion_from_All, All-head}
 use Rattle.std.proofs.lemmas.List.{length-append, length-map}
 use Rattle.std.proofs.lemmas.List.Folds.{list_all-append}
 use Rattle.std.proofs.lemmas.List.Sums.{sum_by-append, count_by-le-length}
+use Rattle.customer_data.specs.Text.{IsData}
+use Rattle.customer_data.specs.Words.{data_words}
+use Rattle.encoding.specs.Puts.{IsRow}
 use Rattle.tables.specs.Sizes.{Sizes, IsScale}
 use Rattle.tables.specs.Database.{Database}
-use Rattle.tables.specs.Records.{table_number, first_number, narrow_count, table_at, place_at, key_at, key_of}
+use Rattle.tables.specs.Records.{table_number, first_number, narrow_count, record_count, table_at, place_at, key_at, key_of}
 use Rattle.tables.specs.Rows.{rows}
 use Rattle.tables.specs.WellFormed.{IsWellFormed, IsHistoryRow}
 use Rattle.tables.specs.declared.keys.OrderKey.{OrderKey}
@@ -26,17 +29,18 @@ use Rattle.tables.specs.declared.records.RecordKey.TheVariants as key
 use Rattle.readset.specs.Writes.{WriteSetView, value_for, added}
 use Rattle.tables.specs.declared.limits.TheConstants.{MAX_WRITES}
 use Rattle.readset.proofs.Entries.{each_found}
-use Rattle.log_text.specs.Columns.{ranges, are_within}
-use Rattle.log_text.specs.Writes.{places, is_history, is_value, is_write, rank, rise_from, are_writes}
+use Rattle.log_text.specs.Columns.{has_text, ranges, are_within}
+use Rattle.log_text.specs.Writes.{places, is_data, is_history, is_value, is_write, rank, rise_from, are_writes}
 use Rattle.log_text.specs.declared.write.Write.{Write}
 use Rattle.log_text.proofs.Fitting.{and_split}
-use Rattle.log_entries.specs.Logged.{write_at, history_write, is_before_history, is_behind_history, writes_of}
-use Rattle.log_entries.proofs.Turns.{numbers_rise, place_within, place_small, before_history, behind_history}
+use Rattle.log_entries.specs.Logged.{value_as, write_at, history_write, is_before_history, is_behind_history, writes_of}
+use Rattle.log_entries.proofs.Turns.{narrow_holds_none, wide_is_text, numbers_rise, place_within, place_small, before_history, behind_history}
+use Rattle.log_entries.proofs.Texts.{text_in_words, data_lawful}
 use Rattle.log_entries.proofs.Within.{rows_within, history_within}
 
 -- a record's number, and what it holds
-abbrev Value : Type 0
-Value = ℕ × Option (List ℕ)
+abbrev Held : Type 0
+Held = ℕ × Option (List ℕ)
 
 -- ---- writes in their order
 rise_lower : (a b : ℕ) (ws : List Write) → a ≤ b → rise_from b ws ≡ true → rise_from a ws ≡ true
@@ -54,12 +58,12 @@ rise_append a b (v ∷ vs) ws h e low rest =
     and_from (nat_le a (rank v)) (rise_from (rank v + 1) (vs ++ ws)) parts.0
     (rise_append (rank v + 1) b vs ws (omega (arith, low.0)) parts.1 low.1 rest)
 
-above : (n : ℕ) (es : List Value) → AllByRecursion (λ k. nat_cmp n k ≡ Less) (keys_of es) → AllByRecursion (λ e. n + 1 ≤ e.0) es
+above : (n : ℕ) (es : List Held) → AllByRecursion (λ k. nat_cmp n k ≡ Less) (keys_of es) → AllByRecursion (λ e. n + 1 ≤ e.0) es
 above n [] h = tt
 above n (e ∷ es) h = (let less : nat_cmp n e.0 ≡ Less = h.0 in grind (arith, nat_tests), above n es h.1)
 
 module _ (s : Sizes) where
-  both_parts : (p : Value → Bool) (es : List Value) → length (map (write_at s) (filter p es)) + length (map (write_at s) (filter (λ e. not (p e)) es))
+  both_parts : (p : Held → Bool) (es : List Held) → length (map (write_at s) (filter p es)) + length (map (write_at s) (filter (λ e. not (p e)) es))
       ≡ length es
   both_parts p [] = refl
   both_parts p (e ∷ es) =
@@ -85,7 +89,7 @@ module _ (s : Sizes) where
 
 module _ (s : Sizes) (scale : IsScale s) where
   -- what holds of each value that passes a test holds of its write
-  each_write : (P : Write → Type 0) (p : Value → Bool) (es : List Value) → AllByRecursion (λ e. p e ≡ true → P (write_at s e)) es
+  each_write : (P : Write → Type 0) (p : Held → Bool) (es : List Held) → AllByRecursion (λ e. p e ≡ true → P (write_at s e)) es
       → AllByRecursion P (map (write_at s) (filter p es))
   each_write P p [] each = tt
   each_write P p (e ∷ es) each =
@@ -95,9 +99,9 @@ module _ (s : Sizes) (scale : IsScale s) where
       ] refl
 
   -- values in the order of their numbers
-  values_rise : (p : Value → Bool) (low least : ℕ) (es : List Value) → IsStrictlySortedBy nat_cmp (keys_of es)
-      → AllByRecursion (λ e. e.0 < narrow_count s) es → AllByRecursion (λ e. low ≤ e.0) es
-      → ((e : Value) → p e ≡ true → low ≤ e.0 → e.0 < narrow_count s → least ≤ rank (write_at s e))
+  values_rise : (p : Held → Bool) (low least : ℕ) (es : List Held) → IsStrictlySortedBy nat_cmp (keys_of es)
+      → AllByRecursion (λ e. e.0 < record_count s) es → AllByRecursion (λ e. low ≤ e.0) es
+      → ((e : Held) → p e ≡ true → low ≤ e.0 → e.0 < record_count s → least ≤ rank (write_at s e))
       → rise_from least (map (write_at s) (filter p es)) ≡ true
   unfolding IsStrictlySortedBy
   values_rise p low least [] sorted small over bound = refl
@@ -111,25 +115,25 @@ module _ (s : Sizes) (scale : IsScale s) where
         | false ↦ λ _. values_rise p (e.0 + 1) least es sorted.1 small.1 later (λ f passes h k. bound f passes (omega (arith, h, over.0)) k)
       ] refl
 
-  any_low : (es : List Value) → AllByRecursion (λ e. 0 ≤ e.0) es
+  any_low : (es : List Held) → AllByRecursion (λ e. 0 ≤ e.0) es
   any_low [] = tt
   any_low (e ∷ es) = (omega arith, any_low es)
 
   -- records before and behind HISTORY's rank
-  rank_before : (e : Value) → e.0 < narrow_count s → is_before_history s e ≡ true → rank (write_at s e) < 4 * 2 ^ 32
+  rank_before : (e : Held) → e.0 < record_count s → is_before_history s e ≡ true → rank (write_at s e) < 4 * 2 ^ 32
   rank_before e h test = omega (arith, before_history s e.0 h (ltb-true e.0 (first_number s table.NewOrder) test), place_small s scale e.0 h)
 
-  rank_behind : (e : Value) → e.0 < narrow_count s → is_behind_history s e ≡ true → 4 * 2 ^ 32 + 1 ≤ rank (write_at s e)
+  rank_behind : (e : Held) → e.0 < record_count s → is_behind_history s e ≡ true → 4 * 2 ^ 32 + 1 ≤ rank (write_at s e)
   rank_behind e h test =
       omega (arith, behind_history s e.0 h (ltb-false e.0 (first_number s table.NewOrder) (not-true (nat_lt e.0 (first_number s table.NewOrder)) test)))
 
-  each_before : (es : List Value) → AllByRecursion (λ e. e.0 < narrow_count s) es
+  each_before : (es : List Held) → AllByRecursion (λ e. e.0 < record_count s) es
       → AllByRecursion (λ e. is_before_history s e ≡ true → rank (write_at s e) < 4 * 2 ^ 32) es
   each_before [] small = tt
   each_before (e ∷ es) small = (rank_before e small.0, each_before es small.1)
 
   writes_rise : (writes : WriteSetView) → IsStrictlySortedBy nat_cmp (keys_of writes.values)
-      → AllByRecursion (λ e. e.0 < narrow_count s) writes.values → rise_from 0 (writes_of s writes) ≡ true
+      → AllByRecursion (λ e. e.0 < record_count s) writes.values → rise_from 0 (writes_of s writes) ≡ true
   writes_rise writes sorted small =
       rise_append 0 (4 * 2 ^ 32) (map (write_at s) (filter (is_before_history s) writes.values)) _ (omega arith)
       (values_rise (is_before_history s) 0 0 writes.values sorted small (any_low writes.values) (λ e _ _ _. omega arith))
@@ -149,18 +153,21 @@ module _ (s : Sizes) (scale : IsScale s) where
   all_writes [] each = refl
   all_writes (w ∷ ws) each = and_from (is_write s w) (list_all (is_write s) ws) each.0 (all_writes ws each.1)
 
-  value_writes : (p : Value → Bool) (es : List Value) → AllByRecursion (λ e. is_write s (write_at s e) ≡ true) es
+  value_writes : (p : Held → Bool) (es : List Held) → AllByRecursion (λ e. is_write s (write_at s e) ≡ true) es
       → list_all (is_write s) (map (write_at s) (filter p es)) ≡ true
   value_writes p es each = all_writes _ (each_write (λ w. is_write s w ≡ true) p es (whatever es each))
     where
-      whatever : (fs : List Value) → AllByRecursion (λ e. is_write s (write_at s e) ≡ true) fs
+      whatever : (fs : List Held) → AllByRecursion (λ e. is_write s (write_at s e) ≡ true) fs
           → AllByRecursion (λ e. p e ≡ true → is_write s (write_at s e) ≡ true) fs
       whatever [] h = tt
       whatever (f ∷ fs) h = ((λ _. h.0), whatever fs h.1)
 
+  history_lawful : (row : History) → IsHistoryRow s row → is_write s (history_write row) ≡ true
+  history_lawful row is = history_within s scale row is
+
   row_write : (row : Option History) → All (IsHistoryRow s) (added row) → list_all (is_write s) (map history_write (added row)) ≡ true
   row_write None each = refl
-  row_write (Some row) each = all_writes (history_write row ∷ []) (history_within s scale row (All-head (IsHistoryRow s) row [] each), tt)
+  row_write (Some row) each = all_writes (history_write row ∷ []) (history_lawful row (All-head (IsHistoryRow s) row [] each), tt)
 
   each_may_be_written : (writes : WriteSetView) → AllByRecursion (λ e. is_write s (write_at s e) ≡ true) writes.values
       → All (IsHistoryRow s) (added writes.history_row) → list_all (is_write s) (writes_of s writes) ≡ true
@@ -218,28 +225,46 @@ of_new_orders s table.CustomerData p k e = absurd cc
 -- the writes of a commit that left well-formed tables with what it wrote, and took out rows of NEW-ORDER alone
 module _ (s : Sizes) (scale : IsScale s) (writes : WriteSetView) (t : Database) (of_scale : t.scale ≡ s) (wf : IsWellFormed t)
     (sorted : IsStrictlySortedBy nat_cmp (keys_of writes.values)) (few : length writes.values ≤ MAX_WRITES)
-    (small : (n : ℕ) (value : Option (List ℕ)) → value_for writes n ≡ Some value → n < narrow_count s)
+    (small : (n : ℕ) (value : Option (List ℕ)) → value_for writes n ≡ Some value → n < record_count s)
+    (texts : (n : ℕ) (value : Option (List ℕ)) → value_for writes n ≡ Some value → narrow_count s ≤ n → IsRow data_words IsData value)
     (stands : (n : ℕ) (value : Option (List ℕ)) → value_for writes n ≡ Some value → rows t n ≡ value)
     (row : All (IsHistoryRow s) (added writes.history_row))
-    (absent : (n : ℕ) → n < narrow_count s → value_for writes n ≡ Some None → (k : OrderKey) × (key_of s n ≡ key.NewOrder k))
+    (absent : (n : ℕ) → n < record_count s → value_for writes n ≡ Some None → (k : OrderKey) × (key_of s n ≡ key.NewOrder k))
   where
-    value_written : (n : ℕ) (value : Option (List ℕ)) → value_for writes n ≡ Some value → is_value s (table_at s n) value ≡ true
+    -- a narrow record's columns, and a wide one's text
+    columns_written : (n : ℕ) (words : List ℕ) → value_for writes n ≡ Some (Some words) → n < narrow_count s
+        → is_value s (table_at s n) (value_as (has_text (table_at s n)) (Some words)) ≡ true
+    columns_written n words found below =
+        let none = narrow_holds_none s n below in
+        let within : are_within (ranges s (table_at s n)) words ≡ true =
+        subst (λ (z : Sizes). n < narrow_count z → are_within (ranges z (table_at z n)) words ≡ true) of_scale
+        (λ h. rows_within t wf (subst IsScale (sym of_scale) scale) n h words (stands n (Some words) found)) below in
+        ap (λ (b : Bool). is_value s (table_at s n) (value_as b (Some words))) none
+        ∙ and_from (not (has_text (table_at s n))) (are_within (ranges s (table_at s n)) words) (ap not none) within
+
+    text_written : (n : ℕ) (words : List ℕ) → value_for writes n ≡ Some (Some words) → narrow_count s ≤ n
+        → is_value s (table_at s n) (value_as (has_text (table_at s n)) (Some words)) ≡ true
+    text_written n words found wide =
+        let text = texts n (Some words) found wide in
+        ap (λ (u : Table). is_value s u (value_as (has_text u) (Some words))) (wide_is_text s n wide (small n (Some words) found))
+        ∙ ap is_data (text_in_words words text) ∙ data_lawful text.0 text.2
+
+    value_written : (n : ℕ) (value : Option (List ℕ)) → value_for writes n ≡ Some value
+        → is_value s (table_at s n) (value_as (has_text (table_at s n)) value) ≡ true
     value_written n None found =
         let key = absent n (small n None found) found in
         of_new_orders s (table_at s n) (place_at s n) key.0 key.1
-    value_written n (Some words) found =
-        subst (λ (z : Sizes). n < narrow_count z → are_within (ranges z (table_at z n)) words ≡ true) of_scale
-        (λ h. rows_within t wf (subst IsScale (sym of_scale) scale) n h words (stands n (Some words) found)) (small n (Some words) found)
+    value_written n (Some words) found = ⊎_elim (columns_written n words found) (text_written n words found) (cases_lt n (narrow_count s))
 
-    found_written : (e : Value) → value_for writes e.0 ≡ Some e.1 → is_write s (write_at s e) ≡ true
+    found_written : (e : Held) → value_for writes e.0 ≡ Some e.1 → is_write s (write_at s e) ≡ true
     found_written e found =
-        and_from (nat_lt (place_at s e.0) (places s (table_at s e.0))) (is_value s (table_at s e.0) e.1)
+        and_from (nat_lt (place_at s e.0) (places s (table_at s e.0))) (is_value s (table_at s e.0) (value_as (has_text (table_at s e.0)) e.1))
         (lt-ltb (place_at s e.0) (places s (table_at s e.0)) (place_within s e.0 (small e.0 e.1 found))) (value_written e.0 e.1 found)
 
     all_found : AllByRecursion (λ e. value_for writes e.0 ≡ Some e.1) writes.values
     all_found = recursion_from_All (λ e. value_for writes e.0 ≡ Some e.1) writes.values (each_found writes.values sorted)
 
-    each : (P : Value → Type 0) → ((e : Value) → value_for writes e.0 ≡ Some e.1 → P e) → (es : List Value)
+    each : (P : Held → Type 0) → ((e : Held) → value_for writes e.0 ≡ Some e.1 → P e) → (es : List Held)
         → AllByRecursion (λ e. value_for writes e.0 ≡ Some e.1) es → AllByRecursion P es
     each P so [] found = tt
     each P so (e ∷ es) found = (so e found.0, each P so es found.1)
@@ -251,5 +276,5 @@ module _ (s : Sizes) (scale : IsScale s) (writes : WriteSetView) (t : Database) 
         and_from (list_all (is_write s) ws) (rise_from 0 ws && nat_le (count_by (λ w. not (is_history w)) ws) MAX_WRITES)
         (each_may_be_written s scale writes (each (λ e. is_write s (write_at s e) ≡ true) found_written writes.values all_found) row)
         (and_from (rise_from 0 ws) (nat_le (count_by (λ w. not (is_history w)) ws) MAX_WRITES)
-        (writes_rise s scale writes sorted (each (λ e. e.0 < narrow_count s) (λ e found. small e.0 e.1 found) writes.values all_found))
+        (writes_rise s scale writes sorted (each (λ e. e.0 < record_count s) (λ e found. small e.0 e.1 found) writes.values all_found))
         (le-leb (count_by (λ w. not (is_history w)) ws) MAX_WRITES (omega (arith, few_records s scale writes, few))))

@@ -1,14 +1,14 @@
 -- The numbers of records rise by table and place.
-use Rattle.std.proofs.Common.{◌≡◌, ℕ, ◌+◌, ◌-◌, ◌*◌, ◌^◌, ◌<◌, ◌≤◌, Bool, cond, List, [], ◌∷◌, ◌++◌, sym, ap, subst, arith, rules}
+use Rattle.std.proofs.Common.{◌≡◌, ℕ, ◌+◌, ◌-◌, ◌*◌, ◌^◌, ◌<◌, ◌≤◌, Bool, false, cond, List, [], ◌∷◌, ◌++◌, refl, sym, ap, subst, arith, rules}
 use Rattle.std.proofs.Common.{not-suc-le-zero, ⊎_elim}
 use Rattle.std.specs.List.{AllByRecursion, sum_by}
 use Rattle.std.proofs.lemmas.Bool.{lt-ltb, le-ltb, cases_lt}
 use Rattle.std.proofs.lemmas.List.Sums.{sum_by-cons}
 use Rattle.tables.specs.Sizes.{Sizes, IsScale}
-use Rattle.tables.specs.Records.{tables, table_number, size, first_number, narrow_count, table_among, place_among, table_at, place_at}
+use Rattle.tables.specs.Records.{tables, table_number, size, first_number, narrow_count, record_count, table_among, place_among, table_at, place_at}
 use Rattle.tables.specs.declared.records.Table.{Table}
 use Rattle.tables.specs.declared.records.Table.TheVariants as table
-use Rattle.tables.proofs.Numbers.{narrow_among}
+use Rattle.log_text.specs.Columns.{has_text}
 use Rattle.log_text.specs.Writes.{places}
 use Rattle.log_text.proofs.Fitting.{few_places}
 
@@ -110,52 +110,72 @@ module _ (s : Sizes) where
       subst (λ p. least ≤ table_number p.0) (sym (there t (ts ++ us) n past))
       (further least (n - size s t) ts us r (omega arith) (less n t (ts ++ us) k past))
 
-  sizes_are_places : (t : Table) → table_number t ≤ 11 → size s t ≤ places s t
-  sizes_are_places table.Warehouse low = omega arith
-  sizes_are_places table.District low = omega arith
-  sizes_are_places table.Customer low = omega arith
-  sizes_are_places table.History low = omega arith
-  sizes_are_places table.NewOrder low = omega arith
-  sizes_are_places table.Order low = omega arith
-  sizes_are_places table.OrderLine low = omega arith
-  sizes_are_places table.Item low = omega arith
-  sizes_are_places table.Stock low = omega arith
-  sizes_are_places table.Oldest low = omega arith
-  sizes_are_places table.Last low = omega arith
-  sizes_are_places table.CustomerData low = absurd (omega (arith, low))
+  sizes_are_places : (t : Table) → size s t ≤ places s t
+  sizes_are_places table.Warehouse = omega arith
+  sizes_are_places table.District = omega arith
+  sizes_are_places table.Customer = omega arith
+  sizes_are_places table.History = omega arith
+  sizes_are_places table.NewOrder = omega arith
+  sizes_are_places table.Order = omega arith
+  sizes_are_places table.OrderLine = omega arith
+  sizes_are_places table.Item = omega arith
+  sizes_are_places table.Stock = omega arith
+  sizes_are_places table.Oldest = omega arith
+  sizes_are_places table.Last = omega arith
+  sizes_are_places table.CustomerData = omega arith
 
   few : IsScale s → (t : Table) → size s t < 256 ^ 4
-  few is table.Warehouse = omega (arith, sizes_are_places table.Warehouse (omega arith), few_places s is table.Warehouse)
-  few is table.District = omega (arith, sizes_are_places table.District (omega arith), few_places s is table.District)
-  few is table.Customer = omega (arith, sizes_are_places table.Customer (omega arith), few_places s is table.Customer)
-  few is table.History = omega (arith, sizes_are_places table.History (omega arith), few_places s is table.History)
-  few is table.NewOrder = omega (arith, sizes_are_places table.NewOrder (omega arith), few_places s is table.NewOrder)
-  few is table.Order = omega (arith, sizes_are_places table.Order (omega arith), few_places s is table.Order)
-  few is table.OrderLine = omega (arith, sizes_are_places table.OrderLine (omega arith), few_places s is table.OrderLine)
-  few is table.Item = omega (arith, sizes_are_places table.Item (omega arith), few_places s is table.Item)
-  few is table.Stock = omega (arith, sizes_are_places table.Stock (omega arith), few_places s is table.Stock)
-  few is table.Oldest = omega (arith, sizes_are_places table.Oldest (omega arith), few_places s is table.Oldest)
-  few is table.Last = omega (arith, sizes_are_places table.Last (omega arith), few_places s is table.Last)
-  few is table.CustomerData = omega (arith, few_places s is table.Last)
+  few is t = omega (arith, sizes_are_places t, few_places s is t)
 
-  -- the table of a narrow record
-  narrow_table : (n : ℕ) → n < narrow_count s → table_number (table_at s n) ≤ 11
-  narrow_table n h = in_front 11 n narrow (table.CustomerData ∷ []) low_narrow h
+  -- a narrow record holds no text, and a wide one does
+  without_text : (t : Table) → table_number t ≤ 11 → has_text t ≡ false
+  without_text table.Warehouse low = refl
+  without_text table.District low = refl
+  without_text table.Customer low = refl
+  without_text table.History low = refl
+  without_text table.NewOrder low = refl
+  without_text table.Order low = refl
+  without_text table.OrderLine low = refl
+  without_text table.Item low = refl
+  without_text table.Stock low = refl
+  without_text table.Oldest low = refl
+  without_text table.Last low = refl
+  without_text table.CustomerData low = absurd (omega (arith, low))
+
+  pub narrow_holds_none : (n : ℕ) → n < narrow_count s → has_text (table_at s n) ≡ false
+  narrow_holds_none n h = without_text (table_at s n) (in_front 11 n narrow (table.CustomerData ∷ []) low_narrow h)
+
+  with_text : (t : Table) → 12 ≤ table_number t → t ≡ table.CustomerData
+  with_text table.Warehouse high = absurd (omega (arith, high))
+  with_text table.District high = absurd (omega (arith, high))
+  with_text table.Customer high = absurd (omega (arith, high))
+  with_text table.History high = absurd (omega (arith, high))
+  with_text table.NewOrder high = absurd (omega (arith, high))
+  with_text table.Order high = absurd (omega (arith, high))
+  with_text table.OrderLine high = absurd (omega (arith, high))
+  with_text table.Item high = absurd (omega (arith, high))
+  with_text table.Stock high = absurd (omega (arith, high))
+  with_text table.Oldest high = absurd (omega (arith, high))
+  with_text table.Last high = absurd (omega (arith, high))
+  with_text table.CustomerData high = refl
+
+  pub wide_is_text : (n : ℕ) → narrow_count s ≤ n → n < record_count s → table_at s n ≡ table.CustomerData
+  wide_is_text n h k = with_text (table_at s n) (further 12 n narrow (table.CustomerData ∷ []) (omega arith, tt) h k)
 
   -- records rise by table and place
-  pub numbers_rise : IsScale s → (n m : ℕ) → n < m → m < narrow_count s → rank_of (at tables n) < rank_of (at tables m)
-  numbers_rise is n m h k = rises (λ t. omega (arith, few is t)) 1 n m tables rise h (narrow_among s m k)
+  pub numbers_rise : IsScale s → (n m : ℕ) → n < m → m < record_count s → rank_of (at tables n) < rank_of (at tables m)
+  numbers_rise is n m h k = rises (λ t. omega (arith, few is t)) 1 n m tables rise h k
 
   -- the place of a record is one of its table's
-  pub place_within : (n : ℕ) → n < narrow_count s → place_at s n < places s (table_at s n)
-  place_within n h = omega (arith, (placed 1 n tables rise (narrow_among s n h)).within, sizes_are_places (table_at s n) (narrow_table n h))
+  pub place_within : (n : ℕ) → n < record_count s → place_at s n < places s (table_at s n)
+  place_within n h = omega (arith, (placed 1 n tables rise h).within, sizes_are_places (table_at s n))
 
-  pub place_small : IsScale s → (n : ℕ) → n < narrow_count s → place_at s n < 2 ^ 32
+  pub place_small : IsScale s → (n : ℕ) → n < record_count s → place_at s n < 2 ^ 32
   place_small is n h = omega (arith, place_within n h, few_places s is (table_at s n))
 
   -- the records of WAREHOUSE, DISTRICT and CUSTOMER are those numbered below NEW-ORDER's
-  pub before_history : (n : ℕ) → n < narrow_count s → n < first_number s table.NewOrder → table_number (table_at s n) < 4
-  before_history n h k = omega (arith, in_front 4 n before behind low_before k, never (table_at s n) (placed 1 n tables rise (narrow_among s n h)).within)
+  pub before_history : (n : ℕ) → n < record_count s → n < first_number s table.NewOrder → table_number (table_at s n) < 4
+  before_history n h k = omega (arith, in_front 4 n before behind low_before k, never (table_at s n) (placed 1 n tables rise h).within)
     where
       never : (t : Table) → place_at s n < size s t → (table_number t ≡ 4 → ⊥)
       never table.Warehouse l e = omega (arith, e)
@@ -171,5 +191,5 @@ module _ (s : Sizes) where
       never table.Last l e = omega (arith, e)
       never table.CustomerData l e = omega (arith, e)
 
-  pub behind_history : (n : ℕ) → n < narrow_count s → first_number s table.NewOrder ≤ n → 4 < table_number (table_at s n)
-  behind_history n h k = further 5 n before behind rise_behind k (narrow_among s n h)
+  pub behind_history : (n : ℕ) → n < record_count s → first_number s table.NewOrder ≤ n → 4 < table_number (table_at s n)
+  behind_history n h k = further 5 n before behind rise_behind k h

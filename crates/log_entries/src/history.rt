@@ -2,7 +2,7 @@
 ghost use Rattle.std.specs.Prelude.{◌≡◌};
 ghost use Rattle.log_entries.specs.Logged.{history_words, history_write};
 
-use log_text::Write;
+use log_text::{Value, Write};
 use money::Payload;
 use tables::{History, Table, money_to_word};
 
@@ -28,6 +28,6 @@ pub(crate) fn history_write(row: &History) -> Write
     Write {
         table: Table::History,
         place: 0,
-        words: Some(history_words(row)),
+        value: Value::Columns(history_words(row)),
     }
 }

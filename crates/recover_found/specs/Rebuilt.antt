@@ -12,8 +12,10 @@ use Rattle.tables.specs.declared.records.Table.{Table}
 use Rattle.tables.specs.declared.records.Table.TheVariants as table
 use Rattle.encoding.specs.Held.{IsTableRecord, by_key, AreTables}
 use Rattle.log_text.specs.Entries.{EntryView}
-use Rattle.log_text.specs.Writes.{is_history}
+use Rattle.log_text.specs.Writes.{is_history, words_of}
 use Rattle.log_text.specs.declared.write.Write.{Write}
+use Rattle.log_text.specs.declared.write.Value.{Value}
+use Rattle.log_text.specs.declared.write.Value.TheVariants as value
 
 -- the number of the record that a write is of
 abbrev pub number_of : Sizes → Write → ℕ
@@ -25,7 +27,7 @@ pub record LeavesInRecord (s : Sizes) (e : EntryView) (n : ℕ) (value : Option 
   pub among : Contains e.writes write
   pub of_record : is_history write ≡ false
   pub number : number_of s write ≡ n
-  pub words : write.words ≡ value
+  pub words : words_of write ≡ value
 
 -- an entry is no newer than another: of a smaller TID, or of the same and of no greater commit number
 abbrev pub IsUpTo : EntryView → EntryView → Type 0
@@ -59,12 +61,12 @@ history_of_words words = record {
 }
 
 -- the rows that a write adds to HISTORY, and those that an entry adds
-abbrev pub rows_in : Table → Option (List ℕ) → List History
-rows_in table.History (Some words) = history_of_words words ∷ []
+abbrev pub rows_in : Table → Value → List History
+rows_in table.History (value.Columns words) = history_of_words words ∷ []
 rows_in _ _ = []
 
 abbrev pub added_by : EntryView → List History
-added_by e = flat_map (λ w. rows_in w.table w.words) e.writes
+added_by e = flat_map (λ w. rows_in w.table w.value) e.writes
 
 -- entries have the commit numbers from n on, in their order
 abbrev pub AreNumbered : ℕ → List EntryView → Type 0

@@ -9,6 +9,7 @@ use Rattle.tables.specs.declared.records.RecordKey.{RecordKey}
 use Rattle.tables.proofs.Numbers.{named, numbered}
 use Rattle.encoding.specs.Held.{by_key, AreTables}
 use Rattle.encoding.specs.Puts.{Puts}
+use Rattle.log_text.specs.Writes.{words_of_value}
 use Rattle.recover_newest.specs.Putting.{left_in}
 use Rattle.recover_newest.specs.declared.latest.Latest.{Latest}
 
@@ -55,7 +56,7 @@ module _ (known : ℕ → Option Latest) (first : ℕ → Option (List ℕ)) whe
   module _ (t0 : Database) where
     -- the next record is put, as its newest write left it
     pub next_put : (next : ℕ) (w : Latest) (old new : Database) → next < record_count t0.scale → known next ≡ Some w
-        → AreTables t0 (by_key t0.scale (put_below next known first)) old → Puts t0 (key_of t0.scale next) w.words old new
+        → AreTables t0 (by_key t0.scale (put_below next known first)) old → Puts t0 (key_of t0.scale next) (words_of_value w.value) old new
         → AreTables t0 (by_key t0.scale (put_below (next + 1) known first)) new
     next_put next w old new small is are puts =
         puts.tables (by_key s (put_below next known first)) (by_key s (put_below (next + 1) known first)) here others are
@@ -63,7 +64,7 @@ module _ (known : ℕ → Option Latest) (first : ℕ → Option (List ℕ)) whe
         s : Sizes
         s = t0.scale
 
-        here : put_below (next + 1) known first (number_of_key s (key_of s next)) ≡ w.words
+        here : put_below (next + 1) known first (number_of_key s (key_of s next)) ≡ words_of_value w.value
         here = ap (put_below (next + 1) known first) (numbered s next small).1 ∙ is_put (next + 1) next (omega arith)
             ∙ ap (λ o. left_in o (first next)) is
 

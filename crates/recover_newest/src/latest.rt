@@ -2,17 +2,17 @@
 ghost use Rattle.std.specs.Prelude.{◌≡◌};
 ghost use Rattle.recover_newest.specs.Latest.{is_older};
 
-use money::Payload;
+use log_text::Value;
 
 /// What an entry of a log file has left in a record, and of which commit it is.
-#[derive(Clone, Copy, Debug, PartialEq, Eq)]
+#[derive(Debug, Drop)]
 pub struct Latest {
     /// The commit's TID, without status bits.
     pub tid: u64,
     /// Its commit number, from 1.
     pub number: u64,
-    /// What it left, or None where it left the record absent.
-    pub words: Option<Payload>,
+    /// What it left.
+    pub value: Value,
 }
 
 impl Latest {

@@ -1,11 +1,14 @@
 //! The newest write of each record.
-ghost use Rattle.std.specs.Prelude.{◌≡◌, ◌<◌, ◌==◌, ℕ, Some, None, length, OnOk, OnErr, IfOk, if◌then◌else◌};
+ghost use Rattle.std.specs.Prelude.{◌≡◌, ◌≢◌, ◌<◌, ◌==◌, ℕ, Some, None, length, OnOk, OnErr, IfOk, if◌then◌else◌};
+ghost use Rattle.std.specs.Option.{option_map};
 ghost use Rattle.recover_newest.specs.Latest.{newer, joined};
 ghost use Rattle.recover_newest.specs.Known.{known};
 
 use crate::latest::Latest;
+use log_text::Value;
 use std::alloc::{AllocError, Global};
 use std::marker::Model;
+use std::mem;
 
 /// The newest writes of records, as far as writes were looked at: a list of them, and of each record its place there.
 /// It takes 4 bytes for each record that it was made for, and a write for each record that was written.
@@ -47,15 +50,34 @@ impl Newest {
     }
 
     /// The newest write of a record, if one is known. Constant time.
-    pub fn get(&self, number: usize) -> Option<Latest>
+    pub fn get(&self, number: usize) -> Option<&Latest>
         requires { number < length self.now.places }
-        ensures { result ≡ known self.now number }
+        ensures { option_map (λ write. write.now) result ≡ known self.now number }
     {
         let place = self.places[number];
         if place == 0 {
             return None;
         }
-        Some(self.writes[place as usize - 1])
+        Some(&self.writes[place as usize - 1])
+    }
+
+    /// Moves the newest write of a record out, if one is known. Nothing is said of what is then known of that record.
+    fn take(&mut self, number: usize) -> Option<Latest>
+        requires { number < length self.old.places }
+        ensures taken { result ≡ known self.old number }
+        ensures others { (n : ℕ) → n ≢ number → known self.new n ≡ known self.old n }
+        ensures records { length self.new.places ≡ length self.old.places }
+    {
+        let place = self.places[number];
+        if place == 0 {
+            return None;
+        }
+        let left = Latest {
+            tid: 0,
+            number: 0,
+            value: Value::Absent,
+        };
+        Some(mem::replace(&mut self.writes[place as usize - 1], left))
     }
 
     /// Keeps a write of the record of this number, where none is known yet that is newer or as new. Constant time;
@@ -69,11 +91,7 @@ impl Newest {
     {
         let place = self.places[number];
         if place != 0 {
-            let at = place as usize - 1;
-            let known = self.writes[at];
-            if known.is_older(&write) {
-                self.writes[at] = write;
-            }
+            keep_newer(&mut self.writes[place as usize - 1], write);
             return Ok(());
         }
         // A place takes 4 bytes.
@@ -85,17 +103,27 @@ impl Newest {
         Ok(())
     }
 
-    /// Keeps of each record the newer of what either has of it. One pass over the records.
-    pub fn merge(&mut self, other: &Newest) -> Result<(), AllocError>
-        requires { length other.now.places ≡ length self.old.places }
+    /// Keeps of each record the newer of what either has of it. One pass over the records; no write is copied.
+    pub fn merge(&mut self, other: Newest) -> Result<(), AllocError>
+        requires { length other.places ≡ length self.old.places }
         ensures records { length self.new.places ≡ length self.old.places }
-        ensures merged { OnOk result ((n : ℕ) → known self.new n ≡ joined (known self.old n) (known other.now n)) }
+        ensures merged { OnOk result ((n : ℕ) → known self.new n ≡ joined (known self.old n) (known other n)) }
     {
-        for number in 0..other.places.len() {
-            if let Some(write) = other.get(number) {
+        let mut rest = other;
+        for number in 0..rest.places.len() {
+            if let Some(write) = rest.take(number) {
                 self.raise(number, write)?;
             }
         }
         Ok(())
+    }
+}
+
+/// Keeps the newer of two writes of a record: the second where the first is older.
+fn keep_newer(known: &mut Latest, write: Latest)
+    ensures { known.new ≡ newer (Some known.old) write }
+{
+    if known.is_older(&write) {
+        *known = write;
     }
 }

@@ -17,20 +17,10 @@ use Rattle.log_entries.proofs.batches.put_entries.Goals as goal
 split : (xs : List (Arc Entry Global)) (i : ℕ) (x : Arc Entry Global) → i < length xs → x ≡ get_or xs i x → drop i xs ≡ x ∷ drop (i + 1) xs
 split xs i x lt is = at_drop_more (λ (l : List (Arc Entry Global)). l) xs i x lt ∙ (λ j. sym is j ∷ drop (i + 1) xs)
 
-pub put_entry-requires-clause-count : goal.put_entry-requires-clause-count
-put_entry-requires-clause-count c =
-    (loggable_at c.args.scale.now c.args.entries.now c.requires c.loop-entry.entry-index c.entry-item.result c.deref.result.now
-    c.loop-entry-test.true c.entry-item.is c.deref.ensures).limit
-
-pub put_entry-requires-clause-numbers : goal.put_entry-requires-clause-numbers
-put_entry-requires-clause-numbers c =
-    (loggable_at c.args.scale.now c.args.entries.now c.requires c.loop-entry.entry-index c.entry-item.result c.deref.result.now
-    c.loop-entry-test.true c.entry-item.is c.deref.ensures).records
-
-pub put_entry-requires-clause-narrow : goal.put_entry-requires-clause-narrow
-put_entry-requires-clause-narrow c =
-    (loggable_at c.args.scale.now c.args.entries.now c.requires c.loop-entry.entry-index c.entry-item.result c.deref.result.now
-    c.loop-entry-test.true c.entry-item.is c.deref.ensures).narrow
+pub put_entry-requires : goal.put_entry-requires
+put_entry-requires c =
+    loggable_at c.args.scale.now c.args.entries.now c.requires c.loop-entry.entry-index c.entry-item.result c.deref.result.now
+    c.loop-entry-test.true c.entry-item.is c.deref.ensures
 
 pub loop-entry-preserved : goal.loop-entry-preserved
 loop-entry-preserved c =

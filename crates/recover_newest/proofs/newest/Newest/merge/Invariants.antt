@@ -7,6 +7,8 @@ use Rattle.recover_newest.proofs.newest.Newest.merge.Given as goal
 abbrev pub invariant-loop-number : goal.invariant-loop-number
 invariant-loop-number l = record {
   records : length l.self.places ≡ length l.fn.self.places;
-  merged : (n : ℕ) → n < l.number → known l.self n ≡ joined (known l.fn.self n) (known l.other n);
+  merged : (n : ℕ) → n < l.number → known l.self n ≡ joined (known l.fn.self n) (known l.fn.other n);
   left : (n : ℕ) → l.number ≤ n → known l.self n ≡ known l.fn.self n;
+  others : length l.rest.places ≡ length l.fn.other.places;
+  untaken : (n : ℕ) → l.number ≤ n → known l.rest n ≡ known l.fn.other n;
 }
