@@ -14,16 +14,18 @@ use Rattle.tables.specs.declared.records.Table.TheVariants as table
 use Rattle.tables.specs.declared.rows.History.{History}
 use Rattle.log_text.specs.Writes.{places, rank, is_history, is_value, is_write, rise_from, are_writes}
 use Rattle.log_text.specs.declared.write.Write.{Write}
+use Rattle.log_text.specs.declared.write.Value.{Value}
+use Rattle.log_text.specs.declared.write.Value.TheVariants.{Absent, Columns, Text}
 use Rattle.log_text.proofs.Fitting.{and_split}
 use Rattle.recover_found.specs.Rebuilt.{history_of_words, rows_in}
 use Rattle.recover_files.specs.Parts.{row_added}
 
 abbrev pub rows_of : Write → List History
-rows_of w = rows_in w.table w.words
+rows_of w = rows_in w.table w.value
 
 -- the first write that adds a row
 pub first_row : (writes : List Write) (i : ℕ) (d : Write) (words : List ℕ) → i < length writes → flat_map rows_of (take i writes) ≡ []
-    → (get_or writes i d).table ≡ table.History → (get_or writes i d).words ≡ Some words → row_added writes ≡ Some (history_of_words words)
+    → (get_or writes i d).table ≡ table.History → (get_or writes i d).value ≡ Columns words → row_added writes ≡ Some (history_of_words words)
 first_row writes i d words less none of some =
     let w : Write = get_or writes i d in
     let parts : take i writes ++ w ∷ drop (i + 1) writes ≡ writes = rw (add-one, sym (drop-cons writes i d less)) (take-append-drop i writes) in
@@ -34,7 +36,7 @@ first_row writes i d words less none of some =
     ap (λ (l : List History). slice_get l 0) all
 
 -- only writes of HISTORY add rows
-none_beside : (t : Table) (o : Option (List ℕ)) → (table_number t == 4) ≡ false → rows_in t o ≡ []
+none_beside : (t : Table) (o : Value) → (table_number t == 4) ≡ false → rows_in t o ≡ []
 none_beside table.Warehouse o h = refl
 none_beside table.District o h = refl
 none_beside table.Customer o h = refl
@@ -49,9 +51,10 @@ none_beside table.Last o h = refl
 none_beside table.CustomerData o h = refl
 
 -- and each of these adds one at most
-one_at_most : (t : Table) (o : Option (List ℕ)) → rows_in t o ≡ option_to_list (slice_get (rows_in t o) 0)
-one_at_most table.History (Some words) = refl
-one_at_most table.History None = refl
+one_at_most : (t : Table) (o : Value) → rows_in t o ≡ option_to_list (slice_get (rows_in t o) 0)
+one_at_most table.History (Columns words) = refl
+one_at_most table.History Absent = refl
+one_at_most table.History (Text text) = refl
 one_at_most table.Warehouse o = refl
 one_at_most table.District o = refl
 one_at_most table.Customer o = refl
@@ -83,7 +86,7 @@ module _ (s : Sizes) where
   -- the rank of a write of HISTORY
   of_history : (w : Write) → is_write s w ≡ true → is_history w ≡ true → rank w ≡ 4 * 2 ^ 32
   of_history w is h =
-      let place : w.place ≡ 0 = at_place_0 s w.table w.place h (and_split (nat_lt w.place (places s w.table)) (is_value s w.table w.words) is).0 in
+      let place : w.place ≡ 0 = at_place_0 s w.table w.place h (and_split (nat_lt w.place (places s w.table)) (is_value s w.table w.value) is).0 in
       let number : table_number w.table ≡ 4 = grind (arith, nat_tests) in
       (λ i. number i * 2 ^ 32 + place i)
 
@@ -99,7 +102,7 @@ module _ (s : Sizes) where
         | false ↦ λ f. f
       ] refl in
       flat_map-cons rows_of w ws
-      ∙ (λ j. none_beside w.table w.words other j ++ none_later (rank w + 1) ws (omega (arith, high, more)) each.1 up.1 j)
+      ∙ (λ j. none_beside w.table w.value other j ++ none_later (rank w + 1) ws (omega (arith, high, more)) each.1 up.1 j)
 
   one_in : (least : ℕ) (ws : List Write) → list_all (is_write s) ws ≡ true → rise_from least ws ≡ true → flat_map rows_of ws ≡ option_to_list (row_added ws)
   one_in least [] are rise = refl
@@ -111,10 +114,10 @@ module _ (s : Sizes) where
             let rest = none_later (rank w + 1) ws (omega (arith, of_history w each.0 t)) each.1 up.1 in
             let whole : flat_map rows_of (w ∷ ws) ≡ rows_of w
             = flat_map-cons rows_of w ws ∙ ap (λ l. rows_of w ++ l) rest ∙ Rattle.std.proofs.Common.append-nil (rows_of w) in
-            whole ∙ one_at_most w.table w.words ∙ sym (ap (λ (l : List History). option_to_list (slice_get l 0)) whole)
+            whole ∙ one_at_most w.table w.value ∙ sym (ap (λ (l : List History). option_to_list (slice_get l 0)) whole)
         | false ↦ λ f.
             let whole : flat_map rows_of (w ∷ ws) ≡ flat_map rows_of ws
-            = flat_map-cons rows_of w ws ∙ ap (λ l. l ++ flat_map rows_of ws) (none_beside w.table w.words f) in
+            = flat_map-cons rows_of w ws ∙ ap (λ l. l ++ flat_map rows_of ws) (none_beside w.table w.value f) in
             whole ∙ one_in (rank w + 1) ws each.1 up.1 ∙ sym (ap (λ (l : List History). option_to_list (slice_get l 0)) whole)
       ] refl
 

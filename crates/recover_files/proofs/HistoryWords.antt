@@ -1,5 +1,5 @@
 -- The words of a lawful write of HISTORY, and the row that they are.
-use Rattle.std.proofs.Common.{◌≡◌, ℕ, ◌<◌, lit<, true, List, Some, slice_index, get_or, length, subst}
+use Rattle.std.proofs.Common.{◌≡◌, ℕ, ◌<◌, lit<, true, List, slice_index, get_or, length, subst}
 use Rattle.std.specs.Prelude.{nat_lt}
 use Rattle.std.proofs.lemmas.List.Elements.{Contains-get_or}
 use Rattle.tables.specs.Sizes.{Sizes}
@@ -9,6 +9,7 @@ use Rattle.tables.specs.declared.records.Table.TheVariants as table
 use Rattle.log_text.specs.Columns.{ranges, are_within}
 use Rattle.log_text.specs.Writes.{places, is_value, are_writes}
 use Rattle.log_text.specs.declared.write.Write.{Write}
+use Rattle.log_text.specs.declared.write.Value.TheVariants.{Columns}
 use Rattle.log_text.proofs.Fitting.{and_split}
 use Rattle.recover_found.specs.Rebuilt.{history_of_words}
 use Rattle.recover_files.proofs.LawfulWrites.{each_lawful}
@@ -32,9 +33,9 @@ module _ (s : Sizes) (words : List ℕ) (e : are_within (ranges s table.History)
 
 -- what a lawful write of HISTORY adds is within its ranges
 pub history_row : (s : Sizes) (writes : List Write) (i : ℕ) (d : Write) (words : List ℕ) → are_writes s writes ≡ true → i < length writes
-    → (get_or writes i d).table ≡ table.History → (get_or writes i d).words ≡ Some words → IsHistoryRow s (history_of_words words)
+    → (get_or writes i d).table ≡ table.History → (get_or writes i d).value ≡ Columns words → IsHistoryRow s (history_of_words words)
 history_row s writes i d words lawful less of some =
     let w = get_or writes i d in
     let write = each_lawful s writes lawful w (Contains-get_or writes i d less) in
-    let value : is_value s w.table w.words ≡ true = (and_split (nat_lt w.place (places s w.table)) (is_value s w.table w.words) write).1 in
-    row_in_ranges s words (subst (λ o. is_value s table.History o ≡ true) some (subst (λ t. is_value s t w.words ≡ true) of value))
+    let value : is_value s w.table w.value ≡ true = (and_split (nat_lt w.place (places s w.table)) (is_value s w.table w.value) write).1 in
+    row_in_ranges s words (subst (λ o. is_value s table.History o ≡ true) some (subst (λ t. is_value s t w.value ≡ true) of value))

@@ -52,6 +52,7 @@ module _ (s : Sizes) (n : ℕ) where
       leaves = a.newest.leaves;
       newest = λ d other h l. ⊎_elim (λ k. a.newest.newest d other k l) (λ k. absurd (none d other k l)) (either_of es fs d h);
     };
+    value = a.value;
     tid = a.tid;
     number = a.number;
   }
@@ -64,6 +65,7 @@ module _ (s : Sizes) (n : ℕ) where
       leaves = b.newest.leaves;
       newest = λ d other h l. ⊎_elim (λ k. absurd (none d other k l)) (λ k. b.newest.newest d other k l) (either_of es fs d h);
     };
+    value = b.value;
     tid = b.tid;
     number = b.number;
   }
@@ -77,6 +79,7 @@ module _ (s : Sizes) (n : ℕ) where
       newest = λ d other at l. ⊎_elim (λ k. no_newer_than d a.newest.entry b.newest.entry (a.newest.newest d other k l) later)
           (λ k. b.newest.newest d other k l) (either_of es fs d at);
     };
+    value = b.value;
     tid = b.tid;
     number = b.number;
   }
@@ -93,6 +96,7 @@ module _ (s : Sizes) (n : ℕ) where
       newest = λ d other at l. ⊎_elim (λ k. a.newest.newest d other k l)
           (λ k. no_newer_than d b.newest.entry a.newest.entry (b.newest.newest d other k l) later) (either_of es fs d at);
     };
+    value = a.value;
     tid = a.tid;
     number = a.number;
   }
@@ -117,7 +121,7 @@ module _ (s : Sizes) (n : ℕ) where
 -- the writes of one entry, one after another
 module _ (s : Sizes) (n : ℕ) (e : EntryView) where
   abbrev latest_of : Write → Latest
-  latest_of w = record { tid = e.tid; number = e.number; words = w.words }
+  latest_of w = record { tid = e.tid; number = e.number; value = w.value }
 
   abbrev raised : Option Latest → Write → Option Latest
   raised = raised_by s e.tid e.number n
@@ -209,6 +213,7 @@ module _ (s : Sizes) (n : ℕ) (e : EntryView) where
       leaves = record { write = w; among = has_to e.writes w h; of_record = is.0; number = is.1; words = refl };
       newest = λ d other at l. subst (λ (x : EntryView). IsUpTo x e) (only d at) (inr (refl, omega arith));
     };
+    value = refl;
     tid = refl;
     number = refl;
   }

@@ -8,7 +8,7 @@ use Rattle.std.proofs.lemmas.List.Elements.{All-nil, All-append, All-contains, A
 use Rattle.tables.specs.Sizes.{Sizes}
 use Rattle.log_header.specs.Header.{HeaderView}
 use Rattle.log_text.specs.Entries.{EntryView}
-use Rattle.log_text.specs.Writes.{are_writes}
+use Rattle.log_text.specs.Writes.{are_of_version, are_writes}
 use Rattle.log_text.specs.Bodies.{BodyView, Entries, Void, entries_in, is_next, is_timed, is_asked, is_entry, behind, entries_after, marked, body_after}
 use Rattle.log_text.specs.Bodies.{bodies_after, start}
 use Rattle.log_text.specs.File.{IsFile}
@@ -57,8 +57,10 @@ HasLawful s e = are_writes s e.writes ≡ true
 
 entry_lawful : (h : HeaderView) (mark number : ℕ) (last : Last) (e : EntryView) → is_entry h mark number last e ≡ true → HasLawful h.scale e
 entry_lawful h mark number last e lawful =
-    let halves = and_split (is_next h number e.number && is_timed mark last e.tid) (is_asked h e.terminal && are_writes h.scale e.writes) lawful in
-    (and_split (is_asked h e.terminal) (are_writes h.scale e.writes) halves.1).1
+    let halves = and_split (is_next h number e.number && is_timed mark last e.tid) 
+    (is_asked h e.terminal && (are_writes h.scale e.writes && are_of_version h.version e.writes)) lawful in
+    (and_split (are_writes h.scale e.writes) (are_of_version h.version e.writes)
+    (and_split (is_asked h e.terminal) (are_writes h.scale e.writes && are_of_version h.version e.writes) halves.1).1).0
 
 -- the entries of a log file
 pub lawful_entries : (file : List ℕ) (h : HeaderView) (bodies : List BodyView) → IsFile file h bodies → (e : EntryView) → Contains (entries_of bodies) e
@@ -71,7 +73,8 @@ IsPositive e = 1 ≤ e.number
 
 entry_positive : (h : HeaderView) (mark number : ℕ) (last : Last) (e : EntryView) → is_entry h mark number last e ≡ true → IsPositive e
 entry_positive h mark number last e lawful =
-    let halves = and_split (is_next h number e.number && is_timed mark last e.tid) (is_asked h e.terminal && are_writes h.scale e.writes) lawful in
+    let halves = and_split (is_next h number e.number && is_timed mark last e.tid) 
+    (is_asked h e.terminal && (are_writes h.scale e.writes && are_of_version h.version e.writes)) lawful in
     let next = and_split (is_next h number e.number) (is_timed mark last e.tid) halves.0 in
     let above = and_split (nat_lt number e.number) (nat_le e.number h.scale.commits) next.0 in
     omega (arith, ltb-true number e.number above.0)
@@ -86,7 +89,7 @@ IsWithinCap cap e = e.number ≤ cap
 entry_within_cap : (h : HeaderView) (mark number : ℕ) (last : Last) (e : EntryView)
     → is_entry h mark number last e ≡ true → IsWithinCap h.scale.commits e
 entry_within_cap h mark number last e lawful =
-    let asked = is_asked h e.terminal && are_writes h.scale e.writes in
+    let asked = is_asked h e.terminal && (are_writes h.scale e.writes && are_of_version h.version e.writes) in
     let halves = and_split (is_next h number e.number && is_timed mark last e.tid) asked lawful in
     let next = and_split (is_next h number e.number) (is_timed mark last e.tid) halves.0 in
     leb-true e.number h.scale.commits (and_split (nat_lt number e.number) (nat_le e.number h.scale.commits) next.0).1

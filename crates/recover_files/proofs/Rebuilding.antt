@@ -13,7 +13,7 @@ use Rattle.tables.specs.declared.rows.History.{History}
 use Rattle.tables.specs.declared.records.RecordKey.{RecordKey}
 use Rattle.encoding.specs.Held.{IsTableRecord, by_key, AreTables}
 use Rattle.log_text.specs.Entries.{EntryView}
-use Rattle.log_text.specs.Writes.{are_writes}
+use Rattle.log_text.specs.Writes.{are_writes, words_of_value}
 use Rattle.recover_found.specs.Rebuilt.{LeavesInRecord, IsNewest, AreLeft, AreNumbered, IsRebuilt, added_by}
 use Rattle.recover_newest.specs.Known.{known}
 use Rattle.recover_newest.specs.Putting.{MayPut, left_in}
@@ -22,20 +22,23 @@ use Rattle.recover_files.specs.Parts.{IsLatest, IsKnown, IsPart, HaveLawfulWrite
 use Rattle.recover_files.specs.declared.numbering.Commit.{Commit}
 use Rattle.recover_files.specs.declared.part.Part.{Part}
 use Rattle.recover_files.proofs.HistoryRows.{one_row}
-use Rattle.recover_files.proofs.LawfulWrites.{left_may_hold, left_none}
+use Rattle.recover_files.proofs.LawfulWrites.{left_may_hold, left_columns, left_text, left_none}
 
 -- what a part knows may be put into tables
 pub may_put : (s : Sizes) (es : List EntryView) (p : Part) → IsPart s es p → HaveLawfulWrites s es → (n : ℕ) (w : Latest) → known p.newest n ≡ Some w
-    → MayPut s n w.words
+    → MayPut s n w.value
 may_put s es p part lawful n w is =
     let latest : IsLatest s es n w = subst (IsKnown s es n) is (part.known n) in
     let e : EntryView = latest.newest.entry in
     let writes : are_writes s e.writes ≡ true = All-contains (λ (d : EntryView). are_writes s d.writes ≡ true) es e lawful latest.newest.among in
-    let held = left_may_hold s e writes n w.words latest.newest.leaves in
+    let left = latest.newest.leaves in
+    let held = left_may_hold s e writes n (words_of_value w.value) left in
     record {
       number = held.0;
       may_hold = held.1;
-      taken_out = λ none. left_none s e writes n (subst (LeavesInRecord s e n) none latest.newest.leaves);
+      columns = λ words is. left_columns s e writes n (words_of_value w.value) left words (latest.value ∙ is);
+      text = λ text is. left_text s e writes n (words_of_value w.value) left text (latest.value ∙ is);
+      taken_out = λ none. left_none s e writes n (subst (LeavesInRecord s e n) (ap words_of_value none) left);
     }
 
 -- the rows of HISTORY that are kept of entries are those that the entries add

@@ -2,12 +2,12 @@
 use Rattle.std.specs.Prelude.{◌≡◌, ℕ, ◌==◌, true, Option, Some, None, if◌then◌else◌, List, length, map, flat_map}
 use Rattle.std.specs.Prelude.{slice_get}
 use Rattle.std.specs.List.{All}
-use Rattle.tables.specs.Records.{narrow_count}
+use Rattle.tables.specs.Records.{record_count}
 use Rattle.tables.specs.Sizes.{Sizes}
 use Rattle.tables.specs.declared.rows.History.{History}
 use Rattle.log_text.specs.Bodies.{BodyView}
 use Rattle.log_text.specs.Entries.{EntryView}
-use Rattle.log_text.specs.Writes.{is_history, are_writes}
+use Rattle.log_text.specs.Writes.{is_history, are_writes, words_of_value}
 use Rattle.log_text.specs.declared.write.Write.{Write}
 use Rattle.recover_found.specs.Found.{durable_of, found}
 use Rattle.recover_found.specs.Rebuilt.{number_of, rows_in, IsNewest, IsUnwritten}
@@ -19,7 +19,8 @@ use Rattle.recover_files.specs.declared.part.Part.{Part}
 
 -- the newest of the entries that write a record, and what it leaves there
 pub record IsLatest (s : Sizes) (es : List EntryView) (n : ℕ) (w : Latest) : Type 0 where
-  pub newest : IsNewest s es n w.words
+  pub newest : IsNewest s es n (words_of_value w.value)
+  pub value : newest.leaves.write.value ≡ w.value
   pub tid : newest.entry.tid ≡ w.tid
   pub number : newest.entry.number ≡ w.number
 
@@ -30,15 +31,15 @@ IsKnown s es n (Some w) = IsLatest s es n w
 
 -- the row that writes add to HISTORY: the first, and lawful ones have no other
 abbrev pub row_added : List Write → Option History
-row_added writes = slice_get (flat_map (λ w. rows_in w.table w.words) writes) 0
+row_added writes = slice_get (flat_map (λ w. rows_in w.table w.value) writes) 0
 
 -- what is kept of an entry beside its writes
 abbrev pub commit_of : EntryView → Commit
 commit_of e = record { number = e.number; row = row_added e.writes }
 
--- a part knows of each narrow record of the scale what these entries say, and has what is kept of each
+-- a part knows of each record of the scale what these entries say, and has what is kept of each
 pub record IsPart (s : Sizes) (es : List EntryView) (p : Part) : Type 0 where
-  pub records : length p.newest.places ≡ narrow_count s
+  pub records : length p.newest.places ≡ record_count s
   pub known : (n : ℕ) → IsKnown s es n (known_of p.newest n)
   pub commits : p.commits.items ≡ map commit_of es
 
@@ -55,4 +56,4 @@ pub record IsMerged (s : Sizes) (files : List (List BodyView)) (durable : ℕ) (
 -- what is known of record n once a write of a commit was looked at
 abbrev pub raised_by : Sizes → ℕ → ℕ → ℕ → Option Latest → Write → Option Latest
 raised_by s tid number n known w = if is_history w then known else
-    (if n == number_of s w then Some (newer known (record { tid = tid; number = number; words = w.words })) else known)
+    (if n == number_of s w then Some (newer known (record { tid = tid; number = number; value = w.value })) else known)

@@ -9,7 +9,7 @@ ghost use Rattle.recover_found.specs.Rebuilt.{history_of_words as row_of};
 ghost use Rattle.recover_files.specs.Parts.{row_added};
 
 use crate::numbering::Commit;
-use log_text::Write;
+use log_text::{Value, Write};
 use money::Payload;
 use rows::column::{H_AMOUNT, H_C_D_ID, H_C_ID, H_C_W_ID, H_D_ID, H_DATE, H_W_ID};
 use std::alloc::AllocError;
@@ -37,7 +37,7 @@ pub fn added_row(writes: &[Write]) -> Option<History>
     ensures { result ≡ row_added writes.now }
 {
     for write in writes {
-        if let (Table::History, Some(words)) = (write.table, &write.words) {
+        if let (Table::History, Value::Columns(words)) = (write.table, &write.value) {
             return Some(history_of(words));
         }
     }

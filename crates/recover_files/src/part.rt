@@ -1,10 +1,10 @@
 //! What a part of the entries of log files says.
 ghost use Rattle.std.specs.Prelude.{◌≡◌, true, [], ◌∷◌, ◌++◌, List, length, map, filter, fold, IfOk, OnOk, ℕ};
-ghost use Rattle.tables.specs.Records.{narrow_count as count_of_narrow};
+ghost use Rattle.tables.specs.Records.{record_count as count_of_records};
 ghost use Rattle.tables.specs.Sizes.{Sizes, IsScale};
 ghost use Rattle.log_text.specs.Bodies.{body_of, entries_in};
 ghost use Rattle.log_text.specs.Entries.{EntryView, logged};
-ghost use Rattle.log_text.specs.Writes.{are_writes};
+ghost use Rattle.log_text.specs.Writes.{are_writes, is_write};
 ghost use Rattle.tidword.specs.TidWord.{epoch_of};
 ghost use Rattle.recover_found.specs.Found.{counts_by, counted, entries_of};
 ghost use Rattle.recover_newest.specs.Known.{known};
@@ -12,16 +12,16 @@ ghost use Rattle.recover_files.specs.Parts.{IsPart, HaveLawfulWrites, raised_by}
 
 use crate::history::added_row;
 use crate::numbering::Commit;
-use log_text::{Body, LoggedEntry};
+use log_text::{Body, LoggedEntry, Write};
 use recover_found::Keeps;
 use recover_newest::{Latest, Newest};
 use recover_progress::Progress;
 use std::alloc::{AllocError, Global};
-use tables::{Scale, Table, narrow_count, rec};
+use tables::{Scale, Table, rec, record_count};
 
 /// What entries of log files say: of each record what the newest of those that write it has left there, and of each
-/// entry its commit number and its row of HISTORY. Takes 4 bytes for each narrow record of the scale; the rest goes by what
-/// was written.
+/// entry its commit number and its row of HISTORY. Takes 4 bytes for each record of the scale; the rest goes by what was
+/// written.
 #[derive(Drop)]
 pub struct Part {
     pub newest: Newest,
@@ -33,7 +33,7 @@ impl Part {
     pub fn new(alloc: Global, scale: &Scale) -> Result<Part, AllocError>
         ensures { IfOk result (λ part. IsPart scale.now [] part) }
     {
-        let newest = Newest::new(alloc, narrow_count(scale) as usize)?;
+        let newest = Newest::new(alloc, record_count(scale) as usize)?;
         Ok(Part {
             newest,
             commits: Vec::new(alloc),
@@ -71,7 +71,7 @@ impl Part {
     ) -> Result<(), AllocError>
         requires scale { IsScale scale.now }
         requires lawful { HaveLawfulWrites scale.now (entries_in (body_of body)) }
-        requires records { length self.old.newest.places ≡ count_of_narrow scale.now }
+        requires records { length self.old.newest.places ≡ count_of_records scale.now }
         ensures part { OnOk result ((es : List EntryView) → IsPart scale.now es self.old → IsPart scale.now
             (es ++ filter (λ e. counts_by keeps.now (epoch_of e.tid)) (entries_in (body_of body))) self.new) }
         ensures records { length self.new.newest.places ≡ length self.old.newest.places }
@@ -92,7 +92,7 @@ impl Part {
     ) -> Result<(), AllocError>
         requires scale { IsScale scale.now }
         requires lawful { HaveLawfulWrites scale.now (map logged entries.items) }
-        requires records { length self.old.newest.places ≡ count_of_narrow scale.now }
+        requires records { length self.old.newest.places ≡ count_of_records scale.now }
         ensures part { OnOk result ((es : List EntryView) → IsPart scale.now es self.old
             → IsPart scale.now (es ++ filter (λ e. counts_by keeps.now (epoch_of e.tid))
             (map logged entries.items)) self.new) }
@@ -100,28 +100,47 @@ impl Part {
     {
         let count = entries.len();
         for entry in entries {
-            if is_counted(&entry, keeps) {
-                self.add(scale, &entry)?;
-            }
+            self.look_at(scale, entry, keeps)?;
         }
         progress.note_entries(count);
         Ok(())
     }
 
-    /// Looks at one entry more.
-    fn add(&mut self, scale: &Scale, entry: &LoggedEntry) -> Result<(), AllocError>
+    /// Looks at an entry, if it counts.
+    fn look_at(
+        &mut self,
+        scale: &Scale,
+        entry: LoggedEntry,
+        keeps: &Keeps,
+    ) -> Result<(), AllocError>
         requires scale { IsScale scale.now }
-        requires lawful { are_writes scale.now entry.now.writes.items ≡ true }
-        requires records { length self.old.newest.places ≡ count_of_narrow scale.now }
+        requires lawful { are_writes scale.now entry.writes.items ≡ true }
+        requires records { length self.old.newest.places ≡ count_of_records scale.now }
         ensures part { OnOk result ((es : List EntryView) → IsPart scale.now es self.old
-            → IsPart scale.now (es ++ logged entry.now ∷ []) self.new) }
+            → IsPart scale.now (es ++ filter (λ e. counts_by keeps.now (epoch_of e.tid)) (logged entry ∷ [])) self.new) }
         ensures records { length self.new.newest.places ≡ length self.old.newest.places }
     {
-        raise_all(&mut self.newest, scale, entry)?;
-        self.commits.push(Commit {
+        if !is_counted(&entry, keeps) {
+            return Ok(());
+        }
+        self.add(scale, entry)
+    }
+
+    /// Looks at one entry more.
+    fn add(&mut self, scale: &Scale, entry: LoggedEntry) -> Result<(), AllocError>
+        requires scale { IsScale scale.now }
+        requires lawful { are_writes scale.now entry.writes.items ≡ true }
+        requires records { length self.old.newest.places ≡ count_of_records scale.now }
+        ensures part { OnOk result ((es : List EntryView) → IsPart scale.now es self.old
+            → IsPart scale.now (es ++ logged entry ∷ []) self.new) }
+        ensures records { length self.new.newest.places ≡ length self.old.newest.places }
+    {
+        let commit = Commit {
             number: entry.number,
             row: added_row(&entry.writes),
-        })?;
+        };
+        raise_all(&mut self.newest, scale, entry)?;
+        self.commits.push(commit)?;
         Ok(())
     }
 
@@ -137,8 +156,8 @@ impl Part {
             *self = other;
             return Ok(());
         }
-        self.newest.merge(&other.newest)?;
-        let mut commits = other.commits;
+        let Part { newest, mut commits } = other;
+        self.newest.merge(newest)?;
         self.commits.append(&mut commits)?;
         Ok(())
     }
@@ -152,23 +171,38 @@ fn is_counted(entry: &LoggedEntry, keeps: &Keeps) -> bool
 }
 
 /// Keeps each write of an entry that is newer than what is known of its record. Rows of HISTORY have no record.
-fn raise_all(newest: &mut Newest, scale: &Scale, entry: &LoggedEntry) -> Result<(), AllocError>
-    requires lawful { are_writes scale.now entry.now.writes.items ≡ true }
-    requires records { length newest.old.places ≡ count_of_narrow scale.now }
+fn raise_all(newest: &mut Newest, scale: &Scale, entry: LoggedEntry) -> Result<(), AllocError>
+    requires lawful { are_writes scale.now entry.writes.items ≡ true }
+    requires records { length newest.old.places ≡ count_of_records scale.now }
     ensures raised { OnOk result ((n : ℕ) → known newest.new n
-        ≡ fold (raised_by scale.now entry.now.tid entry.now.number n) (known newest.old n) entry.now.writes.items) }
+        ≡ fold (raised_by scale.now entry.tid entry.number n) (known newest.old n) entry.writes.items) }
     ensures records { length newest.new.places ≡ length newest.old.places }
 {
-    for write in &entry.writes {
-        if write.table != Table::History {
-            let number = rec(scale, write.table, write.place);
-            let left = Latest {
-                tid: entry.tid,
-                number: entry.number,
-                words: write.words,
-            };
-            newest.raise(number as usize, left)?;
-        }
+    let (tid, number) = (entry.tid, entry.number);
+    for write in entry.writes {
+        raise_one(newest, scale, tid, number, write)?;
     }
     Ok(())
+}
+
+/// Keeps a write of a commit, where it is newer than what is known of its record.
+fn raise_one(
+    newest: &mut Newest,
+    scale: &Scale,
+    tid: u64,
+    number: u64,
+    write: Write,
+) -> Result<(), AllocError>
+    requires lawful { is_write scale.now write ≡ true }
+    requires records { length newest.old.places ≡ count_of_records scale.now }
+    ensures raised { OnOk result ((n : ℕ) → known newest.new n
+        ≡ raised_by scale.now tid number n (known newest.old n) write) }
+    ensures records { length newest.new.places ≡ length newest.old.places }
+{
+    if matches!(write.table, Table::History) {
+        return Ok(());
+    }
+    let record = rec(scale, write.table, write.place);
+    let value = write.value;
+    newest.raise(record as usize, Latest { tid, number, value })
 }

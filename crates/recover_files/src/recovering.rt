@@ -50,7 +50,7 @@ pub struct Recovered {
 ///
 /// Costs a pass over the files, constant time a write, a pass over the records for each file and one more, a look-up
 /// and an insert for each that was written, a sort of the commits, and a copy of the population. Beside that copy it
-/// takes 4 bytes a narrow record of the scale, twice, and memory for what was written.
+/// takes 4 bytes a record of the scale, twice, and memory for what was written.
 ///
 /// # Errors
 ///
@@ -99,8 +99,8 @@ pub fn recover_bodies(
 
 /// What `recover` does, where files are read, and what they say is merged, in at most so many threads, of which the
 /// calling one is the first; with 0 or 1 it is the only one, and there are no more than files. Where a thread can't be
-/// started, the calling one does its work. Takes 4 bytes a narrow record of the scale for each thread and one more. May wait,
-/// for its threads.
+/// started, the calling one does its work. Takes 4 bytes a record of the scale for each thread and one more. May wait, for
+/// its threads.
 ///
 /// # Errors
 ///
@@ -198,7 +198,7 @@ fn rebuilt(alloc: Global, population: &Population, part: Part) -> Result<Tables,
     values_are_held();
     let first = population.tables();
     let mut tables = copied(alloc, first)?;
-    put_all(&mut tables, first, &part.newest)?;
+    put_all(alloc, &mut tables, first, &part.newest)?;
     add_history(&mut tables, &commits)?;
     Ok(tables)
 }

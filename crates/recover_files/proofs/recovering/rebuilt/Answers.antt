@@ -24,11 +24,11 @@ returns-then-not-are_numbered-clause-gap c = λ err es part gapless.
 
 pub put_all-requires-clause-records : goal.put_all-requires-clause-records
 put_all-requires-clause-records c =
-    subst (λ (t : Database). Rattle.std.proofs.Common.length c.args.part.newest.places ≡ Rattle.tables.specs.Records.narrow_count t.scale) (sym c.tables-first.ensures) c.requires.part.1.records
+    subst (λ (t : Database). Rattle.std.proofs.Common.length c.args.part.newest.places ≡ Rattle.tables.specs.Records.record_count t.scale) (sym c.tables-first.ensures) c.requires.part.1.records
 
 pub put_all-requires-clause-writes : goal.put_all-requires-clause-writes
 put_all-requires-clause-writes c = λ n w is.
-    subst (λ (t : Database). MayPut t.scale n w.words) (sym c.tables-first.ensures)
+    subst (λ (t : Database). MayPut t.scale n w.value) (sym c.tables-first.ensures)
     (may_put c.args.population.now.tables.scale c.requires.part.0 c.args.part c.requires.part.1 c.requires.part.2 n w is)
 
 pub put_all-requires-clause-tables : goal.put_all-requires-clause-tables

@@ -11,7 +11,7 @@ use Rattle.recover_files.proofs.part.Part.add.Goals as goal
 pub returns-clause-part : goal.returns-clause-part
 returns-clause-part c = λ es part.
     let s = c.args.scale.now in
-    let e : EntryView = logged c.args.entry.now in
+    let e : EntryView = logged c.args.entry in
     record {
       records = c.in_ok-raise_all.ensures.records ∙ part.records;
       known = λ n.
