@@ -10,15 +10,16 @@ use Rattle.std.proofs.lemmas.Map.Keys.{IsDistinct-from_sorted}
 use Rattle.std.proofs.lemmas.Map.Lookups.{exact_unsigned}
 use Rattle.std.proofs.lemmas.Map.Views.{Contains-from_lookup, lookup-from_Contains, tells_apart}
 use Rattle.tables.specs.Sizes.{Sizes, IsScale}
-use Rattle.tables.specs.Records.{record_number, narrow_count, table_at, place_at, table_number, first_number}
+use Rattle.tables.specs.Records.{record_number, record_count, table_at, place_at, table_number, first_number}
 use Rattle.tables.specs.declared.rows.History.{History}
 use Rattle.tables.specs.declared.records.Table.TheVariants as table
 use Rattle.readset.specs.Writes.{value_for, added}
 use Rattle.book.specs.Loggable.{IsLoggable}
 use Rattle.book.specs.declared.entry.Entry.{Entry}
-use Rattle.log_text.specs.Writes.{is_history}
+use Rattle.log_text.specs.Writes.{is_history, words_of}
 use Rattle.log_text.specs.declared.write.Write.{Write}
 use Rattle.log_entries.specs.Logged.{write_at, history_write, is_before_history, is_behind_history, writes_of, logged_entry}
+use Rattle.log_entries.proofs.Parts.{words_logged}
 use Rattle.log_entries.proofs.Turns.{before_history, behind_history}
 use Rattle.recover_found.specs.Rebuilt.{number_of, LeavesInRecord}
 use Rattle.recover_laws.proofs.Places.{number_back}
@@ -57,10 +58,10 @@ module _ (s : Sizes) (scale : IsScale s) (e : Entry) (ok : IsLoggable s e) where
       let here = distinct v found.1 in
       let number : record_number s (table_at s v.0) (place_at s v.0) ≡ n = ap (number_of s) found.2 ∙ h.number in
       let same : v.0 ≡ n = sym (number_back s v.0 (ok.records v.0 v.1 here)) ∙ number in
-      subst (λ (m : ℕ). value_for e.writes m ≡ Some value) same (here ∙ ap (λ (w : Write). Some w.words) found.2 ∙ ap Some h.words)
+      subst (λ (m : ℕ). value_for e.writes m ≡ Some value) same (here ∙ sym (ap Some (words_logged s e ok v.0 v.1 here)) ∙ ap (λ (w : Write). Some (words_of w)) found.2 ∙ ap Some h.words)
 
   -- its record isn't HISTORY's
-  pub no_history : (n : ℕ) → n < narrow_count s → (table_number (table_at s n) == 4) ≡ false
+  pub no_history : (n : ℕ) → n < record_count s → (table_number (table_at s n) == 4) ≡ false
   no_history n h =
       elim (nat_lt n (first_number s table.NewOrder)) as (λ b. nat_lt n (first_number s table.NewOrder) ≡ b → (table_number (table_at s n) == 4) ≡ false) [
         | true ↦ λ e. let low = before_history s n h (ltb-true n (first_number s table.NewOrder) e) in grind (arith, nat_tests)
@@ -74,7 +75,7 @@ module _ (s : Sizes) (scale : IsScale s) (e : Entry) (ok : IsLoggable s e) where
     among = has_to _ (write_at s (n, value)) among;
     of_record = no_history n (ok.records n value here);
     number = number_back s n (ok.records n value here);
-    words = refl;
+    words = words_logged s e ok n value here;
   }
     where
       there : Has e.writes.values (n, value)

@@ -6,9 +6,8 @@ use Rattle.std.specs.List.{sum_by}
 use Rattle.std.proofs.lemmas.Bool.{lt-ltb, le-ltb, ltb-true, ltb-false}
 use Rattle.std.proofs.lemmas.List.Sums.{sum_by-cons}
 use Rattle.tables.specs.Sizes.{Sizes}
-use Rattle.tables.specs.Records.{tables, size, first_number, narrow_count, record_number, table_among, place_among, table_at, place_at}
+use Rattle.tables.specs.Records.{tables, size, first_number, record_count, record_number, table_among, place_among, table_at, place_at}
 use Rattle.tables.specs.declared.records.Table.{Table}
-use Rattle.tables.proofs.Numbers.{narrow_among}
 
 module _ (s : Sizes) where
   -- each of these tables begins where those before it end
@@ -43,8 +42,8 @@ module _ (s : Sizes) where
       ] refl
 
   -- the number of a record's table and place is its own
-  pub number_back : (n : ℕ) → n < narrow_count s → record_number s (table_at s n) (place_at s n) ≡ n
-  number_back n h = found 0 n tables all_begin (narrow_among s n h) ∙ plain n
+  pub number_back : (n : ℕ) → n < record_count s → record_number s (table_at s n) (place_at s n) ≡ n
+  number_back n h = found 0 n tables all_begin h ∙ plain n
     where
       plain : (n : ℕ) → 0 + n ≡ n
       plain n = omega arith

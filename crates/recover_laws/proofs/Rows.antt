@@ -16,28 +16,29 @@ use Rattle.readset.specs.Writes.{added}
 use Rattle.book.specs.Loggable.{IsLoggable}
 use Rattle.book.specs.declared.entry.Entry.{Entry}
 use Rattle.log_text.specs.declared.write.Write.{Write}
+use Rattle.log_text.specs.declared.write.Value.{Value}
 use Rattle.log_entries.specs.Logged.{write_at, history_words, history_write, is_before_history, is_behind_history, logged_entry}
 use Rattle.recover_found.specs.Rebuilt.{history_of_words, rows_in, added_by}
 use Rattle.recover_found.proofs.Elements.{Has}
 use Rattle.recover_laws.proofs.Logged.{no_history, distinct}
 
 -- a write of another table adds none
-no_rows : (t : Table) (words : Option (List ℕ)) → (table_number t == 4) ≡ false → rows_in t words ≡ []
-no_rows table.Warehouse words h = refl
-no_rows table.District words h = refl
-no_rows table.Customer words h = refl
-no_rows table.History words h = absurd (true≢false h)
-no_rows table.NewOrder words h = refl
-no_rows table.Order words h = refl
-no_rows table.OrderLine words h = refl
-no_rows table.Item words h = refl
-no_rows table.Stock words h = refl
-no_rows table.Oldest words h = refl
-no_rows table.Last words h = refl
-no_rows table.CustomerData words h = refl
+no_rows : (t : Table) (v : Value) → (table_number t == 4) ≡ false → rows_in t v ≡ []
+no_rows table.Warehouse v h = refl
+no_rows table.District v h = refl
+no_rows table.Customer v h = refl
+no_rows table.History v h = absurd (true≢false h)
+no_rows table.NewOrder v h = refl
+no_rows table.Order v h = refl
+no_rows table.OrderLine v h = refl
+no_rows table.Item v h = refl
+no_rows table.Stock v h = refl
+no_rows table.Oldest v h = refl
+no_rows table.Last v h = refl
+no_rows table.CustomerData v h = refl
 
 abbrev rows_of : Write → List History
-rows_of w = rows_in w.table w.words
+rows_of w = rows_in w.table w.value
 
 -- a row comes back from its words
 row_back : (s : Sizes) (r : History) → IsHistoryRow s r → history_of_words (history_words r) ≡ r
@@ -45,7 +46,7 @@ row_back s r h = ap (λ a. record r { amount = a }) (omega (arith, ints))
 
 module _ (s : Sizes) (scale : IsScale s) (e : Entry) (ok : IsLoggable s e) where
   none : (v : ℕ × Option (List ℕ)) → Has e.writes.values v → rows_of (write_at s v) ≡ []
-  none v among = no_rows (table_at s v.0) v.1 (no_history s scale e ok v.0 (ok.records v.0 v.1 (distinct s scale e ok v among)))
+  none v among = no_rows (table_at s v.0) (write_at s v).value (no_history s scale e ok v.0 (ok.records v.0 v.1 (distinct s scale e ok v among)))
 
   none_of : (p : ℕ × Option (List ℕ) → Bool) (es : List (ℕ × Option (List ℕ))) → ((v : ℕ × Option (List ℕ)) → Has es v → Has e.writes.values v)
       → flat_map rows_of (map (write_at s) (filter p es)) ≡ []

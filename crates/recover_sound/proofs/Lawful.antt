@@ -28,6 +28,8 @@ use Rattle.log_text.specs.Bodies.{BodyView}
 use Rattle.log_text.specs.Entries.{EntryView}
 use Rattle.log_text.specs.Writes.{places, is_value, is_write, are_writes}
 use Rattle.log_text.specs.declared.write.Write.{Write}
+use Rattle.log_text.specs.declared.write.Value.{Value}
+use Rattle.log_text.specs.declared.write.Value.TheVariants.{Absent, Columns, Text}
 use Rattle.log_text.proofs.Fitting.{and_split}
 use Rattle.recover_found.specs.Found.{found, keeps}
 use Rattle.recover_found.specs.Rebuilt.{IsRebuilt, rows_in, added_by}
@@ -45,11 +47,12 @@ HasLawful s e = are_writes s e.writes ≡ true
 
 module _ (s : Sizes) where
   -- the row of HISTORY of a lawful value
-  rows_of_value : (t : Table) (value : Option (List ℕ)) → is_value s t value ≡ true
+  rows_of_value : (t : Table) (value : Value) → is_value s t value ≡ true
       → All (IsHistoryRow s) (rows_in t value)
-  rows_of_value table.History (Some words) e =
-      All-from_recursion (IsHistoryRow s) (rows_in table.History (Some words)) (row_in_ranges s words e, tt)
-  rows_of_value table.History None e = All-nil (IsHistoryRow s)
+  rows_of_value table.History (Columns words) e =
+      All-from_recursion (IsHistoryRow s) (rows_in table.History (Columns words)) (row_in_ranges s words e, tt)
+  rows_of_value table.History Absent e = All-nil (IsHistoryRow s)
+  rows_of_value table.History (Text text) e = All-nil (IsHistoryRow s)
   rows_of_value table.Warehouse value e = All-nil (IsHistoryRow s)
   rows_of_value table.District value e = All-nil (IsHistoryRow s)
   rows_of_value table.Customer value e = All-nil (IsHistoryRow s)
@@ -62,15 +65,15 @@ module _ (s : Sizes) where
   rows_of_value table.Last value e = All-nil (IsHistoryRow s)
   rows_of_value table.CustomerData value e = All-nil (IsHistoryRow s)
 
-  rows_of_write : (w : Write) → is_write s w ≡ true → All (IsHistoryRow s) (rows_in w.table w.words)
+  rows_of_write : (w : Write) → is_write s w ≡ true → All (IsHistoryRow s) (rows_in w.table w.value)
   rows_of_write w lawful =
-      rows_of_value w.table w.words
-      (and_split (nat_lt w.place (places s w.table)) (is_value s w.table w.words) lawful).1
+      rows_of_value w.table w.value
+      (and_split (nat_lt w.place (places s w.table)) (is_value s w.table w.value) lawful).1
 
   -- those that an entry of lawful writes adds
   rows_of_entry : (e : EntryView) → HasLawful s e → All (IsHistoryRow s) (added_by e)
   rows_of_entry e lawful =
-      let of : Write → List History = λ w. rows_in w.table w.words in
+      let of : Write → List History = λ w. rows_in w.table w.value in
       all_in (IsHistoryRow s) of e.writes
       (all_from (λ (w : Write). All (IsHistoryRow s) (of w)) e.writes
       (λ w among. rows_of_write w (each_lawful s e.writes lawful w (has_to e.writes w among))))
