@@ -35,7 +35,7 @@ use Rattle.log_text.specs.declared.write.Write.{Write}
 use Rattle.log_text.proofs.Fitting.{and_split}
 use Rattle.log_entries.specs.Logged.{value_as, write_at, history_write, is_before_history, is_behind_history, writes_of}
 use Rattle.log_entries.proofs.Turns.{narrow_holds_none, wide_is_text, numbers_rise, place_within, place_small, before_history, behind_history}
-use Rattle.log_entries.proofs.Texts.{text_in_words, data_lawful}
+use Rattle.log_entries.proofs.Texts.{text_again, data_lawful}
 use Rattle.log_entries.proofs.Within.{rows_within, history_within}
 
 -- a record's number, and what it holds
@@ -247,7 +247,7 @@ module _ (s : Sizes) (scale : IsScale s) (writes : WriteSetView) (t : Database) 
     text_written n words found wide =
         let text = texts n (Some words) found wide in
         ap (λ (u : Table). is_value s u (value_as (has_text u) (Some words))) (wide_is_text s n wide (small n (Some words) found))
-        ∙ ap is_data (text_in_words words text) ∙ data_lawful text.0 text.2
+        ∙ ap is_data (text_again words text) ∙ data_lawful text.0 text.2
 
     value_written : (n : ℕ) (value : Option (List ℕ)) → value_for writes n ≡ Some value
         → is_value s (table_at s n) (value_as (has_text (table_at s n)) value) ≡ true

@@ -21,9 +21,9 @@ use Rattle.readset.proofs.NarrowOrWide.{never_both}
 use Rattle.book.specs.Loggable.{IsLoggable}
 use Rattle.book.specs.declared.entry.Entry.{Entry}
 use Rattle.log_text.specs.Columns.{has_text}
-use Rattle.log_text.specs.Writes.{words_of, words_of_value, write_text}
+use Rattle.log_text.specs.Writes.{words_of_value, write_text}
 use Rattle.log_text.specs.declared.write.Write.{Write}
-use Rattle.log_entries.proofs.Texts.{text_in_words}
+use Rattle.log_entries.proofs.Texts.{text_again}
 use Rattle.log_entries.proofs.Turns.{narrow_holds_none, wide_is_text}
 use Rattle.log_entries.specs.Logged.{value_as, write_at, writes_of, history_write, is_before_history, is_behind_history}
 
@@ -53,14 +53,14 @@ wide_row value is = subst IsWide (sym is.1) (length-words_in 63 (data_bytes is.0
 
 -- what a log file has of a record is what was written there
 pub words_logged : (s : Sizes) (e : Entry) → IsLoggable s e → (n : ℕ) (value : Option (List ℕ)) → value_for e.writes n ≡ Some value
-    → words_of (write_at s (n, value)) ≡ value
+    → words_of_value (write_at s (n, value)).value ≡ value
 words_logged s e ok n None found = refl
 words_logged s e ok n (Some words) found =
     ⊎_elim (λ (h : n < narrow_count s). ap (λ (b : Bool). words_of_value (value_as b (Some words))) (narrow_holds_none s n h))
     (λ (h : narrow_count s ≤ n).
     let is = ok.texts n (Some words) found h in
     ap (λ t. words_of_value (value_as (has_text t) (Some words))) (wide_is_text s n h (ok.records n (Some words) found))
-    ∙ ap (λ (text : List ℕ). Some (data_words text)) (text_in_words words is) ∙ sym is.1)
+    ∙ ap (λ (text : List ℕ). Some (data_words text)) (text_again words is) ∙ sym is.1)
     (cases_lt n (narrow_count s))
 
 module _ (s : Sizes) (writes : WriteSetView) (narrow wide : List Held) (whole : narrow ++ wide ≡ writes.values)

@@ -14,7 +14,7 @@ use Rattle.customer_data.specs.declared.words.TheConstants.{MIN_DATA, MAX_DATA}
 use Rattle.customer_data.proofs.Texts.{data_back}
 use Rattle.encoding.specs.Puts.{IsRow}
 use Rattle.log_text.specs.Writes.{is_data}
-use Rattle.log_entries.specs.Logged.{text_behind, text_in}
+use Rattle.log_entries.specs.Logged.{text_behind, text_of_words}
 
 -- in the bytes of a text stands the text
 behind_length : (text : List ℕ) → length text ≤ 500 → text_behind (data_bytes text) ≡ text
@@ -24,9 +24,9 @@ behind_length text few =
     little_number-reads_back 2 (length text) (text ++ zeros) (omega (arith, few)) in
     ap (λ k. take k (text ++ zeros)) told ∙ take-append_seam text zeros
 
-pub text_in_words : (words : List ℕ) (is : IsRow data_words IsData (Some words)) → text_in words ≡ is.0
-unfolding text_in
-text_in_words words is =
+pub text_again : (words : List ℕ) (is : IsRow data_words IsData (Some words)) → text_of_words words ≡ is.0
+unfolding text_of_words
+text_again words is =
     ap (λ (ws : List ℕ). text_behind (flat_map (little_bytes 8) ws)) (same_Some _ _ is.1)
     ∙ ap text_behind (data_back is.0 is.2) ∙ behind_length is.0 is.2.at_most
 

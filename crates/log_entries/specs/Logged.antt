@@ -19,14 +19,14 @@ use Rattle.log_text.specs.declared.write.Value.TheVariants as value
 abbrev pub text_behind : List ℕ → List ℕ
 text_behind bytes = take (little_number 2 bytes) (drop 2 bytes)
 
--- the text that words stand for; opaque, since who meets it asks for `text_in_words` alone
-unfoldable pub text_in : List ℕ → List ℕ
-text_in words = text_behind (flat_map (little_bytes 8) words)
+-- the text that words stand for; opaque, since who meets it asks for `text_again` alone
+unfoldable pub text_of_words : List ℕ → List ℕ
+text_of_words words = text_behind (flat_map (little_bytes 8) words)
 
 -- what a record holds, as a log file has it: of C_DATA the text, and of others the columns
 abbrev pub value_as : (holds_text : Bool) → Option (List ℕ) → Value
 value_as holds_text None = value.Absent
-value_as true (Some words) = value.Text (text_in words)
+value_as true (Some words) = value.Text (text_of_words words)
 value_as false (Some words) = value.Columns words
 
 -- what the record of a number holds, as a write

@@ -22,9 +22,6 @@ words_of_value value.Absent = None
 words_of_value (value.Columns words) = Some words
 words_of_value (value.Text text) = Some (data_words text)
 
-abbrev pub words_of : Write → Option (List ℕ)
-words_of w = words_of_value w.value
-
 -- a text: its length in two bytes, and its bytes
 abbrev pub text_text : List ℕ → List ℕ
 text_text text = number 2 (length text) ++ text

@@ -24,7 +24,7 @@ use Rattle.tables.specs.Rows.{order_words, line_words}
 use Rattle.tables.specs.WellFormed.{IsLineRow}
 use Rattle.log_text.specs.Entries.{EntryView}
 use Rattle.log_text.specs.Columns.{has_text, ranges, are_within}
-use Rattle.log_text.specs.Writes.{places, is_data, is_history, is_value, is_write, rise_from, are_writes, words_of, words_of_value}
+use Rattle.log_text.specs.Writes.{places, is_data, is_history, is_value, is_write, rise_from, are_writes, words_of_value}
 use Rattle.tables.specs.declared.limits.TheConstants.{MAX_WRITES}
 use Rattle.log_text.specs.declared.write.Write.{Write}
 use Rattle.log_text.specs.declared.write.Value.{Value}
@@ -190,8 +190,8 @@ module _ (s : Sizes) where
     pub written_key : is_history w ≡ false → key_of s (number_of s w) ≡ key_at s w.table w.place
     written_key other = number_named w.table w.place (place_below other)
 
-    pub written_may_hold : is_history w ≡ false → MayHold s (key_of s (number_of s w)) (words_of w)
-    written_may_hold other = subst (λ k. MayHold s k (words_of w)) (sym (written_key other))
+    pub written_may_hold : is_history w ≡ false → MayHold s (key_of s (number_of s w)) (words_of_value w.value)
+    written_may_hold other = subst (λ k. MayHold s k (words_of_value w.value)) (sym (written_key other))
         (place_may_hold w.table w.place w.value (place_below other) value_lawful)
 
     -- columns are left in narrow records, and texts in wide ones
@@ -219,7 +219,7 @@ module _ (s : Sizes) where
         let is = each_lawful s e.writes lawful left.write left.among in (
           subst (λ m. m < record_count s) left.number (written_below left.write is left.of_record),
           subst (MayHold s (key_of s n)) left.words
-              (subst (λ m. MayHold s (key_of s m) (words_of left.write)) left.number (written_may_hold left.write is left.of_record)),
+              (subst (λ m. MayHold s (key_of s m) (words_of_value left.write.value)) left.number (written_may_hold left.write is left.of_record)),
         )
 
     pub left_columns : (value : Option (List ℕ)) (left : LeavesInRecord s e n value) (words : List ℕ) → left.write.value ≡ Columns words → n < narrow_count s

@@ -22,7 +22,7 @@ use Rattle.encoding.specs.Held.{IsTableRecord, by_key, IsTableOf, AreTables}
 use Rattle.encoding.proofs.Numbered.{IsTableKey, table_record}
 use Rattle.log_text.specs.Bodies.{BodyView}
 use Rattle.log_text.specs.Entries.{EntryView}
-use Rattle.log_text.specs.Writes.{is_history, is_write, rank, rise_from, are_writes, words_of}
+use Rattle.log_text.specs.Writes.{is_history, is_write, rank, rise_from, are_writes, words_of_value}
 use Rattle.log_text.specs.declared.write.Write.{Write}
 use Rattle.log_text.proofs.Fitting.{and_split}
 use Rattle.recover_found.specs.Found.{durable_of, found, keeps}
@@ -66,7 +66,7 @@ same_rank least (x ∷ ws) v w up (inr a) (inr b) e = same_rank (rank x + 1) ws 
 -- an entry with lawful writes leaves one value in a record
 one_value : (s : Sizes) (e : EntryView) (n : ℕ) (v w : Option (List ℕ)) → are_writes s e.writes ≡ true
     → LeavesInRecord s e n v → LeavesInRecord s e n w → v ≡ w
-one_value s e n v w lawful a b = sym a.words ∙ ap words_of same ∙ b.words
+one_value s e n v w lawful a b = sym a.words ∙ ap (λ (x : Write). words_of_value x.value) same ∙ b.words
   where
     rise : rise_from 0 e.writes ≡ true
     rise =

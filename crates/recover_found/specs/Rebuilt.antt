@@ -12,7 +12,7 @@ use Rattle.tables.specs.declared.records.Table.{Table}
 use Rattle.tables.specs.declared.records.Table.TheVariants as table
 use Rattle.encoding.specs.Held.{IsTableRecord, by_key, AreTables}
 use Rattle.log_text.specs.Entries.{EntryView}
-use Rattle.log_text.specs.Writes.{is_history, words_of}
+use Rattle.log_text.specs.Writes.{is_history, words_of_value}
 use Rattle.log_text.specs.declared.write.Write.{Write}
 use Rattle.log_text.specs.declared.write.Value.{Value}
 use Rattle.log_text.specs.declared.write.Value.TheVariants as value
@@ -27,7 +27,7 @@ pub record LeavesInRecord (s : Sizes) (e : EntryView) (n : ℕ) (value : Option 
   pub among : Contains e.writes write
   pub of_record : is_history write ≡ false
   pub number : number_of s write ≡ n
-  pub words : words_of write ≡ value
+  pub words : words_of_value write.value ≡ value
 
 -- an entry is no newer than another: of a smaller TID, or of the same and of no greater commit number
 abbrev pub IsUpTo : EntryView → EntryView → Type 0

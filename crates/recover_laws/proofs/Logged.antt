@@ -16,7 +16,7 @@ use Rattle.tables.specs.declared.records.Table.TheVariants as table
 use Rattle.readset.specs.Writes.{value_for, added}
 use Rattle.book.specs.Loggable.{IsLoggable}
 use Rattle.book.specs.declared.entry.Entry.{Entry}
-use Rattle.log_text.specs.Writes.{is_history, words_of}
+use Rattle.log_text.specs.Writes.{is_history, words_of_value}
 use Rattle.log_text.specs.declared.write.Write.{Write}
 use Rattle.log_entries.specs.Logged.{write_at, history_write, is_before_history, is_behind_history, writes_of, logged_entry}
 use Rattle.log_entries.proofs.Parts.{words_logged}
@@ -58,7 +58,7 @@ module _ (s : Sizes) (scale : IsScale s) (e : Entry) (ok : IsLoggable s e) where
       let here = distinct v found.1 in
       let number : record_number s (table_at s v.0) (place_at s v.0) ≡ n = ap (number_of s) found.2 ∙ h.number in
       let same : v.0 ≡ n = sym (number_back s v.0 (ok.records v.0 v.1 here)) ∙ number in
-      subst (λ (m : ℕ). value_for e.writes m ≡ Some value) same (here ∙ sym (ap Some (words_logged s e ok v.0 v.1 here)) ∙ ap (λ (w : Write). Some (words_of w)) found.2 ∙ ap Some h.words)
+      subst (λ (m : ℕ). value_for e.writes m ≡ Some value) same (here ∙ sym (ap Some (words_logged s e ok v.0 v.1 here)) ∙ ap (λ (w : Write). Some (words_of_value w.value)) found.2 ∙ ap Some h.words)
 
   -- its record isn't HISTORY's
   pub no_history : (n : ℕ) → n < record_count s → (table_number (table_at s n) == 4) ≡ false
