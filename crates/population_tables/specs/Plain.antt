@@ -121,7 +121,7 @@ pub record IsTable {K X : Type 0} {R : K → K → Ordering} (IsKey : K → Type
 -- the nine tables of the plain population of a scale
 pub record IsPlain (s : Sizes) (t : Database) : Type 0 where
   pub scale : t.scale ≡ s
-  pub keeps_texts : t.keeps_texts ≡ false
+  pub keeps_texts : t.keeps_texts ≡ true
   pub warehouses : IsTable (IsWarehouseKey s) (λ w. plain_warehouse s) t.warehouses
   pub districts : IsTable (IsDistrictKey s) (λ k. plain_district s) t.districts
   pub customers : IsTable (IsCustomerKey s) (λ k. plain_customer k.customer) t.customers

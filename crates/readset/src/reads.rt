@@ -17,6 +17,7 @@ ghost use Rattle.cells.specs.declared.cells.Version.{Version};
 use crate::arrivals::Arrivals;
 use crate::few::Few;
 use cells::{Cells, Reader, Version, WideVersion};
+use customer_data::DataWords;
 use money::{Payload, Refusal};
 use std::alloc::Global;
 use std::marker::Model;
@@ -253,6 +254,17 @@ fn load_wide<R: Wait>(
 /// What a version says that its record holds: its words, or nothing where it is absent. Takes constant time.
 pub fn value_of(version: &Version) -> Option<Payload>
     ensures { result ≡ value_of version.now }
+{
+    if version.word.is_absent() {
+        None
+    } else {
+        Some(version.payload)
+    }
+}
+
+/// The same of a wide record's version.
+pub(crate) fn wide_value_of(version: &WideVersion) -> Option<DataWords>
+    ensures { result ≡ value_of (as_version version.now) }
 {
     if version.word.is_absent() {
         None
