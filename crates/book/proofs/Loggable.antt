@@ -8,6 +8,7 @@ use Rattle.tables.specs.Apply.{after}
 use Rattle.tables.specs.WellFormed.{IsWellFormed}
 use Rattle.cells.specs.Records.{CellsView, ReaderView}
 use Rattle.readset.specs.Cells.{AreCellsOf}
+use Rattle.readset.proofs.CellsOf.{count_of}
 use Rattle.readset.specs.declared.work.Work.{Work}
 use Rattle.book.specs.Book.{IsWorkOf, AreInRecordOrder, entry_of}
 use Rattle.book.specs.History.{replay, CommitsAt}
@@ -34,9 +35,7 @@ next_loggable {t0 = t0} {terminals = terminals} {cells = cells} {history = histo
     record {
       each = All-push (IsLoggable t0.scale) history entry are.each (record {
         ordered = ordered.writes_ascend;
-        records = λ n value is. subst (λ m. n < m) count.narrow (is_work.limits.writes_narrow n value is);
-        narrow = λ n value is. (is_work.limits.writes_kinds n value is).narrow
-            (is_work.limits.writes_narrow n value is);
+        records = λ n value is. subst (λ m. n < m) (count_of t0.scale cells count) (is_work.limits.writes_cells n value is);
         limit = is_work.limits.writes_limit;
         done = merely (record { tables = replay t0 history; scale = replay-scale t0 history; well_formed = well_formed; commits = commits });
       });

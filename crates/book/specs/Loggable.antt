@@ -7,9 +7,9 @@ use Rattle.std.specs.Map.{keys_of}
 use Rattle.tables.specs.Sizes.{Sizes}
 use Rattle.tables.specs.Database.{Database}
 use Rattle.tables.specs.Apply.{after}
-use Rattle.tables.specs.Records.{narrow_count}
+use Rattle.tables.specs.Records.{record_count}
 use Rattle.tables.specs.WellFormed.{IsWellFormed}
-use Rattle.readset.specs.Writes.{WritesAreNarrow, value_for}
+use Rattle.readset.specs.Writes.{value_for}
 use Rattle.tables.specs.declared.limits.TheConstants.{MAX_WRITES}
 use Rattle.book.specs.History.{CommitsAt}
 use Rattle.book.specs.declared.entry.Entry.{Entry}
@@ -22,12 +22,10 @@ pub record IsDoneAtTables (s : Sizes) (e : Entry) : Type 0 where
   pub well_formed : IsWellFormed (after tables e.input)
   pub commits : CommitsAt tables e.input e.writes e.reply
 
--- the entry's writes are of records of the scale, all narrow ones, in their order, and few; and it is done at some
--- tables
+-- the entry's writes are of records of the scale, in their order, and few; and it is done at some tables
 pub record IsLoggable (s : Sizes) (e : Entry) : Type 0 where
   pub ordered : IsStrictlySortedBy nat_cmp (keys_of e.writes.values)
-  pub records : (n : ℕ) (value : Option (List ℕ)) → value_for e.writes n ≡ Some value → n < narrow_count s
-  pub narrow : WritesAreNarrow e.writes
+  pub records : (n : ℕ) (value : Option (List ℕ)) → value_for e.writes n ≡ Some value → n < record_count s
   pub limit : length e.writes.values ≤ MAX_WRITES
   pub done : ∥ IsDoneAtTables s e ∥₁
 

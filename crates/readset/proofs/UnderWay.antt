@@ -1,5 +1,5 @@
 -- A transaction under way, after a step.
-use Rattle.std.proofs.Common.{◌<◌, ◌≡◌, ℕ, ◌+◌, ◌≤◌, Bool, Option, Some, None, Result, Ok, Err, OnOk, OnErr, IsSome, is_some, Bor, List, length, refl, sym, ap, ◌∙◌}
+use Rattle.std.proofs.Common.{◌≡◌, ℕ, ◌+◌, ◌≤◌, Bool, Option, Some, None, Result, Ok, Err, OnOk, OnErr, IsSome, is_some, Bor, List, length, refl, sym, ap, ◌∙◌}
 use Rattle.std.proofs.Common.{subst, arith}
 use Rattle.std.specs.Option.{option_copied}
 use Rattle.tables.specs.Sizes.{Sizes}

@@ -182,7 +182,9 @@ impl<'a, K: Start> Transaction<'a, K> {
     {
         let key = RecordKey::CustomerData(key);
         let number = self.population.numbering().number_of_key(key);
-        let version = self.reads.get_wide(rt, self.cells, &mut self.reader, number)?;
+        let version = self
+            .reads
+            .get_wide(rt, self.cells, &mut self.reader, number)?;
         Ok(wide_value_of(&version))
     }
 

@@ -4,7 +4,6 @@ use Rattle.tables.specs.Database.{Database}
 use Rattle.tables.specs.Keys.{IsCustomerKey}
 use Rattle.tables.specs.Records.{number_of_key, record_count}
 use Rattle.tables.specs.declared.records.RecordKey.TheVariants as key
-use Rattle.cells.specs.Records.{CellsView, cell_count}
 use Rattle.readset.specs.Cells.{AreCellsOf}
 use Rattle.readset.specs.Reads.{held}
 use Rattle.readset.specs.Transaction.{TransactionView, GoesOn}

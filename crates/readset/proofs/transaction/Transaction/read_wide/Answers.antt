@@ -1,7 +1,7 @@
-use Rattle.std.proofs.Common.{◌≡◌, ◌∙◌, ◌≤◌, ◌<◌, refl, ap, sym, subst, length, IsSome, Some, Result, Ok}
+use Rattle.std.proofs.Common.{◌≡◌, ◌∙◌, ◌<◌, refl, ap, sym, subst, IsSome, Some, Result, Ok}
 use Rattle.std.specs.Result.{IsOkAnd}
 use Rattle.money.specs.declared.refusal.Refusal.{Refusal}
-use Rattle.cells.specs.Records.{CellsView, cell_count}
+use Rattle.cells.specs.Records.{CellsView}
 use Rattle.tables.specs.Sizes.{Sizes}
 use Rattle.tables.specs.Database.{Database}
 use Rattle.tables.specs.Keys.{IsCustomerKey}
