@@ -28,8 +28,8 @@ use tables::{
 };
 
 /// The rows that a database begins with, its customers by name, and lists of what no transaction changes: prices,
-/// discounts, taxes and whose credit is bad. Its type keeps that the rows are well-formed and consistent, have room for 600,000 commits, and
-/// are in reach of none.
+/// discounts, taxes and whose credit is bad. Its type keeps that the rows are well-formed and consistent, have room for
+/// 600,000 commits, and are in reach of none.
 #[derive(Debug, Drop)]
 pub struct Population {
     tables: Tables,

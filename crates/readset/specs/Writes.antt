@@ -22,7 +22,8 @@ as_written e = (e.0, Some e.1)
 
 -- each record is to hold as many words as one of its kind does
 abbrev pub AreWrittenOfKind : CellsView → WriteSetView → Type 0
-AreWrittenOfKind cells writes = (n : ℕ) (value : Option (List ℕ)) → value_for writes n ≡ Some value → IsOfKind cells n value
+AreWrittenOfKind cells writes = (n : ℕ) (value : Option (List ℕ)) → value_for writes n ≡ Some value
+    → IsOfKind cells n value
 
 -- nothing to write
 abbrev pub no_writes : WriteSetView

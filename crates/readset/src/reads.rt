@@ -11,7 +11,8 @@ ghost use Rattle.readset.specs.Places.{place};
 ghost use Rattle.readset.specs.Arrived.{arrived};
 ghost use Rattle.readset.specs.Reads.{as_version, held, value_of, Keeps, AreWithin, AreRead, AreReadOfKind};
 ghost use Rattle.readset.specs.Reads.{IsNarrowVersion, IsWideVersion};
-ghost use Rattle.cells.specs.Records.{CellsView, ReaderView, LoadsRecord, HasGrown, cell_count, words_of, wide_words_of};
+ghost use Rattle.cells.specs.Records.{CellsView, ReaderView, LoadsRecord, HasGrown, cell_count};
+ghost use Rattle.cells.specs.Records.{words_of, wide_words_of};
 ghost use Rattle.cells.specs.declared.cells.Version.{Version};
 
 use crate::arrivals::Arrivals;
@@ -263,12 +264,12 @@ pub fn value_of(version: &Version) -> Option<Payload>
 }
 
 /// The same of a wide record's version.
-pub(crate) fn wide_value_of(version: &WideVersion) -> Option<DataWords>
-    ensures { result ≡ value_of (as_version version.now) }
+pub(crate) fn wide_value_of(wide: &WideVersion) -> Option<DataWords>
+    ensures { result ≡ value_of (as_version wide.now) }
 {
-    if version.word.is_absent() {
+    if wide.word.is_absent() {
         None
     } else {
-        Some(version.payload)
+        Some(wide.payload)
     }
 }

@@ -4,7 +4,8 @@ ghost use Rattle.std.specs.Prelude.{◌≡◌, ◌<◌, ◌≤◌, ℕ, pos, Lis
 ghost use Rattle.std.specs.Option.{ForSome, option_copied};
 ghost use Rattle.tables.specs.Sizes.{IsNumber};
 ghost use Rattle.tables.specs.Keys.{order_of};
-ghost use Rattle.tables.specs.Records.{narrow_count, record_count, key_of, size, first_number, district_at, order_at, line_at};
+ghost use Rattle.tables.specs.Records.{narrow_count, record_count, key_of, size, first_number, district_at};
+ghost use Rattle.tables.specs.Records.{order_at, line_at};
 ghost use Rattle.tables.specs.WellFormed.{IsHistoryRow};
 ghost use Rattle.tables.specs.declared.records.Table.TheVariants as table;
 ghost use Rattle.cells.specs.Records.{held_by};
@@ -231,12 +232,7 @@ impl RunningSums {
     }
 
     /// Follows the values that a commit writes to narrow records, where these held what their newest versions have.
-    fn follow_narrow(
-        &mut self,
-        cells: &Cells,
-        pen: &mut Pen,
-        values: &[(u32, Option<Payload>)],
-    )
+    fn follow_narrow(&mut self, cells: &Cells, pen: &mut Pen, values: &[(u32, Option<Payload>)])
         requires own { pen.old.cells ≡ cells.now }
         requires count { AreCellsOf self.old.scale cells.now }
         requires below { All (λ e. e.0 < narrow_count self.old.scale) values.now }

@@ -1,6 +1,7 @@
 //! The least and the greatest order numbers of all districts.
 
-ghost use Rattle.std.specs.Prelude.{◌≡◌, ◌+◌, ◌++◌, ◌<◌, ◌≤◌, ◌*◌, ◌/◌, ◌%◌, ◌^◌, ℕ, List, Option, IfOk, false, length, slice_index};
+ghost use Rattle.std.specs.Prelude.{◌≡◌, ◌+◌, ◌++◌, ◌<◌, ◌≤◌, ◌*◌, ◌/◌, ◌%◌, ◌^◌, ℕ, List, Option, IfOk, false};
+ghost use Rattle.std.specs.Prelude.{length, slice_index};
 ghost use Rattle.tables.specs.Keys.{IsDistrictKey};
 ghost use Rattle.tables.specs.Records.{narrow_count, record_number, district_place, first_number, size};
 ghost use Rattle.tables.specs.declared.records.Table.TheVariants as table;
@@ -175,12 +176,7 @@ impl OrderBounds {
     }
 
     /// Looks at the narrow records that a commit has written, where others may be left.
-    fn follow_narrow(
-        &mut self,
-        cells: &Cells,
-        pen: &mut Pen,
-        values: &[(u32, Option<Payload>)],
-    )
+    fn follow_narrow(&mut self, cells: &Cells, pen: &mut Pen, values: &[(u32, Option<Payload>)])
         requires own { pen.old.cells ≡ cells.now }
         requires count { AreCellsOf self.old.scale cells.now }
         ensures pen { pen.new ≡ pen.old }
