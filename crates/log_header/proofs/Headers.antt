@@ -11,7 +11,7 @@ use Rattle.log_codec.proofs.Codecs.{codec-both, codec-chosen, codec-same}
 use Rattle.tables.specs.Sizes.{Sizes, IsScale, IsBetween}
 use Rattle.tables.specs.declared.limits.TheConstants.{MAX_WAREHOUSES, MAX_DISTRICTS, MIN_CUSTOMERS, MAX_CUSTOMERS}
 use Rattle.tables.specs.declared.limits.TheConstants.{MIN_ITEMS, MAX_ITEMS, MAX_ORDERS, MAX_COMMITS, MAX_LOGGERS}
-use Rattle.log_header.specs.declared.header.TheConstants.{MAGIC, VERSION}
+use Rattle.log_header.specs.declared.header.TheConstants.{MAGIC, OLDEST_VERSION, VERSION}
 use Rattle.log_header.specs.Header.{HeaderView, IsHeader, scale_text, header_text}
 use Rattle.log_header.specs.HeaderReading.{SixNumbers, Parts, is_between, is_scale, is_logger, sizes_of, scale_if, header_if, view_of, six_numbers, parts}
 use Rattle.log_header.specs.HeaderReading.{scale_from, header_from}
@@ -91,17 +91,17 @@ unfolding number
 number_MAGIC = refl
 
 pub text_of_header : (h : HeaderView)
-    → header_text h ≡ number 8 MAGIC ++ (number 4 VERSION ++ (number 2 h.logger ++ (number 2 h.loggers ++ (scale_text h.scale ++ number 8 h.seed))))
+    → header_text h ≡ number 8 MAGIC ++ (number 4 h.version ++ (number 2 h.logger ++ (number 2 h.loggers ++ (scale_text h.scale ++ number 8 h.seed))))
 unfolding header_text
 text_of_header h =
-    ap (λ name. name ++ (number 4 VERSION ++ (number 2 h.logger ++ (number 2 h.loggers ++ (scale_text h.scale ++ number 8 h.seed))))) (sym number_MAGIC)
+    ap (λ name. name ++ (number 4 h.version ++ (number 2 h.logger ++ (number 2 h.loggers ++ (scale_text h.scale ++ number 8 h.seed))))) (sym number_MAGIC)
 
 Decides-logger : (logger loggers : ℕ) → Decides (is_logger logger loggers) (IsBetween 1 MAX_LOGGERS loggers × (logger < loggers))
 unfolding is_logger
 Decides-logger logger loggers = Decides-and _ _ (Decides-between 1 MAX_LOGGERS loggers) (Decides-ltb logger loggers)
 
 parts_of : HeaderView → Parts
-parts_of h = (MAGIC, (VERSION, (h.logger, (h.loggers, (h.scale, h.seed)))))
+parts_of h = (MAGIC, (h.version, (h.logger, (h.loggers, (h.scale, h.seed)))))
 
 FitParts : Parts → Type 0
 FitParts p = (p.0 < 256 ^ 8) × ((p.1.0 < 256 ^ 4) × ((p.1.1.0 < 256 ^ 2) × ((p.1.1.1.0 < 256 ^ 2) × (IsScale p.1.1.1.1.0 × (p.1.1.1.1.1 < 256 ^ 8)))))
@@ -117,12 +117,12 @@ codec-parts =
 
 -- whether the parts are a header's
 is_header_of : Parts → Bool
-is_header_of p = p.0 == MAGIC && (p.1.0 == VERSION && is_logger p.1.1.0 p.1.1.1.0)
+is_header_of p = p.0 == MAGIC && (is_between OLDEST_VERSION VERSION p.1.0 && is_logger p.1.1.0 p.1.1.1.0)
 
-Decides-parts : (p : Parts) → Decides (is_header_of p) ((p.0 ≡ MAGIC) × ((p.1.0 ≡ VERSION) × (IsBetween 1 MAX_LOGGERS p.1.1.1.0 × (p.1.1.0 < p.1.1.1.0))))
+Decides-parts : (p : Parts) → Decides (is_header_of p) ((p.0 ≡ MAGIC) × (IsBetween OLDEST_VERSION VERSION p.1.0 × (IsBetween 1 MAX_LOGGERS p.1.1.1.0 × (p.1.1.0 < p.1.1.1.0))))
 unfolding is_header_of
 Decides-parts p =
-    Decides-and _ _ (Decides-eqb p.0 MAGIC) (Decides-and _ _ (Decides-eqb p.1.0 VERSION) (Decides-logger p.1.1.0 p.1.1.1.0))
+    Decides-and _ _ (Decides-eqb p.0 MAGIC) (Decides-and _ _ (Decides-between OLDEST_VERSION VERSION p.1.0) (Decides-logger p.1.1.0 p.1.1.1.0))
 
 codec-by_number : IsCodec (λ h. parts_text (parts_of h)) header_from IsHeader
 unfolding header_from header_if is_header_of parts_of parts_text FitParts
@@ -130,13 +130,13 @@ codec-by_number =
     codec-chosen header_if parts_of IsHeader (λ p h fits e.
     let t = let_through (is_header_of p) (view_of p) h e in
     let d = (Decides-parts p).0 t.0 in
-    let same : parts_of (view_of p) ≡ p = ap (λ n. (n, (VERSION, p.1.1))) (sym d.0) ∙ ap (λ n. (p.0, (n, p.1.1))) (sym d.1.0) in (
+    let same : parts_of (view_of p) ≡ p = ap (λ n. (n, p.1)) (sym d.0) in (
       ap parts_of (sym t.1) ∙ same,
-      subst IsHeader t.1 (record { scale = fits.1.1.1.1.0; loggers = d.1.1.0; logger = d.1.1.1; seed = fits.1.1.1.1.1 }),
+      subst IsHeader t.1 (record { version = d.1.0; scale = fits.1.1.1.1.0; loggers = d.1.1.0; logger = d.1.1.1; seed = fits.1.1.1.1.1 }),
     ))
     (λ h l. (
-      (omega arith, (omega arith, (omega (arith, l.loggers, l.logger), (omega (arith, l.loggers), (l.scale, l.seed))))),
-      ap (λ b. if b then Some h else None) ((Decides-parts (parts_of h)).1 (refl, (refl, (l.loggers, l.logger)))),
+      (omega arith, (omega (arith, l.version), (omega (arith, l.loggers, l.logger), (omega (arith, l.loggers), (l.scale, l.seed))))),
+      ap (λ b. if b then Some h else None) ((Decides-parts (parts_of h)).1 (refl, (l.version, (l.loggers, l.logger)))),
     )) codec-parts
 
 -- headers and their reader are a codec

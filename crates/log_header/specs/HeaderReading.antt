@@ -5,8 +5,8 @@ use Rattle.log_codec.specs.Read.{both, chosen}
 use Rattle.tables.specs.Sizes.{Sizes, sizes}
 use Rattle.tables.specs.declared.limits.TheConstants.{MAX_WAREHOUSES, MAX_DISTRICTS, MIN_CUSTOMERS, MAX_CUSTOMERS}
 use Rattle.tables.specs.declared.limits.TheConstants.{MIN_ITEMS, MAX_ITEMS, MAX_ORDERS, MAX_COMMITS, MAX_LOGGERS}
-use Rattle.log_header.specs.declared.header.TheConstants.{MAGIC, VERSION}
-use Rattle.log_header.specs.Header.{HeaderView, header_view}
+use Rattle.log_header.specs.declared.header.TheConstants.{MAGIC, OLDEST_VERSION, VERSION}
+use Rattle.log_header.specs.Header.{HeaderView, header_of_version}
 
 abbrev pub is_between : ℕ → ℕ → ℕ → Bool
 is_between low high n = nat_le low n && nat_le n high
@@ -45,11 +45,12 @@ unfoldable pub is_logger : ℕ → ℕ → Bool
 is_logger logger loggers = is_between 1 MAX_LOGGERS loggers && nat_lt logger loggers
 
 abbrev pub view_of : Parts → HeaderView
-view_of p = header_view p.1.1.0 p.1.1.1.0 p.1.1.1.1.0 p.1.1.1.1.1
+view_of p = header_of_version p.1.0 p.1.1.0 p.1.1.1.0 p.1.1.1.1.0 p.1.1.1.1.1
 
 unfoldable pub header_if : Parts → Option HeaderView
 header_if p =
-    if p.0 == MAGIC && (p.1.0 == VERSION && is_logger p.1.1.0 p.1.1.1.0) then Some (view_of p) else None
+    if p.0 == MAGIC && (is_between OLDEST_VERSION VERSION p.1.0 && is_logger p.1.1.0 p.1.1.1.0)
+    then Some (view_of p) else None
 
 abbrev pub parts : Reader Parts
 parts =

@@ -17,12 +17,17 @@ use tables::limits::MAX_LOGGERS;
 /// The name of the format, `SILOTPCC`, as a number of eight bytes.
 const MAGIC: u64 = 0x4343_5054_4f4c_4953;
 
-/// The version of the format.
-const VERSION: u32 = 1;
+/// The version of the format in which files are written.
+pub const VERSION: u32 = 2;
+
+/// The oldest version that is read: in its files stands nothing of C_DATA.
+pub const OLDEST_VERSION: u32 = 1;
 
 /// What a log file begins with. Each header keeps `IsHeader`: who reads a field of one knows it.
 #[derive(Clone, Copy, Debug, PartialEq, Eq)]
 pub struct Header {
+    /// The version of the format, from `OLDEST_VERSION` to `VERSION`.
+    pub version: u32,
     /// The number of the logger whose file it is, from 0.
     pub logger: u16,
     /// How many loggers there are, from 1 to 8.
@@ -34,22 +39,28 @@ pub struct Header {
 }
 
 impl Model for Header {
-    ghost use Rattle.log_header.specs.Header.{HeaderView, IsHeader, header_view};
+    ghost use Rattle.log_header.specs.Header.{HeaderView, IsHeader, header_of_version};
 
     ghost Value = { HeaderView };
 
-    ghost view = { λ h. header_view h.logger h.loggers h.scale h.seed };
+    ghost view = { λ h. header_of_version h.version h.logger h.loggers h.scale h.seed };
 
-    ghost invariant = { λ h. IsHeader (header_view h.logger h.loggers h.scale h.seed) };
+    ghost invariant = { λ h. IsHeader (header_of_version h.version h.logger h.loggers h.scale h.seed) };
 
-    ghost inverse = { λ h. record { logger = h.logger; loggers = h.loggers; scale = h.scale; seed = h.seed } };
+    ghost inverse = { λ h. record {
+      version = h.version;
+      logger = h.logger;
+      loggers = h.loggers;
+      scale = h.scale;
+      seed = h.seed;
+    } };
 }
 
 impl Header {
     ghost use Rattle.log_header.specs.Header.{IsHeader, header_view};
 
-    /// The header of the logger with this number, from 0, among 1 to 8 loggers, over a scale and the population of this
-    /// seed, where 0 stands for the plain one.
+    /// The header of a file that is written today, of the logger with this number, from 0, among 1 to 8 loggers, over a
+    /// scale and the population of this seed, where 0 stands for the plain one.
     pub fn new(scale: Scale, seed: u64, logger: u16, loggers: u16) -> Header
         requires loggers { (1 ≤ loggers) × (loggers ≤ MAX_LOGGERS) }
         requires logger { logger < loggers }
@@ -58,6 +69,7 @@ impl Header {
     {
         scale_keeps_limits(&scale);
         Header {
+            version: VERSION,
             logger,
             loggers,
             scale,
@@ -134,10 +146,11 @@ fn header_of(
 ) -> Option<Header>
     ensures { result ≡ header_if (magic, (version, (logger, (loggers, (scale, seed))))) }
 {
-    let is_format = magic == MAGIC && version == VERSION;
+    let is_format = magic == MAGIC && OLDEST_VERSION <= version && version <= VERSION;
     let is_logger = 1 <= loggers && loggers <= MAX_LOGGERS && logger < loggers;
     if is_format && is_logger {
-        Some(Header::new(scale, seed, logger, loggers))
+        let header = Header::new(scale, seed, logger, loggers);
+        Some(Header { version, ..header })
     } else {
         None
     }
@@ -179,7 +192,7 @@ fn put_fields(out: &mut Vec<u8>, header: &Header) -> Result<(), AllocError>
     ensures err { OnErr result (take (length out.old.items) out.new.items ≡ out.old.items) }
 {
     put_u64(out, MAGIC)?;
-    put_u32(out, VERSION)?;
+    put_u32(out, header.version)?;
     put_u16(out, header.logger)?;
     put_u16(out, header.loggers)?;
     put_scale(out, &header.scale)?;

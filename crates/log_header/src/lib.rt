@@ -3,4 +3,4 @@
 
 mod header;
 
-pub use header::{Header, one_header, put_header, read_header};
+pub use header::{Header, OLDEST_VERSION, VERSION, one_header, put_header, read_header};
