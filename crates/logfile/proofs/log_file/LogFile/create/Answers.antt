@@ -1,6 +1,6 @@
 use Rattle.std.proofs.Common.{◌≡◌, ◌+◌, ◌-◌, List, [], ◌∷◌, ◌++◌, length, sym, ap, ◌∙◌, subst, arith, length-append}
 use Rattle.log_disk.specs.Calls.{Call, Wrote, Synced}
-use Rattle.log_header.specs.Header.{IsHeader, header_text}
+use Rattle.log_header.specs.Header.{HeaderView, IsHeader, header_text}
 use Rattle.log_text.specs.declared.last.Last.{Last}
 use Rattle.logfile.specs.Standing.{Stands}
 use Rattle.logfile.proofs.Appending.{all_kept, is_open, first_bytes, created}
@@ -19,6 +19,7 @@ invariant_of-result g c =
     record {
       reaches = omega (arith, size, c.in_ok-write_at.ensures.fits);
       header = is;
+      version = ap (λ (h : HeaderView). h.version) c.new-header.ensures.value;
       near = omega (arith, ap (λ (l : Last). l.epoch) c.start.ensures);
       counts = omega arith;
       stands = λ modelled _. is_open _ _ _ _ _ (made modelled).settled ∣ ([], made modelled) ∣₁;

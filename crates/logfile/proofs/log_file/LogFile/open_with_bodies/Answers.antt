@@ -24,6 +24,7 @@ invariant_of-file g c =
     record {
       reaches = omega (arith, within, c.deref.ensures.len, ap length c.deref.ensures.value, c.in_ok-bytes.bytes.small);
       header = is.is.header;
+      version = search rules;
       near = file_near c.deref.result.now h bodies last end is;
       counts = omega arith;
       stands = λ modelled _. is_open _ _ _ _ _ (stands modelled).settled ∣ (bodies, stands modelled) ∣₁;
