@@ -1,4 +1,4 @@
-use Rattle.std.proofs.Common.{◌≡◌, ℕ, List, Option, length, refl, ap, ◌∙◌, arith, rules, subst}
+use Rattle.std.proofs.Common.{◌≡◌, ℕ, List, Option, length, ap, ◌∙◌, arith, rules, subst}
 use Rattle.std.specs.Prelude.{MatchOption}
 use Rattle.log_header.specs.Header.{HeaderView, header_of_version}
 use Rattle.log_text.specs.Bodies.{BodyView}

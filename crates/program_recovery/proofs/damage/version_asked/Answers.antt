@@ -1,4 +1,4 @@
-use Rattle.std.proofs.Common.{ℕ, [], map, slice_index_or, refl, sym, subst}
+use Rattle.std.proofs.Common.{[], map, slice_index_or, refl, sym, subst}
 use Rattle.log_header.specs.declared.header.TheConstants.{VERSION}
 use Rattle.program_recovery.specs.Flaws.{IsAskedVersion}
 use Rattle.program_recovery.specs.declared.damage.AskedVersion.{AskedVersion}
