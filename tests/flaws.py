@@ -48,7 +48,7 @@ DAMAGED = [
     ("version 1, then 2", [OLD_FILES[0], NEW_FILES[1]], "log-1: its header is of version 2, and 1 was asked for"),
     ("version 2, then 1", [NEW_FILES[0], OLD_FILES[1]], "log-1: its header is of version 1, and 2 was asked for"),
     # The version is the first field in which a header may differ.
-    ("version 2, then 1 of logger 0", NEW_FILES[:1] + OLD_FILES[:1], "log-1: its header is of version 1, and 2 was asked for"),
+    ("version 2, then 1 of 0", [NEW_FILES[0], OLD_FILES[0]], "log-1: its header is of version 1, and 2 was asked for"),
     ("version 1 of logger 1", [OLD_FILES[1], NEW_FILES[1]], "log-0: its header is of logger 1, and 0 was asked for"),
     ("no header, then version 1", [b"", OLD_FILES[1]], "log-0: it has 0 bytes, and a header has 48"),
     ("no warehouse", [with_bytes(TWO_BODIES, 16, b"\0")], "log-0: bytes 0 to 47 are no header of a log file"),
