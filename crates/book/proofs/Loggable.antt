@@ -13,13 +13,14 @@ use Rattle.tables.specs.Rows.{rows, row_at}
 use Rattle.tables.specs.WellFormed.{IsWellFormed}
 use Rattle.tables.specs.declared.records.RecordKey.TheVariants as key
 use Rattle.tables.specs.declared.records.Table.TheVariants as table
-use Rattle.tables.proofs.Numbers.{narrow_among, numbered, wide_named}
+use Rattle.tables.proofs.Numbers.{numbered, wide_named}
 use Rattle.tables_laws.proofs.Kept.{after-scale}
 use Rattle.encoding.specs.Puts.{IsRow}
 use Rattle.encoding.proofs.Values.{lawful_rows}
 use Rattle.cells.specs.Records.{CellsView, ReaderView}
 use Rattle.readset.specs.Cells.{AreCellsOf}
 use Rattle.readset.specs.Writes.{value_for}
+use Rattle.readset.proofs.CellsOf.{count_of}
 use Rattle.readset.specs.declared.work.Work.{Work}
 use Rattle.book.specs.Book.{IsWorkOf, AreInRecordOrder, entry_of}
 use Rattle.book.specs.History.{replay, CommitsAt}
@@ -58,7 +59,7 @@ next_loggable {t0 = t0} {terminals = terminals} {cells = cells} {history = histo
     let r_scale : (replay t0 history).scale ≡ t0.scale = replay-scale t0 history in
     let t_scale : t.scale ≡ t0.scale = after-scale (replay t0 history) work.input ∙ r_scale in
     let below : (n : ℕ) (value : Option (List ℕ)) → value_for work.writes n ≡ Some value → n < record_count t0.scale
-    = λ n value is. narrow_among t0.scale n (subst (λ m. n < m) count.narrow (is_work.limits.writes_narrow n value is)) in
+    = λ n value is. subst (λ m. n < m) (count_of t0.scale cells count) (is_work.limits.writes_cells n value is) in
     record {
       each = All-push (IsLoggable t0.scale) history entry are.each (record {
         ordered = ordered.writes_ascend;

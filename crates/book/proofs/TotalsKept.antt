@@ -3,7 +3,7 @@ use Rattle.std.proofs.Common.{◌≡◌, ℕ, ◌<◌, ◌≤◌, ◌+◌, ◌-�
 use Rattle.tables.specs.Database.{Database}
 use Rattle.tables.specs.Apply.{after}
 use Rattle.tables.specs.Conditions.{IsConsistent}
-use Rattle.tables.specs.Records.{narrow_count}
+use Rattle.tables.specs.Records.{record_count}
 use Rattle.tables.specs.Rows.{rows}
 use Rattle.tables.specs.WellFormed.{IsWellFormed, HasRoom}
 use Rattle.tables.specs.declared.limits.TheConstants.{MAX_COMMITS}
@@ -11,11 +11,11 @@ use Rattle.tables.specs.declared.input.Input.{Input}
 use Rattle.tables.specs.declared.reply.Reply.{Reply}
 use Rattle.cells.specs.Records.{CellsView, PenView, ReaderView}
 use Rattle.readset.specs.Cells.{AreCellsOf}
-use Rattle.tables.proofs.Numbers.{narrow_among}
+use Rattle.readset.proofs.CellsOf.{count_of}
 use Rattle.cells.specs.Versions.{newest, value_in}
 use Rattle.encoding.proofs.Positions.{first_value}
 use Rattle.tables_laws.proofs.Kept.{after-scale, after-IsWellFormed}
-use Rattle.readset.specs.Writes.{WriteSetView}
+use Rattle.readset.specs.Writes.{WriteSetView, AreWrittenOfKind}
 use Rattle.readset.specs.declared.work.Work.{Work}
 use Rattle.totals_bounds.specs.Bounds.{AreBounds}
 use Rattle.totals_bounds.specs.Written.{HasOrdersWithin}
@@ -34,7 +34,7 @@ use Rattle.book.proofs.Sound.{done_there}
 -- what the newest versions of a sound book hold
 pub held_there : {past : ℕ} {t0 : Database} {pen : PenView} {history : List Entry} {t : Database} → IsSound past t0 pen history t → t.scale ≡ t0.scale
     → AreHeld pen t
-held_there {t0 = t0} sound scale n below = value_held sound n (narrow_among t0.scale n (subst (λ s. n < narrow_count s) scale below))
+held_there sound scale n below = value_held sound n (subst (λ s. n < record_count s) scale below)
 
 pub records_there : {past : ℕ} {t0 : Database} {pen : PenView} {history : List Entry} {t : Database} → IsSound past t0 pen history t → t.scale ≡ t0.scale
     → AreCellsOf t0.scale pen.cells → AreRecords pen t
@@ -49,7 +49,7 @@ records_there {pen = pen} sound scale count = record {
 pub first_records : (t0 : Database) (made : Records) (terminals : ℕ) → AreUnwritten t0 terminals made → IsWellFormed t0 → IsConsistent t0 → AreRecords made.pen t0
 first_records t0 made terminals are well_formed consistent = record {
   count = subst (AreCellsOf t0.scale) (sym are.cells) are.count;
-  held = λ n below. ap (λ (l : List (List ℕ)). value_in (newest l)) (are.versions n (narrow_among t0.scale n below)) ∙ first_value (rows t0 n);
+  held = λ n below. ap (λ (l : List (List ℕ)). value_in (newest l)) (are.versions n below) ∙ first_value (rows t0 n);
   well_formed = well_formed;
   consistent = consistent;
 }
@@ -60,10 +60,8 @@ pub writes_there : (t0 t : Database) (cells : CellsView) (reader : ReaderView) (
 writes_there t0 t cells reader work is_work count scale ordered = record {
   ascend = ordered.writes_ascend;
   found = ordered.writes_found;
-  below = λ i d inside. subst (λ m. (get_or work.writes.values i d).0 < m) (count.narrow ∙ ap narrow_count (sym scale))
-      (is_work.limits.writes_narrow _ _ (ordered.writes_found i d inside));
-  narrow = λ n value is. (is_work.limits.writes_kinds n value is).narrow
-      (is_work.limits.writes_narrow n value is);
+  below = λ i d inside. subst (λ m. (get_or work.writes.values i d).0 < m) (count_of t0.scale cells count ∙ ap record_count (sym scale))
+      (is_work.limits.writes_cells _ _ (ordered.writes_found i d inside));
 }
 
 -- totals that have followed a commit's writes, and then its stores
@@ -98,6 +96,7 @@ module _ {past : ℕ} {t0 : Database} {run_cells : CellsView} {epoch : ℕ} {wri
         input = done.input;
         commit = done.commit;
         ordered = writes_there t0 t run_cells reader work is_work ready.count ready.of_population.scale ordered;
+        kinds = subst (λ (cells : CellsView). AreWrittenOfKind cells work.writes) (sym ready.cells) is_work.limits.writes_kinds;
         leaves = after-IsWellFormed t work.input (MAX_COMMITS - (past + length history + 1)) done.input done.commit.numbered sound.well_formed sound.consistent
             room;
       }

@@ -123,8 +123,8 @@ impl<K: Run> Book<K> {
         self.history.len() as u64
     }
 
-    /// What a narrow record holds in the committed tables: the columns of its row that change, or an index record's number,
-    /// and nothing where it is absent. Constant time, no memory.
+    /// What a narrow record holds in the committed tables: the columns of its row that change, or an index record's
+    /// number, and nothing where it is absent. Constant time, no memory.
     pub fn record(&mut self, cells: &Cells, number: u32) -> Option<Payload>
         requires cells { cells.now ≡ K.cells }
         requires is_record { number < narrow_count K.first.scale }
@@ -134,8 +134,8 @@ impl<K: Run> Book<K> {
         cells.held(&mut self.pen, number)
     }
 
-    /// What a wide record holds in the committed tables: the words of a customer's C_DATA. It is always there, since the
-    /// tables are well-formed. Constant time, no memory.
+    /// What a wide record holds in the committed tables: the words of a customer's C_DATA. It is always there, since
+    /// the tables are well-formed. Constant time, no memory.
     pub fn record_wide(&mut self, cells: &Cells, number: u32) -> Option<DataWords>
         requires cells { cells.now ≡ K.cells }
         requires is_record { (narrow_count K.first.scale ≤ number) × (number < record_count K.first.scale) }

@@ -1,5 +1,5 @@
 -- Tables that are built record by record: the records below a number hold their values, and the others nothing yet.
-use Rattle.std.proofs.Common.{◌≡◌, ◌≢◌, ℕ, ◌+◌, ◌<◌, ◌≤◌, inl, inr, IsSome, List, Option, Some, None, false, true≢false, refl, sym, ap, ◌∙◌}
+use Rattle.std.proofs.Common.{◌≡◌, ◌≢◌, ℕ, ◌+◌, ◌<◌, ◌≤◌, inl, inr, IsSome, List, Option, Some, None, true, true≢false, refl, sym, ap, ◌∙◌}
 use Rattle.std.proofs.Common.{subst, arith}
 use Rattle.std.specs.Option.{option_map}
 use Rattle.std.specs.FinMap.{empty, get-empty}
@@ -73,7 +73,7 @@ no_rows R IsKey IsIn words = record {
   rows = λ k is. ap (option_map words) (get-empty R k);
 }
 
-pub no_records : (t0 : Database) (added : List History) → t0.keeps_texts ≡ false
+pub no_records : (t0 : Database) (added : List History) → t0.keeps_texts ≡ true
     → AreTables t0 (λ k. None) (record (empty_database t0.scale) { items = t0.items; history = added })
 no_records t0 added none = let s = t0.scale in record {
   scale = refl;

@@ -37,16 +37,18 @@ same_number m n e = eqb-true m n (not_false (m == n) e)
 pub same_header : (g h : HeaderView) → find (differs g h) FIELDS ≡ None → g ≡ h
 same_header g h none =
     let all = none_pass (differs g h) FIELDS none in
-    let logger = same_number g.logger h.logger all.0 in
-    let loggers = same_number g.loggers h.loggers all.1.0 in
-    let warehouses = same_number g.scale.warehouses h.scale.warehouses all.1.1.0 in
-    let districts = same_number g.scale.districts h.scale.districts all.1.1.1.0 in
-    let customers = same_number g.scale.customers h.scale.customers all.1.1.1.1.0 in
-    let items = same_number g.scale.items h.scale.items all.1.1.1.1.1.0 in
-    let orders = same_number g.scale.orders h.scale.orders all.1.1.1.1.1.1.0 in
-    let commits = same_number g.scale.commits h.scale.commits all.1.1.1.1.1.1.1.0 in
-    let seed = same_number g.seed h.seed all.1.1.1.1.1.1.1.1.0 in
+    let version = same_number g.version h.version all.0 in
+    let logger = same_number g.logger h.logger all.1.0 in
+    let loggers = same_number g.loggers h.loggers all.1.1.0 in
+    let warehouses = same_number g.scale.warehouses h.scale.warehouses all.1.1.1.0 in
+    let districts = same_number g.scale.districts h.scale.districts all.1.1.1.1.0 in
+    let customers = same_number g.scale.customers h.scale.customers all.1.1.1.1.1.0 in
+    let items = same_number g.scale.items h.scale.items all.1.1.1.1.1.1.0 in
+    let orders = same_number g.scale.orders h.scale.orders all.1.1.1.1.1.1.1.0 in
+    let commits = same_number g.scale.commits h.scale.commits all.1.1.1.1.1.1.1.1.0 in
+    let seed = same_number g.seed h.seed all.1.1.1.1.1.1.1.1.1.0 in
     λ i. record {
+      version = version i;
       logger = logger i;
       loggers = loggers i;
       scale = record {

@@ -6,6 +6,7 @@ use Rattle.log_flaws.specs.declared.field.HeaderField.TheVariants as field
 
 -- the number that a header has in a field
 abbrev pub number_in : HeaderField → HeaderView → ℕ
+number_in field.Version h = h.version
 number_in field.Logger h = h.logger
 number_in field.Loggers h = h.loggers
 number_in field.Warehouses h = h.scale.warehouses
@@ -19,8 +20,9 @@ number_in field.Population h = h.seed
 abbrev pub differs : HeaderView → HeaderView → HeaderField → Bool
 differs g h f = not (number_in f g == number_in f h)
 
--- what a command line calls it: an option, but for the number of a logger
+-- what a command line calls it: an option, but for the version and the number of a logger
 abbrev pub field_name : HeaderField → List ℕ
+field_name field.Version = codes "version"
 field_name field.Logger = codes "logger"
 field_name field.Loggers = codes "--loggers"
 field_name field.Warehouses = codes "--warehouses"

@@ -11,6 +11,7 @@ use Rattle.log_flaws.specs.declared.voids.VoidFlaw.TheVariants as void
 
 -- of a number that counts nothing, and of one, it is said that it was
 abbrev pub were : HeaderField → ℕ → List ℕ
+were field.Version n = codes "was"
 were field.Logger n = codes "was"
 were field.Population n = codes "was"
 were _ n = if n == 1 then codes "was" else codes "were"

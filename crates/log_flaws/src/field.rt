@@ -7,6 +7,8 @@ use log_header::Header;
 /// A field of a log file's header.
 #[derive(Clone, Copy, Debug, PartialEq, Eq)]
 pub enum HeaderField {
+    /// The version of the format.
+    Version,
     /// The number of the file's logger, from 0.
     Logger,
     /// How many loggers there are.
@@ -24,7 +26,8 @@ pub enum HeaderField {
 }
 
 /// All fields, in the order in which they stand in a header.
-const FIELDS: [HeaderField; 9] = [
+const FIELDS: [HeaderField; 10] = [
+    HeaderField::Version,
     HeaderField::Logger,
     HeaderField::Loggers,
     HeaderField::Warehouses,
@@ -46,6 +49,7 @@ impl HeaderField {
         ensures { result ≡ number_in self header.now }
     {
         match self {
+            HeaderField::Version => u64::from(header.version),
             HeaderField::Logger => u64::from(header.logger),
             HeaderField::Loggers => u64::from(header.loggers),
             HeaderField::Warehouses => u64::from(header.scale.warehouses()),
@@ -58,11 +62,12 @@ impl HeaderField {
         }
     }
 
-    /// What a command line calls it: an option, but for the number of a logger.
+    /// What a command line calls it: an option, but for the version and the number of a logger.
     pub fn name(self) -> &'static str
         ensures { result.now ≡ field_name self }
     {
         match self {
+            HeaderField::Version => "version",
             HeaderField::Logger => "logger",
             HeaderField::Loggers => "--loggers",
             HeaderField::Warehouses => "--warehouses",
@@ -80,7 +85,7 @@ impl HeaderField {
         ensures { result.now ≡ were self number }
     {
         match self {
-            HeaderField::Logger | HeaderField::Population => "was",
+            HeaderField::Version | HeaderField::Logger | HeaderField::Population => "was",
             _ if number == 1 => "was",
             _ => "were",
         }

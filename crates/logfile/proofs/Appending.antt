@@ -8,6 +8,7 @@ use Rattle.std.proofs.lemmas.List.{drop_all}
 use Rattle.log_disk.specs.Calls.{Call, Synced, written}
 use Rattle.log_disk.specs.Crashes.{MayLeave, LeavesOnly}
 use Rattle.log_header.specs.Header.{HeaderView, IsHeader, header_text}
+use Rattle.log_header.specs.declared.header.TheConstants.{VERSION}
 use Rattle.log_text.specs.Bodies.{BodyView, body_text, body_after, bodies_after, start}
 use Rattle.log_text.specs.File.{IsFile, opened}
 use Rattle.log_text.specs.declared.last.Last.{Last}
@@ -243,10 +244,10 @@ no_call h bodies body end last seen story s = record {
 }
 
 -- a batch that continues a file, as the body that follows there
-pub batch_body : (h : HeaderView) (count number : ℕ) (last now : Last) (b : BatchView) → IsHeader h → IsBatch b → Continues h count number last b
+pub batch_body : (h : HeaderView) (count number : ℕ) (last now : Last) (b : BatchView) → IsHeader h → h.version ≡ VERSION → IsBatch b → Continues h count number last b
     → last.epoch ≤ last.mark + 1 → now ≡ behind_batch last b → body_after h last (body_of_batch b) ≡ Some now
-batch_body h count number last now b is batch at epoch now_is =
-    batch_follows h count number last b batch at epoch (subst IsScale (sym at.scale) is.scale) ∙ ap Some (sym now_is)
+batch_body h count number last now b is version batch at epoch now_is =
+    batch_follows h count number last b version batch at epoch (subst IsScale (sym at.scale) is.scale) ∙ ap Some (sym now_is)
 
 -- its entries are counted, and their numbers rise
 pub batch_counts : (h : HeaderView) (count number entries upto : ℕ) (last : Last) (b : BatchView) → IsBatch b → Continues h count number last b

@@ -3,6 +3,7 @@ use Rattle.std.specs.Prelude.{◌≡◌, ◌⊎◌, ℕ, ◌+◌, ◌<◌, ◌�
 use Rattle.log_disk.specs.Calls.{Call}
 use Rattle.log_disk.specs.Crashes.{MayLeave}
 use Rattle.log_header.specs.Header.{HeaderView, IsHeader, header_text}
+use Rattle.log_header.specs.declared.header.TheConstants.{VERSION}
 use Rattle.log_text.specs.Bodies.{BodyView, bodies_after, start}
 use Rattle.log_text.specs.File.{IsFile, opened}
 use Rattle.log_text.specs.declared.last.Last.{Last}
@@ -51,13 +52,14 @@ pub record IsKept (h : HeaderView) (story : List Call) (mark : ℕ) : Type 0 whe
   pub may : MayLeave story least
   pub just : IsFile least h bodies
 
--- what each open log file keeps, whose disk has these bytes and calls: its text ends below 2^63, its epochs are near
--- its mark, and its entries have a number each; on a modelled disk it stands there until the device fails, and no crash
+-- what each open log file keeps, whose disk has these bytes and calls: it is of the version that is written today, its
+-- text ends below 2^63, its epochs are near its mark, and its entries have a number each; on a modelled disk it stands there until the device fails, and no crash
 -- can take what is up to its mark
 pub record IsLogFile (IsModelled : Type 0) (seen : List ℕ) (story : List Call) (h : HeaderView) (end : ℕ) (last : Last)
     (count number : ℕ) (failed : Bool) : Type 0 where
   pub reaches : end < 2 ^ 63
   pub header : IsHeader h
+  pub version : h.version ≡ VERSION
   pub near : last.epoch ≤ last.mark + 1
   pub counts : count ≤ number
   pub stands : IsModelled → failed ≡ false → IsOpen h end last seen story

@@ -4,7 +4,8 @@ ghost use Rattle.std.specs.Prelude.{IsTrue, IfOk, IfErr, IsErrOf, OnOk, OnErr};
 ghost use Rattle.money.specs.declared.refusal.Refusal.TheVariants.{OutOfMemory, Damaged, Device};
 ghost use Rattle.log_disk.specs.Calls.{Wrote, Synced, Counts};
 ghost use Rattle.log_disk.specs.Crashes.{LeavesOnly};
-ghost use Rattle.log_header.specs.Header.{HeaderView, header_text};
+ghost use Rattle.log_header.specs.Header.{HeaderView, header_text, header_view};
+ghost use Rattle.log_header.specs.declared.header.TheConstants.{VERSION};
 ghost use Rattle.log_text.specs.Bodies.{BodyView, Void, body_after, body_of, body_text, marked, start};
 ghost use Rattle.log_text.specs.File.{IsFile, IsFileTo};
 ghost use Rattle.log_text.specs.declared.last.Last.{Last};
@@ -19,7 +20,7 @@ use book::Batch;
 use log_codec::put_u8;
 use log_disk::Disk;
 use log_entries::put_batch;
-use log_header::{Header, put_header};
+use log_header::{Header, VERSION, put_header};
 use log_scan::contents;
 use log_text::{Body, Last, read_to_end, void_text};
 use money::Refusal;
@@ -65,7 +66,8 @@ impl<D: Disk> Model for LogFile<D> {
 }
 
 impl<D: Disk> LogFile<D> {
-    /// A log file on an empty disk: its header and a closed gate, by two calls of the device.
+    /// A log file on an empty disk: its header, which is put in the version that is written today whichever it has, and
+    /// a closed gate, by two calls of the device.
     ///
     /// # Errors
     ///
@@ -76,20 +78,20 @@ impl<D: Disk> LogFile<D> {
     where
         D: Drop,
         requires empty { D.is_modelled → D.seen disk ≡ [] }
-        ensures header { IfOk result (λ file. file.header ≡ header) }
+        ensures header { IfOk result (λ file. file.header
+            ≡ header_view header.logger header.loggers header.scale header.seed) }
         ensures last { IfOk result (λ file. (file.last ≡ start) × (file.count ≡ 0) × (file.number ≡ 0)
             × (file.failed ≡ false)) }
         ensures stands { D.is_modelled → IfOk result (λ file.
             Stands file.header [] file.end file.last (D.seen file.disk) (D.story file.disk)) }
         ensures bytes { D.is_modelled → IfOk result (λ file.
-            D.seen file.disk ≡ header_text header ++ CLOSED ∷ []) }
+            D.seen file.disk ≡ header_text file.header ++ CLOSED ∷ []) }
         ensures calls { D.is_modelled → IfOk result (λ file.
             D.story file.disk ≡ Synced (D.seen file.disk) ∷ Wrote 0 (file.end + 1) ∷ D.story disk) }
         ensures none_failed { IfOk result (λ file. D.failed file.disk ≡ D.failed disk) }
         ensures others { IfErr result (λ refusal. (refusal ≢ OutOfMemory) → refusal ≡ Device) }
     {
-        // Who reads a field of a header knows its rules.
-        let _loggers = header.loggers;
+        let header = Header::new(header.scale, header.seed, header.logger, header.loggers);
         let mut disk = disk;
         let buffer = first_text(alloc, &header)?;
         disk.write_at(0, &buffer)?;
@@ -122,8 +124,9 @@ impl<D: Disk> LogFile<D> {
             × (D.is_modelled → bytes ≡ D.seen disk) × IsFileTo bytes file.header bodies file.last file.end)) }
         ensures synced { D.is_modelled → IfOk result (λ file. (D.seen file.disk ≡ D.seen disk)
             × (D.story file.disk ≡ Synced (D.seen disk) ∷ D.story disk)) }
+        ensures version { IfOk result (λ file. file.header.version ≡ VERSION) }
         ensures damaged { D.is_modelled → IsErrOf result Damaged → (h : HeaderView) (bodies : List BodyView)
-            → IsFile (D.seen disk) h bodies → ⊥ }
+            → h.version ≡ VERSION → IsFile (D.seen disk) h bodies → ⊥ }
         ensures none_failed { IfOk result (λ file. D.failed file.disk ≡ D.failed disk) }
         ensures others { IfErr result (λ refusal. (refusal ≢ OutOfMemory) → (refusal ≢ Device)
             → refusal ≡ Damaged) }
@@ -139,10 +142,10 @@ impl<D: Disk> LogFile<D> {
     ///
     /// # Errors
     ///
-    /// `Damaged`, of a modelled disk only where its bytes are no log file; `Device`; `OutOfMemory`. After Ok they are
-    /// one, and no call of the device has failed. An Err drops the disk, so no clause says more of it; by the code
-    /// alone `Device` comes exactly where a call of the device fails, `OutOfMemory` only for want of memory, and
-    /// nothing is written.
+    /// `Damaged`, of a modelled disk only where its bytes are no log file of the version that is written today;
+    /// `Device`; `OutOfMemory`. After Ok they are one, and no call of the device has failed. An Err drops the disk, so
+    /// no clause says more of it; by the code alone `Device` comes exactly where a call of the device fails,
+    /// `OutOfMemory` only for want of memory, and nothing is written.
     pub fn open_with_bodies(alloc: Global, disk: D) -> Result<(LogFile<D>, Vec<Body>), Refusal>
     where
         D: Drop,
@@ -155,8 +158,9 @@ impl<D: Disk> LogFile<D> {
             × IsFileTo bytes x.0.header (map body_of x.1.items) x.0.last x.0.end)) }
         ensures synced { D.is_modelled → IfOk result (λ x. (D.seen x.0.disk ≡ D.seen disk)
             × (D.story x.0.disk ≡ Synced (D.seen disk) ∷ D.story disk)) }
+        ensures version { IfOk result (λ x. x.0.header.version ≡ VERSION) }
         ensures damaged { D.is_modelled → IsErrOf result Damaged → (h : HeaderView) (bodies : List BodyView)
-            → IsFile (D.seen disk) h bodies → ⊥ }
+            → h.version ≡ VERSION → IsFile (D.seen disk) h bodies → ⊥ }
         ensures none_failed { IfOk result (λ x. D.failed x.0.disk ≡ D.failed disk) }
         ensures others { IfErr result (λ refusal. (refusal ≢ OutOfMemory) → (refusal ≢ Device)
             → refusal ≡ Damaged) }
@@ -165,6 +169,10 @@ impl<D: Disk> LogFile<D> {
         synced.sync()?;
         let bytes = contents(alloc, &mut synced)?;
         let (header, bodies, last, end) = read_to_end(alloc, &bytes)?;
+        // Behind bodies of another version none may stand that are written today.
+        if header.version != VERSION {
+            return Err(Refusal::Damaged);
+        }
         let file = LogFile {
             disk: synced,
             header,

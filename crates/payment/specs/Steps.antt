@@ -1,5 +1,5 @@
 -- The steps of a Payment (TPC-C 2.5.2.2): the rows of its three records, what they become, and its reply.
-use Rattle.std.specs.Prelude.{◌≡◌, ℕ, ◌+◌, ℤ, ◌+ℤ◌, ◌-ℤ◌, Some, [], ◌∷◌}
+use Rattle.std.specs.Prelude.{◌≡◌, ℕ, ◌+◌, ℤ, ◌+ℤ◌, ◌-ℤ◌, Option, Some, List, ◌∷◌}
 use Rattle.std.specs.Option.{option_map}
 use Rattle.std.specs.FinMap.{get}
 use Rattle.tables.specs.Sizes.{Sizes}
@@ -13,6 +13,7 @@ use Rattle.rows.specs.Columns.{warehouse_columns, district_columns, customer_col
 use Rattle.rows.specs.Columns.{warehouse_columns_words, district_columns_words, customer_columns_words}
 use Rattle.rows.specs.Columns.{AreWarehouseColumns, AreDistrictColumns, AreCustomerColumns}
 use Rattle.readset.specs.Changes.{Changes}
+use Rattle.payment.specs.Text.{text_change}
 use Rattle.payment.specs.declared.transaction.Rows.{Rows}
 
 -- the paying district
@@ -47,13 +48,14 @@ paid amount rows = record {
   };
 }
 
--- what changes, and the reply, of rows after the payment
-abbrev pub changes_of : PaymentInput → ℕ → Rows → Changes
-changes_of x c rows =
+-- what changes, of rows after the payment, and of C_DATA where it changes
+abbrev pub changes_of : PaymentInput → ℕ → Rows → Option (List ℕ) → Changes
+changes_of x c rows text =
     (key.Warehouse x.warehouse, Some (warehouse_columns_words rows.warehouse))
     ∷ (key.District (paying x), Some (district_columns_words rows.district))
-    ∷ (key.Customer (payer x c), Some (customer_columns_words rows.customer)) ∷ []
+    ∷ (key.Customer (payer x c), Some (customer_columns_words rows.customer)) ∷ text_change x c text
 
+-- the reply
 abbrev pub reply_of : Rows → PaymentInput → ℕ → PaymentReply
 reply_of rows x c = record {
   warehouse = x.warehouse;

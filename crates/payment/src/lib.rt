@@ -2,6 +2,7 @@
 //! before the commit (Silo, SOSP 2013, section 4.4).
 #![tactic(auto)]
 
+mod text;
 mod transaction;
 
 pub use transaction::execute;

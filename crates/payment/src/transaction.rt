@@ -1,5 +1,5 @@
 //! A Payment on record cells.
-ghost use Rattle.std.specs.Prelude.{◌≡◌, ◌≤◌, ◌≤ℤ◌, pos, false, IsSome, [], length, Some, IfOk, IfErr, OnOk};
+ghost use Rattle.std.specs.Prelude.{◌≡◌, ◌≤◌, ◌≤ℤ◌, pos, IsSome, [], length, Some, None, IfOk, IfErr, OnOk};
 ghost use Rattle.tables.specs.Sizes.{Sizes, IsNumber};
 ghost use Rattle.tables.specs.Payment.{IsPayment, payer, payer_number, history_row};
 ghost use Rattle.tables.specs.declared.limits.TheConstants.{MAX_PAYMENT};
@@ -15,11 +15,13 @@ ghost use Rattle.readset.specs.Commit.{IsCommitOf};
 ghost use Rattle.readset.specs.Transaction.{Finds, ReadsMore, IsExecuted};
 ghost use Rattle.payment.specs.Steps.{paying, ArePaymentRows, AreInRange, paid, changes_of, reply_of};
 
+use crate::text::tell;
 use cells::Reader;
 use money::{Cents, Refusal};
 use population::Population;
 use readset::{Start, Transaction, Work, put_row, read_present};
 use rows::{CustomerColumns, DistrictColumns, WarehouseColumns};
+use std::alloc::Global;
 use std::sync::Wait;
 use tables::{History, Input, PaymentInput, PaymentReply, Reply};
 
@@ -34,7 +36,8 @@ struct Rows {
 /// Executes a Payment (TPC-C 2.5.2.2) in a transaction that has read nothing: reads its records once each, and says
 /// what it is to write and to reply if it commits. No cell changes. Gives back the reader. Costs three loads and a
 /// few look-ups, memory for what it reads and writes, whatever the tables' size, and by last name what
-/// `Population::customer` does.
+/// `Population::customer` does; for a customer with bad credit also a load of C_DATA, and memory for its words and for
+/// what the Payment puts there.
 ///
 /// # Errors
 ///
@@ -43,6 +46,7 @@ struct Rows {
 /// had seen, and perhaps more.
 pub fn execute<R: Wait, K: Start>(
     rt: &R,
+    alloc: Global,
     mut transaction: Transaction<'_, K>,
     payment: &PaymentInput,
 ) -> (Reader, Result<Work, Refusal>)
@@ -51,7 +55,7 @@ pub fn execute<R: Wait, K: Start>(
     ensures { IsExecuted K.tables (input_variants.Payment payment.now) K.reader result.0 result.1 }
 {
     let customer = payer(transaction.population(), payment);
-    let reply = pay(rt, &mut transaction, payment, customer);
+    let reply = pay(rt, alloc, &mut transaction, payment, customer);
     transaction.finish(Input::Payment(*payment), reply)
 }
 
@@ -64,9 +68,11 @@ fn payer(population: &Population, payment: &PaymentInput) -> u32
     population.customer(payment.customer_home(), payment.who)
 }
 
-/// Reads the three records, says what they are to hold and which row HISTORY is to get, and replies.
+/// Reads the three records, and C_DATA where the customer's credit is bad, says what they are to hold and which row
+/// HISTORY is to get, and replies.
 fn pay<R: Wait, K: Start>(
     rt: &R,
+    alloc: Global,
     transaction: &mut Transaction<'_, K>,
     payment: &PaymentInput,
     customer: u32,
@@ -74,17 +80,17 @@ fn pay<R: Wait, K: Start>(
     requires input { IsPayment K.tables.scale payment.now }
     requires payer { customer ≡ payer_number K.tables payment.now }
     requires customer { IsNumber K.tables.scale.customers customer }
-    requires keeps { K.tables.keeps_texts ≡ false }
     requires begun { transaction.old ≡ record { reads = []; writes = no_writes } }
     ensures reply { Finds K.tables transaction.new result (λ reply t.
         IsCommitOf t (input_variants.Payment payment.now) transaction.new.writes reply) }
-    ensures reads { length transaction.new.reads ≤ 3 }
-    ensures writes { length transaction.new.writes.values ≤ 3 }
+    ensures reads { length transaction.new.reads ≤ 4 }
+    ensures writes { length transaction.new.writes.values ≤ 4 }
 {
     transaction.reserve(3, 3)?;
     let rows = read(rt, transaction, payment, customer)?;
     let rows = raised(&rows, payment.amount);
     write(transaction, payment, customer, &rows)?;
+    tell(rt, alloc, transaction, payment, customer)?;
     Ok(Reply::Payment(reply(payment, &rows, customer)))
 }
 
@@ -164,7 +170,7 @@ fn write<K: Start>(
         (held transaction.old.reads (number_of_key K.tables.scale (record_key.Customer (payer payment.now customer)))) }
     requires none { transaction.old.writes ≡ no_writes }
     ensures written { OnOk result (transaction.new.writes ≡ record {
-      values = (puts_all K.tables.scale no_writes (changes_of payment.now customer rows.now)).values;
+      values = (puts_all K.tables.scale no_writes (changes_of payment.now customer rows.now None)).values;
       history_row = Some (history_row payment.now customer);
     }) }
     ensures reads { transaction.new.reads ≡ transaction.old.reads }

@@ -1,4 +1,5 @@
 pub mod Unique
 pub mod Prices
 pub mod Rates
+pub mod Credits
 pub mod Initial

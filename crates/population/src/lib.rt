@@ -1,6 +1,7 @@
 //! The populations that a database begins with (TPC-C 4.3.3).
 #![tactic(auto)]
 
+mod credits;
 mod name_index;
 mod population;
 mod prices;

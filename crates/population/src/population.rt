@@ -5,6 +5,7 @@ ghost use Rattle.std.proofs.Props.{props};
 ghost use Rattle.tables.specs.Names.{names as names_of};
 ghost use Rattle.population.specs.Unique.{line_order-prop};
 ghost use Rattle.population.specs.Prices.{prices_of};
+ghost use Rattle.population.specs.Credits.{bad_credits_of};
 ghost use Rattle.population.specs.Rates.{discounts_of, district_taxes_of, warehouse_taxes_of};
 ghost use Rattle.tables.specs.Conditions.{IsConsistent};
 ghost use Rattle.tables.specs.Database.{database};
@@ -12,6 +13,7 @@ ghost use Rattle.tables.specs.WellFormed.{IsWellFormed, HasRoom};
 ghost use Rattle.tables.specs.Reach.{IsInReach};
 ghost use Rattle.tables.specs.declared.limits.TheConstants.{MAX_COMMITS};
 
+use crate::credits::bad_credits;
 use crate::name_index::NameIndex;
 use crate::prices::prices;
 use crate::rates::{
@@ -26,8 +28,8 @@ use tables::{
 };
 
 /// The rows that a database begins with, its customers by name, and lists of what no transaction changes: prices,
-/// discounts and taxes. Its type keeps that the rows are well-formed and consistent, have room for 600,000 commits, and
-/// are in reach of none.
+/// discounts, taxes and whose credit is bad. Its type keeps that the rows are well-formed and consistent, have room for
+/// 600,000 commits, and are in reach of none.
 #[derive(Debug, Drop)]
 pub struct Population {
     tables: Tables,
@@ -37,6 +39,7 @@ pub struct Population {
     discounts: Vec<Rate>,
     district_taxes: Vec<Rate>,
     warehouse_taxes: Vec<Rate>,
+    bad_credits: Vec<bool>,
     seed: u64,
     pub ghost room: { HasRoom MAX_COMMITS (database tables) } by { Prim.hlevel props },
     pub ghost reach: { IsInReach 0 (database tables) } by { Prim.hlevel props },
@@ -47,6 +50,7 @@ pub struct Population {
     pub ghost discounted: { discounts.items ≡ discounts_of (database tables) } by { Prim.hlevel props },
     pub ghost districts_taxed: { district_taxes.items ≡ district_taxes_of (database tables) } by { Prim.hlevel props },
     pub ghost warehouses_taxed: { warehouse_taxes.items ≡ warehouse_taxes_of (database tables) } by { Prim.hlevel props },
+    pub ghost credited: { bad_credits.items ≡ bad_credits_of (database tables) } by { Prim.hlevel props },
     pub ghost consistent: { IsConsistent (database tables) } by { Prim.hlevel props },
 }
 
@@ -59,6 +63,7 @@ impl Population {
     ghost use Rattle.population.specs.Prices.{price_of};
     ghost use Rattle.tables.specs.Customer.{IsWho, customer_number};
     ghost use Rattle.tables.specs.NewOrder.{discount, district_tax, warehouse_tax};
+    ghost use Rattle.tables.specs.Payment.{has_bad_credit};
 
     /// The plain population of a scale, in which no column is drawn. Its seed is 0.
     ///
@@ -108,6 +113,7 @@ impl Population {
         let discounts = discounts(alloc, &tables)?;
         let district_taxes = district_taxes(alloc, &tables)?;
         let warehouse_taxes = warehouse_taxes(alloc, &tables)?;
+        let bad_credits = bad_credits(alloc, &tables)?;
         Ok(Population {
             tables,
             numbering,
@@ -116,6 +122,7 @@ impl Population {
             discounts,
             district_taxes,
             warehouse_taxes,
+            bad_credits,
             seed,
         })
     }
@@ -173,6 +180,17 @@ impl Population {
         }
         let place = place_of_customer(&self.tables.scale, key);
         self.discounts[place as usize]
+    }
+
+    /// Whether C_CREDIT of a customer is BC: not where it isn't in CUSTOMER. Constant time.
+    pub fn has_bad_credit(&self, key: CustomerKey) -> bool
+        ensures { result ≡ has_bad_credit (initial self.now) key }
+    {
+        if !has_customer(&self.tables.scale, key) {
+            return false;
+        }
+        let place = place_of_customer(&self.tables.scale, key);
+        self.bad_credits[place as usize]
     }
 
     /// D_TAX of a district: 0 where it isn't in DISTRICT. Constant time.

@@ -1,5 +1,5 @@
 -- The tables that a database begins with, of either kind: rows that nothing is drawn for, and rows that are drawn.
-use Rattle.std.specs.Prelude.{◌≡◌, ℕ, ◌≤◌, false, Some, IsSome}
+use Rattle.std.specs.Prelude.{◌≡◌, ℕ, ◌≤◌, true, Some, IsSome}
 use Rattle.std.specs.Option.{option_map_or}
 use Rattle.std.specs.FinMap.{FinMap, get}
 use Rattle.std.specs.declared.cmp.Ordering.{Ordering}
@@ -71,7 +71,7 @@ IsFirstLineKey s orders k = IsPlainOrderKey s (order_of k) × IsNumber (first_li
 -- the nine tables of a kind, of a scale. The keys, but those of ORDER-LINE, and HISTORY are the plain population's
 pub record AreFirstTables (kind : Kind) (s : Sizes) (t : Database) : Type 0 where
   pub scale : t.scale ≡ s
-  pub keeps_texts : t.keeps_texts ≡ false
+  pub keeps_texts : t.keeps_texts ≡ true
   pub warehouses : HasRowsAt (IsWarehouseKey s) (λ w. IsFirstWarehouse kind s) t.warehouses
   pub districts : HasRowsAt (IsDistrictKey s) (λ k. IsFirstDistrict kind s) t.districts
   pub customers : HasRowsAt (IsCustomerKey s) (λ k. IsFirstCustomer kind k.customer) t.customers

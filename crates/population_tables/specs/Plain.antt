@@ -1,5 +1,6 @@
 -- The plain population: which row stands at which key (clause 4.3.3.1 draws most of these columns; here none is drawn).
-use Rattle.std.specs.Prelude.{◌≡◌, ℕ, zero, suc, ◌+◌, ◌-◌, ◌*◌, ◌/◌, ◌%◌, pos, neg_ℤ, Bool, true, false, cond, nat_le, ◌==◌}
+use Rattle.std.specs.Prelude.{◌≡◌, ℕ, zero, suc, ◌+◌, ◌-◌, ◌*◌, ◌/◌, ◌%◌, pos, neg_ℤ, Bool, true, false, cond, nat_le}
+use Rattle.std.specs.Prelude.{◌==◌}
 use Rattle.std.specs.Prelude.{Some, None, IsSome, List, [], ◌∷◌, ◌++◌, map}
 use Rattle.std.specs.List.{flat_map}
 use Rattle.std.specs.FinMap.{FinMap, get}
@@ -121,7 +122,7 @@ pub record IsTable {K X : Type 0} {R : K → K → Ordering} (IsKey : K → Type
 -- the nine tables of the plain population of a scale
 pub record IsPlain (s : Sizes) (t : Database) : Type 0 where
   pub scale : t.scale ≡ s
-  pub keeps_texts : t.keeps_texts ≡ false
+  pub keeps_texts : t.keeps_texts ≡ true
   pub warehouses : IsTable (IsWarehouseKey s) (λ w. plain_warehouse s) t.warehouses
   pub districts : IsTable (IsDistrictKey s) (λ k. plain_district s) t.districts
   pub customers : IsTable (IsCustomerKey s) (λ k. plain_customer k.customer) t.customers

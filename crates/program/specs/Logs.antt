@@ -13,6 +13,8 @@ use Rattle.conditions.specs.declared.report.Report.{Report}
 use Rattle.recover_files.specs.declared.recovering.Recovered.{Recovered}
 use Rattle.program_recovery.specs.Told.{IsShown, IsChecked, IsRefused}
 use Rattle.program_recovery.specs.Flaws.{IsDamage, IsFirstGap}
+use Rattle.program_recovery.specs.declared.damage.AskedVersion.{AskedVersion}
+use Rattle.program_recovery.specs.declared.damage.AskedVersion.TheVariants as asked
 use Rattle.program_recovery.specs.declared.damage.Damage.{Damage}
 use Rattle.program_recovery.specs.declared.gap.Misnumbered.{Misnumbered}
 use Rattle.program_run.specs.Told.{IsRan, IsBroken}
@@ -59,6 +61,13 @@ broken_off Read error = NotRead error
 broken_off Create error = NotWritten error
 broken_off Append error = NotUsed error
 
+-- of which version its files are asked to be: to be read, of any one; to be written behind what they hold, of that which
+-- is written today
+abbrev pub version_asked : Purpose → AskedVersion
+version_asked Read = asked.First
+version_asked Create = asked.First
+version_asked Append = asked.Today
+
 -- a device failed, and this log file is on it
 pub record HasBroken (purpose : Purpose) (files : LogFiles) (refusal : Refusal) (cause : CauseView) : Type 0 where
   pub logger : ℕ
@@ -73,7 +82,8 @@ pub record HasBroken (purpose : Purpose) (files : LogFiles) (refusal : Refusal) 
 pub data IsWhy (purpose : Purpose) (files : LogFiles) (s : Sizes) (seed : ℕ) (refusal : Refusal) (cause : CauseView)
     : Type 0 where
   broken : HasBroken purpose files refusal cause → IsWhy purpose files s seed refusal cause
-  damaged : (file : List ℕ) (damage : Damage) → refusal ≡ Damaged → IsDamage s seed files.loggers file damage
+  damaged : (first file : List ℕ) (damage : Damage) → refusal ≡ Damaged
+      → IsDamage (version_asked purpose) s seed files.loggers first file damage
       → cause ≡ Flawed (path_of files damage.logger) damage.flaw → IsWhy purpose files s seed refusal cause
   gap : (strings : List (List ℕ)) (gap : Misnumbered) → refusal ≡ Gap → IsFirstGap s seed strings (Some gap)
       → cause ≡ Amiss gap → IsWhy purpose files s seed refusal cause

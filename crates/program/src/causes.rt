@@ -104,7 +104,7 @@ fn damaged_file(
     if disks.len() > usize::from(MAX_LOGGERS) {
         return None;
     }
-    match first_damage(alloc, population, disks) {
+    match first_damage(alloc, population, purpose.version_asked(), disks) {
         Ok(Some(damage)) => flawed(alloc, files, &damage),
         Ok(None) if purpose == Purpose::Append => Some(Cause::Unsound),
         _ => None,

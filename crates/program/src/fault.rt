@@ -3,7 +3,7 @@ ghost use Rattle.std.specs.Prelude.{◌≡◌, None};
 
 use log_flaws::FileFlaw;
 use money::Refusal;
-use program_recovery::Misnumbered;
+use program_recovery::{AskedVersion, Misnumbered};
 use std::alloc::{AllocError, AllocFailed};
 use std::io::Error;
 
@@ -40,7 +40,17 @@ pub(crate) enum Purpose {
 
 impl Purpose {
     ghost use Rattle.std.specs.Prelude.{◌≡◌};
-    ghost use Rattle.program.specs.Logs.{broken_off};
+    ghost use Rattle.program.specs.Logs.{broken_off, version_asked};
+
+    /// Of which version its files are asked to be.
+    pub(crate) fn version_asked(self) -> AskedVersion
+        ensures { result ≡ version_asked self }
+    {
+        match self {
+            Purpose::Read | Purpose::Create => AskedVersion::First,
+            Purpose::Append => AskedVersion::Today,
+        }
+    }
 
     /// What it is called that a file of this purpose couldn't be used on, once it was open.
     pub(crate) fn broken_off(self, error: Error) -> Trouble

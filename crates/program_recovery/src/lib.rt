@@ -7,7 +7,7 @@ mod telling;
 mod text;
 mod watching;
 
-pub use damage::{Damage, first_damage};
+pub use damage::{AskedVersion, Damage, first_damage};
 pub use gap::{Misnumbered, first_gap};
 pub use telling::{checked, recovered};
 pub use watching::{Manner, while_shown};

@@ -8,10 +8,10 @@ mod Search
 mod Placed
 mod Ordered
 pub mod Entries
-mod TwoKinds
+pub mod TwoKinds
 mod Sets
 pub mod NarrowOrWide
-mod WritesListed
+pub mod WritesListed
 mod Loaded
 pub mod UnderWay
 mod RowRead

@@ -3,7 +3,7 @@ use Rattle.std.proofs.Common.{◌≡◌, ℕ, ◌<◌, ◌≤◌, List, Option, 
 use Rattle.cells.specs.Records.{CellsView, IsNarrow, IsWide, IsOfKind}
 use Rattle.cells.specs.declared.cells.Version.{Version}
 use Rattle.readset.specs.Reads.{ReadSetView, AreReadOfKind, IsNarrowVersion, IsWideVersion, held}
-use Rattle.readset.specs.Writes.{WriteSetView, AreWrittenBelow, AreWrittenOfKind, puts, value_for}
+use Rattle.readset.specs.Writes.{WriteSetView, AreWrittenOfKind, puts, value_for}
 use Rattle.readset.proofs.TwoKinds.{below_wide, above_narrow}
 use Rattle.readset.proofs.WrittenRecords.{each_put_value}
 
@@ -31,6 +31,11 @@ module _ (cells : CellsView) where
   writes_below writes kinds n small = below_wide IsNarrow IsWide (length cells.narrow) writes.values never_both
       (λ m v found. let k = kinds m v found in (k.narrow, k.wide)) n small
 
+  pub writes_above : (writes : WriteSetView) → AreWrittenOfKind cells writes → (n : ℕ) → length cells.narrow ≤ n
+      → (m : ℕ) (value : Option (List ℕ)) → value_for writes m ≡ Some value → IsNarrow value → m < n
+  writes_above writes kinds n large = above_narrow IsNarrow IsWide (length cells.narrow) writes.values never_both
+      (λ m v found. let k = kinds m v found in (k.narrow, k.wide)) n large
+
   -- a narrow record may hold what one does, and a wide one too
   pub narrow_kind : (n : ℕ) (value : Option (List ℕ)) → n < length cells.narrow → IsNarrow value → IsOfKind cells n value
   narrow_kind n value small narrow = record { narrow = λ _. narrow; wide = λ large. absurd (omega (arith, small, large)) }
@@ -42,8 +47,3 @@ module _ (cells : CellsView) where
   pub puts_kind : (writes : WriteSetView) (n : ℕ) (value : Option (List ℕ)) → AreWrittenOfKind cells writes → IsOfKind cells n value
       → AreWrittenOfKind cells (puts writes n value)
   puts_kind writes n value kinds here = each_put_value (IsOfKind cells) writes n value kinds here
-
--- a record more below a number
-pub puts_below : (count : ℕ) (writes : WriteSetView) (n : ℕ) (value : Option (List ℕ)) → AreWrittenBelow count writes → n < count
-    → AreWrittenBelow count (puts writes n value)
-puts_below count writes n value below here = each_put_value (λ m _. m < count) writes n value below here

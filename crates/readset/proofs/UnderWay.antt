@@ -1,5 +1,5 @@
 -- A transaction under way, after a step.
-use Rattle.std.proofs.Common.{◌<◌, ◌≡◌, ℕ, ◌+◌, ◌≤◌, Bool, Option, Some, None, Result, Ok, Err, OnOk, OnErr, IsSome, is_some, Bor, List, length, refl, sym, ap, ◌∙◌}
+use Rattle.std.proofs.Common.{◌≡◌, ℕ, ◌+◌, ◌≤◌, Bool, Option, Some, None, Result, Ok, Err, OnOk, OnErr, IsSome, is_some, Bor, List, length, refl, sym, ap, ◌∙◌}
 use Rattle.std.proofs.Common.{subst, arith}
 use Rattle.std.specs.Option.{option_copied}
 use Rattle.tables.specs.Sizes.{Sizes}
@@ -21,7 +21,7 @@ use Rattle.tables.specs.declared.limits.TheConstants.{MAX_READS, MAX_WRITES}
 use Rattle.readset.specs.Explains.{IsCandidate}
 use Rattle.readset.specs.Transaction.{TransactionView, IsUnderWay, ReadsMore, GoesOn, IsStepRefusal, IsExecuted}
 use Rattle.readset.proofs.MoreReads.{candidate_before, row_read}
-use Rattle.readset.proofs.NarrowOrWide.{puts_kind, puts_below}
+use Rattle.readset.proofs.NarrowOrWide.{puts_kind}
 use Rattle.readset.proofs.WrittenRecords.{keeps_read, length-insert_entry, puts_read, written_within}
 
 -- whether an entry is found is whether there is one
@@ -45,7 +45,6 @@ loaded_under_way start old new cells reads more writes h same chain grown within
   reads_kinds = subst (λ (c : CellsView). AreReadOfKind c more) same kinds;
   writes_read = keeps_read writes reads more keeps h.writes_read;
   writes_kinds = h.writes_kinds;
-  writes_narrow = h.writes_narrow;
 }
 
 -- what a version that was read says of its key's row
@@ -60,9 +59,9 @@ row_told t0 reads k n v words at is_key found is t h =
 pub put_under_way : {X : Type 0} (start now : ReaderView) (reads : ReadSetView) (writes more : WriteSetView) (n : ℕ) (value : Option (List ℕ))
     (result : Result X Refusal)
     → IsUnderWay start now (record { reads = reads; writes = writes }) → IsSome (held reads n) → IsOfKind start.cells n value
-    → n < length start.cells.narrow → OnOk result (more ≡ puts writes n value) → OnErr result (more ≡ writes)
+    → OnOk result (more ≡ puts writes n value) → OnErr result (more ≡ writes)
     → IsUnderWay start now (record { reads = reads; writes = more })
-put_under_way start now reads writes more n value (Ok x) h read kind small put kept =
+put_under_way start now reads writes more n value (Ok x) h read kind put kept =
     subst (λ (w : WriteSetView). IsUnderWay start now (record { reads = reads; writes = w })) (sym put)
     (record {
       read = h.read;
@@ -71,9 +70,8 @@ put_under_way start now reads writes more n value (Ok x) h read kind small put k
       reads_kinds = h.reads_kinds;
       writes_read = puts_read writes reads n value h.writes_read read;
       writes_kinds = puts_kind start.cells writes n value h.writes_kinds kind;
-      writes_narrow = puts_below (length start.cells.narrow) writes n value h.writes_narrow small;
     })
-put_under_way start now reads writes more n value (Err e) h read kind small put kept =
+put_under_way start now reads writes more n value (Err e) h read kind put kept =
     subst (λ (w : WriteSetView). IsUnderWay start now (record { reads = reads; writes = w })) (sym kept) h
 
 -- the end of a transaction whose reply was found
@@ -93,7 +91,6 @@ executed t0 x start now reads writes told h none within explains few_reads few_w
     reads_cells = h.within;
     writes_cells = written_within writes reads (cell_count start.cells) h.writes_read h.within;
     writes_kinds = h.writes_kinds;
-    writes_narrow = h.writes_narrow;
     writes_read = h.writes_read;
   };
   grown = h.grown;

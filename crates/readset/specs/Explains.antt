@@ -17,7 +17,7 @@ use Rattle.cells.specs.Records.{CellsView, cell_count}
 use Rattle.cells.specs.declared.cells.Version.{Version}
 use Rattle.tables.specs.declared.limits.TheConstants.{MAX_READS, MAX_WRITES}
 use Rattle.readset.specs.Reads.{ReadSetView, AreWithin, held, value_of}
-use Rattle.readset.specs.Writes.{WriteSetView, AreWrittenOfKind, AreWrittenBelow, value_for}
+use Rattle.readset.specs.Writes.{WriteSetView, AreWrittenOfKind, value_for}
 use Rattle.readset.specs.Commit.{IsCommitOf}
 
 -- each value read is the one that the tables have
@@ -56,12 +56,11 @@ abbrev pub WritesAreRead : WriteSetView → ReadSetView → Type 0
 WritesAreRead writes reads = (n : ℕ) (value : Option (List ℕ)) → value_for writes n ≡ Some value → IsSome (held reads n)
 
 -- at most so many reads and writes, each of a record that has a cell and is of that kind, and no write of a record that
--- wasn't read, nor of a wide one
+-- wasn't read
 pub record IsWithinLimits (cells : CellsView) (reads : ReadSetView) (writes : WriteSetView) : Type 0 where
   pub reads_limit : length reads ≤ MAX_READS
   pub writes_limit : length writes.values ≤ MAX_WRITES
   pub reads_cells : AreWithin (cell_count cells) reads
   pub writes_cells : (n : ℕ) (value : Option (List ℕ)) → value_for writes n ≡ Some value → n < cell_count cells
   pub writes_kinds : AreWrittenOfKind cells writes
-  pub writes_narrow : AreWrittenBelow (length cells.narrow) writes
   pub writes_read : WritesAreRead writes reads

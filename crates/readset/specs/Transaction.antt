@@ -6,7 +6,7 @@ use Rattle.tables.specs.Database.{Database}
 use Rattle.tables.specs.declared.input.Input.{Input}
 use Rattle.cells.specs.Records.{ReaderView, HasGrown, cell_count}
 use Rattle.readset.specs.Reads.{ReadSetView, Keeps, AreWithin, AreReadOfKind, AreRead}
-use Rattle.readset.specs.Writes.{WriteSetView, AreWrittenOfKind, AreWrittenBelow}
+use Rattle.readset.specs.Writes.{WriteSetView, AreWrittenOfKind}
 use Rattle.readset.specs.Explains.{IsCandidate, NoCandidate, Explains, WritesAreRead, IsWithinLimits}
 use Rattle.readset.specs.Refused.{NoneMissing, IsAboveCap, IsRefusal}
 use Rattle.readset.specs.declared.work.Work.{Work}
@@ -17,8 +17,7 @@ pub record TransactionView : Type 0 where
   pub writes : WriteSetView
 
 -- what its type keeps, of its reader's state at its start and now: what was read is what the reader's loads gave, of
--- records that have a cell, no record is written that wasn't read, each is as wide as its record, and none that is
--- written is wide
+-- records that have a cell, no record is written that wasn't read, and each is as wide as its record
 pub record IsUnderWay (start now : ReaderView) (x : TransactionView) : Type 0 where
   pub read : AreRead start now x.reads
   pub grown : HasGrown start now
@@ -26,7 +25,6 @@ pub record IsUnderWay (start now : ReaderView) (x : TransactionView) : Type 0 wh
   pub reads_kinds : AreReadOfKind start.cells x.reads
   pub writes_read : WritesAreRead x.writes x.reads
   pub writes_kinds : AreWrittenOfKind start.cells x.writes
-  pub writes_narrow : AreWrittenBelow (length start.cells.narrow) x.writes
 
 -- a step that reads at most so many records more, and writes none
 pub record ReadsMore (most : ℕ) (old new : TransactionView) : Type 0 where

@@ -1,10 +1,10 @@
 -- What a transaction is to write (Silo, section 4.4: the write set).
-use Rattle.std.specs.Prelude.{◌≡◌, ℕ, ◌<◌, Option, Some, None, List, [], ◌∷◌, unwrap_or}
+use Rattle.std.specs.Prelude.{◌≡◌, ℕ, Option, Some, None, List, [], ◌∷◌, unwrap_or}
 use Rattle.std.specs.Ordering.{nat_cmp}
 use Rattle.std.specs.Map.{lookup}
 use Rattle.std.specs.BTreeMap.{is_at, insert_entry}
 use Rattle.tables.specs.declared.rows.History.{History}
-use Rattle.cells.specs.Records.{CellsView, IsNarrow, IsOfKind}
+use Rattle.cells.specs.Records.{CellsView, IsOfKind}
 
 -- what each record written is to hold, by record number in the order of the numbers, and the HISTORY row, if there is
 -- one
@@ -22,15 +22,8 @@ as_written e = (e.0, Some e.1)
 
 -- each record is to hold as many words as one of its kind does
 abbrev pub AreWrittenOfKind : CellsView → WriteSetView → Type 0
-AreWrittenOfKind cells writes = (n : ℕ) (value : Option (List ℕ)) → value_for writes n ≡ Some value → IsOfKind cells n value
-
--- each record written has a number below this
-abbrev pub AreWrittenBelow : ℕ → WriteSetView → Type 0
-AreWrittenBelow count writes = (n : ℕ) (value : Option (List ℕ)) → value_for writes n ≡ Some value → n < count
-
--- no wide record is written
-abbrev pub WritesAreNarrow : WriteSetView → Type 0
-WritesAreNarrow writes = (n : ℕ) (value : Option (List ℕ)) → value_for writes n ≡ Some value → IsNarrow value
+AreWrittenOfKind cells writes = (n : ℕ) (value : Option (List ℕ)) → value_for writes n ≡ Some value
+    → IsOfKind cells n value
 
 -- nothing to write
 abbrev pub no_writes : WriteSetView

@@ -1,12 +1,9 @@
 //! What a transaction that has committed wrote.
 ghost use Rattle.std.specs.Prelude.{◌≡◌, ◌++◌, Some, All, map};
-ghost use Rattle.std.specs.Ordering.{nat_cmp};
-ghost use Rattle.std.specs.Map.{keys_of};
-ghost use Rattle.std.specs.List.Sorted.{IsStrictlySortedBy};
 ghost use Rattle.cells.specs.Records.{IsNarrow, IsWide};
 ghost use Rattle.readset.specs.Beside.{AreBeside};
 ghost use Rattle.readset.specs.Listed.{texts_of, history_row_of};
-ghost use Rattle.readset.specs.Writes.{as_written, value_for, WritesAreNarrow};
+ghost use Rattle.readset.specs.Writes.{as_written, value_for};
 
 use crate::beside::Beside;
 use customer_data::DataWords;
@@ -50,16 +47,6 @@ impl WriteList {
         } }
     {
         WriteList { values, beside }
-    }
-
-    /// What each record written holds after the commit, in the order of the record numbers, where all are narrow.
-    pub fn values(&self) -> &[(u32, Option<Payload>)]
-        requires { WritesAreNarrow self.now }
-        ensures values { result.now ≡ self.now.values }
-        ensures found { All (λ e. value_for self.now e.0 ≡ Some e.1) self.now.values }
-        ensures ordered { IsStrictlySortedBy nat_cmp (keys_of self.now.values) }
-    {
-        self.values.as_slice()
     }
 
     /// What each record written holds after the commit, in the order of the record numbers: first each narrow one, and

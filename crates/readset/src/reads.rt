@@ -11,12 +11,14 @@ ghost use Rattle.readset.specs.Places.{place};
 ghost use Rattle.readset.specs.Arrived.{arrived};
 ghost use Rattle.readset.specs.Reads.{as_version, held, value_of, Keeps, AreWithin, AreRead, AreReadOfKind};
 ghost use Rattle.readset.specs.Reads.{IsNarrowVersion, IsWideVersion};
-ghost use Rattle.cells.specs.Records.{CellsView, ReaderView, LoadsRecord, HasGrown, cell_count, words_of, wide_words_of};
+ghost use Rattle.cells.specs.Records.{CellsView, ReaderView, LoadsRecord, HasGrown, cell_count};
+ghost use Rattle.cells.specs.Records.{words_of, wide_words_of};
 ghost use Rattle.cells.specs.declared.cells.Version.{Version};
 
 use crate::arrivals::Arrivals;
 use crate::few::Few;
 use cells::{Cells, Reader, Version, WideVersion};
+use customer_data::DataWords;
 use money::{Payload, Refusal};
 use std::alloc::Global;
 use std::marker::Model;
@@ -258,5 +260,16 @@ pub fn value_of(version: &Version) -> Option<Payload>
         None
     } else {
         Some(version.payload)
+    }
+}
+
+/// The same of a wide record's version.
+pub(crate) fn wide_value_of(wide: &WideVersion) -> Option<DataWords>
+    ensures { result ≡ value_of (as_version wide.now) }
+{
+    if wide.word.is_absent() {
+        None
+    } else {
+        Some(wide.payload)
     }
 }

@@ -2,28 +2,32 @@
 ghost use Rattle.std.specs.Prelude.{◌≡◌, ◌≢◌, ◌≤◌, ℕ, [], Some, Ok, IsSome, length, OnOk, OnErr, IfOk, IfErr};
 ghost use Rattle.money.specs.declared.refusal.Refusal.TheVariants.{OutOfMemory};
 ghost use Rattle.tables.specs.Database.{Database};
-ghost use Rattle.tables.specs.Records.{IsNarrowKey, number_of_key, narrow_count};
+ghost use Rattle.tables.specs.Keys.{IsCustomerKey};
+ghost use Rattle.tables.specs.Records.{IsNarrowKey, number_of_key};
+ghost use Rattle.tables.specs.declared.records.RecordKey.TheVariants as record_key;
 ghost use Rattle.tables.specs.Rows.{row_at};
 ghost use Rattle.population.specs.Initial.{initial};
 ghost use Rattle.cells.specs.Records.{ReaderView};
 ghost use Rattle.tables.specs.declared.limits.TheConstants.{MAX_READS, MAX_WRITES};
 ghost use Rattle.cells.specs.declared.cells.Version.{Version};
+ghost use Rattle.readset.specs.Cells.{AreCellsOf};
 ghost use Rattle.readset.specs.Reads.{held, value_of, IsReadAs};
 ghost use Rattle.readset.specs.Writes.{no_writes, puts};
 ghost use Rattle.readset.specs.Commit.{IsCommitOf};
 ghost use Rattle.readset.specs.Refused.{NoneMissing, IsAboveCap};
 ghost use Rattle.readset.specs.Transaction.{IsUnderWay, ReadsMore, GoesOn, Finds, IsExecuted};
 
-use crate::reads::{ReadSet, value_of};
+use crate::reads::{ReadSet, value_of, wide_value_of};
 use crate::work::Work;
 use crate::writes::WriteSet;
 use cells::{Cells, Reader};
+use customer_data::DataWords;
 use money::{Payload, Refusal};
 use population::Population;
 use std::alloc::Global;
 use std::marker::{Brand, Model, PhantomData};
 use std::sync::Wait;
-use tables::{History, Input, RecordKey, Reply, Scale};
+use tables::{CustomerKey, History, Input, RecordKey, Reply, Scale};
 
 /// Names where one transaction starts: its population's tables, and what its reader knows then.
 pub trait Start {
@@ -61,9 +65,9 @@ pub struct Transaction<'a, K: Start> {
 }
 
 impl<'a, K: Start> Model for Transaction<'a, K> {
-    ghost use Rattle.std.specs.Prelude.{◌≡◌, length};
-    ghost use Rattle.tables.specs.Records.{narrow_count};
+    ghost use Rattle.std.specs.Prelude.{◌≡◌};
     ghost use Rattle.population.specs.Initial.{initial};
+    ghost use Rattle.readset.specs.Cells.{AreCellsOf};
     ghost use Rattle.readset.specs.Transaction.{TransactionView, IsUnderWay};
 
     ghost Value = { TransactionView };
@@ -71,7 +75,7 @@ impl<'a, K: Start> Model for Transaction<'a, K> {
     ghost view = { λ x. record { reads = x.reads; writes = x.writes } };
 
     ghost invariant = { λ x. (initial x.population.now ≡ K.tables) × (x.cells.now ≡ K.reader.cells)
-        × (length x.cells.now.narrow ≡ narrow_count K.tables.scale)
+        × AreCellsOf K.tables.scale x.cells.now
         × IsUnderWay K.reader x.reader (record { reads = x.reads; writes = x.writes }) };
 }
 
@@ -86,7 +90,7 @@ impl<'a, K: Start> Transaction<'a, K> {
         requires tables { initial population.now ≡ K.tables }
         requires reader { reader ≡ K.reader }
         requires own { reader.cells ≡ cells.now }
-        requires cells { length cells.now.narrow ≡ narrow_count K.tables.scale }
+        requires cells { AreCellsOf K.tables.scale cells.now }
         ensures { result ≡ record { reads = []; writes = no_writes } }
     {
         Transaction {
@@ -99,8 +103,8 @@ impl<'a, K: Start> Transaction<'a, K> {
         }
     }
 
-    /// Takes memory for just so many reads and writes, in one block each, where none was taken yet: for a caller that
-    /// knows how many it is to make. More may still come.
+    /// Takes memory for just so many reads and writes of narrow records, in one block each, where none was taken yet:
+    /// for a caller that knows how many it is to make. More may still come.
     ///
     /// # Errors
     ///
@@ -127,8 +131,8 @@ impl<'a, K: Start> Transaction<'a, K> {
         self.population
     }
 
-    /// The words of a narrow record, or nothing where it is absent: as it was read before, or else by a load. Costs what
-    /// `ReadSet::get` does.
+    /// The words of a narrow record, or nothing where it is absent: as it was read before, or else by a load. Costs
+    /// what `ReadSet::get` does.
     ///
     /// # Errors
     ///
@@ -151,6 +155,39 @@ impl<'a, K: Start> Transaction<'a, K> {
         Ok(value_of(&version))
     }
 
+    /// The words of a customer's C_DATA, as `read` gives those of a narrow record. Costs what `ReadSet::get_wide` does.
+    ///
+    /// # Errors
+    ///
+    /// `OutOfMemory`, and no other: nothing is read then. It isn't given of a record that was read before.
+    pub fn read_wide<R: Wait>(
+        &mut self,
+        rt: &R,
+        key: CustomerKey,
+    ) -> Result<Option<DataWords>, Refusal>
+        requires { IsCustomerKey K.tables.scale key }
+        ensures words { Finds K.tables self.new result (λ words t. row_at t (record_key.CustomerData key) ≡ words) }
+        ensures holds { OnOk result (IsSome
+            (held self.new.reads (number_of_key K.tables.scale (record_key.CustomerData key)))) }
+        ensures version { IfOk result
+            (IsReadAs self.new.reads (number_of_key K.tables.scale (record_key.CustomerData key))) }
+        ensures again { (v : Version)
+            → held self.old.reads (number_of_key K.tables.scale (record_key.CustomerData key)) ≡ Some v
+            → (result ≡ Ok (value_of v)) × (self.new ≡ self.old) }
+        ensures others { (n : ℕ) → n ≢ number_of_key K.tables.scale (record_key.CustomerData key)
+            → held self.new.reads n ≡ held self.old.reads n }
+        ensures reads { ReadsMore 1 self.old self.new }
+        ensures kept { OnErr result (self.new ≡ self.old) }
+        ensures only_memory { IfErr result (λ refusal. refusal ≡ OutOfMemory) }
+    {
+        let key = RecordKey::CustomerData(key);
+        let number = self.population.numbering().number_of_key(key);
+        let version = self
+            .reads
+            .get_wide(rt, self.cells, &mut self.reader, number)?;
+        Ok(wide_value_of(&version))
+    }
+
     /// Says what a narrow record that was read is to hold, in the place of what was said of it before. Costs what
     /// `WriteSet::put` does.
     ///
@@ -169,6 +206,28 @@ impl<'a, K: Start> Transaction<'a, K> {
     {
         let number = self.population.numbering().number_of_key(key);
         self.writes.put(number, value)
+    }
+
+    /// Says what a customer's C_DATA, of which the record was read, is to become, as `put` does with a narrow record.
+    /// Costs what `WriteSet::put_wide` does.
+    ///
+    /// # Errors
+    ///
+    /// `OutOfMemory`, and no other. What was said is then as before.
+    pub fn put_wide(&mut self, key: CustomerKey, words: &DataWords) -> Result<(), Refusal>
+        requires key { IsCustomerKey K.tables.scale key }
+        requires read { IsSome
+            (held self.old.reads (number_of_key K.tables.scale (record_key.CustomerData key))) }
+        ensures reads { self.new.reads ≡ self.old.reads }
+        ensures puts { OnOk result (self.new.writes
+            ≡ puts self.old.writes (number_of_key K.tables.scale (record_key.CustomerData key)) (Some words.now)) }
+        ensures kept { OnErr result (self.new.writes ≡ self.old.writes) }
+        ensures goes_on { GoesOn 0 1 self.old self.new }
+        ensures only_memory { IfErr result (λ refusal. refusal ≡ OutOfMemory) }
+    {
+        let key = RecordKey::CustomerData(key);
+        let number = self.population.numbering().number_of_key(key);
+        self.writes.put_wide(number, words)
     }
 
     /// Says which row HISTORY is to get, in the place of the row said before.

@@ -10,14 +10,15 @@ use Rattle.recover_found.specs.Rebuilt.{HaveNoGap, IsRebuilt}
 use Rattle.recover_laws.specs.Recovered.{GiveTheReplay}
 use Rattle.recover_lives.specs.World.{Origin, header_at, Lives, joined_history, durable_at}
 use Rattle.recover_lives.specs.Surviving.{LeavesTheReplay}
-use Rattle.recover_files.specs.Files.{AreFiles}
+use Rattle.recover_files.specs.Files.{AreFiles, AreFilesOf}
 use Rattle.recover_files.proofs.SameFiles.{same_files}
 use Rattle.recover_files.specs.Recovered.{IsRecovery, HasGap}
 use Rattle.recover.specs.Beginning.{AreInTurn, IsReplayOf, IsBeginningOf}
 use Rattle.recover_files.specs.declared.recovering.Recovered.{Recovered}
 
 -- strings that are the files of one list of bodies
-module _ (t0 : Database) (seed : ℕ) (strings : List (List ℕ)) (left : List (List BodyView)) (are : AreFiles t0.scale seed strings left) where
+module _ {version : ℕ} (t0 : Database) (seed : ℕ) (strings : List (List ℕ)) (left : List (List BodyView))
+    (are : AreFilesOf version t0.scale seed strings left) where
   module _ (history : List Entry) (give : GiveTheReplay t0 left history) where
     pub none_missing : HasGap t0.scale seed strings → ⊥
     none_missing gap = gap.gap (subst (λ (files : List (List BodyView)). HaveNoGap (found files)) (sym (same_files t0 seed strings left are gap.files gap.short gap.read)) give.no_gap)

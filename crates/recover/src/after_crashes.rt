@@ -9,7 +9,7 @@ ghost use Rattle.recover_crashes.specs.Recovering.{HoldTheHistory};
 ghost use Rattle.recover_laws.specs.Recovered.{IsHistoryOf, IsFirstDatabase};
 ghost use Rattle.recover_lives.specs.World.{origin_of, first_world};
 ghost use Rattle.recover_lives.specs.Events.{LivesEvent, MayOccurInTurn, MayStrike, lives_after_all};
-ghost use Rattle.recover_files.specs.Files.{AreFiles};
+ghost use Rattle.recover_files.specs.Files.{AreFiles, AreFilesOf};
 ghost use Rattle.recover_files.specs.Recovered.{IsRecovery, HasGap};
 ghost use Rattle.recover.specs.Beginning.{AreInTurn, IsReplayOf, IsBeginningOf};
 ghost use Rattle.recover_files.specs.declared.recovering.Recovered.{Recovered as RecoveredValue};
@@ -17,16 +17,18 @@ ghost use Rattle.recover_files.specs.declared.recovering.Recovered.{Recovered as
 use recover_laws::{files_hold_the_cut, rebuilt_tables_are_the_replay};
 use recover_lives::every_crash_is_survived;
 
-/// Where strings are log files that hold a history, `recover` doesn't refuse them by `Gap`, and what it gives is the
-/// replay of what counts of the history: of that up to the durable epoch. The function does nothing: its contract is
-/// the law.
+/// Where strings are log files, of whichever version, that hold a history, `recover` doesn't refuse them by `Gap`, and
+/// what it gives is the replay of what counts of the history: of that up to the durable epoch. The function does
+/// nothing: its contract is the law.
 pub fn recovery_is_the_replay()
-    ensures no_gap { (t0 : Database) (seed : ℕ) (strings : List (List ℕ)) (files : List (List BodyView))
-        (history : List CommittedEntry) → IsHistoryOf t0 history → AreFiles t0.scale seed strings files
+    ensures no_gap { (t0 : Database) (version seed : ℕ) (strings : List (List ℕ)) (files : List (List BodyView))
+        (history : List CommittedEntry) → IsHistoryOf t0 history
+        → AreFilesOf version t0.scale seed strings files
         → HoldTheHistory t0.scale (length files) (λ l. slice_index_or files l []) history → 0 < length files
         → HasGap t0.scale seed strings → ⊥ }
-    ensures replay { (t0 : Database) (seed : ℕ) (strings : List (List ℕ)) (files : List (List BodyView))
-        (history : List CommittedEntry) → IsHistoryOf t0 history → AreFiles t0.scale seed strings files
+    ensures replay { (t0 : Database) (version seed : ℕ) (strings : List (List ℕ)) (files : List (List BodyView))
+        (history : List CommittedEntry) → IsHistoryOf t0 history
+        → AreFilesOf version t0.scale seed strings files
         → HoldTheHistory t0.scale (length files) (λ l. slice_index_or files l []) history → 0 < length files
         → (r : RecoveredValue) → IsRecovery t0 seed strings r → IsReplayOf t0 files history r }
 {

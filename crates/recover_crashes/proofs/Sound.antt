@@ -184,7 +184,7 @@ module _ (life : Life) (old : ℕ → List BodyView) (w : World) (sound : IsSoun
       (w.logger k).local) is (sound.lanes k within) in
       let x : Logger = called (Flying stage batch) result (on_disk (w.logger k).file disk) (w.logger k) in
       changes k x (landed_by (Flying stage batch) result (sound.landed k)) w.found w.durable (omega arith) (omega arith)
-      (λ lt. lane_called (header_of life k) life.past w.found (stream n k w.history) (old k) (sound.landed k) (w.logger k) stage batch result disk lane may)
+      (λ lt. lane_called (header_of life k) refl life.past w.found (stream n k w.history) (old k) (sound.landed k) (w.logger k) stage batch result disk lane may)
       (same_local stage result) (same_marks stage result) sound.durable
     where
       same_local : (s : Stage) (r : Result (Unit {0}) Refusal) → local_of w k ≤ (called (Flying s batch) r (on_disk (w.logger k).file disk) (w.logger k)).local

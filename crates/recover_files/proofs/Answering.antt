@@ -1,5 +1,5 @@
 -- What recovery answers, of what was read and of what was made of it.
-use Rattle.std.proofs.Common.{◌≡◌, ◌≢◌, ℕ, Bool, List, map, length, Vec, Global, Result, Ok, Err, IfOk, IfErr, IsErrOf, refl, sym, ◌∙◌, subst}
+use Rattle.std.proofs.Common.{◌≡◌, ◌≢◌, ℕ, Bool, List, map, length, Result, Ok, Err, IfOk, IfErr, IsErrOf, refl, sym, ◌∙◌, subst}
 use Rattle.std.specs.List.{flat_map}
 use Rattle.std.proofs.lemmas.Result.{IfOk-weaker}
 use Rattle.money.specs.declared.refusal.Refusal.{Refusal}
@@ -9,13 +9,13 @@ use Rattle.tables.specs.Sizes.{Sizes}
 use Rattle.log_disk.specs.Calls.{Call}
 use Rattle.log_text.specs.Bodies.{BodyView}
 use Rattle.log_text.specs.Entries.{EntryView}
-use Rattle.log_text.specs.declared.body.Body.{Body}
 use Rattle.recover_found.specs.Found.{counted, durable_of, found, keeps}
 use Rattle.recover_found.specs.Rebuilt.{HaveNoGap}
 use Rattle.recover_files.specs.Answers.{IsAnswer, IsAnswerOn}
-use Rattle.recover_files.specs.Files.{AreFiles, AreShort, AreDamaged, headers_from, ReadsFiles}
+use Rattle.recover_files.specs.Files.{AreFilesOf, AreShort, AreDamaged, headers_from, ReadsFiles}
 use Rattle.recover_files.specs.Parts.{IsPart, IsMerged, HaveLawfulWrites}
 use Rattle.recover_files.specs.Recovered.{IsOfFiles, IsRecovery, HasGap}
+use Rattle.recover_files.specs.declared.file_set.FileSet.{FileSet}
 use Rattle.recover_files.specs.declared.part.Part.{Part}
 use Rattle.recover_files.specs.declared.recovering.Recovered.{Recovered}
 use Rattle.recover_files.proofs.AllRead.{found_all, damaged_all}
@@ -76,10 +76,10 @@ module _ {X : Type 0} {modelled : Type 0} {seen : X → List ℕ} {story : X →
           let damaged : e ≡ refusal.Damaged = reads.others (λ h. absurd cc) (λ h. absurd cc) in absurd cc
 
   -- what was read is answered by what was made of it
-  pub settled_answer : {files : Vec (Vec Body Global) Global}
+  pub settled_answer : {files : FileSet}
       → ReadsFiles modelled seen story failed (headers_from 0 loggers t0.scale seed) old new (Ok files)
-      → (result : Result Recovered Refusal) → IfOk result (IsOfFiles t0 (map bodies_of_file files.items))
-      → (IsErrOf result refusal.Gap → HaveNoGap (found (map bodies_of_file files.items)) → ⊥)
+      → (result : Result Recovered Refusal) → IfOk result (IsOfFiles t0 (map bodies_of_file files.bodies.items))
+      → (IsErrOf result refusal.Gap → HaveNoGap (found (map bodies_of_file files.bodies.items)) → ⊥)
       → IfErr result (λ e. (e ≢ refusal.OutOfMemory) → e ≡ refusal.Gap)
       → IsAnswerOn modelled seen story failed t0 seed old new result
   settled_answer {files} reads result ok gap others = record {
@@ -87,9 +87,13 @@ module _ {X : Type 0} {modelled : Type 0} {seen : X → List ℕ} {story : X →
         (IfOk-weaker result _ _ (λ r of_files. (
           read.0,
           read.1,
-          record { files = bodies; short = read.2; read = read.3; of_files = of_files },
+          record { version = files.version; files = bodies; short = read.2; read = read.3; of_files = of_files },
         )) ok)
-        (λ is. (read.0, read.1, record { files = bodies; short = read.2; read = read.3; gap = gap is }))
+        (λ is. (
+          read.0,
+          read.1,
+          record { version = files.version; files = bodies; short = read.2; read = read.3; gap = gap is },
+        ))
         (λ is. absurd (neither result refusal.Damaged (λ h. absurd cc) (λ h. absurd cc) others is))
         (weaker result others);
     failed = λ is. absurd (neither result refusal.Device (λ h. absurd cc) (λ h. absurd cc) others is);
@@ -98,16 +102,16 @@ module _ {X : Type 0} {modelled : Type 0} {seen : X → List ℕ} {story : X →
   }
     where
       bodies : List (List BodyView)
-      bodies = map bodies_of_file files.items
+      bodies = map bodies_of_file files.bodies.items
 
       read : (strings : List (List ℕ)) × (modelled → strings ≡ map seen old) × AreShort strings
-          × AreFiles t0.scale seed strings bodies
+          × AreFilesOf files.version t0.scale seed strings bodies
       read = found_all count reads
 
 -- the part that was made of files that were read
-pub merged_of : {s t : Sizes} (seed : ℕ) (strings : List (List ℕ)) {files : List (List BodyView)} → AreFiles s seed strings files → {durable : ℕ}
-    → durable ≡ durable_of files → {counts : ℕ → Bool} → counts ≡ keeps files → t ≡ s → {part : Part} → IsPart t (flat_map (counted counts) files) part → IsMerged s files durable part
-merged_of {s} seed strings {files} are {durable} is {counts} keeps_is same {part} made = record {
+pub merged_of : {version : ℕ} {s t : Sizes} (seed : ℕ) (strings : List (List ℕ)) {files : List (List BodyView)}
+    → AreFilesOf version s seed strings files → {durable : ℕ} → durable ≡ durable_of files → {counts : ℕ → Bool} → counts ≡ keeps files → t ≡ s → {part : Part} → IsPart t (flat_map (counted counts) files) part → IsMerged s files durable part
+merged_of {version} {s} seed strings {files} are {durable} is {counts} keeps_is same {part} made = record {
   durable_is = is;
   lawful = subst (HaveLawfulWrites s) (counted_found counts files keeps_is) (counted_lawful s counts files (files_lawful s seed strings files are));
   part = subst (λ (q : Sizes × List EntryView). IsPart q.0 q.1 part) (λ i. (same i, counted_found counts files keeps_is i)) made;

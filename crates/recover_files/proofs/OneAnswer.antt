@@ -198,12 +198,12 @@ module _ (one : (t0 t u : Database) (values : RecordKey → Option (List ℕ)) �
       let same : a.files ≡ x.1.files = same_files t0 seed strings x.1.files x.1.read a.files a.short a.read in
       let none : HaveNoGap (found a.files) = (a.of_files.rebuilt.commits, a.of_files.rebuilt.in_order) in
       x.1.gap (subst (λ (l : List (List BodyView)). HaveNoGap (found l)) same none)
-  not_refused r e a (inr x) = x.1 a.files a.read
+  not_refused r e a (inr x) = x.1 a.version a.files a.read
 
   same_refusal : (d e : Refusal) → IsRefused d → IsRefused e → d ≡ e
   same_refusal d e (inl a) (inl b) = a.0 ∙ sym b.0
-  same_refusal d e (inl a) (inr b) = absurd (b.1 a.1.files a.1.read)
-  same_refusal d e (inr a) (inl b) = absurd (a.1 b.1.files b.1.read)
+  same_refusal d e (inl a) (inr b) = absurd (b.1 a.1.version a.1.files a.1.read)
+  same_refusal d e (inr a) (inl b) = absurd (a.1 b.1.version b.1.files b.1.read)
   same_refusal d e (inr a) (inr b) = a.0 ∙ sym b.0
 
   pub one_answer : (a b : Result Recovered Refusal) → IsAnswer t0 seed strings a → IsAnswer t0 seed strings b

@@ -7,7 +7,7 @@ ghost use Rattle.log_text.specs.Bodies.{BodyView};
 ghost use Rattle.log_text.specs.Entries.{EntryView};
 ghost use Rattle.population.specs.Initial.{initial, seed_of};
 ghost use Rattle.recover_found.specs.Found.{found};
-ghost use Rattle.recover_files.specs.Files.{AreFiles};
+ghost use Rattle.recover_files.specs.Files.{AreFilesOf};
 ghost use Rattle.recover_files.specs.Parts.{commit_of};
 
 use crate::files::read_some;
@@ -33,8 +33,8 @@ pub fn commits_found<D: Disk>(
     progress: &Progress,
 ) -> Result<Vec<Commit>, Refusal>
     ensures found { IfOk result (λ commits. (strings : List (List ℕ))
-        × (D.is_modelled → strings ≡ map D.seen disks.old) × (files : List (List BodyView))
-        × AreFiles (initial population.now).scale (seed_of population.now) strings files
+        × (D.is_modelled → strings ≡ map D.seen disks.old) × (version : ℕ) × (files : List (List BodyView))
+        × AreFilesOf version (initial population.now).scale (seed_of population.now) strings files
         × (es : List EntryView)
         × IsPermutation (found files) es × (commits.items ≡ map commit_of es)) }
     ensures sorted { IfOk result (λ commits. IsNonDecreasingBy (λ commit. commit.number) commits.items) }
@@ -42,7 +42,8 @@ pub fn commits_found<D: Disk>(
     ensures reads { OnlyReads D.is_modelled (map D.seen) (map D.story) disks.old disks.new }
 {
     let loggers = disks.len();
-    let files = read_some(alloc, population, loggers, 0, disks, progress)?;
+    let read = read_some(alloc, population, loggers, 0, disks, progress)?;
+    let files = read.bodies;
     let keeps = Keeps::of(alloc, &files)?;
     let part = merged(alloc, &population.scale(), files, &keeps, progress)?;
     let mut commits = part.commits;

@@ -2,6 +2,7 @@
 #![tactic(auto)]
 
 mod commits;
+mod file_set;
 mod files;
 mod history;
 mod merging;

@@ -1,17 +1,16 @@
 //! Reading log files in threads.
-ghost use Rattle.std.specs.Prelude.{◌≡◌, ◌≢◌, ◌↔◌, ◌⊎◌, ◌++◌, ◌+◌, ◌≤◌, Vec, Ok, length};
+ghost use Rattle.std.specs.Prelude.{◌≡◌, ◌≢◌, ◌↔◌, ◌⊎◌, ◌++◌, ◌+◌, ◌≤◌, Ok, length};
 ghost use Rattle.std.specs.Prelude.{IfOk, IfErr, IsErrOf};
 ghost use Rattle.std.specs.Thread.{IsSync};
-ghost use Rattle.std.specs.declared.alloc.Global.{Global};
 ghost use denote.Param.Send.{IsSend};
-ghost use Rattle.money.specs.declared.refusal.Refusal.TheVariants.{OutOfMemory, Device};
-ghost use Rattle.log_text.specs.declared.body.Body.{Body};
+ghost use Rattle.money.specs.declared.refusal.Refusal.TheVariants.{OutOfMemory, Damaged, Device};
 ghost use Rattle.population.specs.Initial.{initial, seed_of};
 ghost use Rattle.recover_files.specs.Files.{headers_from, ReadsFiles};
+ghost use Rattle.recover_files.specs.declared.file_set.FileSet.{FileSet as FileSetValue};
 
+use crate::file_set::FileSet;
 use crate::files::read_some;
 use log_disk::Disk;
-use log_text::Body;
 use money::Refusal;
 use population::Population;
 use recover_progress::Progress;
@@ -36,7 +35,7 @@ pub(crate) fn read_with<R: Threads + Sync, D: Disk + Send>(
     threads: usize,
     disks: &mut [D],
     progress: &Progress,
-) -> Result<Vec<Vec<Body>>, Refusal>
+) -> Result<FileSet, Refusal>
     requires { first + length disks.old ≤ loggers }
     ensures { ReadsFiles D.is_modelled D.seen D.story D.failed
         (headers_from first loggers (initial population.now).scale (seed_of population.now)) disks.old disks.new
@@ -78,10 +77,7 @@ fn read_halves<R: Threads + Sync, D: Disk + Send>(
     others: usize,
     back: &mut [D],
     progress: &Progress,
-) -> (
-    Result<Vec<Vec<Body>>, Refusal>,
-    Result<Vec<Vec<Body>>, Refusal>,
-)
+) -> (Result<FileSet, Refusal>, Result<FileSet, Refusal>)
     requires order { half ≤ others }
     requires front { first + length front.old ≤ loggers }
     requires back { up + length back.old ≤ loggers }
@@ -91,13 +87,13 @@ fn read_halves<R: Threads + Sync, D: Disk + Send>(
     ensures back { ReadsFiles D.is_modelled D.seen D.story D.failed
         (headers_from up loggers (initial population.now).scale (seed_of population.now)) back.old back.new result.1 }
 {
-    let mut left = || -> Result<Vec<Vec<Body>>, Refusal>
+    let mut left = || -> Result<FileSet, Refusal>
         requires { IsSync R.row × IsSend D.row × (first + length front.now ≤ loggers) }
         ensures { ReadsFiles D.is_modelled D.seen D.story D.failed
             (headers_from first loggers (initial population.entry.now).scale (seed_of population.entry.now))
             front.entry.now front.exit.now result }
     { read_with(rt, alloc, population, loggers, first, half, front, progress) };
-    let mut right = || -> Result<Vec<Vec<Body>>, Refusal>
+    let mut right = || -> Result<FileSet, Refusal>
         requires { IsSync R.row × IsSend D.row × (up + length back.now ≤ loggers) }
         ensures { ReadsFiles D.is_modelled D.seen D.story D.failed
             (headers_from up loggers (initial population.entry.now).scale (seed_of population.entry.now))
@@ -107,22 +103,20 @@ fn read_halves<R: Threads + Sync, D: Disk + Send>(
 }
 
 /// The files of two parts, those of the second behind the first's. Where one of them was refused, so is the whole: by
-/// `Device` if either was, so that what is damaged on one disk doesn't hide that another has failed.
-fn both(
-    a: Result<Vec<Vec<Body>>, Refusal>,
-    b: Result<Vec<Vec<Body>>, Refusal>,
-) -> Result<Vec<Vec<Body>>, Refusal>
-    ensures files { IfOk result (λ files. (x y : Vec (Vec Body Global) Global) × (a ≡ Ok x) × (b ≡ Ok y)
-        × (files.items ≡ x.items ++ y.items)) }
+/// `Device` if either was, so that what is damaged on one disk doesn't hide that another has failed. Where they are of
+/// two versions, they are `Damaged`.
+fn both(a: Result<FileSet, Refusal>, b: Result<FileSet, Refusal>) -> Result<FileSet, Refusal>
+    ensures files { IfOk result (λ files. (x y : FileSetValue) × (a ≡ Ok x) × (b ≡ Ok y)
+        × (files.bodies.items ≡ x.bodies.items ++ y.bodies.items)
+        × (x.version ≡ files.version) × (y.version ≡ files.version)) }
     ensures device { IsErrOf result Device ↔ (IsErrOf a Device ⊎ IsErrOf b Device) }
-    ensures others { IfErr result (λ refusal. (refusal ≢ OutOfMemory) → IsErrOf a refusal ⊎ IsErrOf b refusal) }
+    ensures damaged { IsErrOf result Damaged → IsErrOf a Damaged ⊎ IsErrOf b Damaged
+        ⊎ ((x y : FileSetValue) × (a ≡ Ok x) × (b ≡ Ok y) × (x.version ≢ y.version)) }
+    ensures others { IfErr result (λ refusal. (refusal ≢ OutOfMemory)
+        → IsErrOf a refusal ⊎ IsErrOf b refusal ⊎ (refusal ≡ Damaged)) }
 {
     match (a, b) {
-        (Ok(front), Ok(back)) => {
-            let (mut all, mut rest) = (front, back);
-            all.append(&mut rest)?;
-            Ok(all)
-        }
+        (Ok(front), Ok(back)) => front.joined(back),
         (Err(Refusal::Device), _) | (_, Err(Refusal::Device)) => Err(Refusal::Device),
         (Err(refusal), _) | (_, Err(refusal)) => Err(refusal),
     }

@@ -10,7 +10,7 @@ ghost use Rattle.population.specs.Initial.{initial, seed_of};
 ghost use Rattle.recover_found.specs.Found.{bodies_in, counted, counts_by, entries_of, found};
 ghost use Rattle.recover_found.specs.Rebuilt.{HaveNoGap, IsRebuilt};
 ghost use Rattle.recover_files.specs.Answers.{IsAnswerOn};
-ghost use Rattle.recover_files.specs.Files.{AreFiles};
+ghost use Rattle.recover_files.specs.Files.{AreFilesOf};
 ghost use Rattle.recover_files.specs.Parts.{IsPart, IsMerged, HaveLawfulWrites};
 ghost use Rattle.recover_files.specs.Recovered.{IsOfFiles};
 
@@ -55,9 +55,10 @@ pub struct Recovered {
 /// # Errors
 ///
 /// `Device` where a call of a disk fails, and only there. `Damaged` exactly where none fails and some file is no log
-/// file of this population's database, of its logger and of that many loggers. `Gap` exactly where, else, the commits
-/// that count, those up to the durable epoch in no epoch that a file declares void, don't have the numbers 1, 2 and so
-/// on, each once. `OutOfMemory`. The files are looked at in their order, and the first that refuses decides.
+/// file of this population's database, of its logger and of that many loggers, or they are of two versions. `Gap`
+/// exactly where, else, the commits that count, those up to the durable epoch in no epoch that a file declares void,
+/// don't have the numbers 1, 2 and so on, each once. `OutOfMemory`. The files are looked at in their order, and the
+/// first that refuses decides.
 pub fn recover<D: Disk>(
     alloc: Global,
     population: &Population,
@@ -69,7 +70,7 @@ pub fn recover<D: Disk>(
 {
     let loggers = disks.len();
     let files = read_some(alloc, population, loggers, 0, disks, progress)?;
-    recover_bodies(alloc, population, files, progress)
+    recover_bodies(alloc, population, files.bodies, progress)
 }
 
 /// What `recover` gives of files that were read: these are their bodies, in the order of the loggers. Costs what it
@@ -84,8 +85,8 @@ pub fn recover_bodies(
     files: Vec<Vec<Body>>,
     progress: &Progress,
 ) -> Result<Recovered, Refusal>
-    requires { (strings : List (List ℕ)) × AreFiles (initial population.now).scale (seed_of population.now) strings
-        (map (λ bodies. bodies_in bodies.items) files.items) }
+    requires { (version : ℕ) × (strings : List (List ℕ)) × AreFilesOf version (initial population.now).scale
+        (seed_of population.now) strings (map (λ bodies. bodies_in bodies.items) files.items) }
     ensures recovered { IfOk result (IsOfFiles (initial population.now)
         (map (λ bodies. bodies_in bodies.items) files.items)) }
     ensures gap { IsErrOf result Gap → HaveNoGap (found (map (λ bodies. bodies_in bodies.items) files.items))
@@ -118,7 +119,8 @@ pub fn recover_with<R: Threads + Sync, D: Disk + Send>(
         disks.old disks.new result }
 {
     let loggers = disks.len();
-    let files = read_with(rt, alloc, population, loggers, 0, threads, disks, progress)?;
+    let read = read_with(rt, alloc, population, loggers, 0, threads, disks, progress)?;
+    let files = read.bodies;
     let keeps = Keeps::of(alloc, &files)?;
     let part = merged_with(
         rt,

@@ -9,7 +9,7 @@ use Rattle.log_text.specs.Bodies.{BodyView}
 use Rattle.log_text.specs.File.{IsFile}
 use Rattle.log_text.specs.declared.body.Body.{Body}
 use Rattle.logfile.specs.Standing.{LogFileView}
-use Rattle.recover_files.specs.Files.{AreDamaged}
+use Rattle.recover_files.specs.Files.{AreNoFiles}
 use Rattle.recover_found.specs.Found.{bodies_in}
 use Rattle.recover_opening.specs.Opening.{IsReopened, AreReopened}
 
@@ -147,7 +147,7 @@ module _ {D : Type 0} {IsModelled : Type 0} {seen_of : D → List ℕ} {story_of
     -- a disk that has no such file
     pub damaged : (logger : ℕ) (disk : D) (left : List D) → logger ≡ length files → rest ≡ disk ∷ left → loggers ≡ length first
         → ((bodies : List BodyView) → IsFile (seen_of disk) (header_view logger loggers s seed) bodies → ⊥)
-        → AreDamaged s seed (map seen_of first)
+        → AreNoFiles s seed (map seen_of first)
     damaged logger disk left is_logger next count none files are =
         let done : List (Opened D) = so_far.done in
         let place : logger ≡ length (disks_of done) = is_logger ∙ logger_is ∙ sym (length-map done (λ (x : Opened D). x.disk)) in

@@ -10,7 +10,7 @@ use Rattle.log_text.specs.Bodies.{BodyView}
 use Rattle.log_text.specs.File.{IsFile}
 use Rattle.logfile.specs.Standing.{LogFileView}
 use Rattle.recover_crashes.specs.World.{DiskView}
-use Rattle.recover_files.specs.Files.{AreDamaged, AreFiles, AreOnDisks, AreShort}
+use Rattle.recover_files.specs.Files.{AreFiles, AreNoFiles, AreOnDisks, AreShort}
 use Rattle.recover_opening.specs.Opening.{disk_on, file_on, IsSyncedOnce, AreSynced, IsOpenBehind, IsReopened, AreReopened, AreOpenBehind, IsOpenedOn, AreOpened}
 use Rattle.recover_opening.proofs.Reopening.{some_in, to_four}
 
@@ -54,8 +54,8 @@ module _ {D : Type 0} {IsModelled : Type 0} {seen_of : D → List ℕ} {story_of
         subst (λ (xs : List D). AreSynced IsModelled seen_of story_of failed_of xs (take n (mid ++ rest))) same
         (subst (AreSynced IsModelled seen_of story_of failed_of first) (sym written) synced)
 
-    pub damaged_before : {s : Sizes} {seed : ℕ} → IsModelled → AreDamaged s seed (map seen_of mid) → AreDamaged s seed (map seen_of first)
-    damaged_before {s} {seed} modelled are = subst (AreDamaged s seed) (same_seen modelled) are
+    pub damaged_before : {s : Sizes} {seed : ℕ} → IsModelled → AreNoFiles s seed (map seen_of mid) → AreNoFiles s seed (map seen_of first)
+    damaged_before {s} {seed} modelled are = subst (AreNoFiles s seed) (same_seen modelled) are
 
     module _ {s : Sizes} {seed : ℕ} {files : List (LogFileView D)} {bodies : List (List BodyView)}
         (opened : AreReopened IsModelled seen_of story_of failed_of s seed (length mid) mid files bodies) where

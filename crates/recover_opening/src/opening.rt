@@ -5,7 +5,7 @@ ghost use Rattle.log_header.specs.Header.{header_view};
 ghost use Rattle.log_text.specs.Bodies.{BodyView};
 ghost use Rattle.log_text.specs.File.{IsFile};
 ghost use Rattle.population.specs.Initial.{initial, seed_of};
-ghost use Rattle.recover_files.specs.Files.{AreDamaged, AreFiles, AreOnDisks, AreShort};
+ghost use Rattle.recover_files.specs.Files.{AreFiles, AreNoFiles, AreOnDisks, AreShort};
 ghost use Rattle.recover_found.specs.Found.{bodies_in};
 ghost use Rattle.recover_opening.specs.Opening.{AreOpenBehind, AreOpened, AreReopened, AreSynced, IsReopened, disk_on, file_on};
 
@@ -25,9 +25,10 @@ use std::alloc::Global;
 /// # Errors
 ///
 /// `Damaged`, of modelled disks only where some file is no log file of this population's database, of its logger and of
-/// that many loggers; `Device`; `OutOfMemory`. After Ok all are, and no call of a disk has failed. An Err drops the
-/// disks, so no clause says more of them; by the code alone `Device` comes exactly where a call of a disk fails,
-/// `OutOfMemory` only for want of memory, the first file that refuses decides, and nothing is written.
+/// that many loggers, in the version that is written today; `Device`; `OutOfMemory`. After Ok all are, and no call of a
+/// disk has failed. An Err drops the disks, so no clause says more of them; by the code alone `Device` comes exactly
+/// where a call of a disk fails, `OutOfMemory` only for want of memory, the first file that refuses decides, and nothing
+/// is written.
 pub fn open_all<D: Disk + Drop>(
     alloc: Global,
     population: &Population,
@@ -45,7 +46,7 @@ pub fn open_all<D: Disk + Drop>(
         (map (λ bodies. bodies_in bodies.items) x.1.items)) }
     ensures none_failed { IfOk result (λ x. map (λ file. D.failed file.disk) x.0.items ≡ map D.failed disks.items) }
     ensures damaged { D.is_modelled → IsErrOf result Damaged
-        → AreDamaged (initial population.now).scale (seed_of population.now) (map D.seen disks.items) }
+        → AreNoFiles (initial population.now).scale (seed_of population.now) (map D.seen disks.items) }
     ensures others { IfErr result (λ refusal. (refusal ≢ OutOfMemory) → (refusal ≢ Device)
         → refusal ≡ Damaged) }
 {
@@ -83,7 +84,7 @@ fn open_synced<D: Disk + Drop>(
         (seed_of population.now) (length disks.items) disks.items x.0.items
         (map (λ bodies. bodies_in bodies.items) x.1.items)) }
     ensures damaged { D.is_modelled → IsErrOf result Damaged
-        → AreDamaged (initial population.now).scale (seed_of population.now) (map D.seen disks.items) }
+        → AreNoFiles (initial population.now).scale (seed_of population.now) (map D.seen disks.items) }
     ensures others { IfErr result (λ refusal. (refusal ≢ OutOfMemory) → (refusal ≢ Device)
         → refusal ≡ Damaged) }
 {

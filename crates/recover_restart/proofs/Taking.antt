@@ -13,7 +13,6 @@ use Rattle.log_text.specs.File.{IsFile}
 use Rattle.recover_found.specs.Found.{found}
 use Rattle.recover_found.specs.Rebuilt.{HaveNoGap, IsRebuilt}
 use Rattle.recover_files.specs.Files.{AreFiles}
-use Rattle.recover_files.specs.Recovered.{HasGap}
 use Rattle.recover_files.proofs.SameFiles.{same_files}
 use Rattle.recover_laws.specs.Found.{durable_cut, listed}
 use Rattle.recover_laws.specs.Recovered.{GiveTheReplay, IsFirstDatabase}
@@ -22,7 +21,7 @@ use Rattle.recover_lives.specs.Surviving.{LeavesTheReplay}
 use Rattle.recover_lives.specs.World.{Origin, Lives, header_at, joined_history}
 use Rattle.recover_sound.specs.Sound.{AreSoundTables}
 use Rattle.recover_restart.specs.Basing.{AreUnsound}
-use Rattle.recover_restart.specs.Restarting.{AreDamagedOrUnsound, AreTakenUp}
+use Rattle.recover_restart.specs.Restarting.{AreDamagedOrUnsound, AreFilesThat, AreTakenUp, HaveAGap}
 
 -- the laws on commits that were recovered, and on replays
 abbrev pub CommitsAreWithinTheCap : Type 0
@@ -56,8 +55,8 @@ module _ (within_cap : CommitsAreWithinTheCap) (reached : ReplaysAreReached) (t0
       = subst (AreUnsound t0) (same_files t0 seed strings left are unsound.files unsound.short unsound.read) unsound.holds.tables in
       here.unsound (are_sound here.tables here.rebuilt)
 
-  no_gap : HasGap t0.scale seed strings → ⊥
-  no_gap gap = gap.gap (subst (λ (files : List (List BodyView)). HaveNoGap (found files))
+  no_gap : AreFilesThat t0.scale seed strings HaveAGap → ⊥
+  no_gap gap = gap.holds (subst (λ (files : List (List BodyView)). HaveNoGap (found files))
       (sym (same_files t0 seed strings left are gap.files gap.short gap.read)) give.no_gap)
 
   pub are_taken : AreTakenUp t0 seed strings

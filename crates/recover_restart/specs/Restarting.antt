@@ -11,8 +11,7 @@ use Rattle.logfile.specs.Called.{StoreLeft}
 use Rattle.logfile.specs.Standing.{LogFileView}
 use Rattle.recover_found.specs.Found.{durable_of, found}
 use Rattle.recover_found.specs.Rebuilt.{HaveNoGap, IsRebuilt}
-use Rattle.recover_files.specs.Files.{AreDamaged, AreFiles, AreShort}
-use Rattle.recover_files.specs.Recovered.{HasGap}
+use Rattle.recover_files.specs.Files.{AreFiles, AreNoFiles, AreShort}
 use Rattle.recover_crashes.specs.Events.{text_of}
 use Rattle.recover_crashes.specs.World.{DiskView}
 use Rattle.recover_lives.specs.Events.{void_body}
@@ -105,13 +104,17 @@ pub record IsRestart (t0 : Database) (seed terminals : ℕ) (disks : List DiskVi
   pub lost : HaveLost durable top old files
   pub epoch_is : epoch ≡ top + 1
 
--- strings of bytes are log files of such a database, of which this is so
+-- strings of bytes are log files of such a database, in the version that is written today, of which this is so
 pub record AreFilesThat (s : Sizes) (seed : ℕ) (strings : List (List ℕ)) (Holds : List (List BodyView) → Type 0)
     : Type 0 where
   pub files : List (List BodyView)
   pub short : AreShort strings
   pub read : AreFiles s seed strings files
   pub holds : Holds files
+
+-- a commit that counts in files is missing, or stands twice
+abbrev pub HaveAGap : List (List BodyView) → Type 0
+HaveAGap files = HaveNoGap (found files) → ⊥
 
 -- no commit that counts in files is missing, but they have something of the last epoch that there is
 pub record HaveLastEpoch (files : List (List BodyView)) : Type 0 where
@@ -129,12 +132,13 @@ pub record GiveUnsoundTables (t0 : Database) (files : List (List BodyView)) : Ty
   pub room : top < last_epoch
   pub tables : AreUnsound t0 files
 
--- strings of bytes are no log files of a database that began with these tables, or they give unsound ones
+-- strings of bytes are no log files of a database that began with these tables, in the version that is written today, or
+-- they give unsound ones
 abbrev pub AreDamagedOrUnsound : Database → ℕ → List (List ℕ) → Type 0
-AreDamagedOrUnsound t0 seed strings = AreDamaged t0.scale seed strings
+AreDamagedOrUnsound t0 seed strings = AreNoFiles t0.scale seed strings
     ⊎ AreFilesThat t0.scale seed strings (GiveUnsoundTables t0)
 
 -- strings of bytes that a restart takes up: it refuses them neither as damaged nor for a gap
 pub record AreTakenUp (t0 : Database) (seed : ℕ) (strings : List (List ℕ)) : Type 0 where
   pub undamaged : AreDamagedOrUnsound t0 seed strings → ⊥
-  pub no_gap : HasGap t0.scale seed strings → ⊥
+  pub no_gap : AreFilesThat t0.scale seed strings HaveAGap → ⊥

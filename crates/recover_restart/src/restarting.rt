@@ -7,10 +7,9 @@ ghost use Rattle.book.specs.Parts.{base_of};
 ghost use Rattle.recover_found.specs.Found.{bodies_in, found};
 ghost use Rattle.recover_found.specs.Rebuilt.{HaveNoGap};
 ghost use Rattle.recover_files.specs.Files.{AreFiles, AreOnDisks};
-ghost use Rattle.recover_files.specs.Recovered.{HasGap};
 ghost use Rattle.recover_opening.specs.Opening.{disk_on, file_on};
 ghost use Rattle.recover_restart.specs.Restarting.{GoesOnBehind, GoesOnFrom, IsRestart, StandAt};
-ghost use Rattle.recover_restart.specs.Restarting.{AreFilesThat, HaveLastEpoch, GiveUnsoundTables, AreDamagedOrUnsound};
+ghost use Rattle.recover_restart.specs.Restarting.{AreFilesThat, HaveAGap, HaveLastEpoch, GiveUnsoundTables, AreDamagedOrUnsound};
 
 use crate::basing::base_of;
 use crate::declaring::declare_lost;
@@ -60,10 +59,10 @@ pub(crate) struct Resumption {
 /// # Errors
 ///
 /// Of modelled disks in this order, and each only where it is due. `Damaged`: some file is no log file of this
-/// population's database, of its logger and of that many loggers. `Gap`: all are, but the commits that count don't have
-/// the numbers 1, 2 and so on, each once. `EpochFull`: they have, but the files have something of the last epoch that
-/// there is. `Damaged`: they have nothing of it, but the tables that they recover to aren't such as so many commits can
-/// have made. Beside these `Device` and `OutOfMemory`.
+/// population's database, of its logger and of that many loggers, in the version that is written today. `Gap`: all are,
+/// but the commits that count don't have the numbers 1, 2 and so on, each once. `EpochFull`: they have, but the files
+/// have something of the last epoch that there is. `Damaged`: they have nothing of it, but the tables that they recover
+/// to aren't such as so many commits can have made. Beside these `Device` and `OutOfMemory`.
 ///
 /// An Err drops the disks, so no clause says when these two come, nor what is written then. By the code alone: `Device`
 /// comes exactly where a call of a disk fails, and `OutOfMemory` only for want of memory; and nothing is written but
@@ -89,7 +88,7 @@ pub fn restart<R: Wait, D: Disk + Drop>(
     ensures stand { IfOk result (λ r. StandAt (initial population).scale (seed_of population) (length disks.items)
         (base_of r.parts) r.files.items) }
     ensures gap { D.is_modelled → IsErrOf result Gap
-        → HasGap (initial population).scale (seed_of population) (map D.seen disks.items) }
+        → AreFilesThat (initial population).scale (seed_of population) (map D.seen disks.items) HaveAGap }
     ensures full { D.is_modelled → IsErrOf result EpochFull
         → AreFilesThat (initial population).scale (seed_of population) (map D.seen disks.items) HaveLastEpoch }
     ensures damaged { D.is_modelled → IsErrOf result Damaged

@@ -1,5 +1,5 @@
 -- The nine tables as finite maps and a list (TPC-C 1.3), with C_DATA of CUSTOMER in a map of its own.
-use Rattle.std.specs.Prelude.{ℕ, Bool, false, List, []}
+use Rattle.std.specs.Prelude.{ℕ, Bool, true, List, []}
 use Rattle.std.specs.Ordering.{nat_cmp}
 use Rattle.std.specs.FinMap.{FinMap, from_entries, empty}
 use Rattle.tables.specs.Sizes.{Sizes}
@@ -31,11 +31,11 @@ pub record Database : Type 0 where
   pub items : FinMap nat_cmp Item
   pub stock : FinMap stock_cmp Stock
 
--- what `Tables` hold; no Payment changes their C_DATA
+-- what `Tables` hold; Payments change their C_DATA
 abbrev pub database : Tables → Database
 database t = record {
   scale = t.scale;
-  keeps_texts = false;
+  keeps_texts = true;
   warehouses = from_entries t.warehouses.entries;
   districts = from_entries t.districts.entries;
   customers = from_entries t.customers.entries;
@@ -52,7 +52,7 @@ database t = record {
 abbrev pub empty_database : Sizes → Database
 empty_database s = record {
   scale = s;
-  keeps_texts = false;
+  keeps_texts = true;
   warehouses = empty;
   districts = empty;
   customers = empty;

@@ -1,6 +1,6 @@
 //! Records: what a transaction reads or writes as one. A record is a row by its key, a customer's C_DATA, or one of two
-//! index records of the engine's own, and has a number (Silo, SOSP 2013, section 4.2, names a record by its address; the
-//! numbers are the engine's own).
+//! index records of the engine's own, and has a number (Silo, SOSP 2013, section 4.2, names a record by its address;
+//! the numbers are the engine's own).
 
 ghost use Rattle.std.specs.Prelude.{◌≡◌, ◌+◌, ◌-◌, ◌*◌, ◌<◌, ◌≤◌, ◌^◌};
 ghost use Rattle.tables.specs.Sizes.{Sizes};

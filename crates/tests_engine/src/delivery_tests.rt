@@ -1,6 +1,6 @@
 //! Deliveries on the small population: on its cells, and at an engine's terminals.
-ghost use Rattle.std.specs.Prelude.{◌≡◌, length};
-ghost use Rattle.tables.specs.Records.{narrow_count};
+ghost use Rattle.std.specs.Prelude.{◌≡◌};
+ghost use Rattle.readset.specs.Cells.{AreCellsOf};
 ghost use Rattle.population.specs.Initial.{initial};
 
 use crate::deliveries::{delivery, delivery_told};
@@ -94,7 +94,7 @@ fn seen_of(work: &Work) -> Seen {
 }
 
 fn deliver_at<R: Wait>(rt: &R, alloc: Global, stage: &mut Stage) -> Result<Seen, Refusal>
-    requires scale { length stage.old.cells.narrow ≡ narrow_count (initial stage.old.population).scale }
+    requires scale { AreCellsOf (initial stage.old.population).scale stage.old.cells }
     requires reader { stage.old.reader.cells ≡ stage.old.cells }
 {
     let input = delivery(&stage.population.scale())?;

@@ -18,6 +18,7 @@ use transactions::execute;
 pub(crate) fn parts<R: Wait>(rt: &R, alloc: Global) -> Result<Parts, Refusal>
     ensures fresh { IfOk result IsFresh }
     ensures cells { IfOk result (λ parts. length (cells_of parts).narrow ≡ 1085) }
+    ensures wide { IfOk result (λ parts. length (cells_of parts).wide ≡ 20) }
 {
     Parts::new(rt, alloc, small(alloc)?, 1, 2)
 }

@@ -2,7 +2,7 @@
 //! some are before it and some behind.
 ghost use Rattle.std.specs.Prelude.{◌≡◌, ◌<◌, ℕ, length};
 ghost use Rattle.population.specs.Initial.{initial};
-ghost use Rattle.tables.specs.Records.{narrow_count};
+ghost use Rattle.readset.specs.Cells.{AreCellsOf};
 ghost use Rattle.cells.specs.Records.{at};
 ghost use Rattle.cells.specs.Versions.{last_tid};
 
@@ -26,7 +26,7 @@ const WRITES: usize = 14;
 
 /// The writes of an order of customer 3, by rising record number.
 fn writes_of<R: Wait>(rt: &R, alloc: Global, stage: &mut Stage) -> Result<WriteList, Refusal>
-    requires scale { length stage.old.cells.narrow ≡ narrow_count (initial stage.old.population).scale }
+    requires scale { AreCellsOf (initial stage.old.population).scale stage.old.cells }
     requires reader { stage.old.reader.cells ≡ stage.old.cells }
     ensures population { stage.new.population ≡ stage.old.population }
     ensures cells { stage.new.cells ≡ stage.old.cells }

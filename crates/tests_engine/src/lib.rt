@@ -8,6 +8,8 @@ mod book_tests;
 #[cfg(test)]
 mod cells_tests;
 #[cfg(test)]
+mod customer_data_tests;
+#[cfg(test)]
 mod deliveries;
 #[cfg(test)]
 mod delivery_tests;

@@ -1,6 +1,6 @@
 //! New-Orders on the small population: on its cells, and at an engine's terminals.
-ghost use Rattle.std.specs.Prelude.{◌≡◌, length, IfOk};
-ghost use Rattle.tables.specs.Records.{narrow_count};
+ghost use Rattle.std.specs.Prelude.{◌≡◌, IfOk};
+ghost use Rattle.readset.specs.Cells.{AreCellsOf};
 ghost use Rattle.population.specs.Initial.{initial};
 ghost use Rattle.book.specs.Parts.{IsFresh, IsOpenedAs};
 
@@ -74,7 +74,7 @@ fn order<R: Wait>(
     stage: &mut Stage,
     lines: &[RequestedLine],
 ) -> Result<Seen, Refusal>
-    requires scale { length stage.old.cells.narrow ≡ narrow_count (initial stage.old.population).scale }
+    requires scale { AreCellsOf (initial stage.old.population).scale stage.old.cells }
     requires reader { stage.old.reader.cells ≡ stage.old.cells }
 {
     let input = new_order(alloc, &stage.population.scale(), 1, lines)?;

@@ -3,7 +3,7 @@
 ghost use Rattle.std.specs.Prelude.{◌≡◌, ◌<◌, length};
 ghost use Rattle.cells.specs.Records.{at};
 ghost use Rattle.cells.specs.Versions.{last_tid};
-ghost use Rattle.tables.specs.Records.{narrow_count};
+ghost use Rattle.readset.specs.Cells.{AreCellsOf};
 ghost use Rattle.population.specs.Initial.{initial};
 
 use crate::pairs::{Asked, good, outcome_of, second};
@@ -91,7 +91,7 @@ fn seen_of(work: &Work) -> Seen {
 
 /// Executes a payment.
 fn pay<R: Wait>(rt: &R, alloc: Global, stage: &mut Stage, amount: i64) -> Result<Seen, Refusal>
-    requires scale { length stage.old.cells.narrow ≡ narrow_count (initial stage.old.population).scale }
+    requires scale { AreCellsOf (initial stage.old.population).scale stage.old.cells }
     requires reader { stage.old.reader.cells ≡ stage.old.cells }
     ensures population { stage.new.population ≡ stage.old.population }
     ensures cells { stage.new.cells ≡ stage.old.cells }
@@ -143,13 +143,13 @@ fn pay_and_store<R: Wait>(
     amount: i64,
 ) -> Result<Seen, Refusal>
     requires count { length stage.old.cells.narrow ≡ 1085 }
-    requires scale { length stage.old.cells.narrow ≡ narrow_count (initial stage.old.population).scale }
+    requires scale { AreCellsOf (initial stage.old.population).scale stage.old.cells }
     requires pen { stage.old.pen.cells ≡ stage.old.cells }
     requires reader { stage.old.reader.cells ≡ stage.old.cells }
     requires warehouse { last_tid (at stage.old.pen.all 0) ≡ 0 }
     requires district { last_tid (at stage.old.pen.all 1) ≡ 0 }
     requires customer { last_tid (at stage.old.pen.all 5) ≡ 0 }
-    ensures scale { length stage.new.cells.narrow ≡ narrow_count (initial stage.new.population).scale }
+    ensures scale { AreCellsOf (initial stage.new.population).scale stage.new.cells }
     ensures reader { stage.new.reader.cells ≡ stage.new.cells }
 {
     let seen = pay(rt, alloc, stage, amount)?;
@@ -161,7 +161,7 @@ fn pay_and_store<R: Wait>(
 
 fn pay_twice<R: Wait>(rt: &R, alloc: Global, stage: &mut Stage) -> Result<(Seen, Seen), Refusal>
     requires count { length stage.old.cells.narrow ≡ 1085 }
-    requires scale { length stage.old.cells.narrow ≡ narrow_count (initial stage.old.population).scale }
+    requires scale { AreCellsOf (initial stage.old.population).scale stage.old.cells }
     requires pen { stage.old.pen.cells ≡ stage.old.cells }
     requires reader { stage.old.reader.cells ≡ stage.old.cells }
     requires warehouse { last_tid (at stage.old.pen.all 0) ≡ 0 }

@@ -1,6 +1,6 @@
 //! Order-Statuses and Stock-Levels on the small population: on its cells, and at an engine's terminals.
-ghost use Rattle.std.specs.Prelude.{◌≡◌, ◌<◌, length};
-ghost use Rattle.tables.specs.Records.{narrow_count};
+ghost use Rattle.std.specs.Prelude.{◌≡◌, ◌<◌};
+ghost use Rattle.readset.specs.Cells.{AreCellsOf};
 ghost use Rattle.population.specs.Initial.{initial};
 
 use crate::new_orders::order_told;
@@ -42,7 +42,7 @@ pub(crate) fn ask<R: Wait>(
     stage: &mut Stage,
     asked: Asked,
 ) -> Result<Told, Refusal>
-    requires scale { length stage.old.cells.narrow ≡ narrow_count (initial stage.old.population).scale }
+    requires scale { AreCellsOf (initial stage.old.population).scale stage.old.cells }
     requires reader { stage.old.reader.cells ≡ stage.old.cells }
 {
     let input = input_of(alloc, &stage.population.scale(), asked)?;

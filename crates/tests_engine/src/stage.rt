@@ -1,14 +1,17 @@
-//! The plain population of one warehouse, two districts and ten customers a district, on its 1,085 cells: record 0 is
-//! the warehouse, 1 and 2 are the districts, and from 3 on there are the customers of the first district.
+//! The plain population of one warehouse, two districts and ten customers a district, on its 1,085 narrow cells and a
+//! wide one for each customer's C_DATA: record 0 is the warehouse, 1 and 2 are the districts, and from 3 on there are the
+//! customers of the first district.
 ghost use Rattle.std.specs.Prelude.{◌≡◌, ◌≢◌, ◌<◌, ℕ, length, IfOk};
 ghost use Rattle.population.specs.Initial.{initial};
 ghost use Rattle.tables.specs.Inputs.{IsInput};
-ghost use Rattle.tables.specs.Records.{narrow_count};
+ghost use Rattle.tables.specs.Records.{narrow_count, size};
+ghost use Rattle.tables.specs.declared.records.Table.TheVariants as table;
+ghost use Rattle.readset.specs.Cells.{AreCellsOf};
 ghost use Rattle.cells.specs.Records.{at};
 ghost use Rattle.cells.specs.Versions.{last_tid};
 
 use cells::{Cells, Pen, Reader};
-use encoding::first_versions;
+use encoding::{first_texts, first_versions};
 use money::{NO_PAYLOAD, Payload, Refusal};
 use population::Population;
 use readset::Work;
@@ -29,7 +32,8 @@ pub(crate) const DISTRICT: Payload = [10_000, 11, 0, 0, 0, 0, 0];
 pub(crate) const CUSTOMER: Payload = [u64::MAX - 999, 1_000, 1, 0, 0, 0, 0];
 
 pub(crate) fn small(alloc: Global) -> Result<Population, Refusal>
-    ensures { IfOk result (λ population. narrow_count (initial population).scale ≡ 1085) }
+    ensures narrow { IfOk result (λ population. narrow_count (initial population).scale ≡ 1085) }
+    ensures wide { IfOk result (λ population. size (initial population).scale table.CustomerData ≡ 20) }
 {
     Population::plain(alloc, Scale::new(1, 2, 10, 20, 30, 1_000)?)
 }
@@ -45,14 +49,15 @@ pub(crate) struct Stage {
 
 pub(crate) fn open<R: Wait>(rt: &R, alloc: Global) -> Result<Stage, Fail>
     ensures count { IfOk result (λ s. length s.cells.narrow ≡ 1085) }
-    ensures scale { IfOk result (λ s. length s.cells.narrow ≡ narrow_count (initial s.population).scale) }
+    ensures scale { IfOk result (λ s. AreCellsOf (initial s.population).scale s.cells) }
     ensures pen { IfOk result (λ s. s.pen.cells ≡ s.cells) }
     ensures reader { IfOk result (λ s. s.reader.cells ≡ s.cells) }
     ensures first { IfOk result (λ s. (n : ℕ) → n < length s.cells.narrow → last_tid (at s.pen.all n) ≡ 0) }
 {
     let population = small(alloc)?;
     let first = first_versions(alloc, population.tables())?;
-    let (cells, pen, mut readers) = Cells::new(rt, alloc, first, 1)?;
+    let texts = first_texts(alloc, population.tables())?;
+    let (cells, pen, mut readers) = Cells::with_wide(rt, alloc, first, texts, 1)?;
     let reader = readers.pop().ok_or("reader")?;
     Ok(Stage {
         population,
@@ -70,7 +75,7 @@ pub(crate) fn execute_on<R: Wait>(
     input: &Input,
 ) -> Result<Work, Refusal>
     requires input { IsInput (initial stage.old.population).scale input.now }
-    requires scale { length stage.old.cells.narrow ≡ narrow_count (initial stage.old.population).scale }
+    requires scale { AreCellsOf (initial stage.old.population).scale stage.old.cells }
     requires reader { stage.old.reader.cells ≡ stage.old.cells }
     ensures population { stage.new.population ≡ stage.old.population }
     ensures cells { stage.new.cells ≡ stage.old.cells }

@@ -42,13 +42,40 @@ fn exchanged_files_are_damage(rt: HostRuntime) -> Result<(), Fail> {
     Ok(())
 }
 
-/// The second file with this byte at a place.
-fn second_with(alloc: Global, place: usize, byte: u8) -> Result<Vec<u8>, AllocError> {
-    let mut bytes = second(alloc)?;
+/// A file with this byte at a place.
+fn with_byte(mut bytes: Vec<u8>, place: usize, byte: u8) -> Vec<u8> {
     if let Some(old) = bytes.get_mut(place) {
         *old = byte;
     }
-    Ok(bytes)
+    bytes
+}
+
+/// The second file with this byte at a place.
+fn second_with(alloc: Global, place: usize, byte: u8) -> Result<Vec<u8>, AllocError> {
+    Ok(with_byte(second(alloc)?, place, byte))
+}
+
+/// What two files of these versions are refused by.
+fn refusal_of_versions(alloc: Global, one: u8, other: u8) -> Result<Option<Refusal>, Refusal> {
+    let first = with_byte(first(alloc, 1)?, 8, one);
+    let second = second_with(alloc, 8, other)?;
+    refusal_of(alloc, &first, &second)
+}
+
+#[test]
+fn files_of_one_version_are_read_and_of_two_are_damage(rt: HostRuntime) -> Result<(), Fail> {
+    let damaged = Some(Refusal::Damaged);
+    for (one, other, refusal) in [
+        (1, 1, None),
+        (2, 2, None),
+        (1, 2, damaged),
+        (2, 1, damaged),
+        (3, 3, damaged),
+        (0, 0, damaged),
+    ] {
+        assert_eq!(rt; refusal_of_versions(rt.alloc(), one, other), Ok(refusal));
+    }
+    Ok(())
 }
 
 #[test]

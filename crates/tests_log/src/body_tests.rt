@@ -1,34 +1,42 @@
 //! Bodies whose bytes are known, there and back, and bodies that may not stand in a file.
-ghost use Rattle.std.specs.Prelude.{◌≡◌, ◌<◌, ◌^◌, length, IfOk};
+ghost use Rattle.std.specs.Prelude.{◌<◌, ◌^◌, length, IfOk};
 ghost use Rattle.log_text.specs.Bodies.{HasFewWrites};
 
 use log_header::Header;
-use log_text::{Body, Last, LoggedEntry, Write, put_body, read_body};
+use log_text::{Body, Last, LoggedEntry, Value, Write, put_body, read_body};
 use money::Refusal;
 use std::alloc::{AllocError, Global};
 use std::test::Fail;
 use tables::{Scale, Table};
 use tests_log_vectors::{NOTHING, PAYMENT};
 
-const WAREHOUSE: Write = Write {
+/// A write of columns, or of nothing.
+#[derive(Clone, Copy, Debug, PartialEq, Eq)]
+struct Row {
+    table: Table,
+    place: u32,
+    words: Option<[u64; 7]>,
+}
+
+const WAREHOUSE: Row = Row {
     table: Table::Warehouse,
     place: 0,
     words: Some([21_234, 0, 0, 0, 0, 0, 0]),
 };
 
-const DISTRICT: Write = Write {
+const DISTRICT: Row = Row {
     table: Table::District,
     place: 0,
     words: Some([11_234, 11, 0, 0, 0, 0, 0]),
 };
 
-const CUSTOMER: Write = Write {
+const CUSTOMER: Row = Row {
     table: Table::Customer,
     place: 2,
     words: Some([u64::MAX - 2_233, 2_234, 2, 0, 0, 0, 0]),
 };
 
-const HISTORY: Write = Write {
+const HISTORY: Row = Row {
     table: Table::History,
     place: 0,
     words: Some([3, 1, 1, 1, 1, 1, 1_234]),
@@ -54,8 +62,8 @@ const FRONT: Front = Front {
 /// Behind that commit.
 const BEHIND: Last = Last { mark: 1, epoch: 1 };
 
-fn present(table: Table, place: u32, words: [u64; 7]) -> Write {
-    Write {
+fn present(table: Table, place: u32, words: [u64; 7]) -> Row {
+    Row {
         table,
         place,
         words: Some(words),
@@ -66,11 +74,42 @@ fn header() -> Result<Header, Refusal> {
     Ok(Header::new(Scale::new(1, 2, 10, 20, 30, 1_000)?, 0, 0, 1))
 }
 
-fn entry(alloc: Global, front: Front, writes: &[Write]) -> Result<LoggedEntry, AllocError>
-    ensures { IfOk result (λ e. e.writes.items ≡ writes.now) }
+/// A row as a write, and a write as a row, where it is none of a text.
+fn write_of(row: Row) -> Write {
+    let value = match row.words {
+        Some(words) => Value::Columns(words),
+        None => Value::Absent,
+    };
+    Write {
+        table: row.table,
+        place: row.place,
+        value,
+    }
+}
+
+fn row_of(write: &Write) -> Option<Row> {
+    let words = match &write.value {
+        Value::Absent => None,
+        Value::Columns(words) => Some(*words),
+        Value::Text(_) => return None,
+    };
+    Some(Row {
+        table: write.table,
+        place: write.place,
+        words,
+    })
+}
+
+fn entry(alloc: Global, front: Front, rows: &[Row]) -> Result<LoggedEntry, AllocError>
+    ensures { IfOk result (λ e. length e.writes.items < 2 ^ 16) }
 {
     let mut own = Vec::new(alloc);
-    own.extend_from_slice(writes)?;
+    for row in rows {
+        own.push(write_of(*row))?;
+    }
+    if own.len() >= 65_536 {
+        return Err(AllocError);
+    }
     Ok(LoggedEntry {
         number: front.number,
         tid: front.tid,
@@ -79,8 +118,7 @@ fn entry(alloc: Global, front: Front, writes: &[Write]) -> Result<LoggedEntry, A
     })
 }
 
-fn body(alloc: Global, front: Front, writes: &[Write]) -> Result<Body, AllocError>
-    requires { length writes.now < 2 ^ 16 }
+fn body(alloc: Global, front: Front, writes: &[Row]) -> Result<Body, AllocError>
     ensures { IfOk result HasFewWrites }
 {
     let entry = entry(alloc, front, writes)?;
@@ -90,9 +128,7 @@ fn body(alloc: Global, front: Front, writes: &[Write]) -> Result<Body, AllocErro
 }
 
 /// The text of a body with one entry.
-fn text(alloc: Global, front: Front, writes: &[Write]) -> Result<Vec<u8>, AllocError>
-    requires { length writes.now < 2 ^ 16 }
-{
+fn text(alloc: Global, front: Front, writes: &[Row]) -> Result<Vec<u8>, AllocError> {
     let body = body(alloc, front, writes)?;
     let mut out = Vec::new(alloc);
     put_body(&mut out, &body)?;
@@ -114,10 +150,8 @@ fn follows(
     alloc: Global,
     last: Last,
     front: Front,
-    writes: &[Write],
-) -> Result<Option<Last>, Refusal>
-    requires { length writes.now < 2 ^ 16 }
-{
+    writes: &[Row],
+) -> Result<Option<Last>, Refusal> {
     let text = text(alloc, front, writes)?;
     stands(alloc, last, &text)
 }
@@ -142,13 +176,38 @@ fn a_payment_has_its_bytes(rt: HostRuntime) -> Result<(), Fail> {
     Ok(())
 }
 
+/// What stands in front of the writes of the body's one entry, and the row of the write at this place among them.
+fn read_row(alloc: Global, place: usize) -> Result<Option<(Front, Option<Row>)>, Refusal> {
+    let header = header()?;
+    let (body, _, _) = read_body(alloc, &header, Last::start(), &PAYMENT)?;
+    let Body::Entries(mark, entries) = &body else {
+        return Ok(None);
+    };
+    let [entry] = entries.as_slice() else {
+        return Ok(None);
+    };
+    let front = Front {
+        mark: *mark,
+        number: entry.number,
+        tid: entry.tid,
+        terminal: entry.terminal,
+    };
+    Ok(Some((front, entry.writes.get(place).and_then(row_of))))
+}
+
 #[test]
 fn a_body_is_read_as_it_was_written(rt: HostRuntime) -> Result<(), Fail> {
-    let written = body(rt.alloc(), FRONT, &[WAREHOUSE, DISTRICT, CUSTOMER, HISTORY])?;
-    let header = header()?;
-    let (read, _, rest) = read_body(rt.alloc(), &header, Last::start(), &PAYMENT)?;
-    assert!(rt; rest.is_empty());
-    assert!(rt; read == written);
+    let rows = [
+        Some(WAREHOUSE),
+        Some(DISTRICT),
+        Some(CUSTOMER),
+        Some(HISTORY),
+        None,
+    ];
+    for place in 0..5 {
+        let read = read_row(rt.alloc(), place)?;
+        assert!(rt; read == Some((FRONT, rows[place])));
+    }
     Ok(())
 }
 
@@ -211,7 +270,7 @@ fn fronts_that_break_a_rule_are_refused(rt: HostRuntime) -> Result<(), Fail> {
 }
 
 /// A row of HISTORY and so many of ORDER-LINE.
-fn lines_behind_history(alloc: Global, lines: u32) -> Result<Vec<Write>, AllocError> {
+fn lines_behind_history(alloc: Global, lines: u32) -> Result<Vec<Row>, AllocError> {
     let mut writes = Vec::new(alloc);
     writes.push(HISTORY)?;
     for place in 0..lines {
@@ -224,7 +283,6 @@ fn lines_behind_history(alloc: Global, lines: u32) -> Result<Vec<Write>, AllocEr
 fn an_entry_has_200_writes_beside_history_at_most(rt: HostRuntime) -> Result<(), Fail> {
     for (lines, behind) in [(200, Some(BEHIND)), (201, None)] {
         let writes = lines_behind_history(rt.alloc(), lines)?;
-        assert!(rt; writes.len() < 65_536);
         assert!(rt; follows(rt.alloc(), Last::start(), FRONT, &writes)? == behind);
     }
     Ok(())
@@ -323,7 +381,7 @@ fn numbers_rise_inside_a_body(rt: HostRuntime) -> Result<(), Fail> {
 #[test]
 fn writes_that_break_a_rule_are_refused(rt: HostRuntime) -> Result<(), Fail> {
     let stock = present(Table::Stock, 0, [9, 0, 0, 0, 0, 0, 0]);
-    let absent = Write {
+    let absent = Row {
         table: Table::Order,
         place: 0,
         words: None,
@@ -339,7 +397,7 @@ fn writes_that_break_a_rule_are_refused(rt: HostRuntime) -> Result<(), Fail> {
         [WAREHOUSE, present(Table::CustomerData, 0, [0; 7])],
         [
             WAREHOUSE,
-            Write {
+            Row {
                 place: 1,
                 ..HISTORY
             },
@@ -347,7 +405,7 @@ fn writes_that_break_a_rule_are_refused(rt: HostRuntime) -> Result<(), Fail> {
         // a warehouse that isn't there
         [
             WAREHOUSE,
-            Write {
+            Row {
                 place: 1,
                 ..WAREHOUSE
             },

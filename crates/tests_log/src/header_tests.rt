@@ -1,9 +1,9 @@
 //! Headers whose bytes are known, there and back.
 use log_codec::put_u8;
-use log_header::{Header, put_header, read_header};
+use log_header::{Header, OLDEST_VERSION, put_header, read_header};
 use std::test::Fail;
 use tables::Scale;
-use tests_log_vectors::FIRST;
+use tests_log_vectors::{FIRST, first_of_version_1};
 
 #[test]
 fn a_header_has_its_bytes(rt: HostRuntime) -> Result<(), Fail> {
@@ -12,6 +12,19 @@ fn a_header_has_its_bytes(rt: HostRuntime) -> Result<(), Fail> {
     put_header(&mut out, &header)?;
     assert!(rt; out.as_slice() == FIRST.as_slice());
     assert!(rt; read_header(&FIRST) == Some((header, &FIRST[48..])));
+    Ok(())
+}
+
+#[test]
+fn a_header_of_version_1_is_read_and_written_as_one(rt: HostRuntime) -> Result<(), Fail> {
+    let bytes = first_of_version_1();
+    let Some((header, [])) = read_header(&bytes) else {
+        return Err(Fail);
+    };
+    assert_eq!(rt; header.version, OLDEST_VERSION);
+    let mut out = Vec::new(rt.alloc());
+    put_header(&mut out, &header)?;
+    assert!(rt; out.as_slice() == bytes.as_slice());
     Ok(())
 }
 
@@ -36,8 +49,16 @@ fn fewer_bytes_are_no_header(rt: HostRuntime) -> Result<(), Fail> {
 
 #[test]
 fn other_formats_and_numbers_are_no_header(rt: HostRuntime) -> Result<(), Fail> {
-    // the name, the version, logger 1 of 1, 9 loggers, none, and 0 warehouses
-    for (place, byte) in [(7, 0), (8, 2), (12, 1), (14, 9), (14, 0), (16, 0)] {
+    // the name, the versions 0 and 3, logger 1 of 1, 9 loggers, none, and 0 warehouses
+    for (place, byte) in [
+        (7, 0),
+        (8, 0),
+        (8, 3),
+        (12, 1),
+        (14, 9),
+        (14, 0),
+        (16, 0),
+    ] {
         let mut bytes = FIRST;
         bytes[place] = byte;
         assert!(rt; read_header(&bytes).is_none());

@@ -17,4 +17,6 @@ mod opened_tests;
 #[cfg(test)]
 mod scan_tests;
 #[cfg(test)]
+mod text_tests;
+#[cfg(test)]
 mod void_tests;

@@ -142,3 +142,14 @@ fn a_file_is_read_behind_a_sync(rt: HostRuntime) -> Result<(), Fail> {
     assert_eq!(rt; standing_of(&file), OPENED);
     Ok(())
 }
+
+#[test]
+fn a_file_of_version_1_is_not_opened(rt: HostRuntime) -> Result<(), Fail> {
+    let mut memory = written(rt.alloc())?;
+    memory.write_at(8, &[1])?;
+    let opened = LogFile::open(rt.alloc(), &mut memory);
+    assert_eq!(rt; opened.err(), Some(Refusal::Damaged));
+    // the test's two writes, and a sync
+    assert_eq!(rt; memory.calls().len(), 3);
+    Ok(())
+}

@@ -21,8 +21,18 @@ pub fn push_numbers(bytes: &mut Vec<u8>, size: usize, numbers: &[u64]) -> Result
 
 /// Appends the header of a logger's file.
 pub fn push_header(bytes: &mut Vec<u8>, logger: u64, loggers: u64) -> Result<(), AllocError> {
+    push_header_of(bytes, 2, logger, loggers)
+}
+
+/// The same of this version.
+pub fn push_header_of(
+    bytes: &mut Vec<u8>,
+    version: u64,
+    logger: u64,
+    loggers: u64,
+) -> Result<(), AllocError> {
     bytes.extend_from_slice(b"SILOTPCC")?;
-    push_numbers(bytes, 4, &[1])?;
+    push_numbers(bytes, 4, &[version])?;
     push_numbers(bytes, 2, &[logger, loggers])?;
     push_numbers(bytes, 4, &[1, 2, 10, 20, 30, 1_000])?;
     push_numbers(bytes, 8, &[0])

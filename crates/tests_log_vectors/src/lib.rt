@@ -8,9 +8,16 @@ use std::alloc::{AllocError, Global};
 /// The header of logger 0 of 1, over 1 warehouse, 2 districts, 10 customers, 20 items, orders up to 30, 1,000 commits
 /// and the plain population.
 pub const FIRST: [u8; 48] = [
-    0x53, 0x49, 0x4c, 0x4f, 0x54, 0x50, 0x43, 0x43, 1, 0, 0, 0, 0, 0, 1, 0, 1, 0, 0, 0, 2, 0, 0, 0,
+    0x53, 0x49, 0x4c, 0x4f, 0x54, 0x50, 0x43, 0x43, 2, 0, 0, 0, 0, 0, 1, 0, 1, 0, 0, 0, 2, 0, 0, 0,
     10, 0, 0, 0, 20, 0, 0, 0, 30, 0, 0, 0, 0xe8, 3, 0, 0, 0, 0, 0, 0, 0, 0, 0, 0,
 ];
+
+/// The same header, of version 1: its file has no texts.
+pub fn first_of_version_1() -> [u8; 48] {
+    let mut bytes = FIRST;
+    bytes[8] = 1;
+    bytes
+}
 
 /// The text of a body of mark 1 without entries.
 pub const NOTHING: [u8; 16] = [9, 0, 0, 0, 0, 0, 0, 0, 1, 0, 0, 0, 0, 0, 0, 0];
@@ -24,6 +31,26 @@ pub const PAYMENT: [u8; 172] = [
     1, 3, 0, 0, 0, 0, 0, 0, 0, 1, 0, 0, 0, 0, 0, 0, 0, 1, 0, 0, 0, 0, 0, 0, 0, 1, 0, 0, 0, 0, 0, 0,
     0, 1, 0, 0, 0, 0, 0, 0, 0, 1, 0, 0, 0, 0, 0, 0, 0, 0xd2, 4, 0, 0, 0, 0, 0, 0,
 ];
+
+/// What a Payment of 12.34 by customer 10 of district 1 puts there at the left of C_DATA.
+pub const PAID_TEXT: [u8; 17] = *b"10 1 1 1 1 12.34|";
+
+/// The text of a body of mark 1 with the first Payment of a terminal, commit 1: customer 10, whose credit is bad, pays
+/// 12.34 in district 1. Its entry has 481 bytes, and ends with the customer's text.
+pub fn payment_with_text(alloc: Global) -> Result<Vec<u8>, AllocError> {
+    let mut front = PAYMENT;
+    front[..2].copy_from_slice(&490_u16.to_le_bytes());
+    front[34] = 5;
+    front[73] = 9;
+    front[116] = 10;
+    let mut body = Vec::new(alloc);
+    body.extend_from_slice(&front)?;
+    body.extend_from_slice(&[12, 9, 0, 0, 0, 1])?;
+    body.extend_from_slice(&317_u16.to_le_bytes())?;
+    body.extend_from_slice(&PAID_TEXT)?;
+    body.extend_from_slice(&[b'x'; 300])?;
+    Ok(body)
+}
 
 /// The text of a void body of epochs 6 to 8, and the closed gate behind it.
 pub const VOID: [u8; 33] = [

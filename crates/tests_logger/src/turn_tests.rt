@@ -11,7 +11,7 @@ use std::alloc::{AllocError, Global};
 use std::marker::Brand;
 use std::sync::Wait;
 use std::test::Fail;
-use tests_log_vectors::{FIRST, NOTHING, PAYMENT};
+use tests_log_vectors::{FIRST, NOTHING, PAYMENT, payment_with_text};
 
 /// An engine in epoch 1, with its one logger over an empty disk.
 pub(crate) fn open_one<K: Run, D: Disk + Drop>(
@@ -32,21 +32,21 @@ pub(crate) fn open_one<K: Run, D: Disk + Drop>(
     Ok((stage, logger))
 }
 
-/// The answer of a turn in epoch 2, for which the terminal has paid so many cents in epoch 1, where any.
+/// The answer of a turn in epoch 2, for which a customer has paid so many cents in epoch 1, where one has.
 fn turn<K: Run, R: Wait, D: Disk + Drop>(
     rt: &R,
     alloc: Global,
     parts: Parts,
     disk: D,
-    cents: Option<i64>,
+    paid: Option<(u32, i64)>,
 ) -> Result<u64, Refusal>
     requires run { IsOpenedAs parts K.population K.first K.past K.cells K.board K.seed K.name K.parts }
     requires loggers { (loggers_of parts ≡ 1) × (base_of parts ≡ 0) }
     requires empty { D.is_modelled → D.seen disk ≡ [] }
 {
     let (mut stage, mut logger) = open_one::<K, D>(alloc, parts, disk)?;
-    if let Some(cents) = cents {
-        stage.pay(rt, alloc, 3, cents)?;
+    if let Some((customer, cents)) = paid {
+        stage.pay(rt, alloc, customer, cents)?;
     }
     stage.advance()?;
     stage.take_turn(rt, &mut logger)
@@ -81,11 +81,24 @@ fn a_payment_is_written(rt: HostRuntime) -> Result<(), Fail> {
     let parts = parts(&rt, rt.alloc(), 1)?;
     let mut disk = Memory::new(rt.alloc());
     assert_eq!(rt;
-        turn::<Brand, _, _>(&rt, rt.alloc(), parts, &mut disk, Some(1_234))?,
+        turn::<Brand, _, _>(&rt, rt.alloc(), parts, &mut disk, Some((3, 1_234)))?,
         1
     );
     assert_eq!(rt; disk.bytes().len(), 222);
     let file = file(rt.alloc(), &PAYMENT)?;
+    assert!(rt; disk.bytes() == file.as_slice());
+    Ok(())
+}
+
+#[test]
+fn a_payment_of_bad_credit_is_written_with_its_text(rt: HostRuntime) -> Result<(), Fail> {
+    let parts = parts(&rt, rt.alloc(), 1)?;
+    let mut disk = Memory::new(rt.alloc());
+    assert_eq!(rt;
+        turn::<Brand, _, _>(&rt, rt.alloc(), parts, &mut disk, Some((10, 1_234)))?,
+        1
+    );
+    let file = file(rt.alloc(), &payment_with_text(rt.alloc())?)?;
     assert!(rt; disk.bytes() == file.as_slice());
     Ok(())
 }

@@ -8,6 +8,8 @@ mod recovering_tests;
 #[cfg(test)]
 mod telling_tests;
 #[cfg(test)]
+mod texts_tests;
+#[cfg(test)]
 mod threads_tests;
 #[cfg(test)]
 mod void_tests;

@@ -1,7 +1,7 @@
 //! Restarts that are refused: nothing is written then.
 
 use crate::restarting::restart_on;
-use log_disk::{Memory, MemoryCall};
+use log_disk::{Disk, Memory, MemoryCall};
 use money::Refusal;
 use std::alloc::{AllocError, Global};
 use std::sync::Wait;
@@ -104,6 +104,35 @@ fn no_epoch_is_behind_the_last(rt: HostRuntime) -> Result<(), Fail> {
     let mut disks = of_the_last_epoch(rt.alloc())?;
     let outcome = refused_on(&rt, rt.alloc(), &mut disks);
     assert_eq!(rt; outcome, refused_by(Refusal::EpochFull));
+    Ok(())
+}
+
+/// Disks with these files, as files of version 1: a restart goes on with none.
+fn of_version_1(alloc: Global, files: &mut [Memory]) -> Result<Vec<Memory>, Refusal> {
+    let mut disks = Vec::new(alloc);
+    for file in files {
+        file.write_at(8, &[1])?;
+        disks.push(disk_of(alloc, file.bytes())?)?;
+    }
+    Ok(disks)
+}
+
+#[test]
+fn files_of_version_1_are_refused(rt: HostRuntime) -> Result<(), Fail> {
+    let mut files = disks(rt.alloc(), 1)?;
+    let mut disks = of_version_1(rt.alloc(), &mut files)?;
+    let outcome = refused_on(&rt, rt.alloc(), &mut disks);
+    assert_eq!(rt; outcome, refused_by(Refusal::Damaged));
+    Ok(())
+}
+
+/// Before it is told that no epoch is left.
+#[test]
+fn a_file_of_version_1_is_refused_whatever_it_holds(rt: HostRuntime) -> Result<(), Fail> {
+    let mut files = of_the_last_epoch(rt.alloc())?;
+    let mut disks = of_version_1(rt.alloc(), &mut files)?;
+    let outcome = refused_on(&rt, rt.alloc(), &mut disks);
+    assert_eq!(rt; outcome, refused_by(Refusal::Damaged));
     Ok(())
 }
 

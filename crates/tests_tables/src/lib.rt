@@ -14,6 +14,8 @@ mod new_order_tests;
 #[cfg(test)]
 mod newest_tests;
 #[cfg(test)]
+mod payment_tests;
+#[cfg(test)]
 mod population_tests;
 #[cfg(test)]
 mod reach_tests;

@@ -11,7 +11,7 @@ use Rattle.tables.specs.Inputs.{IsInput}
 use Rattle.tables.specs.Apply.{after}
 use Rattle.tables.specs.Keys.{IsOrderKey}
 use Rattle.tables.specs.Maps.{sum_of}
-use Rattle.tables.specs.Records.{key_of, number_of_key, narrow_count}
+use Rattle.tables.specs.Records.{key_of, number_of_key, record_count}
 use Rattle.tables.specs.Rows.{rows, row_at}
 use Rattle.tables.specs.Conditions.{IsConsistent, Condition7At}
 use Rattle.tables.specs.WellFormed.{IsWellFormed}
@@ -98,13 +98,13 @@ module _ (t u : Database) (writes : List (ℕ × Option (List ℕ))) (row : Opti
 
 module _ (t : Database) (x : Input) (writes : WriteSetView) (reply : Reply) (held : ℕ → Option (List ℕ)) (scale : IsScale t.scale) (ok : IsInput t.scale x)
     (wf : IsWellFormed t) (con : IsConsistent t) (wf_after : IsWellFormed (after t x)) (commit : IsCommitOf t x writes reply) (are : AreWrites t.scale writes)
-    (latest : (n : ℕ) → n < narrow_count t.scale → held n ≡ rows t n) where
+    (latest : (n : ℕ) → n < record_count t.scale → held n ≡ rows t n) where
   written : AreWritten t (after t x) writes.values
-  written = record { scale = after-scale t x; ascend = are.ascend; found = are.found; below = λ i d inside. narrow_among t.scale _ (are.below i d inside); rows = commit.rows }
+  written = record { scale = after-scale t x; ascend = are.ascend; found = are.found; below = are.below; rows = commit.rows }
 
   ordered : (j : OrderKey) → IsOrderKey t.scale j → order_before t.scale held j ≡ row_at t (key.Order j)
   ordered j is =
-      latest (number_of_key t.scale (key.Order j)) (narrow_named t.scale (key.Order j) is) ∙ ap (row_at t) (named t.scale (key.Order j) is).1
+      latest (number_of_key t.scale (key.Order j)) (narrow_among t.scale _ (narrow_named t.scale (key.Order j) is)) ∙ ap (row_at t) (named t.scale (key.Order j) is).1
 
   pub sums_follow_commit : (v v' : SumsView) → AreSums t.scale t v → SumsFollow t.scale held writes v v' → AreSums (after t x).scale (after t x) v'
   sums_follow_commit v v' was follow =

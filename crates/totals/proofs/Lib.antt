@@ -14,4 +14,5 @@ mod Opened
 mod Begin
 mod Recorded
 mod Uncounted
+mod Wide
 mod ByNumber

@@ -12,7 +12,7 @@ use Rattle.tables.specs.Database.{Database}
 use Rattle.tables.specs.declared.rows.History.{History}
 use Rattle.tables.specs.declared.rows.Order.{Order}
 use Rattle.tables.specs.declared.records.RecordKey.TheVariants as key
-use Rattle.tables.proofs.Numbers.{named, narrow_named}
+use Rattle.tables.proofs.Numbers.{named, narrow_named, narrow_among}
 use Rattle.readset.specs.Writes.{added}
 use Rattle.cells.specs.Records.{PenView, held_by}
 use Rattle.totals.specs.Moves.{HasBuyers}
@@ -22,7 +22,7 @@ use Rattle.totals.specs.Counts.{AreRecords}
 pub buyers_named : (pen : PenView) (t : Database) → AreRecords pen t → HasBuyers t.scale (held_by pen)
 buyers_named pen t are k is words at =
     row (get t.orders k) refl
-    (sym (ap (row_at t) (named t.scale (key.Order k) is).1) ∙ sym (are.held (number_of_key t.scale (key.Order k)) (narrow_named t.scale (key.Order k) is)) ∙ at)
+    (sym (ap (row_at t) (named t.scale (key.Order k) is).1) ∙ sym (are.held (number_of_key t.scale (key.Order k)) (narrow_among t.scale _ (narrow_named t.scale (key.Order k) is))) ∙ at)
   where
     row : (w : Option Order) → get t.orders k ≡ w → option_map order_words w ≡ Some words → IsNumber t.scale.customers (slice_index words 0)
     row None e same = absurd (true≢false (sym (ap is_some same)))

@@ -1,10 +1,11 @@
 -- Records of tables that no sum counts.
-use Rattle.std.proofs.Common.{◌≡◌, ℕ, ◌<◌, ◌≤◌, ◌⊎◌, inl, inr, refl, arith}
+use Rattle.std.proofs.Common.{◌≡◌, ℕ, ◌+◌, ◌-◌, ◌<◌, ◌≤◌, ◌⊎◌, inl, inr, refl, sym, ap, ◌∙◌, subst, arith}
 use Rattle.tables.specs.Sizes.{Sizes}
-use Rattle.tables.specs.Records.{number_of_key, key_of, narrow_count, IsRecordKey}
+use Rattle.tables.specs.Records.{number_of_key, key_of, size, narrow_count, record_count, IsRecordKey}
+use Rattle.tables.specs.declared.records.Table.TheVariants as table
 use Rattle.tables.specs.declared.records.RecordKey.{RecordKey}
 use Rattle.tables.specs.declared.records.RecordKey.TheVariants as key
-use Rattle.tables.proofs.Numbers.{narrow_among, one_to_one, district_there, order_there, line_there}
+use Rattle.tables.proofs.Numbers.{narrow_among, wide_named, one_to_one, district_there, order_there, line_there}
 use Rattle.totals.specs.Counted.{counted_in, IsOfAnotherTable}
 use Rattle.totals.proofs.Moving.{IsOther}
 
@@ -42,3 +43,11 @@ module _ (s : Sizes) (n : ℕ) where
 
   pub other_there : n < narrow_count s → IsOfAnotherTable (counted_in s) n → IsOther (key_of s n)
   other_there below past = let back = (one_to_one s).1 n (narrow_among s n below) in of_kind past (key_of s n) back.0 back.1
+
+  -- a wide record is of C_DATA, which no sum counts
+  pub wide_other : narrow_count s ≤ n → n < record_count s → IsOther (key_of s n)
+  wide_other behind below =
+      let there : narrow_count s + (n - narrow_count s) ≡ n = omega (arith, behind) in
+      let inside : n - narrow_count s < size s table.CustomerData = omega (arith, behind, below) in
+      subst IsOther (sym (wide_named s (n - narrow_count s) inside) ∙ ap (key_of s) there)
+      (λ order words. ((λ w. refl), (λ w. refl), (λ w. refl), (λ w. refl), (λ w. refl), (λ w. refl)))

@@ -7,20 +7,18 @@ use Rattle.std.specs.Map.{keys_of, lookup}
 use Rattle.std.specs.BTreeMap.{is_at}
 use Rattle.std.specs.FinMap.{get}
 use Rattle.tables.specs.Sizes.{Sizes}
-use Rattle.tables.specs.Records.{narrow_count, record_count}
+use Rattle.tables.specs.Records.{record_count}
 use Rattle.tables.specs.Rows.{rows}
 use Rattle.tables.specs.Database.{Database}
 use Rattle.tables.specs.declared.keys.OrderKey.{OrderKey}
 use Rattle.tables.specs.declared.rows.Order.{Order}
-use Rattle.readset.specs.Writes.{WriteSetView, WritesAreNarrow, value_for}
+use Rattle.readset.specs.Writes.{WriteSetView, value_for}
 
--- a commit's writes stand in the order of their records, a look-up finds each, each is of a record of the scale, and
--- none of a wide one
+-- a commit's writes stand in the order of their records, a look-up finds each, and each is of a record of the scale
 pub record AreWrites (s : Sizes) (writes : WriteSetView) : Type 0 where
   pub ascend : IsStrictlySortedBy nat_cmp (keys_of writes.values)
   pub found : All (λ e. value_for writes e.0 ≡ Some e.1) writes.values
-  pub below : All (λ e. e.0 < narrow_count s) writes.values
-  pub narrow : WritesAreNarrow writes
+  pub below : All (λ e. e.0 < record_count s) writes.values
 
 -- the tables u are t with these values in their records, which stand in the order of their numbers
 pub record AreWritten (t u : Database) (writes : List (ℕ × Option (List ℕ))) : Type 0 where

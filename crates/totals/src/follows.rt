@@ -4,7 +4,7 @@ ghost use Rattle.std.specs.Prelude.{◌≡◌, ℕ, ◌<◌, Option, List};
 ghost use Rattle.tables.specs.Sizes.{IsScale};
 ghost use Rattle.tables.specs.Inputs.{IsInput};
 ghost use Rattle.tables.specs.Apply.{after};
-ghost use Rattle.tables.specs.Records.{narrow_count};
+ghost use Rattle.tables.specs.Records.{narrow_count, record_count};
 ghost use Rattle.tables.specs.Rows.{rows};
 ghost use Rattle.tables.specs.WellFormed.{IsWellFormed};
 ghost use Rattle.tables.specs.Conditions.{IsConsistent};
@@ -24,7 +24,7 @@ pub fn sums_follow_commits()
     ensures { (t : Database) (x : Input) (writes : WriteSetView) (reply : Reply) (held : ℕ → Option (List ℕ))
         (v next : SumsView) → IsScale t.scale → IsInput t.scale x → IsWellFormed t → IsConsistent t
         → IsWellFormed (after t x) → IsCommitOf t x writes reply → AreWrites t.scale writes
-        → ((n : ℕ) → n < narrow_count t.scale → held n ≡ rows t n) → AreSums t.scale t v
+        → ((n : ℕ) → n < record_count t.scale → held n ≡ rows t n) → AreSums t.scale t v
         → SumsFollow t.scale held writes v next → AreSums (after t x).scale (after t x) next }
 {}
 

@@ -4,12 +4,13 @@ ghost use Rattle.std.specs.Prelude.{◌≡◌, ◌<◌, ◌≤◌, ℕ, pos, Lis
 ghost use Rattle.std.specs.Option.{ForSome, option_copied};
 ghost use Rattle.tables.specs.Sizes.{IsNumber};
 ghost use Rattle.tables.specs.Keys.{order_of};
-ghost use Rattle.tables.specs.Records.{narrow_count, key_of, size, first_number, district_at, order_at, line_at};
+ghost use Rattle.tables.specs.Records.{narrow_count, record_count, key_of, size, first_number, district_at};
+ghost use Rattle.tables.specs.Records.{order_at, line_at};
 ghost use Rattle.tables.specs.WellFormed.{IsHistoryRow};
 ghost use Rattle.tables.specs.declared.records.Table.TheVariants as table;
 ghost use Rattle.cells.specs.Records.{held_by};
 ghost use Rattle.readset.specs.Cells.{AreCellsOf};
-ghost use Rattle.readset.specs.Writes.{WritesAreNarrow};
+ghost use Rattle.readset.specs.Writes.{AreWrittenOfKind};
 ghost use Rattle.totals.specs.Moves.{MovesSums, SumsFollow, HasBuyers, order_before, step, moved, no_history};
 ghost use Rattle.totals.specs.Counted.{counted_in};
 ghost use Rattle.totals.specs.Steps.{HasPlaces, district_step, order_step, new_order_step, district_line_step};
@@ -230,22 +231,37 @@ impl RunningSums {
         self.pay_by_customer(row);
     }
 
-    /// Follows the values that a commit writes, where the records held what their newest versions have.
+    /// Follows the values that a commit writes to narrow records, where these held what their newest versions have.
+    fn follow_narrow(&mut self, cells: &Cells, pen: &mut Pen, values: &[(u32, Option<Payload>)])
+        requires own { pen.old.cells ≡ cells.now }
+        requires count { AreCellsOf self.old.scale cells.now }
+        requires below { All (λ e. e.0 < narrow_count self.old.scale) values.now }
+        requires buyers { HasBuyers self.old.scale (held_by pen.old) }
+        ensures pen { pen.new ≡ pen.old }
+        ensures scale { self.new.scale ≡ self.old.scale }
+        ensures moves { MovesSums self.old.scale (order_before self.old.scale (held_by pen.old))
+            (moved self.old.scale (held_by pen.old) values.now) no_history self.old self.new }
+    {
+        let counted = counted_records(&self.scale);
+        for (number, value) in values {
+            self.follow_record(cells, pen, &counted, *number, value);
+        }
+    }
+
+    /// Follows all values that a commit writes. C_DATA, which wide records hold, counts in no sum.
     fn follow_values(&mut self, cells: &Cells, pen: &mut Pen, writes: &WriteList)
         requires own { pen.old.cells ≡ cells.now }
         requires count { AreCellsOf self.old.scale cells.now }
-        requires below { All (λ e. e.0 < narrow_count self.old.scale) writes.now.values }
-        requires narrow { WritesAreNarrow writes.now }
+        requires below { All (λ e. e.0 < record_count self.old.scale) writes.now.values }
+        requires kinds { AreWrittenOfKind cells.now writes.now }
         requires buyers { HasBuyers self.old.scale (held_by pen.old) }
         ensures pen { pen.new ≡ pen.old }
         ensures scale { self.new.scale ≡ self.old.scale }
         ensures moves { MovesSums self.old.scale (order_before self.old.scale (held_by pen.old))
             (moved self.old.scale (held_by pen.old) writes.now.values) no_history self.old self.new }
     {
-        let counted = counted_records(&self.scale);
-        for (number, value) in writes.values() {
-            self.follow_record(cells, pen, &counted, *number, value);
-        }
+        let (narrow, _) = writes.parts();
+        self.follow_narrow(cells, pen, narrow);
     }
 
     /// Brings the sums up to date with a commit, where the records still have the versions before it. Without memory,
@@ -254,8 +270,8 @@ impl RunningSums {
     pub fn follow(&mut self, cells: &Cells, pen: &mut Pen, writes: &WriteList)
         requires own { pen.old.cells ≡ cells.now }
         requires count { AreCellsOf self.old.scale cells.now }
-        requires below { All (λ e. e.0 < narrow_count self.old.scale) writes.now.values }
-        requires narrow { WritesAreNarrow writes.now }
+        requires below { All (λ e. e.0 < record_count self.old.scale) writes.now.values }
+        requires kinds { AreWrittenOfKind cells.now writes.now }
         requires row { ForSome writes.now.history_row (IsHistoryRow self.old.scale) }
         requires buyers { HasBuyers self.old.scale (held_by pen.old) }
         ensures pen { pen.new ≡ pen.old }

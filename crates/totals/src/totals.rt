@@ -1,20 +1,16 @@
 //! The running totals of a database.
 
-ghost use Rattle.std.specs.Prelude.{◌≡◌, ◌<◌, All, IfOk, length};
+ghost use Rattle.std.specs.Prelude.{◌≡◌, IfOk};
 ghost use Rattle.readset.specs.Cells.{AreCellsOf};
-ghost use Rattle.readset.specs.Writes.{WritesAreNarrow};
-ghost use Rattle.std.specs.Option.{ForSome};
+ghost use Rattle.readset.specs.Writes.{AreWrittenOfKind};
 ghost use Rattle.tables.specs.Sizes.{IsScale};
 ghost use Rattle.tables.specs.Apply.{after};
-ghost use Rattle.tables.specs.Records.{narrow_count};
-ghost use Rattle.tables.specs.WellFormed.{IsHistoryRow};
 ghost use Rattle.tables.specs.Database.{Database};
 ghost use Rattle.tables.specs.declared.input.Input.{Input as InputOf};
 ghost use Rattle.tables.specs.declared.reply.Reply.{Reply as ReplyOf};
 ghost use Rattle.totals_bounds.specs.Bounds.{AreBounds};
 ghost use Rattle.totals_bounds.specs.Written.{HasOrdersWithin, IsWith};
 ghost use Rattle.totals.specs.Totals.{AreSums, AreTotals};
-ghost use Rattle.totals.specs.Moves.{HasBuyers};
 ghost use Rattle.totals.specs.Counts.{AreHeld, AreRecords, MayFollow};
 
 use crate::follows::{sums_begin_with_tables, sums_follow_commits};
@@ -100,8 +96,7 @@ impl Totals {
     pub fn follow_stores(&mut self, cells: &Cells, pen: &mut Pen, writes: &WriteList)
         requires own { pen.old.cells ≡ cells.now }
         requires count { AreCellsOf self.old.bounds.scale cells.now }
-        requires below { All (λ e. e.0 < narrow_count self.old.bounds.scale) writes.now.values }
-        requires narrow { WritesAreNarrow writes.now }
+        requires kinds { AreWrittenOfKind cells.now writes.now }
         ensures pen { pen.new ≡ pen.old }
         ensures sums { self.new.sums ≡ self.old.sums }
         ensures scale { self.new.bounds.scale ≡ self.old.bounds.scale }

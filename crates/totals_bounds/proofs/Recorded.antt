@@ -1,5 +1,5 @@
 -- The bounds of tables, by what their records hold.
-use Rattle.std.proofs.Common.{◌≡◌, ℕ, ◌<◌, Bool, true, false, true≢false, List, Option, Some, None, is_some, unwrap_or, refl, sym, ap, ◌∙◌, subst}
+use Rattle.std.proofs.Common.{◌≡◌, ℕ, ◌<◌, ◌≤◌, Bool, true, false, true≢false, All, List, Option, Some, None, is_some, unwrap_or, refl, sym, ap, ◌∙◌, subst, arith}
 use Rattle.std.specs.Option.{option_map}
 use Rattle.std.specs.FinMap.{get}
 use Rattle.tables.specs.Sizes.{Sizes, IsNumber}
@@ -16,6 +16,8 @@ use Rattle.totals_bounds.specs.Bounds.{BoundsView, AreBounds}
 use Rattle.totals_bounds.specs.Written.{HasOrdersWithin, AreRowsOf, IsWith}
 use Rattle.totals_bounds.specs.Ends.{IsLeast, IsGreatest, AreEnds, is_there, is_among, numbered, order_in, first_order, first_new_order}
 use Rattle.totals_bounds.proofs.Placed.{order_numbered, new_order_numbered}
+use Rattle.readset.proofs.TwoKinds.{none_below}
+use Rattle.totals_bounds.proofs.Stepped.{least_kept, greatest_kept}
 use Rattle.totals_bounds.proofs.Joined.{none_left, greatest_is, is_greatest, least_is, is_least}
 
 is_some-map : {X Y : Type 0} (f : X → Y) (w : Option X) → is_some (option_map f w) ≡ is_some w
@@ -66,6 +68,16 @@ module _ (t : Database) (held : ℕ → Option (List ℕ)) (are : AreRowsOf t he
         (new_order_number t held are within k is) (new_order_there t held are within k is) _ (ends.greatest_waiting k is);
   }
 
+-- the records of orders are narrow
+module _ (s : Sizes) where
+  order_below : (k : DistrictKey) → IsDistrictKey s k → (n : ℕ) → IsNumber s.orders n → numbered (first_order s k) n < narrow_count s
+  order_below k is n at =
+      subst (λ m. m < narrow_count s) (sym (order_numbered s k n)) (narrow_named s (key.Order (order_in k n)) (is.0, is.1, at))
+
+  new_order_below : (k : DistrictKey) → IsDistrictKey s k → (n : ℕ) → IsNumber s.orders n → numbered (first_new_order s k) n < narrow_count s
+  new_order_below k is n at =
+      subst (λ m. m < narrow_count s) (sym (new_order_numbered s k n)) (narrow_named s (key.NewOrder (order_in k n)) (is.0, is.1, at))
+
 -- where records that aren't left hold what they held, the bounds are right but for those that are
 module _ (s : Sizes) (before held : ℕ → Option (List ℕ)) (left : ℕ → Bool) (same : (n : ℕ) → n < narrow_count s → left n ≡ false → held n ≡ before n)
   where
@@ -85,19 +97,25 @@ module _ (s : Sizes) (before held : ℕ → Option (List ℕ)) (left : ℕ → B
       limit = was.limit;
     }
 
-    order_below : (k : DistrictKey) → IsDistrictKey s k → (n : ℕ) → IsNumber s.orders n → numbered (first_order s k) n < narrow_count s
-    order_below k is n at =
-        subst (λ m. m < narrow_count s) (sym (order_numbered s k n)) (narrow_named s (key.Order (order_in k n)) (is.0, is.1, at))
-
-    new_order_below : (k : DistrictKey) → IsDistrictKey s k → (n : ℕ) → IsNumber s.orders n → numbered (first_new_order s k) n < narrow_count s
-    new_order_below k is n at =
-        subst (λ m. m < narrow_count s) (sym (new_order_numbered s k n)) (narrow_named s (key.NewOrder (order_in k n)) (is.0, is.1, at))
-
     pub ends_still : (v : BoundsView) → AreEnds s before none_left v → AreEnds s held left v
     ends_still v was = record {
-      greatest_order = λ k is. greatest_still _ (order_below k is) _ (was.greatest_order k is);
-      least_waiting = λ k is. least_still _ (new_order_below k is) _ (was.least_waiting k is);
-      greatest_waiting = λ k is. greatest_still _ (new_order_below k is) _ (was.greatest_waiting k is);
+      greatest_order = λ k is. greatest_still _ (order_below s k is) _ (was.greatest_order k is);
+      least_waiting = λ k is. least_still _ (new_order_below s k is) _ (was.least_waiting k is);
+      greatest_waiting = λ k is. greatest_still _ (new_order_below s k is) _ (was.greatest_waiting k is);
+    }
+
+-- records behind the narrow ones are none that is looked at
+among_none : (count : ℕ) (wide : List (ℕ × Option (List ℕ))) → All (λ e. count ≤ e.0) wide → (n : ℕ) → n < count → is_among wide n ≡ false
+among_none count wide behind n small =
+    ap is_some (none_below n wide (λ i d inside. omega (arith, small, behind i d inside)))
+
+pub ends_beyond : (s : Sizes) (held : ℕ → Option (List ℕ)) (v : BoundsView) (wide : List (ℕ × Option (List ℕ))) → All (λ e. narrow_count s ≤ e.0) wide
+    → AreEnds s held (is_among wide) v → AreEnds s held none_left v
+ends_beyond s held v wide behind was =
+    let none = among_none (narrow_count s) wide behind in record {
+      greatest_order = λ k is. greatest_kept s.orders _ _ _ (λ n at _. none _ (order_below s k is n at)) _ (was.greatest_order k is);
+      least_waiting = λ k is. least_kept s.orders _ _ _ (λ n at _. none _ (new_order_below s k is n at)) _ (was.least_waiting k is);
+      greatest_waiting = λ k is. greatest_kept s.orders _ _ _ (λ n at _. none _ (new_order_below s k is n at)) _ (was.greatest_waiting k is);
     }
 
 none : {X : Type 0} (w : Option X) → is_some w ≡ false → w ≡ None

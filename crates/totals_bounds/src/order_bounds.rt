@@ -1,19 +1,21 @@
 //! The least and the greatest order numbers of all districts.
 
-ghost use Rattle.std.specs.Prelude.{◌≡◌, ◌+◌, ◌<◌, ◌≤◌, ◌*◌, ◌/◌, ◌%◌, ◌^◌, All, IfOk, false, length, slice_index};
+ghost use Rattle.std.specs.Prelude.{◌≡◌, ◌+◌, ◌++◌, ◌<◌, ◌≤◌, ◌*◌, ◌/◌, ◌%◌, ◌^◌, ℕ, List, Option, IfOk, false};
+ghost use Rattle.std.specs.Prelude.{length, slice_index};
 ghost use Rattle.tables.specs.Keys.{IsDistrictKey};
 ghost use Rattle.tables.specs.Records.{narrow_count, record_number, district_place, first_number, size};
 ghost use Rattle.tables.specs.declared.records.Table.TheVariants as table;
 ghost use Rattle.tables.specs.Database.{Database, empty_database};
 ghost use Rattle.cells.specs.Records.{cell_count, held_by};
 ghost use Rattle.readset.specs.Cells.{AreCellsOf};
-ghost use Rattle.readset.specs.Writes.{WritesAreNarrow};
+ghost use Rattle.readset.specs.Writes.{AreWrittenOfKind};
 ghost use Rattle.totals_bounds.specs.Bounds.{AreBounds, no_bounds};
 ghost use Rattle.totals_bounds.specs.Written.{HasOrdersWithin, AreRowsOf, IsWith};
 ghost use Rattle.totals_bounds.specs.Ends.{AreEnds, KeepsEnds, is_among};
 
 use crate::ends::{greatest_after, greatest_beside, least_after};
 use cells::{Cells, Pen};
+use money::Payload;
 use readset::WriteList;
 use std::alloc::{AllocError, Global};
 use std::marker::Model;
@@ -173,20 +175,34 @@ impl OrderBounds {
         }
     }
 
-    /// Looks at the records that a commit has written.
+    /// Looks at the narrow records that a commit has written, where others may be left.
+    fn follow_narrow(&mut self, cells: &Cells, pen: &mut Pen, values: &[(u32, Option<Payload>)])
+        requires own { pen.old.cells ≡ cells.now }
+        requires count { AreCellsOf self.old.scale cells.now }
+        ensures pen { pen.new ≡ pen.old }
+        ensures scale { self.new.scale ≡ self.old.scale }
+        ensures ends { (others : List (ℕ × Option (List ℕ)))
+            → AreEnds self.old.scale (held_by pen.old) (is_among (values.now ++ others)) self.old
+            → AreEnds self.old.scale (held_by pen.old) (is_among others) self.new }
+    {
+        let (first, end) = order_records(&self.scale);
+        for (number, _) in values {
+            self.follow_record(cells, pen, *number, first, end);
+        }
+    }
+
+    /// Looks at the records that a commit has written. Of the wide ones none holds an order.
     fn follow_values(&mut self, cells: &Cells, pen: &mut Pen, writes: &WriteList)
         requires own { pen.old.cells ≡ cells.now }
         requires count { AreCellsOf self.old.scale cells.now }
-        requires narrow { WritesAreNarrow writes.now }
+        requires kinds { AreWrittenOfKind cells.now writes.now }
         ensures pen { pen.new ≡ pen.old }
         ensures scale { self.new.scale ≡ self.old.scale }
         ensures ends { AreEnds self.old.scale (held_by pen.old) (is_among writes.now.values) self.old
             → AreEnds self.old.scale (held_by pen.old) (λ n. false) self.new }
     {
-        let (first, end) = order_records(&self.scale);
-        for (number, _) in writes.values() {
-            self.follow_record(cells, pen, *number, first, end);
-        }
+        let (narrow, _) = writes.parts();
+        self.follow_narrow(cells, pen, narrow);
     }
 
     /// Looks at all records of ORDER and of NEW-ORDER.
@@ -211,8 +227,7 @@ impl OrderBounds {
     pub fn follow(&mut self, cells: &Cells, pen: &mut Pen, writes: &WriteList)
         requires own { pen.old.cells ≡ cells.now }
         requires count { AreCellsOf self.old.scale cells.now }
-        requires below { All (λ e. e.0 < narrow_count self.old.scale) writes.now.values }
-        requires narrow { WritesAreNarrow writes.now }
+        requires kinds { AreWrittenOfKind cells.now writes.now }
         ensures pen { pen.new ≡ pen.old }
         ensures scale { self.new.scale ≡ self.old.scale }
         ensures bounds { (t u : Database) → t.scale ≡ self.old.scale → HasOrdersWithin t → HasOrdersWithin u

@@ -1,9 +1,9 @@
 //! Which crate executes an input: one arm a transaction.
-ghost use Rattle.std.specs.Prelude.{◌≡◌, length, IfOk, IfErr, OnOk};
+ghost use Rattle.std.specs.Prelude.{◌≡◌, IfOk, IfErr, OnOk};
 ghost use Rattle.tables.specs.Inputs.{IsInput};
-ghost use Rattle.tables.specs.Records.{narrow_count};
 ghost use Rattle.population.specs.Initial.{initial};
 ghost use Rattle.cells.specs.Records.{HasGrown};
+ghost use Rattle.readset.specs.Cells.{AreCellsOf};
 ghost use Rattle.readset.specs.Reads.{AreRead};
 ghost use Rattle.readset.specs.Explains.{Explains, IsWithinLimits};
 ghost use Rattle.readset.specs.Refused.{NoneMissing, IsAboveCap, IsRefusal};
@@ -39,7 +39,7 @@ pub fn execute<R: Wait>(
 ) -> Result<Work, Refusal>
     requires input { IsInput (initial population.now).scale input.now }
     requires own { reader.old.cells ≡ cells.now }
-    requires cells { length cells.now.narrow ≡ narrow_count (initial population.now).scale }
+    requires cells { AreCellsOf (initial population.now).scale cells.now }
     ensures input { IfOk result (λ work. work.input ≡ input.now) }
     ensures none_missing { OnOk result (NoneMissing (initial population.now) input.now) }
     ensures within_cap { IfOk result (λ work. ¬ IsAboveCap (initial population.now).scale input.now work.reads) }
@@ -70,12 +70,12 @@ fn run<K: Start, R: Wait>(
     requires tables { initial population.now ≡ K.tables }
     requires reader { reader ≡ K.reader }
     requires own { reader.cells ≡ cells.now }
-    requires cells { length cells.now.narrow ≡ narrow_count K.tables.scale }
+    requires cells { AreCellsOf K.tables.scale cells.now }
     ensures { IsExecuted K.tables input.now K.reader result.0 result.1 }
 {
     let transaction = Transaction::<K>::begin(alloc, cells, population, reader);
     match input {
-        Input::Payment(payment) => payment::execute(rt, transaction, payment),
+        Input::Payment(payment) => payment::execute(rt, alloc, transaction, payment),
         Input::NewOrder(order) => neworder::execute(rt, alloc, transaction, order),
         Input::Delivery(delivery) => delivery::execute(rt, alloc, transaction, delivery),
         Input::OrderStatus(query) => queries::order_status(rt, alloc, transaction, query),

@@ -7,10 +7,10 @@ use Rattle.population.proofs.rates.district_tax_in.Goals as goal
 
 pub returns-in-Some : goal.returns-in-Some
 returns-in-Some c =
-    column_some exact_district (λ (r : District). r.tax) c.args.tables.now.districts (database c.args.tables.now).districts refl c.args.key c.in-Some.row.now
+    column_some exact_district (λ (r : District). r.tax) 0 c.args.tables.now.districts (database c.args.tables.now).districts refl c.args.key c.in-Some.row.now
     c.in-Some.ensures.value
 
 pub returns-in-None : goal.returns-in-None
 returns-in-None c =
-    column_none exact_district (λ (r : District). r.tax) c.args.tables.now.districts (database c.args.tables.now).districts refl c.args.key c.no_rate.result
+    column_none exact_district (λ (r : District). r.tax) 0 c.args.tables.now.districts (database c.args.tables.now).districts refl c.args.key c.no_rate.result
     c.no_rate.ensures c.in-None.ensures.value

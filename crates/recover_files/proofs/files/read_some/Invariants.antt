@@ -7,4 +7,4 @@ abbrev pub invariant-loop-n : goal.invariant-loop-n
 invariant-loop-n g l =
     IsReadSoFar g.D.Disk.is_modelled g.D.Disk.seen g.D.Disk.story g.D.Disk.failed
     (headers_from l.first l.loggers (initial l.population).scale (seed_of l.population)) l.fn.disks l.n l.disks
-    l.files.items
+    l.files

@@ -8,7 +8,7 @@ use Rattle.recover_files.proofs.recovering.recover.Goals as goal
 pub recover_bodies-requires : goal.recover_bodies-requires
 recover_bodies-requires g c =
     let read = found_all (search rules) c.in_ok-files.ensures in
-    (read.0, read.3)
+    (c.in_ok-files.files.version, read.0, read.3)
 
 pub returns-in_err-files : goal.returns-in_err-files
 returns-in_err-files g c =

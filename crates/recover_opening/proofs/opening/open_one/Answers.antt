@@ -1,4 +1,4 @@
-use Rattle.std.proofs.Common.{◌≡◌, List, ℕ, sym, subst, rules}
+use Rattle.std.proofs.Common.{◌≡◌, List, ℕ, refl, sym, subst, rules}
 use Rattle.log_header.specs.Header.{HeaderView, header_view}
 use Rattle.log_text.specs.File.{IsFile}
 use Rattle.log_text.proofs.OneFile.{one_file}
@@ -9,7 +9,8 @@ use Rattle.recover_opening.proofs.opening.open_one.Goals as goal
 pub returns-in_err-file-clause-damaged : goal.returns-in_err-file-clause-damaged
 returns-in_err-file-clause-damaged g c = λ modelled e bodies is.
     c.in_err-file.ensures.damaged modelled (search (rules, e))
-    (header_view c.args.logger c.args.loggers (initial c.args.population.now).scale (seed_of c.args.population.now)) bodies is
+    (header_view c.args.logger c.args.loggers (initial c.args.population.now).scale (seed_of c.args.population.now)) bodies
+    refl is
 
 -- a file of another header is none of this one
 pub returns-then-not-is_of-clause-damaged : goal.returns-then-not-is_of-clause-damaged

@@ -1,6 +1,7 @@
 use Rattle.std.proofs.Common.{rules, ap, ◌≤◌, ℕ, List, length, map, sym, subst, arith}
 use Rattle.tables.specs.Database.{database}
 use Rattle.tables.specs.Sizes.{Sizes, IsScale}
+use Rattle.log_header.specs.declared.header.TheConstants.{VERSION}
 use Rattle.log_text.specs.Bodies.{BodyView}
 use Rattle.population.specs.Initial.{initial, seed_of}
 use Rattle.recover_found.specs.Found.{bodies_in, found}
@@ -28,3 +29,6 @@ returns-clause-damaged c = λ e.
             (subst (λ (n : ℕ). AreSoundTables n (database c.in_ok-recovered.recovered.tables)) (sym of_files.commits) sound);
       },
     )
+
+pub recover_bodies-requires : goal.recover_bodies-requires
+recover_bodies-requires c = (VERSION, c.requires.0, c.requires.1)

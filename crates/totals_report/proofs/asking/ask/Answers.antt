@@ -25,7 +25,7 @@ of_key t pen s scale are k is =
     let same : number_of_key t.scale k ≡ number_of_key s k = ap (λ z. number_of_key z k) (sym scale) in
     record {
       number = same;
-      row = ap (row_at t) (sym (named t.scale k (of_narrow t.scale k at)).1) ∙ sym (are (number_of_key t.scale k) (narrow_named t.scale k at))
+      row = ap (row_at t) (sym (named t.scale k (of_narrow t.scale k at)).1) ∙ sym (are (number_of_key t.scale k) (narrow_among t.scale _ (narrow_named t.scale k at)))
           ∙ ap (held_by pen) same;
     }
 

@@ -25,6 +25,7 @@ invariant_of-self g c =
     record {
       reaches = omega (arith, c.in-Ok.ensures.fits);
       header = c.self.invariant.header;
+      version = c.self.invariant.version;
       near = c.requires.epoch;
       counts = subst (λ (v : LogFileView _). v.count + c.args.entries ≤ c.args.number) (sym c.self.view_is) c.requires.count;
       stands = λ modelled _. is_open _ _ _ _ _ (c.in-Ok.ensures.settled modelled) (∥∥₁_map (c.self.invariant.stands modelled usable).stands
@@ -47,6 +48,7 @@ invariant_of-self-in-Err g c =
     record {
       reaches = c.self.invariant.reaches;
       header = c.self.invariant.header;
+      version = c.self.invariant.version;
       near = c.self.invariant.near;
       counts = c.self.invariant.counts;
       stands = λ modelled failed. absurd (true≢false failed);

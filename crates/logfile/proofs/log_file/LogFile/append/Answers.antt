@@ -35,7 +35,7 @@ add-result-requires-clause-body g c =
     let text : c.deref.result.now ≡ body_text (body_of_batch c.args.batch.now) ++ 0 ∷ []
     = c.deref.ensures.value ∙ ap (λ (v : Vec ℕ Global). v.items) c.replace-text.ensures.value ∙ c.in_ok-now.ensures.text
     ∙ ap (λ (l : List ℕ). l ++ (body_text (body_of_batch c.args.batch.now) ++ 0 ∷ [])) c.clear.ensures.items in
-    let lawful = batch_body _ _ _ _ _ _ c.self.invariant.header c.entries.ensures.lawful at c.self.invariant.near c.in_ok-now.ensures.last in
+    let lawful = batch_body _ _ _ _ _ _ c.self.invariant.header c.self.invariant.version c.entries.ensures.lawful at c.self.invariant.near c.in_ok-now.ensures.last in
     (body_of_batch c.args.batch.now, text, lawful)
 
 pub add-result-requires-clause-count : goal.add-result-requires-clause-count
@@ -59,7 +59,7 @@ returns g c =
     let text : c.deref.result.now ≡ body_text (body_of_batch c.args.batch.now) ++ 0 ∷ []
     = c.deref.ensures.value ∙ ap (λ (v : Vec ℕ Global). v.items) c.replace-text.ensures.value ∙ c.in_ok-now.ensures.text
     ∙ ap (λ (l : List ℕ). l ++ (body_text (body_of_batch c.args.batch.now) ++ 0 ∷ [])) c.clear.ensures.items in
-    let lawful = batch_body _ _ _ _ _ _ c.self.invariant.header c.entries.ensures.lawful at c.self.invariant.near c.in_ok-now.ensures.last in
+    let lawful = batch_body _ _ _ _ _ _ c.self.invariant.header c.self.invariant.version c.entries.ensures.lawful at c.self.invariant.near c.in_ok-now.ensures.last in
     let old : (bodies : List BodyView) → Stands c.args.self.now.header bodies c.args.self.now.end c.args.self.now.last (g.D.Disk.seen c.args.self.now.disk) (g.D.Disk.story c.args.self.now.disk)
     → Stands c.self.inside.header bodies c.self.inside.end c.self.inside.last (g.D.Disk.seen c.self.inside.disk) (g.D.Disk.story c.self.inside.disk)
     = (λ bodies s. subst (λ (v : LogFileView _). Stands v.header bodies v.end v.last (g.D.Disk.seen v.disk) (g.D.Disk.story v.disk)) (sym c.self.view_is) s) in

@@ -1,6 +1,9 @@
-use Rattle.std.proofs.Common.{◌<◌, List, ℕ, map, length, sym, ap, ◌∙◌, subst, arith, rules}
+use Rattle.std.proofs.Common.{◌≡◌, ◌<◌, ◌^◌, List, ℕ, map, length, sym, ap, ◌∙◌, subst, arith, rules}
+use Rattle.log_header.specs.Header.{HeaderView}
+use Rattle.log_header.specs.declared.header.TheConstants.{VERSION}
 use Rattle.log_text.specs.Bodies.{BodyView, body_of}
 use Rattle.log_text.specs.File.{IsFile}
+use Rattle.log_text.proofs.OneFile.{one_file}
 use Rattle.logfile.specs.Standing.{Stands}
 use Rattle.logfile.proofs.Appending.{all_kept, is_open}
 use Rattle.logfile.proofs.Opening.{file_near, end_within, reopened}
@@ -21,6 +24,7 @@ invariant_of-file g c =
     record {
       reaches = omega (arith, within, c.deref.ensures.len, ap length c.deref.ensures.value, c.in_ok-bytes.bytes.small);
       header = is.is.header;
+      version = search rules;
       near = file_near c.deref.result.now h bodies last end is;
       counts = omega arith;
       stands = λ modelled _. is_open _ _ _ _ _ (stands modelled).settled ∣ (bodies, stands modelled) ∣₁;
@@ -28,9 +32,20 @@ invariant_of-file g c =
     }
 
 pub returns-in_err-header-clause-damaged : goal.returns-in_err-header-clause-damaged
-returns-in_err-header-clause-damaged g c = λ modelled e h bodies is.
+returns-in_err-header-clause-damaged g c = λ modelled e h bodies today is.
     let same = c.deref.ensures.value ∙ c.in_ok-bytes.ensures.bytes modelled ∙ c.in_ok-sync.ensures.seen modelled in
     c.in_err-header.ensures.damaged (search (rules, e)) h bodies (subst (λ (b : List ℕ). IsFile b h bodies) (sym same) is)
+
+-- a file of another version has no header of this one
+pub returns-then-header-ne-VERSION-clause-damaged : goal.returns-then-header-ne-VERSION-clause-damaged
+returns-then-header-ne-VERSION-clause-damaged g c = λ modelled e h bodies today is.
+    let found = c.in_ok-header.ensures.found.is in
+    let same = c.deref.ensures.value ∙ c.in_ok-bytes.ensures.bytes modelled ∙ c.in_ok-sync.ensures.seen modelled in
+    let small : length c.deref.result.now < 2 ^ 64 = omega (arith, c.deref.ensures.len, ap length c.deref.ensures.value, c.in_ok-bytes.bytes.small) in
+    let one = one_file c.deref.result.now c.in_ok-header.header h (map body_of c.in_ok-header.bodies.items) bodies small found
+    (subst (λ (b : List ℕ). IsFile b h bodies) (sym same) is) in
+    let version : c.in_ok-header.header.version ≡ VERSION = ap (λ (x : HeaderView). x.version) one.0 ∙ today in
+    search (rules, version)
 
 pub returns-clause-near : goal.returns-clause-near
 returns-clause-near g c =

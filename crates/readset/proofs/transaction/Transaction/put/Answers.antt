@@ -15,7 +15,7 @@ invariant_of-self g c =
     let i = c.self.invariant in
     let scale = c.numbering.ensures ∙ ap (λ (t : Database). t.scale) i.0 in
     let small = subst (λ k. c.number_of_key-number.result < k) (ap narrow_count scale
-    ∙ sym i.2 ∙ ap (λ (cells : CellsView). length cells.narrow) i.1) (c.number_of_key-number.ensures.narrow
+    ∙ sym i.2.narrow ∙ ap (λ (cells : CellsView). length cells.narrow) i.1) (c.number_of_key-number.ensures.narrow
     (subst (λ (q : Sizes). IsNarrowKey q c.args.key) (sym scale) c.requires.key)) in
     let at = c.number_of_key-number.ensures.value
     ∙ ap (λ (q : Sizes). number_of_key q c.args.key) (c.numbering.ensures ∙ ap (λ (t : Database). t.scale) c.self.invariant.0) in
@@ -29,7 +29,7 @@ invariant_of-self g c =
           c.put.result i.3
           (subst (λ n. IsSome (held c.self.inside.reads n)) (sym at) read)
           (narrow_kind g.K.Start.reader.cells c.number_of_key-number.result c.args.value small c.put.ensures.narrow)
-          small c.put.ensures.puts c.put.ensures.kept,
+          c.put.ensures.puts c.put.ensures.kept,
     )
 
 pub number_of_key-number-requires : goal.number_of_key-number-requires
@@ -41,7 +41,7 @@ put-requires g c =
     let i = c.self.invariant in
     let scale = c.numbering.ensures ∙ ap (λ (t : Database). t.scale) i.0 in
     let small = subst (λ k. c.number_of_key-number.result < k) (ap narrow_count scale
-    ∙ sym i.2 ∙ ap (λ (cells : CellsView). length cells.narrow) i.1) (c.number_of_key-number.ensures.narrow
+    ∙ sym i.2.narrow ∙ ap (λ (cells : CellsView). length cells.narrow) i.1) (c.number_of_key-number.ensures.narrow
     (subst (λ (q : Sizes). IsNarrowKey q c.args.key) (sym scale) c.requires.key)) in
     record { below = writes_below g.K.Start.reader.cells c.self.inside.writes i.3.writes_kinds c.number_of_key-number.result small }
 

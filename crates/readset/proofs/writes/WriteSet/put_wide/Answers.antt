@@ -1,4 +1,4 @@
-use Rattle.std.proofs.Common.{◌≡◌, ◌++◌, ℕ, List, Option, Some, Result, Ok, Err, OnErr, map, sym, ap, ◌∙◌, subst}
+use Rattle.std.proofs.Common.{◌++◌, ℕ, List, Some, Result, Ok, Err, OnErr, map, sym, ap, ◌∙◌, subst}
 use Rattle.cells.specs.Records.{IsNarrow, IsWide}
 use Rattle.readset.specs.Arrived.{arrived}
 use Rattle.readset.specs.Beside.{AreBeside}

@@ -1,63 +1,31 @@
-use Rattle.std.proofs.Common.{◌+◌, ◌<◌, ◌≡◌, None, All, [], drop, get_or, refl, sym, ap, ◌∙◌, subst}
-use Rattle.std.proofs.lemmas.List.{drop_more, drop_all}
-use Rattle.tables.specs.Sizes.{Sizes}
-use Rattle.tables.specs.Records.{key_of, narrow_count}
-use Rattle.cells.specs.Records.{PenView, held_by}
-use Rattle.readset.specs.Cells.{AreCellsOf}
-use Rattle.totals.specs.Moves.{MovesSums, HasBuyers, order_before, step, moved, no_history}
-use Rattle.totals.proofs.Moving.{then_moves, none_moves}
+use Rattle.std.proofs.Common.{ℕ, ◌≤◌, ◌<◌, ◌++◌, All, List, Option, map, sym, subst}
+use Rattle.tables.specs.Records.{record_count}
+use Rattle.cells.specs.Records.{held_by}
+use Rattle.readset.specs.Writes.{as_written}
+use Rattle.readset.proofs.WritesListed.{narrow_before, wide_behind}
+use Rattle.readset.proofs.TwoKinds.{all_behind}
+use Rattle.totals.specs.Moves.{MovesSums, order_before, moved, no_history}
+use Rattle.totals.proofs.Wide.{with_wide}
 use Rattle.totals.proofs.running.RunningSums.follow_values.Goals as goal
 
-pub loop-number-init : goal.loop-number-init
-loop-number-init c = record {
-  pen = refl;
-  scale = refl;
-  rest = λ v moves. subst (λ ws. MovesSums c.args.self.now.scale (order_before c.args.self.now.scale (held_by c.args.pen.now))
-      (moved c.args.self.now.scale (held_by c.args.pen.now) ws) no_history c.args.self.now v) c.values-number-items.ensures.values moves;
-}
-
-pub follow_record-requires-clause-number : goal.follow_record-requires-clause-number
-follow_record-requires-clause-number c =
-    subst (λ z. (get_or c.values-number-items.result.now c.loop-number.number-index (0, None)).0 < narrow_count z) (sym c.loop-number.invariant.scale)
-    (subst (λ ws. All (λ e. e.0 < narrow_count c.args.self.now.scale) ws) (sym c.values-number-items.ensures.values) c.requires.below c.loop-number.number-index
-    (0, None) c.loop-number-test.true)
-
-pub follow_record-requires-clause-count : goal.follow_record-requires-clause-count
-follow_record-requires-clause-count c = subst (λ s. AreCellsOf s c.args.cells.now) (sym c.loop-number.invariant.scale) c.requires.count
-
-pub follow_record-requires-clause-buyers : goal.follow_record-requires-clause-buyers
-follow_record-requires-clause-buyers c = subst (λ (q : Sizes × PenView). HasBuyers q.0 (held_by q.1))
-    (λ i. (sym c.loop-number.invariant.scale i, sym c.loop-number.invariant.pen i)) c.requires.buyers
-
-pub loop-number-preserved : goal.loop-number-preserved
-loop-number-preserved c =
-    let s = c.args.self.now.scale in
-    let held = held_by c.args.pen.now in
-    let items = c.values-number-items.result.now in
-    let w = get_or items c.loop-number.number-index (0, None) in
-    record {
-      pen = c.follow_record.ensures.pen ∙ c.loop-number.invariant.pen;
-      scale = c.follow_record.ensures.scale ∙ c.loop-number.invariant.scale;
-      rest = λ v moves.
-          let this = subst (λ (q : Sizes × PenView). MovesSums q.0 (order_before q.0 (held_by q.1)) (step (key_of q.0 w.0) (held_by q.1 w.0) w.1) no_history
-          c.loop-number.self c.follow_record.new.self)
-          (λ i. (c.loop-number.invariant.scale i, c.loop-number.invariant.pen i)) c.follow_record.ensures.moves in
-          c.loop-number.invariant.rest v
-          (subst (λ ws. MovesSums s (order_before s held) (moved s held ws) no_history c.loop-number.self v)
-          (sym (drop_more items c.loop-number.number-index (0, None) c.loop-number-test.true))
-          (then_moves s (order_before s held) (step (key_of s w.0) (held w.0) w.1) (moved s held (drop (c.loop-number.number-index + 1) items)) no_history no_history
-          c.loop-number.self c.follow_record.new.self v this moves));
-    }
-
-pub returns-clause-scale : goal.returns-clause-scale
-returns-clause-scale c = c.loop-number.invariant.scale
+pub follow_narrow-requires-clause-below : goal.follow_narrow-requires-clause-below
+follow_narrow-requires-clause-below c =
+    let parts = c.parts.ensures in
+    subst (λ n. All (λ (e : ℕ × Option (List ℕ)). e.0 < n) c.parts.result.0.now) c.requires.count.narrow
+    (narrow_before c.args.cells.now c.parts.result.0.now (map as_written c.parts.result.1.now) c.args.writes.now c.requires.kinds parts.values parts.kinds)
 
 pub returns-clause-moves : goal.returns-clause-moves
 returns-clause-moves c =
     let s = c.args.self.now.scale in
     let held = held_by c.args.pen.now in
-    let none : drop c.loop-number.number-index c.values-number-items.result.now ≡ [] =
-    drop_all c.loop-number.number-index c.values-number-items.result.now c.loop-number-test.false in
-    c.loop-number.invariant.rest c.loop-number.self
-    (subst (λ ws. MovesSums s (order_before s held) (moved s held ws) no_history c.loop-number.self c.loop-number.self) (sym none)
-    (none_moves s (order_before s held) c.loop-number.self))
+    let narrow = c.parts.result.0.now in
+    let wide : List (ℕ × Option (List ℕ)) = map as_written c.parts.result.1.now in
+    let parts = c.parts.ensures in
+    subst (λ (ws : List (ℕ × Option (List ℕ))). MovesSums s (order_before s held) (moved s held ws) no_history c.args.self.now c.follow_narrow.new.self)
+    parts.values
+    (with_wide s (order_before s held) held narrow wide c.args.self.now c.follow_narrow.new.self
+    (subst (λ n. All (λ (e : ℕ × Option (List ℕ)). n ≤ e.0) wide) c.requires.count.narrow
+    (wide_behind c.args.cells.now narrow wide c.args.writes.now c.requires.kinds parts.values parts.kinds))
+    (all_behind (λ e. e.0 < record_count s) narrow wide
+    (subst (All (λ (e : ℕ × Option (List ℕ)). e.0 < record_count s)) (sym parts.values) c.requires.below))
+    c.follow_narrow.ensures.moves)

@@ -2,12 +2,14 @@ use Rattle.std.proofs.Common.{◌≡◌, ◌<◌, All, sym, ap, ◌∙◌, subst
 use Rattle.std.specs.Option.{ForSome}
 use Rattle.tables.specs.Sizes.{Sizes, IsScale}
 use Rattle.tables.specs.Apply.{after}
-use Rattle.tables.specs.Records.{narrow_count}
+use Rattle.tables.specs.Records.{record_count}
 use Rattle.tables.specs.WellFormed.{IsHistoryRow}
 use Rattle.tables_laws.proofs.Kept.{after-scale}
 use Rattle.totals.specs.Totals.{TotalsView, SumsView}
 use Rattle.cells.specs.Records.{held_by}
 use Rattle.readset.specs.Cells.{AreCellsOf}
+use Rattle.readset.specs.Writes.{AreWrittenOfKind}
+use Rattle.cells.specs.Records.{CellsView}
 use Rattle.totals.specs.Moves.{HasBuyers, SumsFollow}
 use Rattle.totals.proofs.Recorded.{buyers_named, row_added}
 use Rattle.totals.proofs.totals.Totals.follow.Goals as goal
@@ -15,8 +17,11 @@ use Rattle.totals.proofs.totals.Totals.follow.Goals as goal
 pub follow-requires-clause-below : goal.follow-requires-clause-below
 follow-requires-clause-below c =
     let may = c.requires.may.3 in
-    subst (λ s. All (λ e. e.0 < narrow_count s) c.args.writes.now.values) (sym may.totals.sums_scale ∙ ap (λ (v : TotalsView). v.sums.scale) (sym c.self.view_is))
+    subst (λ s. All (λ e. e.0 < record_count s) c.args.writes.now.values) (sym may.totals.sums_scale ∙ ap (λ (v : TotalsView). v.sums.scale) (sym c.self.view_is))
     may.ordered.below
+
+pub follow-requires-clause-kinds : goal.follow-requires-clause-kinds
+follow-requires-clause-kinds c = subst (λ (cells : CellsView). AreWrittenOfKind cells c.args.writes.now) c.requires.own c.requires.may.3.kinds
 
 pub follow-requires-clause-row : goal.follow-requires-clause-row
 follow-requires-clause-row c =

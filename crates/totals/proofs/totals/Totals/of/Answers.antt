@@ -1,7 +1,8 @@
 use Rattle.std.proofs.Common.{List, sym, ◌∙◌, subst}
 use Rattle.tables.specs.Sizes.{Sizes, IsScale}
 use Rattle.tables.specs.declared.rows.History.{History}
-use Rattle.cells.specs.Records.{held_by}
+use Rattle.tables.proofs.Numbers.{narrow_among}
+use Rattle.cells.specs.Records.{PenView, held_by}
 use Rattle.totals.specs.Moves.{HasBuyers}
 use Rattle.totals.specs.Opening.{SumsOpen}
 use Rattle.totals.specs.Counts.{AreHeld}
@@ -20,9 +21,9 @@ returns-clause-totals c = λ t scale history are.
       sums_scale = c.in_ok-sums.ensures.scale ∙ sym scale;
       bounds_scale = c.in_ok-bounds.ensures.scale ∙ sym scale;
       sums = c.sums_begin_with_tables.ensures t held c.in_ok-sums.sums (subst IsScale (sym scale) c.keeps_limits.ensures) are.well_formed
-          are.consistent are.held
+          are.consistent (λ n small. are.held n (narrow_among t.scale n small))
           (subst (λ (q : Sizes × List History). SumsOpen q.0 held q.1 c.in_ok-sums.sums) (λ i. (sym scale i, sym history i))
           c.in_ok-sums.ensures.sums);
       bounds = c.in_ok-bounds.ensures.bounds t scale (record { orders = are.well_formed.orders; new_orders = are.well_formed.new_orders })
-          (subst (λ p. AreHeld p t) (sym c.of.ensures.pen) are.held);
+          (λ n small. subst (λ (p : PenView). AreHeld p t) (sym c.of.ensures.pen) are.held n (narrow_among t.scale n small));
     }

@@ -1,57 +1,20 @@
-use Rattle.std.proofs.Common.{◌+◌, ◌≡◌, ℕ, List, Option, None, true, [], drop, get_or, refl, sym, ap, ◌∙◌, subst}
-use Rattle.std.proofs.lemmas.List.{drop_more, drop_all}
-use Rattle.tables.specs.Sizes.{Sizes}
-use Rattle.tables.specs.Records.{first_number, size}
-use Rattle.tables.specs.declared.records.Table.TheVariants as table
-use Rattle.totals_bounds.specs.Bounds.{BoundsView}
-use Rattle.cells.specs.Records.{PenView, held_by}
-use Rattle.totals_bounds.specs.Ends.{AreEnds, KeepsEnds, is_among}
-use Rattle.totals_bounds.proofs.Placed.{looked_at}
+use Rattle.std.proofs.Common.{ℕ, ◌≤◌, All, List, Option, map, sym, subst}
+use Rattle.cells.specs.Records.{held_by}
+use Rattle.readset.specs.Writes.{as_written}
+use Rattle.readset.proofs.WritesListed.{wide_behind}
+use Rattle.totals_bounds.specs.Ends.{AreEnds, is_among}
+use Rattle.totals_bounds.proofs.Recorded.{ends_beyond}
 use Rattle.totals_bounds.proofs.order_bounds.OrderBounds.follow_values.Goals as goal
-
-pub loop-number-init : goal.loop-number-init
-loop-number-init c = record {
-  pen = refl;
-  scale = refl;
-  ends = subst (λ (ws : List (ℕ × Option (List ℕ))). AreEnds c.args.self.now.scale (held_by c.args.pen.now) (is_among ws) c.args.self.now)
-      (sym c.values-number-items.ensures.values);
-}
-
-pub follow_record-requires-clause-first : goal.follow_record-requires-clause-first
-follow_record-requires-clause-first c = c.order_records-first.ensures.first
-    ∙ ap (λ (w : BoundsView). first_number w.scale table.NewOrder) c.self.view_is
-    ∙ ap (λ s. first_number s table.NewOrder) (sym c.loop-number.invariant.scale)
-
-pub follow_record-requires-clause-end : goal.follow_record-requires-clause-end
-follow_record-requires-clause-end c = c.order_records-first.ensures.end
-    ∙ ap (λ (w : BoundsView). first_number w.scale table.NewOrder + (size w.scale table.NewOrder + size w.scale table.Order)) c.self.view_is
-    ∙ ap (λ s. first_number s table.NewOrder + (size s table.NewOrder + size s table.Order)) (sym c.loop-number.invariant.scale)
-
-pub loop-number-preserved : goal.loop-number-preserved
-loop-number-preserved c =
-    let s = c.args.self.now.scale in
-    let held = held_by c.args.pen.now in
-    let items = c.values-number-items.result.now in
-    let i = c.loop-number.number-index in
-    let w = get_or items i (0, None) in
-    record {
-      pen = c.follow_record.ensures.pen ∙ c.loop-number.invariant.pen;
-      scale = c.follow_record.ensures.scale ∙ c.loop-number.invariant.scale;
-      ends = λ before.
-          let follows = subst (λ (q : Sizes × PenView). KeepsEnds q.0 (held_by q.1) w.0 c.loop-number.self c.follow_record.new.self)
-          (λ i. (c.loop-number.invariant.scale i, c.loop-number.invariant.pen i)) c.follow_record.ensures.follows in
-          follows (is_among (drop i items)) (is_among (drop (i + 1) items))
-          (λ n done was. looked_at w (drop (i + 1) items) n done
-          (subst (λ ws. is_among ws n ≡ true) (drop_more items i (0, None) c.loop-number-test.true) was))
-          (c.loop-number.invariant.ends before);
-    }
-
-pub returns-clause-scale : goal.returns-clause-scale
-returns-clause-scale c = c.loop-number.invariant.scale
 
 pub returns-clause-ends : goal.returns-clause-ends
 returns-clause-ends c = λ before.
-    let none : drop c.loop-number.number-index c.values-number-items.result.now ≡ [] =
-    drop_all c.loop-number.number-index c.values-number-items.result.now c.loop-number-test.false in
-    subst (λ (ws : List (ℕ × Option (List ℕ))). AreEnds c.args.self.now.scale (held_by c.args.pen.now) (is_among ws) c.loop-number.self) none
-    (c.loop-number.invariant.ends before)
+    let s = c.args.self.now.scale in
+    let held = held_by c.args.pen.now in
+    let narrow = c.parts.result.0.now in
+    let wide : List (ℕ × Option (List ℕ)) = map as_written c.parts.result.1.now in
+    let parts = c.parts.ensures in
+    ends_beyond s held c.follow_narrow.new.self wide
+    (subst (λ n. All (λ (e : ℕ × Option (List ℕ)). n ≤ e.0) wide) c.requires.count.narrow
+    (wide_behind c.args.cells.now narrow wide c.args.writes.now c.requires.kinds parts.values parts.kinds))
+    (c.follow_narrow.ensures.ends wide
+    (subst (λ (ws : List (ℕ × Option (List ℕ))). AreEnds s held (is_among ws) c.args.self.now) (sym parts.values) before))

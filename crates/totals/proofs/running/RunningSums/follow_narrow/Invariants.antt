@@ -2,7 +2,7 @@ use Rattle.std.proofs.Common.{◌≡◌, drop}
 use Rattle.totals.specs.Totals.{SumsView}
 use Rattle.cells.specs.Records.{held_by}
 use Rattle.totals.specs.Moves.{MovesSums, order_before, moved, no_history}
-use Rattle.totals.proofs.running.RunningSums.follow_values.Given as goal
+use Rattle.totals.proofs.running.RunningSums.follow_narrow.Given as goal
 
 -- the pen is as it was, and what the rest moves from here, all of it moves from the beginning
 abbrev pub invariant-loop-number : goal.invariant-loop-number
@@ -11,7 +11,7 @@ invariant-loop-number l = record {
   scale : l.self.scale ≡ l.fn.self.scale;
   rest : (v : SumsView)
       → MovesSums l.fn.self.scale (order_before l.fn.self.scale (held_by l.fn.pen))
-      (moved l.fn.self.scale (held_by l.fn.pen) (drop l.number-index l.number-items)) no_history l.self v
-      → MovesSums l.fn.self.scale (order_before l.fn.self.scale (held_by l.fn.pen)) (moved l.fn.self.scale (held_by l.fn.pen) l.writes.values) no_history l.fn.self
+      (moved l.fn.self.scale (held_by l.fn.pen) (drop l.number-index l.values)) no_history l.self v
+      → MovesSums l.fn.self.scale (order_before l.fn.self.scale (held_by l.fn.pen)) (moved l.fn.self.scale (held_by l.fn.pen) l.values) no_history l.fn.self
       v;
 }
