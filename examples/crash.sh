@@ -58,6 +58,7 @@ examine() {
     [ "$(grep -c '^C[0-9]* ok$' "$1.checked")" -eq 11 ] || fail "a condition is broken"
     echo "  check: all eleven conditions are ok"
     same "commits, W_YTD and D_YTD by recover, and by replay.py from the files' format" "$1.recovered" "$1.replayed"
+    echo "  replay.py: each text of C_DATA is the one that its Payment leaves"
 }
 
 echo "A run of 4 terminals and $loggers loggers, to its end:"

@@ -9,10 +9,10 @@ was shown; a later one so, or before it says that it was resumed, or when a log 
 of what a restart writes. The last life runs to its end. There are CHAINS of them (50).
 
 Behind each life `tpcc recover` and `tpcc check` must take what is left, with all conditions ok; replay.py, which knows
-the format of the files alone, must say the same as `recover`; what was recovered before must be there, and as many
-commits more as the life's last line had acknowledged, or more, and none where it was killed before it was resumed; and
-the durable epoch never falls. What a resumed life says must be what had been recovered. PROGRAM is
-crates/tpcc/out/tpcc where none is named.
+the format of the files alone, must say the same as `recover`, and find each text of C_DATA as its Payment leaves it;
+what was recovered before must be there, and as many commits more as the life's last line had acknowledged, or more, and
+none where it was killed before it was resumed; and the durable epoch never falls. What a resumed life says must be what
+had been recovered. PROGRAM is crates/tpcc/out/tpcc where none is named.
 
 Prints a line a chain, and a summary. Ends with 1 where a chain failed; its files stay, in the folder that its line names.
 """

@@ -44,7 +44,7 @@ def terminals_run_their_decks():
         ends("of a run whose inputs are looked at", ran, 0, ran.out)
         counts = counts_of(ran.out)
         files = [
-            replay.LogFile(path, path.read_bytes(), shown=(replay.HISTORY,))
+            replay.LogFile(path, path.read_bytes(), wanted=(replay.HISTORY,))
             for path in (Path(folder) / f"log-{logger}" for logger in range(2))
         ]
     paid = 0

@@ -1,7 +1,7 @@
 """Tests of the built program on log files that aren't those that it asks for: what is told of them."""
 
 from checks import SMALL, ends, shows
-from logs import LATER, LOGS, body, entry, log, on_logs, void
+from logs import FIRST_VERSION, LATER, LOGS, VERSION, body, data_of, data_write, entry, log, on_logs, payment, void
 
 # The same scale with other numbers, and what is then told of the first file.
 OTHER_NUMBERS = [
@@ -33,11 +33,24 @@ FIRST = LOGS[0]
 # A body without entries takes 16 bytes, and its gate another.
 TWO_BODIES = log(0, 1, body(5), body(6))
 
+# Each of two files in each version.
+OLD_FILES, NEW_FILES = [
+    [log(logger, 2, body(5), version=version) for logger in (0, 1)] for version in (FIRST_VERSION, VERSION)
+]
+
 DAMAGED = [
     ("no bytes", [b""], "log-0: it has 0 bytes, and a header has 48"),
     ("47 bytes", [log(0, 1)[:47]], "log-0: it has 47 bytes, and a header has 48"),
     ("another format", [with_bytes(TWO_BODIES, 0, b"T")], "log-0: bytes 0 to 47 are no header of a log file"),
-    ("another version", [with_bytes(TWO_BODIES, 8, b"\2")], "log-0: bytes 0 to 47 are no header of a log file"),
+    ("version 0", [with_bytes(TWO_BODIES, 8, b"\0")], "log-0: bytes 0 to 47 are no header of a log file"),
+    ("version 3", [with_bytes(TWO_BODIES, 8, b"\3")], "log-0: bytes 0 to 47 are no header of a log file"),
+    ("version 258", [with_bytes(TWO_BODIES, 9, b"\1")], "log-0: bytes 0 to 47 are no header of a log file"),
+    ("version 1, then 2", [OLD_FILES[0], NEW_FILES[1]], "log-1: its header is of version 2, and 1 was asked for"),
+    ("version 2, then 1", [NEW_FILES[0], OLD_FILES[1]], "log-1: its header is of version 1, and 2 was asked for"),
+    # The version is the first field in which a header may differ.
+    ("version 2, then 1 of 0", [NEW_FILES[0], OLD_FILES[0]], "log-1: its header is of version 1, and 2 was asked for"),
+    ("version 1 of logger 1", [OLD_FILES[1], NEW_FILES[1]], "log-0: its header is of logger 1, and 0 was asked for"),
+    ("no header, then version 1", [b"", OLD_FILES[1]], "log-0: it has 0 bytes, and a header has 48"),
     ("no warehouse", [with_bytes(TWO_BODIES, 16, b"\0")], "log-0: bytes 0 to 47 are no header of a log file"),
     ("no gate", [log(0, 1)[:48]], "log-0: it ends at byte 48, where a gate is to stand"),
     ("no last gate", [TWO_BODIES[:-1]], "log-0: it ends at byte 82, where a gate is to stand"),
@@ -71,6 +84,41 @@ VOIDS = [
     ("to before an epoch", void(5, 5), "it ends before a mark or an epoch in front of it"),
     ("of another length", void(6, 8, 24), "its length isn't 25"),
 ]
+
+# Texts that a Payment of customer 10 may not leave, and such as are claimed to have another length.
+TEXT = data_of(10, 100)
+
+WRITES = [
+    ("a text of 299 bytes", data_write(9, b"x" * 299)),
+    ("a text of 501 bytes", data_write(9, b"x" * 501)),
+    ("a text with byte 31", data_write(9, TEXT[:-1] + b"\x1f")),
+    ("a text with byte 127", data_write(9, b"\x7f" + TEXT[1:])),
+    ("a text with byte 255", data_write(9, TEXT[:200] + b"\xff" + TEXT[201:])),
+    ("no text", data_write(9, b"")),
+    ("a text that is claimed to be longer", data_write(9, TEXT, length=len(TEXT) + 1)),
+    ("a text that is claimed to be shorter", data_write(9, TEXT, length=len(TEXT) - 1)),
+    ("a text that is claimed to have 65,535 bytes", data_write(9, TEXT, length=65_535)),
+    ("a text of kind 0", data_write(9, TEXT, kind=0)),
+    ("a text of kind 2", data_write(9, TEXT, kind=2)),
+    ("an absent text", b"\x0c" + bytes([9, 0, 0, 0, 0])),
+    ("a text in place 20 of 20", data_write(20, TEXT)),
+    ("two texts", data_write(9, TEXT) + data_write(9, TEXT)),
+]
+
+
+def with_writes(writes, version=VERSION):
+    """A file in which customer 10 pays 1.00, with these bytes for its write to C_DATA."""
+    written = payment(1, 4, 0, 10, 100, 1, version=FIRST_VERSION)
+    # Four writes stand before, and the bytes are one or two.
+    count = 5 + (len(writes) > 600)
+    return log(0, 1, body(5, with_bytes(written, 18, bytes([count])) + writes), version=version)
+
+
+FLAWED = "log-0: the body at byte 49 isn't one that may stand there"
+
+DAMAGED += [(what, [with_writes(writes)], FLAWED) for what, writes in WRITES]
+
+DAMAGED += [("a text in version 1", [with_writes(data_write(9, TEXT), FIRST_VERSION)], FLAWED)]
 
 DAMAGED += [
     (

@@ -10,10 +10,18 @@ from pathlib import Path
 import kills
 from checks import REPORT, SMALL, brief, run
 
+# The version of the format in which files are written, and the one before, in which stands nothing of C_DATA.
+VERSION, FIRST_VERSION = 2, 1
+
 # ---- Made by hand
 
 
-def payment(number, epoch, terminal, customer, cents, date, before=0):
+def data_of(customer, cents):
+    """The text that a customer of district 1 has once they have paid so many cents there, for the first time."""
+    return f"{customer} 1 1 1 1 {cents // 100}.{cents % 100:02}|".encode() + b"x" * 300
+
+
+def payment(number, epoch, terminal, customer, cents, date, before=0, version=VERSION):
     """The entry of a commit: a customer of district 1 pays so many cents there for the first time in this run, and
     others have paid so many before."""
     paid = before + cents
@@ -23,7 +31,15 @@ def payment(number, epoch, terminal, customer, cents, date, before=0):
         struct.pack("<BIBqqQQ", 3, customer - 1, 1, -1_000 - cents, 1_000 + cents, 2, 0),
         struct.pack("<BIB7Q", 4, 0, 1, customer, 1, 1, 1, 1, date, cents),
     ]
+    # Every tenth customer has bad credit.
+    if customer % 10 == 0 and version != FIRST_VERSION:
+        writes.append(data_write(customer - 1, data_of(customer, cents)))
     return struct.pack("<QQHH", number, epoch << 32, terminal, len(writes)) + b"".join(writes)
+
+
+def data_write(place, text, kind=1, length=None):
+    """A write that leaves a text in a place of C_DATA, whose length is the text's unless another one is claimed."""
+    return struct.pack("<BIBH", 12, place, kind, len(text) if length is None else length) + text
 
 
 def entry(number, epoch, terminal):
@@ -42,9 +58,9 @@ def void(low, high, length=25):
     return struct.pack("<4Q", length, 2**64 - 1, low, high)
 
 
-def log(logger, loggers, *bodies):
+def log(logger, loggers, *bodies, version=VERSION):
     """A log file at the scale of SMALL, over the plain population: its header, then each body behind an open gate."""
-    header = struct.pack("<8sIHH6IQ", b"SILOTPCC", 1, logger, loggers, 1, 2, 10, 20, 30, 1000, 0)
+    header = struct.pack("<8sIHH6IQ", b"SILOTPCC", version, logger, loggers, 1, 2, 10, 20, 30, 1000, 0)
     return header + b"".join(b"\1" + text for text in bodies) + b"\0"
 
 

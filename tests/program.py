@@ -28,6 +28,7 @@ import hostile
 import kills
 import resumed
 import screens
+import texts
 import voids
 from checks import RUNS, SECONDS, SHOWN, SMALL, Checks, Ran, ends, fail, run, same, shows, shows_runs, start, whole
 from logs import LATER, LOGS, LONG, SCALE, TWO, body, contents_of, counts_of, entry, inputs_of, log, on_logs, run_in
@@ -66,14 +67,6 @@ def a_population_is_drawn_from_its_seed():
         answers = f"stock 1 1 quantity {quantity} ytd 0 orders 0 remote 0\norder 1 1 10 {order} local 1\n"
         ran = run(args, b"show stock 1 1\nshow order 1 1 10\n")
         ends(f"with seed {seed}", ran, 0, whole(answers.encode(), 0))
-
-
-# C_DATA is 300 letters in both populations.
-@shows
-def c_data_is_shown_whole():
-    text = b"data 1 1 10 300 " + b"x" * 300 + b"\n"
-    for args in (SMALL, [*SMALL, "--population", "1"]):
-        ends(f"of {args}", run(args, b"show data 1 1 10\nshow data 1 1 11\n"), 0, whole(text + b"2 line 2\n", 0))
 
 
 @shows

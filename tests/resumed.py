@@ -12,7 +12,9 @@ from pathlib import Path
 import kills
 from checks import REPORT, SECONDS, SMALL, Checks, ends, run, same, shows_runs, start
 from flaws import with_bytes
-from logs import LATER, LOGS, LONG, SCALE, TWO, body, contents_of, counts_of, entry, inputs_of, log, run_in, void
+from logs import (
+    FIRST_VERSION, LATER, LOGS, LONG, SCALE, TWO, body, contents_of, counts_of, entry, inputs_of, log, run_in, void,
+)
 
 # The scale of SMALL, one terminal, and no input.
 NO_INPUT = [*SMALL[1:], "--terminals", "1", "--count", "0", "--resume"]
@@ -112,6 +114,11 @@ REFUSED = [
         "an entry of the last epoch, behind one that no commit can have made",
         [log(0, 1, body(LATEST_EPOCH - 1, entry(2, 4, 0)), body(LATEST_EPOCH - 1, entry(3, LATEST_EPOCH, 0)))],
         b"11 Gap\ncommit 1 is missing\n",
+    ),
+    (
+        "files of the first version",
+        [log(0, 2, body(5, entry(1, 4, 0)), version=FIRST_VERSION), log(1, 2, body(5), version=FIRST_VERSION)],
+        b"10 Damaged\nDIR/log-0: its header is of version 1, and 2 was asked for\n",
     ),
     (
         "a warehouse that got a cent too much",

@@ -87,6 +87,10 @@ impl Tables {
         row.balance -= amount;
         row.paid += amount;
         row.payments += 1;
+        let (balance, has_bad_credit) = (row.balance, row.has_bad_credit);
+        if has_bad_credit {
+            of.data[customer].put_left(text.data_front(payment, customer));
+        }
         self.history.push(History {
             warehouse,
             district,
@@ -96,7 +100,7 @@ impl Tables {
             date,
             amount,
         });
-        text.payment(payment, customer, row.balance);
+        text.payment(payment, customer, balance);
     }
 
     /// New-Order (TPC-C 2.4).
@@ -196,7 +200,10 @@ impl Tables {
                 let row = &self.warehouses[warehouse].districts[district].customers[customer];
                 text.customer_row(warehouse, district, customer, row);
             }
-            Key::CustomerData { warehouse, district, customer } => text.data_row(warehouse, district, customer),
+            Key::CustomerData { warehouse, district, customer } => {
+                let data = &self.warehouses[warehouse].districts[district].data[customer];
+                text.data_row(warehouse, district, customer, data);
+            }
             Key::Stock { warehouse, item } => {
                 text.stock_row(warehouse, item, &self.warehouses[warehouse].stock[item]);
             }

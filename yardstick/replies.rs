@@ -1,7 +1,7 @@
 //! The replies, one line each, and how a line's refusal is told.
 
 use crate::requests::{NewOrder, Payment, Refusal, RequestedLine};
-use crate::tables::{Cents, Customer, FIRST_DATA, Order, OrderLine, Stock};
+use crate::tables::{Cents, Customer, Data, Order, OrderLine, Stock};
 use crate::text::Text;
 
 impl Text {
@@ -24,6 +24,16 @@ impl Text {
         self.words("payment ").number(payment.warehouse).words(" ").number(payment.district);
         self.words(" customer ").number(payment.customer_warehouse).words(" ").number(payment.customer_district);
         self.words(" ").number(customer).words(" balance ").cents(balance);
+    }
+
+    /// What a Payment of a customer with bad credit puts at the left of C_DATA (TPC-C 2.5.2.2). It isn't of the reply:
+    /// the text is then as before.
+    pub fn data_front(&mut self, payment: &Payment, customer: u32) -> &[u8] {
+        let length = self.length();
+        self.number(customer).words(" ").number(payment.customer_district).words(" ");
+        self.number(payment.customer_warehouse).words(" ").number(payment.district).words(" ");
+        self.number(payment.warehouse).words(" ").cents(payment.amount).words("|");
+        self.cut(length)
     }
 
     /// The beginning of an order's reply; `supplied` tells each of its lines.
@@ -89,10 +99,9 @@ impl Text {
         self.words(" payments ").number(row.payments).words(" deliveries ").number(row.deliveries);
     }
 
-    /// C_DATA is the same of each customer, and no Payment changes it.
-    pub fn data_row(&mut self, warehouse: u32, district: u32, customer: u32) {
+    pub fn data_row(&mut self, warehouse: u32, district: u32, customer: u32, data: &Data) {
         self.words("data ").number(warehouse).words(" ").number(district).words(" ").number(customer);
-        self.words(" ").number(FIRST_DATA).words(" ").words(&"x".repeat(FIRST_DATA as usize));
+        self.words(" ").number(data.as_bytes().len() as u32).words(" ").letters(data.as_bytes());
     }
 
     pub fn stock_row(&mut self, warehouse: u32, item: u32, row: &Stock) {

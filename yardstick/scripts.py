@@ -47,11 +47,17 @@ class Lines:
             return str(self.draws.randint(low, high))
         return self.draws.choice((self.draws.choice(STRANGE), str(high + 1), str(low - 1)))
 
+    def customer(self):
+        """A customer's number: every tenth has bad credit in the plain population, and is wanted oftener than others."""
+        if self.draws.random() < 0.3:
+            return str(10 * self.draws.randint(1, self.customers // 10))
+        return self.number(self.customers)
+
     def who(self):
         if self.is_strange():
             return self.draws.choice(STRANGE_NAMES)
         if self.draws.random() < 0.4:
-            return self.number(self.customers)
+            return self.customer()
         name = self.draws.randrange(min(self.customers, 1_000) + (10 if self.is_strange() else 0)) % 1_000
         return "".join(SYLLABLES[int(digit)] for digit in f"{name:03}")
 
@@ -78,13 +84,18 @@ class Lines:
 
     def key(self):
         table = self.draws.choice(TABLES if self.is_strange() else TABLES[:6])
-        lasts = {"customer": self.customers, "data": self.customers, "stock": self.items}
-        last = lasts.get(table, self.orders)
-        if table == "order" and self.draws.random() < 0.5:
-            last = min(last, self.customers + 20)
         between = [] if table in ("warehouse", "stock") else [self.number(self.districts)]
-        behind = [] if table in ("warehouse", "district") else [self.number(last)]
+        behind = [] if table in ("warehouse", "district") else [self.last(table)]
         return [table, self.number(self.warehouses), *between, *behind]
+
+    def last(self, table):
+        """The last number of a key of this table."""
+        if table in ("customer", "data"):
+            return self.customer()
+        if table == "stock":
+            return self.number(self.items)
+        is_early = table == "order" and self.draws.random() < 0.5
+        return self.number(min(self.orders, self.customers + 20) if is_early else self.orders)
 
     def words(self):
         verb = self.draws.choices(list(self.shares), self.shares.values())[0]

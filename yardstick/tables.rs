@@ -66,6 +66,8 @@ pub struct District {
     pub year_to_date: Cents,
     pub next_order: u32,
     pub customers: Rows<Customer>,
+    /// C_DATA of each.
+    pub data: Rows<Data>,
     pub orders: Rows<Order>,
     /// The lines of all orders, one order behind the other.
     pub lines: Vec<OrderLine>,
@@ -80,12 +82,20 @@ pub struct Customer {
     pub first_name: u32,
     pub last_name: u32,
     pub discount: i64,
+    pub has_bad_credit: bool,
     pub balance: Cents,
     pub paid: Cents,
     pub payments: u32,
     pub deliveries: u32,
     /// The number of the last order, if there is one.
     pub last_order: Option<u32>,
+}
+
+/// C_DATA of a customer. The bytes behind its length are room.
+#[derive(Clone, Copy)]
+pub struct Data {
+    length: u16,
+    bytes: [u8; MAX_DATA],
 }
 
 #[derive(Clone, Copy)]
@@ -139,8 +149,11 @@ pub const LEAST_STOCK: u32 = 10;
 
 pub const RESTOCK: u32 = 91;
 
-/// The letters `x` of each customer's C_DATA (TPC-C 4.3.3.1 draws texts of at least so many).
-pub const FIRST_DATA: u32 = 300;
+/// The letters `x` of each customer's C_DATA at first (TPC-C 4.3.3.1 draws texts of at least so many).
+const FIRST_DATA: usize = 300;
+
+/// The most bytes of C_DATA.
+pub const MAX_DATA: usize = 500;
 
 /// What each customer has paid at first.
 const FIRST_PAYMENT: Cents = Cents(1_000);
@@ -197,6 +210,7 @@ impl District {
             year_to_date: Cents(i64::from(scale.customers) * FIRST_PAYMENT.0),
             next_order: scale.customers + 1,
             customers: Rows::numbered(scale.customers, Customer::plain),
+            data: Rows::numbered(scale.customers, |_| Data::of(&[b'x'; FIRST_DATA])),
             orders: Rows(Vec::new()),
             lines: Vec::new(),
             waiting: (delivered + 1..=scale.customers).collect(),
@@ -245,6 +259,26 @@ impl District {
     }
 }
 
+impl Data {
+    pub fn of(text: &[u8]) -> Data {
+        let mut data = Data { length: text.len() as u16, bytes: [0; MAX_DATA] };
+        data.bytes[..text.len()].copy_from_slice(text);
+        data
+    }
+
+    pub fn as_bytes(&self) -> &[u8] {
+        &self.bytes[..self.length.into()]
+    }
+
+    /// Puts a text at the left, and cuts what is then too long (TPC-C 2.5.2.2).
+    pub fn put_left(&mut self, front: &[u8]) {
+        let kept = usize::from(self.length).min(MAX_DATA - front.len());
+        self.bytes.copy_within(..kept, front.len());
+        self.bytes[..front.len()].copy_from_slice(front);
+        self.length = (front.len() + kept) as u16;
+    }
+}
+
 impl Order {
     /// The places of its lines among those of the district.
     pub fn line_places(&self) -> Range<usize> {
@@ -271,6 +305,7 @@ impl Customer {
             first_name: 9_999 - customer,
             last_name: (customer - 1) % LAST_NAMES,
             discount: 1_000,
+            has_bad_credit: customer % 10 == 0,
             balance: Cents(-FIRST_PAYMENT.0),
             paid: FIRST_PAYMENT,
             payments: 1,

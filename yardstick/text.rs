@@ -43,11 +43,28 @@ impl Text {
         self.end > ROOM - MAX_REPLY
     }
 
+    /// How many bytes it has.
+    pub fn length(&self) -> usize {
+        self.end
+    }
+
+    /// Takes away what stands behind so many bytes, and gives it.
+    pub fn cut(&mut self, length: usize) -> &[u8] {
+        let end = std::mem::replace(&mut self.end, length);
+        &self.bytes[length..end]
+    }
+
     /// Words as they are. Where they are constant this is a move or two.
     #[inline(always)]
     pub fn words(&mut self, words: &str) -> &mut Text {
-        self.bytes[self.end..self.end + words.len()].copy_from_slice(words.as_bytes());
-        self.end += words.len();
+        self.letters(words.as_bytes())
+    }
+
+    /// The letters of a text.
+    #[inline(always)]
+    pub fn letters(&mut self, letters: &[u8]) -> &mut Text {
+        self.bytes[self.end..self.end + letters.len()].copy_from_slice(letters);
+        self.end += letters.len();
         self
     }
 

@@ -7,21 +7,29 @@ import replay
 
 HEADER_BYTES = replay.HEADER.size
 
-MAGIC, VERSION = b"SILOTPCC", 1
+MAGIC = b"SILOTPCC"
+
+# The version that has nothing of C_DATA, and the one that is written today.
+OLD, TODAY = replay.VERSIONS
 
 
 @dataclass
 class Write:
-    """A write: its table, place and kind, and its columns as numbers of 64 bits."""
+    """A write: its table, place and kind, and its columns as numbers of 64 bits; of C_DATA the text in their place, and
+    that text's length where it isn't the one that fits."""
 
     table: int
     place: int
     kind: int
     columns: list
+    data: bytes = None
+    length: int = None
 
     def text(self):
         front = replay.WRITE.pack(self.table % 2**8, self.place % 2**32, self.kind % 2**8)
-        return front + b"".join(word(column) for column in self.columns)
+        if self.data is None:
+            return front + b"".join(word(column) for column in self.columns)
+        return front + replay.SHORT.pack((len(self.data) if self.length is None else self.length) % 2**16) + self.data
 
 
 @dataclass
@@ -93,7 +101,7 @@ class Taken:
 
     def log(self):
         magic, *numbers = self.take(replay.HEADER)
-        self.tables = replay.tables_of(replay.Scale(*numbers[3:9]))
+        self.tables = replay.tables_of(replay.Scale(*numbers[3:9]), numbers[0])
         bodies = []
         while self.text[self.at] == replay.OPEN:
             bodies.append(self.body())
@@ -116,10 +124,32 @@ class Taken:
 
     def write(self):
         table, place, kind = self.take(replay.WRITE)
-        count = len(self.tables[table].ranges) if kind == replay.PRESENT else 0
-        return Write(table, place, kind, [self.take(replay.LENGTH)[0] for _ in range(count)])
+        if kind == replay.ABSENT:
+            return Write(table, place, kind, [])
+        if table == replay.DATA:
+            return Write(table, place, kind, [], self.data())
+        return Write(table, place, kind, [self.take(replay.LENGTH)[0] for _ in self.tables[table].ranges])
+
+    def data(self):
+        (length,) = self.take(replay.SHORT)
+        self.at += length
+        return self.text[self.at - length : self.at]
 
 
 def log_of(text):
     """A log file, taken apart."""
     return Taken(text).log()
+
+
+def in_version(text, version):
+    """A log file in this version: in the old one without what stands of C_DATA."""
+    log = log_of(text)
+    log.numbers[0] = version
+    if version == OLD:
+        for entry in log.entries():
+            entry.writes = [write for write in entry.writes if write.table != replay.DATA]
+    return log.text()
+
+
+def in_the_other_version(text):
+    return in_version(text, OLD if log_of(text).numbers[0] == TODAY else TODAY)

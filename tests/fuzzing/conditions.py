@@ -13,7 +13,6 @@ FIRST_PAYMENT, FIRST_LINES = 1_000, 5
 Customer = namedtuple("Customer", "balance paid payments deliveries")
 Order = namedtuple("Order", "customer date carrier line_count is_local")
 Line = namedtuple("Line", "item supply date quantity amount")
-History = namedtuple("History", "customer customer_district customer_warehouse district warehouse date amount")
 
 
 class Tables:
@@ -39,12 +38,12 @@ class Tables:
         for (table, place), columns in replay.newest_of(entries).items():
             self.put(table, place, columns)
         rows = [columns for entry in entries for table, _, columns in entry.writes if table == HISTORY]
-        self.history += [History(*columns) for columns in rows]
+        self.history += [replay.History(*columns) for columns in rows]
 
     def add_first_rows(self, key, number):
         """A customer, what they have paid, and the order that has their number."""
         self.customers[*key, number] = Customer(-FIRST_PAYMENT, FIRST_PAYMENT, 1, 0)
-        self.history.append(History(number, key[1], key[0], key[1], key[0], 1, FIRST_PAYMENT))
+        self.history.append(replay.History(number, key[1], key[0], key[1], key[0], 1, FIRST_PAYMENT))
         done = number <= 7 * self.scale.customers // 10
         self.orders[*key, number] = Order(number, 1, int(done), FIRST_LINES, 1)
         for line in range(1, FIRST_LINES + 1):

@@ -3,9 +3,9 @@
 import replay
 from fuzzing.bodies import HEADER_BYTES
 
-# The fields of a header behind its version, as a command line calls them.
+# The fields of a header, as a command line calls them.
 FIELDS = (
-    "logger", "--loggers", "--warehouses", "--districts", "--customers", "--items", "--orders", "--commits",
+    "version", "logger", "--loggers", "--warehouses", "--districts", "--customers", "--items", "--orders", "--commits",
     "--population",
 )
 
@@ -15,7 +15,7 @@ class Flaw(Exception):
 
 
 def numbers_of(header):
-    return [header.logger, header.loggers, *header.scale, header.seed]
+    return [header.version, header.logger, header.loggers, *header.scale, header.seed]
 
 
 def void_flaw(text, mark, epoch):
@@ -66,6 +66,6 @@ def examined(data, asked, wanted):
         raise Flaw(f"bytes 0 to {HEADER_BYTES - 1} are no header of a log file") from None
     for name, found, number in zip(FIELDS, numbers_of(header), numbers_of(asked)):
         if found != number:
-            were = "was" if name in ("logger", "--population") or number == 1 else "were"
+            were = "was" if name in ("version", "logger", "--population") or number == 1 else "were"
             raise Flaw(f"its header is of {name} {found}, and {number} {were} asked for")
     return Examined("", data, wanted)

@@ -6,9 +6,9 @@ from pathlib import Path
 
 from fuzzing import mutations
 from fuzzing.answers import REPORT
-from fuzzing.bodies import log_of
+from fuzzing.bodies import OLD, TODAY, in_version, log_of
 from fuzzing.cases import Differs, brief, draws_of, room, run, same
-from fuzzing.verdicts import Asked, examine, words_of
+from fuzzing.verdicts import Asked, examine, verdict, words_of
 
 KIND, GROUP = "files", 25
 
@@ -48,18 +48,23 @@ def lives(programs, draws, asked):
             ran = run(programs.tpcc, "run", *words, *(["--resume"] if life else []))
             if ran.status or ran.err:
                 raise Differs(f"run {life + 1}, {words}, ended with status {ran.status}: {brief(ran.err)}")
+        if not asked.population:
+            same("a text of C_DATA that is another", verdict(folder, asked).other_text, None)
         return written(folder, asked.loggers)
 
 
 @lru_cache(maxsize=2)
 def origins(programs, seed, group):
-    """What is damaged in a group of cases: what is asked, its files, and files of other databases like it."""
+    """What is damaged in a group of cases: what is asked, its files, and files of other databases like it; all in one
+    version."""
     draws = draws_of(seed, "origins", group)
     asked = Asked(scale_of(draws), draws.choice((1, 2, 2, 3, 8)), 0)
     scale, loggers, _ = asked
     wider = (scale[0], scale[1], scale[2], scale[3] + 1, *scale[4:])
     others = [Asked(scale, loggers, 7), Asked(wider, loggers, 0), Asked(scale, loggers % 8 + 1, 0)]
-    return asked, lives(programs, draws, asked), [lives(programs, draws, other)[0] for other in others]
+    files, first_files = lives(programs, draws, asked), [lives(programs, draws, other)[0] for other in others]
+    version = draws.choice((OLD, TODAY, TODAY))
+    return asked, *[[in_version(text, version) for text in texts] for texts in (files, first_files)]
 
 
 def asked_for(draws, asked):
@@ -84,26 +89,29 @@ UNSOUND = b"10 Damaged\nwhat the log files recover to no commits can have made: 
 EPOCH_FULL, LAST_EPOCH = b"8 EpochFull\n", 2**32 - 1
 
 
-def resume(tpcc, folder, asked, verdict):
-    """Goes on with the files of a verdict, without an input. A refusal writes nothing, and is that of the verdict; or,
-    of files that can be recovered, one of two more. Where all conditions hold, 10 is taken for right: a run asks more
-    of what is recovered than they do."""
-    before = written(folder, asked.loggers) if verdict.left else None
+def contents(folder):
+    return {path.name: path.read_bytes() for path in folder.glob("log-*")}
+
+
+def resume(tpcc, folder, asked):
+    """Goes on with log files, which are to be of today's version, without an input. A refusal writes nothing, and is
+    that of their verdict; or, of files that can be recovered, one of two more. Where all conditions hold, 10 is taken
+    for right: a run asks more of what is recovered than they do."""
+    before, (_, _, status, error, left, _) = contents(folder), verdict(folder, asked, TODAY)
     ran = run(tpcc, "run", *words_of(asked, folder), "--terminals", 1, "--count", 0, "--resume")
-    if verdict.left and not verdict.status and verdict.left.top < LAST_EPOCH and ran.status == 0:
+    if left and not status and left.top < LAST_EPOCH and ran.status == 0:
         same("what standard error gets of run", ran.err, b"")
-        said = b"resumed %d epoch %d" % (verdict.left.commits, verdict.left.top + 1)
-        same("what run says first", ran.out.split(b"\n")[0], said)
+        same("what run says first", ran.out.split(b"\n")[0], b"resumed %d epoch %d" % (left.commits, left.top + 1))
         same("the report of run", ran.out[-len(REPORT) :], REPORT)
-        same("what is left of the commits", examine(tpcc, folder, asked).left.commits, verdict.left.commits)
+        same("what is left of the commits", examine(tpcc, folder, asked).left.commits, left.commits)
         return "resumed"
     same("the status of run", ran.status, 1)
     same("the output of run", ran.out, b"")
-    if not verdict.left:
-        same("what standard error gets of run", ran.err, verdict.error)
+    same("the files of a run that was refused", contents(folder), before)
+    if not left:
+        same("what standard error gets of run", ran.err, error)
         return "refused"
-    same("what standard error gets of run", ran.err, EPOCH_FULL if verdict.left.top == LAST_EPOCH else UNSOUND)
-    same("the files of a run that was refused", written(folder, asked.loggers), before)
+    same("what standard error gets of run", ran.err, EPOCH_FULL if left.top == LAST_EPOCH else UNSOUND)
     return "refused by 10" if ran.err == UNSOUND else "refused by 8"
 
 
@@ -117,16 +125,17 @@ def case(programs, draws, number, seed):
         put(folder / "whole", files)
         told = " ".join(map(str, words_of(asks, folder)))
         (folder / "words").write_text(f"recover {told} --threads {threads}\n")
-        verdict = examine(programs.tpcc, folder, asks, threads)
-        counts = Counter({"databases": 1, told_of(verdict): 1})
+        wanted = examine(programs.tpcc, folder, asks, threads)
+        counts = Counter({"databases": 1, told_of(wanted): 1})
+        counts += Counter({"with another text": int(wanted.other_text is not None)})
         if draws.random() < 0.3:
             put(folder / "damaged", damaged)
-            counts[resume(programs.tpcc, folder, asks, verdict)] += 1
+            counts[resume(programs.tpcc, folder, asks)] += 1
     return counts
 
 
-def told_of(verdict):
+def told_of(wanted):
     """What kind of answer a verdict is."""
-    if verdict.error:
-        return verdict.error.split()[1].decode()
-    return "broken" if verdict.status else "good"
+    if wanted.error:
+        return wanted.error.split()[1].decode()
+    return "broken" if wanted.status else "good"

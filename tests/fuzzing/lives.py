@@ -172,6 +172,7 @@ def chain(programs, draws, asked, folder):
             return never_begun(programs, asked, folder, verdict)
         same("what standard error gets behind a life", verdict.error, b"")
         same("the report behind a life", verdict.check, b"commits %d\n" % verdict.left.commits + REPORT)
+        same("a text of C_DATA that is another", verdict.other_text, None)
         judge(seen, left, verdict.left)
         counts += Counter(lives=1, shown=int(seen.last is not None), resumed=int(seen.resumed is not None))
         left = verdict.left

@@ -1,15 +1,15 @@
 """Random damage to log files: to their bytes, to their parts, and to which files there are."""
 
-from fuzzing.bodies import HEADER_BYTES, log_of
+from fuzzing.bodies import HEADER_BYTES, in_the_other_version, log_of
 from fuzzing.edges import body_at_edge, entry_at_edge
 from fuzzing.parts import added, entry, header, length, magic, mark, order_of_bodies, order_of_entries, void
-from fuzzing.records import column, filled, order_of_writes, row, write
+from fuzzing.records import column, data, data_added, filled, order_of_writes, row, write
 
 # What is changed, some of it oftener.
 PARTS = (
     header, magic, length, mark, order_of_bodies, order_of_bodies, void, void, order_of_entries, order_of_entries,
     entry, order_of_writes, write, write, filled, filled, added, *[column] * 6, *[row] * 14, *[entry_at_edge] * 14,
-    *[body_at_edge] * 6,
+    *[body_at_edge] * 6, *[data] * 5, *[data_added] * 4,
 )
 
 
@@ -42,9 +42,10 @@ def parts_damaged(draws, text):
 
 
 def files_exchanged(draws, files, others):
-    """Files in another order, one of them twice, one of another database, or one that has nothing or isn't there."""
+    """Files in another order, one of them twice, one of another database or version, or one that has nothing or isn't
+    there."""
     one, other = draws.randrange(len(files)), draws.randrange(len(files))
-    match draws.randrange(5):
+    match draws.randrange(7):
         case 0:
             files[one], files[other] = files[other], files[one]
         case 1:
@@ -55,6 +56,8 @@ def files_exchanged(draws, files, others):
             files[one] = b""
         case 4:
             files[one] = None
+        case _:
+            files[one] = in_the_other_version(files[one])
 
 
 def damaged(draws, files, others):

@@ -7,12 +7,12 @@ from fuzzing import conditions
 from fuzzing.bodies import Write
 from fuzzing.parts import near
 
-# The tables that have writes.
+# The tables whose writes have columns, if any.
 KNOWN = (*conditions.WANTED, 9, 10, 11)
 
 
 def tables_of(log):
-    return replay.tables_of(replay.Scale(*log.numbers[3:9]))
+    return replay.tables_of(replay.Scale(*log.numbers[3:9]), log.numbers[0])
 
 
 def order_of_writes(draws, log):
@@ -47,7 +47,7 @@ def write(draws, log):
         case 2:
             one.kind = draws.choice((0, 1, 2, 255))
         case 3:
-            one.kind, one.columns = replay.ABSENT, []
+            one.kind, one.columns, one.data = replay.ABSENT, [], None
 
 
 def newest(draws, log):
@@ -88,6 +88,36 @@ def row(draws, log):
         others = [number + 1, number - 1] if low else [0, 0, 1] if number else [1, high]
         another = draws.choice((*others, number + draws.randint(-100, 100)))
         one.columns[place] = min(max(another, low), high)
+
+
+def data(draws, log):
+    """A text of C_DATA that is another: in its length, in a byte, or in the length that it is said to have."""
+    texts = [write for entry in log.entries() for write in entry.writes if write.data]
+    if not texts:
+        return
+    one = draws.choice(texts)
+    length, at = len(one.data), draws.randrange(len(one.data))
+    match draws.randrange(4):
+        case 0:
+            one.data = (one.data * 2)[: draws.choice((299, 300, 301, 499, 500, 501))]
+        case 1:
+            byte = draws.choice((0, 31, 32, 33, 126, 127, 255, draws.randrange(32, 127)))
+            one.data = one.data[:at] + bytes([byte]) + one.data[at + 1 :]
+        case 2:
+            one.length = draws.choice((length + 1, length - 1, 0, 299, 300, 500, 501, 2**16 - 1))
+        case 3:
+            one.data = one.data[at:] + one.data[:at]
+
+
+def data_added(draws, log):
+    """A text of C_DATA more, also where files have none."""
+    if not (entries := log.entries()):
+        return
+    scale = replay.Scale(*log.numbers[3:9])
+    places = scale.warehouses * scale.districts * scale.customers
+    place, length = draws.choice((0, places - 1, places, draws.randrange(places))), draws.choice((300, 500))
+    letters = bytes([draws.randrange(32, 127)]) * length
+    draws.choice(entries).writes.append(Write(replay.DATA, place, replay.PRESENT, [], letters))
 
 
 def filled(draws, log):

@@ -6,21 +6,26 @@ from pathlib import Path
 import replay
 import scripts
 from fuzzing import conditions
+from fuzzing.bodies import TODAY
 from fuzzing.cases import options_of, run, same
 from fuzzing.damage import Flaw, examined
 
 # What a command line asks for: the numbers of a scale, how many loggers, and a population.
 Asked = namedtuple("Asked", "scale loggers population")
 
-# What each subcommand is to write and to end with; and what was recovered, or None.
-Verdict = namedtuple("Verdict", "recover check status error left")
+# The tables whose writes are looked at.
+WANTED = *conditions.WANTED, replay.DATA
+
+# What each subcommand is to write and to end with; what was recovered, or None; and what is to be said of the first
+# text of C_DATA that isn't what its Payment leaves, or None.
+Verdict = namedtuple("Verdict", "recover check status error left other_text")
 
 # The durable epoch, how many commits count, and the last epoch of which the files have anything, 0 where there is none.
 Left = namedtuple("Left", "durable commits top")
 
 
 def refused(error):
-    return Verdict(b"", b"", 1, error.encode(), None)
+    return Verdict(b"", b"", 1, error.encode(), None, None)
 
 
 def options(asked):
@@ -32,14 +37,21 @@ def words_of(asked, folder):
     return ["--logs", folder, *options(asked)]
 
 
-def files_of(folder, asked):
-    """The log files that are asked for. Raises the flaw of the first that isn't one."""
+def version_of(path):
+    """The version of a log file; of bytes that begin with no header the one that is written today."""
+    try:
+        return replay.read_header(replay.Source("", path.read_bytes())).version
+    except replay.Damaged:
+        return TODAY
+
+
+def files_of(paths, asked, version):
+    """The log files that are asked for, in this version. Raises the flaw of the first that isn't one."""
     files, scale = [], replay.Scale(*asked.scale)
-    for logger in range(asked.loggers):
-        path = Path(folder) / f"log-{logger}"
-        header = replay.Header(logger, asked.loggers, scale, asked.population)
+    for logger, path in enumerate(paths):
+        header = replay.Header(version, logger, asked.loggers, scale, asked.population)
         try:
-            files.append(examined(path.read_bytes(), header, conditions.WANTED))
+            files.append(examined(path.read_bytes(), header, WANTED))
         except Flaw as why:
             raise Flaw(f"{path}: {why}") from why
     return files
@@ -50,13 +62,25 @@ def top_of(file):
     return max(file.mark, *(replay.epoch_of(entry.tid) for entry in file.entries), 0)
 
 
-def verdict(folder, asked):
-    """What is to be said of the files in a folder, which are of the plain population where they are those asked for."""
+def other_text_of(scale, version, entries):
+    """What is to be said of the first text of C_DATA that isn't what its Payment leaves, or None."""
+    try:
+        if version == TODAY:
+            replay.examine_texts(scale, entries)
+    except replay.OtherData as why:
+        return str(why)
+    return None
+
+
+def verdict(folder, asked, version=None):
+    """What is to be said of the files in a folder, which are of the plain population where they are those asked for.
+    They are to be of this version, or of that of the first where none is named."""
     paths = [Path(folder) / f"log-{logger}" for logger in range(asked.loggers)]
     if missing := next((path for path in paths if not path.exists()), None):
         return refused(f"9 Device\n{missing}: can't be opened: No such file or directory (os error 2)\n")
     try:
-        files = files_of(folder, asked)
+        version = version or version_of(paths[0])
+        files = files_of(paths, asked, version)
         durable, entries = replay.counted(files)
     except Flaw as why:
         return refused(f"10 Damaged\n{why}\n")
@@ -67,7 +91,8 @@ def verdict(folder, asked):
     report, holds = conditions.report(scale, entries)
     checked = f"commits {len(entries)}\n{report}"
     left = Left(durable, len(entries), max(top_of(file) for file in files))
-    return Verdict(shown.encode(), checked.encode(), 0 if holds else 1, b"", left)
+    other_text = other_text_of(scale, version, entries)
+    return Verdict(shown.encode(), checked.encode(), 0 if holds else 1, b"", left, other_text)
 
 
 def examine(tpcc, folder, asked, threads=1):

@@ -2,7 +2,7 @@
 
 use crate::lmdb_sys::*;
 use crate::store::{DistrictRow, Place, Store, WarehouseRow};
-use crate::tables::{Cents, Customer, History, Item, Order, OrderLine, Stock};
+use crate::tables::{Cents, Customer, Data, History, Item, Order, OrderLine, Stock};
 use std::ffi::{CStr, CString, c_int, c_uint, c_void};
 use std::ptr::null_mut;
 
@@ -16,6 +16,7 @@ enum Table {
     Stock,
     District,
     Customer,
+    Data,
     Order,
     Waiting,
     Line,
@@ -24,12 +25,13 @@ enum Table {
     Named,
 }
 
-const TABLES: [&CStr; 10] = [
+const TABLES: [&CStr; 11] = [
     c"item",
     c"warehouse",
     c"stock",
     c"district",
     c"customer",
+    c"customer_data",
     c"orders",
     c"new_order",
     c"order_line",
@@ -248,6 +250,10 @@ impl Store for Lmdb {
         self.put(Table::Named, name_key(at, row.last_name, row.first_name, customer), &());
     }
 
+    fn add_data(&mut self, at: Place, customer: u32, data: &Data) {
+        self.put(Table::Data, place_key(at, customer), data);
+    }
+
     fn add_order(&mut self, at: Place, order: u32, row: &Order) {
         self.put(Table::Order, place_key(at, order), row);
     }
@@ -283,6 +289,10 @@ impl Store for Lmdb {
 
     fn customer(&mut self, at: Place, customer: u32) -> Customer {
         self.get(Table::Customer, place_key(at, customer))
+    }
+
+    fn data(&mut self, at: Place, customer: u32) -> Data {
+        self.get(Table::Data, place_key(at, customer))
     }
 
     fn customer_named(&mut self, at: Place, last_name: u32) -> u32 {
@@ -321,13 +331,17 @@ impl Store for Lmdb {
         self.change(Table::District, place_key(at, 0), |row: &mut DistrictRow| row.year_to_date += amount);
     }
 
-    fn pay_customer(&mut self, at: Place, customer: u32, amount: Cents) -> Cents {
+    fn pay_customer(&mut self, at: Place, customer: u32, amount: Cents) -> (Cents, bool) {
         self.change(Table::Customer, place_key(at, customer), |row: &mut Customer| {
             row.balance -= amount;
             row.paid += amount;
             row.payments += 1;
-            row.balance
+            (row.balance, row.has_bad_credit)
         })
+    }
+
+    fn put_data_left(&mut self, at: Place, customer: u32, front: &[u8]) {
+        self.change(Table::Data, place_key(at, customer), |data: &mut Data| data.put_left(front));
     }
 
     fn take_number(&mut self, at: Place) -> DistrictRow {

@@ -1,9 +1,9 @@
-//! SQLite: tables of whole numbers, each step one prepared statement. 0 stands for null: no column but the taxes,
-//! counts and amounts, which are never null, is 0 otherwise.
+//! SQLite: tables of whole numbers, and one of texts, each step one prepared statement. 0 stands for null: no column but
+//! the taxes, counts, amounts and what is true or false, which are never null, is 0 otherwise.
 
 use crate::sqlite_sys::*;
 use crate::store::{DistrictRow, Place, Store, WarehouseRow};
-use crate::tables::{Cents, Customer, History, Item, LEAST_STOCK, Order, OrderLine, RESTOCK, Stock};
+use crate::tables::{Cents, Customer, Data, History, Item, LEAST_STOCK, MAX_DATA, Order, OrderLine, RESTOCK, Stock};
 use std::ffi::{CStr, CString, c_int};
 use std::ptr::{null, null_mut};
 
@@ -13,8 +13,9 @@ CREATE TABLE item (i INTEGER PRIMARY KEY, price);
 CREATE TABLE warehouse (w INTEGER PRIMARY KEY, tax, ytd);
 CREATE TABLE stock (w, i, quantity, ytd, orders, remote, PRIMARY KEY (w, i)) WITHOUT ROWID;
 CREATE TABLE district (w, d, tax, ytd, next, PRIMARY KEY (w, d)) WITHOUT ROWID;
-CREATE TABLE customer (w, d, c, first, last, discount, balance, paid, payments, deliveries, last_order,
+CREATE TABLE customer (w, d, c, first, last, discount, is_bad, balance, paid, payments, deliveries, last_order,
     PRIMARY KEY (w, d, c)) WITHOUT ROWID;
+CREATE TABLE customer_data (w, d, c, data, PRIMARY KEY (w, d, c)) WITHOUT ROWID;
 CREATE INDEX customer_name ON customer (w, d, last, first, c);
 CREATE TABLE orders (w, d, o, c, entry, carrier, line_count, is_local, PRIMARY KEY (w, d, o)) WITHOUT ROWID;
 CREATE TABLE new_order (w, d, o, PRIMARY KEY (w, d, o)) WITHOUT ROWID;
@@ -35,6 +36,7 @@ enum Step {
     AddStock,
     AddDistrict,
     AddCustomer,
+    AddData,
     AddOrder,
     AddWaiting,
     AddLine,
@@ -44,6 +46,7 @@ enum Step {
     District,
     Stock,
     Customer,
+    Data,
     CustomersNamed,
     Order,
     Lines,
@@ -52,6 +55,7 @@ enum Step {
     PayWarehouse,
     PayDistrict,
     PayCustomer,
+    PutDataLeft,
     TakeNumber,
     SetLastOrder,
     Draw,
@@ -62,7 +66,7 @@ enum Step {
     LowStock,
 }
 
-const TEXTS: [&CStr; 34] = [
+const TEXTS: [&CStr; 37] = [
     c"BEGIN IMMEDIATE",
     c"BEGIN",
     c"COMMIT",
@@ -71,7 +75,8 @@ const TEXTS: [&CStr; 34] = [
     c"INSERT INTO warehouse VALUES (?, ?, ?)",
     c"INSERT INTO stock VALUES (?, ?, ?, ?, ?, ?)",
     c"INSERT INTO district VALUES (?, ?, ?, ?, ?)",
-    c"INSERT INTO customer VALUES (?, ?, ?, ?, ?, ?, ?, ?, ?, ?, ?)",
+    c"INSERT INTO customer VALUES (?, ?, ?, ?, ?, ?, ?, ?, ?, ?, ?, ?)",
+    c"INSERT INTO customer_data VALUES (?, ?, ?, ?)",
     c"INSERT INTO orders VALUES (?, ?, ?, ?, ?, ?, ?, ?)",
     c"INSERT INTO new_order VALUES (?, ?, ?)",
     c"INSERT INTO order_line VALUES (?, ?, ?, ?, ?, ?, ?, ?, ?)",
@@ -80,8 +85,9 @@ const TEXTS: [&CStr; 34] = [
     c"SELECT tax, ytd FROM warehouse WHERE w = ?",
     c"SELECT tax, ytd, next FROM district WHERE w = ? AND d = ?",
     c"SELECT quantity, ytd, orders, remote FROM stock WHERE w = ? AND i = ?",
-    c"SELECT first, last, discount, balance, paid, payments, deliveries, last_order FROM customer
+    c"SELECT first, last, discount, is_bad, balance, paid, payments, deliveries, last_order FROM customer
         WHERE w = ? AND d = ? AND c = ?",
+    c"SELECT data FROM customer_data WHERE w = ? AND d = ? AND c = ?",
     c"SELECT c FROM customer WHERE w = ? AND d = ? AND last = ? ORDER BY first, c",
     c"SELECT c, entry, carrier, line_count, is_local FROM orders WHERE w = ? AND d = ? AND o = ?",
     c"SELECT item, supply, delivery, quantity, amount FROM order_line WHERE w = ? AND d = ? AND o = ? ORDER BY n",
@@ -90,7 +96,8 @@ const TEXTS: [&CStr; 34] = [
     c"UPDATE warehouse SET ytd = ytd + ?2 WHERE w = ?1",
     c"UPDATE district SET ytd = ytd + ?3 WHERE w = ?1 AND d = ?2",
     c"UPDATE customer SET balance = balance - ?4, paid = paid + ?4, payments = payments + 1
-        WHERE w = ?1 AND d = ?2 AND c = ?3 RETURNING balance",
+        WHERE w = ?1 AND d = ?2 AND c = ?3 RETURNING balance, is_bad",
+    c"UPDATE customer_data SET data = substr(?5 || data, 1, ?4) WHERE w = ?1 AND d = ?2 AND c = ?3",
     c"UPDATE district SET next = next + 1 WHERE w = ? AND d = ? RETURNING tax, ytd, next - 1",
     c"UPDATE customer SET last_order = ?4 WHERE w = ?1 AND d = ?2 AND c = ?3 RETURNING discount",
     c"UPDATE stock SET quantity = quantity - ?3 + iif(quantity < ?3 + ?5, ?6, 0), ytd = ytd + ?3, orders = orders + 1,
@@ -141,22 +148,27 @@ impl Sqlite {
         self.must(unsafe { sqlite3_exec(self.database, text.as_ptr(), null(), null_mut(), null_mut()) });
     }
 
-    /// Runs a statement with these numbers, and shows each row that it gives.
-    fn each<const N: usize>(&self, step: Step, numbers: &[i64], mut see: impl FnMut([i64; N])) {
+    /// Runs a statement with these numbers, and shows it at each row that it gives.
+    fn run_with(&self, step: Step, numbers: &[i64], mut see: impl FnMut(*mut sqlite3_stmt)) {
         let statement = self.statements[step as usize];
         for (place, &number) in (1..).zip(numbers) {
             self.must(unsafe { sqlite3_bind_int64(statement, place, number) });
         }
         loop {
             match unsafe { sqlite3_step(statement) } {
-                SQLITE_ROW => {
-                    see(std::array::from_fn(|column| unsafe { sqlite3_column_int64(statement, column as c_int) }));
-                }
+                SQLITE_ROW => see(statement),
                 SQLITE_DONE => break,
                 code => self.must(code),
             }
         }
         self.must(unsafe { sqlite3_reset(statement) });
+    }
+
+    /// Runs a statement with these numbers, and shows each row of numbers that it gives.
+    fn each<const N: usize>(&self, step: Step, numbers: &[i64], mut see: impl FnMut([i64; N])) {
+        self.run_with(step, numbers, |statement| {
+            see(std::array::from_fn(|column| unsafe { sqlite3_column_int64(statement, column as c_int) }));
+        });
     }
 
     fn find<const N: usize>(&self, step: Step, numbers: &[i64]) -> Option<[i64; N]> {
@@ -171,6 +183,15 @@ impl Sqlite {
 
     fn act(&self, step: Step, numbers: &[i64]) {
         self.each(step, numbers, |_: [i64; 0]| {});
+    }
+
+    /// Runs a statement with these numbers, and a text behind them.
+    fn act_with_text(&self, step: Step, numbers: &[i64], text: &[u8]) {
+        let (statement, place) = (self.statements[step as usize], numbers.len() as c_int + 1);
+        let (first, length) = (text.as_ptr().cast(), text.len() as c_int);
+        // It isn't copied: it lives until the statement has run, which binds another one before it runs again.
+        self.must(unsafe { sqlite3_bind_text(statement, place, first, length, null()) });
+        self.act(step, numbers);
     }
 }
 
@@ -246,12 +267,16 @@ impl Store for Sqlite {
 
     fn add_customer(&mut self, at: Place, customer: u32, row: &Customer) {
         let [w, d, c] = key(at, customer);
-        let &Customer { first_name, last_name, discount, balance, paid, payments, deliveries, last_order } = row;
-        let (first, last) = (first_name.into(), last_name.into());
-        let counts = [payments.into(), deliveries.into(), column(last_order)];
+        let (first, last, is_bad) = (row.first_name.into(), row.last_name.into(), row.has_bad_credit.into());
+        let counts = [row.payments.into(), row.deliveries.into(), column(row.last_order)];
         let [payments, deliveries, last_order] = counts;
-        let numbers = [w, d, c, first, last, discount, balance.0, paid.0, payments, deliveries, last_order];
+        let &Customer { discount, balance, paid, .. } = row;
+        let numbers = [w, d, c, first, last, discount, is_bad, balance.0, paid.0, payments, deliveries, last_order];
         self.act(Step::AddCustomer, &numbers);
+    }
+
+    fn add_data(&mut self, at: Place, customer: u32, data: &Data) {
+        self.act_with_text(Step::AddData, &key(at, customer), data.as_bytes());
     }
 
     fn add_order(&mut self, at: Place, order: u32, row: &Order) {
@@ -302,17 +327,27 @@ impl Store for Sqlite {
 
     fn customer(&mut self, at: Place, customer: u32) -> Customer {
         let row = self.get(Step::Customer, &key(at, customer));
-        let [first, last, discount, balance, paid, payments, deliveries, last_order] = row;
+        let [first, last, discount, is_bad, balance, paid, payments, deliveries, last_order] = row;
         Customer {
             first_name: first as u32,
             last_name: last as u32,
             discount,
+            has_bad_credit: is_bad != 0,
             balance: Cents(balance),
             paid: Cents(paid),
             payments: payments as u32,
             deliveries: deliveries as u32,
             last_order: nullable(last_order),
         }
+    }
+
+    fn data(&mut self, at: Place, customer: u32) -> Data {
+        let mut data = None;
+        self.run_with(Step::Data, &key(at, customer), |statement| {
+            let (first, length) = unsafe { (sqlite3_column_text(statement, 0), sqlite3_column_bytes(statement, 0)) };
+            data = Some(Data::of(unsafe { std::slice::from_raw_parts(first, length as usize) }));
+        });
+        data.expect("a row that is there")
     }
 
     fn customer_named(&mut self, at: Place, last_name: u32) -> u32 {
@@ -360,10 +395,15 @@ impl Store for Sqlite {
         self.act(Step::PayDistrict, &[w, d, amount.0]);
     }
 
-    fn pay_customer(&mut self, at: Place, customer: u32, amount: Cents) -> Cents {
+    fn pay_customer(&mut self, at: Place, customer: u32, amount: Cents) -> (Cents, bool) {
         let [w, d, c] = key(at, customer);
-        let [balance] = self.get(Step::PayCustomer, &[w, d, c, amount.0]);
-        Cents(balance)
+        let [balance, is_bad] = self.get(Step::PayCustomer, &[w, d, c, amount.0]);
+        (Cents(balance), is_bad != 0)
+    }
+
+    fn put_data_left(&mut self, at: Place, customer: u32, front: &[u8]) {
+        let [w, d, c] = key(at, customer);
+        self.act_with_text(Step::PutDataLeft, &[w, d, c, MAX_DATA as i64], front);
     }
 
     fn take_number(&mut self, at: Place) -> DistrictRow {

@@ -34,7 +34,16 @@ unsafe extern "C" {
         tail: *mut *const c_char,
     ) -> c_int;
     pub fn sqlite3_bind_int64(statement: *mut sqlite3_stmt, place: c_int, number: i64) -> c_int;
+    pub fn sqlite3_bind_text(
+        statement: *mut sqlite3_stmt,
+        place: c_int,
+        text: *const c_char,
+        length: c_int,
+        give_back: *const c_void,
+    ) -> c_int;
     pub fn sqlite3_step(statement: *mut sqlite3_stmt) -> c_int;
     pub fn sqlite3_column_int64(statement: *mut sqlite3_stmt, column: c_int) -> i64;
+    pub fn sqlite3_column_text(statement: *mut sqlite3_stmt, column: c_int) -> *const u8;
+    pub fn sqlite3_column_bytes(statement: *mut sqlite3_stmt, column: c_int) -> c_int;
     pub fn sqlite3_reset(statement: *mut sqlite3_stmt) -> c_int;
 }

@@ -1,7 +1,7 @@
 //! What the transactions ask of a store, and how one is filled, and read as a whole for the report.
 
 use crate::scale::Scale;
-use crate::tables::{Cents, Customer, District, History, Item, Order, OrderLine, Rows, Stock, Tables, Warehouse};
+use crate::tables::{Cents, Customer, Data, District, History, Item, Order, OrderLine, Rows, Stock, Tables, Warehouse};
 
 /// The columns of a warehouse, and of a district. Taxes are in ten-thousandths.
 #[derive(Clone, Copy)]
@@ -37,6 +37,7 @@ pub trait Store {
     fn add_stock(&mut self, warehouse: u32, item: u32, row: &Stock);
     fn add_district(&mut self, at: Place, row: &DistrictRow);
     fn add_customer(&mut self, at: Place, customer: u32, row: &Customer);
+    fn add_data(&mut self, at: Place, customer: u32, data: &Data);
     fn add_order(&mut self, at: Place, order: u32, row: &Order);
     /// Adds a row of NEW-ORDER.
     fn add_waiting(&mut self, at: Place, order: u32);
@@ -48,6 +49,7 @@ pub trait Store {
     fn district(&mut self, at: Place) -> DistrictRow;
     fn stock(&mut self, warehouse: u32, item: u32) -> Stock;
     fn customer(&mut self, at: Place, customer: u32) -> Customer;
+    fn data(&mut self, at: Place, customer: u32) -> Data;
     /// The middle one of the customers who have a last name, by first name, rounded up (TPC-C 2.5.2.2).
     fn customer_named(&mut self, at: Place, last_name: u32) -> u32;
     fn order(&mut self, at: Place, order: u32) -> Option<Order>;
@@ -58,8 +60,10 @@ pub trait Store {
 
     fn pay_warehouse(&mut self, warehouse: u32, amount: Cents);
     fn pay_district(&mut self, at: Place, amount: Cents);
-    /// Gives the balance behind it.
-    fn pay_customer(&mut self, at: Place, customer: u32, amount: Cents) -> Cents;
+    /// Gives the balance behind it, and whether the customer has bad credit.
+    fn pay_customer(&mut self, at: Place, customer: u32, amount: Cents) -> (Cents, bool);
+    /// Puts a text at the left of C_DATA, and cuts what is then too long.
+    fn put_data_left(&mut self, at: Place, customer: u32, front: &[u8]);
 
     /// Raises the next order's number, and gives the row as it was.
     fn take_number(&mut self, at: Place) -> DistrictRow;
@@ -108,6 +112,9 @@ fn fill_district(store: &mut impl Store, at: Place, row: &District) {
     for (customer, row) in (1..).zip(&row.customers.0) {
         store.add_customer(at, customer, row);
     }
+    for (customer, data) in (1..).zip(&row.data.0) {
+        store.add_data(at, customer, data);
+    }
     for (number, order) in (1..).zip(&row.orders.0) {
         store.add_order(at, number, order);
         for (place, line) in (1..).zip(&row.lines[order.line_places()]) {
@@ -119,7 +126,7 @@ fn fill_district(store: &mut impl Store, at: Place, row: &District) {
     }
 }
 
-/// All rows of a store, as arrays.
+/// All rows of a store, as arrays, but for C_DATA, which the report doesn't look at.
 pub fn tables_of(store: &mut impl Store, scale: &Scale) -> Tables {
     store.begin(false);
     let tables = Tables {
@@ -150,6 +157,7 @@ fn district_of(store: &mut impl Store, scale: &Scale, at: Place) -> District {
         year_to_date,
         next_order,
         customers: Rows::numbered(scale.customers, |customer| store.customer(at, customer)),
+        data: Rows(Vec::new()),
         orders: Rows(orders),
         lines,
         waiting: store.waiting(at).into(),

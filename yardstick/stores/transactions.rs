@@ -72,7 +72,10 @@ impl<S: Store> Stored<S> {
         self.store.pay_warehouse(warehouse, amount);
         self.store.pay_district(Place { warehouse, district }, amount);
         let customer = self.customer_of(of, who);
-        let balance = self.store.pay_customer(of, customer, amount);
+        let (balance, has_bad_credit) = self.store.pay_customer(of, customer, amount);
+        if has_bad_credit {
+            self.store.put_data_left(of, customer, text.data_front(payment, customer));
+        }
         self.store.add_history(&History {
             warehouse,
             district,
@@ -185,7 +188,10 @@ impl<S: Store> Stored<S> {
                 let row = store.customer(Place { warehouse, district }, customer);
                 text.customer_row(warehouse, district, customer, &row);
             }
-            Key::CustomerData { warehouse, district, customer } => text.data_row(warehouse, district, customer),
+            Key::CustomerData { warehouse, district, customer } => {
+                let data = store.data(Place { warehouse, district }, customer);
+                text.data_row(warehouse, district, customer, &data);
+            }
             Key::Stock { warehouse, item } => text.stock_row(warehouse, item, &store.stock(warehouse, item)),
             Key::Order { warehouse, district, order } => {
                 let row = store.order(Place { warehouse, district }, order);
