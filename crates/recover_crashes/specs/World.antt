@@ -10,8 +10,8 @@ use Rattle.book.specs.Batches.{BatchView}
 use Rattle.book.specs.declared.entry.Entry.{Entry}
 use Rattle.logfile.specs.Standing.{LogFileView, Stands}
 
--- what doesn't change in a life: the version of its log files, the tables that it began with, which so many past commits
--- have made, the number that seeded their population, and the board's plan
+-- what doesn't change in a life: the version of its log files, the tables that it began with, which so many past
+-- commits have made, the number that seeded their population, and the board's plan
 pub record Life : Type 0 where
   pub version : ℕ
   pub first : Database
