@@ -23,6 +23,7 @@ use Rattle.book.specs.History.{replay}
 use Rattle.book.specs.declared.entry.Entry.{Entry}
 use Rattle.recover_found.specs.Found.{found}
 use Rattle.recover_found.specs.Rebuilt.{AreLeft, IsRebuilt}
+use Rattle.recover_laws.specs.Found.{durable_cut}
 use Rattle.recover_laws.specs.Recovered.{GiveTheReplay}
 use Rattle.recover_files.specs.Files.{AreFilesOf}
 use Rattle.recover_files.specs.Recovered.{IsRecovery}
@@ -133,6 +134,6 @@ module _ {version : ℕ} (t0 : Database) (seed : ℕ) (strings : List (List ℕ)
       let tables = give.is_replay (without_texts (database r.tables)) (rebuilt_without t0 (database r.tables) (found left) rebuilt) in
       record {
         tables = tables;
-        texts = ap (λ (t : Database). t.texts) tables ∙ replay_keeps_texts (without_texts t0) _ refl;
+        texts = ap (λ (t : Database). t.texts) tables ∙ replay_keeps_texts (without_texts t0) (durable_cut left history) refl;
         commits = is.of_files.commits ∙ ap (λ (files : List (List BodyView)). length (found files)) same ∙ give.as_many;
       }
