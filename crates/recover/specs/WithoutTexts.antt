@@ -1,5 +1,5 @@
 -- Files of version 1, in which nothing of C_DATA stands, and what recovery gives of them.
-use Rattle.std.specs.Prelude.{◌≡◌, ℕ, ◌≤◌, false, List, ◌++◌, length}
+use Rattle.std.specs.Prelude.{◌≡◌, ◌≤◌, false, List, ◌++◌, length}
 use Rattle.std.specs.List.{All, Contains}
 use Rattle.tables.specs.Database.{Database, database}
 use Rattle.log_text.specs.Bodies.{BodyView}
