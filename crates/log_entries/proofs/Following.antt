@@ -39,7 +39,7 @@ use Rattle.book.specs.Streams.{last_number}
 use Rattle.book.specs.declared.entry.Entry.{Entry}
 use Rattle.log_entries.specs.Logged.{writes_of, logged_entry}
 use Rattle.log_entries.proofs.Lawful.{are_lawful}
-use Rattle.log_entries.specs.Following.{body_of_batch, last_epoch_of, behind_batch, Continues}
+use Rattle.log_entries.specs.Following.{IsOfVersion, body_of_batch, last_epoch_of, behind_batch, Continues}
 
 -- what is asked of an entry, but for its turn
 pub record IsFit (h : HeaderView) (least mark : ℕ) (e : Entry) : Type 0 where
@@ -49,7 +49,7 @@ pub record IsFit (h : HeaderView) (least mark : ℕ) (e : Entry) : Type 0 where
   pub terminal : e.terminal < MAX_TERMINALS
   pub asked : e.terminal % h.loggers ≡ h.logger
   pub writes : are_writes h.scale (writes_of h.scale e.writes) ≡ true
-  pub of_version : are_of_version h.version (writes_of h.scale e.writes) ≡ true
+  pub of_version : IsOfVersion h.version h.scale e
 
 module _ (h : HeaderView) (mark : ℕ) where
   fits : (number : ℕ) (last : Last) (e : Entry) → number < e.number → last.epoch ≤ epoch_of e.tid → e.tid % 8 ≡ 0 → IsFit h last.mark mark e
@@ -110,10 +110,14 @@ rise_from_zero before (e ∷ es) rise = (omega (arith, rise.0), rise.1)
 of_today : (version : ℕ) (ws : List Write) → version ≡ VERSION → are_of_version version ws ≡ true
 of_today version ws same = ap (λ (n : ℕ). are_of_version n ws) same
 
--- a batch that continues a file of today's version may follow where the file stands
-pub batch_follows : (h : HeaderView) (count number : ℕ) (last : Last) (b : BatchView) → h.version ≡ VERSION → IsBatch b → Continues h count number last b → last.epoch ≤ last.mark + 1
+pub all_of_today : (h : HeaderView) (b : BatchView) → h.version ≡ VERSION → All (IsOfVersion h.version h.scale) b.entries
+all_of_today h b same = λ k d lt. of_today h.version (writes_of h.scale (get_or b.entries k d).writes) same
+
+-- a batch that continues a file, of entries that may stand in one of its version, may follow where the file stands
+pub batch_follows : (h : HeaderView) (count number : ℕ) (last : Last) (b : BatchView) → All (IsOfVersion h.version h.scale) b.entries → IsBatch b
+    → Continues h count number last b → last.epoch ≤ last.mark + 1
     → IsScale b.scale → body_after h last (body_of_batch b) ≡ Some (behind_batch last b)
-batch_follows h count number last b version is at epoch scale =
+batch_follows h count number last b versions is at epoch scale =
     let marks : (nat_le last.mark b.mark && nat_le b.mark MAX_MARK) ≡ true
     = and_from _ _ (le-leb last.mark b.mark (omega (arith, at.mark_before, is.marks_rise))) (le-leb b.mark MAX_MARK (omega (arith, is.last_mark))) in
     let rise : NumbersRise 0 b.entries = rise_from_zero b.number_before b.entries is.rise in
@@ -124,7 +128,7 @@ batch_follows h count number last b version is at epoch scale =
       terminal = (is.asked k d lt).0;
       asked = subst (λ (n : ℕ). (get_or b.entries k d).terminal % n ≡ h.logger) at.loggers ((is.asked k d lt).1 ∙ at.logger);
       writes = subst (λ (s : Sizes). are_writes s (writes_of s (get_or b.entries k d).writes) ≡ true) at.scale (writes_lawful b.scale scale (get_or b.entries k d) (is.each k d lt));
-      of_version = of_today h.version (writes_of h.scale (get_or b.entries k d).writes) version;
+      of_version = versions k d lt;
     }) in
     let epochs : All (λ (e : Entry). last.epoch ≤ epoch_of e.tid) b.entries
     = (λ k d lt. omega (arith, epoch, (is.epochs k d lt).0, at.mark_before)) in

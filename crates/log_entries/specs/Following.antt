@@ -1,12 +1,18 @@
 -- A batch, as the body that its log file gets.
-use Rattle.std.specs.Prelude.{◌≡◌, ℕ, List, [], ◌∷◌, map}
+use Rattle.std.specs.Prelude.{◌≡◌, ℕ, true, List, [], ◌∷◌, map}
+use Rattle.tables.specs.Sizes.{Sizes}
 use Rattle.tidword.specs.TidWord.{epoch_of}
 use Rattle.log_header.specs.Header.{HeaderView}
 use Rattle.log_text.specs.Bodies.{BodyView, Entries}
+use Rattle.log_text.specs.Writes.{are_of_version}
 use Rattle.log_text.specs.declared.last.Last.{Last}
 use Rattle.book.specs.Batches.{BatchView}
 use Rattle.book.specs.declared.entry.Entry.{Entry}
-use Rattle.log_entries.specs.Logged.{logged_entry}
+use Rattle.log_entries.specs.Logged.{writes_of, logged_entry}
+
+-- an entry may stand in a file of this version: in an older one than today's it writes no text
+abbrev pub IsOfVersion : ℕ → Sizes → Entry → Type 0
+IsOfVersion version s e = are_of_version version (writes_of s e.writes) ≡ true
 
 -- its mark, and its entries as a log file has them
 abbrev pub body_of_batch : BatchView → BodyView

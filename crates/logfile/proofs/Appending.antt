@@ -18,7 +18,7 @@ use Rattle.book.specs.Batches.{BatchView, IsBatch}
 use Rattle.book.specs.Loggable.{NumbersRise}
 use Rattle.book.specs.Streams.{last_number}
 use Rattle.log_entries.specs.Following.{Continues, behind_batch, body_of_batch}
-use Rattle.log_entries.proofs.Following.{batch_follows, batch_near, number_rises}
+use Rattle.log_entries.proofs.Following.{all_of_today, batch_follows, batch_near, number_rises}
 use Rattle.logfile.specs.Staged.{IsSettled, HasGate, IsStaged}
 use Rattle.logfile.specs.Standing.{Stands, IsOpen, IsWithOrWithout, IsKept}
 use Rattle.logfile.proofs.Moments.{only_wider, only_last}
@@ -247,7 +247,7 @@ no_call h bodies body end last seen story s = record {
 pub batch_body : (h : HeaderView) (count number : ℕ) (last now : Last) (b : BatchView) → IsHeader h → h.version ≡ VERSION → IsBatch b → Continues h count number last b
     → last.epoch ≤ last.mark + 1 → now ≡ behind_batch last b → body_after h last (body_of_batch b) ≡ Some now
 batch_body h count number last now b is version batch at epoch now_is =
-    batch_follows h count number last b version batch at epoch (subst IsScale (sym at.scale) is.scale) ∙ ap Some (sym now_is)
+    batch_follows h count number last b (all_of_today h b version) batch at epoch (subst IsScale (sym at.scale) is.scale) ∙ ap Some (sym now_is)
 
 -- its entries are counted, and their numbers rise
 pub batch_counts : (h : HeaderView) (count number entries upto : ℕ) (last : Last) (b : BatchView) → IsBatch b → Continues h count number last b

@@ -1,22 +1,20 @@
 -- Tables whose Payments leave C_DATA alone: what is rebuilt of files is so of these too, and their replay keeps C_DATA.
-use Rattle.std.proofs.Common.{◌≡◌, ℕ, Bool, false, ◌&&◌, List, [], ◌∷◌, ◌++◌, Option, Some, None, length, refl, sym, ap, ◌∙◌, subst}
-use Rattle.std.specs.Prelude.{cond}
+use Rattle.std.proofs.Common.{◌≡◌, ℕ, Bool, false, ◌&&◌, List, [], ◌∷◌, Option, Some, None, length, refl, sym, ap, ◌∙◌, subst}
 use Rattle.tables.specs.Database.{Database, database}
-use Rattle.tables.specs.Apply.{after, apply, left_by, order_unless}
+use Rattle.tables.specs.Apply.{after, left_by, order_unless}
 use Rattle.tables.specs.NewOrder.{first_missing}
 use Rattle.tables.specs.Payment.{changes_text, front_of, payer_number}
-use Rattle.tables.specs.Records.{key_of, number_of_key}
+use Rattle.tables.specs.Records.{key_of}
 use Rattle.tables.specs.Rows.{row_at, rows}
 use Rattle.tables.specs.declared.input.Input.{Input}
 use Rattle.tables.specs.declared.input.Input.TheVariants as input
-use Rattle.tables.specs.declared.new_order.NewOrderInput.{NewOrderInput}
 use Rattle.tables.specs.declared.records.RecordKey.{RecordKey}
 use Rattle.tables.specs.declared.records.RecordKey.TheVariants as key
 use Rattle.tables.proofs.Orders.{exact_customer}
 use Rattle.tables_laws.proofs.Updates.{update_where-none}
 use Rattle.customer_data.specs.Text.{put_left}
 use Rattle.customer_data.specs.Payments.{payment_text}
-use Rattle.encoding.specs.Held.{IsTableRecord, by_key, AreTables}
+use Rattle.encoding.specs.Held.{by_key, AreTables}
 use Rattle.log_text.specs.Bodies.{BodyView}
 use Rattle.log_text.specs.Entries.{EntryView}
 use Rattle.book.specs.History.{replay}

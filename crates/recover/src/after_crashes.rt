@@ -9,7 +9,7 @@ ghost use Rattle.recover_crashes.specs.Recovering.{HoldTheHistory};
 ghost use Rattle.recover_laws.specs.Recovered.{IsHistoryOf, IsFirstDatabase};
 ghost use Rattle.recover_lives.specs.World.{origin_of, first_world};
 ghost use Rattle.recover_lives.specs.Events.{LivesEvent, MayOccurInTurn, MayStrike, lives_after_all};
-ghost use Rattle.recover_files.specs.Files.{AreFiles, AreFilesOf};
+ghost use Rattle.recover_files.specs.Files.{AreFilesOf};
 ghost use Rattle.recover_files.specs.Recovered.{IsRecovery, HasGap};
 ghost use Rattle.recover.specs.Beginning.{AreInTurn, IsReplayOf, IsBeginningOf};
 ghost use Rattle.recover_files.specs.declared.recovering.Recovered.{Recovered as RecoveredValue};
@@ -37,10 +37,10 @@ pub fn recovery_is_the_replay()
 }
 
 /// Whatever happens over the lives of a database, within each, in crashes and in restarts, and whatever strings a crash
-/// then leaves of its log files: they are its log files, so that `recover` doesn't refuse them by `Damaged`; they have
-/// no gap, so that it doesn't refuse them by `Gap`; and what it gives is the replay of a beginning of what committed
-/// over all lives, up to a durable epoch that is no less than the board's D, with each commit whose reply was released
-/// (Silo, section 4.10). The function does nothing: its contract is the law.
+/// then leaves of its log files, of whichever version: they are its log files, so that `recover` doesn't refuse them by
+/// `Damaged`; they have no gap, so that it doesn't refuse them by `Gap`; and what it gives is the replay of a beginning
+/// of what committed over all lives, up to a durable epoch that is no less than the board's D, with each commit whose
+/// reply was released (Silo, section 4.10). The function does nothing: its contract is the law.
 pub fn every_crash_is_recovered()
     ensures files { (life : Life) (files : ℕ → LogFileView DiskView) (events : List LivesEvent)
         (by_logger : ℕ → List ℕ)
@@ -48,7 +48,7 @@ pub fn every_crash_is_recovered()
         → MayOccurInTurn (origin_of life) (first_world life files) events
         → MayStrike (origin_of life) (lives_after_all (origin_of life) (first_world life files) events) by_logger
         → (strings : List (List ℕ)) → AreInTurn life.plan.loggers by_logger strings
-        → (left : List (List BodyView)) × AreFiles life.first.scale life.seed strings left }
+        → (left : List (List BodyView)) × AreFilesOf life.version life.first.scale life.seed strings left }
     ensures no_gap { (life : Life) (files : ℕ → LogFileView DiskView) (events : List LivesEvent)
         (by_logger : ℕ → List ℕ)
         → IsFirstDatabase life.first → IsFirst life files

@@ -33,7 +33,7 @@ module _ (life : Life) (w : World) (k : ℕ) (batch : BatchView) (old : List Bod
     of_stream : (P : Entry → Type 0) → All P (stream life.plan.loggers k w.history) → All P batch.entries
     of_stream P all = subst (All P) (sym waits) (all_behind P (taken landed) lane.waiting (subst (All P) lane.all all))
 
-    of_history : (P : Entry → Type 0) → All P w.history → All P batch.entries
+    pub of_history : (P : Entry → Type 0) → All P w.history → All P batch.entries
     of_history P all = of_stream P (All-filter (λ (e : Entry). e.terminal % life.plan.loggers == k) P w.history all)
 
     pub is_batch : Replays (life.past + 1) life.first w.history → AreStamped w.history → All (IsFitForLogs life.first.scale) w.history

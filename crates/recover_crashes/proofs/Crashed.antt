@@ -57,7 +57,7 @@ module _ (t0 : Database) (life : Life) (old : ℕ → List BodyView) (past earli
   left_at : (bytes : List ℕ) (l : ℕ) → l < n → MayLeave (w.logger l).file.disk.story bytes
       → (batches : List BatchView) × IsLeft (header_of life l) (stream n l w.history) (old l) (local_of w l) bytes batches
   left_at bytes l lt may = lane_left (header_of life l) life.past w.found (stream n l w.history) (old l) (sound.landed l) (w.logger l).file (local_of w l)
-      bytes refl (w.logger l).flight (sound.lanes l lt) may
+      bytes (w.logger l).flight (sound.lanes l lt) may
 
   -- the old bodies have the past
   old_has : (l : ℕ) → l < n → counted (counts_in n old life.plan.base) (old l) ≡ map (logged_entry t0.scale) (stream n l past)

@@ -12,14 +12,13 @@ use Rattle.tables.specs.Sizes.{IsScale}
 use Rattle.tidword.specs.TidWord.{epoch_of}
 use Rattle.log_disk.specs.Crashes.{MayLeave}
 use Rattle.log_header.specs.Header.{HeaderView}
-use Rattle.log_header.specs.declared.header.TheConstants.{VERSION}
 use Rattle.log_text.specs.Bodies.{BodyView, entries_in, body_after, bodies_after, start}
 use Rattle.log_text.specs.File.{IsFile}
 use Rattle.book.specs.Batches.{BatchView, IsBatch}
 use Rattle.book.specs.Streams.{last_number}
 use Rattle.book.specs.declared.entry.Entry.{Entry}
 use Rattle.log_entries.specs.Logged.{logged_entry}
-use Rattle.log_entries.specs.Following.{body_of_batch, behind_batch, Continues}
+use Rattle.log_entries.specs.Following.{IsOfVersion, body_of_batch, behind_batch, Continues}
 use Rattle.log_entries.proofs.Following.{batch_follows, batch_near}
 use Rattle.log_text.proofs.OneFile.{after_push}
 use Rattle.logfile.specs.Standing.{LogFileView, Stands}
@@ -45,10 +44,11 @@ bodies_of batches = map body_of_batch batches
 abbrev pub IsAbove : ℕ → Entry → Type 0
 IsAbove mark e = mark < epoch_of e.tid
 
--- a batch that is under way: it goes on where the file ends, and what waits is above its mark
+-- a batch that is under way: it goes on where the file ends, its entries may stand there, and what waits is above its mark
 pub record IsNext (found : ℕ) (waiting : List Entry) (batch : BatchView) (file : LogFileView DiskView) : Type 0 where
   pub is_batch : IsBatch batch
   pub continues : Continues file.header file.count file.number file.last batch
+  pub versions : All (IsOfVersion file.header.version file.header.scale) batch.entries
   pub low : batch.mark < found
   pub above : All (IsAbove batch.mark) waiting
 
@@ -79,6 +79,7 @@ next_later found later waiting more Idle file no_less new next = tt
 next_later found later waiting more (Flying stage batch) file no_less new next = record {
   is_batch = next.is_batch;
   continues = next.continues;
+  versions = next.versions;
   low = omega (arith, next.low, no_less);
   above = All-append (IsAbove batch.mark) waiting more next.above (λ k d lt. omega (arith, next.low, no_less, new k d lt));
 }
@@ -137,9 +138,9 @@ all_that_waits h past found entries old landed file local batch lane continues r
 
 pub lane_takes : (h : HeaderView) (past found : ℕ) (entries : List Entry) (old : List BodyView) (landed : List BatchView) (file : LogFileView DiskView)
     (local : ℕ) (batch : BatchView) → FitsLane h past found entries old landed file Idle local → IsBatch batch
-    → Continues file.header file.count file.number file.last batch → batch.entries ≡ drop batch.first entries
+    → All (IsOfVersion h.version h.scale) batch.entries → Continues file.header file.count file.number file.last batch → batch.entries ≡ drop batch.first entries
     → FitsLane h past (batch.mark + 1) entries old landed file (Flying BatchTaken batch) local
-lane_takes h past found entries old landed file local batch lane is continues rest =
+lane_takes h past found entries old landed file local batch lane is versions continues rest =
     let waits = all_that_waits h past found entries old landed file local batch lane continues rest in
     record {
       header = lane.header;
@@ -152,7 +153,13 @@ lane_takes h past found entries old landed file local batch lane is continues re
       near = lane.near;
       low = omega (arith, is.marks_rise, continues.mark_before);
       above = subst (All (IsAbove file.last.mark)) (sym waits ∙ sym (append-nil batch.entries)) lane.above;
-      next = record { is_batch = is; continues = continues; low = omega arith; above = All-nil (IsAbove batch.mark) };
+      next = record {
+        is_batch = is;
+        continues = continues;
+        versions = subst (λ (x : HeaderView). All (IsOfVersion x.version x.scale) batch.entries) (sym lane.header) versions;
+        low = omega arith;
+        above = All-nil (IsAbove batch.mark);
+      };
       kept = lane.kept;
     }
 
@@ -171,9 +178,13 @@ module _ (h : HeaderView) (past found : ℕ) (entries : List Entry) (old : List 
     continues : Continues h file.count file.number file.last batch
     continues = subst (λ (x : HeaderView). Continues x file.count file.number file.last batch) lane.header lane.next.continues
 
+    versions : All (IsOfVersion h.version h.scale) batch.entries
+    versions = subst (λ (x : HeaderView). All (IsOfVersion x.version x.scale) batch.entries) lane.header lane.next.versions
+
     -- the batch's body may follow
-    pub after : h.version ≡ VERSION → body_after h file.last (body_of_batch batch) ≡ Some (behind_batch file.last batch)
-    after today = batch_follows h file.count file.number file.last batch today lane.next.is_batch continues lane.near (subst IsScale (sym scale) lane.disk.placed.header.scale)
+    pub after : body_after h file.last (body_of_batch batch) ≡ Some (behind_batch file.last batch)
+    after = batch_follows h file.count file.number file.last batch versions lane.next.is_batch continues lane.near
+        (subst IsScale (sym scale) lane.disk.placed.header.scale)
 
     taken_landed : taken landed ++ batch.entries ≡ taken (landed ++ batch ∷ [])
     taken_landed = ap (λ (l : List Entry). taken landed ++ l) (sym (append-nil batch.entries))
@@ -210,7 +221,13 @@ module _ (h : HeaderView) (past found : ℕ) (entries : List Entry) (old : List 
       near = lane.near;
       low = lane.low;
       above = lane.above;
-      next = record { is_batch = lane.next.is_batch; continues = lane.next.continues; low = lane.next.low; above = lane.next.above };
+      next = record {
+        is_batch = lane.next.is_batch;
+        continues = lane.next.continues;
+        versions = lane.next.versions;
+        low = lane.next.low;
+        above = lane.next.above;
+      };
       kept = lane.kept;
     }
 
@@ -242,38 +259,38 @@ module _ (h : HeaderView) (past found : ℕ) (entries : List Entry) (old : List 
     }
 
 -- what a call of the device makes of a logger
-pub lane_called : (h : HeaderView) → h.version ≡ VERSION → (past found : ℕ) (entries : List Entry) (old : List BodyView) (landed : List BatchView) (x : Logger) (stage : Stage)
+pub lane_called : (h : HeaderView) (past found : ℕ) (entries : List Entry) (old : List BodyView) (landed : List BatchView) (x : Logger) (stage : Stage)
     (batch : BatchView) (result : Result (Unit {0}) Refusal) (disk : DiskView) → FitsLane h past found entries old landed x.file (Flying stage batch) x.local
     → IsCalled stage (body_of_batch batch) x.file result disk
     → let y : Logger = called (Flying stage batch) result (on_disk x.file disk) x in
     FitsLane h past found entries old (landed_by (Flying stage batch) result landed) y.file y.flight y.local
-lane_called h today past found entries old landed x BatchTaken batch (Ok u) disk lane call =
+lane_called h past found entries old landed x BatchTaken batch (Ok u) disk lane call =
     lane_moves h past found entries old landed x.file BatchTaken batch x.local lane TextWritten disk x.file.failed
     (text_is_written h (old ++ bodies_of landed) (body_of_batch batch) x.file disk u lane.disk call)
-lane_called h today past found entries old landed x TextWritten batch (Ok u) disk lane call =
+lane_called h past found entries old landed x TextWritten batch (Ok u) disk lane call =
     lane_moves h past found entries old landed x.file TextWritten batch x.local lane TextSynced disk x.file.failed
     (text_is_synced h (old ++ bodies_of landed) (body_of_batch batch) x.file disk u lane.disk call)
-lane_called h today past found entries old landed x TextSynced batch (Ok u) disk lane call =
+lane_called h past found entries old landed x TextSynced batch (Ok u) disk lane call =
     lane_moves h past found entries old landed x.file TextSynced batch x.local lane GateOpened disk x.file.failed
     (gate_is_opened h (old ++ bodies_of landed) (body_of_batch batch) x.file disk u lane.disk call)
-lane_called h today past found entries old landed x GateOpened batch (Ok u) disk lane call =
+lane_called h past found entries old landed x GateOpened batch (Ok u) disk lane call =
     lane_lands h past found entries old landed x.file GateOpened batch x.local lane disk
     (body_is_there h (old ++ bodies_of landed) (body_of_batch batch) x.file disk u (behind_batch x.file.last batch) lane.disk call
-    (after h past found entries old landed x.file GateOpened batch x.local lane today))
-lane_called h today past found entries old landed x DeviceFailed batch (Ok u) disk lane call = absurd call
-lane_called h today past found entries old landed x BatchTaken batch (Err refusal) disk lane call =
+    (after h past found entries old landed x.file GateOpened batch x.local lane))
+lane_called h past found entries old landed x DeviceFailed batch (Ok u) disk lane call = absurd call
+lane_called h past found entries old landed x BatchTaken batch (Err refusal) disk lane call =
     lane_moves h past found entries old landed x.file BatchTaken batch x.local lane DeviceFailed disk true
     (has_failed h (old ++ bodies_of landed) (body_of_batch batch) x.file disk BatchTaken refusal lane.disk call)
-lane_called h today past found entries old landed x TextWritten batch (Err refusal) disk lane call =
+lane_called h past found entries old landed x TextWritten batch (Err refusal) disk lane call =
     lane_moves h past found entries old landed x.file TextWritten batch x.local lane DeviceFailed disk true
     (has_failed h (old ++ bodies_of landed) (body_of_batch batch) x.file disk TextWritten refusal lane.disk call)
-lane_called h today past found entries old landed x TextSynced batch (Err refusal) disk lane call =
+lane_called h past found entries old landed x TextSynced batch (Err refusal) disk lane call =
     lane_moves h past found entries old landed x.file TextSynced batch x.local lane DeviceFailed disk true
     (has_failed h (old ++ bodies_of landed) (body_of_batch batch) x.file disk TextSynced refusal lane.disk call)
-lane_called h today past found entries old landed x GateOpened batch (Err refusal) disk lane call =
+lane_called h past found entries old landed x GateOpened batch (Err refusal) disk lane call =
     lane_moves h past found entries old landed x.file GateOpened batch x.local lane DeviceFailed disk true
     (has_failed h (old ++ bodies_of landed) (body_of_batch batch) x.file disk GateOpened refusal lane.disk call)
-lane_called h today past found entries old landed x DeviceFailed batch (Err refusal) disk lane call = absurd call
+lane_called h past found entries old landed x DeviceFailed batch (Err refusal) disk lane call = absurd call
 
 -- ---- a crash
 -- what a crash leaves of a logger: a file of batches that its stream begins with, and what comes behind them is above its last mark
@@ -303,15 +320,15 @@ module _ (h : HeaderView) (past found : ℕ) (entries : List Entry) (old : List 
           kept = omega (arith, kept, mark);
         }
 
-    pub lane_left : h.version ≡ VERSION → (flight : Flight) → FitsLane h past found entries old landed file flight local → MayLeave file.disk.story bytes
+    pub lane_left : (flight : Flight) → FitsLane h past found entries old landed file flight local → MayLeave file.disk.story bytes
         → (batches : List BatchView) × IsLeft h entries old local bytes batches
-    lane_left today Idle lane may = (
+    lane_left Idle lane may = (
       landed,
       sure lane.waiting (subst (λ (b : List ℕ). IsFile b h (old ++ bodies_of landed)) (sym (lane.disk.settled bytes may)) lane.disk.file)
           lane.disk.lawful lane.all lane.above lane.logged lane.kept,
     )
-    lane_left today (Flying stage batch) lane may =
-        let follows = after h past found entries old landed file stage batch local lane today in
+    lane_left (Flying stage batch) lane may =
+        let follows = after h past found entries old landed file stage batch local lane in
         ⊎_elim
         (λ without. (landed, sure (batch.entries ++ lane.waiting) without lane.disk.placed.lawful lane.all lane.above lane.logged lane.kept))
         (λ with. let bodies = bodies_landed h past found entries old landed file stage batch local lane in

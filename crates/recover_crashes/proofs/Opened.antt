@@ -7,6 +7,7 @@ use Rattle.board.specs.Words.{last_epoch}
 use Rattle.log_header.specs.Header.{HeaderView}
 use Rattle.log_text.specs.Bodies.{BodyView, start}
 use Rattle.book.specs.declared.entry.Entry.{Entry}
+use Rattle.log_entries.specs.Following.{IsOfVersion}
 use Rattle.logfile.specs.Standing.{LogFileView, Stands}
 use Rattle.recover_found.specs.Found.{last_mark}
 use Rattle.recover_crashes.specs.World.{Life, DiskView, Idle, header_of, opening, IsOpened, IsFirst}
@@ -47,6 +48,7 @@ opens life old files begins marks low = record {
   replays = tt;
   stamped = tt;
   fit = All-nil (IsFitForLogs life.first.scale);
+  versions = All-nil (IsOfVersion life.version life.first.scale);
   epochs = All-nil (λ (e : Entry). epoch_of e.tid ≤ life.plan.base + 1);
   ends = omega (arith, low);
   released = All-nil (MayTell (opening life.plan files));

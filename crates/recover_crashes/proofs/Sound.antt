@@ -14,12 +14,13 @@ use Rattle.book.specs.History.{Replays}
 use Rattle.book.specs.Stamps.{AreStamped}
 use Rattle.book.specs.Streams.{stream}
 use Rattle.book.specs.declared.entry.Entry.{Entry}
+use Rattle.log_entries.specs.Following.{IsOfVersion}
 use Rattle.recover_crashes.specs.World.{Life, DiskView, Stage, BatchTaken, TextWritten, TextSynced, GateOpened, DeviceFailed, Flight, Idle, Flying, Logger, World, header_of}
 use Rattle.recover_crashes.specs.Events.{Event, Commit, Take, LoadEpoch, Advance, CallDevice, Confirm, LoadMark, RaiseDurable, Release}
 use Rattle.recover_crashes.specs.Events.{MayTake, MayCall, MayHappen, with_logger, on_disk, called, confirmed, with_mark, published, world_after, MayHappenInTurn, world_after_all}
 use Rattle.recover_crashes.specs.Recovering.{IsFitForLogs}
 use Rattle.recover_crashes.proofs.Lists.{each_set, each_set_two}
-use Rattle.recover_crashes.proofs.Batches.{is_batch}
+use Rattle.recover_crashes.proofs.Batches.{of_history, is_batch}
 use Rattle.recover_crashes.proofs.Lanes.{FitsLane, landed_by, lane_goes_on, lane_later, lane_confirmed, lane_takes, lane_called}
 
 -- the marks that a publication has loaded, newest first, are no larger than the loggers' local marks
@@ -61,6 +62,7 @@ pub record IsSound (life : Life) (old : ℕ → List BodyView) (w : World) : Typ
   pub replays : Replays (life.past + 1) life.first w.history
   pub stamped : AreStamped w.history
   pub fit : All (IsFitForLogs life.first.scale) w.history
+  pub versions : All (IsOfVersion life.version life.first.scale) w.history
   pub epochs : All (λ e. epoch_of e.tid ≤ w.found) w.history
   pub ends : w.epoch ≤ last_epoch
   pub released : All (MayTell w) w.released
@@ -92,6 +94,7 @@ module _ (life : Life) (old : ℕ → List BodyView) (w : World) (sound : IsSoun
         replays = sound.replays;
         stamped = sound.stamped;
         fit = sound.fit;
+        versions = sound.versions;
         epochs = All-weaker (λ (e : Entry). epoch_of e.tid ≤ w.found) (λ (e : Entry). epoch_of e.tid ≤ found) (λ e low. omega (arith, low, later)) w.history
             sound.epochs;
         ends = sound.ends;
@@ -117,6 +120,7 @@ module _ (life : Life) (old : ℕ → List BodyView) (w : World) (sound : IsSoun
     replays = may.replays;
     stamped = may.stamped;
     fit = All-push (IsFitForLogs life.first.scale) w.history entry sound.fit (record { cap = may.cap; asked = may.asked; loggable = may.loggable });
+    versions = All-push (IsOfVersion life.version life.first.scale) w.history entry sound.versions may.of_version;
     epochs = All-push (λ (e : Entry). epoch_of e.tid ≤ epoch_of entry.tid) w.history entry
         (All-weaker (λ (e : Entry). epoch_of e.tid ≤ w.found) (λ (e : Entry). epoch_of e.tid ≤ epoch_of entry.tid) (λ e low. omega (arith, low, may.later))
         w.history sound.epochs)
@@ -136,6 +140,7 @@ module _ (life : Life) (old : ℕ → List BodyView) (w : World) (sound : IsSoun
       changes k (record (w.logger k) { flight = Flying BatchTaken batch }) (sound.landed k) (batch.mark + 1) w.durable may.later (omega arith)
       (λ lt. lane_takes (header_of life k) life.past w.found (stream n k w.history) (old k) (sound.landed k) (w.logger k).file (w.logger k).local batch lane
       (is_batch life w k batch (old k) (sound.landed k) (w.logger k).local lane may sound.replays sound.stamped sound.fit sound.epochs sound.ends)
+      (of_history life w k batch (old k) (sound.landed k) (w.logger k).local lane may (IsOfVersion life.version life.first.scale) sound.versions)
       may.continues may.entries)
       (omega arith) (sound.loaded k) sound.durable
 
@@ -149,6 +154,7 @@ module _ (life : Life) (old : ℕ → List BodyView) (w : World) (sound : IsSoun
     replays = sound.replays;
     stamped = sound.stamped;
     fit = sound.fit;
+    versions = sound.versions;
     epochs = All-weaker (λ (e : Entry). epoch_of e.tid ≤ w.found) (λ (e : Entry). epoch_of e.tid ≤ epoch) (λ e low. omega (arith, low, later)) w.history
         sound.epochs;
     ends = sound.ends;
@@ -167,6 +173,7 @@ module _ (life : Life) (old : ℕ → List BodyView) (w : World) (sound : IsSoun
     replays = sound.replays;
     stamped = sound.stamped;
     fit = sound.fit;
+    versions = sound.versions;
     epochs = sound.epochs;
     ends = omega (arith, below);
     released = sound.released;
@@ -184,7 +191,7 @@ module _ (life : Life) (old : ℕ → List BodyView) (w : World) (sound : IsSoun
       (w.logger k).local) is (sound.lanes k within) in
       let x : Logger = called (Flying stage batch) result (on_disk (w.logger k).file disk) (w.logger k) in
       changes k x (landed_by (Flying stage batch) result (sound.landed k)) w.found w.durable (omega arith) (omega arith)
-      (λ lt. lane_called (header_of life k) refl life.past w.found (stream n k w.history) (old k) (sound.landed k) (w.logger k) stage batch result disk lane may)
+      (λ lt. lane_called (header_of life k) life.past w.found (stream n k w.history) (old k) (sound.landed k) (w.logger k) stage batch result disk lane may)
       (same_local stage result) (same_marks stage result) sound.durable
     where
       same_local : (s : Stage) (r : Result (Unit {0}) Refusal) → local_of w k ≤ (called (Flying s batch) r (on_disk (w.logger k).file disk) (w.logger k)).local
@@ -233,6 +240,7 @@ module _ (life : Life) (old : ℕ → List BodyView) (w : World) (sound : IsSoun
     replays = sound.replays;
     stamped = sound.stamped;
     fit = sound.fit;
+    versions = sound.versions;
     epochs = sound.epochs;
     ends = sound.ends;
     released = All-cons (MayTell w) entry w.released may sound.released;

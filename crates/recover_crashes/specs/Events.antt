@@ -15,7 +15,7 @@ use Rattle.book.specs.Batches.{BatchView}
 use Rattle.book.specs.Loggable.{IsLoggable}
 use Rattle.book.specs.declared.entry.Entry.{Entry}
 use Rattle.tables.specs.declared.limits.TheConstants.{MAX_TERMINALS}
-use Rattle.log_entries.specs.Following.{body_of_batch, behind_batch, Continues}
+use Rattle.log_entries.specs.Following.{IsOfVersion, body_of_batch, behind_batch, Continues}
 use Rattle.logfile.specs.Standing.{LogFileView}
 use Rattle.recover_crashes.specs.World.{Life, DiskView, Stage, BatchTaken, TextWritten, TextSynced, GateOpened, DeviceFailed}
 use Rattle.recover_crashes.specs.World.{Flight, Idle, Flying, Logger, World}
@@ -36,13 +36,14 @@ pub data Event : Type 0 where
   Release : (entry : Entry) → Event
 
 -- an entry may commit, in an E that is loaded now: with it the history is still legal and stamped, and an entry may be
--- written to a log file, as the book keeps it
+-- written to a log file, as the book keeps it, and to one of the life's version
 pub record MayCommit (life : Life) (w : World) (entry : Entry) : Type 0 where
   pub replays : Replays (life.past + 1) life.first (w.history ++ entry ∷ [])
   pub stamped : AreStamped (w.history ++ entry ∷ [])
   pub cap : entry.number ≤ life.first.scale.commits
   pub asked : entry.terminal < MAX_TERMINALS
   pub loggable : IsLoggable life.first.scale entry
+  pub of_version : IsOfVersion life.version life.first.scale entry
   pub later : w.found ≤ epoch_of entry.tid
   pub loaded : epoch_of entry.tid ≤ w.epoch
 

@@ -4,15 +4,16 @@ use Rattle.std.specs.Prelude.{◌≡◌, ℕ, ◌+◌, ◌<◌, ◌≤◌, List,
 use Rattle.tables.specs.Database.{Database}
 use Rattle.board.specs.declared.rule.Plan.{Plan}
 use Rattle.log_disk.specs.Calls.{Call}
-use Rattle.log_header.specs.Header.{HeaderView, header_view}
+use Rattle.log_header.specs.Header.{HeaderView, header_of_version}
 use Rattle.log_text.specs.Bodies.{BodyView}
 use Rattle.book.specs.Batches.{BatchView}
 use Rattle.book.specs.declared.entry.Entry.{Entry}
 use Rattle.logfile.specs.Standing.{LogFileView, Stands}
 
--- what doesn't change in a life: the tables that it began with, which so many past commits have made, the number that
--- seeded their population, and the board's plan
+-- what doesn't change in a life: the version of its log files, the tables that it began with, which so many past
+-- commits have made, the number that seeded their population, and the board's plan
 pub record Life : Type 0 where
+  pub version : ℕ
   pub first : Database
   pub past : ℕ
   pub seed : ℕ
@@ -20,7 +21,7 @@ pub record Life : Type 0 where
 
 -- the header of a logger's file
 abbrev pub header_of : Life → ℕ → HeaderView
-header_of life logger = header_view logger life.plan.loggers life.first.scale life.seed
+header_of life logger = header_of_version life.version logger life.plan.loggers life.first.scale life.seed
 
 -- a modelled disk: the bytes that a read gives, and its writes and syncs, newest first
 pub record DiskView : Type 0 where

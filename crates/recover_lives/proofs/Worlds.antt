@@ -8,7 +8,7 @@ use Rattle.tidword.specs.TidWord.{epoch_of}
 use Rattle.board.specs.Words.{last_epoch}
 use Rattle.log_disk.specs.Calls.{Call}
 use Rattle.log_disk.specs.Crashes.{MayLeave}
-use Rattle.log_header.specs.Header.{HeaderView, header_view}
+use Rattle.log_header.specs.Header.{HeaderView, header_of_version}
 use Rattle.log_text.specs.Bodies.{BodyView, start}
 use Rattle.log_text.specs.Entries.{EntryView}
 use Rattle.log_text.specs.File.{IsFile}
@@ -59,6 +59,7 @@ pub record HoldsRestart (o : Origin) (old : ℕ → List BodyView) (durable top 
 pub record HoldsRun (o : Origin) (life : Life) (past earlier : List Entry) (now : World) : Type 0 where
   pub old : ℕ → List BodyView
   pub base : IsBase o.first life old past earlier
+  pub version : life.version ≡ o.version
   pub loggers : life.plan.loggers ≡ o.loggers
   pub seed : life.seed ≡ o.seed
   pub sound : IsSound life old now
@@ -75,7 +76,7 @@ run_header : (o : Origin) (life : Life) (past earlier : List Entry) (now : World
     → header_of life l ≡ header_at o l
 run_header o life past earlier now run l =
     let scale : life.first.scale ≡ o.first.scale = ap (λ (t : Database). t.scale) run.base.first ∙ replay-scale o.first past in
-    λ i. header_view l (run.loggers i) (scale i) (run.seed i)
+    λ i. header_of_version (run.version i) l (run.loggers i) (scale i) (run.seed i)
 
 run_recovers : (o : Origin) (life : Life) (past earlier : List Entry) (now : World) → HoldsRun o life past earlier now → (strings : ℕ → List ℕ)
     → MayStrike o (Running life past earlier now) strings → Recovers o.first life (past ++ now.history) (now.released ++ earlier) now.durable strings
@@ -248,7 +249,7 @@ module _ (o : Origin) (old : ℕ → List BodyView) (durable top : ℕ) (files :
     header : (l : ℕ) → header_at o l ≡ header_of life l
     header l =
         let scale : life.first.scale ≡ o.first.scale = may.gives.rebuilt.tables.scale in
-        λ i. header_view l (sym may.loggers i) (sym scale i) (sym may.seed i)
+        λ i. header_of_version (sym may.version i) l (sym may.loggers i) (sym scale i) (sym may.seed i)
 
     -- on what the files are by then
     opens_on : (files_now : ℕ → List BodyView) → AreVoided n old durable top files_now
@@ -290,6 +291,7 @@ module _ (o : Origin) (old : ℕ → List BodyView) (durable top : ℕ) (files :
             count = may.gives.commits_found ∙ give.as_many ∙ ap length front_is;
             room = room;
           };
+          version = may.version;
           loggers = may.loggers;
           seed = may.seed;
           sound = opens life files_now files
@@ -325,6 +327,7 @@ within : (o : Origin) (life : Life) (past earlier : List Entry) (now : World) (e
 within o life past earlier now event run may = record {
   old = run.old;
   base = run.base;
+  version = run.version;
   loggers = run.loggers;
   seed = run.seed;
   sound = all_events life run.old now (event ∷ []) run.sound (may, tt);
@@ -362,6 +365,7 @@ first_holds life files first =
     record {
       old = λ l. [];
       base = base;
+      version = refl;
       loggers = refl;
       seed = refl;
       sound = opens life (λ l. []) files first.created base.marks base.room;

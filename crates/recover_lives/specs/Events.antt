@@ -76,11 +76,12 @@ pub record RecoveryGives (o : Origin) (files : ℕ → List BodyView) (tables : 
   pub rebuilt : IsRebuilt o.first (found (listed o.loggers files)) tables
   pub commits_found : commits ≡ length (found (listed o.loggers files))
 
--- a life may begin: with the tables that recovery gives, behind the epoch above which the files have nothing; and all
--- epochs between the durable one and that are declared void, in every file
+-- a life may begin, in files of the same version: with the tables that recovery gives, behind the epoch above which the
+-- files have nothing; and all epochs between the durable one and that are declared void, in every file
 pub record MayOpen (o : Origin) (old : ℕ → List BodyView) (durable top : ℕ) (steps : ℕ → Declaring) (life : Life)
     : Type 0 where
   pub gives : RecoveryGives o old life.first life.past
+  pub version : life.version ≡ o.version
   pub seed : life.seed ≡ o.seed
   pub loggers : life.plan.loggers ≡ o.loggers
   pub base : life.plan.base ≡ top

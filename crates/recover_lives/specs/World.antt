@@ -1,24 +1,31 @@
 -- The world over many lives: a database, its log files, which outlive each process, and the process, if there is one.
 use Rattle.std.specs.Prelude.{ℕ, List, [], ◌++◌}
 use Rattle.tables.specs.Database.{Database}
-use Rattle.log_header.specs.Header.{HeaderView, header_view}
+use Rattle.log_header.specs.Header.{HeaderView, header_of_version}
 use Rattle.log_text.specs.Bodies.{BodyView}
 use Rattle.book.specs.declared.entry.Entry.{Entry}
 use Rattle.logfile.specs.Standing.{LogFileView}
 use Rattle.recover_crashes.specs.World.{Life, DiskView, Stage, World, opening}
 
--- what stays in all lives: the tables that the database began with, the number that seeded them, and how many loggers
+-- what stays in all lives: the version of the log files, the tables that the database began with, the number that
+-- seeded them, and how many loggers
 pub record Origin : Type 0 where
+  pub version : ℕ
   pub first : Database
   pub seed : ℕ
   pub loggers : ℕ
 
 abbrev pub origin_of : Life → Origin
-origin_of life = record { first = life.first; seed = life.seed; loggers = life.plan.loggers }
+origin_of life = record {
+  version = life.version;
+  first = life.first;
+  seed = life.seed;
+  loggers = life.plan.loggers;
+}
 
 -- the header of a logger's file
 abbrev pub header_at : Origin → ℕ → HeaderView
-header_at o logger = header_view logger o.loggers o.first.scale o.seed
+header_at o logger = header_of_version o.version logger o.loggers o.first.scale o.seed
 
 -- how far a restart is with a file's void body: it waits; it is under way, at this stage; or it is in the file
 pub data Declaring : Type 0 where
