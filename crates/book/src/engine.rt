@@ -27,8 +27,8 @@ const TRIES: u32 = 16;
 /// For how many pauses of its processor a thread leaves the lock alone between two of these tries.
 const PAUSES: u32 = 16;
 
-/// How often it then lets another thread run, which may be the one that has the lock, and tries again, before it sleeps:
-/// some 200 microseconds where no other wants to run.
+/// How often it then lets another thread run, which may be the one that has the lock, and tries again, before it
+/// sleeps: some 200 microseconds where no other wants to run.
 const TURNS: u32 = 200;
 
 /// An engine: the population, the record cells, which terminals read without a lock, the board of epoch words, and the

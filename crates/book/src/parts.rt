@@ -83,7 +83,8 @@ pub struct Base {
 impl Parts {
     /// The parts of an engine over this population, for 1 to 8 loggers and 1 to 16 terminals, of which each gets a
     /// seat, with a board at epoch 1. Costs what `first_versions`, `first_texts`, `Cells::with_wide` and `Totals::of`
-    /// cost: passes over the tables and the records, and a step a record and terminal. May wait, at a record's cell alone.
+    /// cost: passes over the tables and the records, and a step a record and terminal. May wait, at a record's cell
+    /// alone.
     ///
     /// # Errors
     ///

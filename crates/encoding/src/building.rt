@@ -23,8 +23,8 @@ use std::alloc::{AllocError, Global};
 use tables::{History, Scale, Table, Tables, customer_at, key_of, narrow_count, record_count};
 
 /// Tables whose records hold what these cells do, by the pen of them, with these rows added to the population's
-/// HISTORY, and the population's columns that never change. A record whose newest version is absent has no row. The cells are
-/// those of the scale's records; those of the index records aren't read.
+/// HISTORY, and the population's columns that never change. A record whose newest version is absent has no row. The
+/// cells are those of the scale's records; those of the index records aren't read.
 ///
 /// Costs what populating costs, and a look at each record.
 ///

@@ -129,11 +129,7 @@ fn put_text_of(
 }
 
 /// Appends the texts that records of C_DATA hold.
-fn put_texts(
-    out: &mut Vec<u8>,
-    scale: &Scale,
-    texts: &[(u32, DataWords)],
-) -> Result<(), AllocError>
+fn put_texts(out: &mut Vec<u8>, scale: &Scale, texts: &[(u32, DataWords)]) -> Result<(), AllocError>
     requires wide { All (λ e. narrow_count scale.now ≤ e.0) texts.now }
     requires below { All (λ e. e.0 < record_count scale.now) texts.now }
     requires texts { All (λ e. IsRow data_words IsData (Some e.1)) texts.now }

@@ -27,7 +27,7 @@ FitsBody (Void low high) = (low < 256 ^ 8) × (high < 256 ^ 8)
 
 entry_fits : (h : HeaderView) → IsHeader h → (mark number : ℕ) (last : Last) (e : EntryView) → mark ≤ MAX_MARK → is_entry h mark number last e ≡ true → FitsEntry e
 entry_fits h is mark number last e small lawful =
-    let halves = and_split (is_next h number e.number && is_timed mark last e.tid) 
+    let halves = and_split (is_next h number e.number && is_timed mark last e.tid)
     (is_asked h e.terminal && (are_writes h.scale e.writes && are_of_version h.version e.writes)) lawful in
     let first = and_split (is_next h number e.number) (is_timed mark last e.tid) halves.0 in
     let second = and_split (is_asked h e.terminal) (are_writes h.scale e.writes && are_of_version h.version e.writes) halves.1 in

@@ -10,7 +10,7 @@ use Rattle.log_codec.proofs.Codecs.{and_then_some}
 use Rattle.log_disk.specs.Calls.{Call, Synced}
 use Rattle.log_disk.specs.Crashes.{MayLeave}
 use Rattle.log_header.specs.Header.{HeaderView, header_text}
-use Rattle.log_text.specs.Writes.{are_writes}
+use Rattle.log_text.specs.Writes.{are_of_version, are_writes}
 use Rattle.log_text.specs.Entries.{EntryView}
 use Rattle.log_text.specs.Bodies.{BodyView, Entries, Void, is_next, is_timed, is_asked, is_entry, behind, entries_after, marked, may_be_void, body_after}
 use Rattle.log_text.specs.Bodies.{bodies_after, start}
@@ -27,7 +27,7 @@ IsNear mark last = last.epoch ≤ mark + 1
 
 entry_near : (h : HeaderView) (mark number : ℕ) (last : Last) (e : EntryView) → is_entry h mark number last e ≡ true → epoch_of e.tid ≤ mark + 1
 entry_near h mark number last e lawful =
-    let halves = and_split (is_next h number e.number && is_timed mark last e.tid) (is_asked h e.terminal && are_writes h.scale e.writes) lawful in
+    let halves = and_split (is_next h number e.number && is_timed mark last e.tid) (is_asked h e.terminal && (are_writes h.scale e.writes && are_of_version h.version e.writes)) lawful in
     let first = and_split (is_next h number e.number) (is_timed mark last e.tid) halves.0 in
     let bits = and_split (e.tid % 8 == 0)
     (nat_le last.epoch (epoch_of e.tid) && (nat_lt last.mark (epoch_of e.tid) && nat_le (epoch_of e.tid) (mark + 1))) first.1 in

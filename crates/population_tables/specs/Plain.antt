@@ -1,5 +1,5 @@
 -- The plain population: which row stands at which key (clause 4.3.3.1 draws most of these columns; here none is drawn).
-use Rattle.std.specs.Prelude.{◌≡◌, ℕ, zero, suc, ◌+◌, ◌-◌, ◌*◌, ◌/◌, ◌%◌, pos, neg_ℤ, Bool, true, false, cond, nat_le}
+use Rattle.std.specs.Prelude.{◌≡◌, ℕ, zero, suc, ◌+◌, ◌-◌, ◌*◌, ◌/◌, ◌%◌, pos, neg_ℤ, Bool, true, cond, nat_le}
 use Rattle.std.specs.Prelude.{◌==◌}
 use Rattle.std.specs.Prelude.{Some, None, IsSome, List, [], ◌∷◌, ◌++◌, map}
 use Rattle.std.specs.List.{flat_map}

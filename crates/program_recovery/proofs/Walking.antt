@@ -1,5 +1,5 @@
 -- Log files that are whole, disk after disk.
-use Rattle.std.proofs.Common.{◌≡◌, ℕ, ◌+◌, ◌<◌, List, [], map, length, get_or, set, refl, sym, ◌∙◌, subst, arith, below_more}
+use Rattle.std.proofs.Common.{◌≡◌, ℕ, ◌+◌, ◌<◌, List, [], map, length, get_or, set, sym, ◌∙◌, subst, arith, below_more}
 use Rattle.std.proofs.lemmas.List.{get_or-map, length-set}
 use Rattle.std.proofs.Math.Seq.{map-set_same}
 use Rattle.tables.specs.Sizes.{Sizes}

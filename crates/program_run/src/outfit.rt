@@ -89,7 +89,8 @@ fn new_log<D: Disk + Drop, P: Pace + Drop>(
     slot: Slot<D, P>,
 ) -> Result<OpenLog<D, P>, Refusal>
     requires empty { D.is_modelled → D.seen slot.disk ≡ [] }
-    ensures own { IfOk result (λ log. (log.file.header ≡ header) × (log.file.last.mark ≡ 0)) }
+    ensures own { IfOk result (λ log. (log.file.header.logger ≡ header.logger)
+        × (log.file.header.loggers ≡ header.loggers) × (log.file.last.mark ≡ 0)) }
     ensures cause { IfErr result (λ refusal. (refusal ≢ OutOfMemory) → refusal ≡ Device) }
 {
     let Slot { disk, pace } = slot;

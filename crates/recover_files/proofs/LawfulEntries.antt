@@ -57,7 +57,7 @@ HasLawful s e = are_writes s e.writes ≡ true
 
 entry_lawful : (h : HeaderView) (mark number : ℕ) (last : Last) (e : EntryView) → is_entry h mark number last e ≡ true → HasLawful h.scale e
 entry_lawful h mark number last e lawful =
-    let halves = and_split (is_next h number e.number && is_timed mark last e.tid) 
+    let halves = and_split (is_next h number e.number && is_timed mark last e.tid)
     (is_asked h e.terminal && (are_writes h.scale e.writes && are_of_version h.version e.writes)) lawful in
     (and_split (are_writes h.scale e.writes) (are_of_version h.version e.writes)
     (and_split (is_asked h e.terminal) (are_writes h.scale e.writes && are_of_version h.version e.writes) halves.1).1).0
@@ -73,7 +73,7 @@ IsPositive e = 1 ≤ e.number
 
 entry_positive : (h : HeaderView) (mark number : ℕ) (last : Last) (e : EntryView) → is_entry h mark number last e ≡ true → IsPositive e
 entry_positive h mark number last e lawful =
-    let halves = and_split (is_next h number e.number && is_timed mark last e.tid) 
+    let halves = and_split (is_next h number e.number && is_timed mark last e.tid)
     (is_asked h e.terminal && (are_writes h.scale e.writes && are_of_version h.version e.writes)) lawful in
     let next = and_split (is_next h number e.number) (is_timed mark last e.tid) halves.0 in
     let above = and_split (nat_lt number e.number) (nat_le e.number h.scale.commits) next.0 in

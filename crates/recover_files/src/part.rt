@@ -20,8 +20,8 @@ use std::alloc::{AllocError, Global};
 use tables::{Scale, Table, rec, record_count};
 
 /// What entries of log files say: of each record what the newest of those that write it has left there, and of each
-/// entry its commit number and its row of HISTORY. Takes 4 bytes for each record of the scale; the rest goes by what was
-/// written.
+/// entry its commit number and its row of HISTORY. Takes 4 bytes for each record of the scale; the rest goes by what
+/// was written.
 #[derive(Drop)]
 pub struct Part {
     pub newest: Newest,
@@ -156,7 +156,10 @@ impl Part {
             *self = other;
             return Ok(());
         }
-        let Part { newest, mut commits } = other;
+        let Part {
+            newest,
+            mut commits,
+        } = other;
         self.newest.merge(newest)?;
         self.commits.append(&mut commits)?;
         Ok(())

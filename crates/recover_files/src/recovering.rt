@@ -100,8 +100,8 @@ pub fn recover_bodies(
 
 /// What `recover` does, where files are read, and what they say is merged, in at most so many threads, of which the
 /// calling one is the first; with 0 or 1 it is the only one, and there are no more than files. Where a thread can't be
-/// started, the calling one does its work. Takes 4 bytes a record of the scale for each thread and one more. May wait, for
-/// its threads.
+/// started, the calling one does its work. Takes 4 bytes a record of the scale for each thread and one more. May wait,
+/// for its threads.
 ///
 /// # Errors
 ///

@@ -12,7 +12,7 @@ use Rattle.log_header.specs.Header.{HeaderView}
 use Rattle.log_text.specs.Bodies.{BodyView, Entries, Void, mark_of, entries_in, voids, is_next, is_timed, is_asked, is_entry, behind, entries_after, marked, may_be_void}
 use Rattle.log_text.specs.Bodies.{body_after, bodies_after}
 use Rattle.log_text.specs.Entries.{EntryView}
-use Rattle.log_text.specs.Writes.{are_writes}
+use Rattle.log_text.specs.Writes.{are_of_version, are_writes}
 use Rattle.log_text.specs.declared.last.Last.{Last}
 use Rattle.log_text.proofs.Texts.{some_is}
 use Rattle.log_text.proofs.Fitting.{and_split}
@@ -30,7 +30,7 @@ up_to_later a b low es all = All-weaker (IsUpToEpoch a) (IsUpToEpoch b) (λ e is
 
 entry_rises : (h : HeaderView) (mark number : ℕ) (last : Last) (e : EntryView) → is_entry h mark number last e ≡ true → last.epoch ≤ epoch_of e.tid
 entry_rises h mark number last e lawful =
-    let halves = and_split (is_next h number e.number && is_timed mark last e.tid) (is_asked h e.terminal && are_writes h.scale e.writes) lawful in
+    let halves = and_split (is_next h number e.number && is_timed mark last e.tid) (is_asked h e.terminal && (are_writes h.scale e.writes && are_of_version h.version e.writes)) lawful in
     let first = and_split (is_next h number e.number) (is_timed mark last e.tid) halves.0 in
     let bits = and_split (e.tid % 8 == 0)
     (nat_le last.epoch (epoch_of e.tid) && (nat_lt last.mark (epoch_of e.tid) && nat_le (epoch_of e.tid) (mark + 1))) first.1 in

@@ -27,8 +27,8 @@ use std::alloc::Global;
 /// `Damaged`, of modelled disks only where some file is no log file of this population's database, of its logger and of
 /// that many loggers, in the version that is written today; `Device`; `OutOfMemory`. After Ok all are, and no call of a
 /// disk has failed. An Err drops the disks, so no clause says more of them; by the code alone `Device` comes exactly
-/// where a call of a disk fails, `OutOfMemory` only for want of memory, the first file that refuses decides, and nothing
-/// is written.
+/// where a call of a disk fails, `OutOfMemory` only for want of memory, the first file that refuses decides, and
+/// nothing is written.
 pub fn open_all<D: Disk + Drop>(
     alloc: Global,
     population: &Population,

@@ -1,6 +1,6 @@
 //! The plain population of one warehouse, two districts and ten customers a district, on its 1,085 narrow cells and a
-//! wide one for each customer's C_DATA: record 0 is the warehouse, 1 and 2 are the districts, and from 3 on there are the
-//! customers of the first district.
+//! wide one for each customer's C_DATA: record 0 is the warehouse, 1 and 2 are the districts, and from 3 on there are
+//! the customers of the first district.
 ghost use Rattle.std.specs.Prelude.{◌≡◌, ◌≢◌, ◌<◌, ℕ, length, IfOk};
 ghost use Rattle.population.specs.Initial.{initial};
 ghost use Rattle.tables.specs.Inputs.{IsInput};

@@ -50,15 +50,7 @@ fn fewer_bytes_are_no_header(rt: HostRuntime) -> Result<(), Fail> {
 #[test]
 fn other_formats_and_numbers_are_no_header(rt: HostRuntime) -> Result<(), Fail> {
     // the name, the versions 0 and 3, logger 1 of 1, 9 loggers, none, and 0 warehouses
-    for (place, byte) in [
-        (7, 0),
-        (8, 0),
-        (8, 3),
-        (12, 1),
-        (14, 9),
-        (14, 0),
-        (16, 0),
-    ] {
+    for (place, byte) in [(7, 0), (8, 0), (8, 3), (12, 1), (14, 9), (14, 0), (16, 0)] {
         let mut bytes = FIRST;
         bytes[place] = byte;
         assert!(rt; read_header(&bytes).is_none());

@@ -6,7 +6,8 @@ mod files;
 mod recovered;
 
 pub use bytes::{
-    ENTRY, push_body, push_entry, push_entry_of, push_header, push_header_of, push_numbers, push_write,
+    ENTRY, push_body, push_entry, push_entry_of, push_header, push_header_of, push_numbers,
+    push_write,
 };
 pub use files::{declare, disk_of, disks, first, first_disk, one_disk, second, small, unwatched};
 pub use recovered::{Recovery, outcome_of, recovery_of};

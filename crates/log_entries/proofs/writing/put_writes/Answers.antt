@@ -48,7 +48,7 @@ returns c =
     let row : c.put_row.new.out.items ≡ c.put_before.new.out.items ++ flat_map write_text (map history_write (added c.args.writes.now.history_row)) =
     c.in_ok-put_row.ensures ∙ ap (λ r. c.put_before.new.out.items ++ flat_map write_text (map history_write (added r))) c.history_row.ensures in
     let behind : c.put_behind.new.out.items
-        ≡ ((c.args.out.now.items ++ front) ++ flat_map write_text (map history_write (added c.args.writes.now.history_row))) ++ back =
+    ≡ ((c.args.out.now.items ++ front) ++ flat_map write_text (map history_write (added c.args.writes.now.history_row))) ++ back =
     c.in_ok-put_behind.ensures ∙ ap (λ (l : List ℕ). l ++ back) (row
     ∙ ap (λ (l : List ℕ). l ++ flat_map write_text (map history_write (added c.args.writes.now.history_row))) c.in_ok-put_before.ensures) in
     on_ok_weaker c.put_texts.result

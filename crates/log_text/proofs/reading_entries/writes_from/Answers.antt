@@ -21,7 +21,7 @@ pub returns-in_err-write : goal.returns-in_err-write
 returns-in_err-write c =
     let left : c.args.count - c.writes.counter ≡ suc (c.args.count - (c.writes.counter + 1)) = search rules in
     let ends : c.in_err-write.field-0.0 ≢ OutOfMemory
-        → (c.in_err-write.field-0.0 ≡ Damaged) × (many c.args.count write_from c.args.bytes.now ≡ None) =
+    → (c.in_err-write.field-0.0 ≡ Damaged) × (many c.args.count write_from c.args.bytes.now ≡ None) =
     λ other. let h = c.in_err-write.ensures other in (
       h.0,
       sym c.writes.invariant.1 ∙ ap (λ (n : ℕ). many_after c.writes.writes.items (many n write_from c.writes.rest.now)) left

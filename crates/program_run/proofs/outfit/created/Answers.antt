@@ -34,11 +34,11 @@ loop-slot-preserved g c =
     ap length pushed ∙ length-append c.loop-slot.logs.items (log ∷ []) in
     let logger : c.len.result ≡ length c.loop-slot.logs.items = search rules in
     let own = c.in_ok-new_log.ensures.own in
-    let header = own.0 ∙ c.new-header.ensures.value in
+    let header = c.new-header.ensures.value in
     let is : IsLogOf (length c.loop-slot.logs.items) c.len-loggers.result 0 log.file = record {
-      logger_is = ap (λ (h : HeaderView). h.logger) header ∙ logger;
-      loggers_are = ap (λ (h : HeaderView). h.loggers) header;
-      mark_is = own.1;
+      logger_is = own.0 ∙ ap (λ (h : HeaderView). h.logger) header ∙ logger;
+      loggers_are = own.1 ∙ ap (λ (h : HeaderView). h.loggers) header;
+      mark_is = own.2;
     } in
     let first = log_more (length c.loop-slot.logs.items) (map file c.loop-slot.logs.items) (map file c.push.new.self.items) log.file
     (ap (map file) pushed ∙ map_push file c.loop-slot.logs.items log) is i.3 in (

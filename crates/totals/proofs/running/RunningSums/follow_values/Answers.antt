@@ -1,4 +1,4 @@
-use Rattle.std.proofs.Common.{ℕ, ◌≤◌, ◌<◌, ◌++◌, All, List, Option, map, sym, subst}
+use Rattle.std.proofs.Common.{ℕ, ◌≤◌, ◌<◌, All, List, Option, map, sym, subst}
 use Rattle.tables.specs.Records.{record_count}
 use Rattle.cells.specs.Records.{held_by}
 use Rattle.readset.specs.Writes.{as_written}
