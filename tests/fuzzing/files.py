@@ -43,7 +43,7 @@ def lives(programs, draws, asked):
         for life in range(draws.choice((1, 1, 2, 3))):
             if life and draws.random() < 0.7:
                 lose_bodies(draws, folder, asked.loggers)
-            inputs = ["--terminals", draws.randint(1, 4), "--count", draws.randint(0, 20)]
+            inputs = ["--terminals", draws.randint(1, 4), "--count", draws.randint(0, draws.choice((20, 60)))]
             words = [*words_of(asked, folder), *inputs, "--seed", draws.randrange(2**32)]
             ran = run(programs.tpcc, "run", *words, *(["--resume"] if life else []))
             if ran.status or ran.err:

@@ -9,7 +9,7 @@ from fuzzing.records import column, data, data_added, filled, order_of_writes, r
 PARTS = (
     header, magic, length, mark, order_of_bodies, order_of_bodies, void, void, order_of_entries, order_of_entries,
     entry, order_of_writes, write, write, filled, filled, added, *[column] * 6, *[row] * 14, *[entry_at_edge] * 14,
-    *[body_at_edge] * 6, *[data] * 5, *[data_added] * 4,
+    *[body_at_edge] * 6, *[data] * 10, *[data_added] * 3,
 )
 
 

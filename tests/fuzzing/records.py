@@ -90,10 +90,23 @@ def row(draws, log):
         one.columns[place] = min(max(another, low), high)
 
 
+def data_added(draws, log):
+    """A text of C_DATA more, also where files have none."""
+    if not (entries := log.entries()):
+        return
+    scale = replay.Scale(*log.numbers[3:9])
+    places = scale.warehouses * scale.districts * scale.customers
+    place, length = draws.choice((0, places - 1, places, draws.randrange(places))), draws.choice((300, 500))
+    letters = bytes([draws.randrange(32, 127)]) * length
+    draws.choice(entries).writes.append(Write(replay.DATA, place, replay.PRESENT, [], letters))
+
+
 def data(draws, log):
-    """A text of C_DATA that is another: in its length, in a byte, or in the length that it is said to have."""
+    """A text of C_DATA that is another, in its length, in a byte, or in the length that it is said to have; or one
+    more, where there is none."""
     texts = [write for entry in log.entries() for write in entry.writes if write.data]
     if not texts:
+        data_added(draws, log)
         return
     one = draws.choice(texts)
     length, at = len(one.data), draws.randrange(len(one.data))
@@ -107,17 +120,6 @@ def data(draws, log):
             one.length = draws.choice((length + 1, length - 1, 0, 299, 300, 500, 501, 2**16 - 1))
         case 3:
             one.data = one.data[at:] + one.data[:at]
-
-
-def data_added(draws, log):
-    """A text of C_DATA more, also where files have none."""
-    if not (entries := log.entries()):
-        return
-    scale = replay.Scale(*log.numbers[3:9])
-    places = scale.warehouses * scale.districts * scale.customers
-    place, length = draws.choice((0, places - 1, places, draws.randrange(places))), draws.choice((300, 500))
-    letters = bytes([draws.randrange(32, 127)]) * length
-    draws.choice(entries).writes.append(Write(replay.DATA, place, replay.PRESENT, [], letters))
 
 
 def filled(draws, log):
