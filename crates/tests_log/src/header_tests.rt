@@ -1,6 +1,7 @@
 //! Headers whose bytes are known, there and back.
 use log_codec::put_u8;
 use log_header::{Header, OLDEST_VERSION, put_header, read_header};
+use money::Refusal;
 use std::test::Fail;
 use tables::Scale;
 use tests_log_vectors::{FIRST, first_of_version_1};
@@ -18,9 +19,8 @@ fn a_header_has_its_bytes(rt: HostRuntime) -> Result<(), Fail> {
 #[test]
 fn a_header_of_version_1_is_read_and_written_as_one(rt: HostRuntime) -> Result<(), Fail> {
     let bytes = first_of_version_1();
-    let Some((header, [])) = read_header(&bytes) else {
-        return Err(Fail);
-    };
+    let (header, behind) = read_header(&bytes).ok_or(Refusal::Damaged)?;
+    assert!(rt; behind.is_empty());
     assert_eq!(rt; header.version, OLDEST_VERSION);
     let mut out = Vec::new(rt.alloc());
     put_header(&mut out, &header)?;

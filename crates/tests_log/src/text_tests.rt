@@ -180,9 +180,7 @@ fn a_payment_of_bad_credit_has_its_text(rt: HostRuntime) -> Result<(), Fail> {
     // The body's length, its mark, and an entry of 481 bytes.
     assert_eq!(rt; body.len(), 8 + 8 + 481);
     assert!(rt; body[..8] == [0xea, 1, 0, 0, 0, 0, 0, 0]);
-    let Some((header, _)) = read_header(&FIRST) else {
-        return Err(Fail);
-    };
+    let (header, _) = read_header(&FIRST).ok_or(Refusal::Damaged)?;
     let told = Told {
         place: 9,
         length: 317,
