@@ -1,8 +1,9 @@
 -- Files that were opened again are what a restart reads in the world of many lives.
-use Rattle.std.proofs.Common.{◌≡◌, ℕ, ◌<◌, List, ◌∷◌, length, get_or, refl, subst, arith}
+use Rattle.std.proofs.Common.{◌≡◌, ℕ, ◌<◌, List, ◌∷◌, length, get_or, refl, sym, subst, arith}
 use Rattle.board.specs.Words.{last_epoch}
 use Rattle.log_disk.specs.Calls.{Synced}
-use Rattle.log_header.specs.Header.{header_view}
+use Rattle.log_header.specs.Header.{header_of_version}
+use Rattle.log_header.specs.declared.header.TheConstants.{VERSION}
 use Rattle.log_text.specs.Bodies.{BodyView}
 use Rattle.logfile.specs.Standing.{LogFileView}
 use Rattle.recover_crashes.specs.World.{DiskView}
@@ -20,13 +21,17 @@ synced_disk disk = record { seen = disk.seen; story = Synced disk.seen ∷ disk.
 abbrev pub synced_twice : List DiskView → DiskView → ℕ → DiskView
 synced_twice disks none l = synced_disk (synced_disk (get_or disks l none))
 
-module _ (o : Origin) {disks : List DiskView} {files : List (LogFileView DiskView)} {bodies : List (List BodyView)}
+-- of a database whose log files are of today's version
+module _ (o : Origin) (today : o.version ≡ VERSION) {disks : List DiskView} {files : List (LogFileView DiskView)} {bodies : List (List BodyView)}
     (count : length disks ≡ o.loggers) (opened : AreOpened o.first.scale o.seed disks files bodies) (none : DiskView)
     (no_file : LogFileView DiskView) where
   at : (l : ℕ) → l < o.loggers → IsOpenedOn (header_at o l) (bodies_at bodies l) (get_or disks l none) (get_or files l no_file)
   at l less =
-      subst (λ (n : ℕ). IsOpenedOn (header_view l n o.first.scale o.seed) (bodies_at bodies l) (get_or disks l none) (get_or files l no_file)) count
-      (opened.each l (omega (arith, less, count)) none no_file)
+      subst (λ (v : ℕ). IsOpenedOn (header_of_version v l o.loggers o.first.scale o.seed) (bodies_at bodies l) (get_or disks l none) (get_or files l no_file))
+      (sym today)
+      (subst (λ (n : ℕ). IsOpenedOn (header_of_version VERSION l n o.first.scale o.seed) (bodies_at bodies l) (get_or disks l none) (get_or files l no_file))
+      count
+      (opened.each l (omega (arith, less, count)) none no_file))
 
   -- each disk was synced twice
   pub first_sync : (l : ℕ) → l < o.loggers → IsSyncedDisk (get_or disks l none) (synced_disk (get_or disks l none))
