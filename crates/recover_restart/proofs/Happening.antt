@@ -130,6 +130,7 @@ module _ (t0 : Database) (seed terminals : ℕ) (disks : List DiskView) (parts :
       commits_found = r.goes_on.commits_are
           ∙ ap (λ (bs : List (List BodyView)). length (found bs)) (sym (listed_all r.bodies (length disks) r.opened.bodies_count));
     };
+    version = refl;
     seed = refl;
     loggers = refl;
     base = refl;

@@ -7,7 +7,8 @@ use Rattle.tables.specs.declared.limits.TheConstants.{MAX_COMMITS}
 use Rattle.book.specs.Base.{AreReached}
 use Rattle.book.specs.History.{IsLegal, replay}
 use Rattle.book.specs.declared.entry.Entry.{Entry}
-use Rattle.log_header.specs.Header.{header_view}
+use Rattle.log_header.specs.Header.{header_of_version}
+use Rattle.log_header.specs.declared.header.TheConstants.{VERSION}
 use Rattle.log_text.specs.Bodies.{BodyView}
 use Rattle.log_text.specs.File.{IsFile}
 use Rattle.recover_found.specs.Found.{found}
@@ -62,7 +63,8 @@ module _ (within_cap : CommitsAreWithinTheCap) (reached : ReplaysAreReached) (t0
   pub are_taken : AreTakenUp t0 seed strings
   are_taken = record { undamaged = undamaged; no_gap = no_gap }
 
-module _ (o : Origin) (w : Lives) (strings : ℕ → List ℕ) (leaves : LeavesTheReplay o w strings) where
+module _ (o : Origin) (w : Lives) (strings : ℕ → List ℕ) (leaves : LeavesTheReplay o w strings)
+    (today : o.version ≡ VERSION) where
   -- they are the files that the crash leaves
   are_files : AreFiles o.first.scale o.seed (listed o.loggers strings) leaves.left
   are_files =
@@ -71,10 +73,12 @@ module _ (o : Origin) (w : Lives) (strings : ℕ → List ℕ) (leaves : LeavesT
         count = leaves.count ∙ sym count;
         each = λ l less.
             let within : l < o.loggers = subst (λ (n : ℕ). l < n) count less in
-            subst (λ (n : ℕ). IsFile (get_or (listed o.loggers strings) l []) (header_view l n o.first.scale o.seed)
+            subst (λ (v : ℕ). IsFile (get_or (listed o.loggers strings) l [])
+            (header_of_version v l (length (listed o.loggers strings)) o.first.scale o.seed) (get_or leaves.left l [])) today
+            (subst (λ (n : ℕ). IsFile (get_or (listed o.loggers strings) l []) (header_of_version o.version l n o.first.scale o.seed)
             (get_or leaves.left l [])) (sym count)
             (subst (λ (t : List ℕ). IsFile t (header_at o l) (get_or leaves.left l [])) (sym (listed_at o.loggers strings l [] within))
-            (leaves.files l within));
+            (leaves.files l within)));
       }
 
   pub takes : CommitsAreWithinTheCap → ReplaysAreReached → IsFirstDatabase o.first → IsInReach 0 o.first

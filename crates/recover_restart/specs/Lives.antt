@@ -1,6 +1,7 @@
 -- A restart as what happens over the lives of a database.
 use Rattle.std.specs.Prelude.{◌≡◌, ℕ}
 use Rattle.tables.specs.Database.{Database}
+use Rattle.log_header.specs.declared.header.TheConstants.{VERSION}
 use Rattle.logfile.specs.Standing.{LogFileView}
 use Rattle.recover_crashes.specs.Events.{IsCalled, on_disk}
 use Rattle.recover_crashes.specs.World.{Life, DiskView, BatchTaken, TextWritten, TextSynced, GateOpened}
@@ -8,13 +9,14 @@ use Rattle.recover_lives.specs.Events.{IsSyncedDisk, void_body, with_void}
 use Rattle.recover_lives.specs.World.{Origin}
 use Rattle.recover_restart.specs.Declaring.{no_failure}
 
--- what stays in all lives of a database with so many log files
+-- what stays in all lives of a database with so many log files, of today's version
 abbrev pub origin_behind : Database → ℕ → ℕ → Origin
-origin_behind t0 seed loggers = record { first = t0; seed = seed; loggers = loggers }
+origin_behind t0 seed loggers = record { version = VERSION; first = t0; seed = seed; loggers = loggers }
 
--- the life that goes on with these tables, which so many commits have made, behind this epoch
+-- the life that goes on in such files with these tables, which so many commits have made, behind this epoch
 abbrev pub life_behind : Database → ℕ → ℕ → ℕ → ℕ → Life
 life_behind tables commits seed loggers top = record {
+  version = VERSION;
   first = tables;
   past = commits;
   seed = seed;

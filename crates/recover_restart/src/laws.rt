@@ -4,6 +4,7 @@ ghost use Rattle.tables.specs.Database.{Database};
 ghost use Rattle.tables.specs.Reach.{IsInReach};
 ghost use Rattle.book.specs.Parts.{first_of};
 ghost use Rattle.book.specs.declared.parts.Parts.{Parts};
+ghost use Rattle.log_header.specs.declared.header.TheConstants.{VERSION};
 ghost use Rattle.logfile.specs.Standing.{LogFileView};
 ghost use Rattle.recover_crashes.specs.World.{Life, DiskView, IsFirst};
 ghost use Rattle.recover_laws.specs.Found.{listed};
@@ -51,12 +52,13 @@ pub fn restart_goes_on()
 /// life, and whatever string a crash then leaves on each disk: a restart on them refuses them neither by `Damaged` nor
 /// by `Gap` (`AreTakenUp`, of the clauses of `restart`). They are log files, no commit that counts is missing, and
 /// tables that are rebuilt of them are such as so many commits can have made, since they are the replay of what counts.
-/// The database began with tables that no commit had moved, as those of a population are (`IsInReach 0`). The function
-/// does nothing: its contract is the law.
+/// The database began with tables that no commit had moved, as those of a population are (`IsInReach 0`), and its log
+/// files are of the version that is written today, since a restart goes on in no other. The function does nothing: its
+/// contract is the law.
 pub fn restart_takes_what_a_crash_leaves()
     ensures { (life : Life) (files : ℕ → LogFileView DiskView)
         (events : List LivesEvent) (strings : ℕ → List ℕ)
-        → IsFirstDatabase life.first → IsInReach 0 life.first → IsFirst life files
+        → IsFirstDatabase life.first → IsInReach 0 life.first → life.version ≡ VERSION → IsFirst life files
         → MayOccurInTurn (origin_of life) (first_world life files) events
         → MayStrike (origin_of life) (lives_after_all (origin_of life) (first_world life files) events) strings
         → AreTakenUp life.first life.seed (listed life.plan.loggers strings) }
