@@ -86,7 +86,7 @@ fn worked_rows(rt: HostRuntime) -> Result<(), Fail> {
              customer 1 1 3 balance -22.34 paid 22.34 payments 2 deliveries 0\n",
             1,
         ),
-        // A customer with bad credit, whose C_DATA no Payment changes.
+        // A customer with bad credit: a Payment puts its text at the left of C_DATA.
         (
             1_000,
             "show data 1 1 10\npayment 1 1 1 1 10 12.34\nshow data 1 1 10\n",
@@ -94,7 +94,7 @@ fn worked_rows(rt: HostRuntime) -> Result<(), Fail> {
              xxxxxxxxxxxxxxxxxxxxxxxxxxxxxxxxxxxxxxxxxxxxxxxxxxxxxxxxxxxxxxxxxxxxxxxxxxxxxxxxxxxxxxxxxxxxxxxxxxxx\
              xxxxxxxxxxxxxxxxxxxxxxxxxxxxxxxxxxxxxxxxxxxxxxxxxxxxxxxxxxxxxxxxxxxxxxxxxxxxxxxxxxxxxxxxxxxxxxxxxxxx\
              xxxxxxxxxxxxxxxxxxxxxxxxxxxxxxxxxxxxxxxxxxxxxxxxxxxxxxxxxxxxxxxxxxxxxxxxxxxxxxxxxxxxxxxxxxxxxxxxxxxx\n\
-             payment 1 1 customer 1 1 10 balance -22.34\ndata 1 1 10 300 \
+             payment 1 1 customer 1 1 10 balance -22.34\ndata 1 1 10 317 10 1 1 1 1 12.34|\
              xxxxxxxxxxxxxxxxxxxxxxxxxxxxxxxxxxxxxxxxxxxxxxxxxxxxxxxxxxxxxxxxxxxxxxxxxxxxxxxxxxxxxxxxxxxxxxxxxxxx\
              xxxxxxxxxxxxxxxxxxxxxxxxxxxxxxxxxxxxxxxxxxxxxxxxxxxxxxxxxxxxxxxxxxxxxxxxxxxxxxxxxxxxxxxxxxxxxxxxxxxx\
              xxxxxxxxxxxxxxxxxxxxxxxxxxxxxxxxxxxxxxxxxxxxxxxxxxxxxxxxxxxxxxxxxxxxxxxxxxxxxxxxxxxxxxxxxxxxxxxxxxxx\n",
