@@ -16,11 +16,18 @@ fn a_header_has_its_bytes(rt: HostRuntime) -> Result<(), Fail> {
     Ok(())
 }
 
+/// The header of a file that begins with these bytes.
+fn header_of(bytes: &[u8]) -> Result<Header, Refusal> {
+    match read_header(bytes) {
+        Some((header, _)) => Ok(header),
+        None => Err(Refusal::Damaged),
+    }
+}
+
 #[test]
 fn a_header_of_version_1_is_read_and_written_as_one(rt: HostRuntime) -> Result<(), Fail> {
     let bytes = first_of_version_1();
-    let (header, behind) = read_header(&bytes).ok_or(Refusal::Damaged)?;
-    assert!(rt; behind.is_empty());
+    let header = header_of(&bytes)?;
     assert_eq!(rt; header.version, OLDEST_VERSION);
     let mut out = Vec::new(rt.alloc());
     put_header(&mut out, &header)?;

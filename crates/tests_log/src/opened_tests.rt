@@ -6,7 +6,7 @@ use money::Refusal;
 use std::alloc::Global;
 use std::test::Fail;
 use tests_disks::{FailingDisk, Fault};
-use tests_log_vectors::{VOID, file_of_payments};
+use tests_log_vectors::{VOID, file_of_payments, first_of_version_1};
 
 /// A disk in memory with the file of one Payment, of epoch 4 and mark 5, that was never synced.
 fn written(alloc: Global) -> Result<Memory, Refusal> {
@@ -145,11 +145,11 @@ fn a_file_is_read_behind_a_sync(rt: HostRuntime) -> Result<(), Fail> {
 
 #[test]
 fn a_file_of_version_1_is_not_opened(rt: HostRuntime) -> Result<(), Fail> {
-    let mut memory = written(rt.alloc())?;
-    memory.write_at(8, &[1])?;
+    let mut memory = Memory::new(rt.alloc());
+    memory.write_at(0, &first_of_version_1())?;
     let opened = LogFile::open(rt.alloc(), &mut memory);
     assert_eq!(rt; opened.err(), Some(Refusal::Damaged));
-    // the test's two writes, and a sync
-    assert_eq!(rt; memory.calls().len(), 3);
+    // the write, and a sync
+    assert_eq!(rt; memory.calls().len(), 2);
     Ok(())
 }

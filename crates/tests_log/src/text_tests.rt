@@ -5,6 +5,7 @@ use log_text::{Body, Last, Value, read_body};
 use money::Refusal;
 use std::alloc::{AllocError, Global};
 use std::test::Fail;
+use tables::Scale;
 use tests_log_vectors::{FIRST, PAID_TEXT, first_of_version_1, payment_with_text};
 
 /// An entry of one write to C_DATA.
@@ -180,7 +181,7 @@ fn a_payment_of_bad_credit_has_its_text(rt: HostRuntime) -> Result<(), Fail> {
     // The body's length, its mark, and an entry of 481 bytes.
     assert_eq!(rt; body.len(), 8 + 8 + 481);
     assert!(rt; body[..8] == [0xea, 1, 0, 0, 0, 0, 0, 0]);
-    let (header, _) = read_header(&FIRST).ok_or(Refusal::Damaged)?;
+    let header = Header::new(Scale::new(1, 2, 10, 20, 30, 1_000)?, 0, 0, 1);
     let told = Told {
         place: 9,
         length: 317,
