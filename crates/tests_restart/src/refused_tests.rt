@@ -111,6 +111,9 @@ fn no_epoch_is_behind_the_last(rt: HostRuntime) -> Result<(), Fail> {
 fn of_version_1(alloc: Global, files: &mut [Memory]) -> Result<Vec<Memory>, Refusal> {
     let mut disks = Vec::new(alloc);
     for file in files {
+        if file.bytes().len() < 8 {
+            return Err(Refusal::BadInput);
+        }
         file.write_at(8, &[1])?;
         disks.push(disk_of(alloc, file.bytes())?)?;
     }
