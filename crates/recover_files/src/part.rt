@@ -117,7 +117,8 @@ impl Part {
         requires lawful { are_writes scale.now entry.writes.items ≡ true }
         requires records { length self.old.newest.places ≡ count_of_records scale.now }
         ensures part { OnOk result ((es : List EntryView) → IsPart scale.now es self.old
-            → IsPart scale.now (es ++ filter (λ e. counts_by keeps.now (epoch_of e.tid)) (logged entry ∷ [])) self.new) }
+            → IsPart scale.now (es ++ filter (λ e. counts_by keeps.now (epoch_of e.tid))
+            (logged entry ∷ [])) self.new) }
         ensures records { length self.new.newest.places ≡ length self.old.newest.places }
     {
         if !is_counted(&entry, keeps) {
