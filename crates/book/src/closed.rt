@@ -1,6 +1,6 @@
 //! The end of a run.
-ghost use Rattle.std.specs.Prelude.{◌≡◌, ◌+◌, ◌<◌, ◌≤◌, length, map, IfOk, IfErr, IfSome, IfNone};
-ghost use Rattle.std.specs.List.{All, sum_by};
+ghost use Rattle.std.specs.Prelude.{◌≡◌, ◌+◌, ◌≤◌, length, map, IfOk, IfErr, IfSome, IfNone};
+ghost use Rattle.std.specs.List.{sum_by};
 ghost use Rattle.std.specs.Arc.{arc_value};
 ghost use Rattle.money.specs.declared.refusal.Refusal.TheVariants.{OutOfMemory};
 ghost use Rattle.tables.specs.Conditions.{IsConsistent};
@@ -9,6 +9,7 @@ ghost use Rattle.tables.specs.WellFormed.{IsWellFormed};
 ghost use Rattle.tables.specs.declared.limits.TheConstants.{MAX_COMMITS};
 ghost use Rattle.conditions.specs.Report.{IsReportOf, IsGood};
 ghost use Rattle.book.specs.History.{IsLegal, replay};
+ghost use Rattle.book.specs.Loggable.{AreLoggable};
 ghost use Rattle.book.specs.Share.{parts_of, share_commits};
 ghost use Rattle.book.specs.Stamps.{AreStamped};
 
@@ -55,12 +56,13 @@ impl<K: Run> Closed<K> {
     /// What has committed, in order. Takes no memory.
     ///
     /// Each entry is done at the tables that those before it leave, its reply is the one that its transaction has
-    /// there, and its terminal is one of the run's. TIDs rise by record and by terminal, and epochs don't fall.
+    /// there, its terminal is one of the run's, and it may be written to a log file. TIDs rise by record and by
+    /// terminal, and epochs don't fall.
     pub fn history(&self) -> &[Arc<Entry, Global>]
         ensures history { map arc_value result.now ≡ self.now }
         ensures legal { IsLegal K.past K.first self.now (replay K.first self.now) }
         ensures stamped { AreStamped self.now }
-        ensures asked { All (λ e. e.terminal < K.parts) self.now }
+        ensures loggable { AreLoggable K.first.scale K.parts self.now }
     {
         self.book.history()
     }
