@@ -31,7 +31,8 @@ pub record IsDoneAtTables (s : Sizes) (e : Entry) : Type 0 where
 pub record IsLoggable (s : Sizes) (e : Entry) : Type 0 where
   pub ordered : IsStrictlySortedBy nat_cmp (keys_of e.writes.values)
   pub records : (n : ℕ) (value : Option (List ℕ)) → value_for e.writes n ≡ Some value → n < record_count s
-  pub narrow : (n : ℕ) (value : Option (List ℕ)) → value_for e.writes n ≡ Some value → n < narrow_count s → IsNarrow value
+  pub narrow : (n : ℕ) (value : Option (List ℕ)) → value_for e.writes n ≡ Some value → n < narrow_count s
+      → IsNarrow value
   pub texts : (n : ℕ) (value : Option (List ℕ)) → value_for e.writes n ≡ Some value → narrow_count s ≤ n
       → IsRow data_words IsData value
   pub limit : length e.writes.values ≤ MAX_WRITES

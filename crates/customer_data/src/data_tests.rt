@@ -67,6 +67,25 @@ fn twelve_payments_at_the_left(rt: HostRuntime) -> Result<(), Fail> {
     Ok(())
 }
 
+/// The same of a Payment of 0.05 whose numbers all differ.
+const NUMBERS: &[u8; 15] = b"7 2 3 4 5 0.05|";
+
+#[test]
+fn numbers_stand_in_their_order(rt: HostRuntime) -> Result<(), Fail> {
+    let payment = PaymentText {
+        customer: 7,
+        customer_district: 2,
+        customer_warehouse: 3,
+        district: 4,
+        warehouse: 5,
+        amount: Cents::new(5),
+    };
+    let words = data_after(rt.alloc(), &words_of(&[b'x'; MIN_DATA]), &payment)?;
+    let bytes: DataBytes = unpack(&words);
+    assert!(rt; text_of(&bytes).starts_with(&NUMBERS[..]));
+    Ok(())
+}
+
 #[test]
 fn a_text_of_its_words(rt: HostRuntime) -> Result<(), Fail> {
     let words = words_after(rt.alloc(), 1)?;

@@ -19,7 +19,7 @@ use Rattle.log_text.specs.declared.write.Value.TheVariants as value
 abbrev pub text_behind : List ℕ → List ℕ
 text_behind bytes = take (little_number 2 bytes) (drop 2 bytes)
 
--- the text that words stand for; opaque, since who meets it asks for `text_again` alone
+-- the text that words stand for: the one of which they are `data_words`. Opaque, since that is all that is asked of it
 unfoldable pub text_of_words : List ℕ → List ℕ
 text_of_words words = text_behind (flat_map (little_bytes 8) words)
 

@@ -23,7 +23,7 @@ header_of_version version logger loggers scale seed =
 abbrev pub header_view : ℕ → ℕ → Sizes → ℕ → HeaderView
 header_view logger loggers scale seed = header_of_version VERSION logger loggers scale seed
 
--- the rules of a header: loggers are numbered from 0, and a seed has eight bytes
+-- the rules of a header: its version is one that is read, loggers are numbered from 0, and a seed has eight bytes
 pub record IsHeader (h : HeaderView) : Type 0 where
   pub version : IsBetween OLDEST_VERSION VERSION h.version
   pub scale : IsScale h.scale

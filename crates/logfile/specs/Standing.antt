@@ -53,8 +53,8 @@ pub record IsKept (h : HeaderView) (story : List Call) (mark : ℕ) : Type 0 whe
   pub just : IsFile least h bodies
 
 -- what each open log file keeps, whose disk has these bytes and calls: it is of the version that is written today, its
--- text ends below 2^63, its epochs are near its mark, and its entries have a number each; on a modelled disk it stands there until the device fails, and no crash
--- can take what is up to its mark
+-- text ends below 2^63, its epochs are near its mark, and its entries have a number each; on a modelled disk it stands
+-- there until the device fails, and no crash can take what is up to its mark
 pub record IsLogFile (IsModelled : Type 0) (seen : List ℕ) (story : List Call) (h : HeaderView) (end : ℕ) (last : Last)
     (count number : ℕ) (failed : Bool) : Type 0 where
   pub reaches : end < 2 ^ 63

@@ -18,6 +18,7 @@ use std::sync::Wait;
 use tables::{CustomerKey, PaymentInput};
 
 /// Where the customer's credit is bad, reads C_DATA, and says what it is to become. Else nothing is read or written.
+/// Refused by `Stale` where no consistent tables have what was read, and for want of memory.
 #[inline(always)]
 pub(crate) fn tell<R: Wait, K: Start>(
     rt: &R,
@@ -39,8 +40,8 @@ pub(crate) fn tell<R: Wait, K: Start>(
     put_text(rt, alloc, transaction, payment, customer)
 }
 
-/// Puts the Payment's text at the left of C_DATA of its customer, whose credit is bad. It is a few in a hundred
-/// transactions that do, and what they hold of texts is large, so it stands apart.
+/// Puts the Payment's text at the left of C_DATA of its customer, whose credit is bad. Few of a hundred transactions
+/// come here, and texts take much of the stack, so it isn't inlined. Refused as `tell` is.
 #[inline(never)]
 fn put_text<R: Wait, K: Start>(
     rt: &R,
@@ -64,7 +65,7 @@ fn put_text<R: Wait, K: Start>(
     Ok(())
 }
 
-/// Reads C_DATA of a customer, as words.
+/// Reads C_DATA of a customer, as words. `Stale` where there is none; `OutOfMemory`.
 fn read_text<R: Wait, K: Start>(
     rt: &R,
     transaction: &mut Transaction<'_, K>,

@@ -58,8 +58,8 @@ IsMisnumbered es (Missing n) =
     IsFirstAmiss es n × (times n es ≡ 0) × ((e : EntryView) × Contains es e × (n < e.number))
 IsMisnumbered es (Twice n) = IsFirstAmiss es n × (2 ≤ times n es)
 
--- these strings of bytes are the database's log files, of one version, and of the commits that count in them, this is the first whose
--- number is amiss, or there is none
+-- these strings of bytes are the database's log files, of one version, and of the commits that count in them, this is
+-- the first whose number is amiss, or there is none
 pub record IsFirstGap (s : Sizes) (seed : ℕ) (strings : List (List ℕ)) (gap : Option Misnumbered) : Type 0 where
   pub version : ℕ
   pub files : List (List BodyView)

@@ -41,7 +41,8 @@ pub enum AskedVersion {
 
 /// What `recover` and a restart refuse by `Damaged`: of log files, in their order, the first that is none of the
 /// population's database and of its logger in the version that is asked for, and its first flaw; None where there is
-/// none such. It reads the disks once more, the first one twice, and writes nothing. There are 8 disks at most.
+/// none such. It reads the disks once more, the first one twice where its file's version is the one that is asked for,
+/// and writes nothing. There are 8 disks at most.
 ///
 /// # Errors
 ///

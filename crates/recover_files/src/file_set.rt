@@ -51,7 +51,7 @@ impl FileSet {
         Ok(())
     }
 
-    /// These files, and others behind them. There are some of both.
+    /// These files, and others behind them. A set without files counts as one of the version that is written today.
     ///
     /// # Errors
     ///

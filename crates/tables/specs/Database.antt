@@ -17,7 +17,7 @@ use Rattle.tables.specs.declared.rows.Stock.{Stock}
 
 pub record Database : Type 0 where
   pub scale : Sizes
-  -- whether Payments change C_DATA (TPC-C 2.5.2.2), which no transaction changes
+  -- whether Payments change C_DATA (TPC-C 2.5.2.2); no transaction changes this
   pub keeps_texts : Bool
   pub warehouses : FinMap nat_cmp Warehouse
   pub districts : FinMap district_cmp District
