@@ -1,5 +1,5 @@
 -- How many cells a scale's records have, and which of them are C_DATA's.
-use Rattle.std.proofs.Common.{◌≡◌, ℕ, ◌<◌, ◌+◌, ◌≤◌, length, arith, subst, sym, ap, ◌∙◌}
+use Rattle.std.proofs.Common.{◌≡◌, ℕ, ◌<◌, ◌+◌, ◌≤◌, length, arith, subst, sym}
 use Rattle.tables.specs.Sizes.{Sizes}
 use Rattle.tables.specs.Records.{narrow_count, record_count, number_of_key, customer_place}
 use Rattle.tables.specs.declared.keys.CustomerKey.{CustomerKey}
@@ -26,11 +26,3 @@ wide_cell s cells are k n at inside = (
   subst (λ (p : ℕ × ℕ). p.0 ≤ p.1) (λ i. (sym are.narrow i, sym at i)) (behind_narrow s k),
   subst (λ m. n < m) (sym (count_of s cells are)) inside,
 )
-
--- the same of a number that is told of the same scale by another name
-pub wide_cell_of : (s t : Sizes) (cells : CellsView) → s ≡ t → AreCellsOf t cells → (k : CustomerKey) (n : ℕ)
-    → n ≡ number_of_key s (key.CustomerData k) → n < record_count s
-    → (n ≡ number_of_key t (key.CustomerData k)) × (length cells.narrow ≤ n) × (n < cell_count cells)
-wide_cell_of s t cells same are k n at inside =
-    let at' = at ∙ ap (λ (q : Sizes). number_of_key q (key.CustomerData k)) same in
-    (at', wide_cell t cells are k n at' (subst (λ (q : Sizes). n < record_count q) same inside))

@@ -7,7 +7,7 @@ use Rattle.tables.specs.declared.records.RecordKey.TheVariants as key
 use Rattle.readset.specs.Cells.{AreCellsOf}
 use Rattle.readset.specs.Reads.{held}
 use Rattle.readset.specs.Transaction.{TransactionView, GoesOn}
-use Rattle.readset.proofs.CellsOf.{wide_cell_of}
+use Rattle.readset.proofs.CellsOf.{wide_cell}
 use Rattle.readset.proofs.NarrowOrWide.{wide_kind, writes_above}
 use Rattle.readset.proofs.UnderWay.{put_under_way, put_goes_on}
 use Rattle.readset.proofs.transaction.Transaction.put_wide.Goals as goal
@@ -18,8 +18,10 @@ invariant_of-self g c =
     let t0 = g.K.Start.tables in
     let first = g.K.Start.reader in
     let n = c.number_of_key-number.result in
-    let wide = wide_cell_of _ t0.scale first.cells (c.numbering.ensures ∙ ap (λ (t : Database). t.scale) i.0) (subst (AreCellsOf t0.scale) i.1 i.2)
-    c.args.key n c.number_of_key-number.ensures.value c.number_of_key-number.ensures.limit in
+    let scale = c.numbering.ensures ∙ ap (λ (t : Database). t.scale) i.0 in
+    let at = c.number_of_key-number.ensures.value ∙ ap (λ (q : Sizes). number_of_key q (key.CustomerData c.args.key)) scale in
+    let large = (wide_cell t0.scale first.cells (subst (AreCellsOf t0.scale) i.1 i.2) c.args.key n at
+    (subst (λ (q : Sizes). n < record_count q) scale c.number_of_key-number.ensures.limit)).0 in
     let read = subst (λ (x : TransactionView). IsSome (held x.reads (number_of_key t0.scale (key.CustomerData c.args.key)))) (sym c.self.view_is)
     c.requires.read in (
       i.0,
@@ -27,8 +29,8 @@ invariant_of-self g c =
       i.2,
       put_under_way first c.self.inside.reader c.self.inside.reads c.self.inside.writes c.put_wide.new.self n (Some c.args.words.now)
           c.put_wide.result i.3
-          (subst (λ n. IsSome (held c.self.inside.reads n)) (sym wide.0) read)
-          (wide_kind first.cells n (Some c.args.words.now) wide.1.0 c.told-words)
+          (subst (λ n. IsSome (held c.self.inside.reads n)) (sym at) read)
+          (wide_kind first.cells n (Some c.args.words.now) large c.told-words)
           c.put_wide.ensures.puts c.put_wide.ensures.kept,
     )
 
@@ -39,11 +41,14 @@ number_of_key-number-requires g c = subst (λ (q : Sizes). IsCustomerKey q c.arg
 pub put_wide-requires : goal.put_wide-requires
 put_wide-requires g c =
     let i = c.self.invariant in
+    let t0 = g.K.Start.tables in
     let first = g.K.Start.reader in
-    let numbered = c.number_of_key-number in
-    let wide = wide_cell_of _ g.K.Start.tables.scale first.cells (c.numbering.ensures ∙ ap (λ (t : Database). t.scale) i.0)
-    (subst (AreCellsOf g.K.Start.tables.scale) i.1 i.2) c.args.key numbered.result numbered.ensures.value numbered.ensures.limit in
-    record { above = writes_above first.cells c.self.inside.writes i.3.writes_kinds numbered.result wide.1.0 }
+    let n = c.number_of_key-number.result in
+    let scale = c.numbering.ensures ∙ ap (λ (t : Database). t.scale) i.0 in
+    let at = c.number_of_key-number.ensures.value ∙ ap (λ (q : Sizes). number_of_key q (key.CustomerData c.args.key)) scale in
+    let large = (wide_cell t0.scale first.cells (subst (AreCellsOf t0.scale) i.1 i.2) c.args.key n at
+    (subst (λ (q : Sizes). n < record_count q) scale c.number_of_key-number.ensures.limit)).0 in
+    record { above = writes_above first.cells c.self.inside.writes i.3.writes_kinds n large }
 
 pub returns-clause-goes_on : goal.returns-clause-goes_on
 returns-clause-goes_on g c =
