@@ -11,7 +11,7 @@ from pathlib import Path
 
 import preloaded
 from checks import SECONDS, SMALL, Checks, ends, run, same, shows, shows_runs, start, whole
-from logs import LOGS, LONG, SCALE, TWO, contents_of, counts_of, on_logs, run_in
+from logs import LOGS, LONG, SCALE, TWO, contents_of, counts_of, on_logs, put_files, run_in
 
 IN_USE = b"9 Device\nDIR/log-%d: in use by another process\n"
 
@@ -161,8 +161,7 @@ def calls_that_fail_are_told():
     for subcommand in ("recover", "check"):
         for name in ("log-0", "log-1"):
             with tempfile.TemporaryDirectory() as folder:
-                for logger, text in enumerate(LOGS):
-                    (Path(folder) / f"log-{logger}").write_bytes(text)
+                put_files(folder, LOGS)
                 words = [subcommand, *SMALL[1:], "--logs", folder, "--loggers", "2"]
                 ran = run(words, env=wrapper.environment(UNREAD=f"{folder}/{name}"))
                 text = b"9 Device\n%s/%s: can't be read: " % (folder.encode(), name.encode())

@@ -1,7 +1,9 @@
 """Tests of the built program on log files that aren't those that it asks for: what is told of them."""
 
 from checks import SMALL, ends, shows
-from logs import FIRST_VERSION, LATER, LOGS, VERSION, body, data_of, data_write, entry, log, on_logs, payment, void
+from logs import (
+    FIRST_VERSION, LATER, LOGS, VERSION, body, data_of, data_write, entry, log, on_logs, payment, void, with_more,
+)
 
 # The same scale with other numbers, and what is then told of the first file.
 OTHER_NUMBERS = [
@@ -85,40 +87,38 @@ VOIDS = [
     ("of another length", void(6, 8, 24), "its length isn't 25"),
 ]
 
-# Texts that a Payment of customer 10 may not leave, and such as are claimed to have another length.
+# Writes that a Payment of customer 10 may not leave in C_DATA: of other texts, or of another length than is claimed.
 TEXT = data_of(10, 100)
 
 WRITES = [
-    ("a text of 299 bytes", data_write(9, b"x" * 299)),
-    ("a text of 501 bytes", data_write(9, b"x" * 501)),
-    ("a text with byte 31", data_write(9, TEXT[:-1] + b"\x1f")),
-    ("a text with byte 127", data_write(9, b"\x7f" + TEXT[1:])),
-    ("a text with byte 255", data_write(9, TEXT[:200] + b"\xff" + TEXT[201:])),
-    ("no text", data_write(9, b"")),
-    ("a text that is claimed to be longer", data_write(9, TEXT, length=len(TEXT) + 1)),
-    ("a text that is claimed to be shorter", data_write(9, TEXT, length=len(TEXT) - 1)),
-    ("a text that is claimed to have 65,535 bytes", data_write(9, TEXT, length=65_535)),
-    ("a text of kind 0", data_write(9, TEXT, kind=0)),
-    ("a text of kind 2", data_write(9, TEXT, kind=2)),
-    ("an absent text", b"\x0c" + bytes([9, 0, 0, 0, 0])),
-    ("a text in place 20 of 20", data_write(20, TEXT)),
-    ("two texts", data_write(9, TEXT) + data_write(9, TEXT)),
+    ("a text of 299 bytes", [data_write(9, b"x" * 299)]),
+    ("a text of 501 bytes", [data_write(9, b"x" * 501)]),
+    ("a text with byte 31", [data_write(9, TEXT[:-1] + b"\x1f")]),
+    ("a text with byte 127", [data_write(9, b"\x7f" + TEXT[1:])]),
+    ("a text with byte 255", [data_write(9, TEXT[:200] + b"\xff" + TEXT[201:])]),
+    ("no text", [data_write(9, b"")]),
+    ("a text that is claimed to be longer", [data_write(9, TEXT, length=len(TEXT) + 1)]),
+    ("a text that is claimed to be shorter", [data_write(9, TEXT, length=len(TEXT) - 1)]),
+    ("a text that is claimed to have 65,535 bytes", [data_write(9, TEXT, length=65_535)]),
+    ("a text of kind 0", [data_write(9, TEXT, kind=0)]),
+    ("a text of kind 2", [data_write(9, TEXT, kind=2)]),
+    ("an absent text", [b"\x0c" + bytes([9, 0, 0, 0, 0])]),
+    ("a text in place 20 of 20", [data_write(20, TEXT)]),
+    ("two texts", [data_write(9, TEXT), data_write(9, TEXT)]),
 ]
 
 
 def with_writes(writes, version=VERSION):
-    """A file in which customer 10 pays 1.00, with these bytes for its write to C_DATA."""
-    written = payment(1, 4, 0, 10, 100, 1, version=FIRST_VERSION)
-    # Four writes stand before, and the bytes are one or two.
-    count = 5 + (len(writes) > 600)
-    return log(0, 1, body(5, with_bytes(written, 18, bytes([count])) + writes), version=version)
+    """A file in which customer 10 pays 1.00, with these writes in place of that to C_DATA."""
+    paid = payment(1, 4, 0, 10, 100, 1, version=FIRST_VERSION)
+    return log(0, 1, body(5, with_more(paid, *writes)), version=version)
 
 
 FLAWED = "log-0: the body at byte 49 isn't one that may stand there"
 
 DAMAGED += [(what, [with_writes(writes)], FLAWED) for what, writes in WRITES]
 
-DAMAGED += [("a text in version 1", [with_writes(data_write(9, TEXT), FIRST_VERSION)], FLAWED)]
+DAMAGED += [("a text in version 1", [with_writes([data_write(9, TEXT)], FIRST_VERSION)], FLAWED)]
 
 DAMAGED += [
     (

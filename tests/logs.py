@@ -13,6 +13,9 @@ from checks import REPORT, SMALL, brief, run
 # The version of the format in which files are written, and the one before, in which stands nothing of C_DATA.
 VERSION, FIRST_VERSION = 2, 1
 
+# The last epoch that there is.
+LATEST_EPOCH = 2**32 - 1
+
 # ---- Made by hand
 
 
@@ -42,6 +45,12 @@ def data_write(place, text, kind=1, length=None):
     return struct.pack("<BIBH", 12, place, kind, len(text) if length is None else length) + text
 
 
+def with_more(entry, *writes):
+    """An entry with more writes behind its own."""
+    (count,) = struct.unpack_from("<H", entry, 18)
+    return entry[:18] + struct.pack("<H", count + len(writes)) + entry[20:] + b"".join(writes)
+
+
 def entry(number, epoch, terminal):
     """The entry of a commit: customer `number` of district 1 pays 1.00 there, after the customers before."""
     return payment(number, epoch, terminal, number, 100, number, 100 * (number - 1))
@@ -69,12 +78,17 @@ LATER = log(1, 2, body(7, entry(2, 5, 1), entry(3, 6, 1), entry(4, 7, 1), entry(
 LOGS = [log(0, 2, body(5, entry(1, 4, 0))), LATER]
 
 
+def put_files(folder, files):
+    """Puts log files into a folder, each as that of the logger of its place."""
+    for logger, text in enumerate(files):
+        (Path(folder) / f"log-{logger}").write_bytes(text)
+
+
 def on_logs(subcommand, files, loggers=None, scale=SMALL[1:], within=nullcontext, **how):
     """Runs a subcommand on a folder of these log files, within what `within` makes of the folder. The folder is called
     DIR in what the errors got."""
     with tempfile.TemporaryDirectory() as folder:
-        for logger, text in enumerate(files):
-            (Path(folder) / f"log-{logger}").write_bytes(text)
+        put_files(folder, files)
         with within(Path(folder)):
             ran = run([subcommand, *scale, "--logs", folder, "--loggers", str(loggers or len(files))], **how)
         return ran._replace(err=ran.err.replace(folder.encode(), b"DIR"))

@@ -22,7 +22,7 @@ sys.path.insert(0, str(Path(__file__).resolve().parent.parent / "examples"))
 import kills
 import preloaded
 from checks import SHOWN, SMALL, TOP, Checks, Ran, brief, fail, run, same, shows, whole
-from logs import COUNTED, LOGS, SCALE, TWO, Counts, body, contents_of, inputs_of, log, payment
+from logs import COUNTED, LOGS, SCALE, TWO, Counts, body, contents_of, inputs_of, log, payment, put_files
 
 CALLS = TOP / "crates" / "tests_refusals" / "out" / "tests_refusals"
 
@@ -139,12 +139,6 @@ def a_refused_call_gives_the_same_when_it_is_made_again():
 
 # ---- The program
 
-def write_logs(folder, texts):
-    """Puts log files into a folder."""
-    for logger, text in enumerate(texts):
-        (Path(folder) / f"log-{logger}").write_bytes(text)
-
-
 def kind_of_words(ran):
     """What comes where the words have no memory."""
     return "at the words" if ran.status == 2 and not ran.out and ran.err in WORDS else None
@@ -153,7 +147,7 @@ def kind_of_words(ran):
 @shows
 def the_program_answers_or_refuses():
     with tempfile.TemporaryDirectory() as folder:
-        write_logs(folder, LOGS)
+        put_files(folder, LOGS)
         logs = [*SMALL[1:], "--logs", folder, "--loggers", "2"]
         shown = (
             b"durable 5\ncommits 2\nwarehouse 1 ytd 202.00\ndistrict 1 1 ytd 102.00 next 11\n"
@@ -192,7 +186,7 @@ def sweep_runs(what, words, inputs, scale=SCALE, files=(), first=b""):
 
     def among(go):
         with tempfile.TemporaryDirectory() as folder:
-            write_logs(folder, files)
+            put_files(folder, files)
             least = recovered(folder, scale) if files else (0, 0)
             ran = go("--logs", folder)
             # A file that was being made may have no header yet.

@@ -10,10 +10,11 @@ import time
 from pathlib import Path
 
 import kills
-from checks import REPORT, SECONDS, SMALL, Checks, ends, run, same, shows_runs, start
+from checks import SECONDS, SMALL, Checks, ends, run, same, shows_runs, start
 from flaws import with_bytes
 from logs import (
-    FIRST_VERSION, LATER, LOGS, LONG, SCALE, TWO, body, contents_of, counts_of, entry, inputs_of, log, run_in, void,
+    FIRST_VERSION, LATER, LATEST_EPOCH, LOGS, LONG, SCALE, TWO, body, contents_of, counts_of, entry, inputs_of, log,
+    put_files, run_in, void,
 )
 
 # The scale of SMALL, one terminal, and no input.
@@ -23,8 +24,7 @@ NO_INPUT = [*SMALL[1:], "--terminals", "1", "--count", "0", "--resume"]
 def on_files(files, *words, loggers=None, **how):
     """Resumes a run on these log files. Gives how it ended, and the files then."""
     with tempfile.TemporaryDirectory() as folder:
-        for logger, text in enumerate(files):
-            (Path(folder) / f"log-{logger}").write_bytes(text)
+        put_files(folder, files)
         ran = run_in(folder, "--loggers", str(loggers or len(files)), *words, **how)
         left = contents_of(folder)
     return ran, [left[name] for name in sorted(left)]
@@ -86,8 +86,6 @@ def runs_go_on_from_one_another():
 
 # A write of W_YTD alone that is one cent more than the customer paid.
 UNSOUND = with_bytes(log(0, 1, body(5, entry(1, 4, 0))), 49 + 8 + 8 + 20 + 6, b"\x85")
-
-LATEST_EPOCH = 2**32 - 1
 
 REFUSED = [
     (
@@ -154,7 +152,7 @@ def a_run_is_not_resumed_without_its_files():
 @shows_runs
 def a_run_is_not_resumed_on_files_that_are_in_use():
     with tempfile.TemporaryDirectory() as folder:
-        (Path(folder) / "log-0").write_bytes(log(0, 1))
+        put_files(folder, [log(0, 1)])
         with open(Path(folder) / "log-0", "rb") as file:
             fcntl.flock(file, fcntl.LOCK_SH)
             ran = run_in(folder, "--loggers", "1", *NO_INPUT)

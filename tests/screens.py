@@ -7,11 +7,10 @@ import subprocess
 import tempfile
 import threading
 import tty
-from pathlib import Path
 
 import preloaded
 from checks import SECONDS, SMALL, Ran, ends, fail, run, same, shows, shows_runs, start, whole
-from logs import LOGS
+from logs import LOGS, put_files
 
 SIZES = [len(log) for log in LOGS]
 
@@ -66,8 +65,7 @@ def has_shown(what, shown, read):
 def a_long_recovery_is_shown_on_a_terminal():
     wrapper = preloaded.Wrapper()
     with tempfile.TemporaryDirectory() as folder:
-        for logger, text in enumerate(LOGS):
-            (Path(folder) / f"log-{logger}").write_bytes(text)
+        put_files(folder, LOGS)
         held = [wrapper.environment(HELD=f"{folder}/log-{logger}") for logger in (0, 1)]
         one, two = SIZES
         cases = [("check", 1, 0, 0), ("recover", 1, 1, one), ("recover", 2, 0, two), ("check", 2, 1, one)]
@@ -87,8 +85,7 @@ def a_long_recovery_is_shown_on_a_terminal():
 def a_long_restart_is_shown_on_a_terminal():
     wrapper = preloaded.Wrapper()
     with tempfile.TemporaryDirectory() as folder:
-        for logger, text in enumerate(LOGS):
-            (Path(folder) / f"log-{logger}").write_bytes(text)
+        put_files(folder, LOGS)
         resumed = [*words_of("run", folder), "--terminals", "1", "--count", "0", "--resume"]
         ran = on_terminal(resumed, wrapper.environment(HELD=f"{folder}/log-1"))
         same("the status of a slow restart", ran.status, 0)
@@ -101,8 +98,7 @@ def a_long_restart_is_shown_on_a_terminal():
 def what_is_wrong_with_log_files_is_told_behind_what_was_shown():
     wrapper = preloaded.Wrapper()
     with tempfile.TemporaryDirectory() as folder:
-        for logger, text in enumerate([LOGS[0], LOGS[0]]):
-            (Path(folder) / f"log-{logger}").write_bytes(text)
+        put_files(folder, [LOGS[0], LOGS[0]])
         env = wrapper.environment(HELD=f"{folder}/log-1")
         for subcommand in OUTPUTS:
             alone = run(words_of(subcommand, folder))

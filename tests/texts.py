@@ -1,7 +1,6 @@
 """Tests of the built program on C_DATA, which Payments of customers with bad credit change, in scripts and in log
 files, and on log files of the first version, which have nothing of it."""
 
-import struct
 import tempfile
 from pathlib import Path
 
@@ -10,8 +9,8 @@ import kills
 import replay
 from checks import REPORT, SMALL, Checks, ends, run, same, shows, shows_runs, whole
 from logs import (
-    FIRST_VERSION, SCALE, TWO, VERSION, body, contents_of, counts_of, data_of, data_write, entry, log, on_logs, payment,
-    run_in, void,
+    FIRST_VERSION, LATEST_EPOCH, SCALE, TWO, VERSION, body, contents_of, counts_of, data_of, data_write, entry, log,
+    on_logs, payment, put_files, run_in, void, with_more,
 )
 
 FIRST_TEXT = "x" * 300
@@ -120,8 +119,8 @@ def log_files_of_both_versions_are_recovered():
 
 def with_text(text):
     """A file in which customer 10 has paid, and left this text."""
-    front = payment(1, 1, 0, 10, 1234, 1, version=FIRST_VERSION)
-    return log(0, 1, body(1, front[:18] + struct.pack("<H", 5) + front[20:] + data_write(9, text)))
+    paid = payment(1, 1, 0, 10, 1234, 1, version=FIRST_VERSION)
+    return log(0, 1, body(1, with_more(paid, data_write(9, text))))
 
 
 @shows
@@ -141,8 +140,7 @@ def texts_at_the_edges_of_their_rules_are_recovered():
 def replayed(*files):
     """What a reading by the format alone tells of files: a replay, or the sentence that it fails by."""
     with tempfile.TemporaryDirectory() as folder:
-        for logger, text in enumerate(files):
-            (Path(folder) / f"log-{logger}").write_bytes(text)
+        put_files(folder, files)
         try:
             return replay.text_of(replay.replay(folder, len(files))).encode()
         except replay.OtherData as why:
@@ -159,8 +157,7 @@ def a_replay_tells_a_text_that_is_not_its_payments():
         same(f"a replay of {text}", replayed(with_text(text)), wanted)
     without = log(0, 1, body(1, payment(1, 1, 0, 10, 1234, 1, version=FIRST_VERSION)))
     same("a replay without the text", replayed(without), f"commit 1 leaves None in place 9 of C_DATA, and not {right}")
-    good = payment(1, 1, 0, 3, 1234, 1)
-    spare = good[:18] + struct.pack("<H", 5) + good[20:] + data_write(2, first)
+    spare = with_more(payment(1, 1, 0, 3, 1234, 1), data_write(2, first))
     wanted = f"commit 1 leaves {first} in place 2 of C_DATA, and not None"
     same("a replay of a text more", replayed(log(0, 1, body(1, spare))), wanted)
 
@@ -168,8 +165,6 @@ def a_replay_tells_a_text_that_is_not_its_payments():
 # ---- Runs
 
 OTHER_VERSION = b"10 Damaged\nDIR/log-%d: its header is of version 1, and 2 was asked for\n"
-
-LATEST_EPOCH = 2**32 - 1
 
 
 @shows_runs
@@ -190,18 +185,18 @@ def a_run_does_not_go_on_from_files_of_the_first_version():
     ]
     for what, files, at in kinds:
         with tempfile.TemporaryDirectory() as folder:
-            for logger, text in enumerate(files):
-                (Path(folder) / f"log-{logger}").write_bytes(text)
+            put_files(folder, files)
             words = [*SMALL[1:], "--terminals", "1", "--count", "0", "--resume", "--loggers", str(len(files))]
             ends(f"on {what}", run_in(folder, *words), 1, err=OTHER_VERSION % at)
             same(f"the files of {what} then", contents_of(folder), {f"log-{n}": text for n, text in enumerate(files)})
 
 
 def texts_in(folder, loggers):
-    """How many texts of C_DATA stand in the log files of this folder."""
+    """The texts of C_DATA that stand in the log files of this folder, each behind its place, in the files' order."""
     paths = [Path(folder) / f"log-{logger}" for logger in range(loggers)]
     files = [replay.LogFile(path, path.read_bytes()) for path in paths]
-    return sum(table == replay.DATA for file in files for entry in file.entries for table, _, _ in entry.writes)
+    writes = [write for file in files for entry in file.entries for write in entry.writes]
+    return [(place, text) for table, place, text in writes if table == replay.DATA]
 
 
 @shows_runs
@@ -214,16 +209,22 @@ def runs_leave_the_texts_of_their_payments():
             same(f"the versions of {life}", {text[8:12] for text in contents_of(folder).values()}, {b"\2\0\0\0"})
             # A replay makes the texts itself.
             kills.examine(Checks.program, folder, 2, SCALE)
-            before, texts = texts, texts_in(folder, 2)
+            before, texts = texts, len(texts_in(folder, 2))
             same(f"whether {life} leaves texts", texts > before, True)
 
 
 @shows_runs
 def a_run_goes_on_from_the_texts_of_log_files():
     with tempfile.TemporaryDirectory() as folder:
-        (Path(folder) / "log-0").write_bytes(log(0, 1, body(1, TEN)))
-        ran = run_in(folder, *SMALL[1:], "--terminals", "1", "--loggers", "1", "--count", "100", "--resume")
+        put_files(folder, [log(0, 1, body(1, TEN))])
+        ran = run_in(folder, *SMALL[1:], "--terminals", "1", "--loggers", "1", "--count", "400", "--resume")
         same("the status of it", ran.status, 0)
         counts_of(ran.out.partition(b"\n")[2])
         kills.examine(Checks.program, folder, 1, SMALL[1:])
-        same("whether it leaves texts", texts_in(folder, 1) > 1, True)
+        # Those of the customer who had paid before: each Payment has put its numbers in front of the text before it.
+        texts = [text for place, text in texts_in(folder, 1) if place == 9]
+        same("the first text of customer 10", texts[:1], [data_of(10, 1234)])
+        same("whether it leaves others", len(texts) > 1, True)
+        for before, text in zip(texts, texts[1:]):
+            front, bar, _ = text.partition(b"|")
+            same("a text that customer 10 has then", text, (front + bar + before)[:500])

@@ -1,11 +1,10 @@
 """Tests of the built program on log files with void bodies, which are made by hand: what a restart leaves."""
 
 import tempfile
-from pathlib import Path
 
 import replay
 from checks import SMALL, ends, same, shows
-from logs import LATER, LOGS, body, entry, log, on_logs, void
+from logs import LATER, LOGS, body, entry, log, on_logs, put_files, void
 
 # Two files, of which the second goes on where the first has ended, once epochs 6 to 8 were given up in both.
 FIRST = body(5, entry(1, 4, 0))
@@ -24,8 +23,7 @@ def told(durable, commits):
 def replayed(files):
     """What a reading by the format alone tells of these files."""
     with tempfile.TemporaryDirectory() as folder:
-        for logger, text in enumerate(files):
-            (Path(folder) / f"log-{logger}").write_bytes(text)
+        put_files(folder, files)
         return replay.text_of(replay.replay(folder, len(files))).encode()
 
 

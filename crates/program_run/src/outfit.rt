@@ -2,6 +2,7 @@
 ghost use Rattle.std.specs.Prelude.{◌≡◌, ◌≢◌, ◌<◌, ◌≤◌, [], length, map, All, IfOk, IfErr};
 ghost use Rattle.money.specs.declared.refusal.Refusal.TheVariants.{OutOfMemory, Device};
 ghost use Rattle.tables.specs.declared.limits.TheConstants.{MAX_LOGGERS};
+ghost use Rattle.log_header.specs.Header.{header_view};
 ghost use Rattle.board.specs.declared.rule.Role.TheVariants.{Logger as logger_role};
 ghost use Rattle.board.specs.Opening.{logger_seats};
 ghost use Rattle.board.specs.Seats.{new_seat};
@@ -89,8 +90,8 @@ fn new_log<D: Disk + Drop, P: Pace + Drop>(
     slot: Slot<D, P>,
 ) -> Result<OpenLog<D, P>, Refusal>
     requires empty { D.is_modelled → D.seen slot.disk ≡ [] }
-    ensures own { IfOk result (λ log. (log.file.header.logger ≡ header.logger)
-        × (log.file.header.loggers ≡ header.loggers) × (log.file.last.mark ≡ 0)) }
+    ensures own { IfOk result (λ log. (log.file.header
+        ≡ header_view header.logger header.loggers header.scale header.seed) × (log.file.last.mark ≡ 0)) }
     ensures cause { IfErr result (λ refusal. (refusal ≢ OutOfMemory) → refusal ≡ Device) }
 {
     let Slot { disk, pace } = slot;

@@ -2,10 +2,13 @@
 use Rattle.std.proofs.Common.{◌≡◌, ℕ, Bool, false, ◌&&◌, List, [], ◌∷◌, Option, Some, None, length, refl, sym, ap, ◌∙◌, subst}
 use Rattle.tables.specs.Database.{Database, database}
 use Rattle.tables.specs.Apply.{after, left_by, order_unless}
+use Rattle.tables.specs.Conditions.{IsConsistent}
 use Rattle.tables.specs.NewOrder.{first_missing}
 use Rattle.tables.specs.Payment.{changes_text, front_of, payer_number}
 use Rattle.tables.specs.Records.{key_of}
 use Rattle.tables.specs.Rows.{row_at, rows}
+use Rattle.tables.specs.WellFormed.{IsWellFormed, HasRoom}
+use Rattle.tables.specs.declared.limits.TheConstants.{MAX_COMMITS}
 use Rattle.tables.specs.declared.input.Input.{Input}
 use Rattle.tables.specs.declared.input.Input.TheVariants as input
 use Rattle.tables.specs.declared.records.RecordKey.{RecordKey}
@@ -22,7 +25,7 @@ use Rattle.book.specs.declared.entry.Entry.{Entry}
 use Rattle.recover_found.specs.Found.{found}
 use Rattle.recover_found.specs.Rebuilt.{AreLeft, IsRebuilt}
 use Rattle.recover_laws.specs.Found.{durable_cut}
-use Rattle.recover_laws.specs.Recovered.{GiveTheReplay}
+use Rattle.recover_laws.specs.Recovered.{GiveTheReplay, IsFirstDatabase}
 use Rattle.recover_files.specs.Files.{AreFilesOf}
 use Rattle.recover_files.specs.Recovered.{IsRecovery}
 use Rattle.recover_files.specs.declared.recovering.Recovered.{Recovered}
@@ -120,6 +123,69 @@ replay_keeps_texts : (t : Database) (history : List Entry) → t.keeps_texts ≡
 replay_keeps_texts t [] none = refl
 replay_keeps_texts t (e ∷ es) none =
     replay_keeps_texts (after t e.input) es (keeps_after t e.input ∙ none) ∙ texts_after t e.input none
+
+-- what tables may begin with speaks of no Payments
+well_formed_without : (t : Database) → IsWellFormed t → IsWellFormed (without_texts t)
+well_formed_without t is = record {
+  warehouses = is.warehouses;
+  districts = is.districts;
+  customers = is.customers;
+  texts = is.texts;
+  stock = is.stock;
+  new_orders = is.new_orders;
+  orders = is.orders;
+  lines = is.lines;
+  items = is.items;
+  warehouse_rows = is.warehouse_rows;
+  district_rows = is.district_rows;
+  customer_rows = is.customer_rows;
+  text_rows = is.text_rows;
+  history_rows = is.history_rows;
+  order_rows = is.order_rows;
+  line_rows = is.line_rows;
+  item_rows = is.item_rows;
+  stock_rows = is.stock_rows;
+  order_customers = is.order_customers;
+  new_order_orders = is.new_order_orders;
+  line_orders = is.line_orders;
+  last_names = is.last_names;
+}
+
+consistent_without : (t : Database) → IsConsistent t → IsConsistent (without_texts t)
+consistent_without t is = record {
+  condition_1 = is.condition_1;
+  condition_2 = is.condition_2;
+  condition_3 = is.condition_3;
+  condition_4 = is.condition_4;
+  condition_5 = is.condition_5;
+  condition_6 = is.condition_6;
+  condition_7 = is.condition_7;
+  condition_8 = is.condition_8;
+  condition_9 = is.condition_9;
+  condition_10 = is.condition_10;
+  condition_12 = is.condition_12;
+}
+
+room_without : (n : ℕ) (t : Database) → HasRoom n t → HasRoom n (without_texts t)
+room_without n t room = record {
+  warehouses = room.warehouses;
+  districts = room.districts;
+  balances = room.balances;
+  paid = room.paid;
+  payments = room.payments;
+  deliveries = room.deliveries;
+  supplied = room.supplied;
+  orders = room.orders;
+  remote_orders = room.remote_orders;
+}
+
+pub first_without : (t0 : Database) → IsFirstDatabase t0 → IsFirstDatabase (without_texts t0)
+first_without t0 is = record {
+  scale = is.scale;
+  well_formed = well_formed_without t0 is.well_formed;
+  consistent = consistent_without t0 is.consistent;
+  room = room_without MAX_COMMITS t0 is.room;
+}
 
 -- strings that are the files of one list of bodies, which keep a history
 module _ {version : ℕ} (t0 : Database) (seed : ℕ) (strings : List (List ℕ)) (left : List (List BodyView))

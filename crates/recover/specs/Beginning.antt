@@ -21,12 +21,18 @@ pub record IsReplayOf (t0 : Database) (files : List (List BodyView)) (history : 
   pub commits : r.commits ≡ length (durable_cut files history)
 
 -- what was recovered of files is a beginning of what had happened over all lives: what counts of it in them, up to a
--- durable epoch that is no less than D; it is legal, and in replay; and among it is each entry whose reply was released
-pub record IsBeginningOf (o : Origin) (w : Lives) (files : List (List BodyView)) (r : Recovered) : Type 0 where
+-- durable epoch that is no less than D; it is legal, and in replay, from these first tables; among it is each entry
+-- whose reply was released; and the tables are what `IsReplay` says of the history over all lives
+pub record IsBeginningFrom (first : Database) (IsReplay : List Entry → Type 0) (w : Lives)
+    (files : List (List BodyView)) (r : Recovered) : Type 0 where
   pub no_less : durable_at w ≤ r.durable
   pub rest : List Entry
   pub beginning : joined_history w ≡ durable_cut files (joined_history w) ++ rest
-  pub legal : IsLegal 0 o.first (durable_cut files (joined_history w))
-      (replay o.first (durable_cut files (joined_history w)))
-  pub recovered : IsReplayOf o.first files (joined_history w) r
+  pub legal : IsLegal 0 first (durable_cut files (joined_history w))
+      (replay first (durable_cut files (joined_history w)))
+  pub recovered : IsReplay (joined_history w)
   pub released : All (Contains (durable_cut files (joined_history w))) (released_by w)
+
+-- and it is that beginning's replay
+abbrev pub IsBeginningOf : Origin → Lives → List (List BodyView) → Recovered → Type 0
+IsBeginningOf o w files r = IsBeginningFrom o.first (λ history. IsReplayOf o.first files history r) w files r

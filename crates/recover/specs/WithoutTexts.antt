@@ -1,12 +1,12 @@
 -- Files of version 1, in which nothing of C_DATA stands, and what recovery gives of them.
-use Rattle.std.specs.Prelude.{◌≡◌, ◌≤◌, false, List, ◌++◌, length}
-use Rattle.std.specs.List.{All, Contains}
+use Rattle.std.specs.Prelude.{◌≡◌, false, List, length}
 use Rattle.tables.specs.Database.{Database, database}
 use Rattle.log_text.specs.Bodies.{BodyView}
-use Rattle.book.specs.History.{IsLegal, replay}
+use Rattle.book.specs.History.{replay}
 use Rattle.book.specs.declared.entry.Entry.{Entry}
 use Rattle.recover_laws.specs.Found.{durable_cut}
-use Rattle.recover_lives.specs.World.{Lives, joined_history, released_by, durable_at}
+use Rattle.recover_lives.specs.World.{Lives}
+use Rattle.recover.specs.Beginning.{IsBeginningFrom}
 use Rattle.recover_files.specs.declared.recovering.Recovered.{Recovered}
 
 -- the same tables, whose Payments leave C_DATA alone, as those did that files of version 1 tell of
@@ -21,14 +21,8 @@ pub record IsReplayWithoutTexts (t0 : Database) (files : List (List BodyView)) (
   pub texts : (database r.tables).texts ≡ t0.texts
   pub commits : r.commits ≡ length (durable_cut files history)
 
--- and it is a beginning of what had happened over all lives of such a database, as `IsBeginningOf` says of today's: up
--- to a durable epoch that is no less than D; legal, and in replay; and among it is each entry whose reply was released
-pub record IsBeginningWithoutTexts (t0 : Database) (w : Lives) (files : List (List BodyView)) (r : Recovered)
-    : Type 0 where
-  pub no_less : durable_at w ≤ r.durable
-  pub rest : List Entry
-  pub beginning : joined_history w ≡ durable_cut files (joined_history w) ++ rest
-  pub legal : IsLegal 0 (without_texts t0) (durable_cut files (joined_history w))
-      (replay (without_texts t0) (durable_cut files (joined_history w)))
-  pub recovered : IsReplayWithoutTexts t0 files (joined_history w) r
-  pub released : All (Contains (durable_cut files (joined_history w))) (released_by w)
+-- and it is that of a beginning of what had happened over all lives of such a database, as `IsBeginningOf` says of
+-- today's
+abbrev pub IsBeginningWithoutTexts : Database → Lives → List (List BodyView) → Recovered → Type 0
+IsBeginningWithoutTexts t0 w files r =
+    IsBeginningFrom (without_texts t0) (λ history. IsReplayWithoutTexts t0 files history r) w files r

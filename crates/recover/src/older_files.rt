@@ -1,7 +1,6 @@
-//! What recovery gives of files of version 1.
+//! What recovery gives of a database whose Payments left C_DATA alone, as those did that files of version 1 tell of.
 ghost use Rattle.std.specs.Prelude.{◌≡◌, ℕ, ◌<◌, List, [], length, slice_index_or};
 ghost use Rattle.tables.specs.Database.{Database};
-ghost use Rattle.log_header.specs.declared.header.TheConstants.{OLDEST_VERSION};
 ghost use Rattle.log_text.specs.Bodies.{BodyView};
 ghost use Rattle.book.specs.declared.entry.Entry.{Entry as CommittedEntry};
 ghost use Rattle.logfile.specs.Standing.{LogFileView};
@@ -19,14 +18,21 @@ ghost use Rattle.recover_files.specs.declared.recovering.Recovered.{Recovered as
 use recover_laws::{files_hold_the_cut, rebuilt_tables_are_the_replay};
 use recover_lives::every_crash_is_survived;
 
-/// Where strings are log files of version 1 that hold a history, in which Payments left C_DATA alone, what `recover`
-/// gives is the replay of what counts of the history, up to the durable epoch, with the C_DATA that the database began
-/// with. That it doesn't refuse them by `Gap` is `recovery_is_the_replay`'s. The function does nothing: its contract is
-/// the law.
+/// Tables that a database may begin with it may begin with too where its Payments leave C_DATA alone: no rule of them
+/// speaks of Payments. So the laws on first tables and their histories hold of such a database. The function does
+/// nothing: its contract is the law.
+pub fn tables_without_texts_may_be_first()
+    ensures { (t0 : Database) → IsFirstDatabase t0 → IsFirstDatabase (without_texts t0) }
+{}
+
+/// Where strings are log files, of whichever version, that hold a history in which Payments left C_DATA alone, as in
+/// files of version 1, what `recover` gives is the replay of what counts of the history, up to the durable epoch, with
+/// the C_DATA that the database began with. That it doesn't refuse them by `Gap` is `recovery_is_the_replay`'s. The
+/// function does nothing: its contract is the law.
 pub fn recovery_without_texts_is_the_replay()
-    ensures { (t0 : Database) (seed : ℕ) (strings : List (List ℕ)) (files : List (List BodyView))
+    ensures { (t0 : Database) (version seed : ℕ) (strings : List (List ℕ)) (files : List (List BodyView))
         (history : List CommittedEntry) → IsHistoryOf (without_texts t0) history
-        → AreFilesOf OLDEST_VERSION t0.scale seed strings files
+        → AreFilesOf version t0.scale seed strings files
         → HoldTheHistory t0.scale (length files) (λ l. slice_index_or files l []) history → 0 < length files
         → (r : RecoveredValue) → IsRecovery t0 seed strings r → IsReplayWithoutTexts t0 files history r }
 {
@@ -42,7 +48,7 @@ pub fn recovery_without_texts_is_the_replay()
 pub fn every_crash_without_texts_is_recovered()
     ensures { (t0 : Database) (life : Life) (files : ℕ → LogFileView DiskView) (events : List LivesEvent)
         (by_logger : ℕ → List ℕ)
-        → life.first ≡ without_texts t0 → IsFirstDatabase life.first → IsFirst life files
+        → life.first ≡ without_texts t0 → IsFirstDatabase t0 → IsFirst life files
         → MayOccurInTurn (origin_of life) (first_world life files) events
         → MayStrike (origin_of life) (lives_after_all (origin_of life) (first_world life files) events) by_logger
         → (strings : List (List ℕ)) → AreInTurn life.plan.loggers by_logger strings

@@ -179,7 +179,9 @@ fn a_payment_has_its_bytes(rt: HostRuntime) -> Result<(), Fail> {
 /// What stands in front of the writes of the body's one entry, and the row of the write at this place among them.
 fn read_row(alloc: Global, place: usize) -> Result<Option<(Front, Option<Row>)>, Refusal> {
     let header = header()?;
-    let (body, _, _) = read_body(alloc, &header, Last::start(), &PAYMENT)?;
+    let (body, _, []) = read_body(alloc, &header, Last::start(), &PAYMENT)? else {
+        return Ok(None);
+    };
     let Body::Entries(mark, entries) = &body else {
         return Ok(None);
     };

@@ -36,9 +36,9 @@ loop-slot-preserved g c =
     let own = c.in_ok-new_log.ensures.own in
     let header = c.new-header.ensures.value in
     let is : IsLogOf (length c.loop-slot.logs.items) c.len-loggers.result 0 log.file = record {
-      logger_is = own.0 ∙ ap (λ (h : HeaderView). h.logger) header ∙ logger;
-      loggers_are = own.1 ∙ ap (λ (h : HeaderView). h.loggers) header;
-      mark_is = own.2;
+      logger_is = ap (λ (h : HeaderView). h.logger) own.0 ∙ ap (λ (h : HeaderView). h.logger) header ∙ logger;
+      loggers_are = ap (λ (h : HeaderView). h.loggers) own.0 ∙ ap (λ (h : HeaderView). h.loggers) header;
+      mark_is = own.1;
     } in
     let first = log_more (length c.loop-slot.logs.items) (map file c.loop-slot.logs.items) (map file c.push.new.self.items) log.file
     (ap (map file) pushed ∙ map_push file c.loop-slot.logs.items log) is i.3 in (
