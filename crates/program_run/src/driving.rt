@@ -20,6 +20,7 @@ use std::io::Write;
 use std::marker::Brand;
 use std::sync::Wait;
 use std::thread::Threads;
+use tables::Scale;
 use terminals::Gate;
 
 /// What terminals there are, and what they do.
@@ -142,10 +143,11 @@ fn drive_parts<
     ensures broken { IfErr result (IsBroken K.past K.first plan.now.terminals plan.now.inputs
         (W.contents writer.old) (W.contents writer.new)) }
 {
-    let mut outcome = match outcome_of::<K, D, P, G, R>(rt, alloc, parts, logs, gates, plan) {
-        Ok(outcome) => outcome,
+    let made = match run_parts::<K, D, P, G, R>(rt, alloc, parts, logs, gates, plan) {
+        Ok(made) => made,
         Err(refusal) => return Err(refusal),
     };
+    let (mut outcome, _scale) = made;
     let report = match ran(alloc, &mut outcome, writer) {
         Ok(report) => report,
         Err(refusal) => return Err(refusal),
@@ -156,8 +158,9 @@ fn drive_parts<
     })
 }
 
-/// Runs an engine of these parts. `OutOfMemory` is the only refusal.
-fn outcome_of<
+/// Runs an engine of these parts, as `drive_on` does, and answers what came of it, with the scale of its database. May
+/// wait, as `run_threads::run` does. `OutOfMemory` is the only refusal; then no input runs.
+pub fn run_parts<
     K: Run + Send + Sync,
     D: Disk + Send + Drop,
     P: Pace + Send + Drop,
@@ -170,14 +173,14 @@ fn outcome_of<
     logs: Vec<OpenLog<D, P>>,
     gates: Vec<G>,
     plan: &Plan,
-) -> Result<Outcome<K, D>, Refusal>
+) -> Result<(Outcome<K, D>, Scale), Refusal>
     requires run { IsOpenedAs parts K.population K.first K.past K.cells K.board K.seed K.name K.parts }
     requires logs { AreLogsOf (loggers_of parts) (base_of parts) (map (λ log. log.file) logs.items) }
     requires terminals { terminals_of parts ≡ plan.now.terminals }
     requires gates { length gates.items ≡ plan.now.terminals }
     ensures counted { IfOk result
-        (λ outcome. AreCounts K.past K.first plan.now.terminals plan.now.inputs outcome.closed
-        outcome.tallies.items outcome.counts) }
+        (λ x. AreCounts K.past K.first plan.now.terminals plan.now.inputs x.0.closed x.0.tallies.items x.0.counts) }
+    ensures scale { IfOk result (λ x. x.1 ≡ K.first.scale) }
     ensures only_memory { IfErr result (λ refusal. refusal ≡ OutOfMemory) }
 {
     let (engine, seats) = Engine::<K>::open(parts);
@@ -186,16 +189,12 @@ fn outcome_of<
         loggers,
         terminals,
     } = seats;
+    let scale = engine.population().scale();
     let desks = Desks { clock, terminals };
     let logs = manned(alloc, engine.board(), loggers, logs)?;
-    let stations = stations(
-        alloc,
-        engine.population().scale(),
-        gates,
-        plan.terminals,
-        plan.seed,
-    )?;
-    run::<K, G, D, P, R>(rt, alloc, engine, desks, logs, stations, plan.inputs)
+    let stations = stations(alloc, scale, gates, plan.terminals, plan.seed)?;
+    let outcome = run::<K, G, D, P, R>(rt, alloc, engine, desks, logs, stations, plan.inputs)?;
+    Ok((outcome, scale))
 }
 
 /// The number of the first logger that stopped, if one did.

@@ -10,8 +10,8 @@ mod telling;
 mod waits;
 
 pub use beat::Beat;
-pub use driving::{Driven, Plan, drive, drive_on};
-pub use outfit::{OpenLog, Slot};
+pub use driving::{Driven, Plan, drive, drive_on, run_parts};
+pub use outfit::{OpenLog, Slot, created};
 pub use screen::Screen;
 pub use stopwatch::Stopwatch;
 pub use telling::ran;

@@ -63,7 +63,7 @@ pub(crate) fn stations<G: Gate + Drop>(
 
 /// New log files on the disks of slots, one for each logger, in their order, of a population of this scale and seed.
 /// `OutOfMemory` is a refusal, and so is `Device`, where a disk fails.
-pub(crate) fn created<D: Disk + Drop, P: Pace + Drop>(
+pub fn created<D: Disk + Drop, P: Pace + Drop>(
     alloc: Global,
     scale: Scale,
     seed: u64,

@@ -4,7 +4,7 @@ use Rattle.program_run.proofs.driving.drive_parts.Goals as goal
 
 pub returns-clause-ran : goal.returns-clause-ran
 returns-clause-ran g c =
-    let o = c.in-Ok.outcome in
+    let o = c.in-Ok.made.0 in
     record {
       history = o.closed;
       tallies = o.tallies.items;
@@ -18,5 +18,5 @@ returns-in-Err-clause-broken g c = unrun (λ not. absurd (not c.in-Err.ensures.o
 
 pub returns-in-Err-ran-clause-broken : goal.returns-in-Err-ran-clause-broken
 returns-in-Err-ran-clause-broken g c =
-    let o = c.in-Ok.outcome in
+    let o = c.in-Ok.made.0 in
     untold o.closed o.tallies.items o.counts c.in-Ok.ensures.counted c.in-Err-ran.ensures.cut_short
