@@ -1,9 +1,7 @@
 //! All crashes of runs.
 
-use crate::images::Tape;
 use crate::judging::{Found, Seen};
-use crate::lives::{COMMITS, Lived, Ways, begun, plain, resumed};
-use crate::notes::Notes;
+use crate::lives::{COMMITS, Lived, begun, plain, resumed};
 use crate::walking::{Walk, crashes, moments};
 use log_disk::Memory;
 use money::Refusal;
@@ -14,6 +12,7 @@ use std::sync::Wait;
 use std::test::Fail;
 use std::thread::Threads;
 use tests_disks::{Fault, Torn};
+use tests_recorded::{Notes, Tape, Ways};
 
 /// A life that ends well.
 const WELL: Lived = Lived {

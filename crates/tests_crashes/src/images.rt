@@ -1,47 +1,9 @@
-//! The disks of a run, and what a crash leaves on them.
+//! What a crash leaves on the disks of a run.
 
-use log_disk::{Disk, Memory, MemoryCall};
-use money::Refusal;
+use log_disk::MemoryCall;
 use std::alloc::{AllocError, Global};
 use tests_disks::{Torn, leave};
-use tests_log_files::disk_of;
-
-/// A disk in memory, and the stamps of its calls.
-#[derive(Drop)]
-pub(crate) struct Tape {
-    pub(crate) memory: Memory,
-    /// How many calls it had before the run.
-    base: usize,
-    pub(crate) stamps: Vec<u64>,
-}
-
-impl Tape {
-    /// A disk on which nothing has been called.
-    pub(crate) fn new(alloc: Global) -> Tape {
-        Tape {
-            memory: Memory::new(alloc),
-            base: 0,
-            stamps: Vec::new(alloc),
-        }
-    }
-
-    /// A disk that has these bytes, synced.
-    pub(crate) fn of(alloc: Global, bytes: &[u8]) -> Result<Tape, Refusal> {
-        let mut memory = disk_of(alloc, bytes)?;
-        memory.sync()?;
-        Ok(Tape {
-            base: memory.calls().len(),
-            memory,
-            stamps: Vec::new(alloc),
-        })
-    }
-
-    /// How many of its calls have no stamp.
-    pub(crate) fn unstamped(&self) -> usize {
-        let stamped = self.base.saturating_add(self.stamps.len());
-        self.memory.calls().len().saturating_sub(stamped)
-    }
-}
+use tests_recorded::Tape;
 
 /// What stands on a disk at a stamp.
 #[derive(Drop)]

@@ -1,12 +1,12 @@
 //! Whether what is recovered of a crash is right.
 
-use crate::notes::Notes;
 use log_disk::Memory;
 use money::Refusal;
 use population::Population;
 use recover::recover;
 use std::alloc::Global;
 use tests_log_files::unwatched;
+use tests_recorded::Notes;
 
 /// What was seen of crashes.
 #[derive(Clone, Copy, Debug, Default, PartialEq, Eq)]

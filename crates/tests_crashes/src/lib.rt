@@ -11,10 +11,4 @@ mod judging;
 #[cfg(test)]
 mod lives;
 #[cfg(test)]
-mod notes;
-#[cfg(test)]
-mod recorder;
-#[cfg(test)]
-mod teller;
-#[cfg(test)]
 mod walking;

@@ -3,24 +3,19 @@ ghost use Rattle.std.specs.Prelude.{◌≡◌, ◌<◌, ◌≤◌, length, map, 
 ghost use Rattle.book.specs.Parts.{IsFresh, base_of, loggers_of, terminals_of};
 ghost use Rattle.program_run.specs.Outfit.{AreLogsOf};
 
-use crate::images::Tape;
-use crate::notes::Notes;
-use crate::recorder::Recorder;
-use crate::teller::Teller;
 use log_disk::Disk;
-use logfile::LogFile;
 use money::Refusal;
 use population::Population;
-use program_run::{Driven, OpenLog, Plan, Slot, drive, drive_on};
+use program_run::{Driven, Plan, drive, drive_on};
 use recover_restart::{Restarted, restart};
-use run_threads::AtOnce;
-use std::alloc::{AllocError, Global};
+use std::alloc::Global;
 use std::sync::Wait;
 use std::thread::Threads;
 use tables::Scale;
-use terminals::Calls;
-use tests_disks::{FailingDisk, Fault};
 use tests_log_files::unwatched;
+use tests_recorded::{
+    Notes, Recorded, Tape, Teller, Ways, is_possible, open_logs, recorded, slots, tellers,
+};
 
 /// How many commits the database takes.
 pub(crate) const COMMITS: u32 = 200;
@@ -29,66 +24,6 @@ pub(crate) const COMMITS: u32 = 200;
 /// all of it.
 pub(crate) fn plain(alloc: Global) -> Result<Population, Refusal> {
     Population::plain(alloc, Scale::new(1, 1, 10, 20, 60, COMMITS)?)
-}
-
-/// How a life's disks are: which call of them fails, if one does, and how often others go first before a sync.
-#[derive(Clone, Copy, Debug, PartialEq, Eq)]
-pub(crate) struct Ways {
-    pub(crate) fault: Option<Fault>,
-    pub(crate) hold: u32,
-}
-
-type Recorded<'a> = Recorder<'a, FailingDisk<'a>>;
-
-/// A disk, recorded.
-fn recorder<'a>(notes: &'a Notes, tape: &'a mut Tape, ways: Ways) -> Recorded<'a> {
-    Recorder {
-        disk: FailingDisk::new(&mut tape.memory, ways.fault),
-        notes,
-        stamps: &mut tape.stamps,
-        hold: ways.hold,
-    }
-}
-
-/// The disks, recorded.
-fn recorded<'a>(
-    alloc: Global,
-    notes: &'a Notes,
-    tapes: &'a mut [Tape],
-    ways: Ways,
-) -> Result<Vec<Recorded<'a>>, AllocError> {
-    let mut all = Vec::new(alloc);
-    for tape in tapes.iter_mut() {
-        all.push(recorder(notes, tape, ways))?;
-    }
-    Ok(all)
-}
-
-/// The terminals' gates.
-fn tellers<'a>(alloc: Global, notes: &'a Notes, terminals: u16) -> Result<Vec<Teller<'a>>, Refusal>
-    ensures { IfOk result (λ gates. length gates.items ≡ terminals) }
-{
-    let mut gates = Vec::new(alloc);
-    for terminal in 0..terminals {
-        gates.push(Teller {
-            calls: Calls::default(),
-            notes,
-            terminal: u64::from(terminal),
-        })?;
-    }
-    if gates.len() != usize::from(terminals) {
-        return Err(Refusal::BadInput);
-    }
-    Ok(gates)
-}
-
-/// The disks, for new log files.
-fn slots<D: Disk + Drop>(alloc: Global, disks: Vec<D>) -> Result<Vec<Slot<D, AtOnce>>, AllocError> {
-    let mut slots = Vec::new(alloc);
-    for disk in disks {
-        slots.push(Slot { disk, pace: AtOnce })?;
-    }
-    Ok(slots)
 }
 
 /// What a life comes to.
@@ -103,14 +38,6 @@ fn outcome_of(driven: Driven) -> Lived {
         is_good: driven.report.is_good(),
         has_stopped: driven.stopped.is_some(),
     }
-}
-
-/// Whether there are 1 to 8 loggers, and 1 to 16 terminals.
-fn is_possible(loggers: usize, plan: &Plan) -> bool
-    ensures loggers { IsTrue result → (0 < loggers) × (loggers ≤ 8) }
-    ensures terminals { IsTrue result → (0 < plan.now.terminals) × (plan.now.terminals ≤ 16) }
-{
-    0 < loggers && loggers <= 8 && 0 < plan.terminals && plan.terminals <= 16
 }
 
 /// A first life on empty disks.
@@ -187,18 +114,4 @@ fn driven_on<D: Disk + Send + Drop, R: Threads + Wait + Sync>(
     let mut text = Vec::new(alloc);
     let driven = drive_on(rt, alloc, parts, logs, gates, plan, &mut text)?;
     Ok(outcome_of(driven))
-}
-
-/// Log files, of loggers whose turns follow at once.
-fn open_logs<D: Disk + Drop>(
-    alloc: Global,
-    files: Vec<LogFile<D>>,
-) -> Result<Vec<OpenLog<D, AtOnce>>, AllocError>
-    ensures { IfOk result (λ logs. map (λ log. log.file) logs.items ≡ files.items) }
-{
-    let mut logs = Vec::new(alloc);
-    for file in files {
-        logs.push(OpenLog { file, pace: AtOnce })?;
-    }
-    Ok(logs)
 }

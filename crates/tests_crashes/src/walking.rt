@@ -1,14 +1,14 @@
 //! Going through the crashes of a run.
 
-use crate::images::{Image, Tape};
+use crate::images::Image;
 use crate::judging::{Found, Seen};
 use crate::lives::plain;
-use crate::notes::Notes;
 use log_disk::Memory;
 use money::Refusal;
 use std::alloc::{AllocError, Global};
 use tests_disks::Torn;
 use tests_log_files::disk_of;
+use tests_recorded::{Notes, Tape};
 
 /// How the last writes of the first disk and of any other are torn.
 const MIXES: [(Torn, Torn); 5] = [

@@ -1,5 +1,5 @@
 use Rattle.book.specs.Parts.{loggers_of}
-use Rattle.tests_crashes.proofs.Resumed.{are_logs}
+use Rattle.tests_recorded.proofs.Resumed.{are_logs}
 use Rattle.tests_crashes.proofs.lives.resumed_on.Goals as goal
 
 pub driven_on-requires-clause-files : goal.driven_on-requires-clause-files

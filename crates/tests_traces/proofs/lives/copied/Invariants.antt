@@ -1,0 +1,7 @@
+use Rattle.std.proofs.Common.{◌≡◌, map, take}
+use Rattle.std.specs.Arc.{arc_value}
+use Rattle.tests_traces.proofs.lives.copied.Given as goal
+
+-- the entries so far
+abbrev pub invariant-loop-entry : goal.invariant-loop-entry
+invariant-loop-entry l = map arc_value l.all.items ≡ map arc_value (take l.entry-index l.history)

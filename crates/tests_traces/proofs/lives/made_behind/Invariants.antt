@@ -1,0 +1,8 @@
+use Rattle.book.proofs.RunNames.{run_named_by, ledger_named_by}
+use Rattle.tests_traces.proofs.lives.made_behind.Given as goal
+
+abbrev pub ghosts-made_by-K-Run : goal.ghosts-made_by-K-Run
+ghosts-made_by-K-Run g a = run_named_by a.parts
+
+abbrev pub ghosts-made_by-K-Ledger : goal.ghosts-made_by-K-Ledger
+ghosts-made_by-K-Ledger g a = ledger_named_by a.parts

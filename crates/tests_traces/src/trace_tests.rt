@@ -1,0 +1,259 @@
+//! Runs of threads are lists of the crash world's events.
+
+use crate::crashing::{calls_at, crashed_at};
+use crate::lives::{COMMITS, begun, empty, memories, resumed};
+use crate::record::{Beginning, Judgements, Made, Record};
+use crate::sights::Sights;
+use log_disk::MemoryCall;
+use money::Refusal;
+use program_run::Plan;
+use std::alloc::{AllocError, Global};
+use std::sync::Wait;
+use std::test::Fail;
+use std::thread::Threads;
+use tests_recorded::{Notes, Tape, Ways};
+use traces::Start;
+
+/// How many calls make a log file.
+const MAKING: usize = 2;
+
+/// How a run is set up: how many loggers it has, and how often others go first before a sync.
+#[derive(Clone, Copy, Debug, PartialEq, Eq)]
+struct Setup {
+    loggers: u16,
+    hold: u32,
+}
+
+impl Setup {
+    fn ways(self) -> Ways {
+        Ways {
+            fault: None,
+            hold: self.hold,
+        }
+    }
+}
+
+/// A record, what was seen with stamps, and how many commits were past.
+#[derive(Drop)]
+struct Seen {
+    record: Record,
+    sights: Sights,
+    past: u64,
+}
+
+impl Seen {
+    /// Of a life that has committed this, with numbers behind so many. `BadInput` where a call has no stamp.
+    fn of(
+        alloc: Global,
+        notes: &Notes,
+        tapes: Vec<Tape>,
+        beginning: Beginning,
+        made: Made,
+        past: u64,
+    ) -> Result<Seen, Refusal> {
+        if tapes.iter().any(|tape| tape.unstamped() > 0) {
+            return Err(Refusal::BadInput);
+        }
+        let sights = Sights::of(alloc, notes, &tapes, &beginning.starts, past as usize)?;
+        let disks = memories(alloc, tapes)?;
+        let record = Record::of(alloc, made, beginning, disks)?;
+        Ok(Seen {
+            record,
+            sights,
+            past,
+        })
+    }
+}
+
+/// What is said of runs.
+#[derive(Clone, Copy, Debug, Default, PartialEq, Eq)]
+struct Verdict {
+    /// Of their records.
+    runs: Judgements,
+    commits: usize,
+    released: usize,
+    past: u64,
+    /// Of records with two stamps exchanged.
+    exchanged: Judgements,
+}
+
+impl Verdict {
+    /// With what is said of one more, and of those records of it in which the stamps of every `step`th release and of
+    /// its sync are exchanged.
+    fn with(self, alloc: Global, seen: Seen, step: usize) -> Result<Verdict, Refusal> {
+        let Seen {
+            record,
+            mut sights,
+            past,
+        } = seen;
+        let mut runs = self.runs;
+        runs.add(record.is_accepted(alloc, &sights)?);
+        let released = sights.releases();
+        let exchanged = record.exchanged(alloc, &mut sights, step)?;
+        Ok(Verdict {
+            runs,
+            commits: self.commits.saturating_add(record.made.history.len()),
+            released: self.released.saturating_add(released),
+            past: self.past.saturating_add(past),
+            exchanged: self.exchanged.with(exchanged),
+        })
+    }
+
+    /// Whether so many runs are accepted, each reply was released, and of some records with exchanged stamps all are
+    /// refused.
+    fn is_good(&self, runs: u64) -> bool {
+        let all = Judgements {
+            accepted: runs,
+            ..Judgements::default()
+        };
+        self.runs == all
+            && self.released == self.commits
+            && self.exchanged.accepted == 0
+            && self.exchanged.refused > 0
+    }
+}
+
+/// Where new log files stand.
+fn new_files(alloc: Global, loggers: u16) -> Result<Beginning, AllocError> {
+    let mut starts = Vec::new(alloc);
+    for _ in 0..loggers {
+        starts.push(Start {
+            calls: MAKING,
+            end: 0,
+        })?;
+    }
+    Ok(Beginning {
+        is_first: true,
+        base: 0,
+        starts,
+    })
+}
+
+/// Runs terminals beside loggers on empty disks.
+fn first_life<R: Threads + Wait + Sync>(
+    rt: &R,
+    alloc: Global,
+    setup: Setup,
+    plan: &Plan,
+) -> Result<Seen, Refusal> {
+    let notes = Notes::new(alloc, COMMITS as usize)?;
+    let mut tapes = empty(alloc, setup.loggers)?;
+    let made = begun(rt, alloc, &notes, &mut tapes, setup.ways(), plan)?;
+    let beginning = new_files(alloc, setup.loggers)?;
+    Seen::of(alloc, &notes, tapes, beginning, made, 0)
+}
+
+/// Where a log file stands that was open at a stamp: its next text comes behind the gate that ends its own.
+fn start_at(tape: &Tape, stamp: u64) -> Start {
+    let calls = calls_at(tape, stamp);
+    let end = match tape.memory.calls().get(calls) {
+        Some(MemoryCall::Write { at, .. }) => at.saturating_sub(1),
+        _ => 0,
+    };
+    Start { calls, end }
+}
+
+/// Runs terminals on what a crash leaves of such a life in the midst of it.
+fn second_life<R: Threads + Wait + Sync>(
+    rt: &R,
+    alloc: Global,
+    setup: Setup,
+    plan: &Plan,
+) -> Result<Seen, Refusal> {
+    let notes = Notes::new(alloc, COMMITS as usize)?;
+    let mut tapes = empty(alloc, setup.loggers)?;
+    begun(rt, alloc, &notes, &mut tapes, setup.ways(), plan)?;
+    let left = crashed_at(alloc, &tapes, notes.stamps() / 2)?;
+    life_on(rt, alloc, left, setup, plan)
+}
+
+/// Runs terminals on disks that have log files.
+fn life_on<R: Threads + Wait + Sync>(
+    rt: &R,
+    alloc: Global,
+    left: Vec<Tape>,
+    setup: Setup,
+    plan: &Plan,
+) -> Result<Seen, Refusal> {
+    let notes = Notes::new(alloc, COMMITS as usize)?;
+    let mut tapes = left;
+    let life = resumed(rt, alloc, &notes, &mut tapes, setup.ways(), plan)?;
+    let mut starts = Vec::new(alloc);
+    for tape in &tapes {
+        starts.push(start_at(tape, life.stamps))?;
+    }
+    let beginning = Beginning {
+        is_first: false,
+        base: life.base,
+        starts,
+    };
+    Seen::of(alloc, &notes, tapes, beginning, life.made, life.past)
+}
+
+/// First lives of so many loggers and terminals.
+fn first_lives<R: Threads + Wait + Sync>(
+    rt: &R,
+    alloc: Global,
+    sizes: &[(u16, u16)],
+    hold: u32,
+) -> Result<Verdict, Refusal> {
+    let mut verdict = Verdict::default();
+    for (loggers, terminals) in sizes {
+        let setup = Setup {
+            loggers: *loggers,
+            hold,
+        };
+        let plan = Plan {
+            terminals: *terminals,
+            inputs: 8,
+            seed: u64::from(*loggers),
+        };
+        let seen = first_life(rt, alloc, setup, &plan)?;
+        verdict = verdict.with(alloc, seen, 11)?;
+    }
+    Ok(verdict)
+}
+
+#[test]
+fn runs_are_lists_of_events(rt: HostRuntime) -> Result<(), Fail> {
+    let sizes = [(1, 1), (1, 16), (2, 4), (3, 5)];
+    let verdict = first_lives(&rt, rt.alloc(), &sizes, 10)?;
+    assert!(rt; verdict.is_good(4));
+    assert!(rt; verdict.commits > 150);
+    assert!(rt; verdict.exchanged.refused > 5);
+    Ok(())
+}
+
+#[test]
+fn runs_of_many_loggers_are_lists_of_events(rt: HostRuntime) -> Result<(), Fail> {
+    let verdict = first_lives(&rt, rt.alloc(), &[(5, 2), (8, 16)], 10)?;
+    assert!(rt; verdict.is_good(2));
+    assert!(rt; verdict.commits > 100);
+    Ok(())
+}
+
+#[test]
+fn runs_with_held_syncs_are_lists_of_events(rt: HostRuntime) -> Result<(), Fail> {
+    let verdict = first_lives(&rt, rt.alloc(), &[(1, 4), (4, 8)], 400)?;
+    assert!(rt; verdict.is_good(2));
+    Ok(())
+}
+
+#[test]
+fn second_lives_are_lists_of_events(rt: HostRuntime) -> Result<(), Fail> {
+    let setup = Setup {
+        loggers: 3,
+        hold: 10,
+    };
+    let plan = Plan {
+        terminals: 4,
+        inputs: 12,
+        seed: 3,
+    };
+    let seen = second_life(&rt, rt.alloc(), setup, &plan)?;
+    let verdict = Verdict::default().with(rt.alloc(), seen, 5)?;
+    assert!(rt; verdict.is_good(1));
+    assert!(rt; verdict.past > 0);
+    assert!(rt; verdict.commits > 30);
+    Ok(())
+}

@@ -1,0 +1,13 @@
+mod Beginnings
+mod Marks
+mod Writes
+mod Lanes
+mod Steps
+mod Changes
+mod Texts
+mod Events
+mod Turns
+mod Openings
+mod Parts
+mod FirstLives
+mod Recorded

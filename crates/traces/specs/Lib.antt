@@ -1,0 +1,4 @@
+pub mod Told
+pub mod Shown
+pub mod Moments
+pub mod First
