@@ -226,8 +226,8 @@ impl Order {
         Ok(())
     }
 
-    /// A call of a logger's disk: before the first of a batch comes its take, if there is a place for it, and behind the
-    /// last one its mark is confirmed and published.
+    /// A call of a logger's disk: before the first of a batch comes its take, if there is a place for it, and behind
+    /// the last one its mark is confirmed and published.
     fn call(&mut self, logger: usize) -> Result<(), AllocError> {
         let calls = self.lines.get(logger).map_or(0, |line| line.calls);
         if calls % CALLS == 0 {

@@ -32,8 +32,8 @@ impl Model for Made {
     ghost invariant = { λ made. All (IsLoggable made.scale) (map arc_value made.history.items) };
 }
 
-/// Where a life began: whether it was a first one; the epoch up to which all was past; and where its log files stood, of
-/// which only how many calls had made them is asked in a first life.
+/// Where a life began: whether it was a first one; the epoch up to which all was past; and where its log files stood,
+/// of which only how many calls had made them is asked in a first life.
 #[derive(Drop)]
 pub(crate) struct Beginning {
     pub(crate) is_first: bool,
