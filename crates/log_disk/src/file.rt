@@ -5,11 +5,12 @@ ghost use Rattle.log_disk.specs.Calls.{Counts};
 
 use crate::disk::Disk;
 use crate::failing::{counted, fits, usable};
+use crate::opened::opened;
 use money::Refusal;
-use std::fs::{File, OpenOptions, TryLockError};
+use std::fs::{self, File, OpenOptions, TryLockError};
 use std::io::{self, Error};
 use std::marker::Model;
-use std::os::unix::fs::FileExt;
+use std::os::unix::fs::{FileExt, MetadataExt};
 use std::rt::Files;
 
 /// A disk in a file. It isn't modelled: no contract says what bytes a file holds. Contracts see how many of its calls
@@ -19,6 +20,8 @@ pub struct FileDisk {
     file: File,
     failures: u64,
     last_error: Option<Error>,
+    // Whether the last call that failed was one that writes.
+    failed_to_write: bool,
 }
 
 impl Model for FileDisk {
@@ -58,20 +61,36 @@ impl FileDisk {
     pub fn in_new_file<R: Files<File = File>>(files: &R, path: &str) -> io::Result<FileDisk>
         ensures { IfOk result (λ disk. disk ≡ 0) }
     {
-        let file = OpenOptions::new()
-            .read(true)
-            .write(true)
-            .create_new(true)
-            .open(files, path)?;
-        Ok(FileDisk::of(file))
+        let mut options = OpenOptions::new();
+        options.read(true).write(true).create_new(true);
+        Ok(FileDisk::of(opened(&options, files, path)?))
+    }
+
+    /// A disk in the file at this path, with the bytes that are there, or in a new one where there is none.
+    pub fn in_file_or_new<R: Files<File = File>>(files: &R, path: &str) -> io::Result<FileDisk>
+        ensures { IfOk result (λ disk. disk ≡ 0) }
+    {
+        let mut options = OpenOptions::new();
+        options.read(true).write(true).create(true);
+        Ok(FileDisk::of(opened(&options, files, path)?))
     }
 
     /// As `open`, with the system's error in place of `Device`.
     pub fn in_file<R: Files<File = File>>(files: &R, path: &str) -> io::Result<FileDisk>
         ensures { IfOk result (λ disk. disk ≡ 0) }
     {
-        let file = OpenOptions::new().read(true).write(true).open(files, path)?;
-        Ok(FileDisk::of(file))
+        let mut options = OpenOptions::new();
+        options.read(true).write(true);
+        Ok(FileDisk::of(opened(&options, files, path)?))
+    }
+
+    /// As `in_file`, of a file that is only to be read, and may be one that can't be written: each write fails.
+    pub fn in_file_to_read<R: Files<File = File>>(files: &R, path: &str) -> io::Result<FileDisk>
+        ensures { IfOk result (λ disk. disk ≡ 0) }
+    {
+        let mut options = OpenOptions::new();
+        options.read(true);
+        Ok(FileDisk::of(opened(&options, files, path)?))
     }
 
     // The disk in a file that is open.
@@ -82,6 +101,7 @@ impl FileDisk {
             file,
             failures: 0,
             last_error: None,
+            failed_to_write: false,
         }
     }
 
@@ -100,6 +120,17 @@ impl FileDisk {
         self.file.try_lock_shared()
     }
 
+    /// Whether this path names the file: one that was renamed or taken away isn't there any longer.
+    pub fn is_at<R: Files<File = File>>(&self, files: &R, path: &str) -> io::Result<bool> {
+        let (own, named) = (self.file.metadata()?, fs::metadata(files, path)?);
+        Ok(own.dev() == named.dev() && own.ino() == named.ino())
+    }
+
+    /// Takes away all bytes.
+    pub fn clear(&self) -> io::Result<()> {
+        self.file.set_len(0)
+    }
+
     /// Why the last call failed that did, or None where none has.
     pub fn last_error(&self) -> Option<Error>
         ensures { IsSome result ↔ (0 < self.now) }
@@ -107,8 +138,13 @@ impl FileDisk {
         self.last_error
     }
 
-    // The answer of a call of the file, as the disk's: a failure is counted, and its error kept.
-    fn answered<T: Drop>(&mut self, answer: io::Result<T>) -> Result<T, Refusal>
+    /// Whether the last call that failed was a write or a sync, and not one that reads.
+    pub fn has_failed_to_write(&self) -> bool {
+        self.failed_to_write
+    }
+
+    // The answer of a call of the file, which writes or not, as the disk's: a failure is counted, and its error kept.
+    fn answered<T: Drop>(&mut self, writes: bool, answer: io::Result<T>) -> Result<T, Refusal>
         requires { self.old < 2 ^ 64 - 1 }
         ensures ok { IfOk answer (λ value. result ≡ Ok value) }
         ensures err { IsOk result → IsOk answer }
@@ -116,6 +152,7 @@ impl FileDisk {
     {
         if let Err(error) = &answer {
             self.last_error = Some(*error);
+            self.failed_to_write = writes;
         }
         counted(&mut self.failures, answer)
     }
@@ -150,25 +187,25 @@ impl Disk for FileDisk {
     fn len(&mut self) -> Result<u64, Refusal> {
         usable(self.failures)?;
         let answer = length_of(&self.file);
-        self.answered(answer)
+        self.answered(false, answer)
     }
 
     fn read_at(&mut self, at: u64, into: &mut [u8]) -> Result<(), Refusal> {
         usable(self.failures)?;
         let answer = self.file.read_exact_at(into, at);
-        self.answered(answer)
+        self.answered(false, answer)
     }
 
     fn write_at(&mut self, at: u64, bytes: &[u8]) -> Result<(), Refusal> {
         usable(self.failures)?;
         let answer = write(&self.file, at, bytes);
-        self.answered(answer)
+        self.answered(true, answer)
     }
 
     fn sync(&mut self) -> Result<(), Refusal> {
         usable(self.failures)?;
         let answer = self.file.sync_all();
-        self.answered(answer)
+        self.answered(true, answer)
     }
 
     fn failures(&self) -> u64 {

@@ -1,6 +1,7 @@
 //! The folder of files.
 
-use std::fs::File;
+use crate::opened::opened;
+use std::fs::{File, OpenOptions};
 use std::io;
 use std::rt::Files;
 
@@ -11,6 +12,7 @@ use std::rt::Files;
 ///
 /// The system's, where it can't open the folder or sync it.
 pub fn sync_folder<R: Files<File = File>>(files: &R, path: &str) -> io::Result<()> {
-    let folder = File::open(files, path)?;
-    folder.sync_all()
+    let mut options = OpenOptions::new();
+    options.read(true);
+    opened(&options, files, path)?.sync_all()
 }

@@ -8,6 +8,7 @@ mod file;
 mod folder;
 mod memory;
 mod memory_call;
+mod opened;
 
 pub use disk::Disk;
 pub use file::FileDisk;
