@@ -124,7 +124,13 @@ class Run:
         tty.setraw(end)
         words = ["tpcc", "run", "--logs", folder, *words]
         self.process = subprocess.Popen(
-            words, executable=program, stdin=subprocess.DEVNULL, stdout=subprocess.PIPE, stderr=end
+            words,
+            executable=program,
+            stdin=subprocess.DEVNULL,
+            stdout=subprocess.PIPE,
+            stderr=end,
+            # So wide that no progress line is cut.
+            env={**os.environ, "COLUMNS": "200"},
         )
         os.close(end)
         self.shown, self.ended = b"", False

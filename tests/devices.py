@@ -11,7 +11,7 @@ from pathlib import Path
 
 import preloaded
 from checks import SECONDS, SMALL, Checks, ends, run, same, shows, shows_runs, start, whole
-from logs import LOGS, LONG, SCALE, TWO, contents_of, counts_of, on_logs, put_files, run_in
+from logs import LOGS, LONG, SCALE, TWO, body, contents_of, counts_of, log, on_logs, put_files, run_in
 
 IN_USE = b"9 Device\nDIR/log-%d: in use by another process\n"
 
@@ -44,9 +44,10 @@ def first_is_a_folder(folder):
 def files_that_can_not_be_opened_are_told():
     for subcommand in ("recover", "check"):
         text = b"9 Device\nDIR/log-%d: can't be opened: No such file or directory (os error 2)\n"
-        ends(f"of {subcommand} without a file", on_logs(subcommand, LOGS, loggers=3), 1, err=text % 2)
+        two_of_three = [log(logger, 3, body(5)) for logger in (0, 1)]
+        ends(f"of {subcommand} without a file", on_logs(subcommand, two_of_three, loggers=3), 1, err=text % 2)
         ends(f"of {subcommand} without the second", on_logs(subcommand, [b""], loggers=2), 1, err=text % 1)
-        text = b"9 Device\nDIR/log-0: can't be opened: Is a directory (os error 21)\n"
+        text = b"9 Device\nDIR/log-0: can't be read: Is a directory (os error 21)\n"
         ends(f"of {subcommand} on a folder", on_logs(subcommand, LOGS, within=first_is_a_folder), 1, err=text)
 
 
@@ -71,9 +72,9 @@ def files_that_can_not_be_made_are_told():
         ran = run_in(folder + "/file", *words)
         text = b"9 Device\nDIR/log-0: can't be created: Not a directory (os error 20)\n"
         ends("in a file", ran, 1, err=text)
-        (Path(folder) / "log-1").mkdir()
+        (Path(folder) / "log-0").mkdir()
         ran = run_in(folder, *words)
-        text = b"9 Device\nDIR/log-1: can't be created, and the file that is there is left as it is: "
+        text = b"9 Device\nDIR/log-0: can't be created, and the file that is there is left as it is (--resume goes on with it): "
         ends("with a folder in a file's place", ran, 1, err=text + b"File exists (os error 17)\n")
     # To who may do everything, no folder is closed.
     if os.geteuid() != 0:
@@ -139,8 +140,9 @@ def each_turn_of_a_logger_is_synced():
             turns = bodies_in(logs[name])
             same(f"whether there are turns in {name}", turns >= 1, True)
             # The header is synced once it is written, and of each turn its body and then its gate.
+            same(f"whether the header of {name} is synced", preloaded.story_of(notes.name, f"{folder}/{name}.new"), "ws")
             story = preloaded.story_of(notes.name, f"{folder}/{name}")
-            same(f"whether each turn in {name} is synced", story.count("ws") >= 1 + 2 * turns, True)
+            same(f"whether each turn in {name} is synced", story.count("ws") >= 2 * turns, True)
             same(f"whether the last write to {name} is synced", story[-1:], "s")
     wrapper.close()
 
@@ -151,8 +153,8 @@ def calls_that_fail_are_told():
     reason = b"Input/output error (os error 5)\n"
     syncs = [
         ("", b"9 Device\nDIR/: can't be synced: " + reason),
-        ("/log-0", b"9 Device\nDIR/log-0: can't be written: " + reason),
-        ("/log-1", b"9 Device\nDIR/log-1: can't be written: " + reason),
+        ("/log-0.new", b"9 Device\nDIR/log-0: can't be written: " + reason),
+        ("/log-1.new", b"9 Device\nDIR/log-1: can't be written: " + reason),
     ]
     for path, text in syncs:
         with tempfile.TemporaryDirectory() as folder:

@@ -7,15 +7,15 @@ from logs import (
 
 # The same scale with other numbers, and what is then told of the first file.
 OTHER_NUMBERS = [
-    ("--warehouses 2", "--warehouses 1, and 2 were asked for"),
-    ("--districts 1", "--districts 2, and 1 was asked for"),
-    ("--customers 11", "--customers 10, and 11 were asked for"),
-    ("--items 21", "--items 20, and 21 were asked for"),
-    ("--orders 31", "--orders 30, and 31 were asked for"),
-    ("--commits 1", "--commits 1000, and 1 was asked for"),
-    ("--population 7", "--population 0, and 7 was asked for"),
+    ("--warehouses 2", "--warehouses 2, but DIR/log-0 is of 1"),
+    ("--districts 1", "--districts 1, but DIR/log-0 is of 2"),
+    ("--customers 11", "--customers 11, but DIR/log-0 is of 10"),
+    ("--items 21", "--items 21, but DIR/log-0 is of 20"),
+    ("--orders 31", "--orders 31, but DIR/log-0 is of 30"),
+    ("--commits 1", "--commits 1, but DIR/log-0 is of 1000"),
+    ("--population 7", "--population 7, but DIR/log-0 is of 0"),
     # Of several, the first that stands in a header.
-    ("--population 7 --items 21", "--items 20, and 21 were asked for"),
+    ("--population 7 --items 21", "--items 21, but DIR/log-0 is of 20"),
 ]
 
 
@@ -41,27 +41,38 @@ OLD_FILES, NEW_FILES = [
 ]
 
 DAMAGED = [
-    ("no bytes", [b""], "log-0: it has 0 bytes, and a header has 48"),
+    ("no bytes", [b""], "DIR/log-0: it is empty"),
+    ("one byte", [b"S"], "DIR/log-0: it has 1 bytes, and a header has 48"),
     ("47 bytes", [log(0, 1)[:47]], "log-0: it has 47 bytes, and a header has 48"),
     ("another format", [with_bytes(TWO_BODIES, 0, b"T")], "log-0: bytes 0 to 47 are no header of a log file"),
     ("version 0", [with_bytes(TWO_BODIES, 8, b"\0")], "log-0: bytes 0 to 47 are no header of a log file"),
-    ("version 3", [with_bytes(TWO_BODIES, 8, b"\3")], "log-0: bytes 0 to 47 are no header of a log file"),
-    ("version 258", [with_bytes(TWO_BODIES, 9, b"\1")], "log-0: bytes 0 to 47 are no header of a log file"),
-    ("version 1, then 2", [OLD_FILES[0], NEW_FILES[1]], "log-1: its header is of version 2, and 1 was asked for"),
-    ("version 2, then 1", [NEW_FILES[0], OLD_FILES[1]], "log-1: its header is of version 1, and 2 was asked for"),
+    ("version 3", [with_bytes(TWO_BODIES, 8, b"\3")], "log-0: it is of version 3, which this program doesn't know"),
+    ("version 3 of another format", [with_bytes(TWO_BODIES, 7, b"D\3")], "log-0: bytes 0 to 47 are no header of a log file"),
+    ("a short version 3", [with_bytes(TWO_BODIES, 8, b"\3")[:12]], "log-0: it is of version 3, which this program doesn't know"),
+    ("a shorter version 3", [with_bytes(TWO_BODIES, 8, b"\3")[:11]], "log-0: it has 11 bytes, and a header has 48"),
+    ("version 258", [with_bytes(TWO_BODIES, 9, b"\1")], "log-0: it is of version 258, which this program doesn't know"),
+    ("version 1, then 2", [OLD_FILES[0], NEW_FILES[1]], "log-1: it is of version 2, and log-0 is of 1"),
+    ("version 2, then 1", [NEW_FILES[0], OLD_FILES[1]], "log-1: it is of version 1, and log-0 is of 2"),
+    ("version 2, then 3", [NEW_FILES[0], with_bytes(NEW_FILES[1], 8, b"\3")], "log-1: it is of version 3, which this program doesn't know"),
     # The version is the first field in which a header may differ.
-    ("version 2, then 1 of 0", [NEW_FILES[0], OLD_FILES[0]], "log-1: its header is of version 1, and 2 was asked for"),
-    ("version 1 of logger 1", [OLD_FILES[1], NEW_FILES[1]], "log-0: its header is of logger 1, and 0 was asked for"),
-    ("no header, then version 1", [b"", OLD_FILES[1]], "log-0: it has 0 bytes, and a header has 48"),
+    ("version 2, then 1 of 0", [NEW_FILES[0], OLD_FILES[0]], "log-1: it is of version 1, and log-0 is of 2"),
+    ("version 1 of logger 1", [OLD_FILES[1], NEW_FILES[1]], "DIR/log-0 is the file of logger 1"),
+    ("no header, then version 1", [b"", OLD_FILES[1]], "DIR/log-0: it is empty"),
     ("no warehouse", [with_bytes(TWO_BODIES, 16, b"\0")], "log-0: bytes 0 to 47 are no header of a log file"),
     ("no gate", [log(0, 1)[:48]], "log-0: it ends at byte 48, where a gate is to stand"),
     ("no last gate", [TWO_BODIES[:-1]], "log-0: it ends at byte 82, where a gate is to stand"),
-    ("an open gate and nothing behind", [log(0, 1)[:48] + b"\1"], "log-0: the body at byte 49 isn't one that may stand there"),
-    ("half a body", [TWO_BODIES[:75]], "log-0: the body at byte 66 isn't one that may stand there"),
+    ("an open gate and nothing behind", [log(0, 1)[:48] + b"\1"], "log-0: it ends at byte 49, inside the body at byte 49"),
+    ("seven bytes of a length", [TWO_BODIES[:73]], "log-0: it ends at byte 73, inside the body at byte 66"),
+    ("a length and nothing behind", [TWO_BODIES[:74]], "log-0: it ends at byte 74, inside the body at byte 66, which would end at byte 83"),
+    ("half a body", [TWO_BODIES[:75]], "log-0: it ends at byte 75, inside the body at byte 66, which would end at byte 83"),
+    ("a body but for a byte", [TWO_BODIES[:81]], "log-0: it ends at byte 81, inside the body at byte 66, which would end at byte 83"),
+    ("an unlawful body without its gate", [log(0, 1, body(5), body(4))[:82]], "log-0: it ends at byte 82, inside the body at byte 66, which would end at byte 83"),
+    ("a length without end", [with_bytes(TWO_BODIES, 66, b"\xff" * 8)], "log-0: it ends at byte 83, inside the body at byte 66"),
+    ("a length of 0", [with_bytes(TWO_BODIES, 66, bytes(8))], "log-0: the body at byte 66 isn't one that may stand there"),
     ("a mark that falls", [log(0, 1, body(5), body(4))], "log-0: the body at byte 66 isn't one that may stand there"),
-    ("the other order", LOGS[::-1], "log-0: its header is of logger 1, and 0 was asked for"),
-    ("a file twice", [FIRST, FIRST], "log-1: its header is of logger 0, and 1 was asked for"),
-    ("a file of more loggers", [FIRST, log(1, 3)], "log-1: its header is of --loggers 3, and 2 were asked for"),
+    ("the other order", LOGS[::-1], "DIR/log-0 is the file of logger 1"),
+    ("a file twice", [FIRST, FIRST], "DIR/log-1 is the file of logger 0"),
+    ("a file of more loggers", [FIRST, log(1, 3)], "--loggers 2, but DIR/log-1 is of 3"),
     (
         "another logger's terminal",
         [log(0, 2, body(5, entry(1, 4, 1))), LATER],
@@ -73,7 +84,7 @@ DAMAGED = [
         "log-1: the body at byte 66 isn't one that may stand there",
     ),
     # A file's header is told before its bodies are.
-    ("another header and no body", [log(1, 2)[:48], LATER], "log-0: its header is of logger 1, and 0 was asked for"),
+    ("another header and no body", [log(1, 2)[:48], LATER], "DIR/log-0 is the file of logger 1"),
 ]
 
 
@@ -134,15 +145,14 @@ DAMAGED += [
 def the_first_flaw_of_log_files_is_told():
     for subcommand in ("recover", "check"):
         for what, files, text in DAMAGED:
-            err = f"10 Damaged\nDIR/{text}\n".encode()
+            err = f"10 Damaged\n{text if 'DIR' in text else 'DIR/' + text}\n".encode()
             ends(f"of {subcommand} on {what}", on_logs(subcommand, files), 1, err=err)
         ran = on_logs(subcommand, LOGS, loggers=1)
-        err = b"10 Damaged\nDIR/log-0: its header is of --loggers 2, and 1 was asked for\n"
+        err = b"10 Damaged\n--loggers 1, but DIR/log-0 is of 2\n"
         ends(f"of {subcommand} on one of two", ran, 1, err=err)
         for words, text in OTHER_NUMBERS:
             ran = on_logs(subcommand, LOGS, scale=with_options(SMALL[1:], words.split()))
-            err = f"10 Damaged\nDIR/log-0: its header is of {text}\n".encode()
-            ends(f"of {subcommand} with {words}", ran, 1, err=err)
+            ends(f"of {subcommand} with {words}", ran, 1, err=f"10 Damaged\n{text}\n".encode())
 
 
 # Files of two loggers, in which numbers are amiss that count up to epoch 5.

@@ -86,20 +86,33 @@ def with_a_hole(folder):
     yield
 
 
+def claim_told(length, size):
+    """What is told of a file of so many bytes, the first body of which claims this length."""
+    end = 57 + length
+    if end <= size:
+        return b"the body at byte 49 isn't one that may stand there"
+    behind = b", which would end at byte %d" % end if end < 2**64 else b""
+    return b"it ends at byte %d, inside the body at byte 49%s" % (size, behind)
+
+
 @shows
 def a_length_that_is_claimed_takes_no_memory():
-    text = b"10 Damaged\nDIR/log-0: the body at byte 49 isn't one that may stand there\n"
     for subcommand in ("recover", "check"):
         for length in (8, 2**31, 2**40, 2**63 - 1, 2**63, 2**64 - 9, 2**64 - 1):
             for size in (57, 100):
                 ran = on_logs(subcommand, [claiming(length, size)], before=in_little_memory)
-                ends(f"of {subcommand} of {size} bytes that claim {length}", ran, 1, err=text)
+                err = b"10 Damaged\nDIR/log-0: %s\n" % claim_told(length, size)
+                ends(f"of {subcommand} of {size} bytes that claim {length}", ran, 1, err=err)
         ran = on_logs(subcommand, [HONEST], before=in_little_memory)
         same(f"the status of {subcommand} of a good file in little memory", ran.status, 0)
 
 
+# Of the options of SMALL.
+HELD = b"1 OutOfMemory\nsome 3 MB for these options, and more for what the log files hold\n"
+
+
 @shows
-def a_file_that_is_larger_than_memory_is_refused():
+def a_body_that_is_larger_than_memory_is_refused():
     for subcommand in ("recover", "check"):
-        ran = on_logs(subcommand, [HONEST], within=with_a_hole, before=in_little_memory)
-        ends(f"of {subcommand} of a file of 2^40 bytes", ran, 1, err=b"1 OutOfMemory\n")
+        ran = on_logs(subcommand, [claiming(2**39, 57)], within=with_a_hole, before=in_little_memory)
+        ends(f"of {subcommand} of a body of 2^39 bytes", ran, 1, err=HELD)

@@ -4,11 +4,13 @@ it is to.
 The wrapper is C, made when it is first asked for, by the kit's compiler or by `cc`. Its environment says what it does:
 STORY names a file that gets a line for each `pwrite`, as `w PATH`, and for each `fsync` and `fdatasync`, as `s PATH`. A
 sync of the path that UNSYNCED names fails, and so does a read of the path that UNREAD names, by EIO. A read of the path
-that HELD names takes a second and a half more. With THREADLESS no thread can be started.
+that HELD names takes a second and a half more. With THREADLESS no thread can be started, and with READONLY no file can
+be opened to be written, by EROFS.
 
 One call fails, counted from 1 among those of its kind: the `malloc` or `realloc` that GROWTH names, the `pwrite` of
-WRITE (with HALF, behind half of its bytes), the sync of SYNC, the `pthread_create` of THREAD. The story then has a line
-as `f WRITE`.
+WRITE (with HALF, behind half of its bytes), the `pread` of READ, the sync of SYNC, the `pthread_create` of THREAD, the
+`open` of OPEN, the `rename` of RENAME, the `unlink` of UNLINK, the `ftruncate` of CUT, the `flock` of LOCK. With KILL the
+process kills itself there instead, before the call. The story then has a line as `f WRITE`.
 """
 
 import os
@@ -21,7 +23,7 @@ SOURCE = r"""
 typedef unsigned long size_t;
 typedef long ssize_t;
 extern char *getenv(const char *);
-extern int close(int), open(const char *, int, ...), strcmp(const char *, const char *);
+extern int close(int), strcmp(const char *, const char *), kill(int, int), getpid(void);
 extern int snprintf(char *, size_t, const char *, ...);
 extern int *__errno_location(void);
 extern long syscall(long, ...);
@@ -30,7 +32,8 @@ extern ssize_t readlink(const char *, char *, size_t), write(int, const void *, 
 extern void *dlsym(void *, const char *);
 extern void *__libc_malloc(size_t), *__libc_realloc(void *, size_t);
 
-enum { EIO = 5, EAGAIN = 11, PREAD = 17, PWRITE = 18, NANOSLEEP = 35, FSYNC = 74, FDATASYNC = 75 };
+enum { EIO = 5, EAGAIN = 11, EROFS = 30, OPENED = 2, PREAD = 17, PWRITE = 18, NANOSLEEP = 35, FLOCK = 73, FSYNC = 74 };
+enum { FDATASYNC = 75, FTRUNCATE = 77, RENAMED = 82, UNLINKED = 87, SIGKILL = 9 };
 enum { APPEND = 02001, LONGEST = 4096 };
 
 /* The path of an open file, with a zero behind it. Gives its length. */
@@ -60,7 +63,7 @@ static int failed(void) {
 static void tell(char *line, size_t length) {
     const char *story = getenv("STORY");
     line[length] = '\n';
-    int out = story ? open(story, APPEND) : -1;
+    int out = story ? (int)syscall(OPENED, story, APPEND) : -1;
     if (out >= 0) {
         write(out, line, length + 1);
         close(out);
@@ -73,9 +76,9 @@ static void note(char what, int file) {
     tell(line, 2 + path_of(file, line + 2));
 }
 
-enum { GROWTH, WRITE, SYNC, THREAD, KINDS };
+enum { GROWTH, WRITE, READ, SYNC, THREAD, OPEN, RENAME, UNLINK, CUT, LOCK, KINDS };
 
-static const char *const NAMES[KINDS] = {"GROWTH", "WRITE", "SYNC", "THREAD"};
+static const char *const NAMES[KINDS] = {"GROWTH", "WRITE", "READ", "SYNC", "THREAD", "OPEN", "RENAME", "UNLINK", "CUT", "LOCK"};
 
 /* Which call of each kind fails, if one does, and how many there were. What is before `begin` isn't counted. */
 static unsigned long chosen[KINDS], calls[KINDS];
@@ -86,11 +89,12 @@ __attribute__((constructor)) static void begin(void) {
             chosen[kind] = chosen[kind] * 10 + (unsigned long)(*digit - '0');
 }
 
-/* Whether this call of a kind is the one that fails. */
+/* Whether this call of a kind is the one that fails. A half write comes before the process is killed. */
 static int is_chosen(int kind) {
     char line[16];
     if (!chosen[kind] || __atomic_add_fetch(&calls[kind], 1, __ATOMIC_SEQ_CST) != chosen[kind]) return 0;
     tell(line, (size_t)snprintf(line, sizeof line, "f %s", NAMES[kind]));
+    if (getenv("KILL") && !getenv("HALF")) kill(getpid(), SIGKILL);
     return 1;
 }
 
@@ -110,7 +114,7 @@ int fdatasync(int file) { return synced(FDATASYNC, file); }
 ssize_t pread(int file, void *into, size_t size, long at) {
     long held[] = {1, 500000000};
     if (is_named("HELD", file)) syscall(NANOSLEEP, held, 0);
-    return is_named("UNREAD", file) ? failed() : syscall(PREAD, file, into, size, at);
+    return is_named("UNREAD", file) || is_chosen(READ) ? failed() : syscall(PREAD, file, into, size, at);
 }
 
 ssize_t pread64(int file, void *into, size_t size, long at) { return pread(file, into, size, at); }
@@ -119,10 +123,33 @@ ssize_t pwrite(int file, const void *from, size_t size, long at) {
     note('w', file);
     if (!is_chosen(WRITE)) return syscall(PWRITE, file, from, size, at);
     if (getenv("HALF")) syscall(PWRITE, file, from, size / 2, at);
+    if (getenv("KILL")) kill(getpid(), SIGKILL);
     return failed();
 }
 
 ssize_t pwrite64(int file, const void *from, size_t size, long at) { return pwrite(file, from, size, at); }
+
+int open(const char *path, int how, ...) {
+    __builtin_va_list more;
+    __builtin_va_start(more, how);
+    int mode = __builtin_va_arg(more, int);
+    __builtin_va_end(more);
+    if (getenv("READONLY") && (how & 3)) {
+        *__errno_location() = EROFS;
+        return -1;
+    }
+    return is_chosen(OPEN) ? failed() : (int)syscall(OPENED, path, how, mode);
+}
+
+int open64(const char *path, int how, int mode) { return open(path, how, mode); }
+
+int rename(const char *from, const char *to) { return is_chosen(RENAME) ? failed() : (int)syscall(RENAMED, from, to); }
+
+int unlink(const char *path) { return is_chosen(UNLINK) ? failed() : (int)syscall(UNLINKED, path); }
+
+int ftruncate(int file, long size) { return is_chosen(CUT) ? failed() : (int)syscall(FTRUNCATE, file, size); }
+
+int flock(int file, int how) { return is_chosen(LOCK) ? failed() : (int)syscall(FLOCK, file, how); }
 
 int pthread_create(void *thread, const void *how, void *(*run)(void *), void *with) {
     if (getenv("THREADLESS") || is_chosen(THREAD)) return EAGAIN;

@@ -20,6 +20,7 @@ from pathlib import Path
 # Runs that are killed, and what they leave, are told there.
 sys.dont_write_bytecode = True
 sys.path.insert(0, str(Path(__file__).resolve().parent.parent / "examples"))
+import advice
 import decks
 import devices
 import failing
@@ -28,8 +29,11 @@ import hostile
 import kills
 import resumed
 import screens
+import sparse
+import starting
 import texts
 import voids
+import words
 from checks import RUNS, SECONDS, SHOWN, SMALL, Checks, Ran, ends, fail, run, same, shows, shows_runs, start, whole
 from logs import LATER, LOGS, LONG, SCALE, TWO, body, contents_of, counts_of, entry, inputs_of, log, on_logs, run_in
 
@@ -148,10 +152,12 @@ Commands:
   run      Runs terminals in threads, and writes what they commit to log files
   recover  Shows what log files recover to: durable epoch, commits, and the rows of warehouses and districts
   check    Reports the consistency conditions of what log files recover to
+  info     Tells the version, loggers and options of the tables that log files were made with
   help     Print this message or the help of the given subcommand(s)
 
 Options:
-  -h, --help  Print help
+  -h, --help     Print help
+  -V, --version  Print version
 """
 
 TABLE_OPTIONS = b"""      --warehouses <N>     The number of warehouses, 1 to 8 [default: 1]
@@ -169,7 +175,29 @@ SCRIPT_HELP = b"""Answers the lines of standard input, then reports the consiste
 Usage: tpcc script [OPTIONS]
 
 Options:
-""" + TABLE_OPTIONS
+      --explain            Tells of each refused line on standard error what is wrong with it
+""" + TABLE_OPTIONS + b"""
+Lines of standard input, the words of each parted by one space:
+  payment W D CW CD WHO AMOUNT   warehouse W, district D, customer WHO of warehouse CW, district CD
+  neworder W D C LINE LINE ..    5 to 15 lines, each ITEM:SUPPLY:QUANTITY
+  delivery W CARRIER             CARRIER from 1 to 10
+  status W D WHO
+  level W D THRESHOLD            THRESHOLD from 10 to 20
+  show warehouse W
+  show district W D
+  show customer W D C
+  show data W D C
+  show stock W I
+  show order W D O
+WHO is a customer's number, or a last name in capitals, as BARBARESE. Numbers have no leading zero; an amount, from
+1.00 to 5000.00, has two digits behind a point. A line that can't be done is answered by `R line N`, where R is:
+  14  line N is in none of the forms, or longer than 1024 bytes
+  2   a number is outside its range
+  5   an item isn't in ITEM: `5 line N item I`
+  6   the district has no order number left, up to --orders
+  7   the commits are at --commits
+With --explain, standard error tells of each such line what is wrong with it.
+"""
 
 RUN_HELP = b"""Runs terminals in threads, and writes what they commit to log files
 
@@ -205,6 +233,15 @@ RECOVER_HELP = b"Shows what log files recover to: durable epoch, commits, and th
 
 CHECK_HELP = b"Reports the consistency conditions of what log files recover to"
 
+INFO_HELP = b"""Tells the version, loggers and options of the tables that log files were made with
+
+Usage: tpcc info --logs <DIR>
+
+Options:
+      --logs <DIR>  The folder of the log files, log-0, log-1 and so on
+  -h, --help        Print help
+"""
+
 MORE = b"\n\nFor more information, try '--help'.\n"
 
 
@@ -217,6 +254,7 @@ def help_goes_to_the_errors():
     ends("of run", run(["run", "--help"]), 2, err=RUN_HELP)
     ends("of recover", run(["recover", "--help"]), 2, err=RECOVER_HELP + LOGS_HELP % b"recover")
     ends("of check", run(["check", "--help"]), 2, err=CHECK_HELP + LOGS_HELP % b"check")
+    ends("of info", run(["info", "--help"]), 2, err=INFO_HELP)
 
 
 @shows
@@ -227,7 +265,6 @@ def faults_of_the_words_go_to_the_errors():
         ("script --warehouse 1", b"error: unexpected argument '--warehouse' found\n\n"
                                  b"  tip: a similar argument exists: '--warehouses'\n\n"
                                  b"Usage: tpcc script --warehouses <N>"),
-        ("script more", b"error: unexpected argument 'more' found\n\nUsage: tpcc script [OPTIONS]"),
         ("script --items x", b"error: invalid value 'x' for '--items <N>': invalid digit found in string"),
         ("script --items", b"error: a value is required for '--items <N>' but none was supplied"),
         ("script --population x", b"error: invalid value 'x' for '--population <SEED>': invalid digit found in string"),
@@ -415,24 +452,25 @@ def a_run_begins_with_its_population():
         ends("with a seeded population", ran, 0, ran.out)
         logs = ["--logs", folder, "--loggers", "2"]
         ends("of check on it", run(["check", *scale, *logs]), 0, whole(b"", counts.commits))
-        text = f"10 Damaged\n{folder}/log-0: its header is of --population 1, and 0 was asked for\n"
+        text = f"10 Damaged\n--population 0, but {folder}/log-0 is of 1\n"
         ends("of check with the plain one", run(["check", *SCALE, *logs]), 1, err=text.encode())
 
 
 @shows_runs
 def log_files_that_are_there_are_left_as_they_are():
     words = [*SCALE, *TWO, "--count", "50"]
-    text = b"9 Device\nDIR/%s: can't be created, and the file that is there is left as it is: File exists (os error 17)\n"
+    text = b"9 Device\nDIR/%s: can't be created, and the file that is there is left as it is (--resume goes on with it): File exists (os error 17)\n"
     with tempfile.TemporaryDirectory() as folder:
         same("the status of a first run", run_in(folder, *words).status, 0)
         files = contents_of(folder)
         ends("of a second run", run_in(folder, *words), 1, err=text % b"log-0")
         same("the files after a second run", contents_of(folder), files)
-    for name in ("log-0", "log-1"):
+    alone = b"9 Device\nDIR/log-1: is there without log-0\n"
+    for name, told in (("log-0", text % b"log-0"), ("log-1", alone)):
         with tempfile.TemporaryDirectory() as folder:
             (Path(folder) / name).write_bytes(b"here")
-            ends(f"where {name} is there", run_in(folder, *words), 1, err=text % name.encode())
-            same(f"{name} after it", contents_of(folder)[name], b"here")
+            ends(f"where {name} is there", run_in(folder, *words), 1, err=told)
+            same("the files after it", contents_of(folder), {name: b"here"})
 
 
 @shows_runs
@@ -462,7 +500,8 @@ def faults_of_a_run_come_in_their_order():
         limit = 64 * 1024 * 1024
         large = "--warehouses 8 --customers 3000 --items 100000".split()
         ran = run_in(missing, *large, before=lambda: resource.setrlimit(resource.RLIMIT_AS, (limit, limit)))
-        ends("of a large population in no folder", ran, 1, err=b"1 OutOfMemory\n")
+        text = b"1 OutOfMemory\nsome 806 MB for these options: a lower --warehouses takes the least\n"
+        ends("of a large population in no folder", ran, 1, err=text)
         text = b"9 Device\nDIR/log-0: can't be created: No such file or directory (os error 2)\n"
         ends("in no folder", run_in(missing, *SCALE), 1, err=text)
         same("what faults leave in a folder", contents_of(folder), {})
@@ -616,7 +655,7 @@ def errors_that_can_not_be_written_change_no_status():
     ends("of a good run", run(SMALL, before=lambda: os.close(2)), 0, whole(b"", 0))
 
 
-# The scale's records take 4,000 MB, and the program's own start a few.
+# The scale's records take 1,088 MB, and the program's own start a few.
 @shows
 def want_of_memory_is_a_refusal():
     limit = 256 * 1024 * 1024
@@ -625,7 +664,8 @@ def want_of_memory_is_a_refusal():
         b"show warehouse 1\n",
         before=lambda: resource.setrlimit(resource.RLIMIT_AS, (limit, limit)),
     )
-    ends("of a large scale", ran, 1, err=b"1 OutOfMemory\n")
+    text = b"1 OutOfMemory\nsome 1093 MB for these options: a lower --orders takes the least\n"
+    ends("of a large scale", ran, 1, err=text)
 
 
 def main():

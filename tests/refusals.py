@@ -139,6 +139,16 @@ def a_refused_call_gives_the_same_when_it_is_made_again():
 
 # ---- The program
 
+# What is told behind a refusal's line of how much memory is taken.
+MEMORY = re.compile(rb"some \d+ MB for these options(: a lower --[a-z]+ takes the least|, and more for what the log files hold)?\n")
+
+
+def without_memory(ran):
+    """What came of a run, without the line on how much memory is taken, for which memory may be there or not."""
+    begins = ran.err.startswith(OUT_OF_MEMORY) and MEMORY.fullmatch(ran.err, len(OUT_OF_MEMORY))
+    return ran._replace(err=OUT_OF_MEMORY) if begins else ran
+
+
 def kind_of_words(ran):
     """What comes where the words have no memory."""
     return "at the words" if ran.status == 2 and not ran.out and ran.err in WORDS else None
@@ -160,7 +170,7 @@ def the_program_answers_or_refuses():
             ("tpcc check", ["check", *logs], b"", whole(b"", 2)),
         ]:
             kind_of_answer = kind_among(text, [OUT_OF_MEMORY])
-            kinds = sweep(what, words, lambda ran: kind_of_words(ran) or kind_of_answer(ran), given=given)
+            kinds = sweep(what, words, lambda ran: kind_of_words(ran) or kind_of_answer(without_memory(ran)), given=given)
             same(f"whether growths of {what} are refused", kinds["1 behind nothing"] > 50, True)
         same("the files once they are read", contents_of(folder), {f"log-{n}": text for n, text in enumerate(LOGS)})
 
@@ -189,9 +199,11 @@ def sweep_runs(what, words, inputs, scale=SCALE, files=(), first=b""):
             put_files(folder, files)
             least = recovered(folder, scale) if files else (0, 0)
             ran = go("--logs", folder)
-            # A file that was being made may have no header yet.
             made = contents_of(folder)
-            if len(made) == 2 and min(map(len, made.values())) > 48:
+            # A start that is refused leaves nothing; what is refused behind the inputs leaves their files.
+            if made and (sorted(made) != ["log-0", "log-1"] or not files and min(map(len, made.values())) <= 49):
+                raise kills.Failed(f"the files {sorted(made)} are left by {brief(tuple(ran))}")
+            if made:
                 left = recovered(folder, scale)
                 if counts := counts_of(ran.out):
                     least = max(least[0], counts.durable), least[1] + counts.acknowledged
@@ -202,11 +214,11 @@ def sweep_runs(what, words, inputs, scale=SCALE, files=(), first=b""):
     def kind_of(ran):
         counts = counts_of(ran.out)
         if ran.status == 0 and not ran.err and counts and inputs_of(counts) == inputs:
-            # What is refused of a logger's turn is tried again in the next; the last turn has none.
+            # What is refused of a logger's turn is tried again, that of the last one too.
             if counts.acknowledged < counts.commits:
-                return "told, and not all is acknowledged" if not counts.refused else None
+                return None
             return f"told, {counts.refused} refused" if counts.refused <= 1 else None
-        if ran.status == 1 and ran.err == OUT_OF_MEMORY and re.fullmatch(b"(%s)?" % first, ran.out):
+        if ran.status == 1 and without_memory(ran).err == OUT_OF_MEMORY and re.fullmatch(b"(%s)?" % first, ran.out):
             return f"1 behind {'some' if ran.out else 'nothing'}"
         return kind_of_words(ran)
 

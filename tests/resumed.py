@@ -101,7 +101,7 @@ REFUSED = [
     (
         "files in the other order",
         LOGS[::-1],
-        b"10 Damaged\nDIR/log-0: its header is of logger 1, and 0 was asked for\n",
+        b"10 Damaged\nDIR/log-0 is the file of logger 1\n",
     ),
     (
         "an entry of the last epoch",
@@ -116,7 +116,7 @@ REFUSED = [
     (
         "files of the first version",
         [log(0, 2, body(5, entry(1, 4, 0)), version=FIRST_VERSION), log(1, 2, body(5), version=FIRST_VERSION)],
-        b"10 Damaged\nDIR/log-0: its header is of version 1, and 2 was asked for\n",
+        b"10 Damaged\nDIR/log-0: it is of version 1, which can be recovered and checked, not gone on with\n",
     ),
     (
         "a warehouse that got a cent too much",
@@ -173,7 +173,7 @@ def a_resumed_run_tells_a_device_that_fails():
         resource.setrlimit(resource.RLIMIT_FSIZE, (700, 700))
 
     ran, left = on_files(LOGS, *NO_INPUT, before=limit_files)
-    text = b"9 Device\nDIR/log-1: can't be read or written: File too large (os error 27)\n"
+    text = b"9 Device\nDIR/log-1: can't be written: File too large (os error 27)\n"
     ends("where the second file can't grow", ran, 1, err=text)
     same("the first file then", left[0], LOGS[0][:-1] + b"\1" + void(6, 8) + b"\0")
     ran, _ = on_files(left, *NO_INPUT)

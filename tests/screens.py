@@ -48,10 +48,13 @@ def on_terminal(words, env=None):
     return Ran(process.returncode, out, shown)
 
 
-def has_shown(what, shown, read):
-    """Two checks: that lines stood on a screen which said that so many bytes were read and no entries looked at, until
-    the files were whole, and that all was erased."""
-    held = b"read %d of %d bytes, 0 entries" % (read, sum(SIZES))
+def after(read):
+    """The line once so many bytes were read and no entries looked at."""
+    return b"read %d of %d bytes, 0 entries" % (read, sum(SIZES))
+
+
+def has_shown(what, shown, held):
+    """Two checks: that this line stood on a screen until the files were whole, and that all was erased."""
     last = re.compile(rb"read %d of %d bytes, [0-5] entries *" % (sum(SIZES), sum(SIZES)))
     front, *lines, blanks, behind = shown.split(b"\r") if shown.count(b"\r") > 2 else [shown, b"", b"", b""]
     same(f"what is erased {what}", (front, blanks.strip(b" "), len(blanks) >= len(held), behind), (b"", b"", True, b""))
@@ -68,16 +71,37 @@ def a_long_recovery_is_shown_on_a_terminal():
         put_files(folder, LOGS)
         held = [wrapper.environment(HELD=f"{folder}/log-{logger}") for logger in (0, 1)]
         one, two = SIZES
-        cases = [("check", 1, 0, 0), ("recover", 1, 1, one), ("recover", 2, 0, two), ("check", 2, 1, one)]
-        for subcommand, threads, slow, read in cases:
+        cases = [
+            ("check", 1, 0, b"reading log-0"), ("recover", 1, 1, after(one)),
+            ("recover", 2, 0, after(two)), ("check", 2, 1, after(one)),
+        ]
+        for subcommand, threads, slow, line in cases:
             what = f"by {subcommand} in {threads} threads where log-{slow} is slow"
             ran = on_terminal(words_of(subcommand, folder, "--threads", str(threads)), held[slow])
             ends(what, ran._replace(err=b""), 0, OUTPUTS[subcommand])
-            has_shown(what, ran.err, read)
+            has_shown(what, ran.err, line)
         words, output = words_of("recover", folder), OUTPUTS["recover"]
         ends("of a slow one on no terminal", run(words, env=held[0]), 0, output)
         ends("of a quick one on a terminal", on_terminal(words), 0, output)
         ends("of a slow one without threads", on_terminal(words, {**held[0], "THREADLESS": "1"}), 0, output)
+    wrapper.close()
+
+
+@shows
+def a_line_is_cut_to_the_terminal_s_width():
+    wrapper = preloaded.Wrapper()
+    with tempfile.TemporaryDirectory() as folder:
+        put_files(folder, LOGS)
+        line = after(SIZES[0])
+        # A number isn't cut: words are left out whole.
+        cut = lambda kept: line if len(line) <= kept else line[: line.rindex(b" ", 0, kept) + 1]
+        for columns, kept in (("20", 19), ("24", 23), ("19", 79), ("x", 79), ("200", 199)):
+            env = {**wrapper.environment(HELD=f"{folder}/log-1"), "COLUMNS": columns}
+            ran = on_terminal(words_of("recover", folder), env)
+            ends(f"in {columns} columns", ran._replace(err=b""), 0, OUTPUTS["recover"])
+            front, first, *others = ran.err.split(b"\r")
+            same(f"the first line in {columns} columns", (front, first), (b"", cut(kept)))
+            same(f"the lines that are longer in {columns} columns", [it for it in others if len(it) > kept], [])
     wrapper.close()
 
 
@@ -90,7 +114,7 @@ def a_long_restart_is_shown_on_a_terminal():
         ran = on_terminal(resumed, wrapper.environment(HELD=f"{folder}/log-1"))
         same("the status of a slow restart", ran.status, 0)
         same("what a slow restart says first", ran.out.partition(b"\n")[0], b"resumed 2 epoch 9")
-        has_shown("by a slow restart", ran.err, 0)
+        has_shown("by a slow restart", ran.err, after(SIZES[0]))
     wrapper.close()
 
 

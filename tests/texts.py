@@ -164,7 +164,7 @@ def a_replay_tells_a_text_that_is_not_its_payments():
 
 # ---- Runs
 
-OTHER_VERSION = b"10 Damaged\nDIR/log-%d: its header is of version 1, and 2 was asked for\n"
+OLDER = "it is of version 1, which can be recovered and checked, not gone on with"
 
 
 @shows_runs
@@ -175,19 +175,19 @@ def a_run_does_not_go_on_from_files_of_the_first_version():
     lost = log(0, 1, body(5, entry(1, 4, 0)), void(6, 8), version=FIRST_VERSION)
     pairs = [[log(logger, 2, body(5), version=version) for version in (FIRST_VERSION, VERSION)] for logger in (0, 1)]
     kinds = [
-        ("one file", [OLD], 0),
-        ("a file without bodies", [log(0, 1, version=FIRST_VERSION)], 0),
-        ("the last epoch", [full], 0),
-        ("a missing commit", [gap], 0),
-        ("a void body", [lost], 0),
-        ("the first version in front", [pairs[0][0], pairs[1][1]], 0),
-        ("the first version behind", [pairs[0][1], pairs[1][0]], 1),
+        ("one file", [OLD], f"log-0: {OLDER}"),
+        ("a file without bodies", [log(0, 1, version=FIRST_VERSION)], f"log-0: {OLDER}"),
+        ("the last epoch", [full], f"log-0: {OLDER}"),
+        ("a missing commit", [gap], f"log-0: {OLDER}"),
+        ("a void body", [lost], f"log-0: {OLDER}"),
+        ("the first version in front", [pairs[0][0], pairs[1][1]], "log-1: it is of version 2, and log-0 is of 1"),
+        ("the first version behind", [pairs[0][1], pairs[1][0]], "log-1: it is of version 1, and log-0 is of 2"),
     ]
-    for what, files, at in kinds:
+    for what, files, text in kinds:
         with tempfile.TemporaryDirectory() as folder:
             put_files(folder, files)
             words = [*SMALL[1:], "--terminals", "1", "--count", "0", "--resume", "--loggers", str(len(files))]
-            ends(f"on {what}", run_in(folder, *words), 1, err=OTHER_VERSION % at)
+            ends(f"on {what}", run_in(folder, *words), 1, err=f"10 Damaged\nDIR/{text}\n".encode())
             same(f"the files of {what} then", contents_of(folder), {f"log-{n}": text for n, text in enumerate(files)})
 
 

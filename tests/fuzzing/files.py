@@ -1,5 +1,6 @@
 """Log files of runs, and damage to them: what `tpcc recover` and `tpcc check` say of them."""
 
+import re
 from collections import Counter
 from functools import lru_cache
 from pathlib import Path
@@ -86,6 +87,8 @@ def put(folder, files):
 
 UNSOUND = b"10 Damaged\nwhat the log files recover to no commits can have made: `tpcc check` tells more\n"
 
+BEYOND = re.compile(b"10 Damaged\n[WDCS]_[A-Z_]+ of [a-z]+( [0-9]+)+ is beyond what ([0-9]+) commits can make\n")
+
 EPOCH_FULL, LAST_EPOCH = b"8 EpochFull\n", 2**32 - 1
 
 
@@ -96,7 +99,7 @@ def contents(folder):
 def resume(tpcc, folder, asked):
     """Goes on with log files, which are to be of today's version, without an input. A refusal writes nothing, and is
     that of their verdict; or, of files that can be recovered, one of two more. Where all conditions hold, 10 is taken
-    for right: a run asks more of what is recovered than they do."""
+    for right: a run asks more of what is recovered than they do, and may tell a column that is out of reach."""
     before, (_, _, status, error, left, _) = contents(folder), verdict(folder, asked, TODAY)
     ran = run(tpcc, "run", *words_of(asked, folder), "--terminals", 1, "--count", 0, "--resume")
     if left and not status and left.top < LAST_EPOCH and ran.status == 0:
@@ -111,6 +114,9 @@ def resume(tpcc, folder, asked):
     if not left:
         same("what standard error gets of run", ran.err, error)
         return "refused"
+    if not status and left.top != LAST_EPOCH and (beyond := BEYOND.fullmatch(ran.err)):
+        same("the commits that are told", int(beyond[2]), left.commits)
+        return "refused by 10 for a column"
     same("what standard error gets of run", ran.err, EPOCH_FULL if left.top == LAST_EPOCH else UNSOUND)
     return "refused by 10" if ran.err == UNSOUND else "refused by 8"
 

@@ -37,7 +37,7 @@ def asked_for(draws):
 
 
 def sizes(folder):
-    return [path.stat().st_size for path in sorted(Path(folder).glob("log-*"))]
+    return [path.stat().st_size for path in sorted(Path(folder).glob("log-?"))]
 
 
 def at_once(draws, folder):
@@ -53,7 +53,7 @@ def behind_growth(draws, folder):
         before, until = sizes(folder), time.monotonic() + SECONDS
         while not run.ended and time.monotonic() < until:
             now = sizes(folder)
-            if now != before and max(now) > HEADER_BYTES + 1:
+            if now != before and max(now, default=0) > HEADER_BYTES + 1:
                 break
             run.watch(0.0002)
         run.watch(draws.uniform(0, latest))

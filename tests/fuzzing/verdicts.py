@@ -6,7 +6,7 @@ from pathlib import Path
 import replay
 import scripts
 from fuzzing import conditions
-from fuzzing.bodies import TODAY
+from fuzzing.bodies import HEADER_BYTES, TODAY
 from fuzzing.cases import options_of, run, same
 from fuzzing.damage import Flaw, examined
 
@@ -50,11 +50,20 @@ def files_of(paths, asked, version):
     files, scale = [], replay.Scale(*asked.scale)
     for logger, path in enumerate(paths):
         header = replay.Header(version, logger, asked.loggers, scale, asked.population)
-        try:
-            files.append(examined(path.read_bytes(), header, WANTED))
-        except Flaw as why:
-            raise Flaw(f"{path}: {why}") from why
+        files.append(examined(path, path.read_bytes(), header, WANTED))
     return files
+
+
+def missing_told(paths, missing):
+    """What is told of a file that isn't there, of those of these paths: where the first is of another number of
+    loggers, that."""
+    try:
+        loggers = replay.read_header(replay.Source("", paths[0].read_bytes()[:HEADER_BYTES])).loggers
+    except (replay.Damaged, FileNotFoundError):
+        loggers = len(paths)
+    if loggers != len(paths):
+        return f"--loggers {len(paths)}, but {paths[0]} is of {loggers}"
+    return f"{missing}: can't be opened: No such file or directory (os error 2)"
 
 
 def top_of(file):
@@ -72,15 +81,17 @@ def other_text_of(scale, version, entries):
     return None
 
 
-def verdict(folder, asked, version=None):
+def verdict(folder, asked, only=None):
     """What is to be said of the files in a folder, which are of the plain population where they are those asked for.
-    They are to be of this version, or of that of the first where none is named."""
+    They are to be of the version of the first, and of this one where one is named."""
     paths = [Path(folder) / f"log-{logger}" for logger in range(asked.loggers)]
     if missing := next((path for path in paths if not path.exists()), None):
-        return refused(f"9 Device\n{missing}: can't be opened: No such file or directory (os error 2)\n")
+        return refused(f"9 Device\n{missing_told(paths, missing)}\n")
     try:
-        version = version or version_of(paths[0])
+        version = version_of(paths[0])
         files = files_of(paths, asked, version)
+        if only and version != only:
+            raise Flaw(f"{paths[0]}: it is of version {version}, which can be recovered and checked, not gone on with")
         durable, entries = replay.counted(files)
     except Flaw as why:
         return refused(f"10 Damaged\n{why}\n")

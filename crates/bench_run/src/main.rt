@@ -138,7 +138,7 @@ fn run_on<
     let mut told = Vec::new(rt.alloc());
     let tries = Tries::new();
     let gates = gates(rt.alloc(), &tries, load.terminals)?;
-    drive(rt, rt.alloc(), population, slots, gates, &plan, &mut told)?;
+    drive(rt, rt.alloc(), population, slots, gates, &plan, &mut told).map_err(Refusal::from)?;
     let seen = dial.seen();
     println!(rt;
         "commits {} a second {} latency {} us",

@@ -66,15 +66,6 @@ impl FileDisk {
         Ok(FileDisk::of(opened(&options, files, path)?))
     }
 
-    /// A disk in the file at this path, with the bytes that are there, or in a new one where there is none.
-    pub fn in_file_or_new<R: Files<File = File>>(files: &R, path: &str) -> io::Result<FileDisk>
-        ensures { IfOk result (λ disk. disk ≡ 0) }
-    {
-        let mut options = OpenOptions::new();
-        options.read(true).write(true).create(true);
-        Ok(FileDisk::of(opened(&options, files, path)?))
-    }
-
     /// As `open`, with the system's error in place of `Device`.
     pub fn in_file<R: Files<File = File>>(files: &R, path: &str) -> io::Result<FileDisk>
         ensures { IfOk result (λ disk. disk ≡ 0) }

@@ -1,2 +1,4 @@
 mod Headers
 mod Standing
+mod VoidBytes
+pub mod FrontFlaws

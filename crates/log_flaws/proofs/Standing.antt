@@ -1,5 +1,7 @@
 -- A log file, seen from behind its header.
-use Rattle.std.proofs.Common.{◌≡◌, ℕ, ◌-◌, List, [], ◌∷◌, ◌++◌, Option, Some, None, length, refl, sym, ap, ◌∙◌, subst, arith, length-append}
+use Rattle.std.proofs.Common.{◌≡◌, ℕ, ◌+◌, ◌-◌, Bool, true, false, cond, List, [], ◌∷◌, ◌++◌, Option, Some, None, length, refl, sym, ap, ◌∙◌, subst, arith, length-append}
+use Rattle.std.specs.Prelude.{nat_lt}
+use Rattle.log_codec.specs.Numbers.{number_at}
 use Rattle.log_codec.proofs.Codecs.{one_value}
 use Rattle.log_header.specs.Header.{HeaderView, IsHeader, header_text}
 use Rattle.log_header.proofs.Headers.{codec-header}
@@ -7,8 +9,9 @@ use Rattle.log_text.specs.Bodies.{BodyView, bodies_after, start}
 use Rattle.log_text.specs.File.{AreBodies, IsFile, opened}
 use Rattle.log_text.specs.declared.last.Last.{Last}
 use Rattle.log_flaws.specs.Voids.{void_flaw}
-use Rattle.log_flaws.specs.Flaws.{Reaches, HasNoBody, HasFlaw, body_flaw}
+use Rattle.log_flaws.specs.Flaws.{Reaches, HasNoBody, HasFlaw, body_flaw, end_of, length_flaw}
 use Rattle.log_flaws.specs.declared.flaw.FileFlaw.{FileFlaw}
+use Rattle.log_flaws.specs.declared.flaw.FileFlaw.TheVariants.{EndsInside, NoBody}
 use Rattle.log_flaws.specs.declared.voids.VoidFlaw.{VoidFlaw}
 
 -- bytes that begin with a header are no file of another one
@@ -45,10 +48,20 @@ nothing [] none = refl
 nothing (b ∷ bs) none = absurd (omega (arith, none))
 
 -- what is told of a place where no body may stand is so
-pub body_flawed : (file : List ℕ) (h : HeaderView) (at : ℕ) (n : HasNoBody file h at) (flaw : FileFlaw) → flaw ≡ body_flaw at (void_flaw n.last n.text)
-    → HasFlaw file h flaw
+pub body_flawed : (file : List ℕ) (h : HeaderView) (at : ℕ) (n : HasNoBody file h at) (flaw : FileFlaw)
+    → flaw ≡ body_flaw at n.text (void_flaw n.last n.text) → HasFlaw file h flaw
 body_flawed file h at n flaw e = subst (HasFlaw file h) (sym e) (told (void_flaw n.last n.text) refl)
   where
-    told : (why : Option VoidFlaw) → void_flaw n.last n.text ≡ why → HasFlaw file h (body_flaw at why)
-    told None q = (n, q)
-    told (Some why) q = (n, q)
+    is_told : (left : ℕ) (size : Option (ℕ × List ℕ)) → length_flaw at left size ≡ body_flaw at n.text (void_flaw n.last n.text)
+        → HasFlaw file h (length_flaw at left size)
+    is_told left None q = (n, q)
+    is_told left (Some size) q = by_length (nat_lt (length size.1) size.0) q
+      where
+        by_length : (b : Bool) → cond b (EndsInside (at + left) at (end_of at size.0)) (NoBody at) ≡ body_flaw at n.text (void_flaw n.last n.text)
+            → HasFlaw file h (cond b (EndsInside (at + left) at (end_of at size.0)) (NoBody at))
+        by_length true q = (n, q)
+        by_length false q = (n, q)
+
+    told : (why : Option VoidFlaw) → void_flaw n.last n.text ≡ why → HasFlaw file h (body_flaw at n.text why)
+    told None q = is_told (length n.text) (number_at 8 n.text) (ap (body_flaw at n.text) (sym q))
+    told (Some why) q = (n, ap (body_flaw at n.text) (sym q))

@@ -1,4 +1,6 @@
 pub mod Fields
+pub mod Versions
 pub mod Voids
 pub mod Flaws
+pub mod Fronts
 pub mod Texts

@@ -2,12 +2,15 @@
 ghost use Rattle.std.specs.Prelude.{◌≡◌, ◌+◌, ◌++◌, ◌<◌, ◌^◌, List, ℕ, length, IfOk, IfErr};
 ghost use Rattle.money.specs.declared.refusal.Refusal.TheVariants.{OutOfMemory};
 ghost use Rattle.log_header.specs.Header.{HeaderView, IsHeader, header_text};
+ghost use Rattle.log_codec.specs.Numbers.{number_at};
 ghost use Rattle.log_flaws.specs.Voids.{void_flaw};
-ghost use Rattle.log_flaws.specs.Flaws.{HasFlaw, IsExamined, IsHeadless, body_flaw};
+ghost use Rattle.log_flaws.specs.Flaws.{HasFlaw, IsExamined, IsHeadless, body_flaw, end_of, length_flaw};
 
 use crate::field::first_difference;
 use crate::flaw::FileFlaw;
+use crate::versions::newer_version;
 use crate::voids::void_flaw;
+use log_codec::u64_at;
 use log_header::{Header, read_header};
 use log_text::{Body, Last, read_body};
 use money::Refusal;
@@ -47,11 +50,14 @@ pub fn examine(alloc: Global, asked: &Header, file: &[u8]) -> Result<Examined, R
     Ok(bodies_examined(alloc, asked, file, bytes)?)
 }
 
-/// The flaw of bytes that begin with no header.
-fn headless(file: &[u8]) -> FileFlaw
+/// The flaw of bytes that begin with no header, whichever is asked for.
+pub fn headless(file: &[u8]) -> FileFlaw
     requires { IsHeadless file.now }
     ensures flaw { (asked : HeaderView) → HasFlaw file.now asked result }
 {
+    if let Some(version) = newer_version(file) {
+        return FileFlaw::NewerVersion { version };
+    }
     if file.len() < HEADER_BYTES {
         FileFlaw::TooShort {
             length: file.len() as u64,
@@ -62,14 +68,43 @@ fn headless(file: &[u8]) -> FileFlaw
 }
 
 /// What is told of a body at this place that is none which may stand there, where the file stands there and these bytes
-/// begin.
+/// begin, which are its last.
 fn body_flaw(last: Last, text: &[u8], at: u64) -> FileFlaw
-    ensures { result ≡ body_flaw at (void_flaw last text.now) }
+    requires { at + length text.now < 2 ^ 64 }
+    ensures { result ≡ body_flaw at text.now (void_flaw last text.now) }
 {
     match void_flaw(last, text) {
-        None => FileFlaw::NoBody { at },
+        None => length_flaw(text, at),
         Some(why) => FileFlaw::NoVoid { at, why },
     }
+}
+
+/// What is told of such a body by its length, where it is no void one.
+fn length_flaw(text: &[u8], at: u64) -> FileFlaw
+    requires { at + length text.now < 2 ^ 64 }
+    ensures { result ≡ length_flaw at (length text.now) (number_at 8 text.now) }
+{
+    let length = at + text.len() as u64;
+    match u64_at(text) {
+        None => FileFlaw::EndsInside {
+            length,
+            at,
+            end: None,
+        },
+        Some((size, rest)) if (rest.len() as u64) < size => FileFlaw::EndsInside {
+            length,
+            at,
+            end: end_of(at, size),
+        },
+        Some(_) => FileFlaw::NoBody { at },
+    }
+}
+
+/// The place behind a body of this length at this place, and behind its gate, where that place has eight bytes.
+fn end_of(at: u64, size: u64) -> Option<u64>
+    ensures { result ≡ end_of at size }
+{
+    at.checked_add(8)?.checked_add(size)
 }
 
 /// What a file is found to be whose first bytes are the header that was asked for, and which has these bytes behind it.

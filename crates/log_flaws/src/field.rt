@@ -42,7 +42,6 @@ const FIELDS: [HeaderField; 10] = [
 impl HeaderField {
     ghost use Rattle.std.specs.Prelude.{◌≡◌};
     ghost use Rattle.log_flaws.specs.Fields.{field_name, number_in};
-    ghost use Rattle.log_flaws.specs.Texts.{were};
 
     /// The number that a header has in this field.
     pub fn of(self, header: &Header) -> u64
@@ -77,17 +76,6 @@ impl HeaderField {
             HeaderField::Orders => "--orders",
             HeaderField::Commits => "--commits",
             HeaderField::Population => "--population",
-        }
-    }
-
-    /// What is said of so many that were asked for: `was` of a number that counts nothing, and of one.
-    pub(crate) fn were(self, number: u64) -> &'static str
-        ensures { result.now ≡ were self number }
-    {
-        match self {
-            HeaderField::Version | HeaderField::Logger | HeaderField::Population => "was",
-            _ if number == 1 => "was",
-            _ => "were",
         }
     }
 }

@@ -5,9 +5,10 @@
 mod examining;
 mod field;
 mod flaw;
+mod versions;
 mod voids;
 
-pub use examining::{Examined, examine};
+pub use examining::{Examined, examine, headless};
 pub use field::HeaderField;
 pub use flaw::FileFlaw;
 pub use voids::VoidFlaw;

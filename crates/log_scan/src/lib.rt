@@ -1,6 +1,10 @@
-//! A log file, read from a disk at once.
+//! A log file, read from a disk.
 #![tactic(auto)]
 
+mod laws;
+mod reading;
 mod scanning;
 
-pub use scanning::{contents, scan};
+pub use laws::same_file;
+pub use reading::{text, text_of_size};
+pub use scanning::{scan, scan_noted};

@@ -21,9 +21,10 @@ use log_codec::put_u8;
 use log_disk::Disk;
 use log_entries::put_batch;
 use log_header::{Header, VERSION, put_header};
-use log_scan::contents;
+use log_scan::text;
 use log_text::{Body, Last, read_to_end, void_text};
 use money::Refusal;
+use recover_progress::Progress;
 use std::alloc::{AllocError, Global};
 use std::marker::Model;
 use std::mem;
@@ -131,14 +132,15 @@ impl<D: Disk> LogFile<D> {
         ensures others { IfErr result (λ refusal. (refusal ≢ OutOfMemory) → (refusal ≢ Device)
             → refusal ≡ Damaged) }
     {
-        let (file, _) = LogFile::open_with_bodies(alloc, disk)?;
+        let unshown = Progress::of(Vec::new(alloc));
+        let (file, _) = LogFile::open_with_bodies(alloc, disk, &unshown)?;
         Ok(file)
     }
 
     /// A log file that is opened again for appending, and the bodies that stand in it. The disk is synced before it is
     /// read, so that no crash can take what was read. No entry counts as appended to this open file; its mark is that
-    /// of the last body (0 without one), and the next body goes behind the gate that ends the text. Costs a pass over
-    /// the file.
+    /// of the last body (0 without one), and the next body goes behind the gate that ends the text. Only the text is
+    /// read (`log_scan::text`), and noted as it is read. Costs a pass over it.
     ///
     /// # Errors
     ///
@@ -146,7 +148,11 @@ impl<D: Disk> LogFile<D> {
     /// `Device`; `OutOfMemory`. After Ok they are one, and no call of the device has failed. An Err drops the disk, so
     /// no clause says more of it; by the code alone `Device` comes exactly where a call of the device fails,
     /// `OutOfMemory` only for want of memory, and nothing is written.
-    pub fn open_with_bodies(alloc: Global, disk: D) -> Result<(LogFile<D>, Vec<Body>), Refusal>
+    pub fn open_with_bodies(
+        alloc: Global,
+        disk: D,
+        progress: &Progress,
+    ) -> Result<(LogFile<D>, Vec<Body>), Refusal>
     where
         D: Drop,
         ensures fresh { IfOk result (λ x. (x.0.count ≡ 0) × (x.0.number ≡ 0) × (x.0.failed ≡ false)) }
@@ -167,7 +173,7 @@ impl<D: Disk> LogFile<D> {
     {
         let mut synced = disk;
         synced.sync()?;
-        let bytes = contents(alloc, &mut synced)?;
+        let bytes = text(alloc, &mut synced, progress)?;
         let (header, bodies, last, end) = read_to_end(alloc, &bytes)?;
         // Behind bodies of another version none may stand that are written today.
         if header.version != VERSION {

@@ -1,4 +1,7 @@
 mod Beginnings
 mod Details
+mod Durable
 mod NoMemory
+mod Plain
 mod Resumed
+mod Seen

@@ -3,7 +3,6 @@ use Rattle.std.proofs.Common.{◌≡◌, ◌∙◌, ◌<◌, ◌∷◌, ℕ, Lis
 use Rattle.std.specs.Io.KnownBytes.{Appends}
 use Rattle.tables.specs.Database.{Database}
 use Rattle.tables.specs.Sizes.{Sizes}
-use Rattle.conditions.specs.declared.report.Report.{Report}
 use Rattle.book.specs.Parts.{first_of, past_of}
 use Rattle.book.specs.declared.parts.Parts.{Parts}
 use Rattle.log_header.specs.Header.{HeaderView}
@@ -11,8 +10,9 @@ use Rattle.logfile.specs.Standing.{LogFileView}
 use Rattle.recover_restart.specs.Restarting.{StandAt}
 use Rattle.program_options.specs.declared.asked.RunOptions.{RunOptions}
 use Rattle.program_run.specs.Outfit.{AreLogsOf}
-use Rattle.program_run.specs.Told.{IsRan}
-use Rattle.program.specs.Resumed.{IsResumedRun, IsResumedWith, resumed_line}
+use Rattle.program_run.specs.Told.{IsDriven}
+use Rattle.program_run.specs.declared.driving.Driven.{Driven}
+use Rattle.program.specs.Resumed.{IsDrivenFurther, IsResumedWith, resumed_line}
 
 -- files that stand where a restart has left them are those of their loggers
 pub are_logs : {D : Type 0} {s : Sizes} {seed loggers mark : ℕ} {files : List (LogFileView D)} (n : ℕ) → n ≡ loggers
@@ -28,20 +28,26 @@ are_logs {D} {s} {seed} {loggers} {mark} {files} n same stand = record {
       };
 }
 
--- what ran on it is a resumed run
-pub resumed_run : {r : RunOptions} {t0 : Database} {seed : ℕ} {old between new : Option (List ℕ)} {report : Report} {parts : Parts}
+-- what ran on it is a resumed run, and as durable
+pub driven_further : {r : RunOptions} {t0 : Database} {seed : ℕ} {old between new : Option (List ℕ)} {driven : Driven} {parts : Parts}
     {commits epoch : ℕ} → IsResumedWith r t0 seed parts commits epoch → Appends old between (resumed_line commits epoch)
-    → IsRan (past_of parts) (first_of parts) r.terminals r.count between new report
-    → IsResumedRun r t0 seed old new report
-resumed_run {r} {between = between} {new = new} {report = report} {parts = parts} {commits} {epoch} resumed told ran = record {
-  parts = parts;
-  commits = commits;
-  epoch = epoch;
-  resumed = resumed;
-  between = between;
-  told = told;
-  ran = subst (λ (past : ℕ). IsRan past (first_of parts) r.terminals r.count between new report) resumed.1.goes_on.are_parts.past_is ran;
-}
+    → IsDriven (past_of parts) (first_of parts) r.terminals r.count between new driven
+    → IsDrivenFurther r t0 seed old new driven
+driven_further {r} {between = between} {new = new} {driven = driven} {parts = parts} {commits} {epoch} resumed told d =
+    let is = subst (λ (past : ℕ). IsDriven past (first_of parts) r.terminals r.count between new driven) resumed.1.goes_on.are_parts.past_is d in
+    record {
+      run = record {
+        parts = parts;
+        commits = commits;
+        epoch = epoch;
+        resumed = resumed;
+        between = between;
+        told = told;
+        ran = is.ran;
+      };
+      acknowledged = is.acknowledged;
+      short = is.short;
+    }
 
 -- a list without elements
 pub none_left : {X : Type 0} (xs : List X) → length xs ≡ 0 → xs ≡ []

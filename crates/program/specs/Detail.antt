@@ -4,20 +4,24 @@ use Rattle.std.specs.Prelude.{option_map, string_bytes}
 use Rattle.std.specs.Fmt.{decimal}
 use Rattle.std.specs.declared.io.Error.{Error}
 use Rattle.money.specs.declared.refusal.Refusal.{Refusal}
-use Rattle.money.specs.declared.refusal.Refusal.TheVariants.{Device, Damaged, Gap, BadScale}
+use Rattle.money.specs.declared.refusal.Refusal.TheVariants.{OutOfMemory, Device, EpochFull, Damaged, Gap, BadScale}
 use Rattle.tables.specs.declared.limits.TheConstants.{MAX_WAREHOUSES, MAX_DISTRICTS, MIN_CUSTOMERS, MAX_CUSTOMERS}
 use Rattle.tables.specs.declared.limits.TheConstants.{MIN_ITEMS, MAX_ITEMS, MAX_ORDERS, MAX_COMMITS}
-use Rattle.tables.specs.Sizes.{Sizes}
-use Rattle.log_flaws.specs.Texts.{flaw_text}
+use Rattle.tables.specs.Sizes.{Sizes, IsScale}
+use Rattle.log_flaws.specs.Texts.{flaw_line}
 use Rattle.log_flaws.specs.declared.flaw.FileFlaw.{FileFlaw}
+use Rattle.program_options.specs.declared.asked.Subcommand.{Subcommand}
+use Rattle.program_recovery.specs.Far.{beyond_text}
 use Rattle.program_recovery.specs.Flaws.{misnumbered_text}
+use Rattle.program_recovery.specs.declared.far.Beyond.{Beyond}
 use Rattle.program_recovery.specs.declared.gap.Misnumbered.{Misnumbered}
+use Rattle.program.specs.Memory.{memory_line}
 use Rattle.program.specs.declared.fault.Cause.{Cause}
 use Rattle.program.specs.declared.fault.Cause.TheVariants as cause
 use Rattle.program.specs.declared.fault.Fault.{Fault}
 use Rattle.program.specs.declared.fault.Trouble.{Trouble}
-use Rattle.program.specs.declared.fault.Trouble.TheVariants.{NotCreated, Exists, NotOpened, NotLocked, InUse}
-use Rattle.program.specs.declared.fault.Trouble.TheVariants.{NotRead, NotWritten, NotUsed, NotSynced}
+use Rattle.program.specs.declared.fault.Trouble.TheVariants.{NotCreated, Exists, Alone, NotNamed, NotOpened, NotLocked, InUse}
+use Rattle.program.specs.declared.fault.Trouble.TheVariants.{NotRead, NotWritten, NotSynced}
 
 -- `--orders is 9: it is to be from 10 (the customers) to 100000`, with a line feed. The note says whose number the
 -- lower limit is
@@ -53,55 +57,85 @@ IsReasonTold what None line = line ≡ what ++ codes "\n"
 -- what it is called that a file can't be used so
 abbrev pub trouble_of : Trouble → List ℕ
 trouble_of (NotCreated error) = codes "can't be created"
-trouble_of (Exists error) = codes "can't be created, and the file that is there is left as it is"
+trouble_of (Exists error) =
+    codes "can't be created, and the file that is there is left as it is (--resume goes on with it)"
+trouble_of Alone = codes "is there without log-0"
+trouble_of (NotNamed error) = codes "can't be given this name"
 trouble_of (NotOpened error) = codes "can't be opened"
 trouble_of (NotLocked error) = codes "can't be locked"
 trouble_of InUse = codes "in use by another process"
 trouble_of (NotRead error) = codes "can't be read"
 trouble_of (NotWritten error) = codes "can't be written"
-trouble_of (NotUsed error) = codes "can't be read or written"
 trouble_of (NotSynced error) = codes "can't be synced"
 
 -- the system's reason, if it is one of its own
 abbrev pub reason_of : Trouble → Option Error
 reason_of (NotCreated error) = Some error
 reason_of (Exists error) = Some error
+reason_of Alone = None
+reason_of (NotNamed error) = Some error
 reason_of (NotOpened error) = Some error
 reason_of (NotLocked error) = Some error
 reason_of InUse = None
 reason_of (NotRead error) = Some error
 reason_of (NotWritten error) = Some error
-reason_of (NotUsed error) = Some error
 reason_of (NotSynced error) = Some error
 
 -- why a run was refused: the file of this path, or the folder of the files, couldn't be used; the file isn't the log file
--- that it is to be; the numbers of commits are amiss; or what the files recover to no commits can have made
+-- that it is to be, or it is of this version, which isn't gone on with; the numbers of commits are amiss; what the files
+-- recover to no commits can have made, in this column if one is known; or so many commits aren't durable, since the logger
+-- of the file of this path had no memory for its last batch, or since the file can have no mark behind the last epoch
 pub data CauseView : Type 0 where
   Unusable : List ℕ → Trouble → CauseView
   Flawed : List ℕ → FileFlaw → CauseView
+  Older : List ℕ → ℕ → CauseView
   Amiss : Misnumbered → CauseView
-  Unsound : CauseView
+  Unsound : Option Beyond → CauseView
+  Unlogged : List ℕ → ℕ → CauseView
+  InLastEpoch : List ℕ → ℕ → CauseView
 
 abbrev pub cause_view : Cause → CauseView
 cause_view (cause.Unusable path trouble) = Unusable (string_bytes path) trouble
 cause_view (cause.Flawed path flaw) = Flawed (string_bytes path) flaw
+cause_view (cause.Older path version) = Older (string_bytes path) version
 cause_view (cause.Amiss gap) = Amiss gap
-cause_view cause.Unsound = Unsound
+cause_view (cause.Unsound beyond) = Unsound beyond
+cause_view (cause.Unlogged path commits) = Unlogged (string_bytes path) commits
+cause_view (cause.InLastEpoch path commits) = InLastEpoch (string_bytes path) commits
 
 -- what is known of why
 abbrev pub cause_of : Fault → Option CauseView
 cause_of fault = option_map cause_view fault.cause
 
--- what is told of files that recover to what no commits can have made
-abbrev pub unsound_text : List ℕ
-unsound_text = codes "what the log files recover to no commits can have made: `tpcc check` tells more"
+-- what is told of the file of this path that is of an older version
+abbrev pub older_line : List ℕ → ℕ → List ℕ
+older_line path version = path ++ (codes ": it is of version "
+    ++ (decimal version ++ codes ", which can be recovered and checked, not gone on with\n"))
+
+-- and of files that recover to what no commits can have made
+abbrev pub unsound_text : Option Beyond → List ℕ
+unsound_text (Some beyond) = beyond_text beyond
+unsound_text None = codes "what the log files recover to no commits can have made: `tpcc check` tells more"
+
+-- what is told of commits that aren't durable, since the logger of the file of this path had no memory for its last batch,
+-- or since it can have no mark behind the last epoch
+abbrev pub unlogged_line : List ℕ → ℕ → List ℕ
+unlogged_line path commits = path ++ (codes ": no memory was left for its last batch: "
+    ++ (decimal commits ++ codes " commits aren't durable\n"))
+
+abbrev pub last_epoch_line : List ℕ → ℕ → List ℕ
+last_epoch_line path commits = path ++ (codes ": epoch 4294967295 is the last one, and is never durable: "
+    ++ (decimal commits ++ codes " commits of it are lost\n"))
 
 -- the line on it, if it is known
 abbrev pub IsCauseLine : Option CauseView → List ℕ → Type 0
 IsCauseLine (Some (Unusable path trouble)) line = IsReasonTold (path ++ (codes ": " ++ trouble_of trouble)) (reason_of trouble) line
-IsCauseLine (Some (Flawed path flaw)) line = line ≡ path ++ (codes ": " ++ (flaw_text flaw ++ codes "\n"))
+IsCauseLine (Some (Flawed path flaw)) line = line ≡ flaw_line path flaw ++ codes "\n"
+IsCauseLine (Some (Older path version)) line = line ≡ older_line path version
 IsCauseLine (Some (Amiss gap)) line = line ≡ misnumbered_text gap ++ codes "\n"
-IsCauseLine (Some Unsound) line = line ≡ unsound_text ++ codes "\n"
+IsCauseLine (Some (Unsound beyond)) line = line ≡ unsound_text beyond ++ codes "\n"
+IsCauseLine (Some (Unlogged path commits)) line = line ≡ unlogged_line path commits
+IsCauseLine (Some (InLastEpoch path commits)) line = line ≡ last_epoch_line path commits
 IsCauseLine None line = line ≡ []
 
 -- the line on the stream on which the last call failed, by the errors of the last calls on the input and on the output,
@@ -111,10 +145,17 @@ IsDeviceLine _ (Some error) _ line = IsReasonTold (codes "standard input") (Some
 IsDeviceLine _ None (Some error) line = IsReasonTold (codes "standard output") (Some error) line
 IsDeviceLine known None None line = IsCauseLine known line
 
--- what is told behind a refusal's line, over this scale
-abbrev pub IsDetail : Sizes → Option CauseView → Option Error → Option Error → Refusal → List ℕ → Type 0
-IsDetail s known input output BadScale line = line ≡ scale_line s
-IsDetail s known input output Device line = IsDeviceLine known input output line
-IsDetail s known input output Damaged line = IsCauseLine known line
-IsDetail s known input output Gap line = IsCauseLine known line
-IsDetail s known input output _ line = line ≡ []
+-- the line on want of memory: what is known of why, or else, at a lawful scale, how much a subcommand takes
+abbrev pub IsMemoryDetail : Subcommand → Sizes → Option CauseView → List ℕ → Type 0
+IsMemoryDetail c s (Some cause) line = IsCauseLine (Some cause) line
+IsMemoryDetail c s None line = IsScale s → line ≡ memory_line c s
+
+-- what is told behind a refusal's line, of this subcommand over this scale
+abbrev pub IsDetail : Subcommand → Sizes → Option CauseView → Option Error → Option Error → Refusal → List ℕ → Type 0
+IsDetail c s known input output BadScale line = line ≡ scale_line s
+IsDetail c s known input output Device line = IsDeviceLine known input output line
+IsDetail c s known input output EpochFull line = IsCauseLine known line
+IsDetail c s known input output Damaged line = IsCauseLine known line
+IsDetail c s known input output Gap line = IsCauseLine known line
+IsDetail c s known input output OutOfMemory line = IsMemoryDetail c s known line
+IsDetail c s known input output _ line = line ≡ []

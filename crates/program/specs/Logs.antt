@@ -1,31 +1,37 @@
 -- What comes of the log files of a command line.
-use Rattle.std.specs.Prelude.{◌≡◌, ◌<◌, ◌++◌, ℕ, Bool, true, false, List, [], Option, Some, None, codes}
-use Rattle.std.specs.Prelude.{string_bytes, IfSome}
+use Rattle.std.specs.Prelude.{◌≡◌, ◌≢◌, ◌<◌, ◌++◌, ℕ, Bool, true, false, List, [], Option, Some, None, codes}
+use Rattle.std.specs.Prelude.{string_bytes, IfSome, if◌then◌else◌}
 use Rattle.std.specs.Fmt.{decimal}
 use Rattle.std.specs.Io.KnownBytes.{Appends}
 use Rattle.std.specs.declared.io.Error.{Error}
 use Rattle.money.specs.declared.refusal.Refusal.{Refusal}
-use Rattle.money.specs.declared.refusal.Refusal.TheVariants.{OutOfMemory, Device, Damaged, Gap}
+use Rattle.money.specs.declared.refusal.Refusal.TheVariants.{OutOfMemory, Device, EpochFull, Damaged, Gap}
 use Rattle.tables.specs.Database.{Database, database}
 use Rattle.tables.specs.Sizes.{Sizes}
 use Rattle.conditions.specs.Report.{IsReportOf}
 use Rattle.conditions.specs.declared.report.Report.{Report}
+use Rattle.log_header.specs.Header.{HeaderView, IsHeader, header_text}
+use Rattle.log_flaws.specs.declared.field.HeaderField.TheVariants.{Loggers, Version}
+use Rattle.log_flaws.specs.declared.flaw.FileFlaw.TheVariants.{OtherHeader}
+use Rattle.recover_files.specs.Recovered.{IsRecovery}
 use Rattle.recover_files.specs.declared.recovering.Recovered.{Recovered}
+use Rattle.program_recovery.specs.Far.{IsBeyond}
 use Rattle.program_recovery.specs.Told.{IsShown, IsChecked, IsRefused}
 use Rattle.program_recovery.specs.Flaws.{IsDamage, IsFirstGap}
 use Rattle.program_recovery.specs.declared.damage.AskedVersion.{AskedVersion}
 use Rattle.program_recovery.specs.declared.damage.AskedVersion.TheVariants as asked
 use Rattle.program_recovery.specs.declared.damage.Damage.{Damage}
+use Rattle.program_recovery.specs.declared.far.Beyond.{Beyond}
 use Rattle.program_recovery.specs.declared.gap.Misnumbered.{Misnumbered}
-use Rattle.program_run.specs.Told.{IsRan, IsBroken}
+use Rattle.program_run.specs.Told.{IsRan, IsBroken, IsShortBy}
 use Rattle.program_options.specs.declared.asked.LogFiles.{LogFiles}
 use Rattle.program_options.specs.declared.asked.RunOptions.{RunOptions}
-use Rattle.program.specs.Detail.{CauseView, Unusable, Flawed, Amiss, Unsound}
+use Rattle.program.specs.Detail.{CauseView, Unusable, Flawed, Older, Amiss, Unsound, Unlogged, InLastEpoch}
 use Rattle.program.specs.declared.fault.Purpose.{Purpose}
 use Rattle.program.specs.declared.fault.Purpose.TheVariants.{Read, Create, Append}
 use Rattle.program.specs.declared.fault.Trouble.{Trouble}
-use Rattle.program.specs.declared.fault.Trouble.TheVariants.{NotCreated, Exists, NotOpened, NotLocked, InUse}
-use Rattle.program.specs.declared.fault.Trouble.TheVariants.{NotRead, NotWritten, NotUsed, NotSynced}
+use Rattle.program.specs.declared.fault.Trouble.TheVariants.{NotCreated, Exists, Alone, NotNamed, NotOpened, NotLocked, InUse}
+use Rattle.program.specs.declared.fault.Trouble.TheVariants.{NotRead, NotWritten, NotSynced}
 
 -- the path of a logger's file, `DIR/log-0`
 abbrev pub path_of : LogFiles → ℕ → List ℕ
@@ -39,55 +45,85 @@ folder_of files = string_bytes files.folder ++ codes "/"
 abbrev pub may_stop : Purpose → Trouble → Bool
 may_stop Create (NotCreated error) = true
 may_stop Create (Exists error) = true
+may_stop Create Alone = true
+may_stop Create (NotNamed error) = true
 may_stop Read (NotOpened error) = true
 may_stop Append (NotOpened error) = true
 may_stop purpose (NotLocked error) = true
 may_stop purpose InUse = true
 may_stop purpose trouble = false
 
--- the files weren't ready for this: memory ran out; this one couldn't be used so; or they were made, and the names that
--- their folder has of them couldn't be made durable
+-- some bytes of the first file begin with a header, which tells of another number of loggers
+pub record HasOtherLoggers (files : LogFiles) (cause : CauseView) : Type 0 where
+  pub header : HeaderView
+  pub first : List ℕ
+  pub rest : List ℕ
+  pub lawful : IsHeader header
+  pub begins : first ≡ header_text header ++ rest
+  pub others : header.loggers ≢ files.loggers
+  pub is : cause ≡ Flawed (path_of files 0) (OtherHeader Loggers header.loggers files.loggers)
+
+-- the files weren't ready for this: memory ran out; this one couldn't be used so; there are files, but of another number
+-- of loggers; or they were made, and the names that their folder has of them couldn't be made durable
 pub data AreUnready (purpose : Purpose) (files : LogFiles) (refusal : Refusal) (known : Option CauseView)
     : Type 0 where
   memory : refusal ≡ OutOfMemory → known ≡ None → AreUnready purpose files refusal known
   one : (logger : ℕ) (trouble : Trouble) → logger < files.loggers → may_stop purpose trouble ≡ true → refusal ≡ Device
       → known ≡ Some (Unusable (path_of files logger) trouble) → AreUnready purpose files refusal known
+  others : (cause : CauseView) → purpose ≢ Create → refusal ≡ Device → HasOtherLoggers files cause → known ≡ Some cause
+      → AreUnready purpose files refusal known
   names : (error : Error) → purpose ≡ Create → refusal ≡ Device → known ≡ Some (Unusable (folder_of files) (NotSynced error))
       → AreUnready purpose files refusal known
 
--- what it is called that a file can't be used for this any longer, once it was ready
-abbrev pub broken_off : Purpose → Error → Trouble
-broken_off Read error = NotRead error
-broken_off Create error = NotWritten error
-broken_off Append error = NotUsed error
+-- what it is called that a file can't be used for this any longer, once it was ready, where the call that failed writes
+-- or not
+abbrev pub broken_off : Purpose → Bool → Error → Trouble
+broken_off Read writes error = NotRead error
+broken_off Create writes error = NotWritten error
+broken_off Append writes error = if writes then NotWritten error else NotRead error
 
--- of which version its files are asked to be: to be read, of any one; to be written behind what they hold, of that which
--- is written today
-abbrev pub version_asked : Purpose → AskedVersion
-version_asked Read = asked.First
-version_asked Create = asked.First
-version_asked Append = asked.Today
+-- of which version its files may be asked to be: to be read, of that of the first; to be written behind what they hold,
+-- of that which is written today, or, where one isn't, of that of the first
+abbrev pub may_ask : AskedVersion → Purpose → Bool
+may_ask asked.First purpose = true
+may_ask asked.Today Append = true
+may_ask asked.Today purpose = false
 
 -- a device failed, and this log file is on it
 pub record HasBroken (purpose : Purpose) (files : LogFiles) (refusal : Refusal) (cause : CauseView) : Type 0 where
   pub logger : ℕ
   pub error : Error
+  pub writes : Bool
   pub device : refusal ≡ Device
   pub among : logger < files.loggers
-  pub is : cause ≡ Unusable (path_of files logger) (broken_off purpose error)
+  pub is : cause ≡ Unusable (path_of files logger) (broken_off purpose writes error)
+
+-- some bytes of a file that is to be gone on with are of this version, and of no other damage before
+abbrev pub IsOlder : Sizes → ℕ → LogFiles → Damage → ℕ → Type 0
+IsOlder s seed files damage found = (first : List ℕ) × (file : List ℕ) × (wanted : ℕ)
+    × IsDamage asked.Today s seed files.loggers first file damage × (damage.flaw ≡ OtherHeader Version found wanted)
+
+-- first tables of this scale, and some bytes, recover to tables in which this column is out of reach
+abbrev pub IsBeyondOf : Sizes → ℕ → Beyond → Type 0
+IsBeyondOf s seed beyond = (t0 : Database) × (t0.scale ≡ s) × (strings : List (List ℕ)) × (r : Recovered)
+    × IsRecovery t0 seed strings r × IsBeyond r.commits (database r.tables) beyond
 
 -- why log files of this scale and seed weren't recovered, or gone on with: one couldn't be used; some bytes of one have
--- this flaw; the numbers of the commits that some bytes of theirs have are amiss; or files to be gone on with have no
--- flaw, and yet were refused for damage
+-- this flaw; one that is to be gone on with is of another version, and nothing else keeps it from being read; the numbers
+-- of the commits that some bytes of theirs have are amiss; or files to be gone on with have no flaw, and yet were refused
+-- for damage, and of what some bytes of theirs recover to this column is out of reach, if one is known
 pub data IsWhy (purpose : Purpose) (files : LogFiles) (s : Sizes) (seed : ℕ) (refusal : Refusal) (cause : CauseView)
     : Type 0 where
   broken : HasBroken purpose files refusal cause → IsWhy purpose files s seed refusal cause
-  damaged : (first file : List ℕ) (damage : Damage) → refusal ≡ Damaged
-      → IsDamage (version_asked purpose) s seed files.loggers first file damage
+  damaged : (asked : AskedVersion) (first file : List ℕ) (damage : Damage) → refusal ≡ Damaged
+      → may_ask asked purpose ≡ true → IsDamage asked s seed files.loggers first file damage
       → cause ≡ Flawed (path_of files damage.logger) damage.flaw → IsWhy purpose files s seed refusal cause
+  older : (damage : Damage) (found : ℕ) → refusal ≡ Damaged → purpose ≡ Append → IsOlder s seed files damage found
+      → cause ≡ Older (path_of files damage.logger) found → IsWhy purpose files s seed refusal cause
   gap : (strings : List (List ℕ)) (gap : Misnumbered) → refusal ≡ Gap → IsFirstGap s seed strings (Some gap)
       → cause ≡ Amiss gap → IsWhy purpose files s seed refusal cause
-  unsound : purpose ≡ Append → refusal ≡ Damaged → cause ≡ Unsound → IsWhy purpose files s seed refusal cause
+  unsound : (beyond : Option Beyond) → refusal ≡ Damaged → purpose ≡ Append → IfSome beyond (IsBeyondOf s seed)
+      → cause ≡ Unsound beyond → IsWhy purpose files s seed refusal cause
 
 -- what some bytes of the files recover to was shown, and this is the report of the recovered tables
 pub record IsShownWith (t0 : Database) (seed : ℕ) (old new : Option (List ℕ)) (report : Report) : Type 0 where
@@ -109,12 +145,21 @@ pub data IsRefusedWith (files : LogFiles) (Tells : Recovered → List ℕ → Ty
   untold : (strings : List (List ℕ)) (before now : List ℕ) → IsRefused t0 seed strings Tells before now old new refusal
       → IfSome known (IsWhy Read files t0.scale seed refusal) → IsRefusedWith files Tells t0 seed old new refusal known
 
+-- why commits of a run aren't durable: a device failed, and this log file is on it; or its logger had no memory for its
+-- last batch; or they are of the last epoch, behind which the first file can have no mark
+pub data IsShort (purpose : Purpose) (files : LogFiles) (refusal : Refusal) (cause : CauseView) : Type 0 where
+  broken : HasBroken purpose files refusal cause → IsShort purpose files refusal cause
+  unlogged : (logger commits : ℕ) → refusal ≡ OutOfMemory → logger < files.loggers
+      → cause ≡ Unlogged (path_of files logger) commits → IsShort purpose files refusal cause
+  in_last_epoch : (commits : ℕ) → refusal ≡ EpochFull → cause ≡ InLastEpoch (path_of files 0) commits
+      → IsShort purpose files refusal cause
+
 -- a run was refused: its files couldn't be made; it was broken off for want of memory, or a device failed; or it was told
--- whole, and a logger had stopped. A file that couldn't be written is told, where memory is there for that
+-- whole, and a logger had stopped, or commits aren't durable. Which file it was is told, where memory is there for that
 pub data IsUnfinishedRun (r : RunOptions) (t0 : Database) (old new : Option (List ℕ)) (refusal : Refusal)
     (known : Option CauseView) : Type 0 where
   unmade : AreUnready Create r.files refusal known → Appends old new [] → IsUnfinishedRun r t0 old new refusal known
   broken : IsBroken 0 t0 r.terminals r.count old new refusal → IfSome known (HasBroken Create r.files refusal)
       → IsUnfinishedRun r t0 old new refusal known
-  stopped : (report : Report) → IsRan 0 t0 r.terminals r.count old new report → refusal ≡ Device
-      → IfSome known (HasBroken Create r.files refusal) → IsUnfinishedRun r t0 old new refusal known
+  short : (report : Report) → IsRan 0 t0 r.terminals r.count old new report → IsShortBy refusal
+      → IfSome known (IsShort Create r.files refusal) → IsUnfinishedRun r t0 old new refusal known

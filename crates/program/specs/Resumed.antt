@@ -1,5 +1,5 @@
 -- What comes of a run that goes on from its log files.
-use Rattle.std.specs.Prelude.{◌≡◌, ◌⊎◌, ◌++◌, ℕ, List, [], Option, codes, IfSome}
+use Rattle.std.specs.Prelude.{◌≡◌, ◌⊎◌, ◌++◌, ◌≤◌, ℕ, List, [], Option, None, codes, IfSome}
 use Rattle.std.specs.Fmt.{decimal}
 use Rattle.std.specs.Io.KnownBytes.{Appends}
 use Rattle.money.specs.declared.refusal.Refusal.{Refusal}
@@ -10,9 +10,10 @@ use Rattle.book.specs.Parts.{first_of}
 use Rattle.book.specs.declared.parts.Parts.{Parts}
 use Rattle.recover_restart.specs.Restarting.{GoesOnFrom}
 use Rattle.program_options.specs.declared.asked.RunOptions.{RunOptions}
-use Rattle.program_run.specs.Told.{IsRan, IsBroken}
+use Rattle.program_run.specs.Told.{IsRan, IsBroken, IsShortBy}
+use Rattle.program_run.specs.declared.driving.Driven.{Driven}
 use Rattle.program.specs.Detail.{CauseView}
-use Rattle.program.specs.Logs.{AreUnready, HasBroken, IsWhy}
+use Rattle.program.specs.Logs.{AreUnready, HasBroken, IsShort, IsWhy}
 use Rattle.program.specs.declared.fault.Purpose.TheVariants.{Append}
 
 -- the line that is written first: so many commits were recovered, and the run commits in this epoch and later ones
@@ -36,8 +37,21 @@ pub record IsResumedRun (r : RunOptions) (t0 : Database) (seed : ℕ) (old new :
   pub told : Appends old between (resumed_line commits epoch)
   pub ran : IsRan commits (first_of parts) r.terminals r.count between new report
 
+-- and each commit was acknowledged
+abbrev pub IsResumedDurably : RunOptions → Database → ℕ → Option (List ℕ) → Option (List ℕ) → Report → Type 0
+IsResumedDurably r t0 seed old new report =
+    (run : IsResumedRun r t0 seed old new report) × (run.ran.counts.commits ≤ run.ran.counts.acknowledged)
+
+-- the same of a run that may have fallen short: each commit was acknowledged, unless something fell short
+pub record IsDrivenFurther (r : RunOptions) (t0 : Database) (seed : ℕ) (old new : Option (List ℕ)) (driven : Driven)
+    : Type 0 where
+  pub run : IsResumedRun r t0 seed old new driven.report
+  pub acknowledged : driven.shortfall ≡ None → run.ran.counts.commits ≤ run.ran.counts.acknowledged
+  pub short : IfSome driven.shortfall (λ shortfall. IsShortBy shortfall.refusal)
+
 -- it was refused: its files couldn't be opened; they couldn't be gone on with; the first line wasn't written whole; it was
--- broken off for want of memory, or a device failed; or it was told whole, and a logger had stopped
+-- broken off for want of memory, or a device failed; or it was told whole, and a logger had stopped, or commits aren't
+-- durable
 pub data IsUnfinishedResumedRun (r : RunOptions) (t0 : Database) (seed : ℕ) (old new : Option (List ℕ))
     (refusal : Refusal) (known : Option CauseView) : Type 0 where
   unready : AreUnready Append r.files refusal known → Appends old new []
@@ -52,5 +66,5 @@ pub data IsUnfinishedResumedRun (r : RunOptions) (t0 : Database) (seed : ℕ) (o
       → Appends old between (resumed_line commits epoch)
       → IsBroken commits (first_of parts) r.terminals r.count between new refusal
       → IfSome known (HasBroken Append r.files refusal) → IsUnfinishedResumedRun r t0 seed old new refusal known
-  stopped : (report : Report) → IsResumedRun r t0 seed old new report → refusal ≡ Device
-      → IfSome known (HasBroken Append r.files refusal) → IsUnfinishedResumedRun r t0 seed old new refusal known
+  short : (report : Report) → IsResumedRun r t0 seed old new report → IsShortBy refusal
+      → IfSome known (IsShort Append r.files refusal) → IsUnfinishedResumedRun r t0 seed old new refusal known

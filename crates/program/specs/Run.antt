@@ -1,8 +1,10 @@
 -- What a run of the program comes to: from its words and its input to its output, its errors and its exit status.
-use Rattle.std.specs.Prelude.{◌≡◌, ◌⊎◌, ◌++◌, ◌≤◌, ℕ, List, [], Option, None, MatchBool}
+use Rattle.std.specs.Prelude.{◌≡◌, ◌≢◌, ◌⊎◌, ◌++◌, ◌≤◌, ℕ, List, [], Option, None, MatchBool}
 use Rattle.std.specs.Io.KnownBytes.{Appends}
 use Rattle.std.specs.declared.io.Error.{Error as IoError}
+use Rattle.clap.specs.Values.{kind_of}
 use Rattle.clap.specs.declared.error.Error.{Error}
+use Rattle.clap.specs.declared.error.kind.ErrorKind.TheVariants.{DisplayVersion}
 use Rattle.money.specs.declared.refusal.Refusal.{Refusal}
 use Rattle.money.specs.declared.refusal.Refusal.TheVariants.{OutOfMemory, BadInput, Device, BadScale}
 use Rattle.tables.specs.Sizes.{Sizes, IsScale, sizes}
@@ -13,17 +15,19 @@ use Rattle.conditions.specs.Report.{IsGood}
 use Rattle.conditions.specs.declared.report.Report.{Report}
 use Rattle.book.specs.Done.{Done}
 use Rattle.program_script.specs.Written.{HasTooManyLines, IsWhole, IsBeginning}
-use Rattle.program_options.specs.CommandLine.{IsAskedBy, IsOptionsRefusal}
+use Rattle.program_options.specs.CommandLine.{IsAskedBy, IsInfoAskedBy, IsOptionsRefusal, IsVersionAskedBy}
+use Rattle.program_options.specs.declared.asked.InfoOptions.{InfoOptions}
 use Rattle.program_options.specs.declared.asked.Options.{Options}
 use Rattle.program_options.specs.declared.asked.RunOptions.{RunOptions}
 use Rattle.program_options.specs.declared.asked.Subcommand.{Subcommand}
 use Rattle.program_options.specs.declared.asked.Subcommand.TheVariants.{Script, Run, Recover, Check}
-use Rattle.program_run.specs.Told.{IsRan}
+use Rattle.program_run.specs.Told.{IsRanDurably}
 use Rattle.program_recovery.specs.Told.{Shows, Reports}
 use Rattle.program.specs.Status.{IsRefusedStatus, refusal_line, WritesBeginning}
 use Rattle.program.specs.Detail.{CauseView, IsDetail}
+use Rattle.program.specs.Info.{IsInfoTold, IsPlainDetail, IsUntold, first_path, version_line}
 use Rattle.program.specs.Logs.{IsShownWith, IsCheckedWith, IsRefusedWith, IsUnfinishedRun}
-use Rattle.program.specs.Resumed.{IsResumedRun, IsUnfinishedResumedRun}
+use Rattle.program.specs.Resumed.{IsResumedDurably, IsUnfinishedResumedRun}
 
 -- the scale that options ask for
 abbrev pub scale_of : Options → Sizes
@@ -49,10 +53,10 @@ pub record IsBrokenOff (t0 : Database) (bytes : List ℕ) (old new : Option (Lis
   pub wrote : Appends old new front
   pub beginning : IsBeginning t0 bytes front
 
--- terminals ran, from these first tables on, or from what log files hold that were there
+-- terminals ran, from these first tables on, or from what log files hold that were there, and each commit was acknowledged
 abbrev pub IsRunAsAsked : Database → ℕ → RunOptions → Option (List ℕ) → Option (List ℕ) → Report → Type 0
 IsRunAsAsked t0 seed r old new report =
-    MatchBool r.resume (IsResumedRun r t0 seed old new report) (IsRan 0 t0 r.terminals r.count old new report)
+    MatchBool r.resume (IsResumedDurably r t0 seed old new report) (IsRanDurably 0 t0 r.terminals r.count old new report)
 
 -- or that was refused, of which this is known
 abbrev pub IsUnfinishedAsAsked : Database → ℕ → RunOptions → Option (List ℕ) → Option (List ℕ) → Refusal → Option CauseView
@@ -62,7 +66,7 @@ IsUnfinishedAsAsked t0 seed r old new refusal known = MatchBool r.resume (IsUnfi
 
 -- a subcommand was done, over a population of these tables and this seed, and it ends with this report
 abbrev pub IsDone : Database → ℕ → Subcommand → List ℕ → Option (List ℕ) → Option (List ℕ) → Report → Type 0
-IsDone t0 seed Script bytes old new report = IsAnswered t0 bytes old new report
+IsDone t0 seed (Script s) bytes old new report = IsAnswered t0 bytes old new report
 IsDone t0 seed (Run r) bytes old new report = IsRunAsAsked t0 seed r old new report
 IsDone t0 seed (Recover r) bytes old new report = IsShownWith t0 seed old new report
 IsDone t0 seed (Check r) bytes old new report = IsCheckedWith t0 seed old new report
@@ -70,7 +74,7 @@ IsDone t0 seed (Check r) bytes old new report = IsCheckedWith t0 seed old new re
 -- or it was refused, of which this is known
 abbrev pub IsFailed : Database → ℕ → Subcommand → List ℕ → Option (List ℕ) → Option (List ℕ) → Refusal
     → Option CauseView → Type 0
-IsFailed t0 seed Script bytes old new refusal known = IsBrokenOff t0 bytes old new refusal × (known ≡ None)
+IsFailed t0 seed (Script s) bytes old new refusal known = IsBrokenOff t0 bytes old new refusal × (known ≡ None)
 IsFailed t0 seed (Run r) bytes old new refusal known = IsUnfinishedAsAsked t0 seed r old new refusal known
 IsFailed t0 seed (Recover r) bytes old new refusal known =
     IsRefusedWith r.files Shows t0 seed old new refusal known
@@ -97,10 +101,22 @@ pub data IsRefusedRun (o : Options) (bytes : List ℕ) (old new : Option (List �
 
 -- a run of the program, after which the last calls on its input and its output have these errors, where they failed:
 -- its words' fault, or the help that they ask for, goes to the errors alone; what a subcommand writes goes to the
--- output, and a refusal's line to the errors, with a line behind it on what was wrong
+-- output, and so does the version, and a refusal's line to the errors, with a line behind it on what was wrong
 pub data IsRun (words : List (List ℕ)) (bytes : List ℕ) (output written errors told : Option (List ℕ))
     (in_error out_error : Option IoError) (status : ℕ) : Type 0 where
-  fault : (error : Error) (text : List ℕ) → IsOptionsRefusal words error → Appends output written []
+  version : IsVersionAskedBy words → Appends output written version_line → Appends errors told [] → status ≡ 0
+      → IsRun words bytes output written errors told in_error out_error status
+  unversioned : (detail : List ℕ) → IsVersionAskedBy words → WritesBeginning version_line output written
+      → IsPlainDetail None in_error out_error Device detail → WritesBeginning (refusal_line Device ++ detail) errors told
+      → status ≡ 1 → IsRun words bytes output written errors told in_error out_error status
+  informed : (i : InfoOptions) → IsInfoAskedBy words i → IsInfoTold output written → Appends errors told [] → status ≡ 0
+      → IsRun words bytes output written errors told in_error out_error status
+  uninformed : (i : InfoOptions) (refusal : Refusal) (known : Option CauseView) (detail : List ℕ) → IsInfoAskedBy words i
+      → IsUntold (first_path i) output written refusal known → IsPlainDetail known in_error out_error refusal detail
+      → WritesBeginning (refusal_line refusal ++ detail) errors told → IsRefusedStatus refusal status
+      → IsRun words bytes output written errors told in_error out_error status
+  fault : (error : Error) (text : List ℕ) → IsOptionsRefusal words error → kind_of error ≢ DisplayVersion
+      → Appends output written []
       → Appends errors told text → status ≡ 2
       → IsRun words bytes output written errors told in_error out_error status
   answered : (o : Options) (report : Report) → IsAskedBy words o → IsWholeRun o bytes output written report
@@ -108,6 +124,6 @@ pub data IsRun (words : List (List ℕ)) (bytes : List ℕ) (output written erro
       → IsRun words bytes output written errors told in_error out_error status
   refused : (o : Options) (refusal : Refusal) (known : Option CauseView) (detail : List ℕ) → IsAskedBy words o
       → IsRefusedRun o bytes output written refusal known
-      → IsDetail (scale_of o) known in_error out_error refusal detail
+      → IsDetail o.subcommand (scale_of o) known in_error out_error refusal detail
       → WritesBeginning (refusal_line refusal ++ detail) errors told → IsRefusedStatus refusal status
       → IsRun words bytes output written errors told in_error out_error status

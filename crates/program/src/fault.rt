@@ -3,7 +3,7 @@ ghost use Rattle.std.specs.Prelude.{◌≡◌, None};
 
 use log_flaws::FileFlaw;
 use money::Refusal;
-use program_recovery::{AskedVersion, Misnumbered};
+use program_recovery::{Beyond, Misnumbered};
 use std::alloc::{AllocError, AllocFailed};
 use std::io::Error;
 
@@ -21,10 +21,16 @@ pub(crate) enum Cause {
     Unusable { path: String, trouble: Trouble },
     /// The file of this path isn't the log file that it is to be.
     Flawed { path: String, flaw: FileFlaw },
+    /// The file of this path is of this version, which is read, but not gone on with.
+    Older { path: String, version: u64 },
     /// The commits that log files have lack one, or have one twice.
     Amiss(Misnumbered),
-    /// The files are whole, but what they recover to no commits can have made.
-    Unsound,
+    /// The files are whole, but what they recover to no commits can have made, in this column if one is known.
+    Unsound(Option<Beyond>),
+    /// The logger of the file of this path had no memory for its last batch; so many commits aren't durable.
+    Unlogged { path: String, commits: u64 },
+    /// So many commits of the last epoch aren't durable, since the file of this path can have no mark behind it.
+    InLastEpoch { path: String, commits: u64 },
 }
 
 /// What log files are used for.
@@ -40,26 +46,18 @@ pub(crate) enum Purpose {
 
 impl Purpose {
     ghost use Rattle.std.specs.Prelude.{◌≡◌};
-    ghost use Rattle.program.specs.Logs.{broken_off, version_asked};
+    ghost use Rattle.program.specs.Logs.{broken_off};
 
-    /// Of which version its files are asked to be.
-    pub(crate) fn version_asked(self) -> AskedVersion
-        ensures { result ≡ version_asked self }
-    {
-        match self {
-            Purpose::Read | Purpose::Create => AskedVersion::First,
-            Purpose::Append => AskedVersion::Today,
-        }
-    }
-
-    /// What it is called that a file of this purpose couldn't be used on, once it was open.
-    pub(crate) fn broken_off(self, error: Error) -> Trouble
-        ensures { result ≡ broken_off self error }
+    /// What it is called that a file of this purpose couldn't be used on, once it was open, where the call that failed
+    /// writes or not.
+    pub(crate) fn broken_off(self, writes: bool, error: Error) -> Trouble
+        ensures { result ≡ broken_off self writes error }
     {
         match self {
             Purpose::Read => Trouble::NotRead(error),
             Purpose::Create => Trouble::NotWritten(error),
-            Purpose::Append => Trouble::NotUsed(error),
+            Purpose::Append if writes => Trouble::NotWritten(error),
+            Purpose::Append => Trouble::NotRead(error),
         }
     }
 }
@@ -71,6 +69,10 @@ pub(crate) enum Trouble {
     NotCreated(Error),
     /// It couldn't be made, since it is there.
     Exists(Error),
+    /// It is there, but none of those in front of it.
+    Alone,
+    /// It couldn't be given its name.
+    NotNamed(Error),
     /// It couldn't be opened.
     NotOpened(Error),
     /// It couldn't be locked.
@@ -81,8 +83,6 @@ pub(crate) enum Trouble {
     NotRead(Error),
     /// It couldn't be written, or its bytes not be made durable.
     NotWritten(Error),
-    /// It couldn't be read or written, or its bytes not be made durable.
-    NotUsed(Error),
     /// The names in the folder couldn't be made durable.
     NotSynced(Error),
 }
@@ -98,14 +98,15 @@ impl Trouble {
         match self {
             Trouble::NotCreated(_) => "can't be created",
             Trouble::Exists(_) => {
-                "can't be created, and the file that is there is left as it is"
+                "can't be created, and the file that is there is left as it is (--resume goes on with it)"
             }
+            Trouble::Alone => "is there without log-0",
+            Trouble::NotNamed(_) => "can't be given this name",
             Trouble::NotOpened(_) => "can't be opened",
             Trouble::NotLocked(_) => "can't be locked",
             Trouble::InUse => "in use by another process",
             Trouble::NotRead(_) => "can't be read",
             Trouble::NotWritten(_) => "can't be written",
-            Trouble::NotUsed(_) => "can't be read or written",
             Trouble::NotSynced(_) => "can't be synced",
         }
     }
@@ -117,13 +118,13 @@ impl Trouble {
         match self {
             Trouble::NotCreated(error)
             | Trouble::Exists(error)
+            | Trouble::NotNamed(error)
             | Trouble::NotOpened(error)
             | Trouble::NotLocked(error)
             | Trouble::NotRead(error)
             | Trouble::NotWritten(error)
-            | Trouble::NotUsed(error)
             | Trouble::NotSynced(error) => Some(*error),
-            Trouble::InUse => None,
+            Trouble::Alone | Trouble::InUse => None,
         }
     }
 }

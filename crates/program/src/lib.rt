@@ -3,14 +3,21 @@
 
 mod causes;
 mod detail;
+mod ended;
 mod ending;
 mod fault;
+mod guarded;
+mod info;
 mod live;
 mod logs;
+mod memory;
+mod narrow;
 mod resuming;
 mod running;
+mod starting;
 mod watched;
 
 pub use ending::{USAGE_FAULT, finish};
+pub use narrow::Narrow;
 pub use running::run;
 pub use watched::Watched;

@@ -1,5 +1,5 @@
 //! Log files: opening those that a command line names, and telling what they recover to.
-ghost use Rattle.std.specs.Prelude.{◌≡◌, ◌<◌, ℕ, List, true, length, map, IfOk, IfErr, string_bytes};
+ghost use Rattle.std.specs.Prelude.{◌≡◌, ◌≢◌, ◌<◌, ℕ, List, true, length, map, IfOk, IfErr, string_bytes};
 ghost use Rattle.population.specs.Initial.{initial, seed_of};
 ghost use Rattle.program_recovery.specs.Told.{IsRefused, Shows, Reports};
 ghost use Rattle.program.specs.Detail.{cause_of};
@@ -8,8 +8,9 @@ ghost use Rattle.program.specs.Logs.{folder_of, may_stop, path_of};
 ghost use Rattle.program.specs.declared.fault.Purpose.{Purpose as PurposeValue};
 ghost use Rattle.program.specs.declared.fault.Purpose.TheVariants.{Create};
 
-use crate::causes::unrecovered;
+use crate::causes::{unready, unrecovered};
 use crate::fault::{Cause, Fault, Purpose, Trouble};
+use crate::starting::end_start;
 use conditions::{Report, check};
 use log_disk::{Disk, FileDisk, sync_folder};
 use money::Refusal;
@@ -18,7 +19,7 @@ use program_options::{LogFiles, RecoverOptions};
 use program_recovery::{Manner, checked, recovered};
 use std::alloc::{AllocError, Global};
 use std::fs::{self, File, TryLockError};
-use std::io::{Error, ErrorKind, Write};
+use std::io::Write;
 use std::rt::Files;
 use std::sync::Wait;
 use std::thread::Threads;
@@ -152,34 +153,33 @@ pub(crate) fn sizes<T: Files<File = File>>(
     Ok(sizes)
 }
 
-/// The disks in log files that are opened, or created, in the order of their loggers. The first file that can't be
-/// refuses. Once they are created, their names are durable.
+/// The disks in log files that are there, in the order of their loggers. The first file that can't be opened refuses.
+/// Where they are to be gone on with, a start that was killed is ended before.
 pub(crate) fn disks<T: Files<File = File>>(
     rt: &T,
     alloc: Global,
     files: &LogFiles,
     purpose: Purpose,
 ) -> Result<Vec<FileDisk>, Fault>
+    requires { purpose ≢ Create }
     ensures count { IfOk result (λ disks. length disks.items ≡ files.now.loggers) }
     ensures unready { IfErr result (λ fault. AreUnready purpose files.now fault.refusal (cause_of fault)) }
 {
+    if purpose == Purpose::Append {
+        end_start(rt, alloc, files)?;
+    }
     let mut disks = Vec::new(alloc);
     for logger in 0..files.loggers {
         let disk = match disk(rt, alloc, files, logger, purpose) {
             Ok(disk) => disk,
-            Err(fault) => return Err(fault),
+            Err(fault) => return Err(unready(alloc, files, purpose, fault, &mut disks)),
         };
         disks.push(disk)?;
-    }
-    if let Purpose::Create = purpose {
-        if let Err(fault) = sync_names(rt, alloc, files) {
-            return Err(fault);
-        }
     }
     Ok(disks)
 }
 
-/// The disk in the file of this logger, which is opened or created.
+/// The disk in the file of this logger, which is there.
 fn disk<T: Files<File = File>>(
     rt: &T,
     alloc: Global,
@@ -187,6 +187,7 @@ fn disk<T: Files<File = File>>(
     logger: u32,
     purpose: Purpose,
 ) -> Result<FileDisk, Fault>
+    requires { purpose ≢ Create }
     ensures unready { IfErr result (λ fault. logger < files.now.loggers
         → AreUnready purpose files.now fault.refusal (cause_of fault)) }
 {
@@ -200,42 +201,24 @@ fn disk<T: Files<File = File>>(
     }
 }
 
-/// The disk in the file of this path. One that is created or gone on with belongs to this process alone, until it ends;
-/// one that is read may be shared by processes that read it.
+/// The disk in the file of this path. One that is gone on with belongs to this process alone, until it ends; one that is
+/// read may be shared by processes that read it, and needn't be one that can be written.
 fn disk_at<T: Files<File = File>>(rt: &T, path: &str, purpose: Purpose) -> Result<FileDisk, Trouble>
+    requires { purpose ≢ Create }
     ensures { IfErr result (λ trouble. may_stop purpose trouble ≡ true) }
 {
-    match purpose {
-        Purpose::Create => {
-            let disk = FileDisk::in_new_file(rt, path).map_err(not_created)?;
-            disk.try_lock().map_err(not_locked)?;
-            Ok(disk)
-        }
-        Purpose::Read => {
-            let disk = FileDisk::in_file(rt, path).map_err(Trouble::NotOpened)?;
-            disk.try_lock_shared().map_err(not_locked)?;
-            Ok(disk)
-        }
-        Purpose::Append => {
-            let disk = FileDisk::in_file(rt, path).map_err(Trouble::NotOpened)?;
-            disk.try_lock().map_err(not_locked)?;
-            Ok(disk)
-        }
+    if purpose == Purpose::Read {
+        let disk = FileDisk::in_file_to_read(rt, path).map_err(Trouble::NotOpened)?;
+        disk.try_lock_shared().map_err(not_locked)?;
+        return Ok(disk);
     }
-}
-
-/// What it is called that a file couldn't be made.
-fn not_created(error: Error) -> Trouble
-    ensures { may_stop Create result ≡ true }
-{
-    match error.kind() {
-        ErrorKind::AlreadyExists => Trouble::Exists(error),
-        _ => Trouble::NotCreated(error),
-    }
+    let disk = FileDisk::in_file(rt, path).map_err(Trouble::NotOpened)?;
+    disk.try_lock().map_err(not_locked)?;
+    Ok(disk)
 }
 
 /// What it is called that a file couldn't be locked.
-fn not_locked(error: TryLockError) -> Trouble
+pub(crate) fn not_locked(error: TryLockError) -> Trouble
     ensures { (purpose : PurposeValue) → may_stop purpose result ≡ true }
 {
     match error {

@@ -9,16 +9,18 @@ ghost use Rattle.population.specs.Initial.{initial, seed_of};
 ghost use Rattle.book.specs.Parts.{IsFresh, base_of, first_of, loggers_of, past_of, terminals_of};
 ghost use Rattle.recover_restart.specs.Restarting.{GoesOnFrom, StandAt};
 ghost use Rattle.program_run.specs.Outfit.{AreLogsOf};
-ghost use Rattle.program_run.specs.Told.{IsBroken, IsRan};
+ghost use Rattle.program_run.specs.Told.{IsBrokenBy, IsDriven};
 ghost use Rattle.program.specs.Detail.{cause_of};
 ghost use Rattle.program.specs.Logs.{IsWhy};
 ghost use Rattle.program.specs.declared.fault.Purpose.TheVariants.{Append};
-ghost use Rattle.program.specs.Resumed.{IsResumedRun, IsUnfinishedResumedRun, resumed_line};
+ghost use Rattle.program.specs.Resumed.{IsDrivenFurther, IsResumedDurably, IsUnfinishedResumedRun, resumed_line};
 ghost use Rattle.program.specs.Breaks.{IsToldAsUnfinished};
 
 use crate::causes::{broken_off, unrecovered};
+use crate::ended::ended;
 use crate::fault::{Fault, Purpose};
-use crate::live::{gates, paced, plan_of, waits_for};
+use crate::guarded::guarded;
+use crate::live::{gates, paced, plan_of, screen_of, waits_for};
 use crate::logs::{disks, sizes};
 use crate::running::population_of;
 use conditions::Report;
@@ -28,7 +30,7 @@ use money::Refusal;
 use population::Population;
 use program_options::RunOptions;
 use program_recovery::while_shown;
-use program_run::{Beat, Driven, OpenLog, Stopwatch, Waits, drive_on};
+use program_run::{Alarm, Beat, Broken, Driven, OpenLog, Screen, Stopwatch, Waits, drive_on};
 use program_streams::write_text;
 use recover_progress::Progress;
 use recover_restart::{Restarted, restart};
@@ -67,7 +69,7 @@ pub(crate) fn go_on<
     output: &mut W,
     screen: Option<S>,
 ) -> Result<Report, Fault>
-    ensures ran { IfOk result (IsResumedRun options.now (initial population) (seed_of population)
+    ensures ran { IfOk result (IsResumedDurably options.now (initial population) (seed_of population)
         (W.contents output.old) (W.contents output.new)) }
     ensures failed { IfErr result (λ fault. IsUnfinishedResumedRun options.now (initial population)
         (seed_of population) (W.contents output.old) (W.contents output.new) fault.refusal (cause_of fault)) }
@@ -78,12 +80,12 @@ pub(crate) fn go_on<
         Err(fault) => return Err(fault),
     };
     let (scale, seed) = (population.scale(), population.seed());
-    let lent = lent(alloc, &mut disks)?;
-    match run_restarted(rt, alloc, population, options, lent, output, screen) {
-        Ok(driven) => match driven.stopped {
-            None => Ok(driven.report),
-            Some(_) => Err(broken_off(alloc, files, Purpose::Append, Refusal::Device, &disks)),
-        },
+    let alarms = Alarm::for_loggers(alloc, disks.len())?;
+    let guarded = guarded(alloc, &mut disks, &alarms)?;
+    match run_restarted(
+        rt, alloc, population, options, guarded, output, screen, &alarms,
+    ) {
+        Ok(driven) => ended(alloc, files, Purpose::Append, driven, &disks),
         Err(broken) => Err(fault_of(alloc, scale, seed, options, broken, &mut disks)),
     }
 }
@@ -125,10 +127,11 @@ fn run_restarted<
     disks: Vec<D>,
     output: &mut W,
     screen: Option<S>,
+    alarms: &[Alarm],
 ) -> Result<Driven, Break>
     requires loggers { length disks.items ≡ options.now.files.loggers }
-    ensures ran { IfOk result (λ driven. IsResumedRun options.now (initial population) (seed_of population)
-        (W.contents output.old) (W.contents output.new) driven.report) }
+    ensures ran { IfOk result (IsDrivenFurther options.now (initial population) (seed_of population)
+        (W.contents output.old) (W.contents output.new)) }
     ensures broken { IfErr result (IsToldAsUnfinished options.now (initial population) (seed_of population)
         (W.contents output.old) (W.contents output.new)) }
 {
@@ -141,21 +144,10 @@ fn run_restarted<
         Ok(()) => {}
         Err(refusal) => return Err(Break::Telling(refusal)),
     }
-    match drive_restarted(rt, alloc, restarted, options, output, screen) {
+    match drive_restarted(rt, alloc, restarted, options, output, screen, alarms) {
         Ok(driven) => Ok(driven),
-        Err(refusal) => Err(Break::Run(refusal)),
+        Err(broken) => Err(Break::Run(Refusal::from(broken))),
     }
-}
-
-/// The disks, lent.
-fn lent(alloc: Global, disks: &mut [FileDisk]) -> Result<Vec<&mut FileDisk>, AllocError>
-    ensures { IfOk result (λ lent. length lent.items ≡ length disks.old) }
-{
-    let mut lent = Vec::new(alloc);
-    for disk in disks.iter_mut() {
-        lent.push(disk)?;
-    }
-    Ok(lent)
 }
 
 /// Restarts on these disks, while the screen shows how far it is, if there is one.
@@ -265,20 +257,25 @@ fn drive_restarted<
     options: &RunOptions,
     output: &mut W,
     screen: Option<S>,
-) -> Result<Driven, Refusal>
+    alarms: &[Alarm],
+) -> Result<Driven, Broken>
     requires fresh { IsFresh restarted.parts }
     requires files { AreLogsOf (loggers_of restarted.parts) (base_of restarted.parts) restarted.files.items }
     requires terminals { terminals_of restarted.parts ≡ options.now.terminals }
-    ensures ran { IfOk result (λ driven. IsRan (past_of restarted.parts) (first_of restarted.parts)
-        options.now.terminals options.now.count (W.contents output.old) (W.contents output.new) driven.report) }
-    ensures broken { IfErr result (IsBroken (past_of restarted.parts) (first_of restarted.parts)
+    ensures ran { IfOk result (IsDriven (past_of restarted.parts) (first_of restarted.parts)
+        options.now.terminals options.now.count (W.contents output.old) (W.contents output.new)) }
+    ensures broken { IfErr result (IsBrokenBy (past_of restarted.parts) (first_of restarted.parts)
         options.now.terminals options.now.count (W.contents output.old) (W.contents output.new)) }
 {
     let Restarted { parts, files, .. } = restarted;
-    let waits = waits_for(alloc, &screen)?;
-    let (gates, logs) = match outfit(rt, alloc, files, options, screen, waits.as_ref()) {
+    let Ok(waits) = waits_for(alloc, &screen) else {
+        return Err(Broken::Unrun(Refusal::OutOfMemory));
+    };
+    let waits = waits.as_ref();
+    let screen = screen_of(rt, alloc, screen, waits, alarms, &options.files);
+    let (gates, logs) = match outfit(rt, alloc, files, options, screen, waits) {
         Ok(outfit) => outfit,
-        Err(_) => return Err(Refusal::OutOfMemory),
+        Err(_) => return Err(Broken::Unrun(Refusal::OutOfMemory)),
     };
     drive_on(rt, alloc, parts, logs, gates, &plan_of(options), output)
 }
@@ -289,13 +286,13 @@ fn outfit<'a, D: Disk + Drop, C: Clock + Wait, S: Write + Drop>(
     alloc: Global,
     files: Vec<LogFile<D>>,
     options: &RunOptions,
-    screen: Option<S>,
+    screen: Option<Screen<'a, S>>,
     waits: Option<&'a Waits>,
 ) -> Result<(Vec<Stopwatch<'a, C>>, Vec<OpenLog<D, Beat<'a, C, S>>>), AllocError>
     ensures gates { IfOk result (λ outfit. length outfit.0.items ≡ options.now.terminals) }
     ensures logs { IfOk result (λ outfit. map (λ log. log.file) outfit.1.items ≡ files.items) }
 {
     let gates = gates(clock, alloc, options.terminals as u16, waits)?;
-    let logs = paced(clock, alloc, files, screen, waits)?;
+    let logs = paced(clock, alloc, files, screen)?;
     Ok((gates, logs))
 }

@@ -1,28 +1,35 @@
 //! What the program does, from its words and its input to its output, its errors and its exit status.
-ghost use Rattle.std.specs.Prelude.{◌≡◌, ◌++◌, ℕ, List, Some, None, [], IfOk, IfErr, map, string_bytes};
+ghost use Rattle.std.specs.Prelude.{◌≡◌, ◌++◌, ℕ, List, Some, None, [], IfOk, IfErr, OnOk, map};
+ghost use Rattle.std.specs.Prelude.{string_bytes};
 ghost use Rattle.std.specs.Io.KnownBytes.{Appends};
 ghost use Rattle.money.specs.declared.refusal.Refusal.TheVariants.{OutOfMemory};
 ghost use Rattle.population.specs.Initial.{initial, seed_of};
 ghost use Rattle.program.specs.Run.{IsRun, IsWholeRun, IsRefusedRun, IsPopulation, scale_of};
 ghost use Rattle.program.specs.Run.{IsDone, IsFailed, IsAnswered, IsBrokenOff};
 ghost use Rattle.program.specs.Detail.{IsDetail, cause_of};
+ghost use Rattle.program.specs.Info.{IsPlainDetail};
+ghost use Rattle.program_script.specs.Hints.{TellsMore};
+ghost use Rattle.program_options.specs.CommandLine.{IsAskedBy};
 ghost use Rattle.program.specs.Status.{IsRefusedStatus, refusal_line, WritesBeginning};
 
 use crate::detail::detail_of;
-use crate::ending::{USAGE_FAULT, finish, finish_refused};
+use crate::ending::{GOOD, USAGE_FAULT, finish, finish_refused};
 use crate::fault::Fault;
+use crate::info::{info, plain_detail, tell_version};
 use crate::live::live;
 use crate::logs::{report, show};
 use crate::resuming::go_on;
 use crate::watched::Watched;
 use clap::Error;
+use clap::error::ErrorKind;
 use conditions::Report;
 use money::Refusal;
 use population::Population;
-use program_options::{Options, Subcommand, options};
-use program_script::script;
+use program_options::{Asked, Options, ScriptOptions, Subcommand, read_words};
+use program_script::{Hints, NoHints, explained_script};
+use program_script_hints::Explained;
 use program_streams::write_text;
-use std::alloc::Global;
+use std::alloc::{AllocError, Global};
 use std::fs::File;
 use std::io::{Read, Write};
 use std::mem;
@@ -34,14 +41,16 @@ use tables::Scale;
 
 /// Does what the words of a command line ask for, the first of which is the program's own name, from `input` to
 /// `output`, and answers the exit status. A fault of the words, or the help that they ask for, goes to `errors`, and
-/// so does a refusal's line, with one more on what was wrong, where that is known. How far a run of terminals or a
-/// recovery is goes to `screen`, if there is one, and nothing else does. May wait, as `script` and `run_threads::run`
-/// do. The process is to end behind it: what a script has committed stays in memory.
+/// so does a refusal's line, with one more on what was wrong, where that is known. What is told of a script's refused
+/// lines, where that is asked for, goes to `hints`. How far a run of terminals or a recovery is goes to `screen`, if
+/// there is one, and nothing else goes to these two. May wait, as `script` and `run_threads::run` do. The process is to
+/// end behind it: what a script has committed stays in memory.
 pub fn run<
     T: Wait + Threads + Clock + Files<File = File> + Sync,
     R: Read,
     O: Write,
     E: Write,
+    X: Write + Drop,
     S: Write + Send + Drop,
 >(
     rt: &T,
@@ -50,22 +59,83 @@ pub fn run<
     input: &mut Watched<R>,
     output: &mut Watched<O>,
     errors: &mut E,
+    hints: X,
     screen: Option<S>,
 ) -> u8
     ensures { (bytes : List ℕ) → R.remaining input.old.stream ≡ Some bytes
         → IsRun (map string_bytes words.now) bytes (O.contents output.old.stream) (O.contents output.new.stream)
         (E.contents errors.old) (E.contents errors.new) input.new.failure output.new.failure result }
 {
-    let asked = match options(alloc, words) {
-        Ok(asked) => asked,
-        Err(error) => {
-            tell_fault(alloc, &error, errors);
-            return USAGE_FAULT;
+    match read_words(alloc, words) {
+        Ok(Asked::OnTables(asked)) => {
+            on_tables(rt, alloc, &asked, input, output, errors, hints, screen)
         }
-    };
-    match answer(rt, alloc, &asked, input, output, screen) {
+        Ok(Asked::Info(asked)) => {
+            let told = info(rt, alloc, &asked, output);
+            end(alloc, told, input, output, errors)
+        }
+        Err(error) => match error.kind() {
+            ErrorKind::DisplayVersion => {
+                let told = tell_version(output);
+                end(alloc, told, input, output, errors)
+            }
+            _ => {
+                tell_fault(alloc, words, &error, errors);
+                USAGE_FAULT
+            }
+        },
+    }
+}
+
+/// Does what options ask for on tables, from input to output, and answers the exit status.
+fn on_tables<
+    T: Wait + Threads + Clock + Files<File = File> + Sync,
+    R: Read,
+    O: Write,
+    E: Write,
+    X: Write + Drop,
+    S: Write + Send + Drop,
+>(
+    rt: &T,
+    alloc: Global,
+    asked: &Options,
+    input: &mut Watched<R>,
+    output: &mut Watched<O>,
+    errors: &mut E,
+    hints: X,
+    screen: Option<S>,
+) -> u8
+    ensures { (bytes : List ℕ) (words : List (List ℕ)) → R.remaining input.old.stream ≡ Some bytes
+        → IsAskedBy words asked.now
+        → IsRun words bytes (O.contents output.old.stream) (O.contents output.new.stream)
+        (E.contents errors.old) (E.contents errors.new) input.new.failure output.new.failure result }
+{
+    match answer(rt, alloc, asked, input, output, hints, screen) {
         Ok(report) => finish(Ok(&report), errors),
-        Err(fault) => tell_refused(alloc, &asked, &fault, input, output, errors),
+        Err(fault) => tell_refused(alloc, asked, &fault, input, output, errors),
+    }
+}
+
+/// Ends a run that needs no tables: answers its exit status, behind a refusal's line, and the one on what was wrong.
+fn end<R, W, E: Write>(
+    alloc: Global,
+    told: Result<(), Fault>,
+    input: &Watched<R>,
+    output: &Watched<W>,
+    errors: &mut E,
+) -> u8
+    ensures good { OnOk told ((result ≡ 0) × Appends (E.contents errors.old) (E.contents errors.new) []) }
+    ensures refused { IfErr told (λ fault. (detail : List ℕ)
+        × IsPlainDetail (cause_of fault) input.now.failure output.now.failure fault.refusal detail
+        × WritesBeginning (refusal_line fault.refusal ++ detail) (E.contents errors.old) (E.contents errors.new)
+        × IsRefusedStatus fault.refusal result) }
+{
+    match told {
+        Ok(()) => GOOD,
+        Err(fault) => match plain_detail(alloc, &fault, input, output) {
+            Ok(detail) => finish_refused(fault.refusal, detail.as_str(), errors),
+            Err(_) => finish_refused(fault.refusal, "", errors),
+        },
     }
 }
 
@@ -79,8 +149,8 @@ fn tell_refused<R, W, E: Write>(
     output: &Watched<W>,
     errors: &mut E,
 ) -> u8
-    ensures lines { (detail : List ℕ) × IsDetail (scale_of asked.now) (cause_of fault.now) input.now.failure
-        output.now.failure fault.now.refusal detail
+    ensures lines { (detail : List ℕ) × IsDetail asked.now.subcommand (scale_of asked.now) (cause_of fault.now)
+        input.now.failure output.now.failure fault.now.refusal detail
         × WritesBeginning (refusal_line fault.now.refusal ++ detail) (E.contents errors.old) (E.contents errors.new) }
     ensures status { IsRefusedStatus fault.now.refusal result }
 {
@@ -95,6 +165,7 @@ fn answer<
     T: Wait + Threads + Clock + Files<File = File> + Sync,
     R: Read,
     W: Write,
+    X: Write + Drop,
     S: Write + Send + Drop,
 >(
     rt: &T,
@@ -102,6 +173,7 @@ fn answer<
     options: &Options,
     input: &mut R,
     output: &mut W,
+    hints: X,
     screen: Option<S>,
 ) -> Result<Report, Fault>
     ensures whole { IfOk result (λ report. (bytes : List ℕ) → R.remaining input.old ≡ Some bytes
@@ -125,6 +197,7 @@ fn answer<
         &options.subcommand,
         input,
         output,
+        hints,
         screen,
     )
 }
@@ -134,6 +207,7 @@ fn answer_over<
     T: Wait + Threads + Clock + Files<File = File> + Sync,
     R: Read,
     W: Write,
+    X: Write + Drop,
     S: Write + Send + Drop,
 >(
     rt: &T,
@@ -142,6 +216,7 @@ fn answer_over<
     subcommand: &Subcommand,
     input: &mut R,
     output: &mut W,
+    hints: X,
     screen: Option<S>,
 ) -> Result<Report, Fault>
     ensures done { IfOk result (λ report. (bytes : List ℕ) → R.remaining input.old ≡ Some bytes
@@ -152,7 +227,9 @@ fn answer_over<
         (W.contents output.old) (W.contents output.new) fault.refusal (cause_of fault)) }
 {
     match subcommand {
-        Subcommand::Script => answer_script(rt, alloc, population, input, output),
+        Subcommand::Script(options) => {
+            answer_script(rt, alloc, population, options, input, output, hints)
+        }
         Subcommand::Run(options) if options.resume => {
             go_on(rt, alloc, population, options, output, screen)
         }
@@ -162,13 +239,15 @@ fn answer_over<
     }
 }
 
-/// Answers a script over a population. The memory of what was done isn't given back.
-fn answer_script<T: Wait, R: Read, W: Write>(
+/// Answers a script over a population, and tells of its refused lines where that is asked for.
+fn answer_script<T: Wait, R: Read, W: Write, X: Write + Drop>(
     rt: &T,
     alloc: Global,
     population: Population,
+    options: &ScriptOptions,
     input: &mut R,
     output: &mut W,
+    hints: X,
 ) -> Result<Report, Fault>
     ensures answered { IfOk result (λ report. (bytes : List ℕ) → R.remaining input.old ≡ Some bytes
         → IsAnswered (initial population) bytes (W.contents output.old) (W.contents output.new) report) }
@@ -176,7 +255,32 @@ fn answer_script<T: Wait, R: Read, W: Write>(
         → IsBrokenOff (initial population) bytes (W.contents output.old) (W.contents output.new) fault.refusal
         × (cause_of fault ≡ None)) }
 {
-    match script(rt, alloc, population, input, output) {
+    if options.explain {
+        let mut hints = Explained::new(alloc, population.scale(), hints);
+        answer_told(rt, alloc, population, input, output, &mut hints)
+    } else {
+        answer_told(rt, alloc, population, input, output, &mut NoHints)
+    }
+}
+
+/// Answers a script over a population, of whose refused lines these hints are told. The memory of what was done isn't
+/// given back.
+fn answer_told<T: Wait, R: Read, W: Write, H: Hints>(
+    rt: &T,
+    alloc: Global,
+    population: Population,
+    input: &mut R,
+    output: &mut W,
+    hints: &mut H,
+) -> Result<Report, Fault>
+    ensures answered { IfOk result (λ report. (bytes : List ℕ) → R.remaining input.old ≡ Some bytes
+        → IsAnswered (initial population) bytes (W.contents output.old) (W.contents output.new) report) }
+    ensures broken_off { IfErr result (λ fault. (bytes : List ℕ) → R.remaining input.old ≡ Some bytes
+        → IsBrokenOff (initial population) bytes (W.contents output.old) (W.contents output.new) fault.refusal
+        × (cause_of fault ≡ None)) }
+    ensures told { TellsMore (H.told hints.old) (H.told hints.new) }
+{
+    match explained_script(rt, alloc, population, input, output, hints) {
         Ok((report, dones)) => {
             // The program ends behind the report, and the system takes back all memory at once: giving back one entry
             // after another would take a tenth of a short script.
@@ -202,10 +306,26 @@ pub(crate) fn population_of(alloc: Global, scale: Scale, number: u64) -> Result<
 }
 
 /// Writes the text of a command line's fault, or of help. What can't be written is left aside.
-fn tell_fault<E: Write>(alloc: Global, error: &Error, errors: &mut E)
+fn tell_fault<E: Write>(alloc: Global, words: &[String], error: &Error, errors: &mut E)
     ensures { (text : List ℕ) × Appends (E.contents errors.old) (E.contents errors.new) text }
 {
-    if let Ok(text) = format!(in alloc; "{error}") {
+    if let Ok(text) = fault_text(alloc, words, error) {
         let _ = write_text(errors, text.as_bytes());
     }
+}
+
+/// What is told to whoever names a script's file.
+const REDIRECTED: &str =
+    "\n  tip: a script comes from standard input: tpcc script [OPTIONS] < FILE\n";
+
+/// The text of a command line's fault, or of help, with what a script's file is given by where one is named.
+fn fault_text(alloc: Global, words: &[String], error: &Error) -> Result<String, AllocError> {
+    let mut text = format!(in alloc; "{error}")?;
+    let is_script = matches!(words.get(1), Some(word) if word.as_str() == "script");
+    let is_stray = matches!(error.kind(), ErrorKind::UnknownArgument)
+        && !text.as_str().contains("argument '-");
+    if is_script && is_stray {
+        text.push_str(REDIRECTED)?;
+    }
+    Ok(text)
 }

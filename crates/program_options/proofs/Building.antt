@@ -1,6 +1,6 @@
 -- What the builders' calls make of the program's command.
 use Rattle.std.proofs.Common.{◌≡◌, ◌∙◌, ◌||◌, List, ℕ, ap, ap₂, Bool, false, true, codes}
-use Rattle.std.specs.Prelude.{Option}
+use Rattle.std.specs.Prelude.{Option, Some}
 use Rattle.std.specs.Borrow.{Bor}
 use Rattle.clap.specs.Words.{AddsArg, AddsSubcommand, App, Rule, new_app, rule_of, with_rule, with_subcommand}
 use Rattle.clap.specs.Simple.{app_of_fields}
@@ -27,14 +27,17 @@ more app rule old new a had added is local =
     (added.shape local ∙ ap₂ with_rule had.0 is, added.globals ∙ ap₂ (λ (x y : Bool). x || y) had.1 local)
 
 -- the settings of the program's own level
-pub settled_top : (new described required helped : Command) (text : Option (Bor (List ℕ))) → HasApp (new_app (codes "tpcc")) new
+pub settled_top : (new described numbered required helped : Command) (text : Option (Bor (List ℕ))) (version : Bor (List ℕ))
+    → HasApp (new_app (codes "tpcc")) new
     → ◌≡◌ {A = Command-F Command} (out-Command described) (record (out-Command new) { about = text })
-    → ◌≡◌ {A = Command-F Command} (out-Command required) (record (out-Command described) { subcommand_required = true })
+    → ◌≡◌ {A = Command-F Command} (out-Command numbered) (record (out-Command described) { version = Some version })
+    → ◌≡◌ {A = Command-F Command} (out-Command required) (record (out-Command numbered) { subcommand_required = true })
     → ◌≡◌ {A = Command-F Command} (out-Command helped) (record (out-Command required) { arg_required_else_help = true })
     → HasApp bare_app helped
-settled_top new described required helped text had about needs helps =
-    let app_is = ap app_of_fields about ∙ had.0 in
-    let globals = ap (λ (c : Command-F Command). c.has_globals) about ∙ had.1 in
+settled_top new described numbered required helped text version had about numbers needs helps =
+    let about_is = ap app_of_fields about ∙ had.0 in
+    let app_is = ap app_of_fields numbers ∙ ap (λ (a : App). record a { top = record a.top { has_version = true } }) about_is in
+    let globals = ap (λ (c : Command-F Command). c.has_globals) numbers ∙ (ap (λ (c : Command-F Command). c.has_globals) about ∙ had.1) in
     let needs_is = ap app_of_fields needs ∙ ap (λ (a : App). record a { top = record a.top { subcommand_required = true } }) app_is in
     let helps_is = ap app_of_fields helps ∙ ap (λ (a : App). record a { top = record a.top { arg_required_else_help = true } }) needs_is in (
       helps_is,

@@ -3,12 +3,13 @@ use Rattle.std.proofs.Common.{◌≡◌, ◌∙◌, ◌<◌, ◌^◌, ◌||◌, 
 use Rattle.std.proofs.Common.{true≢false}
 use Rattle.std.proofs.Math.Bool.{or-false}
 use Rattle.std.specs.Box.{box_value}
-use Rattle.std.specs.Prelude.{Box, MatchBool, Result, find, fold, option_and_then, option_map, slice_get, unwrap_or}
+use Rattle.std.specs.Prelude.{Box, MatchBool, Result, find, fold, option_and_then, option_map, slice_get, string_bytes, unwrap_or}
 use Rattle.std.specs.List.{list_all, list_any}
 use Rattle.std.specs.Str.{bytes_eq}
 use Rattle.std.specs.Str.Parse.{IsNumeral, digits_value, without_leading_plus}
 use Rattle.std.proofs.lemmas.Slice.Eq.{bytes_eq-Decides}
-use Rattle.clap.specs.Words.{App, HasMatchesOf, app_of, Row, Rule, Shape, Text, is_simple, one_of, one_text, rows_of, subcommand_name_of, subcommand_of}
+use Rattle.clap.specs.Words.{App, HasMatchesOf, app_of, Row, Rule, Shape, Text, first_of, is_simple, one_of, one_text, rows_of, subcommand_name_of}
+use Rattle.clap.specs.Words.{subcommand_of}
 use Rattle.clap.specs.Words.{subcommand_rows, subcommand_rows_of}
 use Rattle.clap.specs.Walk.{answers_to, row_text, rows_after, with_default}
 use Rattle.clap.specs.Simple.{built, built_leaf, inherited, label_of, rows_at}
@@ -22,13 +23,16 @@ use Rattle.clap.specs.declared.parser.matches.Found.{Found}
 use Rattle.clap.specs.declared.parser.matches.SubCommand.{SubCommand}
 use Rattle.clap.proofs.WalkLemmas.{both, one_text-rows}
 use Rattle.clap.proofs.OnLiterals.{clap_on_literals}
+use Rattle.program_options.specs.declared.asked.Asked.{Asked}
+use Rattle.program_options.specs.declared.asked.Asked.TheVariants.{OnTables, Info}
 use Rattle.program_options.specs.declared.asked.Options.{Options}
 use Rattle.program_options.specs.declared.asked.LogFiles.{LogFiles}
 use Rattle.program_options.specs.declared.asked.RecoverOptions.{RecoverOptions}
 use Rattle.program_options.specs.declared.asked.RunOptions.{RunOptions}
 use Rattle.program_options.specs.declared.asked.Subcommand.{Subcommand}
 use Rattle.program_options.specs.declared.asked.Subcommand.TheVariants.{Script, Run, Recover, Check}
-use Rattle.program_options.specs.CommandLine.{AreLogFiles, AreOptionsWritten, AreRecoverOptions, AreRunOptions, HasOwnOptions, IsAskedBy, WritesFlag, WritesNumber, app_for, given_rows, subcommand_name, program_app, rules_for}
+use Rattle.program_options.specs.CommandLine.{AreGiven, AreLogFiles, AreOptionsWritten, AreRecoverOptions, AreRunOptions, AsksFor, HasOwnOptions}
+use Rattle.program_options.specs.CommandLine.{WritesFlag, WritesNumber, app_for, given_rows, info_app, subcommand_name, program_app, rules_for, rules_in}
 use Rattle.program_options.specs.CommandLine.{subcommand_words, text_for, text_in}
 use Rattle.program_options.proofs.Defaults.{HasDefault, default_given, flag_given, within_given, has_any, has_default, no_default}
 
@@ -143,7 +147,7 @@ tables_given rules rows o has had = record {
 }
 
 have_tables : (s : Subcommand) → HasTables (rules_for s)
-have_tables Script = record {
+have_tables (Script options) = record {
   warehouses = (_, refl, refl, refl);
   districts = (_, refl, refl, refl);
   customers = (_, refl, refl, refl);
@@ -227,18 +231,21 @@ run_given rules rows r no_folder has had = record {
 
 has_own : (s : Subcommand) (rows : List Row) → HasOwnOptions (text_in (fold with_default rows (rules_for s))) (fold with_default rows (rules_for s)) s
     → HasOwnOptions (text_for rows) rows s
-has_own Script rows had = tt
+has_own (Script s) rows had = flag_given (codes "explain") (codes "false") rows (rules_for (Script s)) (_, refl, refl, refl) s.explain had
 has_own (Run r) rows had = run_given (rules_for (Run r)) rows r refl (has_run r) had
 has_own (Recover r) rows had = recovery_given (rules_for (Recover r)) rows r refl refl (_, refl, refl, refl) had
 has_own (Check r) rows had = recovery_given (rules_for (Check r)) rows r refl refl (_, refl, refl, refl) had
 
--- the subcommand's shape, as clap builds it
+-- a subcommand's shape, as clap builds it
+abbrev shape_in : App → Shape
+shape_in app = built_leaf (inherited program_app.top app.top)
+
 abbrev shape_for : Subcommand → Shape
-shape_for s = built_leaf (inherited program_app.top (app_for s).top)
+shape_for s = shape_in (app_for s)
 
 -- the program's subcommands are these, and `help`
 by_its_name : (s : Subcommand) → find (λ x. bytes_eq x.name (subcommand_name s)) (built program_app).subs ≡ Some (shape_for s)
-by_its_name Script = refl
+by_its_name (Script options) = refl
 by_its_name (Run options) = refl
 by_its_name (Recover options) = refl
 by_its_name (Check options) = refl
@@ -256,23 +263,42 @@ both_parts (Some p) name rows first second =
     let rows_are : p.1 ≡ rows = cc in
     ap₂ (λ (t : Text) (rs : List Row). Some (t, rs)) name_is rows_are
 
--- the matches of the program's command give the options that the words ask for
-pub asked : (command : Command) (m : ArgMatches) (words : List Text) (name : Text) (rows : List Row) (o : Options) → app_of command ≡ program_app
+-- the program's subcommand of this name was entered, and its rows are these
+entered_by : (command : Command) (m : ArgMatches) (words : List Text) (name own : Text) (rows : List Row) (s : Shape) → app_of command ≡ program_app
+    → HasMatchesOf (app_of command) words m → subcommand_name_of m ≡ Some name → option_map (λ p. p.1) (subcommand_rows_of m) ≡ Some rows
+    → name ≡ own → find (λ x. bytes_eq x.name own) (built program_app).subs ≡ Some s
+    → (after : List Text) × (subcommand_words words ≡ Some (own, after)) × (rows_after s.rules [] after ≡ rows)
+entered_by command m words name own rows s app matches named inner is found =
+    let same = (matches (ap is_simple app ∙ program_is_simple)).1 ∙ ap (λ (a : App). subcommand_of a words) app in
+    let parts = both_parts (subcommand_rows_of m) own rows
+    (sym (names_of_rows (out-ArgMatches m).subcommand) ∙ (named ∙ ap (λ (t : Text). Some t) is)) inner in
+    entered_one (built program_app).subs own rows (subcommand_words words) s refl (sym same ∙ parts) found
+
+-- the matches of the program's command give what the words ask for
+pub asked : (command : Command) (m : ArgMatches) (words : List Text) (name : Text) (rows : List Row) (a : Asked) → app_of command ≡ program_app
     → fault_of program_app words ≡ []
     → HasMatchesOf (app_of command) words m → subcommand_name_of m ≡ Some name → option_map (λ p. p.1) (subcommand_rows_of m) ≡ Some rows
-    → name ≡ subcommand_name o.subcommand → AreOptionsWritten (text_in rows) o → HasOwnOptions (text_in rows) rows o.subcommand
-    → IsAskedBy words o
-asked command m words name rows o app faultless matches named inner is is_written own =
-    let same = (matches (ap is_simple app ∙ program_is_simple)).1 ∙ ap (λ (a : App). subcommand_of a words) app in
-    let parts = both_parts (subcommand_rows_of m) (subcommand_name o.subcommand) rows
-    (sym (names_of_rows (out-ArgMatches m).subcommand) ∙ (named ∙ ap (λ (t : Text). Some t) is)) inner in
-    let entered = entered_one (built program_app).subs (subcommand_name o.subcommand) rows (subcommand_words words) (shape_for o.subcommand)
-    refl (sym same ∙ parts) (by_its_name o.subcommand) in
+    → AreGiven name rows a → AsksFor words a
+asked command m words name rows (OnTables o) app faultless matches named inner given =
+    let entered = entered_by command m words name (subcommand_name o.subcommand) rows (shape_for o.subcommand) app matches named inner given.0
+    (by_its_name o.subcommand) in
     let rules = rules_for o.subcommand in
     record {
       faultless = faultless;
       after = entered.0;
       subcommand = entered.1;
-      tables = tables_given rules (given_rows rules entered.0) o (have_tables o.subcommand) (subst (λ (rs : List Row). AreOptionsWritten (text_in rs) o) (sym entered.2) is_written);
-      own = has_own o.subcommand (given_rows rules entered.0) (subst (λ (rs : List Row). HasOwnOptions (text_in rs) rs o.subcommand) (sym entered.2) own);
+      tables = tables_given rules (given_rows rules entered.0) o (have_tables o.subcommand)
+          (subst (λ (rs : List Row). AreOptionsWritten (text_in rs) o) (sym entered.2) given.1);
+      own = has_own o.subcommand (given_rows rules entered.0)
+          (subst (λ (rs : List Row). HasOwnOptions (text_in rs) rs o.subcommand) (sym entered.2) given.2);
+    }
+asked command m words name rows (Info i) app faultless matches named inner given =
+    let entered = entered_by command m words name (codes "info") rows (shape_in info_app) app matches named inner given.0 refl in
+    let given_here = given_rows (rules_in info_app) entered.0 in
+    record {
+      faultless = faultless;
+      after = entered.0;
+      subcommand = entered.1;
+      folder = ap (option_and_then (λ (r : Row). slice_get r.values 0)) (sym (no_default (codes "logs") given_here (rules_in info_app) refl))
+          ∙ subst (λ (rs : List Row). first_of (codes "logs") rs ≡ Some (string_bytes i.folder)) (sym entered.2) given.1;
     }

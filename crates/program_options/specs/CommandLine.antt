@@ -1,12 +1,12 @@
 -- What the words of a command line ask for, as clap reads them for the program's command.
-use Rattle.std.specs.Prelude.{◌≡◌, ◌<◌, ◌≤◌, ◌^◌, ℕ, pos, true, List, [], ◌∷◌, Option, false, Some, None, ⊤, codes}
+use Rattle.std.specs.Prelude.{◌≡◌, ◌<◌, ◌≤◌, ◌^◌, ℕ, pos, true, List, [], ◌∷◌, Option, false, Some, None, codes}
 use Rattle.std.specs.Prelude.{Bool, MatchBool, drop, fold, string_bytes}
 use Rattle.std.specs.Option.{option_or}
 use Rattle.std.specs.Str.Parse.{IsNumeral, digits_value, without_leading_plus}
 use Rattle.clap.specs.Walk.{Row, Rule, Text, first_of, nothing_held, one_of, settled, stop_after, walk}
 use Rattle.clap.specs.Simple.{App, app_of, built, built_leaf, inherited, names_of, new_app, new_rule}
 use Rattle.clap.specs.Simple.{with_rule, with_subcommand}
-use Rattle.clap.specs.Kinds.{HasKind}
+use Rattle.clap.specs.Kinds.{HasKind, IsAmong}
 use Rattle.clap.specs.Faults.{fault_of}
 use Rattle.clap.specs.declared.builder.action.ArgAction.TheVariants.{SetTrue}
 use Rattle.clap.specs.declared.builder.command.Command.{Command}
@@ -14,13 +14,17 @@ use Rattle.clap.specs.declared.builder.command.Command.TheViews.{out-Command}
 use Rattle.clap.specs.declared.builder.value_parser.ValueParser.{ValueParser}
 use Rattle.clap.specs.declared.builder.value_parser.ValueParser.TheVariants.{NonEmptyString, Signed, Unsigned}
 use Rattle.clap.specs.declared.error.Error.{Error}
-use Rattle.clap.specs.declared.error.kind.ErrorKind.TheVariants.{InvalidValue}
+use Rattle.clap.specs.declared.error.kind.ErrorKind.TheVariants.{DisplayVersion, InvalidValue}
 use Rattle.tables.specs.declared.limits.TheConstants.{MAX_LOGGERS, MAX_TERMINALS}
 use Rattle.program_options.specs.declared.asked.TheConstants.{MAX_INPUTS, MAX_RECOVERY_THREADS}
+use Rattle.program_options.specs.declared.asked.Asked.{Asked}
+use Rattle.program_options.specs.declared.asked.Asked.TheVariants.{OnTables, Info}
+use Rattle.program_options.specs.declared.asked.InfoOptions.{InfoOptions}
 use Rattle.program_options.specs.declared.asked.LogFiles.{LogFiles}
 use Rattle.program_options.specs.declared.asked.Options.{Options}
 use Rattle.program_options.specs.declared.asked.RecoverOptions.{RecoverOptions}
 use Rattle.program_options.specs.declared.asked.RunOptions.{RunOptions}
+use Rattle.program_options.specs.declared.asked.ScriptOptions.{ScriptOptions}
 use Rattle.program_options.specs.declared.asked.Subcommand.{Subcommand}
 use Rattle.program_options.specs.declared.asked.Subcommand.TheVariants.{Script, Run, Recover, Check}
 
@@ -120,7 +124,7 @@ with_run app = fold with_rule app run_options
 
 -- the subcommand `script`
 abbrev pub script_app : App
-script_app = with_tables (new_app (codes "script"))
+script_app = with_tables (with_rule (new_app (codes "script")) (flag_option (codes "explain")))
 
 -- the subcommand `run`
 abbrev pub run_app : App
@@ -130,10 +134,15 @@ run_app = with_tables (with_run (new_app (codes "run")))
 abbrev pub on_logs_app : Text → App
 on_logs_app name = with_tables (with_logs (new_app name))
 
+-- the subcommand `info`
+abbrev pub info_app : App
+info_app = with_rule (new_app (codes "info")) folder_option
+
 -- `tpcc` before its subcommand is added
 abbrev pub bare_app : App
 bare_app = record (new_app (codes "tpcc")) {
   top = record (new_app (codes "tpcc")).top {
+    has_version = true;
     subcommand_required = true;
     arg_required_else_help = true;
   };
@@ -141,22 +150,22 @@ bare_app = record (new_app (codes "tpcc")) {
 
 -- what a subcommand is called
 abbrev pub subcommand_name : Subcommand → Text
-subcommand_name Script = codes "script"
+subcommand_name (Script options) = codes "script"
 subcommand_name (Run options) = codes "run"
 subcommand_name (Recover options) = codes "recover"
 subcommand_name (Check options) = codes "check"
 
 -- its command
 abbrev pub app_for : Subcommand → App
-app_for Script = script_app
+app_for (Script options) = script_app
 app_for (Run options) = run_app
 app_for (Recover options) = on_logs_app (codes "recover")
 app_for (Check options) = on_logs_app (codes "check")
 
 -- the program's command, as clap reads it
 abbrev pub program_app : App
-program_app = with_subcommand (with_subcommand (with_subcommand (with_subcommand bare_app script_app.top) run_app.top)
-    (on_logs_app (codes "recover")).top) (on_logs_app (codes "check")).top
+program_app = with_subcommand (with_subcommand (with_subcommand (with_subcommand (with_subcommand bare_app script_app.top)
+    run_app.top) (on_logs_app (codes "recover")).top) (on_logs_app (codes "check")).top) info_app.top
 
 -- the subcommand that the words of the program name, and the words after it
 abbrev pub subcommand_words : List Text → Option (Text × List Text)
@@ -164,8 +173,11 @@ subcommand_words words =
     stop_after (built program_app).top.rules (names_of (built program_app)) (drop 1 words)
 
 -- a subcommand's arguments as clap builds them, the last of which is `--help`
+abbrev pub rules_in : App → List Rule
+rules_in app = (built_leaf (inherited program_app.top app.top)).rules
+
 abbrev pub rules_for : Subcommand → List Rule
-rules_for s = (built_leaf (inherited program_app.top (app_for s).top)).rules
+rules_for s = rules_in (app_for s)
 
 -- what the words after a subcommand give for its arguments, before any default
 abbrev pub given_rows : List Rule → List Text → List Row
@@ -224,9 +236,13 @@ pub record AreRecoverOptions (text : Text → Text → Option Text) (rows : List
   pub files : AreLogFiles rows r.files
   pub threads : WritesWithin 1 MAX_RECOVERY_THREADS (text (codes "threads") (codes "1")) r.threads
 
+-- a script's own option is the flag that its text writes
+abbrev pub AreScriptOptions : (Text → Text → Option Text) → ScriptOptions → Type 0
+AreScriptOptions text s = WritesFlag (text (codes "explain") (codes "false")) s.explain
+
 -- so it is of a subcommand's own options, beside those of the tables
 abbrev pub HasOwnOptions : (Text → Text → Option Text) → List Row → Subcommand → Type 0
-HasOwnOptions text rows Script = ⊤
+HasOwnOptions text rows (Script s) = AreScriptOptions text s
 HasOwnOptions text rows (Run r) = AreRunOptions text rows r
 HasOwnOptions text rows (Recover r) = AreRecoverOptions text rows r
 HasOwnOptions text rows (Check r) = AreRecoverOptions text rows r
@@ -239,6 +255,28 @@ pub record IsAskedBy (words : List Text) (o : Options) : Type 0 where
   pub tables : AreOptionsWritten (text_for (given_rows (rules_for o.subcommand) after)) o
   pub own : HasOwnOptions (text_for (given_rows (rules_for o.subcommand) after)) (given_rows (rules_for o.subcommand) after)
       o.subcommand
+
+-- clap finds no fault with the words, they name `info`, and those after it give the folder
+pub record IsInfoAskedBy (words : List Text) (i : InfoOptions) : Type 0 where
+  pub faultless : fault_of program_app words ≡ []
+  pub after : List Text
+  pub subcommand : subcommand_words words ≡ Some (codes "info", after)
+  pub folder : first_of (codes "logs") (given_rows (rules_in info_app) after) ≡ Some (string_bytes i.folder)
+
+-- the words ask for this
+abbrev pub AsksFor : List Text → Asked → Type 0
+AsksFor words (OnTables o) = IsAskedBy words o
+AsksFor words (Info i) = IsInfoAskedBy words i
+
+-- the matches of the subcommand of this name, which hold the defaults, give this
+abbrev pub AreGiven : Text → List Row → Asked → Type 0
+AreGiven name rows (OnTables o) =
+    (name ≡ subcommand_name o.subcommand) × AreOptionsWritten (text_in rows) o × HasOwnOptions (text_in rows) rows o.subcommand
+AreGiven name rows (Info i) = (name ≡ codes "info") × (first_of (codes "logs") rows ≡ Some (string_bytes i.folder))
+
+-- the words ask for the program's version
+abbrev pub IsVersionAskedBy : List Text → Type 0
+IsVersionAskedBy words = IsAmong DisplayVersion (fault_of program_app words)
 
 -- memory ran out, or the error's kind is one of clap's faults with the words, or that of a value
 -- that can't be read

@@ -12,11 +12,27 @@ pub const MAX_INPUTS: u32 = 1_000_000;
 /// The most threads that read log files: as many as a database can have of those.
 pub const MAX_RECOVERY_THREADS: u32 = 8;
 
-/// What the program is to do.
+/// What a command line asks for.
+#[derive(Debug, Drop, PartialEq, Eq)]
+pub enum Asked {
+    /// A subcommand on tables of a scale and a population.
+    OnTables(Options),
+    /// `info`: tells what log files say of themselves.
+    Info(InfoOptions),
+}
+
+/// What `info` is to tell of.
+#[derive(Debug, Drop, PartialEq, Eq)]
+pub struct InfoOptions {
+    /// `--logs`: the path of the folder of the log files.
+    pub folder: String,
+}
+
+/// What the program is to do on tables.
 #[derive(Debug, Drop, PartialEq, Eq)]
 pub enum Subcommand {
     /// `script`: answers the lines of standard input.
-    Script,
+    Script(ScriptOptions),
     /// `run`: runs terminals beside loggers.
     Run(RunOptions),
     /// `recover`: shows what log files recover to.
@@ -32,6 +48,13 @@ pub struct LogFiles {
     pub folder: String,
     /// `--loggers`, 1 to 8.
     pub loggers: u32,
+}
+
+/// How `script` is to answer.
+#[derive(Debug, Drop, PartialEq, Eq)]
+pub struct ScriptOptions {
+    /// `--explain`: whether it tells of each refused line what is wrong with it.
+    pub explain: bool,
 }
 
 /// What `recover` and `check` are to recover, and how.
@@ -61,7 +84,7 @@ pub struct RunOptions {
     ghost stations: { (1 ≤ terminals) × (terminals ≤ MAX_TERMINALS) },
 }
 
-/// A command line: the subcommand and its options.
+/// A subcommand on tables, and its options.
 #[derive(Debug, Drop, PartialEq, Eq)]
 pub struct Options {
     pub subcommand: Subcommand,

@@ -3,7 +3,10 @@
 
 mod asked;
 mod run_words;
+mod script_words;
 mod words;
 
-pub use asked::{LogFiles, Options, RecoverOptions, RunOptions, Subcommand};
-pub use words::options;
+pub use asked::{
+    Asked, InfoOptions, LogFiles, Options, RecoverOptions, RunOptions, ScriptOptions, Subcommand,
+};
+pub use words::{VERSION_LINE, read_words};

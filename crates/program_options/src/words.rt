@@ -4,15 +4,18 @@ ghost use Rattle.clap.specs.Walk.{first_of, one_of};
 ghost use Rattle.clap.specs.Words.{app_of, found_of, kind_of, one_text, rows_of, rule_of};
 ghost use Rattle.clap.specs.Kinds.{HasKind};
 ghost use Rattle.clap.specs.declared.error.kind.ErrorKind.TheVariants.{InvalidValue};
-ghost use Rattle.program_options.specs.CommandLine.{AreLogFiles, AreOptionsWritten, AreRecoverOptions, HasApp};
-ghost use Rattle.program_options.specs.CommandLine.{HasOwnOptions, IsAskedBy, IsLocal, WritesWithin};
+ghost use Rattle.program_options.specs.CommandLine.{AreGiven, AreLogFiles, AreOptionsWritten, AreRecoverOptions};
+ghost use Rattle.program_options.specs.CommandLine.{AsksFor, HasApp, HasOwnOptions, IsLocal, WritesWithin};
 ghost use Rattle.program_options.specs.CommandLine.{IsOptionsRefusal, folder_option, loggers_option, subcommand_name};
-ghost use Rattle.program_options.specs.CommandLine.{number_option, on_logs_app, program_app, run_app, script_app};
+ghost use Rattle.program_options.specs.CommandLine.{info_app, number_option, on_logs_app, program_app, run_app};
 ghost use Rattle.program_options.specs.CommandLine.{seed_option, text_in, threads_option};
 ghost use Rattle.program_options.specs.CommandLine.{with_logs as with_log_options, with_tables as with_table_options};
 
-use crate::asked::{LogFiles, MAX_RECOVERY_THREADS, Options, RecoverOptions, Subcommand};
+use crate::asked::{
+    Asked, InfoOptions, LogFiles, MAX_RECOVERY_THREADS, Options, RecoverOptions, Subcommand,
+};
 use crate::run_words::{run_options, with_run};
+use crate::script_words::{script, script_options};
 use clap::builder::ValueParser;
 use clap::error::ErrorKind;
 use clap::{Arg, ArgMatches, Command, Error, value_parser};
@@ -20,17 +23,22 @@ use std::alloc::{AllocError, Global};
 use std::str::FromStr;
 use tables::limits::MAX_LOGGERS;
 
-/// The options that these words ask for, the first of which is the program's own name: the subcommand is the one that
-/// they name, and each option is what the words behind it give, or its default. An error's text says what is wrong with
-/// the words, or is the help that they ask for.
-pub fn options(alloc: Global, words: &[String]) -> Result<Options, Error>
-    ensures asked { IfOk result (IsAskedBy (map string_bytes words.now)) }
+/// What is told of the program's version, of which there is no release yet. No source can tell whether what is built of
+/// it was proved.
+pub const VERSION_LINE: &str =
+    "tpcc 0.1.0 (for rattle-kit-13f; proved where rt ci or rt run built it)\n";
+
+/// What these words ask for, the first of which is the program's own name: the subcommand is the one that they name,
+/// and each option is what the words behind it give, or its default. An error's text says what is wrong with the words,
+/// or is the help that they ask for; of the version that they ask for, it is an error too.
+pub fn read_words(alloc: Global, words: &[String]) -> Result<Asked, Error>
+    ensures asked { IfOk result (AsksFor (map string_bytes words.now)) }
     ensures refused { IfErr result (IsOptionsRefusal (map string_bytes words.now)) }
 {
     let command = program(alloc)?;
     let matches = command.try_get_matches_from(words)?;
     match matches.subcommand() {
-        Some((name, given)) => options_given(alloc, name, given),
+        Some((name, given)) => asked_given(alloc, name, given),
         None => Err(refusal(alloc, "a subcommand is required")?),
     }
 }
@@ -43,14 +51,17 @@ fn program<'a>(alloc: Global) -> Result<Command<'a>, AllocError>
     let run = run(alloc)?;
     let recover = on_log_files(alloc, "recover", RECOVER)?;
     let check = on_log_files(alloc, "check", CHECK)?;
+    let info = info(alloc)?;
     Command::new(alloc, "tpcc")
         .about("TPC-C on Silo's commit, with proofs")
+        .version(VERSION_LINE)
         .subcommand_required(true)
         .arg_required_else_help(true)
         .subcommand(script)?
         .subcommand(run)?
         .subcommand(recover)?
-        .subcommand(check)
+        .subcommand(check)?
+        .subcommand(info)
 }
 
 /// What `recover` is for.
@@ -60,14 +71,16 @@ const RECOVER: &str =
 /// What `check` is for.
 const CHECK: &str = "Reports the consistency conditions of what log files recover to";
 
-/// The subcommand `script`.
-fn script<'a>(alloc: Global) -> Result<Command<'a>, AllocError>
-    ensures app { IfOk result (HasApp script_app) }
+/// What `info` is for.
+const INFO: &str =
+    "Tells the version, loggers and options of the tables that log files were made with";
+
+/// The subcommand `info`.
+fn info<'a>(alloc: Global) -> Result<Command<'a>, AllocError>
+    ensures app { IfOk result (HasApp info_app) }
 {
-    let command = Command::new(alloc, "script").about(
-        "Answers the lines of standard input, then reports the consistency conditions",
-    );
-    with_tables(alloc, command)
+    let command = Command::new(alloc, "info").about(INFO);
+    command.arg(folder(alloc))
 }
 
 /// What `run` is for.
@@ -150,7 +163,10 @@ fn threads<'a>(alloc: Global) -> Arg<'a>
 }
 
 /// A subcommand with the options of the tables that it begins with: their scale and their population.
-fn with_tables<'a>(alloc: Global, command: Command<'a>) -> Result<Command<'a>, AllocError>
+pub(crate) fn with_tables<'a>(
+    alloc: Global,
+    command: Command<'a>,
+) -> Result<Command<'a>, AllocError>
     requires local { IsLocal command }
     ensures app { IfOk result (HasApp (with_table_options (app_of command.entry))) }
 {
@@ -210,6 +226,19 @@ pub(crate) fn seed<'a>(alloc: Global, name: &'a str, default: &'a str, help: &'a
         .help(help)
 }
 
+/// What the matches of the subcommand of this name give.
+fn asked_given(alloc: Global, name: &str, given: &ArgMatches<'_>) -> Result<Asked, Error>
+    ensures given { IfOk result (AreGiven name.now (rows_of (found_of given.now))) }
+    ensures unread { IfErr result (HasKind (InvalidValue ∷ [])) }
+{
+    if name == "info" {
+        let folder = folder_given(alloc, given)?;
+        return Ok(Asked::Info(InfoOptions { folder }));
+    }
+    let options = options_given(alloc, name, given)?;
+    Ok(Asked::OnTables(options))
+}
+
 /// The options that the matches of the subcommand of this name give.
 fn options_given(alloc: Global, name: &str, given: &ArgMatches<'_>) -> Result<Options, Error>
     ensures named { IfOk result (λ o. name.now ≡ subcommand_name o.subcommand) }
@@ -237,7 +266,7 @@ fn subcommand(alloc: Global, name: &str, given: &ArgMatches<'_>) -> Result<Subco
     ensures unread { IfErr result (HasKind (InvalidValue ∷ [])) }
 {
     match name {
-        "script" => Ok(Subcommand::Script),
+        "script" => Ok(Subcommand::Script(script_options(alloc, given)?)),
         "run" => Ok(Subcommand::Run(run_options(alloc, given)?)),
         "recover" => Ok(Subcommand::Recover(recover_options(alloc, given)?)),
         "check" => Ok(Subcommand::Check(recover_options(alloc, given)?)),

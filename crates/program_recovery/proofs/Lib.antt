@@ -2,3 +2,4 @@ mod Lines
 mod Refusing
 mod Walking
 mod Numbering
+mod TextsOnDisks

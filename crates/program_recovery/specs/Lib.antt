@@ -1,3 +1,4 @@
 pub mod Text
 pub mod Told
 pub mod Flaws
+pub mod Far

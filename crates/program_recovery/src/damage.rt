@@ -16,9 +16,10 @@ ghost use Rattle.program_recovery.specs.Flaws.{IsAskedVersion, IsDamage, IsLogFi
 use log_disk::Disk;
 use log_flaws::{Examined, FileFlaw, examine};
 use log_header::{Header, VERSION, read_header};
-use log_scan::contents;
+use log_scan::{text, text_of_size};
 use money::Refusal;
 use population::Population;
+use recover_progress::Progress;
 use std::alloc::Global;
 
 /// A file that is no log file of the database and its logger.
@@ -112,7 +113,8 @@ fn first_version<D: Disk>(alloc: Global, disks: &mut [D]) -> Result<u32, Refusal
     if disks.is_empty() {
         return Ok(version_of(&[]));
     }
-    let bytes = contents(alloc, &mut disks[0])?;
+    let unshown = Progress::of(Vec::new(alloc));
+    let bytes = text(alloc, &mut disks[0], &unshown)?;
     Ok(version_of(&bytes))
 }
 
@@ -138,9 +140,11 @@ fn flaw_on<D: Disk>(
     ensures cause { IfErr result (λ refusal. (refusal ≢ OutOfMemory) → refusal ≡ Device) }
     ensures reads { OnlyReads D.is_modelled D.seen D.story disk.old disk.new }
 {
-    let bytes = contents(alloc, disk)?;
+    let unshown = Progress::of(Vec::new(alloc));
+    let size = disk.len()?;
+    let bytes = text_of_size(alloc, disk, size, &unshown)?;
     match examine(alloc, asked, &bytes)? {
         Examined::Whole(_) => Ok(None),
-        Examined::Flawed(flaw) => Ok(Some(flaw)),
+        Examined::Flawed(flaw) => Ok(Some(flaw.in_file_of(size))),
     }
 }

@@ -13,6 +13,7 @@ use recover::{Recovered, recover_with};
 use recover_progress::Progress;
 use std::alloc::{AllocError, Global};
 use std::io::Write;
+use std::str::FromStr;
 use std::sync::Wait;
 use std::sync::atomic::{AtomicBool, Ordering};
 use std::thread::{Parker, Threads, join, join_mut};
@@ -20,6 +21,12 @@ use std::time::{Clock, Duration};
 
 /// How often the screen is looked at, in milliseconds.
 const STEP: u64 = 100;
+
+/// What is shown of a recovery of all files at once that has read nothing yet.
+const READING_ALL: &str = "reading log files";
+
+/// What is shown where the files are read in turn.
+const READING_FIRST: &str = "reading log-0";
 
 /// How a recovery is gone about.
 #[derive(Drop)]
@@ -108,7 +115,12 @@ fn recover_watched<R: Threads + Wait + Clock + Sync, D: Disk + Send, S: Write + 
         disks.old disks.new result }
 {
     let end = End::new();
-    let mut watch = || { show_until(rt, alloc, &end, progress, line) };
+    let begun = if threads == 1 {
+        READING_FIRST
+    } else {
+        READING_ALL
+    };
+    let mut watch = || { show_until(rt, alloc, &end, progress, begun, line) };
     let mut work = || -> Result<Recovered, Refusal>
         ensures { IsAnswerOn D.is_modelled D.seen D.story D.failed (initial population.entry.now)
             (seed_of population.entry.now) disks.entry.now disks.exit.now result }
@@ -138,7 +150,7 @@ pub fn while_shown<R: Threads + Wait + Clock + Sync, S: Write + Send + Drop, A, 
     match (screen, rt.monotonic()) {
         (Some(screen), Ok(began)) => {
             let line = ScreenLine::new(alloc, screen, began);
-            while_watched(rt, alloc, progress, line, work)
+            while_watched(rt, alloc, progress, READING_ALL, line, work)
         }
         _ => work(),
     }
@@ -149,6 +161,7 @@ fn while_watched<R: Threads + Wait + Clock + Sync, S: Write + Send + Drop, A, F:
     rt: &R,
     alloc: Global,
     progress: &Progress,
+    begun: &'static str,
     line: ScreenLine<S>,
     work: F,
 ) -> A
@@ -158,7 +171,7 @@ fn while_watched<R: Threads + Wait + Clock + Sync, S: Write + Send + Drop, A, F:
     let end = &End::new();
     let watch = move || {
         let mut line = line;
-        show_until(rt, alloc, end, progress, &mut line)
+        show_until(rt, alloc, end, progress, begun, &mut line)
     };
     let work = move || -> A
         requires { F.pre work }
@@ -179,13 +192,14 @@ fn show_until<R: Wait + Clock, S: Write>(
     alloc: Global,
     end: &End,
     progress: &Progress,
+    begun: &str,
     line: &mut ScreenLine<S>,
 ) {
     for _ in 0..u64::MAX {
         if end.wait(rt, Duration::from_millis(STEP)) {
             break;
         }
-        show(rt, alloc, progress, line);
+        show(rt, alloc, progress, begun, line);
     }
     line.erase();
 }
@@ -195,20 +209,25 @@ fn show<C: Clock, S: Write>(
     clock: &C,
     alloc: Global,
     progress: &Progress,
+    begun: &str,
     line: &mut ScreenLine<S>,
 ) {
     let Ok(now) = clock.monotonic() else {
         return;
     };
     if line.is_due(now) {
-        if let Ok(text) = text_of(alloc, progress) {
+        if let Ok(text) = text_of(alloc, progress, begun) {
             line.rewrite(now, text.as_str());
         }
     }
 }
 
-/// The text of the line: how many bytes of the files were read, and how many entries were looked at.
-fn text_of(alloc: Global, progress: &Progress) -> Result<String, AllocError> {
+/// The text of the line: how many bytes of the files were read, and how many entries were looked at; or while there are
+/// none of both, what is done.
+fn text_of(alloc: Global, progress: &Progress, begun: &str) -> Result<String, AllocError> {
     let (entries, read, all) = (progress.entries(), progress.read(), progress.to_read());
+    if entries == 0 && read == 0 {
+        return String::from_str(alloc, begun);
+    }
     format!(in alloc; "read {read} of {all} bytes, {entries} entries")
 }

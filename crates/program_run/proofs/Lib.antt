@@ -1,2 +1,3 @@
 mod Seats
+mod Untold
 mod Counted

@@ -1,9 +1,9 @@
 -- What is told of a run.
-use Rattle.std.specs.Prelude.{◌≡◌, ◌≢◌, ◌⊎◌, ◌++◌, ℕ, List, [], Option, codes, length}
+use Rattle.std.specs.Prelude.{◌≡◌, ◌≢◌, ◌⊎◌, ◌++◌, ◌≤◌, ℕ, List, [], Option, None, IfSome, codes, length}
 use Rattle.std.specs.Fmt.{decimal}
 use Rattle.std.specs.Io.KnownBytes.{Appends}
 use Rattle.money.specs.declared.refusal.Refusal.{Refusal}
-use Rattle.money.specs.declared.refusal.Refusal.TheVariants.{OutOfMemory, Device}
+use Rattle.money.specs.declared.refusal.Refusal.TheVariants.{OutOfMemory, Device, EpochFull}
 use Rattle.tables.specs.Database.{Database}
 use Rattle.conditions.specs.Report.{IsReportOf, IsGood}
 use Rattle.conditions.specs.declared.report.Report.{Report}
@@ -14,6 +14,9 @@ use Rattle.run_threads.specs.History.{IsMadeBy}
 use Rattle.run_threads.specs.Tally.{IsCounted}
 use Rattle.run_threads.specs.declared.tally.Tally.{Tally}
 use Rattle.run_threads.specs.declared.counts.Counts.{Counts}
+use Rattle.program_run.specs.declared.driving.Driven.{Driven}
+use Rattle.program_run.specs.declared.driving.Broken.{Broken}
+use Rattle.program_run.specs.declared.driving.Broken.TheVariants.{Unrun, Untold}
 
 -- the lines of what came of the inputs
 abbrev pub inputs_lines : Counts → List ℕ
@@ -59,6 +62,23 @@ pub record IsRan (past : ℕ) (t0 : Database) (terminals inputs : ℕ) (old new 
   pub counted : AreCounts past t0 terminals inputs history tallies counts
   pub told : IsTold (replay t0 history) counts old new report
 
+-- and each commit was acknowledged
+abbrev pub IsRanDurably : ℕ → Database → ℕ → ℕ → Option (List ℕ) → Option (List ℕ) → Report → Type 0
+IsRanDurably past t0 terminals inputs old new report =
+    (ran : IsRan past t0 terminals inputs old new report) × (ran.counts.commits ≤ ran.counts.acknowledged)
+
+-- what may keep commits of a run from being durable: a logger's device failed, or it had no memory for its last batch, or
+-- the last epoch is behind no mark
+abbrev pub IsShortBy : Refusal → Type 0
+IsShortBy refusal = (refusal ≡ Device) ⊎ (refusal ≡ OutOfMemory) ⊎ (refusal ≡ EpochFull)
+
+-- so many inputs ran, and what came of them was told; each commit was acknowledged, unless something fell short
+pub record IsDriven (past : ℕ) (t0 : Database) (terminals inputs : ℕ) (old new : Option (List ℕ)) (driven : Driven)
+    : Type 0 where
+  pub ran : IsRan past t0 terminals inputs old new driven.report
+  pub acknowledged : driven.shortfall ≡ None → ran.counts.commits ≤ ran.counts.acknowledged
+  pub short : IfSome driven.shortfall (λ shortfall. IsShortBy shortfall.refusal)
+
 -- it was refused, for want of memory or by a device: nothing was written; or all inputs ran, and a beginning of the text
 -- was written
 pub data IsBroken (past : ℕ) (t0 : Database) (terminals inputs : ℕ) (old new : Option (List ℕ)) (refusal : Refusal)
@@ -68,3 +88,14 @@ pub data IsBroken (past : ℕ) (t0 : Database) (terminals inputs : ℕ) (old new
   untold : (history : List Entry) (tallies : List Tally) (c : Counts)
       → AreCounts past t0 terminals inputs history tallies c
       → IsCutShort (replay t0 history) c old new refusal → IsBroken past t0 terminals inputs old new refusal
+
+-- by what it was refused
+abbrev pub refusal_in : Broken → Refusal
+refusal_in (Unrun refusal) = refusal
+refusal_in (Untold refusal) = refusal
+
+-- it was refused: before any input ran, or when what came of all inputs was to be told
+pub record IsBrokenBy (past : ℕ) (t0 : Database) (terminals inputs : ℕ) (old new : Option (List ℕ)) (broken : Broken)
+    : Type 0 where
+  pub is : IsBroken past t0 terminals inputs old new (refusal_in broken)
+  pub unrun : (refusal : Refusal) → broken ≡ Unrun refusal → Appends old new []

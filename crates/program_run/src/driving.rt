@@ -5,16 +5,17 @@ ghost use Rattle.tables.specs.declared.limits.TheConstants.{MAX_LOGGERS, MAX_TER
 ghost use Rattle.population.specs.Initial.{initial};
 ghost use Rattle.book.specs.Parts.{IsFresh, IsOpenedAs, base_of, first_of, past_of, loggers_of, terminals_of};
 ghost use Rattle.program_run.specs.Outfit.{AreLogsOf};
-ghost use Rattle.program_run.specs.Told.{AreCounts, IsBroken, IsRan};
+ghost use Rattle.program_run.specs.Told.{AreCounts, IsBrokenBy, IsDriven};
 
 use crate::outfit::{OpenLog, Slot, created, manned, stations};
+use crate::shortfall::{Shortfall, shortfall_of};
 use crate::telling::ran;
 use book::{Engine, Parts, Run, Seats};
 use conditions::Report;
 use log_disk::Disk;
 use money::Refusal;
 use population::Population;
-use run_threads::{Desks, Outcome, Pace, Written, run};
+use run_threads::{Desks, Outcome, Pace, run};
 use std::alloc::Global;
 use std::io::Write;
 use std::marker::Brand;
@@ -39,17 +40,39 @@ pub struct Plan {
 pub struct Driven {
     /// The report of the committed tables.
     pub report: Report,
-    /// The first logger that stopped before the end, since its device failed, if one did.
-    pub stopped: Option<u16>,
+    /// What kept its commits from being durable, or its loggers from going on to the end, if anything did. Without it
+    /// each commit was acknowledged.
+    pub shortfall: Option<Shortfall>,
+}
+
+/// What of a run was refused.
+#[derive(Clone, Copy, Debug, PartialEq, Eq)]
+pub enum Broken {
+    /// The run itself: no input ran.
+    Unrun(Refusal),
+    /// What is told of it, once all inputs had run.
+    Untold(Refusal),
+}
+
+impl From<Broken> for Refusal {
+    ghost use Rattle.std.specs.Prelude.{◌≡◌};
+    ghost use Rattle.program_run.specs.Told.{refusal_in};
+
+    ghost from_gives = { λ broken refusal. refusal ≡ refusal_in broken };
+
+    fn from(broken: Broken) -> Refusal {
+        match broken {
+            Broken::Unrun(refusal) | Broken::Untold(refusal) => refusal,
+        }
+    }
 }
 
 /// Runs an engine over the population, with new log files on the disks, one for each logger, and a gate for each
-/// terminal, and writes what came of it, as `ran` does. May wait, as `run_threads::run` does.
+/// terminal, and writes what came of it, as `drive_new` does. May wait, as `run_threads::run` does.
 ///
 /// # Errors
 ///
-/// `OutOfMemory`, `Device` where a header can't be written: then no input runs, and nothing is written. Both also as
-/// `ran`. A disk that fails later stops its logger.
+/// As `drive_new`, and `Device` where a header can't be written: then no input runs, and nothing is written.
 pub fn drive<
     D: Disk + Send + Drop,
     P: Pace + Send + Drop,
@@ -64,21 +87,59 @@ pub fn drive<
     gates: Vec<G>,
     plan: &Plan,
     writer: &mut W,
-) -> Result<Driven, Refusal>
+) -> Result<Driven, Broken>
     requires loggers { (0 < length slots.items) × (length slots.items ≤ MAX_LOGGERS) }
     requires terminals { (0 < plan.now.terminals) × (plan.now.terminals ≤ MAX_TERMINALS) }
     requires gates { length gates.items ≡ plan.now.terminals }
     requires empty { D.is_modelled → All (λ slot. D.seen slot.disk ≡ []) slots.items }
-    ensures ran { IfOk result (λ driven. IsRan 0 (initial population) plan.now.terminals plan.now.inputs
-        (W.contents writer.old) (W.contents writer.new) driven.report) }
-    ensures broken { IfErr result (IsBroken 0 (initial population) plan.now.terminals plan.now.inputs
+    ensures ran { IfOk result (IsDriven 0 (initial population) plan.now.terminals plan.now.inputs
+        (W.contents writer.old) (W.contents writer.new)) }
+    ensures broken { IfErr result (IsBrokenBy 0 (initial population) plan.now.terminals plan.now.inputs
         (W.contents writer.old) (W.contents writer.new)) }
 {
     let (scale, seed) = (population.scale(), population.seed());
-    let parts = Parts::new(rt, alloc, population, slots.len() as u16, plan.terminals)?;
     let logs = match created(alloc, scale, seed, slots) {
         Ok(logs) => logs,
-        Err(refusal) => return Err(refusal),
+        Err(refusal) => return Err(Broken::Unrun(refusal)),
+    };
+    drive_new(rt, alloc, population, logs, gates, plan, writer)
+}
+
+/// Runs an engine over the population, with new log files that are open, one for each logger, in their order, and a
+/// gate for each terminal; and writes what came of it, as `drive_on` does. The records are made first. May wait, as
+/// `run_threads::run` does.
+///
+/// # Errors
+///
+/// As `drive_on`.
+pub fn drive_new<
+    D: Disk + Send + Drop,
+    P: Pace + Send + Drop,
+    G: Gate + Send + Drop,
+    W: Write,
+    R: Threads + Wait + Sync,
+>(
+    rt: &R,
+    alloc: Global,
+    population: Population,
+    logs: Vec<OpenLog<D, P>>,
+    gates: Vec<G>,
+    plan: &Plan,
+    writer: &mut W,
+) -> Result<Driven, Broken>
+    requires loggers { (0 < length logs.items) × (length logs.items ≤ MAX_LOGGERS) }
+    requires logs { AreLogsOf (length logs.items) 0 (map (λ log. log.file) logs.items) }
+    requires terminals { (0 < plan.now.terminals) × (plan.now.terminals ≤ MAX_TERMINALS) }
+    requires gates { length gates.items ≡ plan.now.terminals }
+    ensures ran { IfOk result (IsDriven 0 (initial population) plan.now.terminals plan.now.inputs
+        (W.contents writer.old) (W.contents writer.new)) }
+    ensures broken { IfErr result (IsBrokenBy 0 (initial population) plan.now.terminals plan.now.inputs
+        (W.contents writer.old) (W.contents writer.new)) }
+{
+    let loggers = logs.len() as u16;
+    let parts = match Parts::new(rt, alloc, population, loggers, plan.terminals) {
+        Ok(parts) => parts,
+        Err(refusal) => return Err(Broken::Unrun(refusal)),
     };
     drive_on(rt, alloc, parts, logs, gates, plan, writer)
 }
@@ -89,7 +150,8 @@ pub fn drive<
 ///
 /// # Errors
 ///
-/// `OutOfMemory`: then no input runs, and nothing is written. Also as `ran`. A disk that fails stops its logger.
+/// `Unrun` by `OutOfMemory`: then no input runs, and nothing is written. `Untold` as `ran`. A disk that fails stops its
+/// logger.
 pub fn drive_on<
     D: Disk + Send + Drop,
     P: Pace + Send + Drop,
@@ -104,14 +166,14 @@ pub fn drive_on<
     gates: Vec<G>,
     plan: &Plan,
     writer: &mut W,
-) -> Result<Driven, Refusal>
+) -> Result<Driven, Broken>
     requires fresh { IsFresh parts }
     requires logs { AreLogsOf (loggers_of parts) (base_of parts) (map (λ log. log.file) logs.items) }
     requires terminals { terminals_of parts ≡ plan.now.terminals }
     requires gates { length gates.items ≡ plan.now.terminals }
-    ensures ran { IfOk result (λ driven. IsRan (past_of parts) (first_of parts) plan.now.terminals plan.now.inputs
-        (W.contents writer.old) (W.contents writer.new) driven.report) }
-    ensures broken { IfErr result (IsBroken (past_of parts) (first_of parts) plan.now.terminals plan.now.inputs
+    ensures ran { IfOk result (IsDriven (past_of parts) (first_of parts) plan.now.terminals plan.now.inputs
+        (W.contents writer.old) (W.contents writer.new)) }
+    ensures broken { IfErr result (IsBrokenBy (past_of parts) (first_of parts) plan.now.terminals plan.now.inputs
         (W.contents writer.old) (W.contents writer.new)) }
 {
     drive_parts::<Brand, D, P, G, W, R>(rt, alloc, parts, logs, gates, plan, writer)
@@ -133,29 +195,27 @@ fn drive_parts<
     gates: Vec<G>,
     plan: &Plan,
     writer: &mut W,
-) -> Result<Driven, Refusal>
+) -> Result<Driven, Broken>
     requires run { IsOpenedAs parts K.population K.first K.past K.cells K.board K.seed K.name K.parts }
     requires logs { AreLogsOf (loggers_of parts) (base_of parts) (map (λ log. log.file) logs.items) }
     requires terminals { terminals_of parts ≡ plan.now.terminals }
     requires gates { length gates.items ≡ plan.now.terminals }
-    ensures ran { IfOk result (λ driven. IsRan K.past K.first plan.now.terminals plan.now.inputs
-        (W.contents writer.old) (W.contents writer.new) driven.report) }
-    ensures broken { IfErr result (IsBroken K.past K.first plan.now.terminals plan.now.inputs
+    ensures ran { IfOk result (IsDriven K.past K.first plan.now.terminals plan.now.inputs
+        (W.contents writer.old) (W.contents writer.new)) }
+    ensures broken { IfErr result (IsBrokenBy K.past K.first plan.now.terminals plan.now.inputs
         (W.contents writer.old) (W.contents writer.new)) }
 {
     let made = match run_parts::<K, D, P, G, R>(rt, alloc, parts, logs, gates, plan) {
         Ok(made) => made,
-        Err(refusal) => return Err(refusal),
+        Err(refusal) => return Err(Broken::Unrun(refusal)),
     };
     let (mut outcome, _scale) = made;
+    let shortfall = shortfall_of(&outcome.counts, &outcome.files);
     let report = match ran(alloc, &mut outcome, writer) {
         Ok(report) => report,
-        Err(refusal) => return Err(refusal),
+        Err(refusal) => return Err(Broken::Untold(refusal)),
     };
-    Ok(Driven {
-        report,
-        stopped: first_stopped(&outcome.files),
-    })
+    Ok(Driven { report, shortfall })
 }
 
 /// Runs an engine of these parts, as `drive_on` does, and answers what came of it, with the scale of its database. May
@@ -195,12 +255,4 @@ pub fn run_parts<
     let stations = stations(alloc, scale, gates, plan.terminals, plan.seed)?;
     let outcome = run::<K, G, D, P, R>(rt, alloc, engine, desks, logs, stations, plan.inputs)?;
     Ok((outcome, scale))
-}
-
-/// The number of the first logger that stopped, if one did.
-fn first_stopped<D: Disk>(files: &[Written<D>]) -> Option<u16> {
-    files
-        .iter()
-        .find(|file| file.has_stopped)
-        .map(|file| file.logger.file().header().logger)
 }

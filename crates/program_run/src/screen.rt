@@ -1,39 +1,59 @@
 //! How far a run is, on one line of a terminal's screen.
 
+use crate::alarm::Alarm;
 use crate::waits::Waits;
 use program_streams::ScreenLine;
 use run_threads::Progress;
 use std::alloc::{AllocError, Global};
-use std::io::Write;
+use std::io::{Error, Write};
 use std::time::Duration;
 
 /// The line of a run on a screen, once the run takes longer than a second. At the end a summary of the run is left in
-/// its place. What can't be written is left aside.
+/// its place. A log file that can't be written any longer is told at once, on a line of its own. What can't be written
+/// is left aside.
 #[derive(Drop)]
 pub struct Screen<'a, S: Write> {
     alloc: Global,
     line: ScreenLine<S>,
     began: Duration,
     waits: &'a Waits,
+    alarms: &'a [Alarm],
+    /// The folder of the log files.
+    folder: &'a str,
     /// How many commits the line tells that stands there.
     commits: u64,
 }
 
 impl<'a, S: Write> Screen<'a, S> {
     /// A screen on which nothing stands, for a run that begins at this time of a clock, and whose terminals tell here
-    /// what their commits wait.
-    pub fn new(alloc: Global, writer: S, began: Duration, waits: &'a Waits) -> Screen<'a, S> {
+    /// what their commits wait. The alarms are those of the log files in this folder, in the order of their loggers.
+    pub fn new(
+        alloc: Global,
+        writer: S,
+        began: Duration,
+        waits: &'a Waits,
+        alarms: &'a [Alarm],
+        folder: &'a str,
+    ) -> Screen<'a, S> {
         Screen {
             alloc,
             line: ScreenLine::new(alloc, writer, began),
             began,
             waits,
+            alarms,
+            folder,
             commits: 0,
         }
     }
 
-    /// Shows how far the run is at this time, if a line is due.
+    /// Shows at once what is done before the run begins, which may take long.
+    pub fn announce(&mut self, text: &str) {
+        self.line.rewrite(self.began, text);
+    }
+
+    /// Shows how far the run is at this time, if a line is due; and at once which log files can't be written any longer.
     pub fn show(&mut self, now: Duration, progress: &Progress) {
+        self.tell_alarms(progress);
         if self.line.is_due(now) {
             self.rewrite(now, progress);
         }
@@ -42,6 +62,7 @@ impl<'a, S: Write> Screen<'a, S> {
     /// Leaves the summary of the run at its end, if anything stands there, and ends the line. Where the time isn't
     /// known, the line stays as it is.
     pub fn end(&mut self, now: Option<Duration>, progress: &Progress) {
+        self.tell_alarms(progress);
         if !self.line.is_shown() {
             return;
         }
@@ -49,6 +70,19 @@ impl<'a, S: Write> Screen<'a, S> {
             self.sum_up(now, progress);
         }
         self.line.leave();
+    }
+
+    /// Tells which log files can't be written any longer, of which that wasn't told yet.
+    fn tell_alarms(&mut self, progress: &Progress) {
+        for (logger, alarm) in self.alarms.iter().enumerate() {
+            let Some(error) = alarm.take() else {
+                continue;
+            };
+            let durable = progress.durable();
+            if let Ok(text) = alarm_text(self.alloc, self.folder, logger, error, durable) {
+                self.line.tell(text.as_str());
+            }
+        }
     }
 
     /// Writes the line anew.
@@ -69,19 +103,50 @@ impl<'a, S: Write> Screen<'a, S> {
         let Ok(waits) = self.waits.text(self.alloc) else {
             return;
         };
-        let Ok(text) = summary(self.alloc, millis, progress.commits(), &waits) else {
-            return;
-        };
-        self.line.rewrite(now, text.as_str());
+        let (commits, acknowledged) = (progress.commits(), progress.acknowledged());
+        if let Ok(text) = summary(self.alloc, millis, commits, acknowledged, &waits) {
+            self.line.tell(text.as_str());
+        }
     }
 }
 
-/// The text of a run that took so long and committed so much: its seconds, its commits a second, and what is told of
-/// how long they waited.
-fn summary(alloc: Global, millis: u64, commits: u64, waits: &str) -> Result<String, AllocError> {
+/// The text of a run that took so long and committed so much: its seconds, its commits a second, or those that were
+/// acknowledged, where that is fewer, and what is told of how long they waited.
+fn summary(
+    alloc: Global,
+    millis: u64,
+    commits: u64,
+    acknowledged: u64,
+    waits: &str,
+) -> Result<String, AllocError> {
     let (seconds, tenths) = (millis / 1000, millis % 1000 / 100);
-    let rate = per_second(commits, millis);
-    format!(in alloc; "{seconds}.{tenths} s, {rate} commits/s, {waits}")
+    let (counted, what) = if acknowledged < commits {
+        (acknowledged, "acknowledged commits/s")
+    } else {
+        (commits, "commits/s")
+    };
+    let rate = per_second(counted, millis);
+    format!(in alloc; "{seconds}.{tenths} s, {rate} {what}, {waits}")
+}
+
+/// The text on a log file that can't be written any longer, for this reason, where it is known, in a run whose replies
+/// are given up to this epoch.
+fn alarm_text(
+    alloc: Global,
+    folder: &str,
+    logger: usize,
+    error: Option<Error>,
+    durable: u64,
+) -> Result<String, AllocError> {
+    let mut text = format!(in alloc; "9 Device: {folder}/log-{logger}: can't be written")?;
+    if let Some(error) = error {
+        write!(text, ": {error}")?;
+    }
+    write!(
+        text,
+        "; replies are durable up to epoch {durable}, and no later one is given"
+    )?;
+    Ok(text)
 }
 
 /// The whole milliseconds from one time to another, or none where that is before.

@@ -4,3 +4,4 @@ mod DeskLemmas
 mod Progress
 mod OneRun
 mod OneText
+mod Told

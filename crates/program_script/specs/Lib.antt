@@ -1,3 +1,4 @@
 pub mod Turns
 pub mod Written
 pub mod Answered
+pub mod Hints

@@ -15,7 +15,7 @@ use crate::showing::show;
 use book::{Done, Run};
 use book_session::Session;
 use money::Refusal;
-use program_script_text::{Answer, Request, in_range, print_reply, read_request};
+use program_script_text::{Answer, Request, ShownRow, in_range, print_reply, read_request};
 use std::alloc::Global;
 use std::sync::Wait;
 use tables::Input;
@@ -23,7 +23,7 @@ use tables::Input;
 /// Answers the line of a script that has this number, which is its date too. `None` is a line that is too
 /// long. What the line asks is done or refused, and the answer, which `output` gets, tells which; only want of memory
 /// is a refusal of this call, and then nothing is answered. The lines of an order take memory, and so may the answer,
-/// after the commit.
+/// after the commit. Gives the refusal that was answered, if one was.
 pub fn answer_line<K: Run, R: Wait>(
     rt: &R,
     alloc: Global,
@@ -31,7 +31,7 @@ pub fn answer_line<K: Run, R: Wait>(
     line: Option<&[u8]>,
     number: u32,
     output: &mut String,
-) -> Result<(), Refusal>
+) -> Result<Option<Refusal>, Refusal>
     ensures memory { IfErr result (λ refusal. refusal ≡ OutOfMemory) }
     ensures turn { OnOk result ((answer : AnswerValue)
         × IsPrinted (string_bytes output.old) answer (string_bytes output.new)
@@ -56,7 +56,7 @@ fn answer_request<K: Run, R: Wait>(
     request: Request,
     number: u32,
     output: &mut String,
-) -> Result<(), Refusal>
+) -> Result<Option<Refusal>, Refusal>
     ensures memory { IfErr result (λ refusal. refusal ≡ OutOfMemory) }
     ensures turn { OnOk result ((answer : AnswerValue)
         × IsPrinted (string_bytes output.old) answer (string_bytes output.new)
@@ -68,10 +68,19 @@ fn answer_request<K: Run, R: Wait>(
         Ok(Request::Transaction(input)) => commit(rt, session, &input, number, output),
         Ok(Request::Show(key)) => {
             let row = show(alloc, session, key)?;
-            Answer::Row(row).print(output)
+            tell_row(row, output)
         }
         Err(refusal) => refuse(refusal, number, output),
     }
+}
+
+/// Tells a row.
+fn tell_row(row: ShownRow, output: &mut String) -> Result<Option<Refusal>, Refusal>
+    ensures told { OnOk result (IsPrinted (string_bytes output.old) (answer.Row row) (string_bytes output.new)) }
+    ensures memory { IfErr result (λ refusal. refusal ≡ OutOfMemory) }
+{
+    Answer::Row(row).print(output)?;
+    Ok(None)
 }
 
 /// Commits an input and tells the reply, or refuses the line.
@@ -81,7 +90,7 @@ fn commit<K: Run, R: Wait>(
     input: &Input,
     number: u32,
     output: &mut String,
-) -> Result<(), Refusal>
+) -> Result<Option<Refusal>, Refusal>
     requires { IsInput K.first.scale input.now }
     ensures memory { IfErr result (λ refusal. refusal ≡ OutOfMemory) }
     ensures turn { OnOk result ((answer : AnswerValue)
@@ -96,17 +105,18 @@ fn commit<K: Run, R: Wait>(
 }
 
 /// Tells the reply to the last of what was committed.
-fn tell_last(dones: &[Done], output: &mut String) -> Result<(), Refusal>
+fn tell_last(dones: &[Done], output: &mut String) -> Result<Option<Refusal>, Refusal>
     requires { 0 < length dones.now }
     ensures last { (before : List DoneValue) (done : DoneValue) → dones.now ≡ before ++ done ∷ []
         → OnOk result (IsPrinted (string_bytes output.old) (answer.Reply done.reply) (string_bytes output.new)) }
     ensures memory { IfErr result (λ refusal. refusal ≡ OutOfMemory) }
 {
-    print_reply(dones[dones.len() - 1].reply(), output)
+    print_reply(dones[dones.len() - 1].reply(), output)?;
+    Ok(None)
 }
 
 /// Answers a line whose request or input was refused. Want of memory isn't answered.
-fn decline(refusal: Refusal, number: u32, output: &mut String) -> Result<(), Refusal>
+fn decline(refusal: Refusal, number: u32, output: &mut String) -> Result<Option<Refusal>, Refusal>
     ensures told { OnOk result ((refusal ≢ OutOfMemory)
         × IsPrinted (string_bytes output.old) (answer.Refused refusal number) (string_bytes output.new)) }
     ensures memory { IfErr result (λ error. error ≡ OutOfMemory) }
@@ -118,11 +128,12 @@ fn decline(refusal: Refusal, number: u32, output: &mut String) -> Result<(), Ref
 }
 
 /// Answers a line that is refused.
-fn refuse(refusal: Refusal, number: u32, output: &mut String) -> Result<(), Refusal>
+fn refuse(refusal: Refusal, number: u32, output: &mut String) -> Result<Option<Refusal>, Refusal>
     ensures told { OnOk result
         (IsPrinted (string_bytes output.old) (answer.Refused refusal number) (string_bytes output.new)) }
     ensures memory { IfErr result (λ error. error ≡ OutOfMemory) }
 {
     let line = u64::from(number);
-    Answer::Refused { refusal, line }.print(output)
+    Answer::Refused { refusal, line }.print(output)?;
+    Ok(Some(refusal))
 }

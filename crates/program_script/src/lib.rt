@@ -2,9 +2,11 @@
 #![tactic(auto)]
 
 mod answering;
+mod hints;
 mod running;
 mod showing;
 mod turns;
 
-pub use running::{MAX_LINES, script};
+pub use hints::{Hints, NoHints};
+pub use running::{MAX_LINES, explained_script, script};
 pub use turns::{bytes_determine_text, lines_determine_turns};

@@ -8,11 +8,13 @@ ghost use Rattle.population.specs.Initial.{initial};
 ghost use Rattle.program_script_text.specs.Lines.{buffered};
 ghost use Rattle.program_script_text.specs.Output.{answer_text};
 ghost use Rattle.book.specs.Parts.{IsOpenedAs, first_of, past_of, population_of, terminals_of};
+ghost use Rattle.program_script.specs.Hints.{TellsMore};
 ghost use Rattle.program_script.specs.Turns.{Turn, IsLineTurn};
 ghost use Rattle.program_script.specs.Written.{HasTooManyLines, IsWhole, IsBeginning};
 ghost use Rattle.program_script.specs.Answered.{state_of, standing_of, HasAnswered, HasAnsweredAll, HasTooMany};
 
 use crate::answering::answer_line;
+use crate::hints::{Hints, NoHints};
 use book::{Done, Engine, Parts, Run, Seat};
 use book_session::Session;
 use conditions::Report;
@@ -69,17 +71,44 @@ pub fn script<R: Read, W: Write, T: Wait>(
     ensures refusals { IfErr result (λ refusal. (refusal ≡ OutOfMemory) ⊎ (refusal ≡ BadInput)
         ⊎ (refusal ≡ Device)) }
 {
+    explained_script(rt, alloc, population, reader, writer, &mut NoHints)
+}
+
+/// As `script`, and tells `hints` of each line that is refused, once it is answered and before the answer is written.
+pub fn explained_script<R: Read, W: Write, T: Wait, H: Hints>(
+    rt: &T,
+    alloc: Global,
+    population: Population,
+    reader: &mut R,
+    writer: &mut W,
+    hints: &mut H,
+) -> Result<(Report, Vec<Done>), Refusal>
+    ensures whole { IfOk result (λ closed. (bytes : List ℕ) → R.remaining reader.old ≡ Some bytes
+        → (text : List ℕ)
+        × Appends (W.contents writer.old) (W.contents writer.new) text
+        × IsWhole (initial population) bytes text closed.0 closed.1.items) }
+    ensures beginning { OnErr result ((bytes : List ℕ) → R.remaining reader.old ≡ Some bytes
+        → (front : List ℕ)
+        × Appends (W.contents writer.old) (W.contents writer.new) front
+        × IsBeginning (initial population) bytes front) }
+    ensures too_many { IsErrOf result BadInput → (bytes : List ℕ)
+        → R.remaining reader.old ≡ Some bytes → HasTooManyLines bytes }
+    ensures refusals { IfErr result (λ refusal. (refusal ≡ OutOfMemory) ⊎ (refusal ≡ BadInput)
+        ⊎ (refusal ≡ Device)) }
+    ensures told { TellsMore (H.told hints.old) (H.told hints.new) }
+{
     let parts = Parts::new(rt, alloc, population, 1, 1)?;
-    run::<Brand, R, W, T>(rt, alloc, parts, reader, writer)
+    run::<Brand, R, W, T, H>(rt, alloc, parts, reader, writer, hints)
 }
 
 /// Answers the lines, over the one terminal of an engine of these parts, and then reports.
-fn run<K: Run, R: Read, W: Write, T: Wait>(
+fn run<K: Run, R: Read, W: Write, T: Wait, H: Hints>(
     rt: &T,
     alloc: Global,
     parts: Parts,
     reader: &mut R,
     writer: &mut W,
+    hints: &mut H,
 ) -> Result<(Report, Vec<Done>), Refusal>
     requires run { IsOpenedAs parts K.population K.first K.past K.cells K.board K.seed K.name K.parts }
     requires one { terminals_of parts ≡ 1 }
@@ -96,13 +125,14 @@ fn run<K: Run, R: Read, W: Write, T: Wait>(
         → R.remaining reader.old ≡ Some bytes → HasTooManyLines bytes }
     ensures refusals { IfErr result (λ refusal. (refusal ≡ OutOfMemory) ⊎ (refusal ≡ BadInput)
         ⊎ (refusal ≡ Device)) }
+    ensures told { TellsMore (H.told hints.old) (H.told hints.new) }
 {
     let (engine, mut seats) = Engine::<K>::open(parts);
     let Some(seat) = seats.terminals.next() else {
         unreachable!();
     };
     let desk = Desk::new(rt, alloc, &engine, seat)?;
-    desk.run(rt, alloc, reader, writer)
+    desk.run(rt, alloc, reader, writer, hints)
 }
 
 /// A session with the line that is coming in and the answers that aren't written yet.
@@ -140,12 +170,13 @@ impl<'e, K: Run> Desk<'e, K> {
     }
 
     /// Answers all lines that a reader gives, and writes the report behind the last answer.
-    fn run<R: Read, W: Write, T: Wait>(
+    fn run<R: Read, W: Write, T: Wait, H: Hints>(
         self,
         rt: &T,
         alloc: Global,
         reader: &mut R,
         writer: &mut W,
+        hints: &mut H,
     ) -> Result<(Report, Vec<Done>), Refusal>
         requires start { HasAnswered K.first [] [] (standing_of self) }
         ensures whole { IfOk result (λ closed. (bytes : List ℕ)
@@ -160,21 +191,23 @@ impl<'e, K: Run> Desk<'e, K> {
             → R.remaining reader.old ≡ Some bytes → HasTooManyLines bytes }
         ensures refusals { IfErr result (λ refusal. (refusal ≡ OutOfMemory) ⊎ (refusal ≡ BadInput)
             ⊎ (refusal ≡ Device)) }
+        ensures told { TellsMore (H.told hints.old) (H.told hints.new) }
     {
         let mut desk = self;
         let mut piece = vec![in alloc; 0u8; PIECE]?;
-        desk.answer_all(rt, &mut piece, reader, writer)?;
+        desk.answer_all(rt, &mut piece, reader, writer, hints)?;
         desk.close(writer)
     }
 
     /// Answers all lines that a reader gives, which come through `piece`. The answers to the last ones aren't
     /// written yet.
-    fn answer_all<R: Read, W: Write, T: Wait>(
+    fn answer_all<R: Read, W: Write, T: Wait, H: Hints>(
         &mut self,
         rt: &T,
         piece: &mut [u8],
         reader: &mut R,
         writer: &mut W,
+        hints: &mut H,
     ) -> Result<(), Refusal>
         requires { 0 < length piece.old }
         ensures all { OnOk result ((bytes : List ℕ) → R.remaining reader.old ≡ Some bytes
@@ -190,21 +223,27 @@ impl<'e, K: Run> Desk<'e, K> {
             → HasAnswered K.first [] [] (standing_of self.old) → HasTooManyLines bytes }
         ensures refusals { IfErr result (λ refusal. (refusal ≡ OutOfMemory) ⊎ (refusal ≡ BadInput)
             ⊎ (refusal ≡ Device)) }
+        ensures told { TellsMore (H.told hints.old) (H.told hints.new) }
     {
         for _ in 0..u64::MAX {
             self.write(writer)?;
             let count = read_piece(reader, piece)?;
             if count == 0 {
-                self.answer_last(rt)?;
+                self.answer_last(rt, hints)?;
                 return Ok(());
             }
-            self.answer_lines(rt, &piece[..count])?;
+            self.answer_lines(rt, &piece[..count], hints)?;
         }
         Err(Refusal::Device)
     }
 
     /// Answers the lines that a piece of the input ends.
-    fn answer_lines<T: Wait>(&mut self, rt: &T, piece: &[u8]) -> Result<(), Refusal>
+    fn answer_lines<T: Wait, H: Hints>(
+        &mut self,
+        rt: &T,
+        piece: &[u8],
+        hints: &mut H,
+    ) -> Result<(), Refusal>
         ensures ok { OnOk result ((text written : List ℕ)
             → HasAnswered K.first text written (standing_of self.old)
             → HasAnswered K.first (text ++ piece.now) written (standing_of self.new)) }
@@ -213,17 +252,18 @@ impl<'e, K: Run> Desk<'e, K> {
             → HasTooMany (text ++ piece.now) }
         ensures refusals { IfErr result (λ refusal. (refusal ≡ OutOfMemory)
             ⊎ (refusal ≡ BadInput)) }
+        ensures told { TellsMore (H.told hints.old) (H.told hints.new) }
     {
         let mut rest = piece;
         while let Some(after) = self.line.take_line(rest) {
             rest = after;
-            self.answer_held(rt)?;
+            self.answer_held(rt, hints)?;
         }
         Ok(())
     }
 
     /// Answers a last line that no line feed ends.
-    fn answer_last<T: Wait>(&mut self, rt: &T) -> Result<(), Refusal>
+    fn answer_last<T: Wait, H: Hints>(&mut self, rt: &T, hints: &mut H) -> Result<(), Refusal>
         ensures ok { OnOk result ((text written : List ℕ)
             → HasAnswered K.first text written (standing_of self.old)
             → HasAnsweredAll K.first text written (standing_of self.new)) }
@@ -231,16 +271,17 @@ impl<'e, K: Run> Desk<'e, K> {
             → HasAnswered K.first text written (standing_of self.old) → HasTooManyLines text }
         ensures refusals { IfErr result (λ refusal. (refusal ≡ OutOfMemory)
             ⊎ (refusal ≡ BadInput)) }
+        ensures told { TellsMore (H.told hints.old) (H.told hints.new) }
     {
         if self.line.is_empty() {
             return Ok(());
         }
-        self.answer_held(rt)?;
+        self.answer_held(rt, hints)?;
         Ok(())
     }
 
     /// Answers the line that is held.
-    fn answer_held<T: Wait>(&mut self, rt: &T) -> Result<(), Refusal>
+    fn answer_held<T: Wait, H: Hints>(&mut self, rt: &T, hints: &mut H) -> Result<(), Refusal>
         ensures turn { OnOk result ((bytes : List ℕ) → self.old.line ≡ buffered bytes → (turn : Turn)
             × IsLineTurn (state_of K.first self.old.session) (self.old.answered + 1) bytes turn
             × (state_of K.first self.new.session ≡ turn.state)
@@ -250,6 +291,7 @@ impl<'e, K: Run> Desk<'e, K> {
         ensures line { OnOk result (self.new.line ≡ Some []) }
         ensures refusals { IfErr result (λ refusal. (refusal ≡ OutOfMemory)
             ⊎ ((refusal ≡ BadInput) × (MAX_LINES ≤ self.old.answered))) }
+        ensures told { TellsMore (H.told hints.old) (H.told hints.new) }
     {
         if self.answered >= MAX_LINES {
             return Err(Refusal::BadInput);
@@ -257,7 +299,8 @@ impl<'e, K: Run> Desk<'e, K> {
         self.answered += 1;
         let (alloc, line) = (self.alloc, self.line.line());
         let (session, output) = (&mut self.session, &mut self.output);
-        answer_line(rt, alloc, session, line, self.answered, output)?;
+        let refused = answer_line(rt, alloc, session, line, self.answered, output)?;
+        tell(hints, line, self.answered, refused);
         self.line.clear();
         Ok(())
     }
@@ -304,5 +347,14 @@ impl<'e, K: Run> Desk<'e, K> {
         print_report(dones.len() as u64, &report, &mut output)?;
         write_text(writer, output.as_bytes())?;
         Ok((report, dones))
+    }
+}
+
+/// Tells of a line, if it was refused.
+fn tell<H: Hints>(hints: &mut H, line: Option<&[u8]>, number: u32, refused: Option<Refusal>)
+    ensures { TellsMore (H.told hints.old) (H.told hints.new) }
+{
+    if let Some(refusal) = refused {
+        hints.refused(line, number, refusal);
     }
 }

@@ -68,6 +68,15 @@ impl<S: Write> ScreenLine<S> {
         self.width = Some(width.max(text.len()));
     }
 
+    /// Writes a line that stays over what stands there, if anything does, and goes on to the next line.
+    pub fn tell(&mut self, text: &str) {
+        let width = self.width.unwrap_or(0);
+        if let Ok(line) = staying(self.alloc, text, width) {
+            let _ = write_text(&mut self.writer, line.as_bytes());
+            self.width = None;
+        }
+    }
+
     /// Leaves what stands there, if anything does, and goes on to the next line.
     pub fn leave(&mut self) {
         if self.is_shown() {
@@ -94,6 +103,13 @@ fn over(alloc: Global, text: &str, width: usize) -> Result<String, AllocError> {
     for _ in text.len()..width {
         line.push(' ')?;
     }
+    Ok(line)
+}
+
+/// The same, with a line feed.
+fn staying(alloc: Global, text: &str, width: usize) -> Result<String, AllocError> {
+    let mut line = over(alloc, text, width)?;
+    line.push('\n')?;
     Ok(line)
 }
 

@@ -13,7 +13,7 @@ ghost use Rattle.recover_found.specs.Found.{bodies_in};
 use crate::file_set::FileSet;
 use log_disk::Disk;
 use log_header::{Header, VERSION};
-use log_scan::scan;
+use log_scan::scan_noted;
 use log_text::Body;
 use money::Refusal;
 use population::Population;
@@ -21,7 +21,7 @@ use recover_progress::Progress;
 use std::alloc::Global;
 
 /// The bodies of the log files of some loggers of a population's database, which has so many: of those from the first
-/// of these disks' on, in their order. All are of one version. Each is noted once it was read.
+/// of these disks' on, in their order. All are of one version. Each is noted as it is read.
 ///
 /// # Errors
 ///
@@ -43,9 +43,15 @@ pub(crate) fn read_some<D: Disk>(
 {
     let mut files = FileSet::new(alloc);
     for n in 0..disks.len() {
-        let (version, bodies) = read_one(alloc, population, first + n, loggers, &mut disks[n])?;
+        let (version, bodies) = read_one(
+            alloc,
+            population,
+            first + n,
+            loggers,
+            &mut disks[n],
+            progress,
+        )?;
         files.push(version, bodies)?;
-        progress.note_file(first + n);
     }
     Ok(files)
 }
@@ -58,6 +64,7 @@ fn read_one<D: Disk>(
     logger: usize,
     loggers: usize,
     disk: &mut D,
+    progress: &Progress,
 ) -> Result<(u32, Vec<Body>), Refusal>
     ensures found { IfOk result (λ x. (file : List ℕ) × (length file < 2 ^ 64)
         × (D.is_modelled → file ≡ D.seen disk.old)
@@ -71,7 +78,7 @@ fn read_one<D: Disk>(
     ensures others { IfErr result (λ refusal. (refusal ≢ OutOfMemory) → (refusal ≢ Device) → refusal ≡ Damaged) }
     ensures reads { OnlyReads D.is_modelled D.seen D.story disk.old disk.new }
 {
-    let (header, bodies) = scan(alloc, disk)?;
+    let (header, bodies) = scan_noted(alloc, disk, progress)?;
     if !is_of_some_version(&header, population, logger, loggers) {
         return Err(Refusal::Damaged);
     }

@@ -15,12 +15,13 @@ use logfile::LogFile;
 use money::Refusal;
 use population::Population;
 use recover_files::is_of;
+use recover_progress::Progress;
 use std::alloc::Global;
 
 /// The log files of a population's database, opened again for appending (`LogFile::open_with_bodies`), and the bodies
 /// that stand in them: disk `l` has the file of logger `l`, of as many loggers as disks. All disks are synced before
 /// any is read, so what was read of some can't be older, after a crash, than what was read of others (Silo, section
-/// 4.10). Writes nothing. Costs two syncs of each disk, and a pass over the files.
+/// 4.10). Writes nothing. What is read is noted as it is read. Costs two syncs of each disk, and a pass over the files.
 ///
 /// # Errors
 ///
@@ -33,6 +34,7 @@ pub fn open_all<D: Disk + Drop>(
     alloc: Global,
     population: &Population,
     disks: Vec<D>,
+    progress: &Progress,
 ) -> Result<(Vec<LogFile<D>>, Vec<Vec<Body>>), Refusal>
     ensures opened { D.is_modelled → IfOk result (λ x. AreOpened (initial population.now).scale
         (seed_of population.now)
@@ -52,7 +54,7 @@ pub fn open_all<D: Disk + Drop>(
 {
     let mut synced = disks;
     sync_all(&mut synced)?;
-    open_synced(alloc, population, synced)
+    open_synced(alloc, population, synced, progress)
 }
 
 /// Syncs disks, in their order.
@@ -79,6 +81,7 @@ fn open_synced<D: Disk + Drop>(
     alloc: Global,
     population: &Population,
     disks: Vec<D>,
+    progress: &Progress,
 ) -> Result<(Vec<LogFile<D>>, Vec<Vec<Body>>), Refusal>
     ensures opened { IfOk result (λ x. AreReopened D.is_modelled D.seen D.story D.failed (initial population.now).scale
         (seed_of population.now) (length disks.items) disks.items x.0.items
@@ -92,7 +95,7 @@ fn open_synced<D: Disk + Drop>(
     let mut files = Vec::new(alloc);
     let mut all = Vec::new(alloc);
     for disk in disks {
-        let (file, bodies) = open_one(alloc, population, files.len(), loggers, disk)?;
+        let (file, bodies) = open_one(alloc, population, files.len(), loggers, disk, progress)?;
         files.push(file)?;
         all.push(bodies)?;
     }
@@ -106,6 +109,7 @@ fn open_one<D: Disk + Drop>(
     logger: usize,
     loggers: usize,
     disk: D,
+    progress: &Progress,
 ) -> Result<(LogFile<D>, Vec<Body>), Refusal>
     ensures opened { IfOk result (λ x. (bytes : List ℕ) × IsReopened D.is_modelled D.seen D.story D.failed
         (header_view logger loggers (initial population.now).scale (seed_of population.now)) disk bytes x.0
@@ -115,7 +119,7 @@ fn open_one<D: Disk + Drop>(
     ensures others { IfErr result (λ refusal. (refusal ≢ OutOfMemory) → (refusal ≢ Device)
         → refusal ≡ Damaged) }
 {
-    let (file, bodies) = LogFile::open_with_bodies(alloc, disk)?;
+    let (file, bodies) = LogFile::open_with_bodies(alloc, disk, progress)?;
     if !is_of(&file.header(), population, logger, loggers) {
         return Err(Refusal::Damaged);
     }

@@ -10,6 +10,7 @@ pub struct Progress {
     /// How many bytes each file has that is to be read, in the order of the loggers.
     sizes: Vec<u64>,
     read: AtomicU64,
+    left: AtomicU64,
     entries: AtomicU64,
 }
 
@@ -22,13 +23,13 @@ impl Progress {
         Progress {
             sizes,
             read: AtomicU64::new(0),
+            left: AtomicU64::new(0),
             entries: AtomicU64::new(0),
         }
     }
 
-    /// How many bytes there are to read in all: the sum of the sizes, and 2^64 - 1 where that is more. One pass over
-    /// them.
-    pub fn to_read(&self) -> u64
+    /// How many bytes the files have in all: the sum of the sizes, and 2^64 - 1 where that is more. One pass over them.
+    pub fn in_all(&self) -> u64
         ensures { sum_by (λ size. size) self.now.sizes.items < 2 ^ 64
             → result ≡ sum_by (λ size. size) self.now.sizes.items }
     {
@@ -39,9 +40,21 @@ impl Progress {
         all
     }
 
-    /// How many bytes the files have that were read.
+    /// How many bytes were read.
     pub fn read(&self) -> u64 {
         self.read.load(Ordering::SeqCst)
+    }
+
+    /// How many bytes are left aside, since they stand behind the text of their file.
+    pub fn left(&self) -> u64 {
+        self.left.load(Ordering::SeqCst)
+    }
+
+    /// How many bytes there are to read: those that the files have, but for what is left aside; never fewer than were
+    /// read, also where a file's size isn't known.
+    pub fn to_read(&self) -> u64 {
+        let read = self.read();
+        self.in_all().saturating_sub(self.left()).max(read)
     }
 
     /// How many entries were looked at.
@@ -49,11 +62,14 @@ impl Progress {
         self.entries.load(Ordering::SeqCst)
     }
 
-    /// The file of this logger was read. A logger of whose file no size is known changes nothing.
-    pub fn note_file(&self, logger: usize) {
-        if let Some(&size) = self.sizes.get(logger) {
-            self.read.fetch_add(size, Ordering::SeqCst);
-        }
+    /// So many more bytes were read.
+    pub fn note_bytes(&self, bytes: usize) {
+        self.read.fetch_add(bytes as u64, Ordering::SeqCst);
+    }
+
+    /// So many more bytes are left aside.
+    pub fn note_left(&self, bytes: usize) {
+        self.left.fetch_add(bytes as u64, Ordering::SeqCst);
     }
 
     /// So many more entries were looked at.

@@ -97,8 +97,7 @@ pub fn restart<R: Wait, D: Disk + Drop>(
         → (refusal ≢ EpochFull) → refusal ≡ Damaged) }
 {
     let loggers = disks.len() as u16;
-    let (mut files, bodies) = open_all(alloc, &population, disks)?;
-    note_files(progress, loggers);
+    let (mut files, bodies) = open_all(alloc, &population, disks, progress)?;
     let ahead = behind_files(rt, alloc, population, bodies, loggers, terminals, progress)?;
     match declare_lost(&mut files, ahead.durable, ahead.top) {
         Ok(()) => Ok(Restarted {
@@ -108,13 +107,6 @@ pub fn restart<R: Wait, D: Disk + Drop>(
             epoch: ahead.top + 1,
         }),
         Err(refusal) => Err(refusal),
-    }
-}
-
-/// So many files were read.
-fn note_files(progress: &Progress, files: u16) {
-    for logger in 0..files {
-        progress.note_file(usize::from(logger));
     }
 }
 

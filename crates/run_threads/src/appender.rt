@@ -32,7 +32,7 @@ impl<K: Run, D: Disk> Model for Appender<K, D> {
 }
 
 impl<K: Run, D: Disk> Appender<K, D> {
-    ghost use Rattle.std.specs.Prelude.{◌≡◌, ◌↔◌, false, None, IsTrue};
+    ghost use Rattle.std.specs.Prelude.{◌≡◌, ◌↔◌, false, None, IsSome, IsTrue};
     ghost use Rattle.run_threads.specs.Appending.{ComesOf, IsAppenderIdle, Retries, Turns};
 
     /// A logger that has taken nothing yet.
@@ -102,12 +102,21 @@ impl<K: Run, D: Disk> Appender<K, D> {
         }
     }
 
-    /// The logger, and whether it has stopped.
+    /// Whether a batch waits, for which there was no memory.
+    pub(crate) fn waits(&self) -> bool
+        ensures { IsTrue result ↔ IsSome self.now.waiting }
+    {
+        self.waiting.is_some()
+    }
+
+    /// The logger, whether it has stopped, and whether a batch waits.
     pub(crate) fn end(self) -> Written<D>
         requires { self.has_stopped ≡ false → self.logger.file.failed ≡ false }
         ensures logger { result.logger ≡ self.logger }
         ensures has_stopped { result.has_stopped ≡ self.has_stopped }
+        ensures lacks_memory { IsTrue result.lacks_memory ↔ IsSome self.waiting }
     {
+        let lacks_memory = self.waits();
         let Appender {
             logger,
             number: _,
@@ -118,6 +127,7 @@ impl<K: Run, D: Disk> Appender<K, D> {
         Written {
             logger,
             has_stopped,
+            lacks_memory,
         }
     }
 }

@@ -25,5 +25,7 @@ pub struct Written<D: Disk> {
     pub logger: Logger<D>,
     /// Whether it stopped before the end: its device has failed.
     pub has_stopped: bool,
+    /// Whether it had no memory for its last batch, which isn't in its file.
+    pub lacks_memory: bool,
     pub ghost told: { has_stopped ≡ false → logger.file.failed ≡ false },
 }

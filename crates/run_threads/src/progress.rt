@@ -93,6 +93,11 @@ impl Progress {
         }
     }
 
+    /// So many replies were released in all.
+    pub(crate) fn note_acknowledged(&self, acknowledged: u64) {
+        self.acknowledged.fetch_max(acknowledged, Ordering::SeqCst);
+    }
+
     /// The clock has advanced E, which all that wait for it hear.
     pub(crate) fn note_epoch(&self, epoch: u64) {
         self.epoch.store(epoch, Ordering::SeqCst);

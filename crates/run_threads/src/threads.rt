@@ -14,7 +14,7 @@ use crate::progress::Progress;
 use crate::sums::gathered;
 use crate::tally::Tally;
 use crate::worker::{Station, Worker};
-use crate::writer::Writer;
+use crate::writer::{Turned, Writer};
 use board::ClockSeat;
 use book::{Closed, Engine, Run, Share, TerminalSeats};
 use log_disk::Disk;
@@ -84,6 +84,7 @@ pub fn run<
 struct Room<K: Run, D: Disk, P: Pace> {
     tallies: Vec<Tally>,
     shares: Vec<Share<K>>,
+    turned: Vec<Turned<K, D, P>>,
     files: Vec<Written<D>>,
     paces: Vec<P>,
 }
@@ -92,15 +93,17 @@ impl<K: Run, D: Disk + Drop, P: Pace + Drop> Room<K, D, P> {
     /// For so many terminals and loggers.
     fn new(alloc: Global, terminals: usize, loggers: usize) -> Result<Room<K, D, P>, AllocError>
         ensures empty { IfOk result (λ room. (room.tallies.items ≡ []) × (room.shares.items ≡ [])
-            × (room.files.items ≡ []) × (room.paces.items ≡ [])) }
+            × (room.turned.items ≡ []) × (room.files.items ≡ []) × (room.paces.items ≡ [])) }
         ensures tallies { IfOk result (λ room. terminals ≤ vec_capacity room.tallies) }
         ensures shares { IfOk result (λ room. terminals ≤ vec_capacity room.shares) }
+        ensures turned { IfOk result (λ room. loggers ≤ vec_capacity room.turned) }
         ensures files { IfOk result (λ room. loggers ≤ vec_capacity room.files) }
         ensures paces { IfOk result (λ room. loggers ≤ vec_capacity room.paces) }
     {
         Ok(Room {
             tallies: Vec::with_capacity(alloc, terminals)?,
             shares: Vec::with_capacity(alloc, terminals)?,
+            turned: Vec::with_capacity(alloc, loggers)?,
             files: Vec::with_capacity(alloc, loggers)?,
             paces: Vec::with_capacity(alloc, loggers)?,
         })
@@ -129,9 +132,10 @@ fn crew_of<K: Run, G: Gate + Drop, D: Disk + Drop, P: Pace + Drop>(
     ensures count { IfOk result (λ crew. length crew.workers.items ≡ K.parts) }
     ensures idle { IfOk result (λ crew. All (λ worker. inputs_in worker.tally ≡ 0) crew.workers.items) }
     ensures empty { IfOk result (λ crew. (crew.room.tallies.items ≡ []) × (crew.room.shares.items ≡ [])
-        × (crew.room.files.items ≡ []) × (crew.room.paces.items ≡ [])) }
+        × (crew.room.turned.items ≡ []) × (crew.room.files.items ≡ []) × (crew.room.paces.items ≡ [])) }
     ensures tallies { IfOk result (λ crew. length crew.workers.items ≤ vec_capacity crew.room.tallies) }
     ensures shares { IfOk result (λ crew. length crew.workers.items ≤ vec_capacity crew.room.shares) }
+    ensures turned { IfOk result (λ crew. length crew.writers.items ≤ vec_capacity crew.room.turned) }
     ensures files { IfOk result (λ crew. length crew.writers.items ≤ vec_capacity crew.room.files) }
     ensures paces { IfOk result (λ crew. length crew.writers.items ≤ vec_capacity crew.room.paces) }
     ensures only_memory { IfErr result (λ refusal. refusal ≡ OutOfMemory) }
@@ -158,10 +162,11 @@ fn run_crew<
     requires count { length crew.workers.items ≡ K.parts }
     requires few { K.parts < 2 ^ 16 }
     requires idle { All (λ worker. inputs_in worker.tally ≡ 0) crew.workers.items }
-    requires empty { (crew.room.tallies.items ≡ []) × (crew.room.shares.items ≡ []) × (crew.room.files.items ≡ [])
-        × (crew.room.paces.items ≡ []) }
+    requires empty { (crew.room.tallies.items ≡ []) × (crew.room.shares.items ≡ []) × (crew.room.turned.items ≡ [])
+        × (crew.room.files.items ≡ []) × (crew.room.paces.items ≡ []) }
     requires tallies { length crew.workers.items ≤ vec_capacity crew.room.tallies }
     requires shares { length crew.workers.items ≤ vec_capacity crew.room.shares }
+    requires turned { length crew.writers.items ≤ vec_capacity crew.room.turned }
     requires files { length crew.writers.items ≤ vec_capacity crew.room.files }
     requires paces { length crew.writers.items ≤ vec_capacity crew.room.paces }
     ensures history { IsMadeBy K.parts K.past K.first result.closed }
@@ -317,10 +322,11 @@ fn settled<K: Run, G: Gate + Drop, D: Disk + Drop, P: Pace + Drop, R: Wait>(
 ) -> Outcome<K, D>
     requires count { length workers.items ≡ K.parts }
     requires few { K.parts < 2 ^ 16 }
-    requires empty { (room.tallies.items ≡ []) × (room.shares.items ≡ []) × (room.files.items ≡ [])
-        × (room.paces.items ≡ []) }
+    requires empty { (room.tallies.items ≡ []) × (room.shares.items ≡ []) × (room.turned.items ≡ [])
+        × (room.files.items ≡ []) × (room.paces.items ≡ []) }
     requires tallies { length workers.items ≤ vec_capacity room.tallies }
     requires shares { length workers.items ≤ vec_capacity room.shares }
+    requires turned { length writers.items ≤ vec_capacity room.turned }
     requires files { length writers.items ≤ vec_capacity room.files }
     requires paces { length writers.items ≤ vec_capacity room.paces }
     ensures history { IsMadeBy K.parts K.past K.first result.closed }
@@ -331,11 +337,14 @@ fn settled<K: Run, G: Gate + Drop, D: Disk + Drop, P: Pace + Drop, R: Wait>(
     let Room {
         mut tallies,
         mut shares,
+        mut turned,
         mut files,
         mut paces,
     } = room;
-    last_turns(rt, &engine, writers, &mut files, &mut paces, progress);
+    last_turns(rt, &engine, writers, &mut turned, progress);
+    end_turns(rt, &engine, turned, &mut files, &mut paces, progress);
     let acknowledged = gathered(&engine, workers, &mut tallies, &mut shares);
+    progress.note_acknowledged(acknowledged);
     end_paces(paces, progress);
     let counts = Counts::of(&tallies, progress.durable(), acknowledged);
     let closed = closed_of(engine, shares);
@@ -372,20 +381,38 @@ fn end_pace<P: Pace + Drop>(pace: P, progress: &Progress) {
     pace.end(progress);
 }
 
-/// Each logger takes its last turn, the first first, and gives its file and its pace, for which there is room.
+/// Each logger takes its last turn, the first first; there is room for what they are then.
 fn last_turns<K: Run, D: Disk + Drop, P: Pace + Drop, R: Wait>(
     rt: &R,
     engine: &Engine<K>,
     writers: Vec<Writer<K, D, P>>,
+    turned: &mut Vec<Turned<K, D, P>>,
+    progress: &Progress,
+)
+    requires room { length turned.old.items + length writers.items ≤ vec_capacity turned.old }
+    ensures count { length turned.new.items ≡ length turned.old.items + length writers.items }
+{
+    for writer in writers {
+        turned.push_reserved(writer.last_turn(rt, engine, progress));
+    }
+}
+
+/// Each logger ends, the first first, and gives its file and its pace, for which there is room.
+fn end_turns<K: Run, D: Disk + Drop, P: Pace + Drop, R: Wait>(
+    rt: &R,
+    engine: &Engine<K>,
+    turned: Vec<Turned<K, D, P>>,
     files: &mut Vec<Written<D>>,
     paces: &mut Vec<P>,
     progress: &Progress,
 )
-    requires files { length files.old.items + length writers.items ≤ vec_capacity files.old }
-    requires paces { length paces.old.items + length writers.items ≤ vec_capacity paces.old }
+    requires files { length files.old.items + length turned.items ≤ vec_capacity files.old }
+    requires paces { length paces.old.items + length turned.items ≤ vec_capacity paces.old }
 {
-    for writer in writers {
-        let (file, pace) = writer.last_turn(rt, engine, progress);
+    for logger in turned {
+        let mut logger = logger;
+        logger.retry(rt, engine, progress);
+        let (file, pace) = logger.end();
         files.push_reserved(file);
         paces.push_reserved(pace);
     }

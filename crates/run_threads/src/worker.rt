@@ -25,6 +25,8 @@ pub(crate) struct Worker<K: Run, G: Gate> {
     pub(crate) terminal: Terminal<K>,
     pub(crate) gate: G,
     pub(crate) tally: Tally,
+    /// How many of its replies were released and forgotten.
+    forgotten: u64,
     ghost one_part: { terminal.share.parts ≡ 1 },
     ghost counted: { terminal.share.commits ≡ tally.commits },
 }
@@ -59,10 +61,11 @@ impl<K: Run, G: Gate + Drop> Worker<K, G> {
             terminal: Terminal::new(reader, share, outbox, deck),
             gate,
             tally: Tally::default(),
+            forgotten: 0,
         })
     }
 
-    /// Does so many inputs.
+    /// Does so many inputs, and gives back the memory of the replies that were released by then.
     pub(crate) fn work<R: Wait>(
         &mut self,
         rt: &R,
@@ -78,8 +81,10 @@ impl<K: Run, G: Gate + Drop> Worker<K, G> {
             terminal,
             gate,
             tally,
+            forgotten,
         } = self;
         *tally = tally_of(rt, alloc, engine, terminal, gate, inputs, progress);
+        *forgotten = forgotten.saturating_add(terminal.forget_released());
     }
 
     /// Ends the terminal, which acknowledges what is durable: what came of its inputs, how many of its replies were
@@ -93,9 +98,10 @@ impl<K: Run, G: Gate + Drop> Worker<K, G> {
             mut terminal,
             mut gate,
             tally,
+            forgotten,
         } = self;
         acknowledge(engine, &mut terminal, &mut gate);
-        let released = terminal.released().len() as u64;
+        let released = forgotten.saturating_add(terminal.released().len() as u64);
         let (share, _) = terminal.end();
         (tally, released, share)
     }

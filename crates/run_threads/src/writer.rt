@@ -1,5 +1,5 @@
 //! A logger at work.
-ghost use Rattle.std.specs.Prelude.{◌≡◌, IfSome};
+ghost use Rattle.std.specs.Prelude.{◌≡◌, false, IfSome};
 ghost use Rattle.std.specs.Option.{ForSome};
 
 use crate::appender::Appender;
@@ -70,14 +70,13 @@ impl<K: Run, D: Disk, P: Pace + Drop> Writer<K, D, P> {
         }
     }
 
-    /// Takes the last turn, and ends the logger. Its pace ends once the terminals have acknowledged what is durable
-    /// then.
+    /// Takes the last turn of the run.
     pub(crate) fn last_turn<R: Wait>(
         self,
         rt: &R,
         engine: &Engine<K>,
         progress: &Progress,
-    ) -> (Written<D>, P) {
+    ) -> Turned<K, D, P> {
         let mut writer = self;
         writer.turn(rt, engine, progress);
         let Writer {
@@ -85,6 +84,35 @@ impl<K: Run, D: Disk, P: Pace + Drop> Writer<K, D, P> {
             clock: _,
             pace,
         } = writer;
+        Turned { appender, pace }
+    }
+}
+
+/// A logger that has taken its last turn of a run.
+#[derive(Drop)]
+pub(crate) struct Turned<K: Run, D: Disk, P: Pace> {
+    appender: Appender<K, D>,
+    pace: P,
+    ghost told: { appender.has_stopped ≡ false → appender.logger.file.failed ≡ false },
+}
+
+impl<K: Run, D: Disk, P: Pace + Drop> Turned<K, D, P> {
+    /// Whether it had no memory for what it was to append.
+    pub(crate) fn waits(&self) -> bool {
+        self.appender.waits()
+    }
+
+    /// What waits, for want of memory, is tried once more, and then what was committed since: memory may have been
+    /// given back.
+    pub(crate) fn retry<R: Wait>(&mut self, rt: &R, engine: &Engine<K>, progress: &Progress) {
+        if self.waits() {
+            self.appender.turn(rt, engine, progress);
+        }
+    }
+
+    /// Ends the logger. Its pace ends once the terminals have acknowledged what is durable then.
+    pub(crate) fn end(self) -> (Written<D>, P) {
+        let Turned { appender, pace } = self;
         (appender.end(), pace)
     }
 }

@@ -1,5 +1,5 @@
 -- Replies that wait until their commits are durable (Silo, section 4.10).
-use Rattle.std.specs.Prelude.{◌≡◌, ℕ, ◌≤◌, Bool, nat_le, List, ◌++◌, length}
+use Rattle.std.specs.Prelude.{◌≡◌, ℕ, ◌≤◌, Bool, nat_le, List, [], ◌++◌, length}
 use Rattle.std.specs.List.{take_while}
 use Rattle.tidword.specs.TidWord.{epoch_of}
 use Rattle.board.specs.declared.rule.WordStep.TheVariants.{LoadDurable}
@@ -39,3 +39,11 @@ pub record Acknowledges (old : OutboxView) (count : ℕ) (new : OutboxView) : Ty
   pub released : new.released ≡ old.released ++ front durable old.waiting
   pub rest : old.waiting ≡ front durable old.waiting ++ new.waiting
   pub room : new.room ≡ old.room
+
+-- the replies that were released, so many, are told no longer; those that wait still do
+pub record ForgetsReleased (old : OutboxView) (count : ℕ) (new : OutboxView) : Type 0 where
+  pub seat : new.seat ≡ old.seat
+  pub count_is : count ≡ length old.released
+  pub released : new.released ≡ []
+  pub waiting : new.waiting ≡ old.waiting
+  pub room : old.room ≤ new.room

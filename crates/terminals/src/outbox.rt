@@ -2,7 +2,7 @@
 ghost use Rattle.std.specs.Prelude.{◌≡◌, ◌+◌, ◌<◌, ◌≤◌, [], ◌∷◌, ◌++◌, length, IfOk, IfErr, OnOk};
 ghost use Rattle.money.specs.declared.refusal.Refusal.TheVariants.{OutOfMemory};
 ghost use Rattle.std.specs.List.{prefix_len};
-ghost use Rattle.terminals.specs.Outbox.{Acknowledges, IsSameBut, is_up_to};
+ghost use Rattle.terminals.specs.Outbox.{Acknowledges, ForgetsReleased, IsSameBut, is_up_to};
 
 use board::{Board, TerminalSeat};
 use book::Done;
@@ -111,6 +111,18 @@ impl Outbox {
         let count = front(&self.held[self.released..], durable);
         self.released += count;
         count as u64
+    }
+
+    /// Gives back the memory of the replies that were released, which aren't told any longer, and answers how many they
+    /// are. Constant time a reply.
+    pub fn forget_released(&mut self) -> u64
+        ensures { ForgetsReleased self.old result self.new }
+    {
+        let (forgotten, waiting) = (self.released, self.waiting());
+        self.held.rotate_left(forgotten);
+        self.held.truncate(waiting);
+        self.released = 0;
+        forgotten as u64
     }
 }
 

@@ -2,7 +2,7 @@
 ghost use Rattle.std.specs.Prelude.{◌≡◌, ℕ, IfOk, IfErr, OnErr};
 ghost use Rattle.tables.specs.Inputs.{IsInput};
 ghost use Rattle.terminals.specs.Calls.{AreCalls};
-ghost use Rattle.terminals.specs.Outbox.{Acknowledges};
+ghost use Rattle.terminals.specs.Outbox.{Acknowledges, ForgetsReleased};
 ghost use Rattle.terminals.specs.Terminal.{HasCommitted, HasRefused, IsTurned};
 ghost use Rattle.terminals.specs.Tries.{AreTries, IsTry, TellsMissing};
 
@@ -161,5 +161,16 @@ impl<K: Run> Terminal<K> {
         ensures outbox { Acknowledges self.old.outbox result self.new.outbox }
     {
         self.outbox.acknowledge(board)
+    }
+
+    /// Gives back the memory of the replies that were released, as `Outbox::forget_released` does, and answers how many
+    /// they are.
+    pub fn forget_released(&mut self) -> u64
+        ensures reader { self.new.reader ≡ self.old.reader }
+        ensures share { self.new.share ≡ self.old.share }
+        ensures deck { self.new.deck ≡ self.old.deck }
+        ensures outbox { ForgetsReleased self.old.outbox result self.new.outbox }
+    {
+        self.outbox.forget_released()
     }
 }

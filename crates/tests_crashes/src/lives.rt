@@ -36,7 +36,7 @@ pub(crate) struct Lived {
 fn outcome_of(driven: Driven) -> Lived {
     Lived {
         is_good: driven.report.is_good(),
-        has_stopped: driven.stopped.is_some(),
+        has_stopped: driven.shortfall.is_some(),
     }
 }
 

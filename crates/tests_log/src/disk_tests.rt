@@ -113,8 +113,10 @@ fn failures_of_a_file_are_counted(rt: HostRuntime) -> Result<(), Fail> {
     assert!(rt; three_at(&mut disk, 0) == Err(Refusal::Device));
     assert!(rt; disk.failures() == 1);
     assert!(rt; last_kind(&disk) == Some(ErrorKind::UnexpectedEof));
+    assert!(rt; !disk.has_failed_to_write());
     assert!(rt; disk.write_at(1 << 63, b"a") == Err(Refusal::Device));
     assert!(rt; disk.failures() == 2);
+    assert!(rt; disk.has_failed_to_write());
     assert!(rt; disk.len() == Ok(0));
     assert!(rt; last_kind(&disk) == Some(ErrorKind::InvalidInput));
     assert!(rt; fs::remove_file(&rt, "disk-failing").is_ok());
@@ -131,6 +133,41 @@ fn a_locked_file_is_kept_from_other_disks(rt: HostRuntime) -> Result<(), Fail> {
     assert!(rt; !is_kept_from(&other));
     assert!(rt; disk.try_lock().is_err());
     assert!(rt; fs::remove_file(&rt, "disk-locked").is_ok());
+    Ok(())
+}
+
+/// Whether a path names the file of a disk, where something is there.
+fn is_at<R: Files<File = fs::File>>(files: &R, disk: &FileDisk, path: &str) -> Option<bool> {
+    disk.is_at(files, path).ok()
+}
+
+#[test]
+fn a_file_keeps_its_disk_under_another_name(rt: HostRuntime) -> Result<(), Fail> {
+    let mut disk = fresh(&rt, "disk-named")?;
+    assert!(rt; put(&mut disk, 0, b"hello").is_ok());
+    assert!(rt; is_at(&rt, &disk, "disk-named") == Some(true));
+    assert!(rt; fs::rename(&rt, "disk-named", "disk-renamed").is_ok());
+    assert!(rt; is_at(&rt, &disk, "disk-named").is_none());
+    assert!(rt; is_at(&rt, &disk, "disk-renamed") == Some(true));
+    assert!(rt; fresh(&rt, "disk-named").is_ok());
+    assert!(rt; is_at(&rt, &disk, "disk-named") == Some(false));
+    assert!(rt; disk.clear().is_ok());
+    assert!(rt; disk.len() == Ok(0));
+    assert!(rt; fs::remove_file(&rt, "disk-named").is_ok());
+    assert!(rt; fs::remove_file(&rt, "disk-renamed").is_ok());
+    Ok(())
+}
+
+#[test]
+fn a_file_to_be_read_is_not_written(rt: HostRuntime) -> Result<(), Fail> {
+    assert!(rt; put(fresh(&rt, "disk-read")?, 0, b"hello").is_ok());
+    let Ok(mut disk) = FileDisk::in_file_to_read(&rt, "disk-read") else {
+        return Err(Refusal::Device.into());
+    };
+    assert!(rt; three_at(&mut disk, 2) == Ok(*b"llo"));
+    assert!(rt; put(&mut disk, 0, b"a") == Err(Refusal::Device));
+    assert!(rt; three_at(&mut disk, 0) == Ok(*b"hel"));
+    assert!(rt; fs::remove_file(&rt, "disk-read").is_ok());
     Ok(())
 }
 

@@ -9,6 +9,8 @@ mod disk_tests;
 #[cfg(test)]
 mod file_tests;
 #[cfg(test)]
+mod front_tests;
+#[cfg(test)]
 mod header_tests;
 #[cfg(test)]
 mod number_tests;

@@ -2,7 +2,9 @@
 ghost use Rattle.std.specs.Prelude.{◌≤◌};
 
 use clap::error::ErrorKind;
-use program_options::{LogFiles, Options, RecoverOptions, Subcommand, options};
+use program_options::{
+    Asked, InfoOptions, LogFiles, Options, RecoverOptions, ScriptOptions, Subcommand, read_words,
+};
 use std::alloc::{AllocError, Global};
 use std::test::Fail;
 
@@ -15,11 +17,24 @@ fn words(alloc: Global, line: &str) -> Result<Vec<String>, AllocError> {
     Ok(words)
 }
 
+/// What these words ask for on tables: an option without its default where they ask for something else.
+fn asked_of(alloc: Global, words: &[String]) -> Result<Options, Fail> {
+    match read_words(alloc, words)? {
+        Asked::OnTables(options) => Ok(options),
+        Asked::Info(_) => Err(Fail::from("info")),
+    }
+}
+
+/// A script of whose refused lines nothing is told.
+fn plain_script() -> Subcommand {
+    Subcommand::Script(ScriptOptions { explain: false })
+}
+
 #[test]
 fn without_options_the_defaults_stand(rt: HostRuntime) -> Result<(), Fail> {
     let words = words(rt.alloc(), "tpcc script")?;
     let expected = Options {
-        subcommand: Subcommand::Script,
+        subcommand: plain_script(),
         warehouses: 1,
         districts: 10,
         customers: 100,
@@ -28,14 +43,17 @@ fn without_options_the_defaults_stand(rt: HostRuntime) -> Result<(), Fail> {
         commits: 100_000,
         population: 0,
     };
-    assert_eq!(rt; options(rt.alloc(), words.as_slice())?, expected);
+    assert_eq!(rt;
+        read_words(rt.alloc(), words.as_slice())?,
+        Asked::OnTables(expected)
+    );
     Ok(())
 }
 
 #[test]
 fn each_option_is_read(rt: HostRuntime) -> Result<(), Fail> {
     let expected = Options {
-        subcommand: Subcommand::Script,
+        subcommand: plain_script(),
         warehouses: 2,
         districts: 3,
         customers: 40,
@@ -52,7 +70,7 @@ fn each_option_is_read(rt: HostRuntime) -> Result<(), Fail> {
     ];
     for line in lines {
         let words = words(rt.alloc(), line)?;
-        assert_eq!(rt; options(rt.alloc(), words.as_slice())?, expected);
+        assert_eq!(rt; asked_of(rt.alloc(), words.as_slice())?, expected);
     }
     Ok(())
 }
@@ -73,7 +91,7 @@ fn of_two_files(alloc: Global, threads: u32) -> Result<RecoverOptions, AllocErro
 /// The subcommand that a line asks for.
 fn subcommand_of(alloc: Global, line: &str) -> Result<Subcommand, Fail> {
     let words = words(alloc, line)?;
-    let asked = options(alloc, words.as_slice())?;
+    let asked = asked_of(alloc, words.as_slice())?;
     Ok(asked.subcommand)
 }
 
@@ -90,6 +108,22 @@ fn log_files_are_read_in_the_threads_that_are_asked_for(rt: HostRuntime) -> Resu
     let asked = subcommand_of(rt.alloc(), "tpcc check --threads 8 --logs a --loggers 2")?;
     let expected = Subcommand::Check(of_two_files(rt.alloc(), 8)?);
     assert_eq!(rt; asked, expected);
+    Ok(())
+}
+
+#[test]
+fn refused_lines_are_explained_where_that_is_asked_for(rt: HostRuntime) -> Result<(), Fail> {
+    let asked = subcommand_of(rt.alloc(), "tpcc script --explain")?;
+    assert_eq!(rt; asked, Subcommand::Script(ScriptOptions { explain: true }));
+    Ok(())
+}
+
+#[test]
+fn the_folder_of_log_files_is_told_of(rt: HostRuntime) -> Result<(), Fail> {
+    let words = words(rt.alloc(), "tpcc info --logs a")?;
+    let folder = String::from_str(rt.alloc(), "a")?;
+    let expected = Asked::Info(InfoOptions { folder });
+    assert_eq!(rt; read_words(rt.alloc(), words.as_slice())?, expected);
     Ok(())
 }
 
@@ -136,10 +170,13 @@ fn an_error_names_what_is_wrong(rt: HostRuntime) -> Result<(), Fail> {
         ),
         ("tpcc run --logs a --threads 2", "'--threads'"),
         ("tpcc script --logs a", "'--logs'"),
+        ("tpcc info", "--logs <DIR>"),
+        ("tpcc info --logs a --loggers 2", "'--loggers'"),
+        ("tpcc script --explain --explain", "'--explain'"),
     ];
     for (line, named) in lines {
         let words = words(rt.alloc(), line)?;
-        match options(rt.alloc(), words.as_slice()) {
+        match read_words(rt.alloc(), words.as_slice()) {
             Ok(_) => assert!(rt; false, "{line}"),
             Err(error) => {
                 let text = format!(in rt.alloc(); "{error}")?;
@@ -153,10 +190,10 @@ fn an_error_names_what_is_wrong(rt: HostRuntime) -> Result<(), Fail> {
 #[test]
 fn the_scale_is_that_of_the_options(rt: HostRuntime) -> Result<(), Fail> {
     let lawful = words(rt.alloc(), "tpcc script --items 20")?;
-    let asked = options(rt.alloc(), lawful.as_slice())?;
+    let asked = asked_of(rt.alloc(), lawful.as_slice())?;
     assert_eq!(rt; asked.scale().is_ok(), true);
     let unlawful = words(rt.alloc(), "tpcc script --items 19")?;
-    let asked = options(rt.alloc(), unlawful.as_slice())?;
+    let asked = asked_of(rt.alloc(), unlawful.as_slice())?;
     assert_eq!(rt; asked.scale(), Err(money::Refusal::BadScale));
     Ok(())
 }

@@ -50,6 +50,7 @@ fn run_on<R: Read + Drop, T: Wait + Threads + Clock + Files<File = File> + Sync>
         &mut input,
         &mut output,
         &mut errors,
+        Vec::<u8>::new(alloc),
         None::<Vec<u8>>,
     );
     let output = Vec::from_slice(alloc, output.stream().as_slice())?;
@@ -214,6 +215,7 @@ fn an_output_that_fails(rt: HostRuntime) -> Result<(), Fail> {
         &mut input,
         &mut output,
         &mut errors,
+        Vec::<u8>::new(rt.alloc()),
         None::<Vec<u8>>,
     );
     assert_eq!(rt; status, 1);

@@ -52,26 +52,57 @@ fn any_number_of_threads_recovers_the_same(rt: HostRuntime) -> Result<(), Fail> 
     Ok(())
 }
 
+/// The progress of a recovery that begins on these disks, none of which fails.
+fn beginning(alloc: Global, disks: &mut [Memory]) -> Result<Progress, Refusal> {
+    let mut sizes = Vec::new(alloc);
+    for disk in disks {
+        sizes.push(disk.len()?)?;
+    }
+    Ok(Progress::of(sizes))
+}
+
 #[test]
-fn files_and_entries_are_noted_once(rt: HostRuntime) -> Result<(), Fail> {
+fn bytes_and_entries_are_noted_once(rt: HostRuntime) -> Result<(), Fail> {
     for threads in [1, 2] {
         let mut disks = disks(rt.alloc(), 1)?;
-        let progress = Progress::of(vec![in rt.alloc(); 1_000, 200]?);
-        assert_eq!(rt; (progress.read(), progress.entries()), (0, 0));
+        let progress = beginning(rt.alloc(), &mut disks)?;
+        let all = progress.in_all();
+        assert_eq!(rt;
+            (progress.read(), progress.entries(), progress.to_read()),
+            (0, 0, all)
+        );
         noted(&rt, rt.alloc(), &mut disks, threads, &progress)?;
-        assert_eq!(rt; (progress.read(), progress.entries()), (1_200, 5));
-        assert_eq!(rt; progress.to_read(), 1_200);
+        assert_eq!(rt;
+            (progress.read(), progress.entries(), progress.to_read()),
+            (all, 5, all)
+        );
     }
     Ok(())
 }
 
 #[test]
-fn a_file_that_is_damaged_is_not_noted(rt: HostRuntime) -> Result<(), Fail> {
+fn bytes_of_which_nothing_is_known_are_noted(rt: HostRuntime) -> Result<(), Fail> {
+    let mut disks = disks(rt.alloc(), 1)?;
+    let all = beginning(rt.alloc(), &mut disks)?.in_all();
+    let progress = unwatched(rt.alloc());
+    noted(&rt, rt.alloc(), &mut disks, 1, &progress)?;
+    assert_eq!(rt;
+        (progress.read(), progress.in_all(), progress.to_read()),
+        (all, 0, all)
+    );
+    Ok(())
+}
+
+#[test]
+fn a_file_that_is_damaged_is_noted_as_far_as_it_is_read(rt: HostRuntime) -> Result<(), Fail> {
     let mut disks = first_disk(rt.alloc())?;
-    let progress = Progress::of(vec![in rt.alloc(); 1_000]?);
+    let progress = beginning(rt.alloc(), &mut disks)?;
     let outcome = noted(&rt, rt.alloc(), &mut disks, 1, &progress);
     assert_eq!(rt; outcome, Err(Refusal::Damaged));
-    assert_eq!(rt; (progress.read(), progress.entries()), (0, 0));
+    assert_eq!(rt;
+        (progress.read(), progress.entries()),
+        (progress.in_all(), 0)
+    );
     Ok(())
 }
 

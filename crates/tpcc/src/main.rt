@@ -2,7 +2,7 @@
 #![tactic(auto)]
 
 use money::Refusal;
-use program::{USAGE_FAULT, Watched, finish, run};
+use program::{Narrow, USAGE_FAULT, Watched, finish, run};
 use std::env;
 use std::io::IsTerminal;
 use std::process::ExitCode;
@@ -20,7 +20,10 @@ fn main(rt: HostRuntime) -> ExitCode {
         }
     };
     let (mut input, mut output) = (Watched::new(rt.stdin()), Watched::new(rt.stdout()));
-    let screen = rt.stderr();
+    let errors = rt.stderr();
+    let columns = env::var(&rt, "COLUMNS").ok();
+    let columns = columns.as_ref().map(|text| text.as_str());
+    let screen = errors.is_terminal().then_some(Narrow::new(errors, columns));
     let status = run(
         &rt,
         rt.alloc(),
@@ -28,7 +31,8 @@ fn main(rt: HostRuntime) -> ExitCode {
         &mut input,
         &mut output,
         &mut rt.stderr(),
-        screen.is_terminal().then_some(screen),
+        rt.stderr(),
+        screen,
     );
     ExitCode::from(status)
 }

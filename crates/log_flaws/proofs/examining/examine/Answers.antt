@@ -1,4 +1,4 @@
-use Rattle.std.proofs.Common.{◌≡◌, ◌≢◌, ◌∷◌, ◌++◌, Some, ap, sym, ◌∙◌, rules}
+use Rattle.std.proofs.Common.{◌≡◌, ◌≢◌, ◌∷◌, ◌++◌, Some, ap, rules}
 use Rattle.std.specs.Prelude.{find}
 use Rattle.log_text.specs.File.{opened}
 use Rattle.log_flaws.specs.Fields.{differs, number_in}

@@ -3,4 +3,4 @@ use Rattle.program.proofs.live.slots.Given as goal
 
 -- each disk so far has a slot
 abbrev pub invariant-loop-disk : goal.invariant-loop-disk
-invariant-loop-disk g l = length l.slots.items ≡ l.disk-index
+invariant-loop-disk g l = length l.slots.items ≡ length l.yielded

@@ -6,15 +6,16 @@ use Rattle.program.specs.Breaks.{IsToldAsUnfinished}
 use Rattle.program.specs.declared.fault.Fault.{Fault}
 use Rattle.program.specs.Detail.{cause_of}
 use Rattle.program.specs.Logs.{memory}
-use Rattle.program.specs.Resumed.{IsUnfinishedResumedRun, stopped, unready}
+use Rattle.program.specs.Resumed.{IsUnfinishedResumedRun, unready}
+use Rattle.program.proofs.Durable.{resumed_durably, resumed_short}
 use Rattle.program.proofs.NoMemory.{passed_on}
 use Rattle.program.proofs.resuming.go_on.Goals as goal
 
 pub returns-in-Err-clause-failed : goal.returns-in-Err-clause-failed
 returns-in-Err-clause-failed g c = unready c.in-Err.ensures.unready (Appends-nil (g.W.Write.contents c.args.output.now))
 
-pub returns-in_err-lent-clause-failed : goal.returns-in_err-lent-clause-failed
-returns-in_err-lent-clause-failed g c =
+pub returns-in_err-alarms-clause-failed : goal.returns-in_err-alarms-clause-failed
+returns-in_err-alarms-clause-failed g c =
     let w = g.W.Write.contents c.args.output.now in
     passed_on _ _ c.from_residual.result
     (λ fault is. subst (λ (made : Fault). IsUnfinishedResumedRun c.args.options.now (initial c.args.population) (seed_of c.args.population) w w
@@ -22,11 +23,22 @@ returns-in_err-lent-clause-failed g c =
     (unready (memory refl refl) (Appends-nil w)))
     c.from_residual.ensures
 
+pub returns-in_err-guarded-clause-failed : goal.returns-in_err-guarded-clause-failed
+returns-in_err-guarded-clause-failed g c =
+    let w = g.W.Write.contents c.args.output.now in
+    passed_on _ _ c.from_residual-in_err-guarded.result
+    (λ fault is. subst (λ (made : Fault). IsUnfinishedResumedRun c.args.options.now (initial c.args.population) (seed_of c.args.population) w w
+    made.refusal (cause_of made)) (sym is)
+    (unready (memory refl refl) (Appends-nil w)))
+    c.from_residual-in_err-guarded.ensures
+
+pub returns-in-Ok-run_restarted-clause-ran : goal.returns-in-Ok-run_restarted-clause-ran
+returns-in-Ok-run_restarted-clause-ran g c =
+    resumed_durably c.in-Ok-run_restarted.driven c.in-Ok-run_restarted.ensures.ran c.ended.result c.ended.ensures.whole
+
 pub returns-in-Ok-run_restarted-clause-failed : goal.returns-in-Ok-run_restarted-clause-failed
 returns-in-Ok-run_restarted-clause-failed g c =
-    subst (λ (refusal : Refusal). IsUnfinishedResumedRun c.args.options.now (initial c.args.population) (seed_of c.args.population)
-    (g.W.Write.contents c.args.output.now) (g.W.Write.contents c.run_restarted.new.output) refusal (cause_of c.broken_off.result)) (sym c.broken_off.ensures.refusal)
-    (stopped c.in-Ok-run_restarted.driven.report c.in-Ok-run_restarted.ensures.ran refl c.broken_off.ensures.cause)
+    resumed_short c.in-Ok-run_restarted.driven c.in-Ok-run_restarted.ensures.ran c.ended.result c.ended.ensures.short
 
 pub returns-clause-failed : goal.returns-clause-failed
 returns-clause-failed g c =

@@ -1,23 +1,33 @@
-use Rattle.std.proofs.Common.{refl}
+use Rattle.std.proofs.Common.{◌≡◌, ◌∙◌, List, ℕ, map, string_bytes, sym, refl}
 use Rattle.std.proofs.KnownBytes.{Appends-nil}
-use Rattle.program.specs.Detail.{cause_of}
-use Rattle.program.specs.Run.{fault, answered, refused}
-use Rattle.program.proofs.Beginnings.{nothing_begun}
+use Rattle.clap.specs.Values.{kind_of}
+use Rattle.clap.specs.declared.error.kind.ErrorKind.TheVariants.{DisplayVersion}
+use Rattle.program_options.specs.CommandLine.{AsksFor}
+use Rattle.program_options.specs.declared.asked.Asked.TheVariants.{OnTables, Info}
+use Rattle.program.specs.Run.{fault}
+use Rattle.program.proofs.Plain.{informed_run, version_asked, version_run}
 use Rattle.program.proofs.running.run.Goals as goal
 
-pub returns-in-Err : goal.returns-in-Err
-returns-in-Err g c = λ bytes left. fault c.in-Err.error c.tell_fault.ensures.0 c.in-Err.ensures.refused
-    (Appends-nil (g.O.Write.contents c.args.output.now.stream)) c.tell_fault.ensures.1 refl
+pub returns-in-Ok-OnTables : goal.returns-in-Ok-OnTables
+returns-in-Ok-OnTables g c = λ bytes left.
+    let words = map string_bytes c.args.words.now in
+    let asks : AsksFor words (OnTables c.in-Ok-OnTables.asked) = rw c.in-Ok-OnTables.field-0-is at c.in-Ok-OnTables.ensures.asked in
+    c.on_tables.ensures bytes words left asks
 
-pub returns-in-Ok-answer : goal.returns-in-Ok-answer
-returns-in-Ok-answer g c = λ bytes left.
-    answered c.in-Ok.asked c.in-Ok-answer.report c.in-Ok.ensures.asked (c.in-Ok-answer.ensures.whole bytes left)
-    (nothing_begun (g.E.Write.contents c.args.errors.now) (g.E.Write.contents c.finish.new.errors) c.finish.ensures.line) c.finish.ensures.status.0
-    c.finish.ensures.status.1
+pub returns-in-Ok-Info : goal.returns-in-Ok-Info
+returns-in-Ok-Info g c = λ bytes left.
+    let words = map string_bytes c.args.words.now in
+    let asks : AsksFor words (Info c.in-Ok-Info.asked) = rw c.in-Ok-Info.field-0-is at c.in-Ok-Info.ensures.asked in
+    informed_run words bytes _ _ _ _ _ _ _ c.in-Ok-Info.asked c.info-told.result asks c.info-told.ensures.told c.info-told.ensures.untold c.end.ensures.good
+    c.end.ensures.refused
+
+pub returns-in-DisplayVersion : goal.returns-in-DisplayVersion
+returns-in-DisplayVersion g c = λ bytes left.
+    let words = map string_bytes c.args.words.now in
+    let kind : kind_of c.in-Err.error ≡ DisplayVersion = sym c.kind.ensures ∙ c.in-DisplayVersion.is in
+    version_run words bytes _ _ _ _ _ _ _ c.tell_version-told.result (version_asked words c.in-Err.error c.in-Err.ensures.refused kind)
+    c.tell_version-told.ensures.whole c.tell_version-told.ensures.beginning c.end-in-DisplayVersion.ensures.good c.end-in-DisplayVersion.ensures.refused
 
 pub returns : goal.returns
-returns g c = λ bytes left.
-    let told = c.tell_refused.ensures.lines in
-    let fault = c.in-Err-answer.fault in
-    refused c.in-Ok.asked fault.refusal (cause_of fault) told.0 c.in-Ok.ensures.asked (c.in-Err-answer.ensures.refused bytes left) told.1 told.2
-    c.tell_refused.ensures.status
+returns g c = λ bytes left. fault c.in-Err.error c.tell_fault.ensures.0 c.in-Err.ensures.refused (λ is. c.in_default.not-DisplayVersion (c.kind.ensures ∙ is))
+    (Appends-nil (g.O.Write.contents c.args.output.now.stream)) c.tell_fault.ensures.1 refl

@@ -8,7 +8,7 @@ use Rattle.program.proofs.running.tell_refused.Goals as goal
 pub returns-in-Err-clause-lines : goal.returns-in-Err-clause-lines
 returns-in-Err-clause-lines g c =
     let fault = c.args.fault.now in
-    let told = some_detail (scale_of c.args.asked.now) (cause_of fault) c.args.input.now.failure c.args.output.now.failure fault.refusal in (
+    let told = some_detail c.args.asked.now.subcommand (scale_of c.args.asked.now) (cause_of fault) c.args.input.now.failure c.args.output.now.failure fault.refusal in (
       told.0,
       told.1,
       begins_any (refusal_line fault.refusal) told.0 (g.E.Write.contents c.args.errors.now)

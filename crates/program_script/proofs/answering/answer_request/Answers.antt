@@ -29,7 +29,7 @@ returns-in_ok-row-in-Ok-Show-clause-turn g c =
     let scale = c.scale-scale.ensures ∙ ap (λ (t : Database). t.scale) c.population.ensures in
     let ok = c.in-Ok-Show.ensures.ranges in
     let in_range = subst (λ (s : Sizes). IsInRange s c.args.request) scale ok.1 in
-    on_ok_weaker c.print.result (λ told. (
+    on_ok_weaker c.tell_row.result (λ told. (
       answer.Row c.in_ok-row-in-Ok-Show.row,
       told,
       within_turn t0 c.args.session.now c.args.number c.args.request (Show c.in-Ok-Show.key) _
@@ -38,7 +38,7 @@ returns-in_ok-row-in-Ok-Show-clause-turn g c =
             c.in_ok-row-in-Ok-Show.ensures.row,
             ap (λ (v : SessionView). record { answer = answer.Row c.in_ok-row-in-Ok-Show.row; state = state_of t0 v }) c.show.ensures.same,
           ),
-    )) c.print.ensures.ok
+    )) c.tell_row.ensures.told
 
 pub returns-in-Err-clause-turn : goal.returns-in-Err-clause-turn
 returns-in-Err-clause-turn g c =

@@ -1,11 +1,9 @@
 use Rattle.std.proofs.Common.{◌≡◌, ◌+◌, length, vec_capacity}
 use Rattle.run_threads.proofs.threads.last_turns.Given as goal
 
--- each logger so far has given its file and its pace, and the room is as before
+-- each logger so far has taken its turn, and the room is as before
 abbrev pub invariant-loop-writer : goal.invariant-loop-writer
 invariant-loop-writer g l = record {
-  files : length l.files.items ≡ length l.fn.files.items + length l.yielded;
-  room : vec_capacity l.files ≡ vec_capacity l.fn.files;
-  paces : length l.paces.items ≡ length l.fn.paces.items + length l.yielded;
-  paces_room : vec_capacity l.paces ≡ vec_capacity l.fn.paces;
+  turned : length l.turned.items ≡ length l.fn.turned.items + length l.yielded;
+  room : vec_capacity l.turned ≡ vec_capacity l.fn.turned;
 }

@@ -19,6 +19,7 @@ returns-in_err-answer_all g c =
       beginning = on_err _ result (λ bytes left. e.beginning bytes left start);
       too_many = λ bad bytes left. e.too_many (bad_of result refusal is bad) bytes left start;
       refusals = if_err_of _ result refusal is e.refusals;
+      told = e.told;
     }
 
 pub returns : goal.returns
@@ -35,4 +36,5 @@ returns g c =
           (answered.0 ++ more.0, Appends-trans _ _ _ answered.0 more.0 answered.1 more.1, more.2)) e.beginning;
       too_many = λ bad bytes left. absurd (report_not_many c.close.result e.refusals bad);
       refusals = if_err_more _ _ c.close.result report_refusal e.refusals;
+      told = c.in_ok-answer_all.ensures.told;
     }

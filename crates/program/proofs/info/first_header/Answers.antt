@@ -1,0 +1,4 @@
+use Rattle.program.proofs.info.first_header.Goals as goal
+
+pub returns-clause-headless : goal.returns-clause-headless
+returns-clause-headless g c = (_, c.headless.ensures.flaw)
