@@ -125,12 +125,25 @@ def customer_with(payments, deliveries):
     return log(0, 1, body(5, struct.pack("<QQHH", 1, 4 << 32, 0, 1) + write))
 
 
+def with_dear_lines():
+    """A file with a commit that leaves four orders of district 1 as customer 1's, each of 15 lines of 9,999.99, all
+    delivered."""
+    writes = [
+        struct.pack("<BIBqqQQ", 3, 0, 1, 60 * 999_999 - 1_000, 1_000, 1, 0),
+        *[struct.pack("<BIB5Q", 6, order, 1, 1, 1, 1, 15, 1) for order in range(4)],
+        *[struct.pack("<BIB5Q", 7, line, 1, 1, 1, 1, 1, 999_999) for line in range(60)],
+        *[struct.pack("<BIBQ", 11, customer, 1, 0 if customer else 4) for customer in range(4)],
+    ]
+    return log(0, 1, body(5, struct.pack("<QQHH", 1, 4 << 32, 0, len(writes)) + b"".join(writes)))
+
+
 def unreached():
     """Files whose conditions hold, or don't, and the column that is out of reach of one commit, if it is told."""
     return [
         ("a stock has a year to date of 152", [stock_with(152, 0, 0)], b"S_YTD of stock 1 2"),
         ("a stock has 152 orders", [stock_with(151, 152, 0)], b"S_ORDER_CNT of stock 1 2"),
         ("a stock has 152 remote orders", [stock_with(151, 151, 152)], b"S_REMOTE_CNT of stock 1 2"),
+        ("a customer got 599,999.40 of orders", [with_dear_lines()], b"C_BALANCE of customer 1 1 1"),
         ("a customer has 152 payments", [customer_with(152, 152)], b"C_PAYMENT_CNT of customer 1 2 3"),
         ("a customer has 152 deliveries", [customer_with(151, 152)], b"C_DELIVERY_CNT of customer 1 2 3"),
         ("a balance breaks a condition", [with_balance(-45_000_001)], None),

@@ -1,6 +1,7 @@
 """Tests of the built program on files and folders that can't be used, and of what it makes durable."""
 
 import fcntl
+import itertools
 import os
 import struct
 import subprocess
@@ -160,12 +161,12 @@ def calls_that_fail_are_told():
         with tempfile.TemporaryDirectory() as folder:
             ran = run_in(folder, *SCALE, *TWO, env=wrapper.environment(UNSYNCED=folder + path))
             ends(f"where DIR{path} can't be synced", ran, 1, err=text)
-    for subcommand in ("recover", "check"):
-        for name in ("log-0", "log-1"):
-            with tempfile.TemporaryDirectory() as folder:
-                put_files(folder, LOGS)
-                words = [subcommand, *SMALL[1:], "--logs", folder, "--loggers", "2"]
-                ran = run(words, env=wrapper.environment(UNREAD=f"{folder}/{name}"))
-                text = b"9 Device\n%s/%s: can't be read: " % (folder.encode(), name.encode())
-                ends(f"of {subcommand} where {name} can't be read", ran, 1, err=text + reason)
+    for subcommand, name, threads in itertools.product(("recover", "check"), ("log-0", "log-1"), ("1", "2", "8")):
+        with tempfile.TemporaryDirectory() as folder:
+            put_files(folder, LOGS)
+            words = [subcommand, *SMALL[1:], "--logs", folder, "--loggers", "2", "--threads", threads]
+            ran = run(words, env=wrapper.environment(UNREAD=f"{folder}/{name}"))
+            text = b"9 Device\n%s/%s: can't be read: " % (folder.encode(), name.encode())
+            what = f"of {subcommand} in {threads} threads where {name} can't be read"
+            ends(what, ran, 1, err=text + reason)
     wrapper.close()

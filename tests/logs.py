@@ -77,6 +77,9 @@ LATER = log(1, 2, body(7, entry(2, 5, 1), entry(3, 6, 1), entry(4, 7, 1), entry(
 
 LOGS = [log(0, 2, body(5, entry(1, 4, 0))), LATER]
 
+# Eight files, each with one of eight commits.
+EIGHT = [log(n, 8, body(9, entry(n + 1, n + 1, n))) for n in range(8)]
+
 
 def put_files(folder, files):
     """Puts log files into a folder, each as that of the logger of its place."""

@@ -2,15 +2,17 @@
 it is to.
 
 The wrapper is C, made when it is first asked for, by the kit's compiler or by `cc`. Its environment says what it does:
-STORY names a file that gets a line for each `pwrite`, as `w PATH`, and for each `fsync` and `fdatasync`, as `s PATH`. A
-sync of the path that UNSYNCED names fails, and so does a read of the path that UNREAD names, by EIO. A read of the path
-that HELD names takes a second and a half more. With THREADLESS no thread can be started, and with READONLY no file can
-be opened to be written, by EROFS.
+STORY names a file that gets a line for each `pwrite`, as `w PATH`, for each `fsync` and `fdatasync`, as `s PATH`, and
+for each `rename` that is done, as `r PATH` by the new name; and one as `b PATH` where a `pread`, a `pwrite` or a sync
+is asked of the descriptor of a standard stream. A sync of the path that UNSYNCED names fails, and so does a read of the
+path that UNREAD names, by EIO. A read of the path that HELD names takes a second and a half more. With THREADLESS no
+thread can be started, and with READONLY no file can be opened to be written, by EROFS.
 
 One call fails, counted from 1 among those of its kind: the `malloc` or `realloc` that GROWTH names, the `pwrite` of
 WRITE (with HALF, behind half of its bytes), the `pread` of READ, the sync of SYNC, the `pthread_create` of THREAD, the
-`open` of OPEN, the `rename` of RENAME, the `unlink` of UNLINK, the `ftruncate` of CUT, the `flock` of LOCK. With KILL the
-process kills itself there instead, before the call. The story then has a line as `f WRITE`.
+`open` of OPEN, the `statx` of STAT, the `rename` of RENAME, the `unlink` of UNLINK, the `ftruncate` of CUT, the `flock`
+of LOCK. Where KILL names the kind, the process kills itself there instead, before the call. The story then has a line
+as `f WRITE`.
 """
 
 import os
@@ -33,7 +35,7 @@ extern void *dlsym(void *, const char *);
 extern void *__libc_malloc(size_t), *__libc_realloc(void *, size_t);
 
 enum { EIO = 5, EAGAIN = 11, EROFS = 30, OPENED = 2, PREAD = 17, PWRITE = 18, NANOSLEEP = 35, FLOCK = 73, FSYNC = 74 };
-enum { FDATASYNC = 75, FTRUNCATE = 77, RENAMED = 82, UNLINKED = 87, SIGKILL = 9 };
+enum { FDATASYNC = 75, FTRUNCATE = 77, RENAMED = 82, UNLINKED = 87, STATX = 332, SIGKILL = 9 };
 enum { APPEND = 02001, LONGEST = 4096 };
 
 /* The path of an open file, with a zero behind it. Gives its length. */
@@ -76,9 +78,16 @@ static void note(char what, int file) {
     tell(line, 2 + path_of(file, line + 2));
 }
 
-enum { GROWTH, WRITE, READ, SYNC, THREAD, OPEN, RENAME, UNLINK, CUT, LOCK, KINDS };
+/* Notes a file that has the descriptor of a standard stream. */
+static void watch(int file) {
+    if (file <= 2) note('b', file);
+}
 
-static const char *const NAMES[KINDS] = {"GROWTH", "WRITE", "READ", "SYNC", "THREAD", "OPEN", "RENAME", "UNLINK", "CUT", "LOCK"};
+enum { GROWTH, WRITE, READ, SYNC, THREAD, OPEN, STAT, RENAME, UNLINK, CUT, LOCK, KINDS };
+
+static const char *const NAMES[KINDS] = {
+    "GROWTH", "WRITE", "READ", "SYNC", "THREAD", "OPEN", "STAT", "RENAME", "UNLINK", "CUT", "LOCK",
+};
 
 /* Which call of each kind fails, if one does, and how many there were. What is before `begin` isn't counted. */
 static unsigned long chosen[KINDS], calls[KINDS];
@@ -89,12 +98,18 @@ __attribute__((constructor)) static void begin(void) {
             chosen[kind] = chosen[kind] * 10 + (unsigned long)(*digit - '0');
 }
 
+/* Whether the process is to be killed at the chosen call of a kind. */
+static int kills_at(int kind) {
+    const char *named = getenv("KILL");
+    return named && !strcmp(named, NAMES[kind]);
+}
+
 /* Whether this call of a kind is the one that fails. A half write comes before the process is killed. */
 static int is_chosen(int kind) {
     char line[16];
     if (!chosen[kind] || __atomic_add_fetch(&calls[kind], 1, __ATOMIC_SEQ_CST) != chosen[kind]) return 0;
     tell(line, (size_t)snprintf(line, sizeof line, "f %s", NAMES[kind]));
-    if (getenv("KILL") && !getenv("HALF")) kill(getpid(), SIGKILL);
+    if (kills_at(kind) && !getenv("HALF")) kill(getpid(), SIGKILL);
     return 1;
 }
 
@@ -103,6 +118,7 @@ void *malloc(size_t size) { return is_chosen(GROWTH) ? 0 : __libc_malloc(size); 
 void *realloc(void *old, size_t size) { return is_chosen(GROWTH) ? 0 : __libc_realloc(old, size); }
 
 static int synced(long call, int file) {
+    watch(file);
     note('s', file);
     return is_named("UNSYNCED", file) || is_chosen(SYNC) ? failed() : (int)syscall(call, file);
 }
@@ -113,6 +129,7 @@ int fdatasync(int file) { return synced(FDATASYNC, file); }
 
 ssize_t pread(int file, void *into, size_t size, long at) {
     long held[] = {1, 500000000};
+    watch(file);
     if (is_named("HELD", file)) syscall(NANOSLEEP, held, 0);
     return is_named("UNREAD", file) || is_chosen(READ) ? failed() : syscall(PREAD, file, into, size, at);
 }
@@ -120,10 +137,11 @@ ssize_t pread(int file, void *into, size_t size, long at) {
 ssize_t pread64(int file, void *into, size_t size, long at) { return pread(file, into, size, at); }
 
 ssize_t pwrite(int file, const void *from, size_t size, long at) {
+    watch(file);
     note('w', file);
     if (!is_chosen(WRITE)) return syscall(PWRITE, file, from, size, at);
     if (getenv("HALF")) syscall(PWRITE, file, from, size / 2, at);
-    if (getenv("KILL")) kill(getpid(), SIGKILL);
+    if (kills_at(WRITE)) kill(getpid(), SIGKILL);
     return failed();
 }
 
@@ -143,7 +161,16 @@ int open(const char *path, int how, ...) {
 
 int open64(const char *path, int how, int mode) { return open(path, how, mode); }
 
-int rename(const char *from, const char *to) { return is_chosen(RENAME) ? failed() : (int)syscall(RENAMED, from, to); }
+int statx(int folder, const char *path, int how, unsigned what, void *into) {
+    return is_chosen(STAT) ? failed() : (int)syscall(STATX, folder, path, how, what, into);
+}
+
+int rename(const char *from, const char *to) {
+    char line[LONGEST + 4];
+    int answer = is_chosen(RENAME) ? failed() : (int)syscall(RENAMED, from, to);
+    if (!answer) tell(line, (size_t)snprintf(line, LONGEST + 3, "r %s", to));
+    return answer;
+}
 
 int unlink(const char *path) { return is_chosen(UNLINK) ? failed() : (int)syscall(UNLINKED, path); }
 
@@ -200,13 +227,17 @@ class Wrapper:
         self.room.cleanup()
 
 
-def has_failed(story):
-    """Whether the call that was to fail did. The file goes."""
+def has_failed(story, kind=""):
+    """Whether the call that was to fail did, of this kind if one is named. The file goes."""
     with story:
-        return any(line.startswith(b"f ") for line in story)
+        return any(line.startswith(b"f " + kind.encode()) for line in story)
+
+
+def lines_of(story):
+    """What was done, and to which path, in order, by the file that STORY named."""
+    return [tuple(line.split(" ", 1)) for line in Path(story).read_text().splitlines()]
 
 
 def story_of(story, path):
     """What was done to a path, in order, by the file that STORY named: `w` for writes, `s` for a sync."""
-    lines = [line.split(" ", 1) for line in Path(story).read_text().splitlines()]
-    return "".join(what for what, named in lines if named == path)
+    return "".join(what for what, named in lines_of(story) if named == path)

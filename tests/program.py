@@ -25,6 +25,7 @@ import decks
 import devices
 import failing
 import flaws
+import folders
 import hostile
 import kills
 import resumed
@@ -35,7 +36,7 @@ import texts
 import voids
 import words
 from checks import RUNS, SECONDS, SHOWN, SMALL, Checks, Ran, ends, fail, run, same, shows, shows_runs, start, whole
-from logs import LATER, LOGS, LONG, SCALE, TWO, body, contents_of, counts_of, entry, inputs_of, log, on_logs, run_in
+from logs import EIGHT, LATER, LOGS, LONG, SCALE, TWO, body, contents_of, counts_of, inputs_of, log, on_logs, run_in
 
 # ---- Scripts
 
@@ -346,26 +347,25 @@ def log_files_are_recovered():
 
 @shows
 def log_files_of_eight_loggers_are_recovered():
-    files = [log(n, 8, body(9, entry(n + 1, n + 1, n))) for n in range(8)]
     shown = b"durable 9\ncommits 8\nwarehouse 1 ytd 208.00\ndistrict 1 1 ytd 108.00 next 11\n"
-    ends("of recover", on_logs("recover", files), 0, shown + b"district 1 2 ytd 100.00 next 11\n")
-    ends("of check", on_logs("check", files), 0, whole(b"", 8))
+    ends("of recover", on_logs("recover", EIGHT), 0, shown + b"district 1 2 ytd 100.00 next 11\n")
+    ends("of check", on_logs("check", EIGHT), 0, whole(b"", 8))
 
 
 @shows
 def log_files_are_recovered_alike_in_any_number_of_threads():
-    eight = [log(n, 8, body(9, entry(n + 1, n + 1, n))) for n in range(8)]
     kinds = [
         ("two files", LOGS, 0),
-        ("eight files", eight, 0),
+        ("eight files", EIGHT, 0),
         ("a missing commit", [log(0, 2, body(5)), LATER], 1),
         ("a file without a header", [LOGS[0], b""], 1),
+        ("two files without a header", [b"", b""], 1),
     ]
     for subcommand in ("recover", "check"):
         for what, logs, status in kinds:
             alone = on_logs(subcommand, logs)
             same(f"the status of {subcommand} of {what}", alone.status, status)
-            for threads in ("1", "2", "8"):
+            for threads in map(str, range(1, 9)):
                 ran = on_logs(subcommand, logs, scale=[*SMALL[1:], "--threads", threads])
                 ends(f"of {subcommand} of {what} in {threads} threads", ran, *alone)
 

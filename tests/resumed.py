@@ -7,6 +7,7 @@ import signal
 import subprocess
 import tempfile
 import time
+from collections import namedtuple
 from pathlib import Path
 
 import kills
@@ -16,6 +17,7 @@ from logs import (
     FIRST_VERSION, LATER, LATEST_EPOCH, LOGS, LONG, SCALE, TWO, body, contents_of, counts_of, entry, inputs_of, log,
     put_files, run_in, void,
 )
+from voids import replayed
 
 # The scale of SMALL, one terminal, and no input.
 NO_INPUT = [*SMALL[1:], "--terminals", "1", "--count", "0", "--resume"]
@@ -61,6 +63,67 @@ def a_run_goes_on_behind_what_log_files_hold():
         for before, now in zip(files, left):
             front = before[:-1] + b"\1" + added
             same(f"the beginning of a file that was gone on with of {what}", now[: len(front)], front)
+
+
+# The first file of LOGS once its restart was stopped between the files, and once the next one was stopped there too.
+BEGUN = LOGS[0][:-1] + b"\1" + void(6, 8) + b"\0"
+BEGUN_AGAIN = BEGUN[:-1] + b"\1" + void(8, 8) + b"\0"
+
+# Two files that were gone on with, until a second stop: of three commits, and one of epoch 10 that isn't durable.
+SECOND_LIFE = [
+    BEGUN[:-1] + b"\1" + body(9, entry(3, 9, 0)) + b"\0",
+    LATER[:-1] + b"\1" + void(6, 8) + b"\1" + body(12, entry(4, 10, 1)) + b"\0",
+]
+SECOND_BEGUN = SECOND_LIFE[0][:-1] + b"\1" + void(10, 12) + b"\0"
+
+# A restart: its files, the one to which it appends a void body, of which epochs, and which the next restart declares
+# void in both files where that body hasn't come in, and where it has; and the commits and the epoch that it says.
+Restart = namedtuple("Restart", "what files place epochs without behind said")
+
+RESTARTS = [
+    Restart("the first file", LOGS, 0, (6, 8), (6, 8), (8, 8), (2, 9)),
+    Restart("the second file", [BEGUN, LATER], 1, (6, 8), (8, 8), None, (2, 9)),
+    Restart("the first file, in a second restart", [BEGUN, LATER], 0, (8, 8), (8, 8), (8, 8), (2, 9)),
+    Restart("the second file, in a second restart", [BEGUN_AGAIN, LATER], 1, (8, 8), (8, 8), None, (2, 9)),
+    Restart("the first file, in a second life", SECOND_LIFE, 0, (10, 12), (10, 12), None, (3, 13)),
+    Restart("the second file, in a second life", [SECOND_BEGUN, SECOND_LIFE[1]], 1, (10, 12), None, None, (3, 13)),
+]
+
+
+def torn(file, text):
+    """What a stop may leave of a file while a body comes in at its end: where it is torn, what is left of the file, and
+    whether the body has come in."""
+    whole = text + b"\0"
+    for place in range(1, len(whole)):
+        yield f"behind its byte {place}", file + whole[:place], False
+        if place % 8 == 0:
+            yield f"before its byte {place}", file + bytes(place) + whole[place:], False
+    yield "before its gate", file + whole, False
+    yield "in its gate", file[:-1] + b"\2" + whole, False
+    yield "behind its gate", file[:-1] + b"\1" + whole, True
+
+
+def goes_on_behind(what, files, whole, epochs, said):
+    """Checks of a run on files that say what these whole ones do: its restart declares these epochs void in each."""
+    ran, left = on_files(files, *NO_INPUT)
+    same(f"how it ends {what}", (ran.status, ran.err), (0, b""))
+    same(f"what is said first {what}", said_first(ran.out)[0], b"resumed %d epoch %d" % said)
+    added = void(*epochs) + b"\1" if epochs else b""
+    for file, now in zip(whole, left):
+        front = file[:-1] + b"\1" + added
+        same(f"the beginning of a file {what}", now[: len(front)], front)
+    same(f"the commits that are left {what}", replayed(left).splitlines()[1], b"commits %d" % said[0])
+
+
+@shows_runs
+def a_run_goes_on_where_a_restart_was_stopped_at_any_byte():
+    for restart in RESTARTS:
+        for where, left, is_in in torn(restart.files[restart.place], void(*restart.epochs)):
+            files, whole = list(restart.files), list(restart.files)
+            files[restart.place] = left
+            whole[restart.place] = left if is_in else whole[restart.place]
+            epochs = restart.behind if is_in else restart.without
+            goes_on_behind(f"{where} of a void body of {restart.what}", files, whole, epochs, restart.said)
 
 
 def left_in(folder):

@@ -3,6 +3,7 @@
 import os
 import pty
 import re
+import struct
 import subprocess
 import tempfile
 import threading
@@ -10,7 +11,7 @@ import tty
 
 import preloaded
 from checks import SECONDS, SMALL, Ran, ends, fail, run, same, shows, shows_runs, start, whole
-from logs import LOGS, put_files
+from logs import LOGS, LONG, body, data_write, log, put_files
 
 SIZES = [len(log) for log in LOGS]
 
@@ -27,8 +28,9 @@ def words_of(subcommand, folder, *words):
     return [subcommand, *SMALL[1:], "--logs", folder, "--loggers", "2", *words]
 
 
-def on_terminal(words, env=None):
-    """Runs the program with a terminal as its standard error: what that was shown is told as what the errors got."""
+def on_terminal(words, env=None, until=None):
+    """Runs the program with a terminal as its standard error: what that was shown is told as what the errors got. Once
+    it has what the pattern `until` finds, the program is killed."""
     terminal, end = pty.openpty()
     tty.setraw(end)
     process = start(words, stdin=subprocess.DEVNULL, stdout=subprocess.PIPE, stderr=end, env=env)
@@ -39,6 +41,8 @@ def on_terminal(words, env=None):
     try:
         while piece := os.read(terminal, 65536):
             shown += piece
+            if until and until.search(shown):
+                process.kill()
     except OSError:  # The other end was closed.
         pass
     finally:
@@ -93,8 +97,8 @@ def a_line_is_cut_to_the_terminal_s_width():
     with tempfile.TemporaryDirectory() as folder:
         put_files(folder, LOGS)
         line = after(SIZES[0])
-        # A number isn't cut: words are left out whole.
-        cut = lambda kept: line if len(line) <= kept else line[: line.rindex(b" ", 0, kept) + 1]
+        # A number isn't cut: words are left out whole, and blanks stand in their place.
+        cut = lambda kept: line if len(line) <= kept else line[: line.rindex(b" ", 0, kept)].ljust(kept)
         for columns, kept in (("20", 19), ("24", 23), ("19", 79), ("x", 79), ("200", 199)):
             env = {**wrapper.environment(HELD=f"{folder}/log-1"), "COLUMNS": columns}
             ran = on_terminal(words_of("recover", folder), env)
@@ -103,6 +107,55 @@ def a_line_is_cut_to_the_terminal_s_width():
             same(f"the first line in {columns} columns", (front, first), (b"", cut(kept)))
             same(f"the lines that are longer in {columns} columns", [it for it in others if len(it) > kept], [])
     wrapper.close()
+
+
+@shows
+def bytes_of_a_file_count_as_they_are_read():
+    wrapper = preloaded.Wrapper()
+    with tempfile.TemporaryDirectory() as folder:
+        texts = b"".join(data_write(place, b"x" * 500) for place in range(20))
+        file = log(0, 1, body(5, *[struct.pack("<QQHH", n, 4 << 32, 0, 20) + texts for n in range(1, 121)]))
+        # More than is read at once.
+        same("whether a file has more than a MiB", 2**20 < len(file) < 2**21, True)
+        put_files(folder, [file])
+        words = ["recover", *SMALL[1:], "--logs", folder, "--loggers", "1"]
+        alone = run(words)
+        ran = on_terminal(words, wrapper.environment(HELD=f"{folder}/log-0"))
+        ends("of a slow file", ran._replace(err=b""), 0, alone.out, alone.err)
+        counted = [tuple(map(int, pair)) for pair in re.findall(rb"\rread (\d+) of (\d+) bytes, 0 entries", ran.err)]
+        same("whether what was read is shown before all is", (2**20, len(file)) in counted, True)
+    wrapper.close()
+
+
+# The epoch up to which two files are durable, whose number takes ten places.
+LATE = 4_000_000_000
+
+
+def late(logger):
+    """The file of a logger of two, at the scale of LONG."""
+    text = log(logger, 2, body(LATE))
+    return text[:16] + struct.pack("<6I", *map(int, LONG[1::2])) + text[40:]
+
+
+WORDS_OF_A_RUN = rb"inputs \d+ commits \d+ \(\d+/s\) acknowledged \d+ epoch 4\d{9} durable 4\d{9}".split()
+
+
+@shows_runs
+def a_run_s_line_is_cut_to_the_terminal_s_width():
+    two = re.compile(rb"(\rinputs [^\r]*){2}\r")
+    for columns, kept in ((None, 79), ("200", 199)):
+        env = {name: value for name, value in os.environ.items() if name != "COLUMNS"}
+        with tempfile.TemporaryDirectory() as folder:
+            put_files(folder, map(late, (0, 1)))
+            words = ["run", "--logs", folder, *LONG, "--count", "1000000", "--resume"]
+            ran = on_terminal(words, env | ({"COLUMNS": columns} if columns else {}), until=two)
+        same(f"what is said first in {columns} columns", ran.out[:28], b"resumed 0 epoch %d\n" % (LATE + 1))
+        lines = re.findall(rb"\r(inputs [^\r]*)(?=\r)", ran.err)
+        same(f"whether there are lines in {columns} columns", len(lines) >= 2, True)
+        for line in lines:
+            same(f"whether {line} is cut to {kept}", (len(line) <= kept, b" durable 4" in line), (True, kept == 199))
+            are_whole = all(re.fullmatch(*pair) for pair in zip(WORDS_OF_A_RUN, line.split()))
+            same(f"whether {line} is of whole words", are_whole, True)
 
 
 @shows_runs

@@ -1,6 +1,7 @@
 """Tests of what the start of a run leaves, and of what stands in log files where a call of the system fails, the process is
 killed at one, or a standard stream is closed."""
 
+import fcntl
 import itertools
 import os
 import re
@@ -11,12 +12,17 @@ from pathlib import Path
 import kills
 import preloaded
 from checks import SMALL, Checks, brief, ends, fail, run, same, shows_runs
-from logs import LATEST_EPOCH, LOGS, SCALE, TWO, body, contents_of, counts_of, entry, log, put_files, run_in
+from logs import (
+    LATEST_EPOCH, LOGS, LONG, SCALE, TWO, body, contents_of, counts_of, entry, log, put_files, run_in,
+)
 from screens import on_terminal
 
 # ---- Closed streams
 
 STREAMS = [(0,), (1,), (2,), (0, 1, 2)]
+
+# The options with which LOGS were made.
+OF_LOGS = [*SMALL[1:], "--loggers", "2"]
 
 
 def closed(streams):
@@ -32,13 +38,12 @@ def closed(streams):
 @shows_runs
 def closed_streams_leave_log_files_alone():
     for streams in STREAMS:
-        for subcommand in ("recover", "check"):
+        for subcommand, options in (("recover", OF_LOGS), ("check", OF_LOGS), ("info", [])):
             with tempfile.TemporaryDirectory() as folder:
                 put_files(folder, LOGS)
-                words = [subcommand, *SMALL[1:], "--logs", folder, "--loggers", "2"]
-                ran = run(words, before=closed(streams))
+                ran = run([subcommand, "--logs", folder, *options], before=closed(streams))
                 same(f"what {subcommand} leaves without streams {streams}", contents_of(folder), dict(zip(("log-0", "log-1"), LOGS)))
-                same(f"its status", ran.status, int(1 in streams))
+                same(f"the status of {subcommand} without streams {streams}", ran.status, int(1 in streams))
 
 
 @shows_runs
@@ -57,6 +62,24 @@ def closed_streams_take_nothing_of_a_run():
             same(f"whether a run goes on without streams {streams}", more, 1 not in streams)
 
 
+@shows_runs
+def nothing_has_the_descriptor_of_a_closed_stream():
+    wrapper = preloaded.Wrapper()
+    kinds = [
+        ("run", [*OF_LOGS, "--count", "3"]), ("run", [*OF_LOGS, "--count", "3", "--resume", "--seed", "2"]),
+        ("recover", OF_LOGS), ("check", OF_LOGS), ("info", []),
+    ]
+    for streams in STREAMS:
+        with tempfile.TemporaryDirectory() as folder:
+            for subcommand, options in kinds:
+                with tempfile.NamedTemporaryFile() as notes:
+                    env = wrapper.environment(STORY=notes.name)
+                    run([subcommand, "--logs", folder, *options], before=closed(streams), env=env)
+                    taken = {path for what, path in preloaded.lines_of(notes.name) if what == "b"}
+                    same(f"what has one of {streams} of {subcommand}", taken, set())
+    wrapper.close()
+
+
 # ---- Starts that are refused or killed
 
 EMPTY = [*SCALE, *TWO, "--count", "0"]
@@ -64,22 +87,33 @@ EMPTY = [*SCALE, *TWO, "--count", "0"]
 # The calls of a start, at each of which one fails.
 CALLS = [{"OPEN": 0}, {"LOCK": 0}, {"WRITE": 0}, {"WRITE": 0, "HALF": 1}, {"SYNC": 0}, {"RENAME": 0}]
 
+# One that only asks what there is, of which a failure may be one of what is asked for.
+ASKING = {"STAT": 0}
+
 # What a killed start may leave.
 LEFT = {"log-0.new": LOGS[0][:30], "log-1.new": b""}
 
 
-def at_each_call(wrapper, names, judge, *words, files=(), **more):
+def failing_at(wrapper, names, call, killed):
+    """The environment of a program of whose calls of the kind that is 0 here this one fails, or is where it is killed;
+    a file to hand to `has_failed`; and the kind."""
+    kind = next(name for name, value in names.items() if not value)
+    chosen = {name: value or call for name, value in names.items()}
+    return *wrapper.failing(**chosen, **({"KILL": kind} if killed else {})), kind
+
+
+def at_each_call(wrapper, names, judge, *words, files=(), killed=False):
     """Runs terminals in a folder of these files, with the first, the second .. call of a kind failing, or the process
     killed there, until there is none. Gives how many there were."""
     for call in itertools.count(1):
-        env, story = wrapper.failing(**{name: value or call for name, value in names.items()}, **more)
+        env, story, kind = failing_at(wrapper, names, call, killed)
         with tempfile.TemporaryDirectory() as folder:
             for name, text in dict(files).items():
                 (Path(folder) / name).write_bytes(text)
             ran = run_in(folder, *words, env=env)
-            if not preloaded.has_failed(story):
+            if not preloaded.has_failed(story, kind):
                 return call - 1
-            judge(f"with {names} at {call}", ran, folder)
+            judge(f"with {names} at {call}{', killed' if killed else ''}", ran, folder)
 
 
 def goes_on(what, folder):
@@ -108,10 +142,30 @@ def a_start_that_is_refused_leaves_nothing():
         calls = at_each_call(wrapper, names, is_refused_cleanly, *EMPTY)
         same(f"whether so many calls have failed of {names}", calls >= 2, True)
     # Where a file can't be taken over, it is left as it is for the next run.
-    for names in [*CALLS, {"CUT": 0}]:
+    for names in [*CALLS, ASKING, {"CUT": 0}]:
         judge = lambda what, ran, folder: goes_on(what, folder)
         calls = at_each_call(wrapper, names, judge, *EMPTY, files=LEFT)
         same(f"whether so many calls have failed of {names} behind a killed start", calls >= 2, True)
+    wrapper.close()
+
+
+@shows_runs
+def what_a_refused_start_can_not_remove_is_taken_over():
+    wrapper = preloaded.Wrapper()
+    judge = lambda what, ran, folder: goes_on(what, folder)
+    for killed in (False, True):
+        # The second file's sync, before the files have their names.
+        calls = at_each_call(wrapper, {"SYNC": 2, "UNLINK": 0}, judge, *EMPTY, killed=killed)
+        same("how many are removed", calls, 2)
+    # What a killed start of more loggers left: it can stay.
+    others = {"log-4.new": b"", "log-6.new": b"SILO"}
+
+    def stays(what, ran, folder):
+        same(f"the status {what}", ran.status, 0)
+        same(f"how many stay {what}", len(contents_of(folder).keys() & others.keys()), 1)
+
+    same("how many stay", at_each_call(wrapper, {"UNLINK": 0}, stays, *EMPTY, files=others), 2)
+    same("how many kill", at_each_call(wrapper, {"UNLINK": 0}, judge, *EMPTY, files=others, killed=True), 2)
     wrapper.close()
 
 
@@ -132,9 +186,41 @@ def is_killed(what, ran, folder):
 def a_start_that_is_killed_is_taken_up():
     wrapper = preloaded.Wrapper()
     for files in ({}, LEFT):
-        for names in [*CALLS, *([{"CUT": 0}] if files else [])]:
-            calls = at_each_call(wrapper, names, is_killed, *EMPTY, files=files, KILL=1)
+        for names in [*CALLS, ASKING, *([{"CUT": 0}] if files else [])]:
+            calls = at_each_call(wrapper, names, is_killed, *EMPTY, files=files, killed=True)
             same(f"whether it was killed at so many of {names}", calls >= 2, True)
+    wrapper.close()
+
+
+def between_names():
+    """What a start leaves that is killed between its names."""
+    with tempfile.TemporaryDirectory() as folder:
+        run_in(folder, *EMPTY)
+        fronts = [text[:48] + b"\0" for _, text in sorted(contents_of(folder).items())]
+    return dict(zip(("log-0", "log-1.new"), fronts))
+
+
+@shows_runs
+def a_start_that_was_killed_between_its_names_is_ended():
+    wrapper = preloaded.Wrapper()
+    files = between_names()
+    judge = lambda what, ran, folder: goes_on(what, folder)
+    for names in [*CALLS, ASKING, {"READ": 0}]:
+        for killed in (False, True):
+            calls = at_each_call(wrapper, names, judge, *EMPTY, "--resume", files=files, killed=killed)
+            same(f"whether there are such calls of {names}", calls >= 1, True)
+    wrapper.close()
+
+
+@shows_runs
+def files_are_whole_before_they_have_their_names():
+    wrapper = preloaded.Wrapper()
+    with tempfile.TemporaryDirectory() as folder, tempfile.NamedTemporaryFile() as notes:
+        ran = run_in(folder, *EMPTY, env=wrapper.environment(STORY=notes.name))
+        same("the status", ran.status, 0)
+        lines = [f"{what} {path.replace(folder, 'DIR')}" for what, path in preloaded.lines_of(notes.name)]
+        made = [f"{what} DIR/log-{logger}.new" for logger in (0, 1) for what in "ws"]
+        same("what is done first", lines[:8], [*made, "s DIR", "r DIR/log-0", "r DIR/log-1", "s DIR"])
     wrapper.close()
 
 
@@ -148,32 +234,33 @@ def a_resumed_run_that_fails_or_is_killed_keeps_what_was_recovered():
 
     def keeps(what, ran, folder):
         left = kills.examine(Checks.program, folder, 2, SCALE)
-        same(f"whether all is kept {what}", left.commits >= before.commits, True)
+        told = counts_of(ran.out.partition(b"\n")[2]).acknowledged if ran.out.count(b"\n") > 1 else 0
+        same(f"whether all is kept {what}", left.commits >= before.commits + told, True)
         ran = run_in(folder, *words)
         same(f"how the next one ends {what}", (ran.status, ran.err), (0, b""))
 
-    for names in [{"READ": 0}, *CALLS[:-1]]:
-        for more in ({}, {"KILL": 1}):
-            calls = at_each_call(wrapper, names, keeps, *words, files=files, **more)
-            same(f"whether so many calls are of {names}, {more}", calls >= 2, True)
+    for names in [{"READ": 0}, ASKING, *CALLS[:-1]]:
+        for killed in (False, True):
+            calls = at_each_call(wrapper, names, keeps, *words, files=files, killed=killed)
+            same(f"whether so many calls are of {names}", calls >= 2, True)
     wrapper.close()
 
 
 @shows_runs
 def reading_that_fails_or_is_killed_changes_no_file():
     wrapper = preloaded.Wrapper()
-    for subcommand, names, more in itertools.product(
-        ("recover", "check"), ({"OPEN": 0}, {"LOCK": 0}, {"READ": 0}), ({}, {"KILL": 1})
+    for subcommand, names, killed in itertools.product(
+        ("recover", "check"), ({"OPEN": 0}, {"LOCK": 0}, {"READ": 0}, ASKING), (False, True)
     ):
         for call in itertools.count(1):
-            env, story = wrapper.failing(**dict.fromkeys(names, call), **more)
+            env, story, kind = failing_at(wrapper, names, call, killed)
             with tempfile.TemporaryDirectory() as folder:
                 put_files(folder, LOGS)
-                ran = run([subcommand, *SMALL[1:], "--logs", folder, "--loggers", "2"], env=env)
-                if not preloaded.has_failed(story):
+                ran = run([subcommand, "--logs", folder, *OF_LOGS], env=env)
+                if not preloaded.has_failed(story, kind):
                     break
-                what = f"of {subcommand} with {names} at {call}, {more}"
-                same(f"the status {what}", ran.status, -9 if more else 1)
+                what = f"of {subcommand} with {names} at {call}{', killed' if killed else ''}"
+                same(f"the status {what}", ran.status, -9 if killed else 1)
                 same(f"the files {what}", contents_of(folder), dict(zip(("log-0", "log-1"), LOGS)))
         same(f"whether there are such calls of {subcommand}, {names}", call >= 3, True)
     wrapper.close()
@@ -212,6 +299,28 @@ def files_of_others_are_left_alone():
         (Path(folder) / "log-0.new").symlink_to("mine")
         same("the status beside a link", run_in(folder, *words).status, 1)
         same("what the link leads to", (Path(folder) / "mine").read_bytes(), b"mine")
+
+
+def locked(folder, name, text):
+    """A file of a folder that this process has locked."""
+    file = open(Path(folder) / name, "w+b", buffering=0)
+    file.write(text)
+    fcntl.flock(file, fcntl.LOCK_EX)
+    return file
+
+
+@shows_runs
+def what_another_start_is_making_is_left_alone():
+    for logger in (0, 1):
+        name = f"log-{logger}.new"
+        with tempfile.TemporaryDirectory() as folder, locked(folder, name, b"SILO"):
+            err = b"9 Device\nDIR/%s: in use by another process\n" % name.encode()
+            ends(f"where {name} is locked", run_in(folder, *EMPTY), 1, err=err)
+            same(f"the files where {name} is locked", contents_of(folder), {name: b"SILO"})
+    with tempfile.TemporaryDirectory() as folder, locked(folder, "log-3.new", b"SILO"):
+        same("the status where another logger's is locked", run_in(folder, *EMPTY).status, 0)
+        files = contents_of(folder)
+        same("the files then", (sorted(files), files["log-3.new"]), (["log-0", "log-1", "log-3.new"], b"SILO"))
 
 
 @shows_runs
@@ -271,8 +380,8 @@ def commits_of_the_last_epoch_are_told():
         same("how it ends", (ran.status, ran.err), (1, text % counts.commits))
 
 
-ALARM = rb"\r9 Device: (.*)/log-[01]: can't be written: Input/output error \(os error 5\); " \
-    rb"replies are durable up to epoch \d+, and no later one is given *\n"
+ALARM = rb"\r9 Device: .*/log-[01]: can't be written: Input/output error \(os error 5\); " \
+    rb"replies are durable up to epoch (\d+) *\n"
 
 
 @shows_runs
@@ -293,12 +402,42 @@ def a_file_that_can_not_be_written_is_told_at_once_on_a_terminal():
     wrapper.close()
 
 
+# The line on the file stands before others on how far the run is, and there is a word on it at the end.
+TOLD = re.compile(
+    rb"(?:\rinputs [^\r\n]*)*" + ALARM + rb"(?:\rinputs [^\r\n]*)+"
+    rb"\r(\d+\.\d) s, (\d+) acknowledged commits/s, [^\r\n]*\n"
+    rb"9 Device\n.*: can't be written: Input/output error \(os error 5\)\n"
+)
+
+
+@shows_runs
+def a_run_whose_logger_stopped_tells_how_many_commits_are_acknowledged_a_second():
+    wrapper = preloaded.Wrapper()
+    # How many inputs are a long run, goes by the machine.
+    for inputs in (40_000, 200_000, 1_000_000):
+        env, story = wrapper.failing(WRITE=40, COLUMNS=200)
+        with story, tempfile.TemporaryDirectory() as folder:
+            ran = on_terminal(["run", "--logs", folder, *LONG, "--count", str(inputs)], env)
+        if told := TOLD.fullmatch(ran.err):
+            break
+    wrapper.close()
+    if not told:
+        return fail(f"a terminal was shown {brief(ran.err)}")
+    same("the status", ran.status, 1)
+    counts, seconds, rate = counts_of(ran.out), float(told[2]), int(told[3])
+    same("whether some commits aren't acknowledged", counts.acknowledged < counts.commits, True)
+    same("whether what is told to be durable is", int(told[1]) <= counts.durable, True)
+    least, most = (counts.acknowledged / (seconds + off) for off in (0.1, 0))
+    same(f"whether {rate} of {counts.acknowledged} is the rate", least <= rate + 1 and rate <= most, True)
+
+
 @shows_runs
 def a_long_start_says_what_it_does_on_a_terminal():
-    for orders, front in ((12_000, rb"\rmaking records *\r.* commits/s, .*\n"), (3_000, rb"")):
+    for orders, says in ((12_000, True), (3_000, False)):
         scale = f"--warehouses 2 --orders {orders} --terminals 1 --count 1".split()
         with tempfile.TemporaryDirectory() as folder:
             ran = on_terminal(["run", "--logs", folder, *scale])
             same("the status", ran.status, 0)
-            if not re.fullmatch(front, ran.err, re.DOTALL):
+            front = rb"\rmaking records *\r(?s:.*) commits/s, .*\n" if says else rb"(?!\rmaking)(?s:.*)"
+            if not re.fullmatch(front, ran.err):
                 fail(f"a terminal was shown {brief(ran.err)} of an order cap of {orders}")

@@ -22,7 +22,7 @@ use anyhow::bail;
 use log_disk::{Disk, FileDisk, Memory};
 use money::Refusal;
 use population::Population;
-use program_run::{Plan, Slot, drive};
+use program_run::{Plan, Slot, created, drive_new};
 use run_threads::Pace;
 use std::alloc::Global;
 use std::rt::{Clock, Env, Files};
@@ -138,7 +138,8 @@ fn run_on<
     let mut told = Vec::new(rt.alloc());
     let tries = Tries::new();
     let gates = gates(rt.alloc(), &tries, load.terminals)?;
-    drive(rt, rt.alloc(), population, slots, gates, &plan, &mut told).map_err(Refusal::from)?;
+    let logs = created(rt.alloc(), population.scale(), population.seed(), slots)?;
+    drive_new(rt, rt.alloc(), population, logs, gates, &plan, &mut told).map_err(Refusal::from)?;
     let seen = dial.seen();
     println!(rt;
         "commits {} a second {} latency {} us",

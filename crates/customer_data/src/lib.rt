@@ -1,6 +1,7 @@
 //! C_DATA, a customer's text of 300 to 500 characters (TPC-C 1.3.1), as the 63 words that stand for it in a record: a
 //! text is made into words, words into their text, and a text is put at the left of it, as a Payment of a customer with
-//! bad credit does (TPC-C 2.5.2.2). Nothing here takes memory but a Payment's own text.
+//! bad credit does (TPC-C 2.5.2.2). Nothing here takes memory but a Payment's own text, `CustomerData::of_words` and
+//! copies.
 #![tactic(auto)]
 
 #[cfg(test)]

@@ -32,9 +32,9 @@ record ReachesOn (front others : List ℕ) (ends : EndsText front others) (asked
   pub whole : Reaches (front ++ others) asked at last (rest ++ others)
   pub more : List (List ℕ)
   pub are_contents : All IsLong more
-  pub rest_is : rest ≡ framed more ++ ends.left
+  pub rest_is : rest ≡ framed more ++ ends.begins.left
   pub small : length (rest ++ others) < 2 ^ 64
-  pub none_behind : length (ends.left ++ others) < 2 ^ 64
+  pub none_behind : length (ends.begins.left ++ others) < 2 ^ 64
 
 ends_none : (left others : List ℕ) → length (left ++ others) < 2 ^ 64 → IsClosed left ⊎ HasNoRoom left others → (b : BodyView) (behind : List ℕ)
     → left ++ others ≡ 1 ∷ (body_text b ++ behind) → ⊥
@@ -50,8 +50,8 @@ reaches_on front others ends asked at last rest small r =
     ∙ ap (λ (l : List ℕ). header_text asked ++ l) (append_assoc (opened r.bodies) rest others) in
     let parts = in_parts front others ends asked behind small text in
     let less : length behind < 2 ^ 64 = omega (arith, small, ap length text, length-append (header_text asked) behind) in
-    let way = along ends.contents (ends.left ++ others) r.bodies (rest ++ others) ends.are_contents
-    (ends_none ends.left others parts.small ends.ends) (omega (arith, less, ap length parts.behind_is)) parts.behind_is in
+    let way = along ends.begins.contents (ends.begins.left ++ others) r.bodies (rest ++ others) ends.begins.are_contents
+    (ends_none ends.begins.left others parts.small ends.ends) (omega (arith, less, ap length parts.behind_is)) parts.behind_is in
     record {
       whole = record {
         bodies = r.bodies;
@@ -61,7 +61,7 @@ reaches_on front others ends asked at last rest small r =
       };
       more = way.more;
       are_contents = way.are_contents;
-      rest_is = append_cancel_right rest (framed way.more ++ ends.left) others (way.rest_is ∙ sym (append_assoc (framed way.more) ends.left others));
+      rest_is = append_cancel_right rest (framed way.more ++ ends.begins.left) others (way.rest_is ∙ sym (append_assoc (framed way.more) ends.begins.left others));
       small = omega (arith, less, length-append (opened r.bodies) (rest ++ others));
       none_behind = parts.small;
     }
@@ -213,7 +213,7 @@ no_body_on front others ends asked at flaw small is =
     let n = is.0 in
     let size : ℕ = length (front ++ others) in
     let on = reaches_on front others ends asked n.gate n.last (1 ∷ n.text) small n.reached in
-    let same = same_there n.last asked n.text others ends.left on.more on.are_contents ends.ends on.rest_is on.none_behind (omega (arith, on.small)) in
+    let same = same_there n.last asked n.text others ends.begins.left on.more on.are_contents ends.ends on.rest_is on.none_behind (omega (arith, on.small)) in
     let long : size ≡ at + length (n.text ++ others) = omega (arith, n.behind, on.whole.place) in (
       record {
         last = n.last;
@@ -247,7 +247,7 @@ headless_on front others enough none = λ h rest lawful e.
 
 at_least_a_header : (front others : List ℕ) → EndsText front others → 48 ≤ length front
 at_least_a_header front others ends =
-    omega (arith, ap length ends.bytes_are, ends.is_header, length-append ends.header (framed ends.contents ++ ends.left))
+    omega (arith, ap length ends.begins.bytes_are, ends.begins.is_header, length-append ends.begins.header (framed ends.begins.contents ++ ends.begins.left))
 
 flaw_on : (front others : List ℕ) (ends : EndsText front others) (asked : HeaderView) → length (front ++ others) < 2 ^ 64 → (flaw : FileFlaw)
     → HasFlaw front asked flaw → HasFlaw (front ++ others) asked (flaw_in (length (front ++ others)) flaw)
@@ -273,7 +273,7 @@ flaw_on front others ends asked small (OtherHeader field found number) is = (
 )
 flaw_on front others ends asked small (NoGate at) is =
     let on = reaches_on front others ends asked at is.0 [] small is.1 in
-    elim (ends_in_some ends.left others ends.ends (nothing on.more ends.left on.rest_is)) [ ]
+    elim (ends_in_some ends.begins.left others ends.ends (nothing on.more ends.begins.left on.rest_is)) [ ]
   where
     nothing : (more : List (List ℕ)) (left : List ℕ) → [] ≡ framed more ++ left → left ≡ []
     nothing [] left e = sym e

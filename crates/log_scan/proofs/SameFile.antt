@@ -16,18 +16,18 @@ ends_none left others small (inr no_room) = no_room_none left others small no_ro
 
 -- the parts of a file's bytes, of which a front ends its text
 pub record Parts (front others : List ℕ) (ends : EndsText front others) (h : HeaderView) (behind : List ℕ) : Type 0 where
-  pub header_is : ends.header ≡ header_text h
-  pub behind_is : framed ends.contents ++ (ends.left ++ others) ≡ behind
-  pub small : length (ends.left ++ others) < 2 ^ 64
+  pub header_is : ends.begins.header ≡ header_text h
+  pub behind_is : framed ends.begins.contents ++ (ends.begins.left ++ others) ≡ behind
+  pub small : length (ends.begins.left ++ others) < 2 ^ 64
 
 pub in_parts : (front others : List ℕ) (ends : EndsText front others) (h : HeaderView) (behind : List ℕ) → length (front ++ others) < 2 ^ 64
     → front ++ others ≡ header_text h ++ behind → Parts front others ends h behind
 in_parts front others ends h behind small e =
-    let inner : List ℕ = framed ends.contents ++ ends.left in
-    let apart : front ++ others ≡ ends.header ++ (framed ends.contents ++ (ends.left ++ others)) =
-    ap (λ (l : List ℕ). l ++ others) ends.bytes_are ∙ append_assoc ends.header inner others
-    ∙ ap (λ (l : List ℕ). ends.header ++ l) (append_assoc (framed ends.contents) ends.left others) in
-    let two = in_two ends.header (header_text h) (framed ends.contents ++ (ends.left ++ others)) behind (ends.is_header ∙ sym (length-header h))
+    let inner : List ℕ = framed ends.begins.contents ++ ends.begins.left in
+    let apart : front ++ others ≡ ends.begins.header ++ (framed ends.begins.contents ++ (ends.begins.left ++ others)) =
+    ap (λ (l : List ℕ). l ++ others) ends.begins.bytes_are ∙ append_assoc ends.begins.header inner others
+    ∙ ap (λ (l : List ℕ). ends.begins.header ++ l) (append_assoc (framed ends.begins.contents) ends.begins.left others) in
+    let two = in_two ends.begins.header (header_text h) (framed ends.begins.contents ++ (ends.begins.left ++ others)) behind (ends.begins.is_header ∙ sym (length-header h))
     (sym apart ∙ e) in
     record {
       header_is = two.0;
@@ -36,8 +36,8 @@ in_parts front others ends h behind small e =
         arith,
         small,
         ap length apart,
-        length-append ends.header (framed ends.contents ++ (ends.left ++ others)),
-        length-append (framed ends.contents) (ends.left ++ others),
+        length-append ends.begins.header (framed ends.begins.contents ++ (ends.begins.left ++ others)),
+        length-append (framed ends.begins.contents) (ends.begins.left ++ others),
       );
     }
 
@@ -70,15 +70,15 @@ pub shorter : (front others : List ℕ) (h : HeaderView) (bodies : List BodyView
     → IsFile (front ++ others) h bodies → IsFile front h bodies
 shorter front others h bodies ends small is =
     let parts = in_parts front others ends h (opened bodies ++ is.gate ∷ is.rest) small is.text in
-    let none = ends_none ends.left others parts.small ends.ends in
-    let way = along ends.contents (ends.left ++ others) bodies (is.gate ∷ is.rest) ends.are_contents none
+    let none = ends_none ends.begins.left others parts.small ends.ends in
+    let way = along ends.begins.contents (ends.begins.left ++ others) bodies (is.gate ∷ is.rest) ends.begins.are_contents none
     (omega (arith, small, ap length is.text, length-append (header_text h) (opened bodies ++ is.gate ∷ is.rest), ap length parts.behind_is)) parts.behind_is in
-    let last = closed_in_front ends.left others [] is.rest way.more is.gate is.is_closed none ends.ends way.rest_is in
-    let contents : framed ends.contents ≡ opened bodies = way.front ∙ ap (λ (l : List ℕ). opened bodies ++ l) last.0 ∙ append-nil (opened bodies) in
+    let last = closed_in_front ends.begins.left others [] is.rest way.more is.gate is.is_closed none ends.ends way.rest_is in
+    let contents : framed ends.begins.contents ≡ opened bodies = way.front ∙ ap (λ (l : List ℕ). opened bodies ++ l) last.0 ∙ append-nil (opened bodies) in
     record {
       gate = is.gate;
       rest = last.1;
-      text = ends.bytes_are ∙ (λ i. parts.header_is i ++ (contents i ++ last.2 i));
+      text = ends.begins.bytes_are ∙ (λ i. parts.header_is i ++ (contents i ++ last.2 i));
       is_closed = is.is_closed;
       header = is.header;
       lawful = is.lawful;

@@ -13,12 +13,14 @@ use Rattle.log_scan.specs.declared.reading.TheConstants.{HEADER_BYTES, VOID_REST
 -- behind the header no gate was passed yet
 pub at_first : (bytes : List ℕ) → HEADER_BYTES ≤ length bytes → IsWalked bytes HEADER_BYTES
 at_first bytes enough = record {
-  header = take HEADER_BYTES bytes;
-  contents = [];
-  left = drop HEADER_BYTES bytes;
-  bytes_are = sym (take-append-drop HEADER_BYTES bytes);
-  is_header = length-take-le HEADER_BYTES bytes enough;
-  are_contents = All-nil IsLong;
+  begins = record {
+    header = take HEADER_BYTES bytes;
+    contents = [];
+    left = drop HEADER_BYTES bytes;
+    bytes_are = sym (take-append-drop HEADER_BYTES bytes);
+    is_header = length-take-le HEADER_BYTES bytes enough;
+    are_contents = All-nil IsLong;
+  };
   place = omega (
     arith,
     ap length (take-append-drop HEADER_BYTES bytes),
@@ -41,29 +43,31 @@ framed_push (c ∷ cs) content rest =
     ∙ sym (append_assoc (number 8 (length c + 1)) (c ++ framed cs) (1 ∷ (number 8 (length content + 1) ++ (content ++ rest)))))
 
 -- the bytes that are left where one came to
-left_there : (bytes : List ℕ) (gate : ℕ) (w : IsWalked bytes gate) → drop gate bytes ≡ w.left
+left_there : (bytes : List ℕ) (gate : ℕ) (w : IsWalked bytes gate) → drop gate bytes ≡ w.begins.left
 left_there bytes gate w =
-    let front : List ℕ = w.header ++ framed w.contents in
-    let parts : bytes ≡ front ++ w.left = w.bytes_are ∙ sym (append_assoc w.header (framed w.contents) w.left) in
-    let here : gate ≡ length front = omega (arith, w.place, ap length parts, length-append front w.left) in
-    (λ i. drop (here i) (parts i)) ∙ drop-append_seam front w.left
+    let b = w.begins in
+    let front : List ℕ = b.header ++ framed b.contents in
+    let parts : bytes ≡ front ++ b.left = b.bytes_are ∙ sym (append_assoc b.header (framed b.contents) b.left) in
+    let here : gate ≡ length front = omega (arith, w.place, ap length parts, length-append front b.left) in
+    (λ i. drop (here i) (parts i)) ∙ drop-append_seam front b.left
 
 -- behind an open gate with room for its body one comes to the next, once the body was read
 pub next_walked : (bytes more : List ℕ) (gate step : ℕ) → IsWalked bytes gate → LeadsOn (drop gate bytes) step → gate + step ≤ length (bytes ++ more)
     → IsWalked (bytes ++ more) (gate + step)
 next_walked bytes more gate step w ahead within =
+    let b = w.begins in
     let behind : List ℕ = ahead.more ++ more in
     let size : ℕ = ahead.size - 1 in
     let content : List ℕ = take size behind in
     let left : List ℕ = drop size behind in
     let is : ahead.size ≡ size + 1 = omega (arith, ahead.is_long) in
-    let gate_is : w.left ≡ 1 ∷ (number 8 ahead.size ++ ahead.more) = sym (left_there bytes gate w) ∙ ahead.bytes_are in
-    let whole : bytes ++ more ≡ w.header ++ (framed w.contents ++ 1 ∷ (number 8 ahead.size ++ behind)) =
-    ap (λ (l : List ℕ). l ++ more) (w.bytes_are ∙ ap (λ (l : List ℕ). w.header ++ (framed w.contents ++ l)) gate_is)
-    ∙ append_assoc w.header (framed w.contents ++ 1 ∷ (number 8 ahead.size ++ ahead.more)) more
-    ∙ ap (λ (l : List ℕ). w.header ++ l) (append_assoc (framed w.contents) (1 ∷ (number 8 ahead.size ++ ahead.more)) more
-    ∙ ap (λ (l : List ℕ). framed w.contents ++ 1 ∷ l) (append_assoc (number 8 ahead.size) ahead.more more)) in
-    let rest_long : length w.left ≡ 9 + length ahead.more =
+    let gate_is : b.left ≡ 1 ∷ (number 8 ahead.size ++ ahead.more) = sym (left_there bytes gate w) ∙ ahead.bytes_are in
+    let whole : bytes ++ more ≡ b.header ++ (framed b.contents ++ 1 ∷ (number 8 ahead.size ++ behind)) =
+    ap (λ (l : List ℕ). l ++ more) (b.bytes_are ∙ ap (λ (l : List ℕ). b.header ++ (framed b.contents ++ l)) gate_is)
+    ∙ append_assoc b.header (framed b.contents ++ 1 ∷ (number 8 ahead.size ++ ahead.more)) more
+    ∙ ap (λ (l : List ℕ). b.header ++ l) (append_assoc (framed b.contents) (1 ∷ (number 8 ahead.size ++ ahead.more)) more
+    ∙ ap (λ (l : List ℕ). framed b.contents ++ 1 ∷ l) (append_assoc (number 8 ahead.size) ahead.more more)) in
+    let rest_long : length b.left ≡ 9 + length ahead.more =
     omega (arith, ap length gate_is, length-append (number 8 ahead.size) ahead.more, length-number 8 ahead.size) in
     let enough : size ≤ length behind =
     omega (arith, within, is, ahead.step_is, w.place, rest_long, length-append bytes more, length-append ahead.more more) in
@@ -71,13 +75,15 @@ next_walked bytes more gate step w ahead within =
     let parts : content ++ left ≡ behind = take-append-drop size behind in
     let number_is : ahead.size ≡ length content + 1 = omega (arith, is, long) in
     record {
-      header = w.header;
-      contents = w.contents ++ content ∷ [];
-      left = left;
-      bytes_are = whole ∙ (λ i. w.header ++ (framed w.contents ++ 1 ∷ (number 8 (number_is i) ++ sym parts i)))
-          ∙ ap (λ (l : List ℕ). w.header ++ l) (sym (framed_push w.contents content left));
-      is_header = w.is_header;
-      are_contents = All-push IsLong w.contents content w.are_contents (omega (arith, long, is, ahead.is_long));
+      begins = record {
+        header = b.header;
+        contents = b.contents ++ content ∷ [];
+        left = left;
+        bytes_are = whole ∙ (λ i. b.header ++ (framed b.contents ++ 1 ∷ (number 8 (number_is i) ++ sym parts i)))
+            ∙ ap (λ (l : List ℕ). b.header ++ l) (sym (framed_push b.contents content left));
+        is_header = b.is_header;
+        are_contents = All-push IsLong b.contents content b.are_contents (omega (arith, long, is, ahead.is_long));
+      };
       place = omega (
         arith,
         w.place,
@@ -95,12 +101,7 @@ next_walked bytes more gate step w ahead within =
 pub ends_there : (bytes others : List ℕ) (gate : ℕ) → IsWalked bytes gate → IsClosed (drop gate bytes) ⊎ HasNoRoom (drop gate bytes) others
     → EndsText bytes others
 ends_there bytes others gate w ends = record {
-  header = w.header;
-  contents = w.contents;
-  left = w.left;
-  bytes_are = w.bytes_are;
-  is_header = w.is_header;
-  are_contents = w.are_contents;
+  begins = w.begins;
   ends = subst (λ (l : List ℕ). IsClosed l ⊎ HasNoRoom l others) (left_there bytes gate w) ends;
 }
 

@@ -30,16 +30,20 @@ pub record HasNoRoom (bytes others : List ℕ) : Type 0 where
   pub none : (size < SHORTEST) ⊎ (length (more ++ others) + 1 < size)
   pub seen : VOID_REST ≤ length more
 
--- these bytes, with others behind them, have all of a file's text: going from gate to gate by the lengths, one comes to
--- its end in them
-pub record EndsText (bytes others : List ℕ) : Type 0 where
+-- bytes begin as a log file does, by its gates and lengths alone: a header and some contents; these bytes are left
+pub record BeginsAsFile (bytes : List ℕ) : Type 0 where
   pub header : List ℕ
   pub contents : List (List ℕ)
   pub left : List ℕ
   pub bytes_are : bytes ≡ header ++ (framed contents ++ left)
   pub is_header : length header ≡ HEADER_BYTES
   pub are_contents : All IsLong contents
-  pub ends : IsClosed left ⊎ HasNoRoom left others
+
+-- these bytes, with others behind them, have all of a file's text: going from gate to gate by the lengths, one comes to
+-- its end in them
+pub record EndsText (bytes others : List ℕ) : Type 0 where
+  pub begins : BeginsAsFile bytes
+  pub ends : IsClosed begins.left ⊎ HasNoRoom begins.left others
 
 -- these bytes stand in front of a file, and are all of it, or have all of its text
 pub record HoldsText (bytes file : List ℕ) : Type 0 where

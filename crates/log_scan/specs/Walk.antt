@@ -1,8 +1,7 @@
 -- Going from one gate to the next.
 use Rattle.std.specs.Prelude.{◌≡◌, ℕ, ◌+◌, ◌^◌, ◌<◌, ◌≤◌, List, ◌∷◌, ◌++◌, length}
-use Rattle.std.specs.List.{All}
 use Rattle.log_codec.specs.Numbers.{number}
-use Rattle.log_scan.specs.Text.{framed, IsLong}
+use Rattle.log_scan.specs.Text.{BeginsAsFile}
 use Rattle.log_scan.specs.declared.reading.TheConstants.{HEADER_BYTES, SHORTEST}
 
 -- bytes begin with an open gate, and the length behind it says that the next gate is so far from it
@@ -16,10 +15,5 @@ pub record LeadsOn (bytes : List ℕ) (step : ℕ) : Type 0 where
 
 -- from gate to gate by the lengths, one comes to this place
 pub record IsWalked (bytes : List ℕ) (gate : ℕ) : Type 0 where
-  pub header : List ℕ
-  pub contents : List (List ℕ)
-  pub left : List ℕ
-  pub bytes_are : bytes ≡ header ++ (framed contents ++ left)
-  pub is_header : length header ≡ HEADER_BYTES
-  pub are_contents : All IsLong contents
-  pub place : gate + length left ≡ length bytes
+  pub begins : BeginsAsFile bytes
+  pub place : gate + length begins.left ≡ length bytes

@@ -26,7 +26,8 @@ pub fn scan<D: Disk>(alloc: Global, disk: &mut D) -> Result<(Header, Vec<Body>),
     ensures damaged { IsErrOf result Damaged → (file : List ℕ) × (D.is_modelled → file ≡ D.seen disk.old)
         × ((h : HeaderView) (bodies : List BodyView) → IsFile file h bodies → ⊥) }
     ensures counts { CountsDevice result (D.failed disk.old) (D.failed disk.new) }
-    ensures others { IfErr result (λ refusal. (refusal ≢ OutOfMemory) → (refusal ≢ Device) → refusal ≡ Damaged) }
+    ensures others { IfErr result
+        (λ refusal. (refusal ≢ OutOfMemory) → (refusal ≢ Device) → refusal ≡ Damaged) }
     ensures reads { OnlyReads D.is_modelled D.seen D.story disk.old disk.new }
 {
     let unshown = Progress::of(Vec::new(alloc));
@@ -45,7 +46,8 @@ pub fn scan_noted<D: Disk>(
     ensures damaged { IsErrOf result Damaged → (file : List ℕ) × (D.is_modelled → file ≡ D.seen disk.old)
         × ((h : HeaderView) (bodies : List BodyView) → IsFile file h bodies → ⊥) }
     ensures counts { CountsDevice result (D.failed disk.old) (D.failed disk.new) }
-    ensures others { IfErr result (λ refusal. (refusal ≢ OutOfMemory) → (refusal ≢ Device) → refusal ≡ Damaged) }
+    ensures others { IfErr result
+        (λ refusal. (refusal ≢ OutOfMemory) → (refusal ≢ Device) → refusal ≡ Damaged) }
     ensures reads { OnlyReads D.is_modelled D.seen D.story disk.old disk.new }
 {
     let bytes = text(alloc, disk, progress)?;

@@ -9,7 +9,8 @@ use Rattle.program_options.specs.declared.asked.Subcommand.{Subcommand}
 use Rattle.program_recovery.specs.Flaws.{misnumbered_text}
 use Rattle.program.specs.Info.{IsPlainDetail}
 use Rattle.program.specs.Memory.{memory_line}
-use Rattle.program.specs.Detail.{CauseView, Unusable, Flawed, Older, Amiss, Unsound, Unlogged, InLastEpoch, IsCauseLine, IsDetail, IsReasonTold, older_line, reason_of, scale_line, trouble_of, unsound_text}
+use Rattle.program_files.specs.Causes.{CauseView, Unusable, Flawed, Older, Amiss, Unsound, Unlogged, InLastEpoch, reason_of, trouble_of}
+use Rattle.program.specs.Detail.{IsCauseLine, IsDetail, IsReasonTold, older_line, scale_line, unsound_text}
 
 some_line : (what : List ℕ) (reason : Option Error) → (line : List ℕ) × IsReasonTold what reason line
 some_line what (Some error) = (what ++ (codes ": " ++ ([] ++ codes "\n")), ([], refl))

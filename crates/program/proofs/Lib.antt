@@ -1,7 +1,7 @@
 mod Beginnings
+mod Beside
 mod Details
 mod Durable
 mod NoMemory
 mod Plain
 mod Resumed
-mod Seen

@@ -1,5 +1,5 @@
 -- What comes of words that need no tables.
-use Rattle.std.proofs.Common.{◌≡◌, ◌≢◌, ◌++◌, ◌∷◌, List, ℕ, [], Option, None, Result, Ok, Err, inl, inr, subst, sym}
+use Rattle.std.proofs.Common.{◌≡◌, ◌++◌, List, ℕ, [], Option, None, Result, Ok, Err, inl, inr, subst, sym}
 use Rattle.std.specs.Prelude.{IfErr, OnOk}
 use Rattle.std.specs.Io.KnownBytes.{Appends}
 use Rattle.std.specs.declared.io.Error.{Error as IoError}
@@ -13,11 +13,11 @@ use Rattle.money.specs.declared.refusal.Refusal.{Refusal}
 use Rattle.money.specs.declared.refusal.Refusal.TheVariants.{Device}
 use Rattle.program_options.specs.CommandLine.{IsInfoAskedBy, IsOptionsRefusal, IsVersionAskedBy, program_app}
 use Rattle.program_options.specs.declared.asked.InfoOptions.{InfoOptions}
-use Rattle.program.specs.Detail.{CauseView, cause_of}
+use Rattle.program_files.specs.Causes.{CauseView, cause_of}
 use Rattle.program.specs.Info.{IsInfoTold, IsPlainDetail, IsUntold, first_path, version_line}
 use Rattle.program.specs.Run.{IsRun, informed, uninformed, unversioned, version}
 use Rattle.program.specs.Status.{IsRefusedStatus, WritesBeginning, refusal_line}
-use Rattle.program.specs.declared.fault.Fault.{Fault}
+use Rattle.program_files.specs.declared.fault.Fault.{Fault}
 
 -- an error of this kind comes of words that ask for the version
 pub version_asked : (words : List (List ℕ)) (error : Error) → IsOptionsRefusal words error → kind_of error ≡ DisplayVersion → IsVersionAskedBy words

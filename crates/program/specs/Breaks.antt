@@ -3,10 +3,11 @@ use Rattle.std.specs.Prelude.{ℕ, List, Option, IfSome}
 use Rattle.tables.specs.Database.{Database}
 use Rattle.program_options.specs.declared.asked.RunOptions.{RunOptions}
 use Rattle.program_run.specs.Told.{refusal_in}
-use Rattle.program.specs.Detail.{CauseView, cause_of}
-use Rattle.program.specs.Logs.{HasBroken, IsUnfinishedRun, IsWhy}
+use Rattle.program_files.specs.Causes.{CauseView, cause_of}
+use Rattle.program_files.specs.Logs.{HasBroken, IsWhy}
+use Rattle.program.specs.Live.{IsUnfinishedRun}
 use Rattle.program.specs.Resumed.{IsUnfinishedResumedRun}
-use Rattle.program.specs.declared.fault.Purpose.TheVariants.{Append, Create}
+use Rattle.program_files.specs.declared.fault.Purpose.TheVariants.{Append, Create}
 use Rattle.program.specs.declared.live.Halt.{Halt}
 use Rattle.program.specs.declared.live.Halt.TheVariants as halt
 use Rattle.program.specs.declared.resuming.Break.{Break}

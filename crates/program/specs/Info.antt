@@ -1,5 +1,5 @@
 -- What is told of log files by the header of one, and of the program's version.
-use Rattle.std.specs.Prelude.{◌≡◌, ◌++◌, ℕ, Bool, true, false, List, [], Option, None, Some, codes, string_bytes}
+use Rattle.std.specs.Prelude.{◌≡◌, ◌++◌, ℕ, true, List, [], Option, None, Some, codes, string_bytes}
 use Rattle.std.specs.Fmt.{decimal}
 use Rattle.std.specs.Io.KnownBytes.{Appends}
 use Rattle.std.specs.declared.io.Error.{Error}
@@ -10,10 +10,11 @@ use Rattle.log_header.specs.Header.{HeaderView, IsHeader}
 use Rattle.log_flaws.specs.Flaws.{HasFlaw}
 use Rattle.log_flaws.specs.declared.flaw.FileFlaw.{FileFlaw}
 use Rattle.program_options.specs.declared.asked.InfoOptions.{InfoOptions}
-use Rattle.program.specs.Detail.{CauseView, Unusable, Flawed, IsCauseLine, IsDeviceLine}
+use Rattle.program_files.specs.Causes.{CauseView, Unusable, Flawed}
+use Rattle.program_files.specs.Headless.{stops_reading}
+use Rattle.program.specs.Detail.{IsCauseLine, IsDeviceLine}
 use Rattle.program.specs.Status.{WritesBeginning}
-use Rattle.program.specs.declared.fault.Trouble.{Trouble}
-use Rattle.program.specs.declared.fault.Trouble.TheVariants.{NotOpened, NotRead}
+use Rattle.program_files.specs.declared.fault.Trouble.{Trouble}
 
 -- what is told of the program's version
 abbrev pub version_line : List ℕ
@@ -50,12 +51,6 @@ first_path i = string_bytes i.folder ++ codes "/log-0"
 -- some bytes begin with this header, of which this was told
 abbrev pub IsInfoTold : Option (List ℕ) → Option (List ℕ) → Type 0
 IsInfoTold old new = (h : HeaderView) × IsHeader h × Appends old new (info_text h)
-
--- what may keep a file from being read
-abbrev pub stops_reading : Trouble → Bool
-stops_reading (NotOpened error) = true
-stops_reading (NotRead error) = true
-stops_reading trouble = false
 
 -- it was refused: for want of memory; the file couldn't be opened or read; some bytes begin with no header, which has this
 -- flaw; or the output failed

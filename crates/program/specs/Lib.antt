@@ -1,9 +1,8 @@
 pub mod Memory
 pub mod Status
 pub mod Detail
-pub mod Logs
+pub mod Live
 pub mod Info
-pub mod Headless
 pub mod Run
 pub mod Resumed
 pub mod Breaks

@@ -12,9 +12,10 @@ use Rattle.recover_restart.specs.Restarting.{GoesOnFrom}
 use Rattle.program_options.specs.declared.asked.RunOptions.{RunOptions}
 use Rattle.program_run.specs.Told.{IsRan, IsBroken, IsShortBy}
 use Rattle.program_run.specs.declared.driving.Driven.{Driven}
-use Rattle.program.specs.Detail.{CauseView}
-use Rattle.program.specs.Logs.{AreUnready, HasBroken, IsShort, IsWhy}
-use Rattle.program.specs.declared.fault.Purpose.TheVariants.{Append}
+use Rattle.program_files.specs.Causes.{CauseView}
+use Rattle.program_files.specs.Logs.{AreUnready, HasBroken, IsWhy}
+use Rattle.program.specs.Live.{IsShort}
+use Rattle.program_files.specs.declared.fault.Purpose.TheVariants.{Append}
 
 -- the line that is written first: so many commits were recovered, and the run commits in this epoch and later ones
 abbrev pub resumed_line : ℕ → ℕ → List ℕ
@@ -47,7 +48,7 @@ pub record IsDrivenFurther (r : RunOptions) (t0 : Database) (seed : ℕ) (old ne
     : Type 0 where
   pub run : IsResumedRun r t0 seed old new driven.report
   pub acknowledged : driven.shortfall ≡ None → run.ran.counts.commits ≤ run.ran.counts.acknowledged
-  pub short : IfSome driven.shortfall (λ shortfall. IsShortBy shortfall.refusal)
+  pub short : IfSome driven.shortfall (λ shortfall. IsShortBy run.ran.counts shortfall.refusal shortfall.lost)
 
 -- it was refused: its files couldn't be opened; they couldn't be gone on with; the first line wasn't written whole; it was
 -- broken off for want of memory, or a device failed; or it was told whole, and a logger had stopped, or commits aren't
@@ -66,5 +67,6 @@ pub data IsUnfinishedResumedRun (r : RunOptions) (t0 : Database) (seed : ℕ) (o
       → Appends old between (resumed_line commits epoch)
       → IsBroken commits (first_of parts) r.terminals r.count between new refusal
       → IfSome known (HasBroken Append r.files refusal) → IsUnfinishedResumedRun r t0 seed old new refusal known
-  short : (report : Report) → IsResumedRun r t0 seed old new report → IsShortBy refusal
-      → IfSome known (IsShort Append r.files refusal) → IsUnfinishedResumedRun r t0 seed old new refusal known
+  short : (report : Report) (lost : ℕ) (run : IsResumedRun r t0 seed old new report)
+      → IsShortBy run.ran.counts refusal lost → IfSome known (IsShort Append r.files refusal lost)
+      → IsUnfinishedResumedRun r t0 seed old new refusal known

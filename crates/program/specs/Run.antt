@@ -1,5 +1,5 @@
 -- What a run of the program comes to: from its words and its input to its output, its errors and its exit status.
-use Rattle.std.specs.Prelude.{◌≡◌, ◌≢◌, ◌⊎◌, ◌++◌, ◌≤◌, ℕ, List, [], Option, None, MatchBool}
+use Rattle.std.specs.Prelude.{◌≡◌, ◌≢◌, ◌⊎◌, ◌++◌, ◌≤◌, ℕ, Bool, false, List, [], Option, None, MatchBool}
 use Rattle.std.specs.Io.KnownBytes.{Appends}
 use Rattle.std.specs.declared.io.Error.{Error as IoError}
 use Rattle.clap.specs.Values.{kind_of}
@@ -24,9 +24,11 @@ use Rattle.program_options.specs.declared.asked.Subcommand.TheVariants.{Script, 
 use Rattle.program_run.specs.Told.{IsRanDurably}
 use Rattle.program_recovery.specs.Told.{Shows, Reports}
 use Rattle.program.specs.Status.{IsRefusedStatus, refusal_line, WritesBeginning}
-use Rattle.program.specs.Detail.{CauseView, IsDetail}
+use Rattle.program_files.specs.Causes.{CauseView}
+use Rattle.program.specs.Detail.{IsDetail}
 use Rattle.program.specs.Info.{IsInfoTold, IsPlainDetail, IsUntold, first_path, version_line}
-use Rattle.program.specs.Logs.{IsShownWith, IsCheckedWith, IsRefusedWith, IsUnfinishedRun}
+use Rattle.program_files.specs.Logs.{IsShownWith, IsCheckedWith, IsRefusedWith}
+use Rattle.program.specs.Live.{IsUnfinishedRun}
 use Rattle.program.specs.Resumed.{IsResumedDurably, IsUnfinishedResumedRun}
 
 -- the scale that options ask for
@@ -81,6 +83,17 @@ IsFailed t0 seed (Recover r) bytes old new refusal known =
 IsFailed t0 seed (Check r) bytes old new refusal known =
     IsRefusedWith r.files Reports t0 seed old new refusal known
 
+-- some text more was written, where this was asked for, and else none
+abbrev pub IsHintedAsAsked : Bool → Option (List ℕ) → Option (List ℕ) → Type 0
+IsHintedAsAsked asked old new = (text : List ℕ) × (asked ≡ false → text ≡ []) × Appends old new text
+
+-- what is told beside the answers of a subcommand: of a script's refused lines alone, where that is asked for
+abbrev pub IsToldBeside : Subcommand → Option (List ℕ) → Option (List ℕ) → Type 0
+IsToldBeside (Script s) old new = IsHintedAsAsked s.explain old new
+IsToldBeside (Run r) old new = Appends old new []
+IsToldBeside (Recover r) old new = Appends old new []
+IsToldBeside (Check r) old new = Appends old new []
+
 -- what was asked for was done, over the population and at the scale that were asked for
 pub record IsWholeRun (o : Options) (bytes : List ℕ) (old new : Option (List ℕ)) (report : Report) : Type 0 where
   pub lawful : IsScale (scale_of o)
@@ -101,7 +114,8 @@ pub data IsRefusedRun (o : Options) (bytes : List ℕ) (old new : Option (List �
 
 -- a run of the program, after which the last calls on its input and its output have these errors, where they failed:
 -- its words' fault, or the help that they ask for, goes to the errors alone; what a subcommand writes goes to the
--- output, and so does the version, and a refusal's line to the errors, with a line behind it on what was wrong
+-- output, and so does the version, and a refusal's line to the errors, with a line behind it on what was wrong, and
+-- what is told beside the answers in front of it
 pub data IsRun (words : List (List ℕ)) (bytes : List ℕ) (output written errors told : Option (List ℕ))
     (in_error out_error : Option IoError) (status : ℕ) : Type 0 where
   version : IsVersionAskedBy words → Appends output written version_line → Appends errors told [] → status ≡ 0
@@ -120,10 +134,11 @@ pub data IsRun (words : List (List ℕ)) (bytes : List ℕ) (output written erro
       → Appends errors told text → status ≡ 2
       → IsRun words bytes output written errors told in_error out_error status
   answered : (o : Options) (report : Report) → IsAskedBy words o → IsWholeRun o bytes output written report
-      → Appends errors told [] → (IsGood report → status ≡ 0) → ((IsGood report → ⊥) → status ≡ 1)
+      → IsToldBeside o.subcommand errors told → (IsGood report → status ≡ 0) → ((IsGood report → ⊥) → status ≡ 1)
       → IsRun words bytes output written errors told in_error out_error status
-  refused : (o : Options) (refusal : Refusal) (known : Option CauseView) (detail : List ℕ) → IsAskedBy words o
-      → IsRefusedRun o bytes output written refusal known
+  refused : (o : Options) (refusal : Refusal) (known : Option CauseView) (detail : List ℕ) (between : Option (List ℕ))
+      → IsAskedBy words o → IsRefusedRun o bytes output written refusal known
+      → IsToldBeside o.subcommand errors between
       → IsDetail o.subcommand (scale_of o) known in_error out_error refusal detail
-      → WritesBeginning (refusal_line refusal ++ detail) errors told → IsRefusedStatus refusal status
+      → WritesBeginning (refusal_line refusal ++ detail) between told → IsRefusedStatus refusal status
       → IsRun words bytes output written errors told in_error out_error status

@@ -2,20 +2,20 @@
 
 ghost use Rattle.std.specs.Prelude.{◌≡◌, ◌++◌, IfOk, codes, string_bytes};
 ghost use Rattle.std.specs.Option.{option_map};
+ghost use Rattle.program_files.specs.Causes.{cause_of, cause_view, reason_of, trouble_of};
 ghost use Rattle.program.specs.Detail.{IsCauseLine, IsDetail, IsDeviceLine, IsMemoryDetail, IsReasonTold};
-ghost use Rattle.program.specs.Detail.{cause_of, cause_view, last_epoch_line, limit_line, older_line, reason_of};
-ghost use Rattle.program.specs.Detail.{scale_line, trouble_of, unlogged_line};
+ghost use Rattle.program.specs.Detail.{last_epoch_line, limit_line, older_line, scale_line, unlogged_line};
 ghost use Rattle.tables.specs.Sizes.{IsScale};
 ghost use Rattle.program.specs.Memory.{memory_line};
 ghost use Rattle.log_flaws.specs.Texts.{flaw_line};
 ghost use Rattle.program.specs.Run.{scale_of};
 
-use crate::fault::{Cause, Fault, Trouble};
 use crate::memory::memory_line;
-use crate::watched::Watched;
 use log_flaws::FileFlaw;
 use money::Refusal;
+use program_files::{Cause, Fault, Trouble};
 use program_options::Options;
+use program_streams::Watched;
 use std::alloc::{AllocError, Global};
 use std::io::Error;
 use tables::is_between;
@@ -205,7 +205,8 @@ fn limit_detail(
     low: (u32, &str),
     high: u32,
 ) -> Result<String, AllocError>
-    ensures { IfOk result (λ line. string_bytes line ≡ limit_line option.now number low.entry.0 low.entry.1.now high) }
+    ensures { IfOk result (λ line. string_bytes line
+        ≡ limit_line option.now number low.entry.0 low.entry.1.now high) }
 {
     let (low, note) = low;
     format!(in alloc; "--{option} is {number}: it is to be from {low}{note} to {high}\n")

@@ -1,15 +1,14 @@
 //! What a run comes to that was told whole: its report, or why commits of it aren't durable.
 ghost use Rattle.std.specs.Prelude.{◌≡◌, ◌<◌, None, Some, IfErr, IfOk, IfSome};
 ghost use Rattle.program_run.specs.declared.shortfall.Shortfall.{Shortfall as ShortfallValue};
-ghost use Rattle.program.specs.Detail.{cause_of, cause_view, InLastEpoch, Unlogged};
-ghost use Rattle.program.specs.Logs.{IsShort, path_of};
+ghost use Rattle.program_files.specs.Causes.{cause_of, cause_view, InLastEpoch, Unlogged};
+ghost use Rattle.program_files.specs.Logs.{path_of};
+ghost use Rattle.program.specs.Live.{IsShort};
 
-use crate::causes::broken_off;
-use crate::fault::{Cause, Fault, Purpose};
-use crate::logs::path;
 use conditions::Report;
 use log_disk::FileDisk;
 use money::Refusal;
+use program_files::{Cause, Fault, Purpose, broken_off, path};
 use program_options::LogFiles;
 use program_run::{Driven, Shortfall};
 use std::alloc::Global;
@@ -24,7 +23,8 @@ pub(crate) fn ended(
 ) -> Result<Report, Fault>
     ensures whole { IfOk result (λ report. (report ≡ driven.report) × (driven.shortfall ≡ None)) }
     ensures short { IfErr result (λ fault. (shortfall : ShortfallValue) × (driven.shortfall ≡ Some shortfall)
-        × (fault.refusal ≡ shortfall.refusal) × IfSome (cause_of fault) (IsShort purpose files.now fault.refusal)) }
+        × (fault.refusal ≡ shortfall.refusal) × IfSome (cause_of fault) (IsShort purpose files.now fault.refusal
+        shortfall.lost)) }
 {
     match driven.shortfall {
         None => Ok(driven.report),
@@ -42,7 +42,7 @@ fn fell_short(
     disks: &[FileDisk],
 ) -> Fault
     ensures refusal { result.refusal ≡ shortfall.refusal }
-    ensures cause { IfSome (cause_of result) (IsShort purpose files.now shortfall.refusal) }
+    ensures cause { IfSome (cause_of result) (IsShort purpose files.now shortfall.refusal shortfall.lost) }
 {
     match shortfall.refusal {
         Refusal::OutOfMemory => Fault {

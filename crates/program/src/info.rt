@@ -1,32 +1,26 @@
 //! The subcommand `info`, and the program's version: what is told on the output with no tables at hand.
-ghost use Rattle.std.specs.Prelude.{◌≡◌, ◌≤◌, ◌<◌, ◌++◌, List, None, Option, ℕ, IfErr, IfOk, OnOk, codes, length};
+ghost use Rattle.std.specs.Prelude.{◌≡◌, ◌++◌, List, None, Option, ℕ, IfErr, IfOk, OnOk, codes};
 ghost use Rattle.std.specs.Prelude.{string_bytes};
 ghost use Rattle.std.specs.Io.KnownBytes.{Appends};
 ghost use Rattle.money.specs.declared.refusal.Refusal.TheVariants.{Device};
 ghost use Rattle.log_header.specs.Header.{IsHeader};
-ghost use Rattle.program.specs.Headless.{IsWhyHeadless};
-ghost use Rattle.program.specs.Detail.{cause_of};
+ghost use Rattle.program_files.specs.Causes.{cause_of};
+ghost use Rattle.program_files.specs.Headless.{IsWhyHeadless};
 ghost use Rattle.program.specs.Info.{IsInfoTold, IsPlainDetail, IsUntold, caps_text, first_path, info_text};
 ghost use Rattle.program.specs.Info.{lines_text, places_text, tables_text, version_line};
 ghost use Rattle.program.specs.Status.{WritesBeginning};
 
 use crate::detail::{cause_detail, device_detail};
-use crate::fault::{Cause, Fault, Trouble};
-use crate::watched::Watched;
-use log_disk::{Disk, FileDisk};
-use log_flaws::{FileFlaw, headless};
-use log_header::{Header, read_header};
+use log_header::Header;
 use money::Refusal;
+use program_files::{Cause, Fault, Headless, first_header};
 use program_options::{InfoOptions, VERSION_LINE};
-use program_streams::write_text;
+use program_streams::{Watched, write_text};
 use std::alloc::{AllocError, Global};
 use std::fs::File;
-use std::io::{Error, Write};
+use std::io::Write;
 use std::rt::Files;
 use tables::Scale;
-
-/// How many bytes a header has.
-const HEADER_BYTES: usize = 48;
 
 /// Writes the program's version.
 pub(crate) fn tell_version<W: Write>(output: &mut W) -> Result<(), Fault>
@@ -82,59 +76,6 @@ fn path_of_first(alloc: Global, options: &InfoOptions) -> Result<String, AllocEr
 {
     let folder = options.folder.as_str();
     format!(in alloc; "{folder}/log-0")
-}
-
-/// Why a file has no header.
-#[derive(Clone, Copy, Debug)]
-enum Headless {
-    /// It couldn't be opened or read.
-    Unread(Trouble),
-    /// Its first bytes are none.
-    Flawed(FileFlaw),
-}
-
-/// The header with which the file of this path begins.
-fn first_header<T: Files<File = File>>(rt: &T, path: &str) -> Result<Header, Headless>
-    ensures header { IfOk result (λ header. IsHeader header) }
-    ensures headless { IfErr result IsWhyHeadless }
-{
-    let mut disk = match FileDisk::in_file_to_read(rt, path) {
-        Ok(disk) => disk,
-        Err(error) => return Err(Headless::Unread(Trouble::NotOpened(error))),
-    };
-    let mut bytes = [0; HEADER_BYTES];
-    let count = match first_bytes(&mut disk, &mut bytes) {
-        Ok(count) => count,
-        Err(error) => return Err(Headless::Unread(Trouble::NotRead(error))),
-    };
-    let file = &bytes[..count];
-    match read_header(file) {
-        Some((header, _)) => Ok(header),
-        None => Err(Headless::Flawed(headless(file))),
-    }
-}
-
-/// Reads the first bytes of a file, and tells how many there are, of those that have a place here.
-fn first_bytes(disk: &mut FileDisk, into: &mut [u8]) -> Result<usize, Error>
-    ensures within { IfOk result (λ count. count ≤ length into.new) }
-    ensures size { length into.new ≡ length into.old }
-{
-    match read_first(disk, into) {
-        Ok(count) => Ok(count),
-        Err(_) => Err(disk.last_error().unwrap()),
-    }
-}
-
-/// The same of any disk, which knows why it failed.
-fn read_first<D: Disk>(disk: &mut D, into: &mut [u8]) -> Result<usize, Refusal>
-    ensures within { IfOk result (λ count. count ≤ length into.new) }
-    ensures size { length into.new ≡ length into.old }
-    ensures failed { IfErr result (λ _. 0 < D.failed disk.new) }
-{
-    let length = disk.len()?;
-    let count = into.len().min(length as usize);
-    disk.read_at(0, &mut into[..count])?;
-    Ok(count)
 }
 
 /// Writes what a header says.

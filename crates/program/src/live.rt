@@ -4,19 +4,17 @@ ghost use Rattle.tables.specs.Database.{Database};
 ghost use Rattle.population.specs.Initial.{initial};
 ghost use Rattle.program_run.specs.Told.{IsDriven, IsRanDurably};
 ghost use Rattle.program.specs.Breaks.{IsToldAsHalted};
-ghost use Rattle.program.specs.Detail.{cause_of};
-ghost use Rattle.program.specs.Logs.{IsUnfinishedRun};
+ghost use Rattle.program_files.specs.Causes.{cause_of};
+ghost use Rattle.program.specs.Live.{IsUnfinishedRun};
 
-use crate::causes::broken_off;
 use crate::ended::ended;
-use crate::fault::{Fault, Purpose};
 use crate::guarded::{GuardedDisk, guarded};
-use crate::starting::{NewFiles, give_names};
 use conditions::Report;
 use log_disk::{Disk, FileDisk};
 use logfile::LogFile;
 use money::Refusal;
 use population::Population;
+use program_files::{Fault, NewFiles, Purpose, broken_off, give_names};
 use program_options::{LogFiles, RunOptions};
 use program_run::{
     Alarm, Beat, Broken, Driven, OpenLog, Plan, Screen, Slot, Stopwatch, Waits, created, drive_new,

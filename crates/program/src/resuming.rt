@@ -10,24 +10,22 @@ ghost use Rattle.book.specs.Parts.{IsFresh, base_of, first_of, loggers_of, past_
 ghost use Rattle.recover_restart.specs.Restarting.{GoesOnFrom, StandAt};
 ghost use Rattle.program_run.specs.Outfit.{AreLogsOf};
 ghost use Rattle.program_run.specs.Told.{IsBrokenBy, IsDriven};
-ghost use Rattle.program.specs.Detail.{cause_of};
-ghost use Rattle.program.specs.Logs.{IsWhy};
-ghost use Rattle.program.specs.declared.fault.Purpose.TheVariants.{Append};
+ghost use Rattle.program_files.specs.Causes.{cause_of};
+ghost use Rattle.program_files.specs.Logs.{IsWhy};
+ghost use Rattle.program_files.specs.declared.fault.Purpose.TheVariants.{Append};
 ghost use Rattle.program.specs.Resumed.{IsDrivenFurther, IsResumedDurably, IsUnfinishedResumedRun, resumed_line};
 ghost use Rattle.program.specs.Breaks.{IsToldAsUnfinished};
 
-use crate::causes::{broken_off, unrecovered};
 use crate::ended::ended;
-use crate::fault::{Fault, Purpose};
 use crate::guarded::guarded;
 use crate::live::{gates, paced, plan_of, screen_of, waits_for};
-use crate::logs::{disks, sizes};
 use crate::running::population_of;
 use conditions::Report;
 use log_disk::{Disk, FileDisk};
 use logfile::LogFile;
 use money::Refusal;
 use population::Population;
+use program_files::{Fault, Purpose, broken_off, disks, sizes, unrecovered};
 use program_options::RunOptions;
 use program_recovery::while_shown;
 use program_run::{Alarm, Beat, Broken, Driven, OpenLog, Screen, Stopwatch, Waits, drive_on};

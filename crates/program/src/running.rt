@@ -5,30 +5,28 @@ ghost use Rattle.std.specs.Io.KnownBytes.{Appends};
 ghost use Rattle.money.specs.declared.refusal.Refusal.TheVariants.{OutOfMemory};
 ghost use Rattle.population.specs.Initial.{initial, seed_of};
 ghost use Rattle.program.specs.Run.{IsRun, IsWholeRun, IsRefusedRun, IsPopulation, scale_of};
-ghost use Rattle.program.specs.Run.{IsDone, IsFailed, IsAnswered, IsBrokenOff};
-ghost use Rattle.program.specs.Detail.{IsDetail, cause_of};
+ghost use Rattle.program.specs.Run.{IsDone, IsFailed, IsAnswered, IsBrokenOff, IsHintedAsAsked, IsToldBeside};
+ghost use Rattle.program_files.specs.Causes.{cause_of};
+ghost use Rattle.program.specs.Detail.{IsDetail};
 ghost use Rattle.program.specs.Info.{IsPlainDetail};
 ghost use Rattle.program_script.specs.Hints.{TellsMore};
-ghost use Rattle.program_options.specs.CommandLine.{IsAskedBy};
 ghost use Rattle.program.specs.Status.{IsRefusedStatus, refusal_line, WritesBeginning};
 
 use crate::detail::detail_of;
 use crate::ending::{GOOD, USAGE_FAULT, finish, finish_refused};
-use crate::fault::Fault;
 use crate::info::{info, plain_detail, tell_version};
 use crate::live::live;
-use crate::logs::{report, show};
 use crate::resuming::go_on;
-use crate::watched::Watched;
 use clap::Error;
 use clap::error::ErrorKind;
 use conditions::Report;
 use money::Refusal;
 use population::Population;
+use program_files::{Fault, report, show};
 use program_options::{Asked, Options, ScriptOptions, Subcommand, read_words};
-use program_script::{Hints, NoHints, explained_script};
-use program_script_hints::Explained;
-use program_streams::write_text;
+use program_script::{Hints, NoHints, hinted_script};
+use program_script_hints::Hinted;
+use program_streams::{Watched, write_text};
 use std::alloc::{AllocError, Global};
 use std::fs::File;
 use std::io::{Read, Write};
@@ -41,16 +39,15 @@ use tables::Scale;
 
 /// Does what the words of a command line ask for, the first of which is the program's own name, from `input` to
 /// `output`, and answers the exit status. A fault of the words, or the help that they ask for, goes to `errors`, and
-/// so does a refusal's line, with one more on what was wrong, where that is known. What is told of a script's refused
-/// lines, where that is asked for, goes to `hints`. How far a run of terminals or a recovery is goes to `screen`, if
-/// there is one, and nothing else goes to these two. May wait, as `script` and `run_threads::run` do. The process is to
-/// end behind it: what a script has committed stays in memory.
+/// so does a refusal's line, with one more on what was wrong, where that is known; in front of them what is told of a
+/// script's refused lines, where that is asked for. How far a run of terminals or a recovery is goes to `screen`, if
+/// there is one, and nothing else goes there. May wait, as `script` and `run_threads::run` do. The process is to end
+/// behind it: what a script has committed stays in memory.
 pub fn run<
     T: Wait + Threads + Clock + Files<File = File> + Sync,
     R: Read,
     O: Write,
     E: Write,
-    X: Write + Drop,
     S: Write + Send + Drop,
 >(
     rt: &T,
@@ -58,17 +55,19 @@ pub fn run<
     words: &[String],
     input: &mut Watched<R>,
     output: &mut Watched<O>,
-    errors: &mut E,
-    hints: X,
+    errors: &mut Hinted<E>,
     screen: Option<S>,
 ) -> u8
     ensures { (bytes : List ℕ) → R.remaining input.old.stream ≡ Some bytes
         → IsRun (map string_bytes words.now) bytes (O.contents output.old.stream) (O.contents output.new.stream)
-        (E.contents errors.old) (E.contents errors.new) input.new.failure output.new.failure result }
+        (E.contents errors.old.errors) (E.contents errors.new.errors) input.new.failure output.new.failure result }
 {
     match read_words(alloc, words) {
         Ok(Asked::OnTables(asked)) => {
-            on_tables(rt, alloc, &asked, input, output, errors, hints, screen)
+            match answer(rt, alloc, &asked, input, output, errors, screen) {
+                Ok(report) => finish(Ok(&report), errors),
+                Err(fault) => tell_refused(alloc, &asked, &fault, input, output, errors),
+            }
         }
         Ok(Asked::Info(asked)) => {
             let told = info(rt, alloc, &asked, output);
@@ -84,35 +83,6 @@ pub fn run<
                 USAGE_FAULT
             }
         },
-    }
-}
-
-/// Does what options ask for on tables, from input to output, and answers the exit status.
-fn on_tables<
-    T: Wait + Threads + Clock + Files<File = File> + Sync,
-    R: Read,
-    O: Write,
-    E: Write,
-    X: Write + Drop,
-    S: Write + Send + Drop,
->(
-    rt: &T,
-    alloc: Global,
-    asked: &Options,
-    input: &mut Watched<R>,
-    output: &mut Watched<O>,
-    errors: &mut E,
-    hints: X,
-    screen: Option<S>,
-) -> u8
-    ensures { (bytes : List ℕ) (words : List (List ℕ)) → R.remaining input.old.stream ≡ Some bytes
-        → IsAskedBy words asked.now
-        → IsRun words bytes (O.contents output.old.stream) (O.contents output.new.stream)
-        (E.contents errors.old) (E.contents errors.new) input.new.failure output.new.failure result }
-{
-    match answer(rt, alloc, asked, input, output, hints, screen) {
-        Ok(report) => finish(Ok(&report), errors),
-        Err(fault) => tell_refused(alloc, asked, &fault, input, output, errors),
     }
 }
 
@@ -161,11 +131,12 @@ fn tell_refused<R, W, E: Write>(
 }
 
 /// Does what options ask for, from input to output.
+#[tactic(auto, using(crate::proofs::Beside::beside_none))]
 fn answer<
     T: Wait + Threads + Clock + Files<File = File> + Sync,
     R: Read,
     W: Write,
-    X: Write + Drop,
+    E: Write,
     S: Write + Send + Drop,
 >(
     rt: &T,
@@ -173,7 +144,7 @@ fn answer<
     options: &Options,
     input: &mut R,
     output: &mut W,
-    hints: X,
+    errors: &mut Hinted<E>,
     screen: Option<S>,
 ) -> Result<Report, Fault>
     ensures whole { IfOk result (λ report. (bytes : List ℕ) → R.remaining input.old ≡ Some bytes
@@ -181,6 +152,8 @@ fn answer<
     ensures refused { IfErr result (λ fault. (bytes : List ℕ) → R.remaining input.old ≡ Some bytes
         → IsRefusedRun options.now bytes (W.contents output.old) (W.contents output.new) fault.refusal
         (cause_of fault)) }
+    ensures beside { IsToldBeside options.now.subcommand
+        (E.contents errors.old.errors) (E.contents errors.new.errors) }
 {
     let scale = match options.scale() {
         Ok(scale) => scale,
@@ -197,17 +170,18 @@ fn answer<
         &options.subcommand,
         input,
         output,
-        hints,
+        errors,
         screen,
     )
 }
 
 /// Does a subcommand over a population, from input to output.
+#[tactic(auto, using(crate::proofs::Beside::beside_none))]
 fn answer_over<
     T: Wait + Threads + Clock + Files<File = File> + Sync,
     R: Read,
     W: Write,
-    X: Write + Drop,
+    E: Write,
     S: Write + Send + Drop,
 >(
     rt: &T,
@@ -216,7 +190,7 @@ fn answer_over<
     subcommand: &Subcommand,
     input: &mut R,
     output: &mut W,
-    hints: X,
+    errors: &mut Hinted<E>,
     screen: Option<S>,
 ) -> Result<Report, Fault>
     ensures done { IfOk result (λ report. (bytes : List ℕ) → R.remaining input.old ≡ Some bytes
@@ -225,10 +199,12 @@ fn answer_over<
     ensures failed { IfErr result (λ fault. (bytes : List ℕ) → R.remaining input.old ≡ Some bytes
         → IsFailed (initial population) (seed_of population) subcommand.now bytes
         (W.contents output.old) (W.contents output.new) fault.refusal (cause_of fault)) }
+    ensures beside { IsToldBeside subcommand.now
+        (E.contents errors.old.errors) (E.contents errors.new.errors) }
 {
     match subcommand {
         Subcommand::Script(options) => {
-            answer_script(rt, alloc, population, options, input, output, hints)
+            answer_script(rt, alloc, population, options, input, output, errors)
         }
         Subcommand::Run(options) if options.resume => {
             go_on(rt, alloc, population, options, output, screen)
@@ -240,24 +216,26 @@ fn answer_over<
 }
 
 /// Answers a script over a population, and tells of its refused lines where that is asked for.
-fn answer_script<T: Wait, R: Read, W: Write, X: Write + Drop>(
+fn answer_script<T: Wait, R: Read, W: Write, E: Write>(
     rt: &T,
     alloc: Global,
     population: Population,
     options: &ScriptOptions,
     input: &mut R,
     output: &mut W,
-    hints: X,
+    errors: &mut Hinted<E>,
 ) -> Result<Report, Fault>
     ensures answered { IfOk result (λ report. (bytes : List ℕ) → R.remaining input.old ≡ Some bytes
         → IsAnswered (initial population) bytes (W.contents output.old) (W.contents output.new) report) }
     ensures broken_off { IfErr result (λ fault. (bytes : List ℕ) → R.remaining input.old ≡ Some bytes
         → IsBrokenOff (initial population) bytes (W.contents output.old) (W.contents output.new) fault.refusal
         × (cause_of fault ≡ None)) }
+    ensures beside { IsHintedAsAsked options.now.explain
+        (E.contents errors.old.errors) (E.contents errors.new.errors) }
 {
     if options.explain {
-        let mut hints = Explained::new(alloc, population.scale(), hints);
-        answer_told(rt, alloc, population, input, output, &mut hints)
+        errors.hint(population.scale());
+        answer_told(rt, alloc, population, input, output, errors)
     } else {
         answer_told(rt, alloc, population, input, output, &mut NoHints)
     }
@@ -280,7 +258,7 @@ fn answer_told<T: Wait, R: Read, W: Write, H: Hints>(
         × (cause_of fault ≡ None)) }
     ensures told { TellsMore (H.told hints.old) (H.told hints.new) }
 {
-    match explained_script(rt, alloc, population, input, output, hints) {
+    match hinted_script(rt, alloc, population, input, output, hints) {
         Ok((report, dones)) => {
             // The program ends behind the report, and the system takes back all memory at once: giving back one entry
             // after another would take a tenth of a short script.

@@ -1,5 +1,5 @@
 -- What is told of a run.
-use Rattle.std.specs.Prelude.{◌≡◌, ◌≢◌, ◌⊎◌, ◌++◌, ◌≤◌, ℕ, List, [], Option, None, IfSome, codes, length}
+use Rattle.std.specs.Prelude.{◌≡◌, ◌≢◌, ◌⊎◌, ◌++◌, ◌-◌, ◌<◌, ◌≤◌, ℕ, List, [], Option, None, IfSome, codes, length}
 use Rattle.std.specs.Fmt.{decimal}
 use Rattle.std.specs.Io.KnownBytes.{Appends}
 use Rattle.money.specs.declared.refusal.Refusal.{Refusal}
@@ -67,17 +67,18 @@ abbrev pub IsRanDurably : ℕ → Database → ℕ → ℕ → Option (List ℕ)
 IsRanDurably past t0 terminals inputs old new report =
     (ran : IsRan past t0 terminals inputs old new report) × (ran.counts.commits ≤ ran.counts.acknowledged)
 
--- what may keep commits of a run from being durable: a logger's device failed, or it had no memory for its last batch, or
--- the last epoch is behind no mark
-abbrev pub IsShortBy : Refusal → Type 0
-IsShortBy refusal = (refusal ≡ Device) ⊎ (refusal ≡ OutOfMemory) ⊎ (refusal ≡ EpochFull)
+-- why a run of these counts falls short, and how many of its commits weren't acknowledged: a logger's device failed; or
+-- some weren't, and a logger had no memory for its last batch, or the last epoch is behind no mark
+pub record IsShortBy (c : Counts) (refusal : Refusal) (lost : ℕ) : Type 0 where
+  pub why : (refusal ≡ Device) ⊎ ((c.acknowledged < c.commits) × ((refusal ≡ OutOfMemory) ⊎ (refusal ≡ EpochFull)))
+  pub lost_is : lost ≡ c.commits - c.acknowledged
 
 -- so many inputs ran, and what came of them was told; each commit was acknowledged, unless something fell short
 pub record IsDriven (past : ℕ) (t0 : Database) (terminals inputs : ℕ) (old new : Option (List ℕ)) (driven : Driven)
     : Type 0 where
   pub ran : IsRan past t0 terminals inputs old new driven.report
   pub acknowledged : driven.shortfall ≡ None → ran.counts.commits ≤ ran.counts.acknowledged
-  pub short : IfSome driven.shortfall (λ shortfall. IsShortBy shortfall.refusal)
+  pub short : IfSome driven.shortfall (λ shortfall. IsShortBy ran.counts shortfall.refusal shortfall.lost)
 
 -- it was refused, for want of memory or by a device: nothing was written; or all inputs ran, and a beginning of the text
 -- was written

@@ -1,5 +1,5 @@
 //! A run from a population, or from what was restarted, to its report.
-ghost use Rattle.std.specs.Prelude.{◌≡◌, ◌<◌, ◌≤◌, [], length, map, All, IfOk, IfErr};
+ghost use Rattle.std.specs.Prelude.{◌≡◌, ◌<◌, ◌≤◌, length, map, IfOk, IfErr};
 ghost use Rattle.money.specs.declared.refusal.Refusal.TheVariants.{OutOfMemory};
 ghost use Rattle.tables.specs.declared.limits.TheConstants.{MAX_LOGGERS, MAX_TERMINALS};
 ghost use Rattle.population.specs.Initial.{initial};
@@ -7,7 +7,7 @@ ghost use Rattle.book.specs.Parts.{IsFresh, IsOpenedAs, base_of, first_of, past_
 ghost use Rattle.program_run.specs.Outfit.{AreLogsOf};
 ghost use Rattle.program_run.specs.Told.{AreCounts, IsBrokenBy, IsDriven};
 
-use crate::outfit::{OpenLog, Slot, created, manned, stations};
+use crate::outfit::{OpenLog, manned, stations};
 use crate::shortfall::{Shortfall, shortfall_of};
 use crate::telling::ran;
 use book::{Engine, Parts, Run, Seats};
@@ -67,47 +67,9 @@ impl From<Broken> for Refusal {
     }
 }
 
-/// Runs an engine over the population, with new log files on the disks, one for each logger, and a gate for each
-/// terminal, and writes what came of it, as `drive_new` does. May wait, as `run_threads::run` does.
-///
-/// # Errors
-///
-/// As `drive_new`, and `Device` where a header can't be written: then no input runs, and nothing is written.
-pub fn drive<
-    D: Disk + Send + Drop,
-    P: Pace + Send + Drop,
-    G: Gate + Send + Drop,
-    W: Write,
-    R: Threads + Wait + Sync,
->(
-    rt: &R,
-    alloc: Global,
-    population: Population,
-    slots: Vec<Slot<D, P>>,
-    gates: Vec<G>,
-    plan: &Plan,
-    writer: &mut W,
-) -> Result<Driven, Broken>
-    requires loggers { (0 < length slots.items) × (length slots.items ≤ MAX_LOGGERS) }
-    requires terminals { (0 < plan.now.terminals) × (plan.now.terminals ≤ MAX_TERMINALS) }
-    requires gates { length gates.items ≡ plan.now.terminals }
-    requires empty { D.is_modelled → All (λ slot. D.seen slot.disk ≡ []) slots.items }
-    ensures ran { IfOk result (IsDriven 0 (initial population) plan.now.terminals plan.now.inputs
-        (W.contents writer.old) (W.contents writer.new)) }
-    ensures broken { IfErr result (IsBrokenBy 0 (initial population) plan.now.terminals plan.now.inputs
-        (W.contents writer.old) (W.contents writer.new)) }
-{
-    let (scale, seed) = (population.scale(), population.seed());
-    let logs = match created(alloc, scale, seed, slots) {
-        Ok(logs) => logs,
-        Err(refusal) => return Err(Broken::Unrun(refusal)),
-    };
-    drive_new(rt, alloc, population, logs, gates, plan, writer)
-}
-
-/// Runs an engine over the population, with new log files that are open, one for each logger, in their order, and a
-/// gate for each terminal; and writes what came of it, as `drive_on` does. The records are made first. May wait, as
-/// `run_threads::run` does.
+/// Runs an engine over the population, with new log files that are open, as `created` gives them: one for each logger,
+/// in their order; and with a gate for each terminal; and writes what came of it, as `drive_on` does. The records are
+/// made first. May wait, as `run_threads::run` does.
 ///
 /// # Errors
 ///

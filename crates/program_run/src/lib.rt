@@ -13,7 +13,7 @@ mod waits;
 
 pub use alarm::Alarm;
 pub use beat::Beat;
-pub use driving::{Broken, Driven, Plan, drive, drive_new, drive_on, run_parts};
+pub use driving::{Broken, Driven, Plan, drive_new, drive_on, run_parts};
 pub use outfit::{OpenLog, Slot, created};
 pub use screen::Screen;
 pub use shortfall::Shortfall;

@@ -51,7 +51,8 @@ impl<'a, S: Write> Screen<'a, S> {
         self.line.rewrite(self.began, text);
     }
 
-    /// Shows how far the run is at this time, if a line is due; and at once which log files can't be written any longer.
+    /// Shows how far the run is at this time, if a line is due; and at once which log files can't be written any
+    /// longer.
     pub fn show(&mut self, now: Duration, progress: &Progress) {
         self.tell_alarms(progress);
         if self.line.is_due(now) {
@@ -142,10 +143,7 @@ fn alarm_text(
     if let Some(error) = error {
         write!(text, ": {error}")?;
     }
-    write!(
-        text,
-        "; replies are durable up to epoch {durable}, and no later one is given"
-    )?;
+    write!(text, "; replies are durable up to epoch {durable}")?;
     Ok(text)
 }
 

@@ -23,7 +23,7 @@ pub struct Shortfall {
 /// was appended, and only E, which the first logger's clock couldn't advance, can have held the marks back.
 pub(crate) fn shortfall_of<D: Disk>(counts: &Counts, files: &[Written<D>]) -> Option<Shortfall>
     ensures none { result ≡ None → counts.now.commits ≤ counts.now.acknowledged }
-    ensures short { IfSome result (λ shortfall. IsShortBy shortfall.refusal) }
+    ensures short { IfSome result (λ shortfall. IsShortBy counts.now shortfall.refusal shortfall.lost) }
 {
     let lost = counts.commits.saturating_sub(counts.acknowledged);
     let stopped = files.iter().find(|file| file.has_stopped);

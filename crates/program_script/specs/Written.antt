@@ -1,6 +1,9 @@
 -- What a script writes.
-use Rattle.std.specs.Prelude.{◌≡◌, ℕ, ◌<◌, List, [], ◌++◌, length, codes}
+use Rattle.std.specs.Prelude.{◌≡◌, ◌⊎◌, ℕ, ◌<◌, Option, Some, List, [], ◌++◌, length, codes}
+use Rattle.std.specs.Io.KnownBytes.{Appends}
 use Rattle.std.specs.List.{flat_map}
+use Rattle.money.specs.declared.refusal.Refusal.{Refusal}
+use Rattle.money.specs.declared.refusal.Refusal.TheVariants.{OutOfMemory, BadInput, Device}
 use Rattle.tables.specs.Database.{Database}
 use Rattle.program_script_text.specs.Lines.{text_lines}
 use Rattle.program_script_text.specs.Output.{answer_text}
@@ -41,3 +44,17 @@ pub data IsBeginning (tables : Database) (bytes front : List ℕ) : Type 0 where
       ++ rest → IsBeginning tables bytes front
   of_whole : (text rest : List ℕ) (report : Report) (dones : List Done) → IsWhole tables bytes text report dones
       → text ≡ front ++ rest → IsBeginning tables bytes front
+
+-- a writer got that whole text, of the bytes that a reader has if these are known
+abbrev pub WritesWhole : Database → Option (List ℕ) → Option (List ℕ) → Option (List ℕ) → Report → List Done → Type 0
+WritesWhole tables read old new report dones = (bytes : List ℕ) → read ≡ Some bytes
+    → (text : List ℕ) × Appends old new text × IsWhole tables bytes text report dones
+
+-- or it got a beginning of it
+abbrev pub WritesFront : Database → Option (List ℕ) → Option (List ℕ) → Option (List ℕ) → Type 0
+WritesFront tables read old new = (bytes : List ℕ) → read ≡ Some bytes
+    → (front : List ℕ) × Appends old new front × IsBeginning tables bytes front
+
+-- what a script is refused by
+abbrev pub IsScriptRefusal : Refusal → Type 0
+IsScriptRefusal refusal = (refusal ≡ OutOfMemory) ⊎ (refusal ≡ BadInput) ⊎ (refusal ≡ Device)

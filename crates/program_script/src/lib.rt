@@ -8,5 +8,5 @@ mod showing;
 mod turns;
 
 pub use hints::{Hints, NoHints};
-pub use running::{MAX_LINES, explained_script, script};
+pub use running::{MAX_LINES, hinted_script, script};
 pub use turns::{bytes_determine_text, lines_determine_turns};

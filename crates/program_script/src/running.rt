@@ -11,6 +11,7 @@ ghost use Rattle.book.specs.Parts.{IsOpenedAs, first_of, past_of, population_of,
 ghost use Rattle.program_script.specs.Hints.{TellsMore};
 ghost use Rattle.program_script.specs.Turns.{Turn, IsLineTurn};
 ghost use Rattle.program_script.specs.Written.{HasTooManyLines, IsWhole, IsBeginning};
+ghost use Rattle.program_script.specs.Written.{IsScriptRefusal, WritesFront, WritesWhole};
 ghost use Rattle.program_script.specs.Answered.{state_of, standing_of, HasAnswered, HasAnsweredAll, HasTooMany};
 
 use crate::answering::answer_line;
@@ -58,24 +59,19 @@ pub fn script<R: Read, W: Write, T: Wait>(
     reader: &mut R,
     writer: &mut W,
 ) -> Result<(Report, Vec<Done>), Refusal>
-    ensures whole { IfOk result (λ closed. (bytes : List ℕ) → R.remaining reader.old ≡ Some bytes
-        → (text : List ℕ)
-        × Appends (W.contents writer.old) (W.contents writer.new) text
-        × IsWhole (initial population) bytes text closed.0 closed.1.items) }
-    ensures beginning { OnErr result ((bytes : List ℕ) → R.remaining reader.old ≡ Some bytes
-        → (front : List ℕ)
-        × Appends (W.contents writer.old) (W.contents writer.new) front
-        × IsBeginning (initial population) bytes front) }
+    ensures whole { IfOk result (λ closed. WritesWhole (initial population) (R.remaining reader.old)
+        (W.contents writer.old) (W.contents writer.new) closed.0 closed.1.items) }
+    ensures beginning { OnErr result (WritesFront (initial population) (R.remaining reader.old)
+        (W.contents writer.old) (W.contents writer.new)) }
     ensures too_many { IsErrOf result BadInput → (bytes : List ℕ)
         → R.remaining reader.old ≡ Some bytes → HasTooManyLines bytes }
-    ensures refusals { IfErr result (λ refusal. (refusal ≡ OutOfMemory) ⊎ (refusal ≡ BadInput)
-        ⊎ (refusal ≡ Device)) }
+    ensures refusals { IfErr result IsScriptRefusal }
 {
-    explained_script(rt, alloc, population, reader, writer, &mut NoHints)
+    hinted_script(rt, alloc, population, reader, writer, &mut NoHints)
 }
 
 /// As `script`, and tells `hints` of each line that is refused, once it is answered and before the answer is written.
-pub fn explained_script<R: Read, W: Write, T: Wait, H: Hints>(
+pub fn hinted_script<R: Read, W: Write, T: Wait, H: Hints>(
     rt: &T,
     alloc: Global,
     population: Population,
@@ -83,18 +79,13 @@ pub fn explained_script<R: Read, W: Write, T: Wait, H: Hints>(
     writer: &mut W,
     hints: &mut H,
 ) -> Result<(Report, Vec<Done>), Refusal>
-    ensures whole { IfOk result (λ closed. (bytes : List ℕ) → R.remaining reader.old ≡ Some bytes
-        → (text : List ℕ)
-        × Appends (W.contents writer.old) (W.contents writer.new) text
-        × IsWhole (initial population) bytes text closed.0 closed.1.items) }
-    ensures beginning { OnErr result ((bytes : List ℕ) → R.remaining reader.old ≡ Some bytes
-        → (front : List ℕ)
-        × Appends (W.contents writer.old) (W.contents writer.new) front
-        × IsBeginning (initial population) bytes front) }
+    ensures whole { IfOk result (λ closed. WritesWhole (initial population) (R.remaining reader.old)
+        (W.contents writer.old) (W.contents writer.new) closed.0 closed.1.items) }
+    ensures beginning { OnErr result (WritesFront (initial population) (R.remaining reader.old)
+        (W.contents writer.old) (W.contents writer.new)) }
     ensures too_many { IsErrOf result BadInput → (bytes : List ℕ)
         → R.remaining reader.old ≡ Some bytes → HasTooManyLines bytes }
-    ensures refusals { IfErr result (λ refusal. (refusal ≡ OutOfMemory) ⊎ (refusal ≡ BadInput)
-        ⊎ (refusal ≡ Device)) }
+    ensures refusals { IfErr result IsScriptRefusal }
     ensures told { TellsMore (H.told hints.old) (H.told hints.new) }
 {
     let parts = Parts::new(rt, alloc, population, 1, 1)?;
@@ -113,18 +104,13 @@ fn run<K: Run, R: Read, W: Write, T: Wait, H: Hints>(
     requires run { IsOpenedAs parts K.population K.first K.past K.cells K.board K.seed K.name K.parts }
     requires one { terminals_of parts ≡ 1 }
     requires begins { (past_of parts ≡ 0) × (first_of parts ≡ population_of parts) }
-    ensures whole { IfOk result (λ closed. (bytes : List ℕ) → R.remaining reader.old ≡ Some bytes
-        → (text : List ℕ)
-        × Appends (W.contents writer.old) (W.contents writer.new) text
-        × IsWhole K.first bytes text closed.0 closed.1.items) }
-    ensures beginning { OnErr result ((bytes : List ℕ) → R.remaining reader.old ≡ Some bytes
-        → (front : List ℕ)
-        × Appends (W.contents writer.old) (W.contents writer.new) front
-        × IsBeginning K.first bytes front) }
+    ensures whole { IfOk result (λ closed. WritesWhole K.first (R.remaining reader.old)
+        (W.contents writer.old) (W.contents writer.new) closed.0 closed.1.items) }
+    ensures beginning { OnErr result (WritesFront K.first (R.remaining reader.old)
+        (W.contents writer.old) (W.contents writer.new)) }
     ensures too_many { IsErrOf result BadInput → (bytes : List ℕ)
         → R.remaining reader.old ≡ Some bytes → HasTooManyLines bytes }
-    ensures refusals { IfErr result (λ refusal. (refusal ≡ OutOfMemory) ⊎ (refusal ≡ BadInput)
-        ⊎ (refusal ≡ Device)) }
+    ensures refusals { IfErr result IsScriptRefusal }
     ensures told { TellsMore (H.told hints.old) (H.told hints.new) }
 {
     let (engine, mut seats) = Engine::<K>::open(parts);
@@ -179,18 +165,13 @@ impl<'e, K: Run> Desk<'e, K> {
         hints: &mut H,
     ) -> Result<(Report, Vec<Done>), Refusal>
         requires start { HasAnswered K.first [] [] (standing_of self) }
-        ensures whole { IfOk result (λ closed. (bytes : List ℕ)
-            → R.remaining reader.old ≡ Some bytes → (text : List ℕ)
-            × Appends (W.contents writer.old) (W.contents writer.new) text
-            × IsWhole K.first bytes text closed.0 closed.1.items) }
-        ensures beginning { OnErr result ((bytes : List ℕ) → R.remaining reader.old ≡ Some bytes
-            → (front : List ℕ)
-            × Appends (W.contents writer.old) (W.contents writer.new) front
-            × IsBeginning K.first bytes front) }
+        ensures whole { IfOk result (λ closed. WritesWhole K.first (R.remaining reader.old)
+            (W.contents writer.old) (W.contents writer.new) closed.0 closed.1.items) }
+        ensures beginning { OnErr result (WritesFront K.first (R.remaining reader.old)
+            (W.contents writer.old) (W.contents writer.new)) }
         ensures too_many { IsErrOf result BadInput → (bytes : List ℕ)
             → R.remaining reader.old ≡ Some bytes → HasTooManyLines bytes }
-        ensures refusals { IfErr result (λ refusal. (refusal ≡ OutOfMemory) ⊎ (refusal ≡ BadInput)
-            ⊎ (refusal ≡ Device)) }
+        ensures refusals { IfErr result IsScriptRefusal }
         ensures told { TellsMore (H.told hints.old) (H.told hints.new) }
     {
         let mut desk = self;
@@ -221,8 +202,7 @@ impl<'e, K: Run> Desk<'e, K> {
         ensures too_many { IsErrOf result BadInput → (bytes : List ℕ)
             → R.remaining reader.old ≡ Some bytes
             → HasAnswered K.first [] [] (standing_of self.old) → HasTooManyLines bytes }
-        ensures refusals { IfErr result (λ refusal. (refusal ≡ OutOfMemory) ⊎ (refusal ≡ BadInput)
-            ⊎ (refusal ≡ Device)) }
+        ensures refusals { IfErr result IsScriptRefusal }
         ensures told { TellsMore (H.told hints.old) (H.told hints.new) }
     {
         for _ in 0..u64::MAX {

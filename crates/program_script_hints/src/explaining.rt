@@ -1,5 +1,8 @@
 //! The text of what is wrong with a line.
 
+ghost use Rattle.std.specs.Prelude.{◌≡◌, ℕ, List, IfOk, string_bytes};
+ghost use Rattle.program_script_hints.specs.Lines.{line_on};
+
 use crate::ranges::out_of_range;
 use crate::shape::misshapen;
 use money::Refusal;
@@ -8,15 +11,17 @@ use std::alloc::{AllocError, Global};
 use std::str::FromStr;
 use tables::Scale;
 
-/// What is wrong with the refused line of this number, with a line feed: `line 4: W is 2: it is to be from 1 to 1`. None
-/// is a line that is too long.
+/// What is wrong with the refused line of this number, with a line feed: `line 4: W is 2: it is to be from 1 to 1`.
+/// None is a line that is too long.
 pub fn explanation(
     alloc: Global,
     scale: &Scale,
     line: Option<&[u8]>,
     number: u32,
     refusal: Refusal,
-) -> Result<String, AllocError> {
+) -> Result<String, AllocError>
+    ensures { IfOk result (λ text. (what : List ℕ) × (string_bytes text ≡ line_on number what)) }
+{
     let what = match line {
         Some(bytes) => of_line(alloc, scale, bytes, refusal)?,
         None => format!(in alloc; "it is longer than {MAX_LINE} bytes")?,

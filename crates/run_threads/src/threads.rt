@@ -162,8 +162,8 @@ fn run_crew<
     requires count { length crew.workers.items ≡ K.parts }
     requires few { K.parts < 2 ^ 16 }
     requires idle { All (λ worker. inputs_in worker.tally ≡ 0) crew.workers.items }
-    requires empty { (crew.room.tallies.items ≡ []) × (crew.room.shares.items ≡ []) × (crew.room.turned.items ≡ [])
-        × (crew.room.files.items ≡ []) × (crew.room.paces.items ≡ []) }
+    requires empty { (crew.room.tallies.items ≡ []) × (crew.room.shares.items ≡ [])
+        × (crew.room.turned.items ≡ []) × (crew.room.files.items ≡ []) × (crew.room.paces.items ≡ []) }
     requires tallies { length crew.workers.items ≤ vec_capacity crew.room.tallies }
     requires shares { length crew.workers.items ≤ vec_capacity crew.room.shares }
     requires turned { length crew.writers.items ≤ vec_capacity crew.room.turned }

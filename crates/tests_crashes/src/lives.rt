@@ -6,7 +6,7 @@ ghost use Rattle.program_run.specs.Outfit.{AreLogsOf};
 use log_disk::Disk;
 use money::Refusal;
 use population::Population;
-use program_run::{Driven, Plan, drive, drive_on};
+use program_run::{Driven, Plan, created, drive_new, drive_on};
 use recover_restart::{Restarted, restart};
 use std::alloc::Global;
 use std::sync::Wait;
@@ -55,8 +55,9 @@ pub(crate) fn begun<R: Threads + Wait + Sync>(
     if !is_possible(slots.len(), plan) {
         return Err(Refusal::BadInput);
     }
-    let mut text = Vec::new(alloc);
-    let driven = drive(rt, alloc, plain(alloc)?, slots, gates, plan, &mut text)?;
+    let (population, mut text) = (plain(alloc)?, Vec::new(alloc));
+    let logs = created(alloc, population.scale(), population.seed(), slots)?;
+    let driven = drive_new(rt, alloc, population, logs, gates, plan, &mut text)?;
     Ok(outcome_of(driven))
 }
 

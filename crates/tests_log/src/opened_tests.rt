@@ -6,7 +6,7 @@ use money::Refusal;
 use std::alloc::Global;
 use std::test::Fail;
 use tests_disks::{FailingDisk, Fault};
-use tests_log_vectors::{VOID, file_of_payments, first_of_version_1};
+use tests_log_vectors::{PAYMENT, VOID, file_of_payments, first_of_version_1};
 
 /// A disk in memory with the file of one Payment, of epoch 4 and mark 5, that was never synced.
 fn written(alloc: Global) -> Result<Memory, Refusal> {
@@ -143,13 +143,64 @@ fn a_file_is_read_behind_a_sync(rt: HostRuntime) -> Result<(), Fail> {
     Ok(())
 }
 
+/// What a disk's bytes are read as, and what opening them for appending comes to.
+#[derive(Clone, Copy, Debug, PartialEq, Eq)]
+struct Refused {
+    version: u32,
+    bodies: usize,
+    refusal: Option<Refusal>,
+    /// How many calls the opening added.
+    calls: usize,
+}
+
+fn opened_on(alloc: Global, memory: &mut Memory) -> Result<Refused, Refusal> {
+    let (header, bodies) = scan(alloc, memory)?;
+    let before = memory.calls().len();
+    let refusal = LogFile::open(alloc, &mut *memory).err();
+    Ok(Refused {
+        version: header.version,
+        bodies: bodies.len(),
+        refusal,
+        calls: memory.calls().len().saturating_sub(before),
+    })
+}
+
+/// A disk in memory with a header of version 1 and these bytes behind it.
+fn of_version_1(alloc: Global, rest: &[u8]) -> Result<Memory, Refusal> {
+    let mut bytes = Vec::new(alloc);
+    bytes.extend_from_slice(&first_of_version_1())?;
+    bytes.extend_from_slice(rest)?;
+    let mut memory = Memory::new(alloc);
+    memory.write_at(0, &bytes)?;
+    Ok(memory)
+}
+
+/// A file of version 1 without bodies, which is read and not opened: a sync is all that is called.
+const OF_VERSION_1: Refused = Refused {
+    version: 1,
+    bodies: 0,
+    refusal: Some(Refusal::Damaged),
+    calls: 1,
+};
+
 #[test]
 fn a_file_of_version_1_is_not_opened(rt: HostRuntime) -> Result<(), Fail> {
-    let mut memory = Memory::new(rt.alloc());
-    memory.write_at(0, &first_of_version_1())?;
-    let opened = LogFile::open(rt.alloc(), &mut memory);
-    assert_eq!(rt; opened.err(), Some(Refusal::Damaged));
-    // the write, and a sync
-    assert_eq!(rt; memory.calls().len(), 2);
+    let mut memory = of_version_1(rt.alloc(), &[0])?;
+    assert_eq!(rt; opened_on(rt.alloc(), &mut memory), Ok(OF_VERSION_1));
+    Ok(())
+}
+
+#[test]
+fn a_payment_of_version_1_is_not_gone_on_with(rt: HostRuntime) -> Result<(), Fail> {
+    let mut rest = [0; 174];
+    rest[0] = 1;
+    rest[1..173].copy_from_slice(&PAYMENT);
+    let mut memory = of_version_1(rt.alloc(), &rest)?;
+    assert_eq!(rt; memory.bytes().len(), 222);
+    let expected = Refused {
+        bodies: 1,
+        ..OF_VERSION_1
+    };
+    assert_eq!(rt; opened_on(rt.alloc(), &mut memory), Ok(expected));
     Ok(())
 }

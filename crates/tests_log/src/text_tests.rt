@@ -13,7 +13,7 @@ use tests_log_vectors::{FIRST, PAID_TEXT, first_of_version_1, payment_with_text}
 struct Text {
     /// The customer's place, from 0.
     place: u32,
-    /// 1, or what stands in its place.
+    /// 1, or what stands in its place: behind 0, the record is absent, nothing stands.
     kind: u8,
     /// The length that is told, where it isn't that of the letters.
     told: Option<u16>,
@@ -36,6 +36,9 @@ fn push_text(out: &mut Vec<u8>, text: Text) -> Result<(), AllocError> {
     out.push(12)?;
     out.extend_from_slice(&text.place.to_le_bytes())?;
     out.push(text.kind)?;
+    if text.kind == 0 {
+        return Ok(());
+    }
     let whole = text.letters.saturating_add(1);
     out.extend_from_slice(&text.told.unwrap_or(whole).to_le_bytes())?;
     out.push(text.first)?;

@@ -17,6 +17,8 @@ mod new_orders;
 mod query_scripts;
 mod runs;
 #[cfg(test)]
+mod screens;
+#[cfg(test)]
 mod scripts;
 #[cfg(test)]
 mod small_scripts;

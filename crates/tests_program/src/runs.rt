@@ -2,7 +2,9 @@
 
 #[cfg(test)]
 use crate::GOOD;
-use program::{Watched, run};
+use program::run;
+use program_script_hints::Hinted;
+use program_streams::Watched;
 use std::alloc::{AllocError, Global};
 use std::fs::File;
 use std::io::{self, Read, Write};
@@ -41,7 +43,7 @@ fn run_on<R: Read + Drop, T: Wait + Threads + Clock + Files<File = File> + Sync>
 ) -> Result<Outcome, AllocError> {
     let words = words_of(alloc, words)?;
     let (mut input, mut output) = (Watched::new(input), Watched::new(Vec::new(alloc)));
-    let mut errors = Vec::new(alloc);
+    let mut errors = Hinted::new(alloc, Vec::new(alloc));
     let words = words.as_slice();
     let status = run(
         rt,
@@ -50,10 +52,10 @@ fn run_on<R: Read + Drop, T: Wait + Threads + Clock + Files<File = File> + Sync>
         &mut input,
         &mut output,
         &mut errors,
-        Vec::<u8>::new(alloc),
         None::<Vec<u8>>,
     );
     let output = Vec::from_slice(alloc, output.stream().as_slice())?;
+    let errors = Vec::from_slice(alloc, errors.errors().as_slice())?;
     Ok(Outcome {
         output,
         errors,
@@ -72,6 +74,27 @@ fn a_script_at_its_options(rt: HostRuntime) -> Result<(), Fail> {
         commits 2\nC1 ok\nC2 ok\nC3 ok\nC4 ok\nC5 ok\nC6 ok\nC7 ok\nC8 ok\nC9 ok\nC10 ok\nC12 ok\n";
     assert_eq!(rt; ran.output.as_slice(), expected.as_bytes());
     assert_eq!(rt; ran.errors.as_slice(), b"".as_slice());
+    assert_eq!(rt; ran.status, 0);
+    Ok(())
+}
+
+/// A scale of one warehouse, at which refused lines are explained.
+const EXPLAINED: &str =
+    "tpcc script --explain --districts 3 --customers 12 --items 20 --orders 30 --commits 1";
+
+#[test]
+fn a_script_that_is_explained(rt: HostRuntime) -> Result<(), Fail> {
+    let input = b"payment 1 3 1 3 12 1.00\nshow warehouse 2\nshow district 1 1 1\n".as_slice();
+    let ran = run_on(&rt, rt.alloc(), EXPLAINED, input)?;
+    let expected = "line 2: W is 2: it is to be from 1 to 1\n\
+        line 3: show district has 2 words behind it, and here are 3\n";
+    assert_eq!(rt; ran.errors.as_slice(), expected.as_bytes());
+    assert_eq!(rt;
+        ran.output
+            .as_slice()
+            .starts_with(b"payment 1 3 customer 1 3 12 "),
+        true
+    );
     assert_eq!(rt; ran.status, 0);
     Ok(())
 }
@@ -206,7 +229,7 @@ fn an_input_that_fails(rt: HostRuntime) -> Result<(), Fail> {
 fn an_output_that_fails(rt: HostRuntime) -> Result<(), Fail> {
     let words = words_of(rt.alloc(), TWO)?;
     let (mut input, mut output) = (Watched::new(b"".as_slice()), Watched::new(failing(32)));
-    let mut errors = Vec::new(rt.alloc());
+    let mut errors = Hinted::new(rt.alloc(), Vec::new(rt.alloc()));
     let words = words.as_slice();
     let status = run(
         &rt,
@@ -215,12 +238,11 @@ fn an_output_that_fails(rt: HostRuntime) -> Result<(), Fail> {
         &mut input,
         &mut output,
         &mut errors,
-        Vec::<u8>::new(rt.alloc()),
         None::<Vec<u8>>,
     );
     assert_eq!(rt; status, 1);
     let expected = b"9 Device\nstandard output: Broken pipe (os error 32)\n".as_slice();
-    assert_eq!(rt; errors.as_slice(), expected);
+    assert_eq!(rt; errors.errors().as_slice(), expected);
     assert_eq!(rt;
         output.failure().and_then(|error| error.raw_os_error()),
         Some(32)

@@ -1,7 +1,11 @@
 //! Restarts on log files whose last process was stopped.
 
-use crate::restarting::{BEHIND_8, Restart, restart_on};
-use money::Cents;
+use crate::gathered::{Unsynced, gather};
+use crate::restarting::{BEHIND_8, Restart, numbers_of, restart_on};
+use log_disk::Memory;
+use money::{Cents, Refusal};
+use std::alloc::Global;
+use std::sync::Wait;
 use std::test::Fail;
 use tests_log_files::{Recovery, declare, disks, outcome_of};
 
@@ -40,5 +44,25 @@ fn a_restart_goes_on_where_one_was_stopped_between_files(rt: HostRuntime) -> Res
     assert_eq!(rt; restart_on(&rt, rt.alloc(), &mut disks), Ok(expected));
     let recovered = outcome_of(rt.alloc(), &mut disks);
     assert_eq!(rt; recovered, Ok((RECOVERED, Some(Cents::new(20_200)))));
+    Ok(())
+}
+
+/// What a restart gives on these disks, of which none may be looked at until all are synced: its number of commits and
+/// its epoch.
+fn restarted_once_synced<R: Wait>(
+    rt: &R,
+    alloc: Global,
+    disks: &mut [Memory],
+) -> Result<(u64, u64), Refusal> {
+    let unsynced = Unsynced::of(disks.len());
+    let gathered = gather(alloc, disks, &unsynced)?;
+    numbers_of(rt, alloc, gathered)
+}
+
+#[test]
+fn no_disk_is_looked_at_before_all_are_synced(rt: HostRuntime) -> Result<(), Fail> {
+    let mut disks = disks(rt.alloc(), 1)?;
+    let numbers = restarted_once_synced(&rt, rt.alloc(), &mut disks);
+    assert_eq!(rt; numbers, Ok((BEHIND_8.commits, BEHIND_8.epoch)));
     Ok(())
 }

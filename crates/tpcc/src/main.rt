@@ -2,7 +2,9 @@
 #![tactic(auto)]
 
 use money::Refusal;
-use program::{Narrow, USAGE_FAULT, Watched, finish, run};
+use program::{USAGE_FAULT, finish, run};
+use program_script_hints::Hinted;
+use program_streams::{Narrow, Watched};
 use std::env;
 use std::io::IsTerminal;
 use std::process::ExitCode;
@@ -30,8 +32,7 @@ fn main(rt: HostRuntime) -> ExitCode {
         words.as_slice(),
         &mut input,
         &mut output,
-        &mut rt.stderr(),
-        rt.stderr(),
+        &mut Hinted::new(rt.alloc(), errors),
         screen,
     );
     ExitCode::from(status)

@@ -1,7 +1,8 @@
 use Rattle.std.proofs.Common.{◌≡◌, ◌++◌, List, ℕ, Option, codes, ap, ◌∙◌, subst}
 use Rattle.std.specs.Prelude.{IfOk, string_bytes}
 use Rattle.std.specs.declared.io.Error.{Error}
-use Rattle.program.specs.Detail.{IsReasonTold, reason_of, trouble_of}
+use Rattle.program_files.specs.Causes.{reason_of, trouble_of}
+use Rattle.program.specs.Detail.{IsReasonTold}
 use Rattle.program.proofs.detail.file_detail.Goals as goal
 
 pub returns : goal.returns

@@ -1,9 +1,9 @@
 use Rattle.std.proofs.Common.{List, ℕ, refl, subst, sym}
 use Rattle.std.proofs.KnownBytes.{Appends-nil}
 use Rattle.std.proofs.lemmas.Result.{IfErr-weaker}
-use Rattle.program.specs.Detail.{cause_of}
+use Rattle.program_files.specs.Causes.{cause_of}
 use Rattle.program.specs.Info.{IsUntold, first_path, memory}
-use Rattle.program.specs.declared.fault.Fault.{Fault}
+use Rattle.program_files.specs.declared.fault.Fault.{Fault}
 use Rattle.program.proofs.NoMemory.{passed_on}
 use Rattle.program.proofs.info.info.Goals as goal
 

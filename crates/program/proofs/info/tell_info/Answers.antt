@@ -1,9 +1,9 @@
 use Rattle.std.proofs.Common.{◌∙◌, refl, subst, sym}
 use Rattle.std.proofs.KnownBytes.{Appends-nil}
-use Rattle.program.specs.Detail.{cause_of}
+use Rattle.program_files.specs.Causes.{cause_of}
 use Rattle.program.specs.Info.{IsUntold, begun, info_text, memory}
 use Rattle.program.specs.Status.{WritesBeginning}
-use Rattle.program.specs.declared.fault.Fault.{Fault}
+use Rattle.program_files.specs.declared.fault.Fault.{Fault}
 use Rattle.program.proofs.NoMemory.{passed_on}
 use Rattle.program.proofs.info.tell_info.Goals as goal
 

@@ -1,8 +1,8 @@
 use Rattle.std.proofs.Common.{refl}
 use Rattle.std.proofs.KnownBytes.{Appends-nil}
-use Rattle.program.specs.Headless.{IsWhyHeadless}
+use Rattle.program_files.specs.Headless.{IsWhyHeadless}
 use Rattle.program.specs.Info.{headless, unread}
-use Rattle.program.specs.declared.info.Headless.TheVariants as why
+use Rattle.program_files.specs.declared.header.Headless.TheVariants as why
 use Rattle.program.proofs.info.unheaded.Goals as goal
 
 pub returns-in-Unread : goal.returns-in-Unread

@@ -5,10 +5,11 @@ use Rattle.program_options.specs.declared.asked.RunOptions.{RunOptions}
 use Rattle.program_run.specs.Told.{refusal_in}
 use Rattle.program_run.specs.declared.driving.Broken.{Broken}
 use Rattle.program.specs.Breaks.{IsToldAsHalted}
-use Rattle.program.specs.Detail.{CauseView, cause_of}
-use Rattle.program.specs.Logs.{HasBroken, IsUnfinishedRun}
-use Rattle.program.specs.declared.fault.Fault.{Fault}
-use Rattle.program.specs.declared.fault.Purpose.TheVariants.{Create}
+use Rattle.program_files.specs.Causes.{CauseView, cause_of}
+use Rattle.program_files.specs.Logs.{HasBroken}
+use Rattle.program.specs.Live.{IsUnfinishedRun}
+use Rattle.program_files.specs.declared.fault.Fault.{Fault}
+use Rattle.program_files.specs.declared.fault.Purpose.TheVariants.{Create}
 use Rattle.program.specs.declared.live.Halt.{Halt}
 use Rattle.program.proofs.live.halted.Goals as goal
 

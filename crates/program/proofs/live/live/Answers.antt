@@ -1,9 +1,10 @@
 use Rattle.std.proofs.Common.{refl, subst, sym}
 use Rattle.std.proofs.KnownBytes.{Appends-nil}
 use Rattle.population.specs.Initial.{initial}
-use Rattle.program.specs.declared.fault.Fault.{Fault}
-use Rattle.program.specs.Detail.{cause_of}
-use Rattle.program.specs.Logs.{IsUnfinishedRun, memory, unmade}
+use Rattle.program_files.specs.declared.fault.Fault.{Fault}
+use Rattle.program_files.specs.Causes.{cause_of}
+use Rattle.program_files.specs.Logs.{memory}
+use Rattle.program.specs.Live.{IsUnfinishedRun, unmade}
 use Rattle.program.proofs.Durable.{ran_durably, ran_short}
 use Rattle.program.proofs.NoMemory.{passed_on}
 use Rattle.program.proofs.live.live.Goals as goal

@@ -4,7 +4,7 @@ use Rattle.std.proofs.lemmas.List.{length-map}
 use Rattle.population.specs.Initial.{initial}
 use Rattle.program_run.specs.Told.{IsBroken, refusal_in, unrun}
 use Rattle.program_run.specs.declared.driving.Plan.{Plan}
-use Rattle.program.specs.Logs.{broken, unmade}
+use Rattle.program.specs.Live.{broken, unmade}
 use Rattle.program.proofs.live.run_on.Goals as goal
 
 pub returns-in-Err-created-clause-halted : goal.returns-in-Err-created-clause-halted

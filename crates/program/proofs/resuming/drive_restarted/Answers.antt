@@ -1,7 +1,6 @@
-use Rattle.std.proofs.Common.{IfOk, refl, subst}
-use Rattle.std.proofs.KnownBytes.{Appends-nil}
+use Rattle.std.proofs.Common.{IfOk, subst}
 use Rattle.book.specs.Parts.{first_of, past_of}
-use Rattle.program_run.specs.Told.{IsDriven, unrun}
+use Rattle.program_run.specs.Told.{IsDriven}
 use Rattle.program_run.specs.declared.driving.Plan.{Plan}
 use Rattle.program.proofs.resuming.drive_restarted.Goals as goal
 

@@ -2,11 +2,11 @@ use Rattle.std.proofs.Common.{ap, subst, sym, IfSome}
 use Rattle.money.specs.declared.refusal.Refusal.{Refusal}
 use Rattle.tables.specs.Sizes.{Sizes}
 use Rattle.program.specs.Breaks.{IsToldAsUnfinished}
-use Rattle.program.specs.Detail.{cause_of}
-use Rattle.program.specs.Logs.{IsWhy}
+use Rattle.program_files.specs.Causes.{cause_of}
+use Rattle.program_files.specs.Logs.{IsWhy}
 use Rattle.program.specs.Resumed.{IsUnfinishedResumedRun}
-use Rattle.program.specs.declared.fault.Fault.{Fault}
-use Rattle.program.specs.declared.fault.Purpose.TheVariants.{Append}
+use Rattle.program_files.specs.declared.fault.Fault.{Fault}
+use Rattle.program_files.specs.declared.fault.Purpose.TheVariants.{Append}
 use Rattle.program.specs.declared.resuming.Break.{Break}
 use Rattle.program.proofs.resuming.fault_of.Goals as goal
 

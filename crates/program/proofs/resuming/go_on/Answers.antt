@@ -1,11 +1,10 @@
 use Rattle.std.proofs.Common.{ℕ, refl, subst, sym}
 use Rattle.std.proofs.KnownBytes.{Appends-nil}
-use Rattle.money.specs.declared.refusal.Refusal.{Refusal}
 use Rattle.population.specs.Initial.{initial, seed_of}
 use Rattle.program.specs.Breaks.{IsToldAsUnfinished}
-use Rattle.program.specs.declared.fault.Fault.{Fault}
-use Rattle.program.specs.Detail.{cause_of}
-use Rattle.program.specs.Logs.{memory}
+use Rattle.program_files.specs.declared.fault.Fault.{Fault}
+use Rattle.program_files.specs.Causes.{cause_of}
+use Rattle.program_files.specs.Logs.{memory}
 use Rattle.program.specs.Resumed.{IsUnfinishedResumedRun, unready}
 use Rattle.program.proofs.Durable.{resumed_durably, resumed_short}
 use Rattle.program.proofs.NoMemory.{passed_on}

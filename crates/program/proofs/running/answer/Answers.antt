@@ -2,7 +2,7 @@ use Rattle.std.proofs.Common.{ℕ, subst}
 use Rattle.std.proofs.lemmas.Result.{IfOk-weaker, IfErr-weaker}
 use Rattle.tables.specs.Sizes.{Sizes}
 use Rattle.population.specs.Initial.{initial}
-use Rattle.program.specs.Detail.{cause_of}
+use Rattle.program_files.specs.Causes.{cause_of}
 use Rattle.program.specs.Run.{IsPopulation, IsDone, IsFailed, begun}
 use Rattle.program.proofs.running.answer.Goals as goal
 

@@ -1,8 +1,8 @@
 use Rattle.std.proofs.Common.{◌≡◌, None, Err, ap, refl, subst, sym}
 use Rattle.std.proofs.Math.Logic.{⊎_map}
 use Rattle.population.specs.Initial.{initial}
-use Rattle.program.specs.declared.fault.Fault.{Fault}
-use Rattle.program.specs.Detail.{cause_of}
+use Rattle.program_files.specs.declared.fault.Fault.{Fault}
+use Rattle.program_files.specs.Causes.{cause_of}
 use Rattle.program.specs.Run.{IsBrokenOff}
 use Rattle.program.proofs.running.answer_told.Goals as goal
 
@@ -14,7 +14,7 @@ returns-in-Ok-clause-answered g c = λ bytes left.
 pub returns-in-Err-clause-broken_off : goal.returns-in-Err-clause-broken_off
 returns-in-Err-clause-broken_off g c = λ bytes left.
     let beginning = c.in-Err.ensures.beginning bytes left in
-    subst (λ (fault : Fault). IsBrokenOff (initial c.args.population) bytes (g.W.Write.contents c.args.output.now) (g.W.Write.contents c.explained_script.new.writer)
+    subst (λ (fault : Fault). IsBrokenOff (initial c.args.population) bytes (g.W.Write.contents c.args.output.now) (g.W.Write.contents c.hinted_script.new.writer)
     fault.refusal × (cause_of fault ≡ None)) (sym c.of.ensures) (
       record {
         front = beginning.0;

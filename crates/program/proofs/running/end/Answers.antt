@@ -1,7 +1,7 @@
 use Rattle.std.proofs.Common.{◌++◌, List, ℕ, string_bytes, subst}
-use Rattle.program.specs.Detail.{cause_of}
+use Rattle.program_files.specs.Causes.{cause_of}
 use Rattle.program.specs.Status.{refusal_line, WritesBeginning}
-use Rattle.program.specs.declared.fault.Fault.{Fault}
+use Rattle.program_files.specs.declared.fault.Fault.{Fault}
 use Rattle.program.proofs.Beginnings.{begins_any}
 use Rattle.program.proofs.Details.{some_plain_detail}
 use Rattle.program.proofs.Plain.{IsEndedBy, of_fault}

@@ -1,4 +1,4 @@
-use Rattle.program.specs.Detail.{cause_of}
+use Rattle.program_files.specs.Causes.{cause_of}
 use Rattle.program.specs.Run.{scale_of}
 use Rattle.program.specs.Status.{refusal_line}
 use Rattle.program.proofs.Beginnings.{begins_any}

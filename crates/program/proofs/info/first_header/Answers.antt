@@ -1,4 +1,0 @@
-use Rattle.program.proofs.info.first_header.Goals as goal
-
-pub returns-clause-headless : goal.returns-clause-headless
-returns-clause-headless g c = (_, c.headless.ensures.flaw)

@@ -1,5 +1,0 @@
-use Rattle.std.proofs.Common.{◌≡◌, length}
-use Rattle.program.proofs.logs.disks.Given as goal
-
-abbrev pub invariant-loop-logger : goal.invariant-loop-logger
-invariant-loop-logger g l = (l.logger-end ≡ l.files.loggers) × (length l.disks.items ≡ l.logger)

@@ -1,5 +1,0 @@
-use Rattle.std.proofs.Common.{arith}
-use Rattle.program.proofs.starting.NewFiles.make_all.Goals as goal
-
-pub returns-in-Err-clause-unready : goal.returns-in-Err-clause-unready
-returns-in-Err-clause-unready g c = c.in-Err.ensures.unready (omega (arith, c.loop-logger-test.true, c.loop-logger.invariant.0))

@@ -1,5 +1,0 @@
-use Rattle.std.proofs.Common.{◌≡◌}
-use Rattle.program.proofs.starting.rename_all.Given as goal
-
-abbrev pub invariant-loop-logger : goal.invariant-loop-logger
-invariant-loop-logger g l = l.logger-end ≡ l.files.loggers

@@ -1,0 +1,2 @@
+mod Flawed
+mod Seen

@@ -1,0 +1,5 @@
+use Rattle.std.proofs.Common.{◌≡◌}
+use Rattle.program_files.proofs.starting.rename_all.Given as goal
+
+abbrev pub invariant-loop-logger : goal.invariant-loop-logger
+invariant-loop-logger g l = l.logger-end ≡ l.files.loggers
