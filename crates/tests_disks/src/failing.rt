@@ -4,6 +4,7 @@ ghost use Rattle.log_disk.specs.Calls.{Counts};
 
 use log_disk::{Disk, Memory};
 use money::Refusal;
+use std::sync::atomic::{AtomicU64, Ordering};
 
 /// The write or sync of a disk that fails: the one behind so many others, which are done.
 #[derive(Clone, Copy, Debug, PartialEq, Eq)]
@@ -14,13 +15,39 @@ pub struct Fault {
     pub bytes: usize,
 }
 
+/// How many of some disks were never synced.
+#[derive(Drop)]
+pub struct Unsynced {
+    disks: AtomicU64,
+}
+
+impl Unsynced {
+    /// So many.
+    pub fn of(disks: usize) -> Unsynced {
+        Unsynced {
+            disks: AtomicU64::new(disks as u64),
+        }
+    }
+
+    fn count(&self) -> u64 {
+        self.disks.load(Ordering::SeqCst)
+    }
+
+    /// One of them was synced.
+    fn note_sync(&self) {
+        self.disks.fetch_sub(1, Ordering::SeqCst);
+    }
+}
+
 /// A disk over one in memory, whose bytes no contract speaks of: one of its writes and syncs fails, if one is to.
 #[derive(Drop)]
 pub struct FailingDisk<'a> {
     memory: &'a mut Memory,
     fault: Option<Fault>,
-    // Whether it may be read.
+    // Whether it may be read, where others needn't be synced for that.
     is_open: bool,
+    // Those that are to be synced too.
+    unsynced: Option<&'a Unsynced>,
     failures: u64,
 }
 
@@ -39,6 +66,16 @@ impl<'a> FailingDisk<'a> {
         FailingDisk::of(memory, fault, false)
     }
 
+    /// One of some disks, of which each look fails until all were synced.
+    pub fn gathered(memory: &'a mut Memory, unsynced: &'a Unsynced) -> FailingDisk<'a>
+        ensures { (result.is_open ≡ false) × (result.failures ≡ 0) }
+    {
+        FailingDisk {
+            unsynced: Some(unsynced),
+            ..FailingDisk::of(memory, None, false)
+        }
+    }
+
     fn of(memory: &'a mut Memory, fault: Option<Fault>, is_open: bool) -> FailingDisk<'a>
         ensures { (result.is_open ≡ is_open) × (result.failures ≡ 0) }
     {
@@ -46,6 +83,7 @@ impl<'a> FailingDisk<'a> {
             memory,
             fault,
             is_open,
+            unsynced: None,
             failures: 0,
         }
     }
@@ -89,13 +127,18 @@ impl FailingDisk<'_> {
         if self.due().is_some() {
             return Err(Refusal::Device);
         }
+        match self.unsynced {
+            Some(unsynced) if !self.is_open => unsynced.note_sync(),
+            _ => {}
+        }
         self.is_open = true;
         self.memory.sync()
     }
 
     /// Refuses where it can't be read yet.
     fn looked_at(&self) -> Result<(), Refusal> {
-        if !self.is_open {
+        let waits = matches!(self.unsynced, Some(unsynced) if unsynced.count() > 0);
+        if !self.is_open || waits {
             return Err(Refusal::Device);
         }
         Ok(())

@@ -4,5 +4,5 @@
 mod failing;
 mod stopping;
 
-pub use failing::{FailingDisk, Fault};
+pub use failing::{FailingDisk, Fault, Unsynced};
 pub use stopping::{ALL_TORN, Torn, leave, left_by};

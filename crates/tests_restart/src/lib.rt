@@ -4,8 +4,6 @@
 #[cfg(test)]
 mod failing_tests;
 #[cfg(test)]
-mod gathered;
-#[cfg(test)]
 mod paying_tests;
 #[cfg(test)]
 mod refused_tests;

@@ -1,12 +1,12 @@
 //! Restarts on log files whose last process was stopped.
 
-use crate::gathered::{Unsynced, gather};
 use crate::restarting::{BEHIND_8, Restart, numbers_of, restart_on};
 use log_disk::Memory;
 use money::{Cents, Refusal};
-use std::alloc::Global;
+use std::alloc::{AllocError, Global};
 use std::sync::Wait;
 use std::test::Fail;
+use tests_disks::{FailingDisk, Unsynced};
 use tests_log_files::{Recovery, declare, disks, outcome_of};
 
 /// What is recovered behind such a restart.
@@ -47,6 +47,19 @@ fn a_restart_goes_on_where_one_was_stopped_between_files(rt: HostRuntime) -> Res
     Ok(())
 }
 
+/// These disks, lent, of which none may be looked at until all are synced.
+fn gathered<'a>(
+    alloc: Global,
+    disks: &'a mut [Memory],
+    unsynced: &'a Unsynced,
+) -> Result<Vec<FailingDisk<'a>>, AllocError> {
+    let mut all = Vec::new(alloc);
+    for disk in disks.iter_mut() {
+        all.push(FailingDisk::gathered(disk, unsynced))?;
+    }
+    Ok(all)
+}
+
 /// What a restart gives on these disks, of which none may be looked at until all are synced: its number of commits and
 /// its epoch.
 fn restarted_once_synced<R: Wait>(
@@ -55,7 +68,7 @@ fn restarted_once_synced<R: Wait>(
     disks: &mut [Memory],
 ) -> Result<(u64, u64), Refusal> {
     let unsynced = Unsynced::of(disks.len());
-    let gathered = gather(alloc, disks, &unsynced)?;
+    let gathered = gathered(alloc, disks, &unsynced)?;
     numbers_of(rt, alloc, gathered)
 }
 
