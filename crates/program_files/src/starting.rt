@@ -143,7 +143,7 @@ impl NewFiles {
     pub fn remove<T: Files<File = File>>(&self, rt: &T) {
         for place in 0..self.names.len() {
             let behind = self.names.len() - 1 - place;
-            if !self.has_first_name(rt, behind) {
+            if !self.take_name_back(rt, behind) {
                 return;
             }
         }
@@ -153,7 +153,7 @@ impl NewFiles {
     }
 
     /// Gives the file at this place its first name back, if it has its own, and answers whether it hasn't its own then.
-    fn has_first_name<T: Files<File = File>>(&self, rt: &T, place: usize) -> bool {
+    fn take_name_back<T: Files<File = File>>(&self, rt: &T, place: usize) -> bool {
         let (Some(disk), Some(names)) = (self.disks.get(place), self.names.get(place)) else {
             return true;
         };
