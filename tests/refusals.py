@@ -106,9 +106,10 @@ RECOVERED = b"durable 5\ncommits 2\nytd 202.00\nbalances -11.00 -10.00\n"
 
 @shows
 def two_files_are_recovered_or_refused():
-    # The disks are memory too.
-    kinds = sweep("recover", ["recover"], kind_among(RECOVERED, [OUT_OF_MEMORY, b"9 Device\n"]), Programs.calls)
-    same("whether growths of a recovery are refused", kinds["1 behind nothing"] > 50, True)
+    # The disks are memory too. Words: in one thread, and in two.
+    for word in ["recover", "threads"]:
+        kinds = sweep(word, [word], kind_among(RECOVERED, [OUT_OF_MEMORY, b"9 Device\n"]), Programs.calls)
+        same(f"whether growths of a recovery by {word} are refused", kinds["1 behind nothing"] > 50, True)
 
 
 # Ten customers have paid 1.00, each in an epoch of its own, and three batches were appended.

@@ -3,3 +3,4 @@ pub mod Moments
 pub mod Staging
 pub mod Appending
 pub mod Opening
+pub mod Refusing

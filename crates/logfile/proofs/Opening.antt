@@ -1,6 +1,6 @@
 -- A log file that is opened again: where it stands, and what no crash can take of it.
 use Rattle.std.proofs.Common.{◌≡◌, ℕ, ◌+◌, ◌%◌, ◌<◌, ◌≤◌, ◌==◌, true, ◌&&◌, Some, List, [], ◌∷◌, ◌++◌, length}
-use Rattle.std.proofs.Common.{sym, ap, ◌∙◌, subst, append_assoc, length-append, arith}
+use Rattle.std.proofs.Common.{refl, sym, ap, ◌∙◌, subst, append_assoc, length-append, arith}
 use Rattle.std.specs.Prelude.{nat_le, nat_lt}
 use Rattle.std.specs.Option.{option_and_then}
 use Rattle.std.proofs.lemmas.Bool.{leb-true}
@@ -89,3 +89,10 @@ reopened bytes h bodies last end before synced seen old mid new is read same lef
   settled = λ b may. subst (λ (s : List Call). MayLeave s b) (stays ∙ story) may ∙ sym same ∙ sym left;
   place = is.place;
 }
+
+-- the same, of the bytes that the disk had before, which a read gives after it
+pub reopened_read : (bytes : List ℕ) (h : HeaderView) (bodies : List BodyView) (last : Last) (end : ℕ) (before seen : List ℕ) (old new : List Call)
+    → IsFileTo bytes h bodies last end → bytes ≡ before → seen ≡ before → new ≡ Synced before ∷ old
+    → Stands h bodies end last seen new
+reopened_read bytes h bodies last end before seen old new is read same story =
+    reopened bytes h bodies last end before before seen old new new is read refl same story refl

@@ -24,6 +24,7 @@ pub record AppendsBody {D T : Type 0} (IsModelled : Type 0) (seen_of : D → Lis
   pub ok : OnOk result ((old.failed ≡ false) × (new.failed ≡ false) × (new.last ≡ now)
       × (new.count ≡ old.count + entries) × (new.number ≡ upto))
   pub end : OnOk result (new.end ≡ old.end + length (body_text body ++ 0 ∷ []))
+  pub none_failed : OnOk result (failed_of new.disk ≡ failed_of old.disk)
   -- on a modelled disk: the file has one body more after Ok; at each moment of the call a crash leaves it with this
   -- body or without it; and these were the calls
   pub added : IsModelled → (bodies : List BodyView)
@@ -38,7 +39,8 @@ pub record AppendsBody {D T : Type 0} (IsModelled : Type 0) (seen_of : D → Lis
   -- there it is refused at once
   pub memory : IsErrOf result OutOfMemory → new ≡ old
   pub device : IsErrOf result Device
-      → (new.failed ≡ true) × (new.last ≡ old.last) × (new.count ≡ old.count) × (new.number ≡ old.number)
+      → (new.failed ≡ true) × (new.end ≡ old.end) × (new.last ≡ old.last) × (new.count ≡ old.count)
+      × (new.number ≡ old.number)
   pub refuses : old.failed ≡ true → IsErrOf result Device × (new ≡ old)
   pub cause : old.failed ≡ false → IsErrOf result Device
       → failed_of new.disk ≡ min (failed_of old.disk + 1) (2 ^ 64 - 1)

@@ -3,6 +3,9 @@
 #![tactic(auto)]
 
 mod log_file;
+mod refused;
+mod reopening;
 mod storing;
 
 pub use log_file::LogFile;
+pub use refused::Refused;

@@ -12,8 +12,11 @@ ghost use Rattle.log_text.specs.declared.last.Last.{Last};
 ghost use Rattle.log_entries.specs.Following.{Continues};
 ghost use Rattle.logfile.specs.Called.{StoreLeft};
 ghost use Rattle.logfile.specs.Appended.{Appends, AppendsBody};
+ghost use Rattle.logfile.specs.Refused.{IsGivenBack};
 ghost use Rattle.logfile.specs.Standing.{Stands, IsWithOrWithout, IsKept};
 
+use crate::refused::Refused;
+use crate::reopening::read_again;
 use crate::storing::store;
 use board::Keeper;
 use book::Batch;
@@ -21,8 +24,7 @@ use log_codec::put_u8;
 use log_disk::Disk;
 use log_entries::put_batch;
 use log_header::{Header, VERSION, put_header};
-use log_scan::text;
-use log_text::{Body, Last, read_to_end, void_text};
+use log_text::{Body, Last, void_text};
 use money::Refusal;
 use recover_progress::Progress;
 use std::alloc::{AllocError, Global};
@@ -137,17 +139,11 @@ impl<D: Disk> LogFile<D> {
         Ok(file)
     }
 
-    /// A log file that is opened again for appending, and the bodies that stand in it. The disk is synced before it is
-    /// read, so that no crash can take what was read. No entry counts as appended to this open file; its mark is that
-    /// of the last body (0 without one), and the next body goes behind the gate that ends the text. Only the text is
-    /// read (`log_scan::text`), and noted as it is read. Costs a pass over it.
+    /// A log file that is opened again, as `open_or_give_back`, which gives no disk back.
     ///
     /// # Errors
     ///
-    /// `Damaged`, of a modelled disk only where its bytes are no log file of the version that is written today;
-    /// `Device`; `OutOfMemory`. After Ok they are one, and no call of the device has failed. An Err drops the disk, so
-    /// no clause says more of it; by the code alone `Device` comes exactly where a call of the device fails,
-    /// `OutOfMemory` only for want of memory, and nothing is written.
+    /// As `open_or_give_back`. An Err drops the disk.
     pub fn open_with_bodies(
         alloc: Global,
         disk: D,
@@ -171,25 +167,80 @@ impl<D: Disk> LogFile<D> {
         ensures others { IfErr result (λ refusal. (refusal ≢ OutOfMemory) → (refusal ≢ Device)
             → refusal ≡ Damaged) }
     {
-        let mut synced = disk;
-        synced.sync()?;
-        let bytes = text(alloc, &mut synced, progress)?;
-        let (header, bodies, last, end) = read_to_end(alloc, &bytes)?;
-        // Behind bodies of another version none may stand that are written today.
-        if header.version != VERSION {
-            return Err(Refusal::Damaged);
+        match LogFile::open_or_give_back(alloc, disk, progress) {
+            Ok(opened) => Ok(opened),
+            Err(refused) => Err(refused.refusal),
         }
-        let file = LogFile {
-            disk: synced,
-            header,
-            end: end as u64,
-            last,
-            count: 0,
-            number: 0,
-            failed: false,
-            buffer: Vec::new(alloc),
-        };
-        Ok((file, bodies))
+    }
+
+    /// A log file that is opened again for appending, and the bodies that stand in it. The disk is synced before it is
+    /// read, so that no crash can take what was read. No entry counts as appended to this open file; its mark is that
+    /// of the last body (0 without one), and the next body goes behind the gate that ends the text. Only the text is
+    /// read (`log_scan::text`), and noted as it is read. Costs a pass over it.
+    ///
+    /// # Errors
+    ///
+    /// With the disk (`IsGivenBack`): nothing was written. `Damaged`, of a modelled disk only where its bytes are no log
+    /// file of the version that is written today; `Device` exactly where a call of the device fails; `OutOfMemory`,
+    /// where none fails.
+    pub fn open_or_give_back(
+        alloc: Global,
+        disk: D,
+        progress: &Progress,
+    ) -> Result<(LogFile<D>, Vec<Body>), Refused<D>>
+        ensures fresh { IfOk result (λ x. (x.0.count ≡ 0) × (x.0.number ≡ 0) × (x.0.failed ≡ false)) }
+        ensures near { IfOk result (λ x. x.0.last.epoch ≤ x.0.last.mark + 1) }
+        ensures stands { D.is_modelled → IfOk result (λ x. Stands x.0.header (map body_of x.1.items) x.0.end x.0.last
+            (D.seen x.0.disk) (D.story x.0.disk)) }
+        ensures read { IfOk result (λ x. (bytes : List ℕ) × ((length bytes < 2 ^ 64)
+            × (D.is_modelled → bytes ≡ D.seen disk)
+            × IsFileTo bytes x.0.header (map body_of x.1.items) x.0.last x.0.end)) }
+        ensures synced { D.is_modelled → IfOk result (λ x. (D.seen x.0.disk ≡ D.seen disk)
+            × (D.story x.0.disk ≡ Synced (D.seen disk) ∷ D.story disk)) }
+        ensures version { IfOk result (λ x. x.0.header.version ≡ VERSION) }
+        ensures none_failed { IfOk result (λ x. D.failed x.0.disk ≡ D.failed disk) }
+        ensures damaged { D.is_modelled → IfErr result (λ refused. refused.refusal ≡ Damaged
+            → (h : HeaderView) (bodies : List BodyView) → h.version ≡ VERSION → IsFile (D.seen disk) h bodies → ⊥) }
+        ensures given_back { IfErr result (λ refused. IsGivenBack D.is_modelled D.seen D.story D.failed
+            refused.refusal disk refused.disk) }
+        ensures others { IfErr result (λ refused. (refused.refusal ≢ OutOfMemory) → (refused.refusal ≢ Device)
+            → refused.refusal ≡ Damaged) }
+    {
+        let mut disk = disk;
+        match read_again(alloc, &mut disk, progress) {
+            Ok(found) => {
+                let (header, bodies, last, end) = found;
+                let file = LogFile {
+                    disk,
+                    header,
+                    end,
+                    last,
+                    count: 0,
+                    number: 0,
+                    failed: false,
+                    buffer: Vec::new(alloc),
+                };
+                Ok((file, bodies))
+            }
+            Err(refusal) => Err(Refused { refusal, disk }),
+        }
+    }
+
+    /// The disk on which the file stands.
+    pub fn into_disk(self) -> D
+        ensures { result ≡ self.disk }
+    {
+        let LogFile {
+            disk,
+            header: _,
+            end: _,
+            last: _,
+            count: _,
+            number: _,
+            failed: _,
+            buffer: _,
+        } = self;
+        disk
     }
 
     /// Whose file it is, and over what.
@@ -319,7 +370,7 @@ impl<D: Disk> LogFile<D> {
         ensures ok { OnOk result ((self.new.last ≡ now) × (self.new.count ≡ self.old.count + entries)
             × (self.new.number ≡ number) × (self.new.failed ≡ false)) }
         ensures err { OnErr result ((self.new.last ≡ self.old.last) × (self.new.count ≡ self.old.count)
-            × (self.new.number ≡ self.old.number) × (self.new.failed ≡ true)) }
+            × (self.new.number ≡ self.old.number) × (self.new.end ≡ self.old.end) × (self.new.failed ≡ true)) }
         ensures added { D.is_modelled → (bodies : List BodyView) (body : BodyView)
             → Stands self.old.header bodies self.old.end self.old.last (D.seen self.old.disk) (D.story self.old.disk)
             → text.now ≡ body_text body ++ CLOSED ∷ []

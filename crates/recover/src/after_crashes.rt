@@ -1,12 +1,11 @@
 //! What recovery gives of the files of a history, and after a crash.
-ghost use Rattle.std.specs.Prelude.{ℕ, ◌<◌, List, [], length, slice_index_or};
+ghost use Rattle.std.specs.Prelude.{ℕ, ◌<◌, List, length};
 ghost use Rattle.tables.specs.Database.{Database};
 ghost use Rattle.log_text.specs.Bodies.{BodyView};
 ghost use Rattle.book.specs.declared.entry.Entry.{Entry as CommittedEntry};
 ghost use Rattle.logfile.specs.Standing.{LogFileView};
 ghost use Rattle.recover_crashes.specs.World.{Life, DiskView, IsFirst};
-ghost use Rattle.recover_crashes.specs.Recovering.{HoldTheHistory};
-ghost use Rattle.recover_laws.specs.Recovered.{IsHistoryOf, IsFirstDatabase};
+ghost use Rattle.recover_laws.specs.Recovered.{IsHistoryOf, HoldTheCut, IsFirstDatabase};
 ghost use Rattle.recover_lives.specs.World.{origin_of, first_world};
 ghost use Rattle.recover_lives.specs.Events.{LivesEvent, MayOccurInTurn, MayStrike, lives_after_all};
 ghost use Rattle.recover_files.specs.Files.{AreFilesOf};
@@ -14,25 +13,23 @@ ghost use Rattle.recover_files.specs.Recovered.{IsRecovery, HasGap};
 ghost use Rattle.recover.specs.Beginning.{AreInTurn, IsReplayOf, IsBeginningOf};
 ghost use Rattle.recover_files.specs.declared.recovering.Recovered.{Recovered as RecoveredValue};
 
-use recover_laws::{files_hold_the_cut, rebuilt_tables_are_the_replay};
+use recover_laws::rebuilt_tables_are_the_replay;
 use recover_lives::every_crash_is_survived;
 
-/// Where strings are log files, of whichever version, that hold a history, `recover` doesn't refuse them by `Gap`, and
-/// what it gives is the replay of what counts of the history: of that up to the durable epoch. The function does
-/// nothing: its contract is the law.
+/// Where strings are log files, of whichever version, that hold what counts of a history, the part up to their durable
+/// epoch, `recover` doesn't refuse them by `Gap`, and what it gives is the replay of that part. Entries that don't count
+/// may be any. The function does nothing: its contract is the law.
 pub fn recovery_is_the_replay()
     ensures no_gap { (t0 : Database) (version seed : ℕ) (strings : List (List ℕ)) (files : List (List BodyView))
         (history : List CommittedEntry) → IsHistoryOf t0 history
         → AreFilesOf version t0.scale seed strings files
-        → HoldTheHistory t0.scale (length files) (λ l. slice_index_or files l []) history → 0 < length files
-        → HasGap t0.scale seed strings → ⊥ }
+        → HoldTheCut t0.scale files history → 0 < length files → HasGap t0.scale seed strings → ⊥ }
     ensures replay { (t0 : Database) (version seed : ℕ) (strings : List (List ℕ)) (files : List (List BodyView))
         (history : List CommittedEntry) → IsHistoryOf t0 history
         → AreFilesOf version t0.scale seed strings files
-        → HoldTheHistory t0.scale (length files) (λ l. slice_index_or files l []) history → 0 < length files
+        → HoldTheCut t0.scale files history → 0 < length files
         → (r : RecoveredValue) → IsRecovery t0 seed strings r → IsReplayOf t0 files history r }
 {
-    files_hold_the_cut();
     rebuilt_tables_are_the_replay();
 }
 

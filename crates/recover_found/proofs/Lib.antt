@@ -4,3 +4,5 @@ mod LastMarks
 mod Reaching
 mod Within
 mod Voids
+mod WorkedFound
+mod WorkedRebuilt

@@ -2,14 +2,18 @@
 //! crash before it took. The functions of this crate do nothing: their contracts are the laws.
 #![tactic(auto)]
 
-ghost use Rattle.std.specs.Prelude.{ℕ, ◌≤◌, List, []};
+ghost use Rattle.std.specs.Prelude.{◌≡◌, ℕ, ◌≤◌, List, []};
+ghost use Rattle.log_text.specs.Bodies.{BodyView};
+ghost use Rattle.book.specs.declared.entry.Entry.{Entry as CommittedEntry};
 ghost use Rattle.logfile.specs.Standing.{LogFileView};
-ghost use Rattle.recover_crashes.specs.World.{Life, DiskView, IsFirst, opening};
+ghost use Rattle.recover_crashes.specs.World.{Life, DiskView, World, IsFirst, opening};
 ghost use Rattle.recover_crashes.specs.Events.{Event, MayHappenInTurn, world_after_all};
 ghost use Rattle.recover_crashes.specs.Recovering.{Crashes};
 ghost use Rattle.recover_laws.specs.Recovered.{IsFirstDatabase};
-ghost use Rattle.recover_lives.specs.World.{Running, origin_of, first_world, durable_at};
-ghost use Rattle.recover_lives.specs.Events.{LivesEvent, MayOccurInTurn, MayStrike, lives_after_all};
+ghost use Rattle.recover_lives.specs.World.{Origin, Declaring, Lives, Down, Restarting, Running, origin_of, first_world};
+ghost use Rattle.recover_lives.specs.World.{joined_history, released_by, durable_at, disk_at};
+ghost use Rattle.recover_lives.specs.Events.{LivesEvent, Stop, Crash, MayOccur, MayOccurInTurn, MayStrike};
+ghost use Rattle.recover_lives.specs.Events.{struck, lives_after, lives_after_all};
 ghost use Rattle.recover_lives.specs.Surviving.{LeavesTheReplay, IsLawfulOverLives};
 
 use recover_laws::rebuilt_tables_are_the_replay;
@@ -70,3 +74,27 @@ pub fn crash_of_a_first_life_is_survived()
 {
     every_crash_is_survived();
 }
+
+/// A process may end at any moment, while a life runs and while it restarts. It leaves the disks as they are, and with
+/// them D, what has committed, and whose replies were released.
+pub fn a_process_may_end_anywhere()
+    ensures running { (o : Origin) (life : Life) (past earlier : List CommittedEntry) (now : World)
+        → MayOccur o (Running life past earlier now) Stop }
+    ensures restarting { (o : Origin) (old : ℕ → List BodyView) (durable top : ℕ) (files : ℕ → LogFileView DiskView)
+        (steps : ℕ → Declaring) (history released : List CommittedEntry)
+        → MayOccur o (Restarting old durable top files steps history released) Stop }
+    ensures leaves { (o : Origin) (w : Lives)
+        → lives_after o w Stop ≡ Down (disk_at w) (durable_at w) (joined_history w) (released_by w) }
+{}
+
+/// A crash may come at any moment, within a life, within a restart and where there is no process, and leave on each
+/// disk whatever that may leave; there are always such strings. Each disk then has just its string, which is sure; D,
+/// what has committed, and whose replies were released stay as they are.
+pub fn a_crash_may_come_anywhere()
+    ensures comes { (o : Origin) (w : Lives) (strings : ℕ → List ℕ) → MayStrike o w strings
+        → MayOccur o w (Crash strings) }
+    ensures always { (o : Origin) (w : Lives) → (strings : ℕ → List ℕ) × MayOccur o w (Crash strings) }
+    ensures leaves { (o : Origin) (w : Lives) (strings : ℕ → List ℕ)
+        → lives_after o w (Crash strings)
+        ≡ Down (struck strings) (durable_at w) (joined_history w) (released_by w) }
+{}

@@ -4,5 +4,6 @@ mod Greatest
 mod Syncing
 mod Reopening
 mod Twice
+mod GivingBack
 pub mod VoidFollows
 pub mod WorldReads

@@ -1,5 +1,5 @@
 -- Opening log files again, disk after disk.
-use Rattle.std.proofs.Common.{◌≡◌, ℕ, ◌<◌, List, [], ◌∷◌, ◌++◌, map, length, get_or, Vec, Global, refl, sym, ap, ◌∙◌, subst, arith, below_more, append_assoc, append-nil}
+use Rattle.std.proofs.Common.{◌≡◌, ℕ, ◌+◌, ◌<◌, List, [], ◌∷◌, ◌++◌, map, length, get_or, Vec, Global, refl, sym, ap, ◌∙◌, subst, arith, below_more, append_assoc, append-nil}
 use Rattle.std.proofs.lemmas.List.{get_or-map, get_or_append_left, get_or_push, length_push, length-map, map_push, length-append}
 use Rattle.std.proofs.Math.Seq.{get_or-append_seam}
 use Rattle.tables.specs.Sizes.{Sizes}
@@ -75,6 +75,21 @@ module _ {D : Type 0} {IsModelled : Type 0} {seen_of : D → List ℕ} {story_of
       (so_far : IsOpenSoFar IsModelled seen_of story_of failed_of s seed loggers first rest files all) where
     logger_is : length files ≡ length so_far.done
     logger_is = ap length so_far.files_are ∙ length-map so_far.done (λ (x : Opened D). x.file)
+
+    -- how many there are
+    pub places : (disk : D) (left : List D) → rest ≡ disk ∷ left → length files + 1 + length left ≡ length first
+    places disk left next =
+        omega (
+          arith,
+          logger_is,
+          ap length so_far.disks_are,
+          length-append (disks_of so_far.done) rest,
+          ap length next,
+          length-map so_far.done (λ (x : Opened D). x.disk),
+        )
+
+    pub same_places : length all ≡ length files
+    same_places = ap length so_far.bodies_are ∙ length-map so_far.done (λ (x : Opened D). x.bodies) ∙ sym logger_is
 
     -- one disk more
     pub goes_on : (logger : ℕ) (disk : D) (left : List D) (file : LogFileView D) (bodies : Vec Body Global)

@@ -1,12 +1,16 @@
 -- Log files of a database that are opened again.
-use Rattle.std.specs.Prelude.{◌≡◌, ℕ, ◌+◌, ◌<◌, ◌≤◌, ◌^◌, false, Some, List, [], ◌∷◌, length, slice_index_or}
+use Rattle.std.specs.Prelude.{◌≡◌, ℕ, ◌+◌, ◌<◌, ◌≤◌, ◌^◌, false, Some, List, [], ◌∷◌, length, map, slice_index_or}
+use Rattle.money.specs.declared.refusal.Refusal.{Refusal}
+use Rattle.money.specs.declared.refusal.Refusal.TheVariants.{Device}
 use Rattle.tables.specs.Sizes.{Sizes}
 use Rattle.log_disk.specs.Calls.{Call, Synced}
 use Rattle.log_disk.specs.Crashes.{MayLeave}
 use Rattle.log_header.specs.Header.{HeaderView, header_view}
 use Rattle.log_text.specs.Bodies.{BodyView, bodies_after, start}
 use Rattle.log_text.specs.File.{IsFileTo}
+use Rattle.logfile.specs.Refused.{IsOnlySynced}
 use Rattle.logfile.specs.Standing.{LogFileView, Stands}
+use Rattle.recover_files.specs.Files.{DeviceHasFailed}
 use Rattle.recover_crashes.specs.World.{DiskView, IsOpened}
 
 -- a disk, and a file on one, as worlds in which crashes happen have them
@@ -70,6 +74,16 @@ pub record AreReopened {D : Type 0} (IsModelled : Type 0) (seen_of : D → List 
       → IsReopened IsModelled seen_of story_of failed_of (header_view l loggers s seed) (slice_index_or disks l disk)
       (slice_index_or strings l []) (slice_index_or files l file) (slice_index_or bodies l [])
 
+-- disks that a refusal gives back, in their order: on none anything was written, and one failure more is counted on one
+-- of them where it is `Device`, and else none
+pub record AreGivenBack {D : Type 0} (IsModelled : Type 0) (seen_of : D → List ℕ) (story_of : D → List Call)
+    (failed_of : D → ℕ) (refusal : Refusal) (old new : List D) : Type 0 where
+  pub count : length new ≡ length old
+  pub each : (l : ℕ) → l < length old → (disk : D)
+      → IsOnlySynced IsModelled seen_of story_of (slice_index_or old l disk) (slice_index_or new l disk)
+  pub failed : refusal ≡ Device → DeviceHasFailed (map failed_of old) (map failed_of new)
+  pub not_failed : (refusal ≡ Device → ⊥) → map failed_of new ≡ map failed_of old
+
 -- all log files of a database of this scale and seed are open behind these bodies
 pub record AreOpenBehind {D : Type 0} (s : Sizes) (seed loggers : ℕ) (files : List (LogFileView D))
     (bodies : List (List BodyView)) : Type 0 where
@@ -78,8 +92,7 @@ pub record AreOpenBehind {D : Type 0} (s : Sizes) (seed loggers : ℕ) (files : 
   pub each : (l : ℕ) → l < loggers → (file : LogFileView D)
       → IsOpenBehind (header_view l loggers s seed) (slice_index_or bodies l []) (slice_index_or files l file)
 
--- a modelled disk, and the file that was opened on it. It was synced with all other disks before any was read, and once
--- more before it was read
+-- a modelled disk, and the file that was opened on it: it was synced twice
 pub record IsOpenedOn (h : HeaderView) (bodies : List BodyView) (disk : DiskView) (file : LogFileView DiskView)
     : Type 0 where
   pub opened : IsOpened h bodies file

@@ -3,7 +3,9 @@
 #![tactic(auto)]
 
 mod opening;
+mod refused;
 mod top;
 
-pub use opening::open_all;
+pub use opening::{open_all, open_all_or_give_back};
+pub use refused::{AllRefused, disks_of};
 pub use top::top_epoch;

@@ -1,6 +1,10 @@
 mod Fronts
 mod Losing
 mod Standing
+mod Counting
 mod Going
+mod Leading
+mod Composed
 mod Happening
+mod Stopping
 mod Taking

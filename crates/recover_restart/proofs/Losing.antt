@@ -3,18 +3,25 @@ use Rattle.std.proofs.Common.{◌++◌, take, drop, ◌≡◌, ℕ, ◌+◌, ◌
 use Rattle.std.proofs.lemmas.List.{append-nil, drop_all, get_or-map, length-map, take_all}
 use Rattle.log_disk.specs.Calls.{Call}
 use Rattle.logfile.specs.Standing.{LogFileView}
-use Rattle.recover_crashes.specs.World.{DiskView}
 use Rattle.recover_opening.specs.Opening.{file_on}
 use Rattle.recover_restart.specs.Declaring.{IsDeclared, AreDeclared, no_failure}
 use Rattle.recover_restart.specs.Restarting.{HasLost, HaveLost, HaveMoved}
 
 -- an element of a list that has one
-one_of : {A : Type 0} (xs : List A) → 0 < length xs → A
+pub one_of : {A : Type 0} (xs : List A) → 0 < length xs → A
 one_of [] less = absurd (omega (arith, less))
 one_of (x ∷ xs) less = x
 
+-- what is so of the elements of two lists at one place, as a function gives them
+pub on_both : {A B : Type 0} (f : A → B) (P : B → B → Type 0) (old new : List A) → length new ≡ length old → (l : ℕ) (d : B)
+    → l < length old → ((e : A) → P (f (get_or old l e)) (f (get_or new l e))) → P (get_or (map f old) l d) (get_or (map f new) l d)
+on_both {A} {B} f P old new count l d less holds =
+    let e : A = one_of old (omega (arith, less)) in
+    subst (λ (b : B). P b (get_or (map f new) l d)) (sym (get_or-map f old l e d less))
+    (subst (λ (b : B). P (f (get_or old l e)) b) (sym (get_or-map f new l e d (omega (arith, less, count)))) (holds e))
+
 module _ {D : Type 0} {IsModelled : Type 0} {seen : D → List ℕ} {story : D → List Call} {failed : D → ℕ} {durable top : ℕ} (modelled : IsModelled) where
-  has_lost : (old new : LogFileView D) → IsDeclared IsModelled seen story failed (durable + 1) top no_failure old new
+  pub has_lost : (old new : LogFileView D) → IsDeclared IsModelled seen story failed (durable + 1) top no_failure old new
       → HasLost durable top (file_on seen story old) (file_on seen story new)
   has_lost old new is = record {
     header = is.header;
@@ -32,15 +39,9 @@ module _ {D : Type 0} {IsModelled : Type 0} {seen : D → List ℕ} {story : D �
   have_lost old new less are = record {
     count = length-map new (file_on seen story) ∙ are.count ∙ sym (length-map old (file_on seen story));
     some = λ _ l d within.
-        let less : l < length old = omega (arith, within, length-map old (file_on seen story)) in
-        let e : LogFileView D = one_of old (omega (arith, less)) in
-        let here : get_or (map (file_on seen story) old) l d ≡ file_on seen story (get_or old l e)
-        = get_or-map (file_on seen story) old l e d less in
-        let there : get_or (map (file_on seen story) new) l d ≡ file_on seen story (get_or new l e)
-        = get_or-map (file_on seen story) new l e d (omega (arith, less, are.count)) in
-        subst (λ (f : LogFileView DiskView). HasLost durable top f (get_or (map (file_on seen story) new) l d)) (sym here)
-        (subst (λ (f : LogFileView DiskView). HasLost durable top (file_on seen story (get_or old l e)) f) (sym there)
-        (has_lost (get_or old l e) (get_or new l e) (are.front l e (omega (arith, less, are.all)))));
+        let here : l < length old = omega (arith, within, length-map old (file_on seen story)) in
+        on_both (file_on seen story) (HasLost durable top) old new are.count l d here
+        (λ e. has_lost (get_or old l e) (get_or new l e) (are.front l e (omega (arith, here, are.all))));
     none = λ le. absurd (omega (arith, less, le));
   }
 

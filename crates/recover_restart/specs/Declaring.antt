@@ -1,6 +1,7 @@
 -- What comes of declaring epochs void in every file.
-use Rattle.std.specs.Prelude.{◌≡◌, ℕ, ◌<◌, ◌≤◌, List, length, slice_index_or, Result, Ok, IsErr, OnOk}
+use Rattle.std.specs.Prelude.{◌≡◌, ℕ, ◌<◌, ◌≤◌, List, length, slice_index_or, Result, Ok, Err, IsErr, OnOk}
 use Rattle.money.specs.declared.refusal.Refusal.{Refusal}
+use Rattle.money.specs.declared.refusal.Refusal.TheVariants.{Device}
 use Rattle.log_disk.specs.Calls.{Call}
 use Rattle.log_text.specs.Bodies.{Void, marked}
 use Rattle.logfile.specs.Appended.{AppendsBody}
@@ -14,6 +15,9 @@ IsDeclared IsModelled seen_of story_of failed_of low high result old new = Appen
 
 abbrev pub no_failure : Result (Unit {0}) Refusal
 no_failure = Ok tt
+
+abbrev pub device_failure : Result (Unit {0}) Refusal
+device_failure = Err Device
 
 -- the files in front get it; where the result is a refusal, it is that of the next one, and those behind stand as they
 -- stood

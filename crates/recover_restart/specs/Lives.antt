@@ -1,13 +1,13 @@
 -- A restart as what happens over the lives of a database.
-use Rattle.std.specs.Prelude.{◌≡◌, ℕ}
+use Rattle.std.specs.Prelude.{◌≡◌, ◌<◌, ℕ, List, length, slice_index_or}
 use Rattle.tables.specs.Database.{Database}
+use Rattle.book.specs.declared.entry.Entry.{Entry}
+use Rattle.log_disk.specs.Crashes.{MayLeave}
 use Rattle.log_header.specs.declared.header.TheConstants.{VERSION}
 use Rattle.logfile.specs.Standing.{LogFileView}
-use Rattle.recover_crashes.specs.Events.{IsCalled, on_disk}
-use Rattle.recover_crashes.specs.World.{Life, DiskView, BatchTaken, TextWritten, TextSynced, GateOpened}
-use Rattle.recover_lives.specs.Events.{IsSyncedDisk, void_body, with_void}
-use Rattle.recover_lives.specs.World.{Origin}
-use Rattle.recover_restart.specs.Declaring.{no_failure}
+use Rattle.recover_crashes.specs.World.{Life, DiskView, opening}
+use Rattle.recover_lives.specs.Events.{LivesEvent, MayOccurInTurn, lives_after_all}
+use Rattle.recover_lives.specs.World.{Origin, Lives, Running}
 
 -- what stays in all lives of a database with so many log files, of today's version
 abbrev pub origin_behind : Database → ℕ → ℕ → Origin
@@ -23,19 +23,17 @@ life_behind tables commits seed loggers top = record {
   plan = record { loggers = loggers; base = top };
 }
 
--- a disk is synced twice
-pub record IsSyncedTwice (old new : DiskView) : Type 0 where
-  pub between : DiskView
-  pub first : IsSyncedDisk old between
-  pub second : IsSyncedDisk between new
+-- the world in which a life begins, on such files: this has committed before it, and these replies were released
+abbrev pub world_behind : Life → List Entry → List Entry → (ℕ → LogFileView DiskView) → Lives
+world_behind life past earlier files = Running life past earlier (opening life.plan files)
 
--- a file gets the void body by four calls of its device, one an event, of which the last leaves the disk as it is then
-pub record AreVoidCalls (durable top : ℕ) (old new : LogFileView DiskView) : Type 0 where
-  pub one : DiskView
-  pub two : DiskView
-  pub three : DiskView
-  pub text_written : IsCalled BatchTaken (void_body durable top) old no_failure one
-  pub text_synced : IsCalled TextWritten (void_body durable top) (on_disk old one) no_failure two
-  pub gate_opened : IsCalled TextSynced (void_body durable top) (on_disk old two) no_failure three
-  pub gate_synced : IsCalled GateOpened (void_body durable top) (on_disk old three) no_failure new.disk
-  pub behind : new ≡ with_void (on_disk old new.disk) (void_body durable top) top
+-- of each of some disks a read gives what a crash may leave there
+abbrev pub GiveWhatMayBeLeft : List DiskView → Type 0
+GiveWhatMayBeLeft disks = (l : ℕ) (disk : DiskView) → l < length disks
+    → MayLeave (slice_index_or disks l disk).story (slice_index_or disks l disk).seen
+
+-- a list of events leads from a world to another: each may happen where it does, and the other is the world after all
+pub record MayLead (o : Origin) (old new : Lives) : Type 0 where
+  pub events : List LivesEvent
+  pub may_occur : MayOccurInTurn o old events
+  pub ends : lives_after_all o old events ≡ new

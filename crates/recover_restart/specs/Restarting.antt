@@ -1,25 +1,28 @@
 -- What a restart gives, and when it is refused.
-use Rattle.std.specs.Prelude.{◌≡◌, ◌⊎◌, ℕ, ◌+◌, ◌<◌, ◌≤◌, List, length, slice_index_or}
+use Rattle.std.specs.Prelude.{◌≡◌, ◌⊎◌, ℕ, ◌+◌, ◌<◌, ◌≤◌, List, length, map, slice_index_or}
+use Rattle.money.specs.declared.refusal.Refusal.{Refusal}
+use Rattle.money.specs.declared.refusal.Refusal.TheVariants.{Device}
 use Rattle.tables.specs.Database.{Database}
 use Rattle.tables.specs.Sizes.{Sizes}
 use Rattle.board.specs.Words.{last_epoch}
 use Rattle.book.specs.Parts.{first_of, ArePartsOf}
 use Rattle.book.specs.declared.parts.Parts.{Parts}
+use Rattle.log_disk.specs.Calls.{Call}
 use Rattle.log_header.specs.Header.{header_view}
 use Rattle.log_text.specs.Bodies.{BodyView, marked}
 use Rattle.logfile.specs.Called.{StoreLeft}
 use Rattle.logfile.specs.Standing.{LogFileView}
 use Rattle.recover_found.specs.Found.{durable_of, found}
 use Rattle.recover_found.specs.Rebuilt.{HaveNoGap, IsRebuilt}
-use Rattle.recover_files.specs.Files.{AreFiles, AreNoFiles, AreShort}
+use Rattle.recover_files.specs.Files.{AreFiles, AreNoFiles, AreShort, DeviceHasFailed}
 use Rattle.recover_crashes.specs.Events.{text_of}
 use Rattle.recover_crashes.specs.World.{DiskView}
 use Rattle.recover_lives.specs.Events.{void_body}
-use Rattle.recover_opening.specs.Opening.{AreOpenBehind, AreOpened}
+use Rattle.recover_opening.specs.Opening.{AreGivenBack, AreOpenBehind, AreOpened, disk_on, file_on}
 use Rattle.recover_opening.specs.Tops.{IsTopOfAll}
 use Rattle.recover_sound.specs.Sound.{AreSoundTables}
 use Rattle.recover_restart.specs.Basing.{AreUnsound}
-use Rattle.recover_restart.specs.Declaring.{no_failure}
+use Rattle.recover_restart.specs.Declaring.{AreDeclared, device_failure, no_failure}
 
 -- parts with which an engine goes on behind files of these bodies: its tables are rebuilt of what counts there, and such
 -- as so many commits can have made; it goes on behind as many, and behind the last epoch of which the files have
@@ -103,6 +106,39 @@ pub record IsRestart (t0 : Database) (seed terminals : ℕ) (disks : List DiskVi
   pub goes_on : GoesOnBehind t0 seed (length disks) terminals bodies parts durable top commits
   pub lost : HaveLost durable top old files
   pub epoch_is : epoch ≡ top + 1
+
+-- open files behind which a database goes on, which a device has stopped while epochs were given up: those in front have
+-- the void body, the one whose device failed is as an append leaves it, and those behind stand as they stood
+pub record AreStopped {D : Type 0} (IsModelled : Type 0) (seen_of : D → List ℕ) (story_of : D → List Call)
+    (failed_of : D → ℕ) (t0 : Database) (seed loggers terminals : ℕ) (bodies : List (List BodyView))
+    (old new : List (LogFileView D)) : Type 0 where
+  pub parts : Parts
+  pub durable : ℕ
+  pub top : ℕ
+  pub commits : ℕ
+  pub goes_on : GoesOnBehind t0 seed loggers terminals bodies parts durable top commits
+  pub some : durable < top
+  pub declared : AreDeclared IsModelled seen_of story_of failed_of (durable + 1) top device_failure old new
+
+-- a restart that a device has stopped so: it has opened the files on these disks, and those that it gives back are theirs
+pub record HasStopped {D : Type 0} (IsModelled : Type 0) (seen_of : D → List ℕ) (story_of : D → List Call)
+    (failed_of : D → ℕ) (t0 : Database) (seed terminals : ℕ) (old new : List D) : Type 0 where
+  pub opened : List (LogFileView D)
+  pub left : List (LogFileView D)
+  pub bodies : List (List BodyView)
+  pub are_opened : IsModelled → AreOpened t0.scale seed (map (disk_on seen_of story_of) old)
+      (map (file_on seen_of story_of) opened) bodies
+  pub are_stopped : AreStopped IsModelled seen_of story_of failed_of t0 seed (length old) terminals bodies opened left
+  pub disks : new ≡ map (λ file. file.disk) left
+  pub failed : DeviceHasFailed (map failed_of old) (map failed_of new)
+
+-- the disks that a refused restart gives back: nothing was written; or it was by `Device`, while epochs were given up
+abbrev pub IsRefusedRestart : {D : Type 0} → Type 0 → (D → List ℕ) → (D → List Call) → (D → ℕ) → Database → ℕ → ℕ
+    → Refusal → List D → List D → Type 0
+IsRefusedRestart IsModelled seen_of story_of failed_of t0 seed terminals refusal old new =
+    AreGivenBack IsModelled seen_of story_of failed_of refusal old new
+    ⊎ ((refusal ≡ Device)
+    × HasStopped IsModelled seen_of story_of failed_of t0 seed terminals old new)
 
 -- strings of bytes are log files of such a database, in the version that is written today, of which this is so
 pub record AreFilesThat (s : Sizes) (seed : ℕ) (strings : List (List ℕ)) (Holds : List (List BodyView) → Type 0)

@@ -1,5 +1,5 @@
 //! What a database goes on from, of the bodies of its log files.
-ghost use Rattle.std.specs.Prelude.{◌≡◌, ◌≢◌, ◌<◌, ◌≤◌, ℕ, List, map, IfOk, IfErr, IsErrOf};
+ghost use Rattle.std.specs.Prelude.{◌≡◌, ◌≢◌, ◌<◌, ◌≤◌, ℕ, List, map, IfOk, IfErr, OnOk, OnErr, IsErrOf, IsTrue};
 ghost use Rattle.money.specs.declared.refusal.Refusal.TheVariants.{OutOfMemory, Damaged, Gap, EpochFull};
 ghost use Rattle.tables.specs.Database.{database};
 ghost use Rattle.tables.specs.declared.limits.TheConstants.{MAX_COMMITS};
@@ -53,10 +53,20 @@ pub(crate) fn base_of(
     let _scale = population.scale();
     recovered_commits_are_within_the_cap();
     let recovered = recover_bodies(alloc, population, files, progress)?;
+    room_behind(top)?;
+    admitted(alloc, population, recovered, top)
+}
+
+/// Refuses by `EpochFull`, and by nothing else, exactly where `top` is the last epoch that there is.
+fn room_behind(top: u64) -> Result<(), Refusal>
+    ensures room { OnOk result (top < last_epoch) }
+    ensures full { OnErr result (last_epoch ≤ top) }
+    ensures only_full { IfErr result (λ refusal. refusal ≡ EpochFull) }
+{
     if top >= LAST_EPOCH {
         return Err(Refusal::EpochFull);
     }
-    admitted(alloc, population, recovered, top)
+    Ok(())
 }
 
 /// What was recovered, as what to go on from, if the tables are such as the commits can have made.
@@ -75,9 +85,7 @@ fn admitted(
     ensures others { IfErr result (λ refusal. (refusal ≢ OutOfMemory) → refusal ≡ Damaged) }
 {
     let commits = recovered.commits as u32;
-    if !is_sound(alloc, &recovered.tables, commits)? {
-        return Err(Refusal::Damaged);
-    }
+    sound_or_damaged(is_sound(alloc, &recovered.tables, commits)?)?;
     let rows = rows_behind(alloc, population.tables(), &recovered.tables)?;
     Ok(Base {
         tables: recovered.tables,
@@ -85,6 +93,15 @@ fn admitted(
         commits,
         epoch: top,
     })
+}
+
+/// Refuses by `Damaged`, and by nothing else, exactly where tables aren't sound.
+fn sound_or_damaged(sound: bool) -> Result<(), Refusal>
+    ensures sound { OnOk result (IsTrue sound) }
+    ensures unsound { OnErr result (IsTrue sound → ⊥) }
+    ensures only_damaged { IfErr result (λ refusal. refusal ≡ Damaged) }
+{
+    if sound { Ok(()) } else { Err(Refusal::Damaged) }
 }
 
 /// The rows of HISTORY that tables have behind as many as the first ones have. A copy of them.

@@ -1,10 +1,10 @@
 //! Declaring void, in every log file, what a crash has taken.
-ghost use Rattle.std.specs.Prelude.{◌≡◌, ◌+◌, ◌<◌, ℕ, Some, IfErr, OnOk, length, map, slice_index_or};
+ghost use Rattle.std.specs.Prelude.{◌≡◌, ◌+◌, ◌<◌, ℕ, Some, IfErr, OnOk, OnErr, length, map, slice_index_or};
 ghost use Rattle.money.specs.declared.refusal.Refusal.TheVariants.{Device};
 ghost use Rattle.log_text.specs.Bodies.{Void, body_after, marked};
 ghost use Rattle.logfile.specs.Standing.{LogFileView};
 ghost use Rattle.recover_opening.specs.Opening.{file_on};
-ghost use Rattle.recover_restart.specs.Declaring.{AreDeclared};
+ghost use Rattle.recover_restart.specs.Declaring.{AreDeclared, device_failure};
 ghost use Rattle.recover_restart.specs.Restarting.{MayGiveUp, HaveLost, HaveMoved};
 
 use log_disk::Disk;
@@ -36,7 +36,7 @@ pub fn declare_all<D: Disk>(files: &mut [LogFile<D>], low: u64, high: u64) -> Re
 ///
 /// # Errors
 ///
-/// `Device`, as `declare_all`.
+/// `Device`, as `declare_all`, where there are such epochs.
 pub(crate) fn declare_lost<D: Disk>(
     files: &mut [LogFile<D>],
     durable: u64,
@@ -46,6 +46,10 @@ pub(crate) fn declare_lost<D: Disk>(
     ensures moved { OnOk result (HaveMoved durable top files.old files.new) }
     ensures lost { D.is_modelled → OnOk result (HaveLost durable top (map (file_on D.seen D.story) files.old)
         (map (file_on D.seen D.story) files.new)) }
+    ensures none_failed { OnOk result (map (λ file. D.failed file.disk) files.new
+        ≡ map (λ file. D.failed file.disk) files.old) }
+    ensures stopped { OnErr result ((durable < top) × AreDeclared D.is_modelled D.seen D.story D.failed (durable + 1) top
+        device_failure files.old files.new) }
     ensures only_device { IfErr result (λ refusal. refusal ≡ Device) }
 {
     if durable < top {

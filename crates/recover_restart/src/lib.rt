@@ -8,4 +8,4 @@ mod restarting;
 
 pub use declaring::declare_all;
 pub use laws::{restart_goes_on, restart_takes_what_a_crash_leaves};
-pub use restarting::{Restarted, restart};
+pub use restarting::{Restarted, restart, restart_or_give_back};

@@ -1,3 +1,4 @@
 mod Turned
 mod Clocks
 mod Counted
+mod Inputs

@@ -1,4 +1,5 @@
 pub mod Tally
+pub mod Inputs
 pub mod Appending
 pub mod Clocks
 pub mod History

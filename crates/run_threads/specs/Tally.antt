@@ -22,6 +22,10 @@ refusals_in t = t.refused
 abbrev pub inputs_in : Tally → ℕ
 inputs_in t = t.commits + t.rollbacks + t.gave_up + t.refused
 
+-- before the first
+abbrev pub nothing_done : Tally
+nothing_done = record { commits = 0; rollbacks = 0; gave_up = 0; refused = 0 }
+
 -- the counts after one outcome more
 abbrev pub with_outcome : Result ℕ Refusal → Tally → Tally
 with_outcome (Ok number) t = record t { commits = t.commits + 1 }

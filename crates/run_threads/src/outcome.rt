@@ -6,6 +6,7 @@ use crate::tally::Tally;
 use book::{Closed, Run};
 use log_disk::Disk;
 use logger::Logger;
+use terminals_deck::Deck;
 
 /// What comes of a run: what its terminals have counted, what their loggers have made durable, and what was committed.
 #[derive(Drop)]
@@ -13,6 +14,8 @@ pub struct Outcome<K: Run, D: Disk> {
     pub counts: Counts,
     /// What came of each terminal's inputs, in the order of their numbers: the first four counts are the sums of these.
     pub tallies: Vec<Tally>,
+    /// The terminals' decks, in the same order, behind all inputs of the run.
+    pub decks: Vec<Deck>,
     /// The loggers' files, in the order of their loggers.
     pub files: Vec<Written<D>>,
     /// What has committed.

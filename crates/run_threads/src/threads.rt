@@ -5,6 +5,7 @@ ghost use Rattle.std.specs.List.{sum_by};
 ghost use Rattle.book.specs.Share.{parts_of, share_commits};
 ghost use Rattle.run_threads.specs.Clocks.{clocks};
 ghost use Rattle.run_threads.specs.History.{IsMadeBy};
+ghost use Rattle.run_threads.specs.Inputs.{CameOfInputs, HaveRun};
 ghost use Rattle.run_threads.specs.Tally.{AreTallySums, IsCounted, inputs_in};
 
 use crate::counts::Counts;
@@ -25,6 +26,7 @@ use std::marker::PhantomData;
 use std::sync::Wait;
 use std::thread::{self, Threads};
 use terminals::Gate;
+use terminals_deck::Deck;
 
 /// A logger, and how it waits between its turns.
 #[derive(Drop)]
@@ -45,7 +47,8 @@ pub struct Desks<K: Run> {
 /// has the clock, and advances E before each of its takes. A terminal goes on after any refusal; a logger tries a batch
 /// again after want of memory, and stops for good when its device fails. After all inputs E is advanced once more, each
 /// logger that hasn't stopped takes its last turn, and each terminal acknowledges what is durable. Stations are those
-/// of terminals in order of their numbers. May wait, for the book's lock and at records' cells.
+/// of terminals in order of their numbers; their decks are given back, behind these inputs. May wait, for the book's
+/// lock and at records' cells.
 ///
 /// # Errors
 ///
@@ -73,6 +76,8 @@ pub fn run<
     ensures history { IfOk result (λ outcome. IsMadeBy K.parts K.past K.first outcome.closed) }
     ensures commits { IfOk result (λ outcome. outcome.counts.commits ≡ length outcome.closed) }
     ensures counted { IfOk result (λ outcome. IsCounted K.parts inputs outcome.tallies.items outcome.counts) }
+    ensures inputs { IfOk result (λ outcome. HaveRun K.past K.first inputs
+        (map (λ station. station.deck) stations.items) outcome.tallies.items outcome.decks.items) }
     ensures memory { IfErr result (λ refusal. refusal ≡ OutOfMemory) }
 {
     let crew = crew_of(alloc, desks, logs, stations)?;
@@ -84,6 +89,7 @@ pub fn run<
 struct Room<K: Run, D: Disk, P: Pace> {
     tallies: Vec<Tally>,
     shares: Vec<Share<K>>,
+    decks: Vec<Deck>,
     turned: Vec<Turned<K, D, P>>,
     files: Vec<Written<D>>,
     paces: Vec<P>,
@@ -93,9 +99,10 @@ impl<K: Run, D: Disk + Drop, P: Pace + Drop> Room<K, D, P> {
     /// For so many terminals and loggers.
     fn new(alloc: Global, terminals: usize, loggers: usize) -> Result<Room<K, D, P>, AllocError>
         ensures empty { IfOk result (λ room. (room.tallies.items ≡ []) × (room.shares.items ≡ [])
-            × (room.turned.items ≡ []) × (room.files.items ≡ []) × (room.paces.items ≡ [])) }
+            × (room.decks.items ≡ []) × (room.turned.items ≡ []) × (room.files.items ≡ []) × (room.paces.items ≡ [])) }
         ensures tallies { IfOk result (λ room. terminals ≤ vec_capacity room.tallies) }
         ensures shares { IfOk result (λ room. terminals ≤ vec_capacity room.shares) }
+        ensures decks { IfOk result (λ room. terminals ≤ vec_capacity room.decks) }
         ensures turned { IfOk result (λ room. loggers ≤ vec_capacity room.turned) }
         ensures files { IfOk result (λ room. loggers ≤ vec_capacity room.files) }
         ensures paces { IfOk result (λ room. loggers ≤ vec_capacity room.paces) }
@@ -103,6 +110,7 @@ impl<K: Run, D: Disk + Drop, P: Pace + Drop> Room<K, D, P> {
         Ok(Room {
             tallies: Vec::with_capacity(alloc, terminals)?,
             shares: Vec::with_capacity(alloc, terminals)?,
+            decks: Vec::with_capacity(alloc, terminals)?,
             turned: Vec::with_capacity(alloc, loggers)?,
             files: Vec::with_capacity(alloc, loggers)?,
             paces: Vec::with_capacity(alloc, loggers)?,
@@ -131,10 +139,13 @@ fn crew_of<K: Run, G: Gate + Drop, D: Disk + Drop, P: Pace + Drop>(
     requires decks { All (λ station. station.deck.scale ≡ K.first.scale) stations.items }
     ensures count { IfOk result (λ crew. length crew.workers.items ≡ K.parts) }
     ensures idle { IfOk result (λ crew. All (λ worker. inputs_in worker.tally ≡ 0) crew.workers.items) }
+    ensures own { IfOk result (λ crew.
+        map (λ worker. worker.terminal.deck) crew.workers.items ≡ map (λ station. station.deck) stations.items) }
     ensures empty { IfOk result (λ crew. (crew.room.tallies.items ≡ []) × (crew.room.shares.items ≡ [])
-        × (crew.room.turned.items ≡ []) × (crew.room.files.items ≡ []) × (crew.room.paces.items ≡ [])) }
+        × (crew.room.decks.items ≡ []) × (crew.room.turned.items ≡ []) × (crew.room.files.items ≡ []) × (crew.room.paces.items ≡ [])) }
     ensures tallies { IfOk result (λ crew. length crew.workers.items ≤ vec_capacity crew.room.tallies) }
     ensures shares { IfOk result (λ crew. length crew.workers.items ≤ vec_capacity crew.room.shares) }
+    ensures decks { IfOk result (λ crew. length crew.workers.items ≤ vec_capacity crew.room.decks) }
     ensures turned { IfOk result (λ crew. length crew.writers.items ≤ vec_capacity crew.room.turned) }
     ensures files { IfOk result (λ crew. length crew.writers.items ≤ vec_capacity crew.room.files) }
     ensures paces { IfOk result (λ crew. length crew.writers.items ≤ vec_capacity crew.room.paces) }
@@ -163,15 +174,18 @@ fn run_crew<
     requires few { K.parts < 2 ^ 16 }
     requires idle { All (λ worker. inputs_in worker.tally ≡ 0) crew.workers.items }
     requires empty { (crew.room.tallies.items ≡ []) × (crew.room.shares.items ≡ [])
-        × (crew.room.turned.items ≡ []) × (crew.room.files.items ≡ []) × (crew.room.paces.items ≡ []) }
+        × (crew.room.decks.items ≡ []) × (crew.room.turned.items ≡ []) × (crew.room.files.items ≡ []) × (crew.room.paces.items ≡ []) }
     requires tallies { length crew.workers.items ≤ vec_capacity crew.room.tallies }
     requires shares { length crew.workers.items ≤ vec_capacity crew.room.shares }
+    requires decks { length crew.workers.items ≤ vec_capacity crew.room.decks }
     requires turned { length crew.writers.items ≤ vec_capacity crew.room.turned }
     requires files { length crew.writers.items ≤ vec_capacity crew.room.files }
     requires paces { length crew.writers.items ≤ vec_capacity crew.room.paces }
     ensures history { IsMadeBy K.parts K.past K.first result.closed }
     ensures commits { result.counts.commits ≡ length result.closed }
     ensures counted { IsCounted K.parts inputs result.tallies.items result.counts }
+    ensures inputs { HaveRun K.past K.first inputs
+        (map (λ worker. worker.terminal.deck) crew.workers.items) result.tallies.items result.decks.items }
 {
     let Crew {
         workers,
@@ -193,6 +207,8 @@ fn staffed<K: Run, G: Gate + Drop>(
     requires decks { All (λ station. station.deck.scale ≡ K.first.scale) stations.items }
     ensures count { IfOk result (λ workers. length workers.items ≡ K.parts) }
     ensures idle { IfOk result (λ workers. All (λ worker. inputs_in worker.tally ≡ 0) workers.items) }
+    ensures own { IfOk result (λ workers.
+        map (λ worker. worker.terminal.deck) workers.items ≡ map (λ station. station.deck) stations.items) }
     ensures only_memory { IfErr result (λ refusal. refusal ≡ OutOfMemory) }
 {
     let (mut seats, mut stations) = (seats, stations);
@@ -247,6 +263,8 @@ fn in_threads<
     requires idle { All (λ worker. inputs_in worker.tally ≡ 0) workers.items }
     ensures workers { length result.0.items ≡ length workers.items }
     ensures all { All (λ worker. inputs_in worker.tally ≡ inputs) result.0.items }
+    ensures came { HaveRun K.past K.first inputs (map (λ worker. worker.terminal.deck) workers.items)
+        (map (λ worker. worker.tally) result.0.items) (map (λ worker. worker.terminal.deck) result.0.items) }
     ensures writers { length result.1.items ≡ length writers.items }
 {
     let serve = move || -> Vec<Writer<K, D, P>>
@@ -255,7 +273,9 @@ fn in_threads<
     let work = move || -> Vec<Worker<K, G>>
         requires { All (λ worker. inputs_in worker.tally ≡ 0) workers.items }
         ensures { (vec_len result ≡ vec_len workers)
-            × All (λ worker. inputs_in worker.tally ≡ inputs) result.items }
+            × All (λ worker. inputs_in worker.tally ≡ inputs) result.items
+            × HaveRun K.past K.first inputs (map (λ worker. worker.terminal.deck) workers.items)
+            (map (λ worker. worker.tally) result.items) (map (λ worker. worker.terminal.deck) result.items) }
     { work_all(rt, alloc, engine, workers, inputs, progress) };
     // The first of the two gets a thread of its own, or runs last: terminals wait for no logger.
     let (writers, workers) = thread::join(rt, serve, work);
@@ -274,16 +294,17 @@ fn work_all<K: Run + Send + Sync, G: Gate + Send + Drop, R: Threads + Wait + Syn
     requires idle { All (λ worker. inputs_in worker.tally ≡ 0) workers.items }
     ensures count { vec_len result ≡ vec_len workers }
     ensures all { All (λ worker. inputs_in worker.tally ≡ inputs) result.items }
+    ensures came { HaveRun K.past K.first inputs (map (λ worker. worker.terminal.deck) workers.items)
+        (map (λ worker. worker.tally) result.items) (map (λ worker. worker.terminal.deck) result.items) }
 {
     let mut workers = workers;
-    let threads = workers.len();
-    if threads > 0 {
-        let work = |_: usize, worker: &mut Worker<K, G>|
-            requires { inputs_in worker.now.tally ≡ 0 }
-            ensures { inputs_in worker.exit.now.tally ≡ inputs }
-        { worker.work(rt, alloc, engine, inputs, progress) };
-        thread::for_each_mut(rt, workers.as_mut_slice(), threads, &work);
-    }
+    let threads = workers.len().max(1);
+    let work = |_: usize, worker: &mut Worker<K, G>|
+        requires { inputs_in worker.now.tally ≡ 0 }
+        ensures { (inputs_in worker.exit.now.tally ≡ inputs) × CameOfInputs K.past K.first
+            worker.entry.now.terminal.deck inputs worker.exit.now.tally worker.exit.now.terminal.deck }
+    { worker.work(rt, alloc, engine, inputs, progress) };
+    thread::for_each_mut(rt, workers.as_mut_slice(), threads, &work);
     progress.end();
     workers
 }
@@ -322,28 +343,31 @@ fn settled<K: Run, G: Gate + Drop, D: Disk + Drop, P: Pace + Drop, R: Wait>(
 ) -> Outcome<K, D>
     requires count { length workers.items ≡ K.parts }
     requires few { K.parts < 2 ^ 16 }
-    requires empty { (room.tallies.items ≡ []) × (room.shares.items ≡ []) × (room.turned.items ≡ [])
-        × (room.files.items ≡ []) × (room.paces.items ≡ []) }
+    requires empty { (room.tallies.items ≡ []) × (room.shares.items ≡ []) × (room.decks.items ≡ [])
+        × (room.turned.items ≡ []) × (room.files.items ≡ []) × (room.paces.items ≡ []) }
     requires tallies { length workers.items ≤ vec_capacity room.tallies }
     requires shares { length workers.items ≤ vec_capacity room.shares }
+    requires decks { length workers.items ≤ vec_capacity room.decks }
     requires turned { length writers.items ≤ vec_capacity room.turned }
     requires files { length writers.items ≤ vec_capacity room.files }
     requires paces { length writers.items ≤ vec_capacity room.paces }
     ensures history { IsMadeBy K.parts K.past K.first result.closed }
     ensures commits { result.counts.commits ≡ length result.closed }
     ensures tallies { result.tallies.items ≡ map (λ worker. worker.tally) workers.items }
+    ensures decks { result.decks.items ≡ map (λ worker. worker.terminal.deck) workers.items }
     ensures sums { AreTallySums result.tallies.items result.counts }
 {
     let Room {
         mut tallies,
         mut shares,
+        mut decks,
         mut turned,
         mut files,
         mut paces,
     } = room;
     last_turns(rt, &engine, writers, &mut turned, progress);
     end_turns(rt, &engine, turned, &mut files, &mut paces, progress);
-    let acknowledged = gathered(&engine, workers, &mut tallies, &mut shares);
+    let acknowledged = gathered(&engine, workers, &mut tallies, &mut shares, &mut decks);
     progress.note_acknowledged(acknowledged);
     end_paces(paces, progress);
     let counts = Counts::of(&tallies, progress.durable(), acknowledged);
@@ -351,6 +375,7 @@ fn settled<K: Run, G: Gate + Drop, D: Disk + Drop, P: Pace + Drop, R: Wait>(
     Outcome {
         counts,
         tallies,
+        decks,
         files,
         closed,
     }

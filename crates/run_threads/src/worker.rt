@@ -1,6 +1,7 @@
 //! A terminal at work.
 ghost use Rattle.std.specs.Prelude.{◌≡◌, ◌+◌};
 ghost use Rattle.money.specs.declared.refusal.Refusal.TheVariants.{OutOfMemory};
+ghost use Rattle.run_threads.specs.Inputs.{CameOfInputs};
 ghost use Rattle.run_threads.specs.Tally.{inputs_in};
 
 use crate::progress::Progress;
@@ -48,6 +49,7 @@ impl<K: Run, G: Gate + Drop> Worker<K, G> {
         requires commits { seat.share.commits ≡ 0 }
         requires deck { station.deck.scale ≡ K.first.scale }
         ensures idle { IfOk result (λ worker. inputs_in worker.tally ≡ 0) }
+        ensures deck { IfOk result (λ worker. worker.terminal.deck ≡ station.deck) }
         ensures only_memory { IfErr result (λ refusal. refusal ≡ OutOfMemory) }
     {
         let Station { deck, gate } = station;
@@ -76,6 +78,7 @@ impl<K: Run, G: Gate + Drop> Worker<K, G> {
     )
         requires idle { inputs_in self.old.tally ≡ 0 }
         ensures all { inputs_in self.new.tally ≡ inputs }
+        ensures came { CameOfInputs K.past K.first self.old.terminal.deck inputs self.new.tally self.new.terminal.deck }
     {
         let Worker {
             terminal,
@@ -88,11 +91,12 @@ impl<K: Run, G: Gate + Drop> Worker<K, G> {
     }
 
     /// Ends the terminal, which acknowledges what is durable: what came of its inputs, how many of its replies were
-    /// released, and its share.
-    pub(crate) fn end(self, engine: &Engine<K>) -> (Tally, u64, Share<K>)
+    /// released, its share and its deck.
+    pub(crate) fn end(self, engine: &Engine<K>) -> (Tally, u64, Share<K>, Deck)
         ensures tally { result.0 ≡ self.tally }
         ensures parts { result.2.parts ≡ 1 }
         ensures commits { result.2.commits ≡ self.tally.commits }
+        ensures deck { result.3 ≡ self.terminal.deck }
     {
         let Worker {
             mut terminal,
@@ -102,8 +106,8 @@ impl<K: Run, G: Gate + Drop> Worker<K, G> {
         } = self;
         acknowledge(engine, &mut terminal, &mut gate);
         let released = forgotten.saturating_add(terminal.released().len() as u64);
-        let (share, _) = terminal.end();
-        (tally, released, share)
+        let (share, _, deck) = terminal.end();
+        (tally, released, share, deck)
     }
 }
 
@@ -119,6 +123,7 @@ fn tally_of<K: Run, G: Gate, R: Wait>(
     progress: &Progress,
 ) -> Tally
     ensures all { inputs_in result ≡ inputs }
+    ensures came { CameOfInputs K.past K.first terminal.old.deck inputs result terminal.new.deck }
     ensures parts { terminal.new.share.parts ≡ terminal.old.share.parts }
     ensures commits { terminal.new.share.commits ≡ terminal.old.share.commits + result.commits }
 {
@@ -134,7 +139,8 @@ fn tally_of<K: Run, G: Gate, R: Wait>(
 
 /// A terminal acknowledges what is durable, which its gate hears. Answers how many replies were released.
 fn acknowledge<K: Run, G: Gate>(engine: &Engine<K>, terminal: &mut Terminal<K>, gate: &mut G) -> u64
-    ensures { terminal.new.share ≡ terminal.old.share }
+    ensures share { terminal.new.share ≡ terminal.old.share }
+    ensures deck { terminal.new.deck ≡ terminal.old.deck }
 {
     let before = terminal.released().len();
     let count = terminal.acknowledge(engine.board());

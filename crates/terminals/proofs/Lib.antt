@@ -3,3 +3,4 @@ mod Trying
 mod Counting
 mod Following
 mod Executing
+pub mod Ending

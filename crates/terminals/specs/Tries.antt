@@ -2,7 +2,7 @@
 use Rattle.std.specs.Prelude.{◌≡◌, ℕ, zero, suc, ◌+◌, ◌≤◌, ◌⊎◌, ⊤, Result, Ok, Err, length}
 use Rattle.money.specs.declared.refusal.Refusal.{Refusal}
 use Rattle.money.specs.declared.refusal.Refusal.TheVariants.{OutOfMemory, Stale, Conflict, ItemNotValid, CommitsFull}
-use Rattle.money.specs.declared.refusal.Refusal.TheVariants.{GaveUp}
+use Rattle.money.specs.declared.refusal.Refusal.TheVariants.{GaveUp, OrdersFull}
 use Rattle.tables.specs.Apply.{apply, RolledBack}
 use Rattle.tables.specs.Constant.{IsOf}
 use Rattle.tables.specs.Database.{Database}
@@ -66,6 +66,16 @@ pub data AreTries (past : ℕ) (t0 : Database) (x : Input) (old new : ReaderView
       → AreTries past t0 x old new tries result
   gave_up : tries ≡ TRIES → AreTriedAgain past t0 x old tries new → result ≡ Err GaveUp
       → AreTries past t0 x old new tries result
+
+-- by what an input may be refused in the end: so of those that aren't rolled back or given up, memory was wanting, or a
+-- cap was reached
+abbrev pub EndsAnInput : Refusal → Type 0
+EndsAnInput OutOfMemory = ⊤
+EndsAnInput (ItemNotValid item) = ⊤
+EndsAnInput OrdersFull = ⊤
+EndsAnInput CommitsFull = ⊤
+EndsAnInput GaveUp = ⊤
+EndsAnInput _ = ⊥
 
 -- what an outcome tells of the input's items: the first that isn't in ITEM; or else all are there, if memory wasn't
 -- wanting

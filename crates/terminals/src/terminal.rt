@@ -60,18 +60,19 @@ impl<K: Run> Terminal<K> {
         }
     }
 
-    /// Its share and its outbox.
-    pub fn end(self) -> (Share<K>, Outbox)
+    /// Its share, its outbox and its deck.
+    pub fn end(self) -> (Share<K>, Outbox, Deck)
         ensures share { result.0 ≡ self.share }
         ensures outbox { result.1 ≡ self.outbox }
+        ensures deck { result.2 ≡ self.deck }
     {
         let Terminal {
             reader: _,
             share,
             outbox,
-            deck: _,
+            deck,
         } = self;
-        (share, outbox)
+        (share, outbox, deck)
     }
 
     /// The replies that were released, in the order of their commits.

@@ -20,10 +20,10 @@ const WELL: Lived = Lived {
     has_stopped: false,
 };
 
-/// Disks of which none fails.
+/// Disks of which none fails, of which some syncs are held until five times a terminal has asked for its replies.
 const SOUND: Ways = Ways {
     fault: None,
-    hold: 10,
+    asks: 5,
 };
 
 /// Empty disks.
@@ -77,12 +77,12 @@ const LAST_SYNC: Fault = Fault {
 fn every_crash_of_a_run_whose_disk_fails_is_recovered(rt: HostRuntime) -> Result<(), Fail> {
     let plan = Plan {
         terminals: 4,
-        inputs: 20,
+        inputs: 40,
         seed: 2,
     };
     let ways = Ways {
         fault: Some(LAST_SYNC),
-        hold: 200,
+        asks: 2,
     };
     let (lived, seen) = crashed(&rt, rt.alloc(), 1, ways, &plan, 1_000)?;
     assert_eq!(rt;

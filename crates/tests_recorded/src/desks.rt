@@ -10,11 +10,12 @@ use std::alloc::{AllocError, Global};
 use terminals::Calls;
 use tests_disks::{FailingDisk, Fault};
 
-/// How a life's disks are: which call of them fails, if one does, and how often others go first before a sync.
+/// How a life's disks are: which call of them fails, if one does, and how often terminals ask for their replies before a
+/// sync that is held. More often than there are terminals, and one of them asks twice.
 #[derive(Clone, Copy, Debug, PartialEq, Eq)]
 pub struct Ways {
     pub fault: Option<Fault>,
-    pub hold: u32,
+    pub asks: u64,
 }
 
 /// A disk of a run that is recorded.
@@ -26,7 +27,7 @@ fn recorder<'a>(notes: &'a Notes, tape: &'a mut Tape, ways: Ways) -> Recorded<'a
         disk: FailingDisk::new(&mut tape.memory, ways.fault),
         notes,
         stamps: &mut tape.stamps,
-        hold: ways.hold,
+        asks: ways.asks,
     }
 }
 

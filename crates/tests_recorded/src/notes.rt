@@ -9,6 +9,9 @@ use tables::Reply;
 /// How often one looks whether what it waits for has come.
 const TURNS: u32 = 1_000_000;
 
+/// How often a sync looks whether the terminals have asked. Where they have ended, it looks in vain.
+const LOOKS: u32 = 20_000;
+
 /// The stamp of a commit whose reply was not released, though the commit is known.
 const NEVER: u64 = u64::MAX;
 
@@ -61,6 +64,11 @@ pub struct Notes {
     stamps: AtomicU64,
     /// Whether somebody has waited in vain, or a disk has failed: then nobody waits any more.
     in_vain: AtomicU64,
+    /// How often terminals have asked for their replies.
+    asks: AtomicU64,
+    /// How many syncs are held until they do, and how many were until they had.
+    held: AtomicU64,
+    met: AtomicU64,
     /// The commits, by their numbers.
     commits: Vec<Note>,
 }
@@ -75,6 +83,9 @@ impl Notes {
         Ok(Notes {
             stamps: AtomicU64::new(0),
             in_vain: AtomicU64::new(0),
+            asks: AtomicU64::new(0),
+            held: AtomicU64::new(0),
+            met: AtomicU64::new(0),
             commits: notes,
         })
     }
@@ -129,16 +140,49 @@ impl Notes {
         self.in_vain.fetch_add(1, Ordering::SeqCst);
     }
 
-    /// Waits until so many stamps more were given.
+    fn is_in_vain(&self) -> bool {
+        self.in_vain.load(Ordering::SeqCst) > 0
+    }
+
+    /// Waits until so many stamps more were given, or a sync is held.
     pub fn wait(&self, count: u64) {
         let until = self.stamps().saturating_add(count);
         for _ in 0..TURNS {
-            if self.stamps() >= until || self.in_vain.load(Ordering::SeqCst) > 0 {
+            let is_awaited = self.held.load(Ordering::SeqCst) > 0;
+            if is_awaited || self.stamps() >= until || self.is_in_vain() {
                 return;
             }
             thread::yield_now();
         }
         self.stop();
+    }
+
+    /// A terminal has asked for its replies, and those that it got are noted.
+    pub fn ask(&self) {
+        self.asks.fetch_add(1, Ordering::SeqCst);
+    }
+
+    /// Holds a sync until terminals have asked so many times more, or for a while: those that wait go on meanwhile. What
+    /// they may acknowledge before the sync is done they do so, and it has an earlier stamp.
+    pub fn hold(&self, asks: u64) {
+        let until = self.asks.load(Ordering::SeqCst).saturating_add(asks);
+        self.held.fetch_add(1, Ordering::SeqCst);
+        for _ in 0..LOOKS {
+            if self.asks.load(Ordering::SeqCst) >= until {
+                self.met.fetch_add(1, Ordering::SeqCst);
+                break;
+            }
+            if self.is_in_vain() {
+                break;
+            }
+            thread::yield_now();
+        }
+        self.held.fetch_sub(1, Ordering::SeqCst);
+    }
+
+    /// How many syncs were held until terminals had asked so many times.
+    pub fn met(&self) -> u64 {
+        self.met.load(Ordering::SeqCst)
     }
 
     /// What is known of the commit of this number.

@@ -4,17 +4,20 @@ ghost use Rattle.std.specs.Prelude.{◌≡◌};
 use crate::notes::Notes;
 use log_disk::Disk;
 use money::Refusal;
-use std::thread;
 
-/// A disk, of which each write and sync gets a stamp behind it. Each sync is held for a while.
+/// Of a disk's calls, each so manieth is held, if it is a sync: of some batches the first sync, and of some the last.
+const HELD: usize = 3;
+
+/// A disk, of which each write and sync gets a stamp behind it. Some syncs are held, until terminals have asked for
+/// their replies: a reply that they get by what isn't synced yet has an earlier stamp than the sync.
 #[derive(Drop)]
 pub struct Recorder<'a, D: Disk + Drop> {
     pub disk: D,
     pub notes: &'a Notes,
     /// The stamps of its writes and syncs, in order; none of one that failed.
     pub stamps: &'a mut Vec<u64>,
-    /// How often others go first before a sync.
-    pub hold: u32,
+    /// How often they ask before a sync that is held.
+    pub asks: u64,
 }
 
 impl<D: Disk + Drop> Recorder<'_, D> {
@@ -33,10 +36,10 @@ impl<D: Disk + Drop> Recorder<'_, D> {
         answer
     }
 
-    /// Others go first.
+    /// Terminals go first, where the next call is to be held.
     fn hold(&self) {
-        for _ in 0..self.hold {
-            thread::yield_now();
+        if self.stamps.len() % HELD == 0 {
+            self.notes.hold(self.asks);
         }
     }
 }

@@ -5,8 +5,8 @@ use crate::notes::Notes;
 use book::Done;
 use terminals::{Calls, Gate};
 
-/// The gate of a terminal, which holds it behind each commit for some stamps: so it asks for its replies at each moment
-/// of a batch.
+/// The gate of a terminal, which holds it behind each commit for some stamps, or until a sync waits for it: so it asks
+/// for its replies at each moment of a batch.
 #[derive(Drop)]
 pub struct Teller<'a> {
     pub calls: Calls,
@@ -37,5 +37,6 @@ impl<'a> Gate for Teller<'a> {
         for done in replies {
             self.notes.release(done);
         }
+        self.notes.ask();
     }
 }

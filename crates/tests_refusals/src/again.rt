@@ -1,8 +1,5 @@
 //! Calls that are made once more.
 
-use log_disk::Disk;
-use logfile::LogFile;
-
 /// How many calls were made once more, since there was no memory for them, and how many of these had changed something
 /// before.
 #[derive(Clone, Copy, Default)]
@@ -18,22 +15,5 @@ impl Again {
         if !is_as_before {
             self.changes = self.changes.saturating_add(1);
         }
-    }
-}
-
-/// What a refused call leaves of a file: how many entries were appended to it, the last one's number, and its mark.
-#[derive(Clone, Copy, PartialEq, Eq)]
-pub(crate) struct Standing {
-    count: u64,
-    last: u64,
-    mark: u64,
-}
-
-/// How a file stands.
-pub(crate) fn standing_of<D: Disk>(file: &LogFile<D>) -> Standing {
-    Standing {
-        count: file.count(),
-        last: file.last(),
-        mark: file.mark(),
     }
 }

@@ -3,7 +3,8 @@ ghost use Rattle.std.specs.Prelude.{◌≡◌, IfOk};
 ghost use Rattle.population.specs.Initial.{initial};
 ghost use Rattle.book.specs.Parts.{IsFresh, IsOpenedAs, base_of, loggers_of};
 
-use crate::again::{Again, standing_of};
+use crate::again::Again;
+use crate::looks::{Look, look_at};
 use crate::orders::small;
 use crate::roomy::Roomy;
 use crate::standby::{commit_at, deck};
@@ -19,6 +20,7 @@ use std::alloc::Global;
 use std::fmt::Write;
 use std::marker::{Brand, Model};
 use std::sync::Wait;
+use std::sync::atomic::{AtomicU64, Ordering};
 use tables::Scale;
 use terminals::{Calls, Outbox, Terminal};
 
@@ -31,19 +33,21 @@ const TURN: u32 = 8;
 /// The seed of the inputs.
 pub(crate) const SEED: u64 = 1;
 
-/// An engine with its clock, a terminal, a seat for another one, and its logger.
+/// An engine with its clock, a terminal, a seat for another one, its logger, and how many calls the log file's disk has
+/// done.
 #[derive(Drop)]
-struct Desk<K: Run> {
+struct Desk<'a, K: Run> {
     engine: Engine<K>,
     clock: ClockSeat,
     terminal: Terminal<K>,
     others: TerminalSeats<K>,
     /// What the other one was told, if it stood in for the first.
     told: Option<Done>,
-    logger: Logger<Roomy>,
+    logger: Logger<Roomy<'a>>,
+    calls: &'a AtomicU64,
 }
 
-impl<K: Run> Model for Desk<K> {
+impl<'a, K: Run> Model for Desk<'a, K> {
     ghost use Rattle.std.specs.Prelude.{◌≡◌};
 
     ghost Value = { Unit {0} };
@@ -53,9 +57,16 @@ impl<K: Run> Model for Desk<K> {
     ghost invariant = { λ d. (d.clock.board ≡ K.board) × (d.logger.seat.board ≡ K.board) };
 }
 
-impl<K: Run> Desk<K> {
+impl<K: Run> Desk<'_, K> {
     fn commits<R: Wait>(&self, rt: &R) -> u64 {
         self.engine.lock(rt).commits()
+    }
+
+    /// What stands there, and how many replies the terminal has released.
+    fn look<R: Wait>(&self, rt: &R) -> (Look, usize) {
+        let calls = self.calls.load(Ordering::SeqCst);
+        let look = look_at(rt, &self.engine, self.logger.file(), calls);
+        (look, self.terminal.released().len())
     }
 
     /// Runs all inputs.
@@ -84,13 +95,12 @@ impl<K: Run> Desk<K> {
         again: &mut Again,
         place: u32,
     ) -> Result<(), Refusal> {
-        let before = (self.commits(rt), self.terminal.released().len());
+        let before = self.look(rt);
         let mut gate = Calls::default();
         match self.terminal.one(rt, alloc, &self.engine, &mut gate) {
             Ok(_) | Err(Refusal::ItemNotValid { .. }) => Ok(()),
             Err(Refusal::OutOfMemory) => {
-                let now = (self.commits(rt), self.terminal.released().len());
-                again.note(now == before);
+                again.note(self.look(rt) == before);
                 self.stand_in(rt, alloc, place)
             }
             Err(refusal) => Err(refusal),
@@ -112,12 +122,17 @@ impl<K: Run> Desk<K> {
         }
     }
 
-    /// The logger's turn, in the next epoch. Answers D.
+    /// The logger's turn, in the next epoch. Answers D. By then each reply of the terminal is released, and none but
+    /// those: so as many have waited as had committed. `Gap` where it isn't so.
     fn turn<R: Wait>(&mut self, rt: &R, again: &mut Again) -> Result<u64, Refusal> {
         self.engine.board().advance(&mut self.clock)?;
         let batch = self.take(rt);
-        let durable = self.append(again, &batch)?;
+        let durable = self.append(rt, again, &batch)?;
         self.terminal.acknowledge(self.engine.board());
+        let told = self.terminal.released().len() as u64;
+        if told.saturating_add(u64::from(self.told.is_some())) != self.commits(rt) {
+            return Err(Refusal::Gap);
+        }
         Ok(durable)
     }
 
@@ -129,14 +144,19 @@ impl<K: Run> Desk<K> {
     }
 
     /// Appends what it took.
-    fn append(&mut self, again: &mut Again, batch: &Batch) -> Result<u64, Refusal> {
+    fn append<R: Wait>(
+        &mut self,
+        rt: &R,
+        again: &mut Again,
+        batch: &Batch,
+    ) -> Result<u64, Refusal> {
         if !self.logger.may_append(batch) {
             return Err(Refusal::Gap);
         }
-        let before = standing_of(self.logger.file());
+        let before = self.look(rt);
         match self.logger.turn(self.engine.board(), batch) {
             Err(Refusal::OutOfMemory) => {
-                again.note(standing_of(self.logger.file()) == before);
+                again.note(self.look(rt) == before);
                 self.logger.turn(self.engine.board(), batch)
             }
             outcome => outcome,
@@ -187,7 +207,12 @@ impl<K: Run> Desk<K> {
 }
 
 /// At an engine's first seats, with this file.
-fn seated<K: Run>(alloc: Global, parts: Parts, file: LogFile<Roomy>) -> Result<Desk<K>, Refusal>
+fn seated<'a, K: Run>(
+    alloc: Global,
+    parts: Parts,
+    file: LogFile<Roomy<'a>>,
+    calls: &'a AtomicU64,
+) -> Result<Desk<'a, K>, Refusal>
     requires run { IsOpenedAs parts K.population K.first K.past K.cells K.board K.seed K.name K.parts }
     requires loggers { (loggers_of parts ≡ 1) × (base_of parts ≡ 0) }
     requires file { (file.header.logger ≡ 0) × (file.header.loggers ≡ 1) }
@@ -211,6 +236,7 @@ fn seated<K: Run>(alloc: Global, parts: Parts, file: LogFile<Roomy>) -> Result<D
         others,
         told: None,
         logger,
+        calls,
     })
 }
 
@@ -235,11 +261,11 @@ fn terminal_of<K: Run>(
 }
 
 /// A new file of the one logger.
-fn file(alloc: Global) -> Result<LogFile<Roomy>, Refusal>
+fn file<'a>(alloc: Global, calls: &'a AtomicU64) -> Result<LogFile<Roomy<'a>>, Refusal>
     ensures { IfOk result (λ file. (file.header.logger ≡ 0) × (file.header.loggers ≡ 1)) }
 {
     let header = Header::new(Scale::new(1, 2, 10, 20, 30, 1_000)?, 0, 0, 1);
-    LogFile::create(alloc, Roomy::new(alloc)?, header)
+    LogFile::create(alloc, Roomy::new(alloc, calls)?, header)
 }
 
 /// The parts of an engine with one logger and two terminals.
@@ -257,23 +283,25 @@ pub(crate) fn run_inputs<R: Wait>(
     again: &mut Again,
     text: &mut String,
 ) -> Result<(), Refusal> {
-    let file = file(alloc)?;
+    let calls = AtomicU64::new(0);
+    let file = file(alloc, &calls)?;
     let parts = parts(rt, alloc)?;
-    run_at::<Brand, R>(rt, alloc, again, parts, file, text)
+    run_at::<Brand, R>(rt, alloc, again, parts, file, &calls, text)
 }
 
-fn run_at<K: Run, R: Wait>(
+fn run_at<'a, K: Run, R: Wait>(
     rt: &R,
     alloc: Global,
     again: &mut Again,
     parts: Parts,
-    file: LogFile<Roomy>,
+    file: LogFile<Roomy<'a>>,
+    calls: &'a AtomicU64,
     text: &mut String,
 ) -> Result<(), Refusal>
     requires run { IsOpenedAs parts K.population K.first K.past K.cells K.board K.seed K.name K.parts }
     requires loggers { (loggers_of parts ≡ 1) × (base_of parts ≡ 0) }
     requires file { (file.header.logger ≡ 0) × (file.header.loggers ≡ 1) }
 {
-    let mut desk = seated::<K>(alloc, parts, file)?;
+    let mut desk = seated::<K>(alloc, parts, file, calls)?;
     desk.run_and_tell(rt, alloc, again, text)
 }

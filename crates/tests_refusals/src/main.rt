@@ -1,21 +1,24 @@
 //! What calls give where a growth of memory is refused: `tests/refusals.py` runs this again and again, and has another
 //! one refused each time. `tests_refusals script` answers a script, `tests_refusals recover` recovers two log files,
-//! and `tests_refusals life` makes each call that is refused once more. With no words, or others, it does nothing.
+//! `tests_refusals threads` does so in two threads, and `tests_refusals life` makes each call that is refused once more.
+//! With no words, or others, it does nothing.
 #![tactic(auto)]
 
 mod again;
 mod inputs;
+mod looks;
 mod orders;
 mod payments;
 mod recovery;
 mod roomy;
 mod standby;
+mod till;
 
 use crate::again::Again;
 use crate::inputs::run_inputs;
 use crate::orders::answer;
 use crate::payments::pay_all;
-use crate::recovery::recover_both;
+use crate::recovery::{recover_both, recover_in_threads};
 use crate::roomy::Roomy;
 use money::Refusal;
 use program_streams::write_text;
@@ -24,6 +27,8 @@ use std::env;
 use std::process::ExitCode;
 use std::rt::Env;
 use std::sync::Wait;
+use std::sync::atomic::AtomicU64;
+use std::thread::Threads;
 
 /// The most bytes of replies that a life tells.
 const TEXT: usize = 1 << 14;
@@ -36,10 +41,11 @@ fn live<R: Wait>(
     out: &mut Vec<u8>,
 ) -> Result<(), Refusal> {
     let mut text = String::with_capacity(alloc, TEXT)?;
-    let mut disk = Roomy::new(alloc)?;
+    let calls = AtomicU64::new(0);
+    let mut disk = Roomy::new(alloc, &calls)?;
     out.reserve(2 * TEXT)?;
     run_inputs(rt, alloc, again, &mut text)?;
-    pay_all(rt, alloc, again, &mut disk)?;
+    pay_all(rt, alloc, again, &mut disk, &calls)?;
     out.extend_from_slice(text.as_bytes())?;
     out.extend_from_slice(disk.bytes())?;
     Ok(())
@@ -54,7 +60,7 @@ fn first_word<R: Env + AllocGlobal>(rt: &R) -> Result<Option<String>, Refusal> {
 }
 
 /// Does what the program's word asks for. What it comes to goes to `out`.
-fn run<R: Env + AllocGlobal + Wait>(
+fn run<R: Env + AllocGlobal + Threads + Wait + Sync>(
     rt: &R,
     again: &mut Again,
     out: &mut Vec<u8>,
@@ -65,6 +71,7 @@ fn run<R: Env + AllocGlobal + Wait>(
     match word.as_str() {
         "script" => answer(rt, rt.alloc(), out),
         "recover" => recover_both(rt.alloc(), out),
+        "threads" => recover_in_threads(rt, rt.alloc(), out),
         "life" => live(rt, rt.alloc(), again, out),
         _ => Ok(()),
     }

@@ -3,10 +3,11 @@
 use crate::orders::small;
 use log_disk::{Disk, Memory};
 use money::{Cents, Refusal};
-use recover::{Recovered, recover};
+use recover::{Recovered, recover, recover_with};
 use recover_progress::Progress;
 use std::alloc::Global;
 use std::io::Write;
+use std::thread::Threads;
 use tables::CustomerKey;
 use tests_log_vectors::file_of_payments;
 
@@ -58,6 +59,22 @@ pub(crate) fn recover_both(alloc: Global, out: &mut Vec<u8>) -> Result<(), Refus
         &mut disks,
         &Progress::of(Vec::new(alloc)),
     )?;
+    tell(alloc, &recovered, out)
+}
+
+/// The same in two threads, each of which reads one.
+pub(crate) fn recover_in_threads<R: Threads + Sync>(
+    rt: &R,
+    alloc: Global,
+    out: &mut Vec<u8>,
+) -> Result<(), Refusal> {
+    let population = small(alloc)?;
+    let mut disks = disks(alloc)?;
+    let progress = Progress::of(Vec::new(alloc));
+    let recovered = match recover_with(rt, alloc, &population, &mut disks, 2, &progress) {
+        Ok(recovered) => recovered,
+        Err(refusal) => return Err(refusal),
+    };
     tell(alloc, &recovered, out)
 }
 

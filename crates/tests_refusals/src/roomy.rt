@@ -6,29 +6,34 @@ ghost use Rattle.tests_refusals.specs.declared.roomy.TheConstants.{ROOM};
 use log_disk::Disk;
 use money::Refusal;
 use std::alloc::{AllocError, Global};
+use std::sync::atomic::{AtomicU64, Ordering};
 
 /// The room.
 const ROOM: usize = 1 << 14;
 
 /// A disk in memory that has room for 16,384 bytes, and takes no more once it is made: a write fails where there is
-/// none left. Nobody reads it by a call.
+/// none left. Nobody reads it by a call. Its writes and syncs are counted.
 #[derive(Drop)]
-pub(crate) struct Roomy {
+pub(crate) struct Roomy<'a> {
     room: Vec<u8>,
     length: usize,
     failures: u64,
+    calls: &'a AtomicU64,
 }
 
-impl Roomy {
+impl<'a> Roomy<'a> {
     /// An empty one.
-    pub(crate) fn new(alloc: Global) -> Result<Roomy, AllocError> {
+    pub(crate) fn new(alloc: Global, calls: &'a AtomicU64) -> Result<Roomy<'a>, AllocError> {
         Ok(Roomy {
             room: vec![in alloc; 0u8; ROOM]?,
             length: 0,
             failures: 0,
+            calls,
         })
     }
+}
 
+impl Roomy<'_> {
     /// Its bytes.
     pub(crate) fn bytes(&self) -> &[u8] {
         self.room.get(..self.length).unwrap_or(&[])
@@ -61,7 +66,7 @@ fn put(room: &mut [u8], at: u64, bytes: &[u8]) -> Option<usize>
 }
 
 /// Says nothing of its bytes.
-impl Disk for Roomy {
+impl Disk for Roomy<'_> {
     ghost is_modelled = { ⊥ };
 
     ghost seen = { λ disk. [] };
@@ -82,6 +87,7 @@ impl Disk for Roomy {
     }
 
     fn write_at(&mut self, at: u64, bytes: &[u8]) -> Result<(), Refusal> {
+        self.calls.fetch_add(1, Ordering::SeqCst);
         let end = put(&mut self.room, at, bytes);
         self.answer(end.is_some())?;
         self.length = self.length.max(end.unwrap_or(0));
@@ -89,6 +95,7 @@ impl Disk for Roomy {
     }
 
     fn sync(&mut self) -> Result<(), Refusal> {
+        self.calls.fetch_add(1, Ordering::SeqCst);
         self.answer(true)
     }
 

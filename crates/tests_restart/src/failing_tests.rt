@@ -1,6 +1,6 @@
 //! Restarts whose device fails.
 
-use crate::restarting::{BEHIND_8, Restart, numbers_of, restart_on};
+use crate::restarting::{BEHIND_8, Restart, numbers_behind_a_refusal, numbers_of, restart_on};
 use log_disk::Memory;
 use log_text::{Body, read_file};
 use money::Refusal;
@@ -41,6 +41,17 @@ fn refusal_of<R: Wait>(
     Ok(numbers_of(rt, alloc, failing).err())
 }
 
+/// What a restart gives on the disks that come back where that disk fails.
+fn numbers_behind<R: Wait>(
+    rt: &R,
+    alloc: Global,
+    disks: &mut [Memory],
+    logger: usize,
+) -> Result<(u64, u64), Refusal> {
+    let failing = failing(alloc, disks, logger)?;
+    numbers_behind_a_refusal(rt, alloc, failing)
+}
+
 /// Whether the last body of these bytes is void up to epoch 8.
 fn is_declared(alloc: Global, bytes: &[u8]) -> Result<bool, Refusal> {
     let (_, bodies) = read_file(alloc, bytes)?;
@@ -72,6 +83,16 @@ fn a_restart_that_failed_may_be_called_again(rt: HostRuntime) -> Result<(), Fail
         for torn in ALL_TORN {
             assert_eq!(rt; are_declared(rt.alloc(), &disks, torn), Ok(true));
         }
+    }
+    Ok(())
+}
+
+#[test]
+fn a_restart_that_failed_gives_its_disks_back(rt: HostRuntime) -> Result<(), Fail> {
+    for logger in [0, 1] {
+        let mut disks = disks(rt.alloc(), 1)?;
+        let numbers = numbers_behind(&rt, rt.alloc(), &mut disks, logger);
+        assert_eq!(rt; numbers, Ok((2, 9)));
     }
     Ok(())
 }

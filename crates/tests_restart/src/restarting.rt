@@ -2,7 +2,7 @@
 
 use log_disk::{Disk, Memory};
 use money::Refusal;
-use recover_restart::restart;
+use recover_restart::{restart, restart_or_give_back};
 use std::alloc::{AllocError, Global};
 use std::sync::Wait;
 use tests_log_files::{small, unwatched};
@@ -43,6 +43,22 @@ pub(crate) fn numbers_of<R: Wait, D: Disk + Drop>(
     let population = small(alloc)?;
     let restarted = restart(rt, alloc, population, disks, 1, &unwatched(alloc))?;
     Ok((restarted.commits, restarted.epoch))
+}
+
+/// Restarts on the disks that a restart which is refused gives back.
+pub(crate) fn numbers_behind_a_refusal<R: Wait, D: Disk + Drop>(
+    rt: &R,
+    alloc: Global,
+    disks: Vec<D>,
+) -> Result<(u64, u64), Refusal> {
+    if disks.is_empty() || disks.len() > 8 {
+        return Err(Refusal::BadInput);
+    }
+    let population = small(alloc)?;
+    match restart_or_give_back(rt, alloc, population, disks, 1, &unwatched(alloc)) {
+        Ok(_) => Err(Refusal::BadInput),
+        Err(refused) => numbers_of(rt, alloc, refused.disks),
+    }
 }
 
 /// Restarts on disks in memory.

@@ -5,6 +5,8 @@
 #[cfg(test)]
 mod books;
 #[cfg(test)]
+mod capped_tests;
+#[cfg(test)]
 mod deck_tests;
 #[cfg(test)]
 mod following;

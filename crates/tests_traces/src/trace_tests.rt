@@ -1,10 +1,9 @@
 //! Runs of threads are lists of the crash world's events.
 
-use crate::crashing::{calls_at, crashed_at};
+use crate::crashing::{crashed_at, standing_at};
 use crate::lives::{COMMITS, begun, empty, memories, resumed};
 use crate::record::{Beginning, Judgements, Made, Record};
 use crate::sights::Sights;
-use log_disk::MemoryCall;
 use money::Refusal;
 use program_run::Plan;
 use std::alloc::{AllocError, Global};
@@ -17,31 +16,28 @@ use traces::Start;
 /// How many calls make a log file.
 const MAKING: usize = 2;
 
+/// About how many inputs a run has, of all terminals: enough for many syncs to be held.
+const INPUTS: u32 = 96;
+
 /// The number of the commit at the release of whose reply a life crashes: so it is past in the next one.
 const RELEASED: usize = 8;
 
-/// How a run is set up: how many loggers it has, and how often others go first before a sync.
-#[derive(Clone, Copy, Debug, PartialEq, Eq)]
-struct Setup {
-    loggers: u16,
-    hold: u32,
-}
-
-impl Setup {
-    fn ways(self) -> Ways {
-        Ways {
-            fault: None,
-            hold: self.hold,
-        }
+/// How the disks of a run are: of some syncs each is held until its terminals have asked for their replies, one of them
+/// twice.
+fn ways_of(plan: &Plan) -> Ways {
+    Ways {
+        fault: None,
+        asks: u64::from(plan.terminals).saturating_add(1),
     }
 }
 
-/// A record, what was seen with stamps, and how many commits were past.
+/// A record, what was seen with stamps, how many commits were past, and how many syncs were held so.
 #[derive(Drop)]
 struct Seen {
     record: Record,
     sights: Sights,
     past: u64,
+    held: u64,
 }
 
 impl Seen {
@@ -64,6 +60,7 @@ impl Seen {
             record,
             sights,
             past,
+            held: notes.met(),
         })
     }
 }
@@ -76,6 +73,8 @@ struct Verdict {
     commits: usize,
     released: usize,
     past: u64,
+    /// How many syncs were held until terminals had asked.
+    held: u64,
     /// Of records with two stamps exchanged.
     exchanged: Judgements,
 }
@@ -88,6 +87,7 @@ impl Verdict {
             record,
             mut sights,
             past,
+            held,
         } = seen;
         let mut runs = self.runs;
         runs.add(record.is_accepted(alloc, &sights)?);
@@ -98,18 +98,20 @@ impl Verdict {
             commits: self.commits.saturating_add(record.made.history.len()),
             released: self.released.saturating_add(released),
             past: self.past.saturating_add(past),
+            held: self.held.saturating_add(held),
             exchanged: self.exchanged.with(exchanged),
         })
     }
 
-    /// Whether so many runs are accepted, each reply was released, and of some records with exchanged stamps all are
-    /// refused.
+    /// Whether so many runs are accepted, in which syncs were held and each reply was released, and of some records with
+    /// exchanged stamps all are refused.
     fn is_good(&self, runs: u64) -> bool {
         let all = Judgements {
             accepted: runs,
             ..Judgements::default()
         };
         self.runs == all
+            && self.held.saturating_sub(runs) > runs
             && self.released == self.commits
             && self.exchanged.accepted == 0
             && self.exchanged.refused > 0
@@ -136,41 +138,48 @@ fn new_files(alloc: Global, loggers: u16) -> Result<Beginning, AllocError> {
 fn first_life<R: Threads + Wait + Sync>(
     rt: &R,
     alloc: Global,
-    setup: Setup,
+    loggers: u16,
     plan: &Plan,
 ) -> Result<Seen, Refusal> {
     let notes = Notes::new(alloc, COMMITS as usize)?;
-    let mut tapes = empty(alloc, setup.loggers)?;
-    let made = begun(rt, alloc, &notes, &mut tapes, setup.ways(), plan)?;
-    let beginning = new_files(alloc, setup.loggers)?;
+    let mut tapes = empty(alloc, loggers)?;
+    let made = begun(rt, alloc, &notes, &mut tapes, ways_of(plan), plan)?;
+    let beginning = new_files(alloc, loggers)?;
     Seen::of(alloc, &notes, tapes, beginning, made, 0)
 }
 
-/// Where a log file stands that was open at a stamp: its next text comes behind the gate that ends its own.
-fn start_at(tape: &Tape, stamp: u64) -> Start {
-    let calls = calls_at(tape, stamp);
-    let end = match tape.memory.calls().get(calls) {
-        Some(MemoryCall::Write { at, .. }) => at.saturating_sub(1),
-        _ => 0,
-    };
-    Start { calls, end }
+/// Where the log files stood that were open at a stamp. `Gap` where one's last mark is another than this.
+fn open_files(alloc: Global, tapes: &[Tape], stamp: u64, base: u64) -> Result<Beginning, Refusal> {
+    let mut starts = Vec::new(alloc);
+    for tape in tapes {
+        let (start, mark) = standing_at(alloc, tape, stamp)?;
+        if mark != base {
+            return Err(Refusal::Gap);
+        }
+        starts.push(start)?;
+    }
+    Ok(Beginning {
+        is_first: false,
+        base,
+        starts,
+    })
 }
 
 /// Runs terminals on what a crash leaves of such a life in the midst of it, right behind a release.
 fn second_life<R: Threads + Wait + Sync>(
     rt: &R,
     alloc: Global,
-    setup: Setup,
+    loggers: u16,
     plan: &Plan,
 ) -> Result<Seen, Refusal> {
     let notes = Notes::new(alloc, COMMITS as usize)?;
-    let mut tapes = empty(alloc, setup.loggers)?;
-    begun(rt, alloc, &notes, &mut tapes, setup.ways(), plan)?;
+    let mut tapes = empty(alloc, loggers)?;
+    begun(rt, alloc, &notes, &mut tapes, ways_of(plan), plan)?;
     let stamp = notes
         .fact(RELEASED)
         .map_or(notes.stamps(), |fact| fact.stamp);
     let left = crashed_at(alloc, &tapes, stamp)?;
-    life_on(rt, alloc, left, setup, plan)
+    life_on(rt, alloc, left, plan)
 }
 
 /// Runs terminals on disks that have log files.
@@ -178,21 +187,12 @@ fn life_on<R: Threads + Wait + Sync>(
     rt: &R,
     alloc: Global,
     left: Vec<Tape>,
-    setup: Setup,
     plan: &Plan,
 ) -> Result<Seen, Refusal> {
     let notes = Notes::new(alloc, COMMITS as usize)?;
     let mut tapes = left;
-    let life = resumed(rt, alloc, &notes, &mut tapes, setup.ways(), plan)?;
-    let mut starts = Vec::new(alloc);
-    for tape in &tapes {
-        starts.push(start_at(tape, life.stamps))?;
-    }
-    let beginning = Beginning {
-        is_first: false,
-        base: life.base,
-        starts,
-    };
+    let life = resumed(rt, alloc, &notes, &mut tapes, ways_of(plan), plan)?;
+    let beginning = open_files(alloc, &tapes, life.stamps, life.base)?;
     Seen::of(alloc, &notes, tapes, beginning, life.made, life.past)
 }
 
@@ -201,20 +201,15 @@ fn first_lives<R: Threads + Wait + Sync>(
     rt: &R,
     alloc: Global,
     sizes: &[(u16, u16)],
-    hold: u32,
 ) -> Result<Verdict, Refusal> {
     let mut verdict = Verdict::default();
     for (loggers, terminals) in sizes {
-        let setup = Setup {
-            loggers: *loggers,
-            hold,
-        };
         let plan = Plan {
             terminals: *terminals,
-            inputs: 8,
+            inputs: (INPUTS / u32::from(*terminals).max(1)).max(8),
             seed: u64::from(*loggers),
         };
-        let seen = first_life(rt, alloc, setup, &plan)?;
+        let seen = first_life(rt, alloc, *loggers, &plan)?;
         verdict = verdict.with(alloc, seen, 11)?;
     }
     Ok(verdict)
@@ -222,41 +217,30 @@ fn first_lives<R: Threads + Wait + Sync>(
 
 #[test]
 fn runs_are_lists_of_events(rt: HostRuntime) -> Result<(), Fail> {
-    let sizes = [(1, 1), (1, 16), (2, 4), (3, 5)];
-    let verdict = first_lives(&rt, rt.alloc(), &sizes, 10)?;
-    assert!(rt; verdict.is_good(4));
-    assert!(rt; verdict.commits > 150);
-    assert!(rt; verdict.exchanged.refused > 5);
+    let sizes = [(1, 1), (1, 4), (1, 16), (2, 4), (3, 5)];
+    let verdict = first_lives(&rt, rt.alloc(), &sizes)?;
+    assert!(rt; verdict.is_good(5));
+    assert!(rt; verdict.commits > 300);
+    assert!(rt; verdict.exchanged.refused > 20);
     Ok(())
 }
 
 #[test]
 fn runs_of_many_loggers_are_lists_of_events(rt: HostRuntime) -> Result<(), Fail> {
-    let verdict = first_lives(&rt, rt.alloc(), &[(5, 2), (8, 16)], 10)?;
-    assert!(rt; verdict.is_good(2));
-    assert!(rt; verdict.commits > 100);
-    Ok(())
-}
-
-#[test]
-fn runs_with_held_syncs_are_lists_of_events(rt: HostRuntime) -> Result<(), Fail> {
-    let verdict = first_lives(&rt, rt.alloc(), &[(1, 4), (4, 8)], 400)?;
-    assert!(rt; verdict.is_good(2));
+    let verdict = first_lives(&rt, rt.alloc(), &[(4, 8), (5, 2), (8, 16)])?;
+    assert!(rt; verdict.is_good(3));
+    assert!(rt; verdict.commits > 200);
     Ok(())
 }
 
 #[test]
 fn second_lives_are_lists_of_events(rt: HostRuntime) -> Result<(), Fail> {
-    let setup = Setup {
-        loggers: 3,
-        hold: 10,
-    };
     let plan = Plan {
         terminals: 4,
         inputs: 12,
         seed: 3,
     };
-    let seen = second_life(&rt, rt.alloc(), setup, &plan)?;
+    let seen = second_life(&rt, rt.alloc(), 3, &plan)?;
     let verdict = Verdict::default().with(rt.alloc(), seen, 5)?;
     assert!(rt; verdict.is_good(1));
     assert!(rt; verdict.past >= RELEASED as u64);

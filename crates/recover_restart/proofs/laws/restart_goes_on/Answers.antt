@@ -1,14 +1,10 @@
-use Rattle.recover_restart.proofs.Happening.{synced_twice, files_read, void_calls, opens}
+use Rattle.recover_restart.proofs.Happening.{restart_leads}
+use Rattle.recover_restart.proofs.Stopping.{refused_leads}
 use Rattle.recover_restart.proofs.laws.restart_goes_on.Goals as goal
 
-pub returns-clause-syncs : goal.returns-clause-syncs
-returns-clause-syncs c = synced_twice
+pub returns-clause-goes_on : goal.returns-clause-goes_on
+returns-clause-goes_on g c = restart_leads
 
-pub returns-clause-reads : goal.returns-clause-reads
-returns-clause-reads c = files_read
-
-pub returns-clause-declares : goal.returns-clause-declares
-returns-clause-declares c = void_calls
-
-pub returns-clause-opens : goal.returns-clause-opens
-returns-clause-opens c = opens
+pub returns-clause-refused : goal.returns-clause-refused
+returns-clause-refused g c = λ modelled t0 seed terminals old new known history released disk refusal is gives.
+    refused_leads _ _ _ modelled t0 seed terminals old new known history released disk is gives

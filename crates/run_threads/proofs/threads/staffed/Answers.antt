@@ -1,10 +1,11 @@
-use Rattle.std.proofs.Common.{◌≡◌, All, Option, IfSome, ap, rules, subst, sym}
+use Rattle.std.proofs.Common.{◌≡◌, ◌++◌, ◌∙◌, All, Option, IfSome, option_to_list, ap, rules, subst, sym}
 use Rattle.std.proofs.lemmas.List.Elements.{All-pop, All-push}
 use Rattle.board.specs.Seats.{SeatView}
 use Rattle.book.specs.Share.{share_commits, parts_of}
 use Rattle.run_threads.specs.Tally.{inputs_in}
 use Rattle.run_threads.specs.declared.worker.Station.{Station}
 use Rattle.run_threads.specs.declared.worker.Worker.{Worker}
+use Rattle.run_threads.proofs.Inputs.{decks_all_staffed, decks_staffed, none_staffed}
 use Rattle.run_threads.proofs.threads.staffed.Goals as goal
 
 pub loop-station-preserved : goal.loop-station-preserved
@@ -18,6 +19,11 @@ loop-station-preserved g c =
       search rules,
       search rules,
       subst (All (λ (worker : Worker g.row.K.Denot g.row.G.Denot g.K.Run g.G.Gate). inputs_in worker.tally ≡ 0)) (sym c.in_ok-push.ensures.items) idle,
+      decks_staffed (λ (worker : Worker g.row.K.Denot g.row.G.Denot g.K.Run g.G.Gate). worker.terminal.deck)
+          (λ (station : Station g.row.G.Denot). station.deck) c.loop-station.workers.items c.push.new.self.items
+          c.loop-station.stations.items c.pop.new.self.items c.in_ok-new.field-0 c.in-Some.station _
+          (c.pop.ensures.items ∙ ap (λ r. c.pop.new.self.items ++ option_to_list r) c.in-Some.is) c.in_ok-push.ensures.items
+          c.in_ok-new.ensures.deck i.4,
     )
 
 pub new-requires-clause-reader : goal.new-requires-clause-reader

@@ -14,6 +14,7 @@ returns-in_err-now g c = record {
   header = search rules;
   ok = search rules;
   end = search rules;
+  none_failed = search rules;
   added = search rules;
   moments = λ modelled.
       subst (λ (v : LogFileView _). (bodies : List BodyView) → Stands v.header bodies v.end v.last (g.D.Disk.seen v.disk) (g.D.Disk.story v.disk)
@@ -67,6 +68,7 @@ returns g c =
       header = search rules;
       ok = first_of (search rules, grind (arith, common_steps));
       end = first_of (search rules, grind (arith, common_steps));
+      none_failed = first_of (search rules, grind (arith, common_steps));
       added = λ modelled bodies s.
           subst (λ (v : LogFileView _). OnOk c.add-result.result
           (Stands v.header (bodies ++ body_of_batch c.args.batch.now ∷ []) v.end v.last (g.D.Disk.seen v.disk) (g.D.Disk.story v.disk)))

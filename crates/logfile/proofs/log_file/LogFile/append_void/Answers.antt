@@ -28,6 +28,7 @@ returns-clause-appends g c =
       header = search rules;
       ok = first_of (search rules, grind (arith, common_steps));
       end = first_of (search rules, grind (arith, common_steps));
+      none_failed = first_of (search rules, grind (arith, common_steps));
       added = λ modelled bodies s. c.add.ensures.added modelled bodies void s c.void_text.ensures lawful;
       moments = λ modelled bodies s. c.add.ensures.moments modelled bodies void s c.void_text.ensures lawful;
       calls = first_of (search rules, grind (arith, common_steps));
