@@ -112,6 +112,21 @@ def two_files_are_recovered_or_refused():
         same(f"whether growths of a recovery by {word} are refused", kinds["1 behind nothing"] > 50, True)
 
 
+@shows
+def a_run_is_refused_before_any_input():
+    # A refusal drops the engine, so only what stands in the log file tells whether any input ran.
+    kinds_of = {b"all inputs ran\n": "run", b"no input ran\n": "refused before any input"}
+
+    def kind_of(ran):
+        if ran == Ran(1, b"", OUT_OF_MEMORY):
+            return "at the start"
+        return kinds_of.get(ran.out) if not ran.status and not ran.err else None
+
+    kinds = sweep("run", ["run"], kind_of, Programs.calls)
+    same("whether growths before inputs are refused", kinds["refused before any input"] > 10, True)
+    same("whether those of inputs are", kinds["run"] > 20, True)
+
+
 # Ten customers have paid 1.00, each in an epoch of its own, and three batches were appended.
 PAID = [payment(n, n, 0, customer=n, cents=100, date=1, before=100 * (n - 1)) for n in range(1, 11)]
 FILE = log(0, 1, body(4, *PAID[:4]), body(7, *PAID[4:7]), body(10, *PAID[7:]))

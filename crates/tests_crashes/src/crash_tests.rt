@@ -55,14 +55,14 @@ fn crashed<R: Threads + Wait + Sync>(
 fn every_crash_of_a_run_is_recovered(rt: HostRuntime) -> Result<(), Fail> {
     let plan = Plan {
         terminals: 4,
-        inputs: 25,
+        inputs: 45,
         seed: 1,
     };
     let (lived, seen) = crashed(&rt, rt.alloc(), 2, SOUND, &plan, 2_000)?;
     assert_eq!(rt; lived, WELL);
     assert_eq!(rt; seen, seen.right());
     assert!(rt; seen.crashes > 300);
-    assert!(rt; seen.partly > 100);
+    assert!(rt; seen.partly > 50);
     Ok(())
 }
 

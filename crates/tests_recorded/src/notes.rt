@@ -66,8 +66,9 @@ pub struct Notes {
     in_vain: AtomicU64,
     /// How often terminals have asked for their replies.
     asks: AtomicU64,
-    /// How many syncs are held until they do, and how many were until they had.
-    held: AtomicU64,
+    /// How often they are to have asked before each sync that is held goes on.
+    wanted: AtomicU64,
+    /// How many syncs were held until they had.
     met: AtomicU64,
     /// The commits, by their numbers.
     commits: Vec<Note>,
@@ -84,7 +85,7 @@ impl Notes {
             stamps: AtomicU64::new(0),
             in_vain: AtomicU64::new(0),
             asks: AtomicU64::new(0),
-            held: AtomicU64::new(0),
+            wanted: AtomicU64::new(0),
             met: AtomicU64::new(0),
             commits: notes,
         })
@@ -144,12 +145,17 @@ impl Notes {
         self.in_vain.load(Ordering::SeqCst) > 0
     }
 
+    /// Whether a sync is held until terminals have asked more often. By numbers alone: however late its thread goes on,
+    /// they don't go further without it.
+    fn is_awaited(&self) -> bool {
+        self.asks.load(Ordering::SeqCst) < self.wanted.load(Ordering::SeqCst)
+    }
+
     /// Waits until so many stamps more were given, or a sync is held.
     pub fn wait(&self, count: u64) {
         let until = self.stamps().saturating_add(count);
         for _ in 0..TURNS {
-            let is_awaited = self.held.load(Ordering::SeqCst) > 0;
-            if is_awaited || self.stamps() >= until || self.is_in_vain() {
+            if self.is_awaited() || self.stamps() >= until || self.is_in_vain() {
                 return;
             }
             thread::yield_now();
@@ -166,18 +172,17 @@ impl Notes {
     /// they may acknowledge before the sync is done they do so, and it has an earlier stamp.
     pub fn hold(&self, asks: u64) {
         let until = self.asks.load(Ordering::SeqCst).saturating_add(asks);
-        self.held.fetch_add(1, Ordering::SeqCst);
+        self.wanted.fetch_max(until, Ordering::SeqCst);
         for _ in 0..LOOKS {
             if self.asks.load(Ordering::SeqCst) >= until {
                 self.met.fetch_add(1, Ordering::SeqCst);
-                break;
+                return;
             }
             if self.is_in_vain() {
-                break;
+                return;
             }
             thread::yield_now();
         }
-        self.held.fetch_sub(1, Ordering::SeqCst);
     }
 
     /// How many syncs were held until terminals had asked so many times.

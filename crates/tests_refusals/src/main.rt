@@ -1,7 +1,7 @@
 //! What calls give where a growth of memory is refused: `tests/refusals.py` runs this again and again, and has another
 //! one refused each time. `tests_refusals script` answers a script, `tests_refusals recover` recovers two log files,
-//! `tests_refusals threads` does so in two threads, and `tests_refusals life` makes each call that is refused once more.
-//! With no words, or others, it does nothing.
+//! `tests_refusals threads` does so in two threads, `tests_refusals run` runs a terminal beside a logger, and
+//! `tests_refusals life` makes each call that is refused once more. With no words, or others, it does nothing.
 #![tactic(auto)]
 
 mod again;
@@ -11,6 +11,7 @@ mod orders;
 mod payments;
 mod recovery;
 mod roomy;
+mod runs;
 mod standby;
 mod till;
 
@@ -20,6 +21,7 @@ use crate::orders::answer;
 use crate::payments::pay_all;
 use crate::recovery::{recover_both, recover_in_threads};
 use crate::roomy::Roomy;
+use crate::runs::run_terminal;
 use money::Refusal;
 use program_streams::write_text;
 use std::alloc::Global;
@@ -73,6 +75,7 @@ fn run<R: Env + AllocGlobal + Threads + Wait + Sync>(
         "recover" => recover_both(rt.alloc(), out),
         "threads" => recover_in_threads(rt, rt.alloc(), out),
         "life" => live(rt, rt.alloc(), again, out),
+        "run" => run_terminal(rt, rt.alloc(), out),
         _ => Ok(()),
     }
 }

@@ -23,6 +23,10 @@ mod noting;
 #[cfg(test)]
 mod noting_tests;
 #[cfg(test)]
+mod overtaking;
+#[cfg(test)]
+mod overtaking_tests;
+#[cfg(test)]
 mod run_tests;
 #[cfg(test)]
 mod stage;
