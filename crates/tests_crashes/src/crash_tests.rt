@@ -62,7 +62,7 @@ fn every_crash_of_a_run_is_recovered(rt: HostRuntime) -> Result<(), Fail> {
     assert_eq!(rt; lived, WELL);
     assert_eq!(rt; seen, seen.right());
     assert!(rt; seen.crashes > 300);
-    assert!(rt; seen.partly > 50);
+    assert!(rt; seen.partly > 100);
     Ok(())
 }
 

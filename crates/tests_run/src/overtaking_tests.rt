@@ -14,17 +14,29 @@ use std::marker::Brand;
 use std::sync::Wait;
 use std::test::Fail;
 use std::thread::Threads;
-use tables::Scale;
+use tables::{Input, Scale};
 use terminals::Calls;
 use terminals_deck::{Deck, Settings};
 
 /// How many inputs each terminal has: more than the fast one commits beside 64 tries.
 const INPUTS: u32 = 400;
 
+/// What inputs are drawn from so that the slow terminal's first one is a Payment, which each Payment and each New-Order
+/// of the only district overtakes.
+fn seed_of_a_payment(alloc: Global, scale: Scale) -> Result<u64, Refusal> {
+    for seed in 1..100 {
+        if let Input::Payment(_) = Deck::new(scale, Settings::usual(), seed, 0).next(alloc)? {
+            return Ok(seed);
+        }
+    }
+    Err(Refusal::BadInput)
+}
+
 /// The stations: of the slow terminal, and of the fast one.
 fn stations<'a>(
     alloc: Global,
     scale: Scale,
+    seed: u64,
     overtaking: &'a Overtaking,
 ) -> Result<Vec<Station<Lane<'a>>>, Refusal>
     ensures count { IfOk result (λ stations. length stations.items ≡ 2) }
@@ -33,7 +45,7 @@ fn stations<'a>(
     let mut stations = Vec::new(alloc);
     for terminal in 0..2u32 {
         stations.push(Station {
-            deck: Deck::new(scale, Settings::usual(), 1, terminal),
+            deck: Deck::new(scale, Settings::usual(), seed, terminal),
             gate: Lane {
                 calls: Calls::default(),
                 overtaking,
@@ -85,7 +97,8 @@ fn run_of<K: Run + Send + Sync, R: Threads + Wait + Sync>(
     } = seats;
     let disk = Memory::new(alloc);
     let logs = one_log(alloc, engine.population(), engine.board(), loggers, disk)?;
-    let stations = stations(alloc, engine.population().scale(), overtaking)?;
+    let scale = engine.population().scale();
+    let stations = stations(alloc, scale, seed_of_a_payment(alloc, scale)?, overtaking)?;
     let desks = Desks { clock, terminals };
     let outcome = run(rt, alloc, engine, desks, logs, stations, INPUTS)?;
     Ok((Ends::of(&outcome.tallies, 0), Ends::of(&outcome.tallies, 1)))
