@@ -1,5 +1,6 @@
 //! Why commits of a run aren't durable.
-ghost use Rattle.std.specs.Prelude.{◌≡◌, ◌<◌, ◌≤◌, None, IfSome};
+ghost use Rattle.std.specs.Prelude.{◌≡◌, ◌≢◌, ◌↔◌, ◌<◌, ◌≤◌, false, None, All, IfSome, IsTrue};
+ghost use Rattle.money.specs.declared.refusal.Refusal.TheVariants.{Device};
 ghost use Rattle.program_run.specs.Told.{IsShortBy};
 
 use log_disk::Disk;
@@ -24,12 +25,13 @@ pub struct Shortfall {
 pub(crate) fn shortfall_of<D: Disk>(counts: &Counts, files: &[Written<D>]) -> Option<Shortfall>
     ensures none { result ≡ None → counts.now.commits ≤ counts.now.acknowledged }
     ensures short { IfSome result (λ shortfall. IsShortBy counts.now shortfall.refusal shortfall.lost) }
+    ensures stopped { IfSome result (λ shortfall. shortfall.refusal ≢ Device)
+        ↔ All (λ file. file.has_stopped ≡ false) files.now }
 {
     let lost = counts.commits.saturating_sub(counts.acknowledged);
-    let stopped = files.iter().find(|file| file.has_stopped);
-    if let Some(file) = stopped {
+    if !all_went_on(files) {
         return Some(Shortfall {
-            logger: number_of(file),
+            logger: number_of(files.iter().find(|file| file.has_stopped)),
             refusal: Refusal::Device,
             lost,
         });
@@ -37,21 +39,25 @@ pub(crate) fn shortfall_of<D: Disk>(counts: &Counts, files: &[Written<D>]) -> Op
     if lost == 0 {
         return None;
     }
-    Some(match files.iter().find(|file| file.lacks_memory) {
-        Some(file) => Shortfall {
-            logger: number_of(file),
-            refusal: Refusal::OutOfMemory,
-            lost,
+    let lacking = files.iter().find(|file| file.lacks_memory);
+    Some(Shortfall {
+        refusal: match lacking {
+            Some(_) => Refusal::OutOfMemory,
+            None => Refusal::EpochFull,
         },
-        None => Shortfall {
-            logger: 0,
-            refusal: Refusal::EpochFull,
-            lost,
-        },
+        logger: number_of(lacking),
+        lost,
     })
 }
 
-/// The number of the logger of a file.
-fn number_of<D: Disk>(file: &Written<D>) -> u16 {
-    file.logger.file().header().logger
+/// Whether no logger has stopped.
+fn all_went_on<D: Disk>(files: &[Written<D>]) -> bool
+    ensures { IsTrue result ↔ All (λ file. file.has_stopped ≡ false) files.now }
+{
+    files.iter().all(|file| !file.has_stopped)
+}
+
+/// The number of the logger of a file, and that of the first without one.
+fn number_of<D: Disk>(file: Option<&Written<D>>) -> u16 {
+    file.map_or(0, |file| file.logger.file().header().logger)
 }
