@@ -6,4 +6,4 @@ run-requires-clause-logs g c κs within = λ k d h. c.in_ok-logs.ensures k d h �
 
 pub run-requires-clause-decks : goal.run-requires-clause-decks
 run-requires-clause-decks g c κs within =
-    λ k d h. c.in_ok-stations.ensures.decks k d h ∙ (c.scale.ensures ∙ c.population-2.ensures.scale)
+    λ k d h. c.in_ok-stations.ensures.decks k d h ∙ (c.scale-scale.ensures ∙ c.population-2.ensures.scale)
