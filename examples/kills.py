@@ -30,6 +30,7 @@ import tempfile
 import time
 import tty
 from collections import namedtuple
+from contextlib import suppress
 from pathlib import Path
 
 sys.dont_write_bytecode = True
@@ -213,15 +214,21 @@ def so_soon(seconds):
     return wait
 
 
+def sizes_in(folder):
+    """How long a folder's files are, in the order of their names, but for one that is given another name meanwhile."""
+    sizes = []
+    for path in sorted(Path(folder).iterdir()):
+        with suppress(FileNotFoundError):
+            sizes.append(path.stat().st_size)
+    return sizes
+
+
 def grown(folder):
     """Waits until a log file grows."""
 
-    def sizes():
-        return [path.stat().st_size for path in sorted(Path(folder).iterdir())]
-
     def wait(run):
-        before, give_up = sizes(), time.monotonic() + SILENT
-        while sizes() == before and not run.ended and time.monotonic() < give_up:
+        before, give_up = sizes_in(folder), time.monotonic() + SILENT
+        while sizes_in(folder) == before and not run.ended and time.monotonic() < give_up:
             run.watch(0.0002)
 
     return wait

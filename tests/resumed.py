@@ -274,13 +274,10 @@ def behind_headers(folder, latest):
     """Waits until two log files have more than their headers, and for a random time within so many seconds of that; of
     files that have, until one grows."""
 
-    def sizes():
-        return [path.stat().st_size for path in sorted(Path(folder).iterdir())]
-
     def wait(run):
-        before, until = sizes(), time.monotonic() + SECONDS
+        before, until = kills.sizes_in(folder), time.monotonic() + SECONDS
         while time.monotonic() < until and not run.ended:
-            now = sizes()
+            now = kills.sizes_in(folder)
             if len(now) == 2 and min(now) > 100 and now != before:
                 break
             run.watch(0.001)
