@@ -5,7 +5,7 @@
 #![tactic(auto)]
 
 ghost use Rattle.std.specs.Prelude.{◌≡◌, [], IfOk};
-ghost use Rattle.book.specs.Parts.{IsFresh, IsOpenedAs, loggers_of};
+ghost use Rattle.book.specs.Parts.{IsFresh, IsOpenedAs, IsLedgerOf, loggers_of};
 
 mod timed;
 
@@ -61,7 +61,8 @@ fn append_all<K: Run, D: Disk + Drop, R: Wait + Clock>(
     disk: D,
     load: Load,
 ) -> anyhow::Result<u128>
-    requires run { IsOpenedAs parts K.population K.first K.past K.cells K.board K.seed K.name K.parts }
+    requires run { IsOpenedAs parts K.run }
+    requires ledger { IsLedgerOf parts K.name K.parts }
     requires loggers { loggers_of parts ≡ 1 }
     requires empty { D.is_modelled → D.seen disk ≡ [] }
 {

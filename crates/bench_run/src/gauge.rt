@@ -1,6 +1,6 @@
 //! How a run is looked at while it lasts.
 
-use run_threads::{Pace, Progress};
+use run_threads::{Pace, RunProgress};
 use std::sync::Wait;
 use std::sync::atomic::{AtomicU64, Ordering};
 use std::thread;
@@ -103,7 +103,7 @@ impl<'a, C: Clock + Wait> Gauge<'a, C> {
         }
     }
 
-    fn look(&mut self, at: Duration, progress: &Progress) {
+    fn look(&mut self, at: Duration, progress: &RunProgress) {
         let Some(dial) = self.dial else { return };
         if progress.has_ended() {
             return;
@@ -138,7 +138,7 @@ fn micros(from: Duration, to: Duration) -> u64 {
 }
 
 impl<'a, C: Clock + Wait> Pace for Gauge<'a, C> {
-    fn pause(&mut self, progress: &Progress, signals: u64) {
+    fn pause(&mut self, progress: &RunProgress, signals: u64) {
         if self.dial.is_none() {
             progress.wait(self.clock, signals, Duration::from_millis(LONGEST));
             return;

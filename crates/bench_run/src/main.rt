@@ -19,11 +19,12 @@ use crate::gauge::{Dial, Gauge};
 use crate::single::session;
 use crate::tries::{Counter, Tries};
 use anyhow::bail;
+use book::Parts;
 use log_disk::{Disk, FileDisk, Memory};
 use money::Refusal;
 use population::Population;
-use program_run::{Plan, Slot, created, drive_new};
-use run_threads::Pace;
+use program_run::{RunPlan, created, drive};
+use run_threads::{Pace, Paced};
 use std::alloc::Global;
 use std::rt::{Clock, Env, Files};
 use std::sync::Wait;
@@ -62,14 +63,14 @@ fn memories<'a, C: Clock + Wait>(
     alloc: Global,
     dial: &'a Dial,
     load: Load,
-) -> Result<Vec<Slot<Memory, Gauge<'a, C>>>, Refusal>
+) -> Result<Vec<Paced<Memory, Gauge<'a, C>>>, Refusal>
     ensures count { IfOk result (λ slots. length slots.items ≡ load.loggers) }
-    ensures empty { IfOk result (λ slots. All (λ slot. (replayed_calls slot.disk.calls).bytes ≡ []) slots.items) }
+    ensures empty { IfOk result (λ slots. All (λ slot. (replayed_calls slot.inner.calls).bytes ≡ []) slots.items) }
 {
     let mut slots = Vec::new(alloc);
     for logger in 0..load.loggers {
-        slots.push(Slot {
-            disk: Memory::new(alloc),
+        slots.push(Paced {
+            inner: Memory::new(alloc),
             pace: pace(clock, dial, load, logger),
         })?;
     }
@@ -82,13 +83,13 @@ fn files<'a, C: Clock + Wait + Files<File = fs::File>>(
     alloc: Global,
     dial: &'a Dial,
     load: Load,
-) -> Result<Vec<Slot<FileDisk, Gauge<'a, C>>>, Refusal>
+) -> Result<Vec<Paced<FileDisk, Gauge<'a, C>>>, Refusal>
     ensures count { IfOk result (λ slots. length slots.items ≡ load.loggers) }
 {
     let mut slots = Vec::new(alloc);
     for logger in 0..load.loggers {
-        slots.push(Slot {
-            disk: FileDisk::create(rt, path(alloc, logger)?.as_str())?,
+        slots.push(Paced {
+            inner: FileDisk::create(rt, path(alloc, logger)?.as_str())?,
             pace: pace(rt, dial, load, logger),
         })?;
     }
@@ -124,12 +125,12 @@ fn run_on<
     D: Disk + Send + Drop,
     P: Pace + Send + Drop,
     R: Threads + Wait + Sync + Print + AllocGlobal,
->(rt: &R, slots: Vec<Slot<D, P>>, dial: &Dial, load: Load) -> anyhow::Result<()>
+>(rt: &R, slots: Vec<Paced<D, P>>, dial: &Dial, load: Load) -> anyhow::Result<()>
     requires loggers { (0 < length slots.items) × (length slots.items ≤ 8) }
     requires terminals { (0 < load.terminals) × (load.terminals ≤ 16) }
-    requires empty { D.is_modelled → All (λ slot. D.seen slot.disk ≡ []) slots.items }
+    requires empty { D.is_modelled → All (λ slot. D.seen slot.inner ≡ []) slots.items }
 {
-    let plan = Plan {
+    let plan = RunPlan {
         terminals: load.terminals,
         inputs: load.inputs,
         seed: SEED,
@@ -139,7 +140,14 @@ fn run_on<
     let tries = Tries::new();
     let gates = gates(rt.alloc(), &tries, load.terminals)?;
     let logs = created(rt.alloc(), population.scale(), population.seed(), slots)?;
-    drive_new(rt, rt.alloc(), population, logs, gates, &plan, &mut told).map_err(Refusal::from)?;
+    let parts = Parts::new(
+        rt,
+        rt.alloc(),
+        population,
+        logs.len() as u16,
+        load.terminals,
+    )?;
+    drive(rt, rt.alloc(), parts, logs, gates, &plan, &mut told).map_err(Refusal::from)?;
     let seen = dial.seen();
     println!(rt;
         "commits {} a second {} latency {} us",

@@ -1,7 +1,6 @@
 //! The same inputs one after another.
 
-ghost use Rattle.std.specs.Prelude.{◌≡◌};
-ghost use Rattle.book.specs.Parts.{IsOpenedAs, first_of, past_of, population_of, terminals_of};
+ghost use Rattle.book.specs.Parts.{IsAlone, IsOpenedAs};
 
 use crate::{SEED, population};
 use anyhow::bail;
@@ -41,9 +40,8 @@ fn run<K: Run, R: Wait + Clock + Print>(
     parts: Parts,
     inputs: Inputs,
 ) -> anyhow::Result<()>
-    requires run { IsOpenedAs parts K.population K.first K.past K.cells K.board K.seed K.name K.parts }
-    requires one { terminals_of parts ≡ 1 }
-    requires begins { (past_of parts ≡ 0) × (first_of parts ≡ population_of parts) }
+    requires run { IsOpenedAs parts K.run }
+    requires alone { IsAlone parts K.name K.parts }
 {
     let (engine, mut seats) = Engine::<K>::open(parts);
     let Some(seat) = seats.terminals.next() else {

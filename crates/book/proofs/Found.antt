@@ -24,8 +24,9 @@ use Rattle.book.specs.Book.{BookView, AreInRecordOrder, AreLatest, IsRead, IsSou
 use Rattle.book.specs.Committing.{IsDue, IsDeclined, IsHindered}
 use Rattle.book.specs.Epochs.{found_epoch}
 use Rattle.book.specs.History.{replay, new_versions}
-use Rattle.book.specs.Keeps.{RunView, BookParts, KeepsBook}
+use Rattle.book.specs.Keeps.{BookParts, KeepsBook}
 use Rattle.book.specs.Ready.{IsReady}
+use Rattle.book.specs.Run.{RunView}
 use Rattle.book.specs.Stamps.{last_of, greatest_tid, tid_for}
 use Rattle.book.specs.Streams.{IsSameUntaken}
 use Rattle.book.specs.declared.entry.Entry.{Entry}
@@ -49,14 +50,14 @@ view_of b = record {
   marks = map (λ s. s.mark) b.streams;
 }
 
-abbrev pub view_here : {run : RunView} {book : BookParts} → KeepsBook run book → BookView
+abbrev pub view_here : {run : RunView} {parts : ℕ} {book : BookParts} → KeepsBook run parts book → BookView
 view_here {book = book} kept = view_of book
 
 -- the book keeps its parts as its seat loads E
-pub kept_loaded : {run : RunView} {book : BookParts} → KeepsBook run book → {here : BoardView} → here ≡ run.board → {epoch : ℕ}
+pub kept_loaded : {run : RunView} {parts : ℕ} {book : BookParts} → KeepsBook run parts book → {here : BoardView} → here ≡ run.board → {epoch : ℕ}
     → known_epoch here.plan.base book.seat.steps ≤ epoch → {pen : PenView} {seat : SeatView} → pen ≡ book.pen → seat ≡ noted book.seat (LoadEpoch epoch)
-    → KeepsBook run (record book { pen = pen; seat = seat })
-kept_loaded {run} {book} kept same {epoch} later pen seat = subst (KeepsBook run) (λ i. record book { pen = sym pen i; seat = sym seat i }) (record {
+    → KeepsBook run parts (record book { pen = pen; seat = seat })
+kept_loaded {run} {parts} {book} kept same {epoch} later pen seat = subst (KeepsBook run parts) (λ i. record book { pen = sym pen i; seat = sym seat i }) (record {
   population = kept.population;
   seed = kept.seed;
   past = kept.past;
@@ -73,12 +74,12 @@ kept_loaded {run} {book} kept same {epoch} later pen seat = subst (KeepsBook run
 })
 
 -- the cap, and how many have committed
-pub cap_of : {run : RunView} {book : BookParts} → KeepsBook run book → {cap : ℕ} {s : Sizes} → cap ≡ s.commits → s ≡ book.population.scale
+pub cap_of : {run : RunView} {parts : ℕ} {book : BookParts} → KeepsBook run parts book → {cap : ℕ} {s : Sizes} → cap ≡ s.commits → s ≡ book.population.scale
     → cap ≡ run.first.scale.commits
 cap_of kept cap scale = cap ∙ ap (λ (s : Sizes). s.commits)
     (scale ∙ ap (λ (t : Database). t.scale) kept.population ∙ sym kept.become.of_population.scale)
 
-pub count_of : {run : RunView} {book : BookParts} → KeepsBook run book → {n : ℕ} → n ≡ length book.history → book.past + n ≡ run.past + length book.history
+pub count_of : {run : RunView} {parts : ℕ} {book : BookParts} → KeepsBook run parts book → {n : ℕ} → n ≡ length book.history → book.past + n ≡ run.past + length book.history
 count_of kept many = λ i. kept.past i + many i
 
 -- a refusal behind the validation, of a book whose cap and number of commits are these
@@ -117,8 +118,8 @@ declined_by count tid _ due h = (due, h)
 
 -- what a commit has found: the book, whose seat then loads this epoch; a work of this reader, all of whose reads are the
 -- latest, with the greatest of their TIDs; and its terminal's last TID
-pub record Found (run : RunView) (book : BookParts) (reader : ReaderView) (work : Work) (terminal epoch seen last : ℕ) : Type 0 where
-  pub kept : KeepsBook run book
+pub record Found (run : RunView) (parts : ℕ) (book : BookParts) (reader : ReaderView) (work : Work) (terminal epoch seen last : ℕ) : Type 0 where
+  pub kept : KeepsBook run parts book
   pub later : found_epoch book.seat ≤ epoch
   pub ready : IsReady run.past run.first run.cells epoch book.pen book.history (replay run.first book.history)
   pub is_work : IsWorkOf run.first run.cells reader work
@@ -126,14 +127,14 @@ pub record Found (run : RunView) (book : BookParts) (reader : ReaderView) (work 
   pub latest : AreLatest book.pen.all work.reads
   pub greatest : seen ≡ greatest_tid work.reads
   pub is_read : IsRead work.reads seen
-  pub own : terminal < run.parts
+  pub own : terminal < parts
   pub last_is : last ≡ last_of terminal book.history
 
-pub found_of : {run : RunView} {book : BookParts} → KeepsBook run book → {here : BoardView} → here ≡ run.board → {epoch : ℕ}
+pub found_of : {run : RunView} {parts : ℕ} {book : BookParts} → KeepsBook run parts book → {here : BoardView} → here ≡ run.board → {epoch : ℕ}
     → known_epoch here.plan.base book.seat.steps ≤ epoch → {reader : ReaderView} {work : Work} → IsWorkOf run.first run.cells reader work
     → AreInRecordOrder work.reads work.writes → {seen : ℕ} → AreLatest book.pen.all work.reads × (seen ≡ greatest_tid work.reads) × IsRead work.reads seen
-    → {terminal last : ℕ} → terminal < run.parts → last ≡ slice_index_or book.lasts terminal last
-    → Found run book reader work terminal epoch seen last
+    → {terminal last : ℕ} → terminal < parts → last ≡ slice_index_or book.lasts terminal last
+    → Found run parts book reader work terminal epoch seen last
 found_of {book = book} kept same later is_work ordered found {terminal = terminal} {last = last} own is = record {
   kept = kept;
   later = found_later book.seat kept.board same later;
@@ -150,8 +151,8 @@ found_of {book = book} kept same later is_work ordered found {terminal = termina
     within : terminal < length book.lasts
     within = subst (λ n. terminal < n) (sym kept.lasts.count) own
 
-module _ {run : RunView} {book : BookParts} {reader : ReaderView} {work : Work} {terminal epoch seen last : ℕ}
-    (f : Found run book reader work terminal epoch seen last) where
+module _ {run : RunView} {parts : ℕ} {book : BookParts} {reader : ReaderView} {work : Work} {terminal epoch seen last : ℕ}
+    (f : Found run parts book reader work terminal epoch seen last) where
   pub is_due : IsDue run.first (view_of book) work
   is_due = record { latest = f.latest; there = done_there f.kept.sound f.ready f.is_work f.latest }
 
@@ -170,8 +171,8 @@ module _ {run : RunView} {book : BookParts} {reader : ReaderView} {work : Work} 
   -- room is made in the terminal's stream
   pub kept_reserved : {n : ℕ} → n ≡ length book.streams → (s t : Untaken) → s ≡ slice_index_or book.streams (terminal % n) s → IsSameUntaken s t
       → {pen : PenView} {history : List Entry} {seat : SeatView} → pen ≡ book.pen → history ≡ book.history → seat ≡ noted book.seat (LoadEpoch epoch)
-      → KeepsBook run (record book { pen = pen; history = history; streams = slice_set book.streams (terminal % n) t; seat = seat })
-  kept_reserved {n} many s t is same pen history seat = subst (KeepsBook run) (λ i. record book {
+      → KeepsBook run parts (record book { pen = pen; history = history; streams = slice_set book.streams (terminal % n) t; seat = seat })
+  kept_reserved {n} many s t is same pen history seat = subst (KeepsBook run parts) (λ i. record book {
     pen = sym pen i;
     history = sym history i;
     streams = slice_set book.streams (terminal % n) t;
@@ -211,7 +212,7 @@ module _ {run : RunView} {book : BookParts} {reader : ReaderView} {work : Work} 
         → u.taken ≡ s.taken → u.last_taken ≡ s.last_taken → u.mark ≡ s.mark
         → map arc_value u.waiting.items ≡ map arc_value s.waiting.items ++ entry ∷ []
         → {history' : List Entry} {shares' : ℕ} {seat' : SeatView} → history' ≡ book.history ++ entry ∷ [] → shares' ≡ book.shares + 1 → seat' ≡ noted (noted book.seat (LoadEpoch epoch)) (CountCommit epoch)
-        → KeepsBook run (record book {
+        → KeepsBook run parts (record book {
           pen = pen;
           totals = totals;
           history = history';
@@ -223,7 +224,7 @@ module _ {run : RunView} {book : BookParts} {reader : ReaderView} {work : Work} 
     kept_committed below pen cells stores totals totals_of {n} many s u is same_taken same_last same_mark waiting history_is shares_is seat_is =
         let made = next_kept f.kept.sound f.ready f.is_work f.latest terminal f.is_read f.greatest f.last_is tid lawful taken pen below cells stores in
         let led : after t work.input ≡ replay run.first (book.history ++ entry ∷ []) = sym (replay_push run.first book.history entry) in
-        subst (KeepsBook run) (λ i. record book {
+        subst (KeepsBook run parts) (λ i. record book {
           pen = pen;
           totals = totals;
           history = sym history_is i;
@@ -241,7 +242,7 @@ module _ {run : RunView} {book : BookParts} {reader : ReaderView} {work : Work} 
           totals = subst (λ d. AreTotals d totals) led
               (totals_of (held_there made.0 made.1.of_population.scale));
           shares = ap (λ m. m + 1) f.kept.shares ∙ sym (length-append book.history (entry ∷ []));
-          lasts = lasts_next run.parts book.history book.lasts entry f.kept.lasts (subst (λ m. terminal < m) (sym f.kept.lasts.count) f.own);
+          lasts = lasts_next parts book.history book.lasts entry f.kept.lasts (subst (λ m. terminal < m) (sym f.kept.lasts.count) f.own);
           board = f.kept.board;
           counted = counts_on book.seat book.history epoch entry f.kept.counted lawful.in_epoch;
           streams = streams_added run.board.plan (found_epoch book.seat) epoch n terminal book.history book.streams s f.later
@@ -251,9 +252,9 @@ module _ {run : RunView} {book : BookParts} {reader : ReaderView} {work : Work} 
         })
 
 -- there is room to count one commit more
-pub may_count_one : {run : RunView} {book : BookParts} → KeepsBook run book → run.past + length book.history < run.first.scale.commits
+pub may_count_one : {run : RunView} {parts : ℕ} {book : BookParts} → KeepsBook run parts book → run.past + length book.history < run.first.scale.commits
     → length (counted_epochs book.seat.steps) < 2 ^ 64 - 1
-may_count_one {run} {book} kept below = may_count book.seat book.history run.first.scale.commits kept.counted
+may_count_one {run} {parts} {book} kept below = may_count book.seat book.history run.first.scale.commits kept.counted
     (within run.past (length book.history) run.first.scale.commits below) kept.ready.few
   where
     within : (past n cap : ℕ) → past + n < cap → n < cap

@@ -15,19 +15,10 @@ use Rattle.book.specs.Epochs.{HasCounted, found_epoch}
 use Rattle.book.specs.History.{replay}
 use Rattle.book.specs.Loggable.{AreLoggable}
 use Rattle.book.specs.Ready.{IsReady, AreLast}
+use Rattle.book.specs.Run.{RunView}
 use Rattle.book.specs.Streams.{AreStreams}
 use Rattle.book.specs.declared.entry.Entry.{Entry}
 use Rattle.book.specs.declared.untaken.Untaken.{Untaken}
-
--- what names a run (`Run`), and how many parts its ledger has
-pub record RunView : Type 0 where
-  pub population : Database
-  pub first : Database
-  pub seed : ℕ
-  pub past : ℕ
-  pub cells : CellsView
-  pub board : BoardView
-  pub parts : ℕ
 
 -- what a book has: its population and that one's seed, how many past commits there are, the HISTORY rows that they
 -- added to the population's, its pen, the totals, the history, the streams, the terminals' last TIDs, what their shares
@@ -45,8 +36,8 @@ pub record BookParts : Type 0 where
   pub shares : ℕ
   pub seat : SeatView
 
--- what the book's type keeps of them, in a run that is named so
-pub record KeepsBook (run : RunView) (book : BookParts) : Type 0 where
+-- what the book's type keeps of them, in a run that is named so, whose ledger has so many parts
+pub record KeepsBook (run : RunView) (parts : ℕ) (book : BookParts) : Type 0 where
   pub population : book.population ≡ run.population
   pub seed : book.seed ≡ run.seed
   pub past : book.past ≡ run.past
@@ -58,30 +49,29 @@ pub record KeepsBook (run : RunView) (book : BookParts) : Type 0 where
   pub totals : AreTotals (replay run.first book.history) book.totals
   -- the shares sum to the history's length, and the seat has counted each commit, with its epoch
   pub shares : book.shares ≡ length book.history
-  pub lasts : AreLast run.parts book.history book.lasts
+  pub lasts : AreLast parts book.history book.lasts
   pub board : book.seat.board ≡ run.board
   pub counted : HasCounted book.seat book.history
   -- what waits for each logger, and that it may be written to a log file
   pub streams : AreStreams run.board.plan (found_epoch book.seat) book.history book.streams
-  pub loggable : AreLoggable run.first.scale run.parts book.history
+  pub loggable : AreLoggable run.first.scale parts book.history
 
--- what the engine's type keeps of its population, its cells and its board, in a run that is named by these
-pub record IsEngineOf (population first : Database) (cells : CellsView) (board : BoardView) (parts : ℕ)
-    (own_population : Database) (own_cells : CellsView) (own_board : BoardView) : Type 0 where
-  pub population_is : own_population ≡ population
-  pub of_population : IsOf population first
-  pub cells_are : own_cells ≡ cells
-  pub count : AreCellsOf first.scale cells
-  pub board_is : own_board ≡ board
+-- what the engine's type keeps of its population, its cells and its board, in a run of so many parts
+pub record IsEngineOf (run : RunView) (parts : ℕ) (population : Database) (cells : CellsView) (board : BoardView)
+    : Type 0 where
+  pub population_is : population ≡ run.population
+  pub of_population : IsOf run.population run.first
+  pub cells_are : cells ≡ run.cells
+  pub count : AreCellsOf run.first.scale run.cells
+  pub board_is : board ≡ run.board
   pub some : 0 < parts
 
--- what the type of the terminals' seats keeps of those that are left, in a run of these cells, this board and so many
--- parts: the readers and the seats of the board, the parts and the commits of the share that they have together, and
+-- what the type of the terminals' seats keeps of those that are left, in a run of so many parts: the readers and the seats of the board, the parts and the commits of the share that they have together, and
 -- how many were given
-pub record AreSeatsLeft (cells : CellsView) (board : BoardView) (all_parts : ℕ) (readers : List ReaderView)
-    (seats : List SeatView) (parts commits given : ℕ) : Type 0 where
-  pub own : All (λ reader. reader.cells ≡ cells) readers
-  pub new : All (λ seat. seat ≡ new_seat board Terminal) seats
+pub record AreSeatsLeft (run : RunView) (all_parts : ℕ) (readers : List ReaderView) (seats : List SeatView)
+    (parts commits given : ℕ) : Type 0 where
+  pub own : All (λ reader. reader.cells ≡ run.cells) readers
+  pub new : All (λ seat. seat ≡ new_seat run.board Terminal) seats
   pub as_many : length seats ≡ length readers
   pub shares : parts ≡ length readers
   pub none : commits ≡ 0

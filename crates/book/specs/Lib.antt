@@ -9,6 +9,7 @@ pub mod Base
 pub mod Batches
 pub mod Next
 pub mod Ready
+pub mod Run
 pub mod Keeps
 pub mod Shows
 pub mod Share

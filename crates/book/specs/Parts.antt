@@ -13,6 +13,7 @@ use Rattle.cells.specs.Records.{at}
 use Rattle.board.specs.Seats.{BoardView}
 use Rattle.board.specs.Opening.{Opens}
 use Rattle.book.specs.Base.{IsStart}
+use Rattle.book.specs.Run.{RunView}
 use Rattle.book.specs.declared.untaken.Untaken.{Untaken}
 use Rattle.book.specs.declared.parts.Fresh.{Fresh}
 use Rattle.book.specs.declared.parts.Parts.{Parts}
@@ -45,6 +46,17 @@ ledger_name p = p.blank.name
 
 abbrev pub ledger_parts : Parts → ℕ
 ledger_parts p = p.blank.parts
+
+-- all that names the run of these parts, but its ledger
+abbrev pub run_of : Parts → RunView
+run_of p = record {
+  population = population_of p;
+  seed = population_seed p;
+  first = first_of p;
+  past = past_of p;
+  cells = cells_of p;
+  board = board_of p;
+}
 
 abbrev pub base_of : Parts → ℕ
 base_of p = p.fresh.board.plan.base
@@ -100,15 +112,24 @@ pub record ArePartsOf (population first : Database) (seed past base loggers term
   pub loggers_are : loggers_of p ≡ loggers
   pub terminals_are : terminals_of p ≡ terminals
 
--- these parts are fresh, and the run that opens with them is named so
-pub record IsOpenedAs (p : Parts) (population first : Database) (past : ℕ) (cells : CellsView) (board : BoardView)
-    (seed name parts : ℕ) : Type 0 where
+-- these parts are fresh, and this names the run that opens with them
+pub record IsOpenedAs (p : Parts) (run : RunView) : Type 0 where
   pub fresh : IsFresh p
-  pub population_is : population_of p ≡ population
-  pub first_is : first_of p ≡ first
-  pub past_is : past_of p ≡ past
-  pub cells_are : cells_of p ≡ cells
-  pub board_is : board_of p ≡ board
-  pub seed_is : population_seed p ≡ seed
+  pub population_is : population_of p ≡ run.population
+  pub seed_is : population_seed p ≡ run.seed
+  pub first_is : first_of p ≡ run.first
+  pub past_is : past_of p ≡ run.past
+  pub cells_are : cells_of p ≡ run.cells
+  pub board_is : board_of p ≡ run.board
+
+-- and these are the name of its ledger, and how many parts that has
+pub record IsLedgerOf (p : Parts) (name parts : ℕ) : Type 0 where
   pub name_is : ledger_name p ≡ name
   pub parts_are : ledger_parts p ≡ parts
+
+-- they are so, and of one terminal, which begins with its population's tables
+pub record IsAlone (p : Parts) (name parts : ℕ) : Type 0 where
+  pub ledger : IsLedgerOf p name parts
+  pub one : terminals_of p ≡ 1
+  pub none : past_of p ≡ 0
+  pub began : first_of p ≡ population_of p

@@ -58,16 +58,7 @@ impl<K: Run> Model for Book<K> {
       marks = map (λ s. s.mark) b.streams.items;
     } };
 
-    ghost invariant = { λ b. KeepsBook
-        (record {
-          population = K.population;
-          first = K.first;
-          seed = K.seed;
-          past = K.past;
-          cells = K.cells;
-          board = K.board;
-          parts = K.parts;
-        })
+    ghost invariant = { λ b. KeepsBook K.run K.parts
         (record {
           population = initial (arc_value b.population);
           seed = seed_of (arc_value b.population);
@@ -101,14 +92,14 @@ impl<K: Run> Book<K> {
 
     /// What has committed, in order. Takes no memory.
     ///
-    /// The committed tables, `replay K.first` of it, meet the conditions, and each entry's reply is the one that
+    /// The committed tables, `replay K.run.first` of it, meet the conditions, and each entry's reply is the one that
     /// its transaction has at its place in the order. The book's seat of the board has counted as many commits, each
     /// with its epoch. Each entry is of a terminal of the run, and may be written to a log file.
     pub fn history(&self) -> &[Arc<Entry, Global>]
         ensures history { map arc_value result.now ≡ self.now.history }
         ensures counted { HasCounted self.now.seat self.now.history }
-        ensures sound { IsSound K.past K.first self.now.written self.now.history (replay K.first self.now.history) }
-        ensures loggable { AreLoggable K.first.scale K.parts self.now.history }
+        ensures sound { IsSound K.run.past K.run.first self.now.written self.now.history (replay K.run.first self.now.history) }
+        ensures loggable { AreLoggable K.run.first.scale K.parts self.now.history }
     {
         self.history.as_slice()
     }
@@ -117,7 +108,7 @@ impl<K: Run> Book<K> {
     /// memory.
     pub fn commits(&self) -> u64
         ensures commits { result ≡ length self.now.history }
-        ensures cap { K.past + result ≤ K.first.scale.commits }
+        ensures cap { K.run.past + result ≤ K.run.first.scale.commits }
         ensures few { result ≤ MAX_COMMITS }
     {
         self.history.len() as u64
@@ -126,10 +117,10 @@ impl<K: Run> Book<K> {
     /// What a narrow record holds in the committed tables: the columns of its row that change, or an index record's
     /// number, and nothing where it is absent. Constant time, no memory.
     pub fn record(&mut self, cells: &Cells, number: u32) -> Option<Payload>
-        requires cells { cells.now ≡ K.cells }
-        requires is_record { number < narrow_count K.first.scale }
+        requires cells { cells.now ≡ K.run.cells }
+        requires is_record { number < narrow_count K.run.first.scale }
         ensures same { self.new ≡ self.old }
-        ensures held { result ≡ rows (replay K.first self.old.history) number }
+        ensures held { result ≡ rows (replay K.run.first self.old.history) number }
     {
         cells.held(&mut self.pen, number)
     }
@@ -137,10 +128,10 @@ impl<K: Run> Book<K> {
     /// What a wide record holds in the committed tables: the words of a customer's C_DATA. It is always there, since
     /// the tables are well-formed. Constant time, no memory.
     pub fn record_wide(&mut self, cells: &Cells, number: u32) -> Option<DataWords>
-        requires cells { cells.now ≡ K.cells }
-        requires is_record { (narrow_count K.first.scale ≤ number) × (number < record_count K.first.scale) }
+        requires cells { cells.now ≡ K.run.cells }
+        requires is_record { (narrow_count K.run.first.scale ≤ number) × (number < record_count K.run.first.scale) }
         ensures same { self.new ≡ self.old }
-        ensures held { result ≡ rows (replay K.first self.old.history) number }
+        ensures held { result ≡ rows (replay K.run.first self.old.history) number }
     {
         cells.held_wide(&mut self.pen, number)
     }
@@ -148,11 +139,11 @@ impl<K: Run> Book<K> {
     /// The committed tables, made of their records. Costs what populating costs, a look at each record, and a pass over
     /// the history. `OutOfMemory` is the only refusal.
     pub fn tables(&mut self, cells: &Cells) -> Result<Tables, Refusal>
-        requires { cells.now ≡ K.cells }
+        requires { cells.now ≡ K.run.cells }
         ensures same { self.new ≡ self.old }
-        ensures tables { IfOk result (λ tables. database tables ≡ replay K.first self.old.history) }
+        ensures tables { IfOk result (λ tables. database tables ≡ replay K.run.first self.old.history) }
         ensures sound { IfOk result (λ tables.
-            IsSound K.past K.first self.old.written self.old.history (database tables)) }
+            IsSound K.run.past K.run.first self.old.written self.old.history (database tables)) }
         ensures only_memory { IfErr result (λ refusal. refusal ≡ OutOfMemory) }
     {
         let alloc = *self.history.allocator();
@@ -163,9 +154,9 @@ impl<K: Run> Book<K> {
     /// Which conditions the committed tables meet: all, as the type keeps. Costs one pass over the records, each of
     /// which is compared with the running totals, and takes no memory; no clause can ask that it looks at any.
     pub fn report(&mut self, cells: &Cells, _alloc: Global) -> Result<Report, Refusal>
-        requires { cells.now ≡ K.cells }
+        requires { cells.now ≡ K.run.cells }
         ensures same { self.new ≡ self.old }
-        ensures report { IfOk result (IsReportOf (replay K.first self.old.history)) }
+        ensures report { IfOk result (IsReportOf (replay K.run.first self.old.history)) }
         ensures good { IfOk result IsGood }
         ensures only_memory { IfErr result (λ refusal. refusal ≡ OutOfMemory) }
     {
@@ -181,8 +172,8 @@ impl<K: Run> Book<K> {
 
     /// A district's totals over the committed tables. Constant time, no memory.
     pub fn totals(&self, key: DistrictKey) -> DistrictTotals
-        requires { IsDistrictKey K.first.scale key }
-        ensures { AreDistrictTotals (replay K.first self.now.history) key result }
+        requires { IsDistrictKey K.run.first.scale key }
+        ensures { AreDistrictTotals (replay K.run.first self.now.history) key result }
     {
         self.totals.of_district(key)
     }

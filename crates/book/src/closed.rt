@@ -41,7 +41,7 @@ impl<K: Run> Model for Closed<K> {
 
     ghost view = { λ c. c.book.history };
 
-    ghost invariant = { λ c. c.cells ≡ K.cells };
+    ghost invariant = { λ c. c.cells ≡ K.run.cells };
 }
 
 impl<K: Run> Closed<K> {
@@ -60,9 +60,9 @@ impl<K: Run> Closed<K> {
     /// terminal, and epochs don't fall.
     pub fn history(&self) -> &[Arc<Entry, Global>]
         ensures history { map arc_value result.now ≡ self.now }
-        ensures legal { IsLegal K.past K.first self.now (replay K.first self.now) }
+        ensures legal { IsLegal K.run.past K.run.first self.now (replay K.run.first self.now) }
         ensures stamped { AreStamped self.now }
-        ensures loggable { AreLoggable K.first.scale K.parts self.now }
+        ensures loggable { AreLoggable K.run.first.scale K.parts self.now }
     {
         self.book.history()
     }
@@ -71,7 +71,7 @@ impl<K: Run> Closed<K> {
     /// `Book::tables` does. `OutOfMemory` is the only refusal.
     pub fn tables(&mut self) -> Result<Tables, Refusal>
         ensures same { self.new ≡ self.old }
-        ensures tables { IfOk result (λ tables. database tables ≡ replay K.first self.old) }
+        ensures tables { IfOk result (λ tables. database tables ≡ replay K.run.first self.old) }
         ensures well_formed { IfOk result (λ tables. IsWellFormed (database tables)) }
         ensures consistent { IfOk result (λ tables. IsConsistent (database tables)) }
         ensures only_memory { IfErr result (λ refusal. refusal ≡ OutOfMemory) }
@@ -83,7 +83,7 @@ impl<K: Run> Closed<K> {
     /// refusal.
     pub fn report(&mut self, alloc: Global) -> Result<Report, Refusal>
         ensures same { self.new ≡ self.old }
-        ensures report { IfOk result (IsReportOf (replay K.first self.old)) }
+        ensures report { IfOk result (IsReportOf (replay K.run.first self.old)) }
         ensures good { IfOk result IsGood }
         ensures only_memory { IfErr result (λ refusal. refusal ≡ OutOfMemory) }
     {

@@ -54,19 +54,19 @@ impl<K: Run> Book<K> {
         share: &mut Share<K>,
         work: Work,
     ) -> Result<Done, Refusal>
-        requires board { board.now ≡ K.board }
-        requires cells { cells.now ≡ K.cells }
-        requires reader { reader.old.cells ≡ K.cells }
-        requires work { IsWorkOf K.first K.cells reader.old work }
+        requires board { board.now ≡ K.run.board }
+        requires cells { cells.now ≡ K.run.cells }
+        requires reader { reader.old.cells ≡ K.run.cells }
+        requires work { IsWorkOf K.run.first K.run.cells reader.old work }
         ensures reader { HasGrown reader.old reader.new }
         ensures epoch { MatchResult result (λ done. CountsCommit self.old.seat self.new.seat)
             (λ refusal. LoadsEpoch self.old.seat self.new.seat) }
         ensures committed { IfOk result
-            (CommitsWork K.past K.first self.old self.new share.old share.new reader.new work) }
-        ensures declined { IfErr result (DeclinesWork K.past K.first self.old self.new share.old share.new work) }
-        ensures next { IfOk result (IsNextCommit K.past K.first self.old.history self.new.history work.input) }
+            (CommitsWork K.run.past K.run.first self.old self.new share.old share.new reader.new work) }
+        ensures declined { IfErr result (DeclinesWork K.run.past K.run.first self.old self.new share.old share.new work) }
+        ensures next { IfOk result (IsNextCommit K.run.past K.run.first self.old.history self.new.history work.input) }
         ensures refused { IfErr result (λ refusal. (refusal ≡ Conflict) ⊎ (refusal ≡ OutOfMemory)
-            ⊎ IsRefusedAt (replay K.first self.old.history) (K.past + length self.old.history) work.input refusal) }
+            ⊎ IsRefusedAt (replay K.run.first self.old.history) (K.run.past + length self.old.history) work.input refusal) }
         ensures section { (m : Machine) (w : ℕ)
             → Mirrors self.old share.old.terminal (found_epoch self.new.seat) work.reads m w
             → MatchResult result

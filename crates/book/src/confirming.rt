@@ -20,14 +20,14 @@ impl<K: Run> Book<K> {
     /// A refusal of an execution as it is at the committed tables. That no order number is left may have been read at
     /// older ones, so it is looked up there: where one is left, what was read is stale. Constant time, no memory.
     pub fn confirmed(&mut self, cells: &Cells, input: &Input, refusal: Refusal) -> Refusal
-        requires cells { cells.now ≡ K.cells }
-        requires input { IsInput K.first.scale input.now }
-        requires refusal { (old : ReaderView) × ((new : ReaderView) × IsRefusal K.first input.now old new refusal) }
+        requires cells { cells.now ≡ K.run.cells }
+        requires input { IsInput K.run.first.scale input.now }
+        requires refusal { (old : ReaderView) × ((new : ReaderView) × IsRefusal K.run.first input.now old new refusal) }
         ensures same { self.new ≡ self.old }
         ensures there { (result ≡ Stale) ⊎ (result ≡ OutOfMemory)
-            ⊎ IsRefusedAt (replay K.first self.old.history) (K.past + length self.old.history) input.now result }
+            ⊎ IsRefusedAt (replay K.run.first self.old.history) (K.run.past + length self.old.history) input.now result }
         ensures stale { result ≡ Stale → (refusal ≡ Stale)
-            ⊎ ((refusal ≡ OrdersFull) × HasOrderNumber (replay K.first self.old.history) input.now) }
+            ⊎ ((refusal ≡ OrdersFull) × HasOrderNumber (replay K.run.first self.old.history) input.now) }
         ensures memory { result ≡ OutOfMemory → refusal ≡ OutOfMemory }
     {
         match refusal {
@@ -45,7 +45,7 @@ impl<K: Run> Book<K> {
 
     /// The scale of the run.
     fn scale(&self) -> Scale
-        ensures { result ≡ K.first.scale }
+        ensures { result ≡ K.run.first.scale }
     {
         self.population.scale()
     }
@@ -53,13 +53,13 @@ impl<K: Run> Book<K> {
 
 /// Whether a transaction has an order number at the committed tables, where it makes an order.
 fn has_order_number<K: Run>(book: &mut Book<K>, cells: &Cells, scale: &Scale, input: &Input) -> bool
-    requires cells { cells.now ≡ K.cells }
-    requires scale { scale.now ≡ K.first.scale }
-    requires input { IsInput K.first.scale input.now }
+    requires cells { cells.now ≡ K.run.cells }
+    requires scale { scale.now ≡ K.run.first.scale }
+    requires input { IsInput K.run.first.scale input.now }
     ensures same { book.new ≡ book.old }
     ensures number { MatchBool result
-        (HasOrderNumber (replay K.first book.old.history) input.now)
-        (¬ HasOrderNumber (replay K.first book.old.history) input.now) }
+        (HasOrderNumber (replay K.run.first book.old.history) input.now)
+        (¬ HasOrderNumber (replay K.run.first book.old.history) input.now) }
 {
     match input {
         Input::NewOrder(order) => has_number(book, cells, scale, order),
@@ -75,13 +75,13 @@ fn has_number<K: Run>(
     scale: &Scale,
     order: &NewOrderInput,
 ) -> bool
-    requires cells { cells.now ≡ K.cells }
-    requires scale { scale.now ≡ K.first.scale }
-    requires input { IsNewOrder K.first.scale order.now }
+    requires cells { cells.now ≡ K.run.cells }
+    requires scale { scale.now ≡ K.run.first.scale }
+    requires input { IsNewOrder K.run.first.scale order.now }
     ensures same { book.new ≡ book.old }
     ensures number { MatchBool result
-        (HasNumber (replay K.first book.old.history) order.now)
-        (¬ HasNumber (replay K.first book.old.history) order.now) }
+        (HasNumber (replay K.run.first book.old.history) order.now)
+        (¬ HasNumber (replay K.run.first book.old.history) order.now) }
 {
     let number = number_of_key(scale, RecordKey::District(order.home()));
     match book.record(cells, number) {

@@ -6,7 +6,7 @@ ghost use Rattle.tables.specs.Constant.{IsOf};
 ghost use Rattle.board.specs.declared.rule.Role.TheVariants.{Clock, Terminal};
 ghost use Rattle.board.specs.Seats.{new_seat};
 ghost use Rattle.board.specs.Opening.{logger_seats};
-ghost use Rattle.book.specs.Parts.{IsOpenedAs, terminals_of};
+ghost use Rattle.book.specs.Parts.{IsOpenedAs, IsLedgerOf, terminals_of};
 
 use crate::book::Book;
 use crate::parts::{Begun, Fresh, Parts, Records};
@@ -50,7 +50,7 @@ impl<K: Run> Model for Engine<K> {
 
     ghost view = { λ e. tt };
 
-    ghost invariant = { λ e. IsEngineOf K.population K.first K.cells K.board K.parts
+    ghost invariant = { λ e. IsEngineOf K.run K.parts
         (initial (arc_value e.population)) e.cells e.board };
 }
 
@@ -58,9 +58,10 @@ impl<K: Run> Engine<K> {
     /// An engine in which nothing has committed behind what it begins with, which an audit of the whole share tells,
     /// and its seats. Takes no memory.
     pub fn open(parts: Parts) -> (Engine<K>, Seats<K>)
-        requires { IsOpenedAs parts K.population K.first K.past K.cells K.board K.seed K.name K.parts }
-        ensures clock { result.1.clock ≡ new_seat K.board Clock }
-        ensures loggers { result.1.loggers.items ≡ logger_seats K.board K.board.plan.loggers }
+        requires run { IsOpenedAs parts K.run }
+        requires ledger { IsLedgerOf parts K.name K.parts }
+        ensures clock { result.1.clock ≡ new_seat K.run.board Clock }
+        ensures loggers { result.1.loggers.items ≡ logger_seats K.run.board K.run.board.plan.loggers }
         ensures left { result.1.terminals.left ≡ terminals_of parts }
         ensures given { result.1.terminals.given ≡ 0 }
     {
@@ -133,24 +134,24 @@ impl<K: Run> Engine<K> {
 
     /// The population: the run began with its tables, or with what past commits have made of them.
     pub fn population(&self) -> &Population
-        ensures value { initial result.now ≡ K.population }
-        ensures scale { (initial result.now).scale ≡ K.first.scale }
-        ensures of_population { IsOf K.population K.first }
+        ensures value { initial result.now ≡ K.run.population }
+        ensures scale { (initial result.now).scale ≡ K.run.first.scale }
+        ensures of_population { IsOf K.run.population K.run.first }
     {
         &self.population
     }
 
     /// The record cells: one for each record.
     pub fn cells(&self) -> &Cells
-        ensures value { result.now ≡ K.cells }
-        ensures count { AreCellsOf K.first.scale result.now }
+        ensures value { result.now ≡ K.run.cells }
+        ensures count { AreCellsOf K.run.first.scale result.now }
     {
         &self.cells
     }
 
     /// The board of epoch words.
     pub fn board(&self) -> &Board
-        ensures { result.now ≡ K.board }
+        ensures { result.now ≡ K.run.board }
     {
         &self.board
     }
@@ -211,22 +212,24 @@ impl<K: Run> Model for TerminalSeats<K> {
 
     ghost view = { λ s. record { left = length s.readers.items; given = s.given } };
 
-    ghost invariant = { λ s. AreSeatsLeft K.cells K.board K.parts
+    ghost invariant = { λ s. AreSeatsLeft K.run K.parts
         s.readers.items s.seats.items s.share.parts s.share.amount s.given };
 }
 
-/// What one terminal is given.
+/// What one terminal is given: a reader of the run's cells, a seat of its board, and a share.
 #[derive(Drop)]
 pub struct Seat<K: Run> {
     pub reader: Reader,
     pub board: TerminalSeat,
     pub share: Share<K>,
+    ghost reads: { reader.cells ≡ K.run.cells },
+    ghost steps: { board.board ≡ K.run.board },
 }
 
 impl<K: Run> TerminalSeats<K> {
     /// The next terminal's seat, while there is one. Terminals are numbered from 0. Takes no memory.
     pub fn next(&mut self) -> Option<Seat<K>>
-        ensures seat { IfSome result (λ seat. (seat.reader.cells ≡ K.cells) × (seat.board ≡ new_seat K.board Terminal)
+        ensures seat { IfSome result (λ seat. (seat.board ≡ new_seat K.run.board Terminal)
             × (seat.share ≡ record { terminal = self.old.given; parts = 1; commits = 0 })) }
         ensures left { IfSome result (λ seat. (self.old.left ≡ self.new.left + 1)
             × (self.new.given ≡ self.old.given + 1)) }

@@ -1,5 +1,7 @@
 //! What may be refused of a commit, all of which comes before its first store.
 ghost use Rattle.std.specs.Prelude.{◌≡◌, ◌+◌, ◌<◌, length, vec_len, vec_capacity, IfOk, IfErr, OnOk};
+ghost use Rattle.std.specs.Arc.{arc_value};
+ghost use Rattle.money.specs.declared.refusal.Refusal.TheVariants.{OutOfMemory};
 ghost use Rattle.tidword.specs.TidWord.{tid_of};
 ghost use Rattle.tidword.specs.Lawful.{next};
 ghost use Rattle.book.specs.Committing.{IsHindered};
@@ -67,18 +69,43 @@ pub(crate) fn prepare(
     let alloc = *history.allocator();
     history.reserve(1)?;
     stream.reserve()?;
+    let number = place.past + history.len() as u32 + 1;
+    entered(alloc, number, tid, place.terminal, input, reply, writes)
+}
+
+/// The entry of this number, TID and terminal, once for all who have it. `OutOfMemory` is the only refusal.
+fn entered(
+    alloc: Global,
+    number: u32,
+    tid: TidWord,
+    terminal: u16,
+    input: Input,
+    reply: Reply,
+    writes: WriteSet,
+) -> Result<Prepared, Refusal>
+    ensures tid { IfOk result (λ made. made.tid ≡ tid) }
+    ensures entry { IfOk result (λ made. arc_value made.entry ≡ record {
+      number = number;
+      tid = tid;
+      terminal = terminal;
+      input = input;
+      reply = reply;
+      writes = writes;
+    }) }
+    ensures waiting { IfOk result (λ made. arc_value made.waiting ≡ arc_value made.entry) }
+    ensures done { IfOk result (λ made. made.done ≡ record { number = number; tid = tid; reply = reply }) }
+    ensures only_memory { IfErr result (λ refusal. refusal ≡ OutOfMemory) }
+{
     let writes = writes.into_list()?;
-    let (entry, waiting) = shared(
-        alloc,
-        Entry {
-            number: place.past + history.len() as u32 + 1,
-            tid,
-            terminal: place.terminal,
-            input,
-            reply,
-            writes,
-        },
-    )?;
+    let entry = Entry {
+        number,
+        tid,
+        terminal,
+        input,
+        reply,
+        writes,
+    };
+    let (entry, waiting) = shared(alloc, entry)?;
     let told = Arc::try_clone(&entry)?;
     Ok(Prepared {
         tid,

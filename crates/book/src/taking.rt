@@ -16,14 +16,14 @@ impl<K: Run> Book<K> {
     /// floor: every later commit has this E or a later one, since it loads E after this call. Constant time, without
     /// memory.
     pub fn take(&mut self, board: &Board, logger: u16) -> Batch
-        requires board { board.now ≡ K.board }
-        requires logger { logger < K.board.plan.loggers }
+        requires board { board.now ≡ K.run.board }
+        requires logger { logger < K.run.board.plan.loggers }
         ensures floor { self.new.seat
             ≡ noted (noted self.old.seat (LoadEpoch (result.mark + 1))) (StoreFloor logger (result.mark + 1)) }
         ensures later { found_epoch self.old.seat ≤ result.mark + 1 }
-        ensures batch { IsBatchOf K.board.plan.loggers logger self.old result }
-        ensures population { (result.scale ≡ K.first.scale) × (result.seed ≡ K.seed) }
-        ensures taken { IsTaken K.board.plan.loggers logger self.old result self.new }
+        ensures batch { IsBatchOf K.run.board.plan.loggers logger self.old result }
+        ensures population { (result.scale ≡ K.run.first.scale) × (result.seed ≡ K.run.seed) }
+        ensures taken { IsTaken K.run.board.plan.loggers logger self.old result self.new }
     {
         let epoch = board.floor(&mut self.seat, u64::from(logger));
         let loggers = self.streams.len() as u16;

@@ -26,12 +26,10 @@ pub(crate) fn persist<K: Run, R: Wait>(
     seat: &mut Seat<K>,
     input: &Input,
 ) -> Result<Done, Refusal>
-    requires input { IsInput K.first.scale input.now }
-    requires reader { seat.old.reader.cells ≡ K.cells }
-    ensures reader { seat.new.reader.cells ≡ K.cells }
-    ensures commits { IfOk result (IsNextCommit K.past K.first book.old.history book.new.history input.now) }
+    requires input { IsInput K.run.first.scale input.now }
+    ensures commits { IfOk result (IsNextCommit K.run.past K.run.first book.old.history book.new.history input.now) }
     ensures refusals { IfErr result (λ refusal. (refusal ≡ OutOfMemory)
-        ⊎ IsRefusedAt (replay K.first book.old.history) (K.past + length book.old.history) input.now refusal) }
+        ⊎ IsRefusedAt (replay K.run.first book.old.history) (K.run.past + length book.old.history) input.now refusal) }
     ensures err { OnErr result (IsAsBefore book.old book.new) }
 {
     for _ in rt.forever() {
@@ -58,12 +56,10 @@ fn attempt<K: Run, R: Wait>(
     seat: &mut Seat<K>,
     input: &Input,
 ) -> Result<Done, Refusal>
-    requires input { IsInput K.first.scale input.now }
-    requires reader { seat.old.reader.cells ≡ K.cells }
-    ensures reader { seat.new.reader.cells ≡ K.cells }
-    ensures commits { IfOk result (IsNextCommit K.past K.first book.old.history book.new.history input.now) }
+    requires input { IsInput K.run.first.scale input.now }
+    ensures commits { IfOk result (IsNextCommit K.run.past K.run.first book.old.history book.new.history input.now) }
     ensures refusals { IfErr result (λ refusal. (refusal ≡ Stale) ⊎ (refusal ≡ Conflict) ⊎ (refusal ≡ OutOfMemory)
-        ⊎ IsRefusedAt (replay K.first book.old.history) (K.past + length book.old.history) input.now refusal) }
+        ⊎ IsRefusedAt (replay K.run.first book.old.history) (K.run.past + length book.old.history) input.now refusal) }
     ensures err { OnErr result (IsAsBefore book.old book.new) }
 {
     let (board, cells, population) = (engine.board(), engine.cells(), engine.population());

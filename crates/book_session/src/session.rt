@@ -41,7 +41,7 @@ impl<'e, K: Run> Model for Session<'e, K> {
 
     ghost view = { λ s. record { history = s.book.value.history; dones = s.dones.items } };
 
-    ghost invariant = { λ s. IsSession K.population K.first K.past K.cells s.seat.reader s.book.value s.dones.items };
+    ghost invariant = { λ s. IsSession K.run s.book.value s.dones.items };
 }
 
 impl<'e, K: Run> Session<'e, K> {
@@ -52,10 +52,9 @@ impl<'e, K: Run> Session<'e, K> {
         engine: &'e Engine<K>,
         seat: Seat<K>,
     ) -> Session<'e, K>
-        requires reader { seat.reader.cells ≡ K.cells }
         requires only { seat.share.parts ≡ K.parts }
         requires none { seat.share.commits ≡ 0 }
-        requires begins { (K.past ≡ 0) × (K.first ≡ K.population) }
+        requires begins { (K.run.past ≡ 0) × (K.run.first ≡ K.run.population) }
         ensures { result ≡ record { history = []; dones = [] } }
     {
         let mut seat = seat;
@@ -72,7 +71,7 @@ impl<'e, K: Run> Session<'e, K> {
 
     /// The population that the run began with.
     pub fn population(&self) -> &Population
-        ensures { initial result.now ≡ K.first }
+        ensures { initial result.now ≡ K.run.first }
     {
         self.engine.population()
     }
@@ -80,10 +79,10 @@ impl<'e, K: Run> Session<'e, K> {
     /// What one narrow record holds in the committed tables, which are well-formed: its row's columns that change, as
     /// words, or nothing where it is absent. Constant time, no memory.
     pub fn record(&mut self, number: u32) -> Option<Payload>
-        requires { number < narrow_count K.first.scale }
+        requires { number < narrow_count K.run.first.scale }
         ensures same { self.new ≡ self.old }
-        ensures words { result ≡ rows (replay K.first self.old.history) number }
-        ensures well_formed { IsWellFormed (replay K.first self.old.history) }
+        ensures words { result ≡ rows (replay K.run.first self.old.history) number }
+        ensures well_formed { IsWellFormed (replay K.run.first self.old.history) }
     {
         // The history's contract says that the committed tables are well-formed.
         let _ = self.book.history();
@@ -93,10 +92,10 @@ impl<'e, K: Run> Session<'e, K> {
 
     /// The same of a wide record: the words of a customer's C_DATA. It is always there.
     pub fn record_wide(&mut self, number: u32) -> Option<DataWords>
-        requires { (narrow_count K.first.scale ≤ number) × (number < record_count K.first.scale) }
+        requires { (narrow_count K.run.first.scale ≤ number) × (number < record_count K.run.first.scale) }
         ensures same { self.new ≡ self.old }
-        ensures words { result ≡ rows (replay K.first self.old.history) number }
-        ensures well_formed { IsWellFormed (replay K.first self.old.history) }
+        ensures words { result ≡ rows (replay K.run.first self.old.history) number }
+        ensures well_formed { IsWellFormed (replay K.run.first self.old.history) }
     {
         // The history's contract says that the committed tables are well-formed.
         let _ = self.book.history();
@@ -113,13 +112,13 @@ impl<'e, K: Run> Session<'e, K> {
     /// `OrdersFull` where its district's order numbers are used up; else `CommitsFull` at the commit cap. `OutOfMemory`
     /// at any time. A refusal leaves all as it was.
     pub fn commit<R: Wait>(&mut self, rt: &R, input: &Input) -> Result<(), Refusal>
-        requires input { IsInput K.first.scale input.now }
+        requires input { IsInput K.run.first.scale input.now }
         ensures next { OnOk result ((done : DoneValue)
-            × IsNextCommit 0 K.first self.old.history self.new.history input.now done
+            × IsNextCommit 0 K.run.first self.old.history self.new.history input.now done
             × (self.new.dones ≡ self.old.dones ++ done ∷ [])) }
         ensures count { length self.old.dones ≡ length self.old.history }
         ensures refusals { IfErr result (λ refusal. (refusal ≡ OutOfMemory)
-            ⊎ IsRefusedAt (replay K.first self.old.history) (length self.old.history) input.now refusal) }
+            ⊎ IsRefusedAt (replay K.run.first self.old.history) (length self.old.history) input.now refusal) }
         ensures err { OnErr result (self.new ≡ self.old) }
     {
         self.dones.reserve(1)?;
@@ -138,7 +137,7 @@ impl<'e, K: Run> Session<'e, K> {
 
     /// The report of the committed tables, and what was committed. Costs what `Book::report` does.
     pub fn close(self) -> Result<(Report, Vec<Done>), Refusal>
-        ensures report { IfOk result (λ closed. IsReportOf (replay K.first self.entry.history) closed.0) }
+        ensures report { IfOk result (λ closed. IsReportOf (replay K.run.first self.entry.history) closed.0) }
         ensures dones { IfOk result (λ closed. closed.1.items ≡ self.entry.dones) }
         ensures memory { IfErr result (λ refusal. refusal ≡ OutOfMemory) }
     {

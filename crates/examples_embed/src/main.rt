@@ -1,8 +1,7 @@
 //! A program of one's own: customer 3 pays 12.34, and the balance is printed, and whether all conditions hold.
 #![tactic(auto)]
 
-ghost use Rattle.book.specs.Parts.{IsOpenedAs};
-ghost use Rattle.book_session.specs.Alone.{IsAlone};
+ghost use Rattle.book.specs.Parts.{IsAlone, IsOpenedAs};
 
 use book::{Engine, Parts, Run};
 use book_session::Session;
@@ -12,8 +11,8 @@ use tables::{Input, PaymentInput, Reply, Scale, Who};
 
 /// Opens an engine of these parts, whose one terminal has the book to itself.
 fn open<K: Run, R: Wait + AllocGlobal + Print>(rt: &R, parts: Parts) -> anyhow::Result<()>
-    requires run { IsOpenedAs parts K.population K.first K.past K.cells K.board K.seed K.name K.parts }
-    requires alone { IsAlone parts }
+    requires run { IsOpenedAs parts K.run }
+    requires alone { IsAlone parts K.name K.parts }
 {
     let (engine, mut seats) = Engine::<K>::open(parts);
     let Some(seat) = seats.terminals.next() else {

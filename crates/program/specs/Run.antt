@@ -1,5 +1,5 @@
 -- What a run of the program comes to: from its words and its input to its output, its errors and its exit status.
-use Rattle.std.specs.Prelude.{◌≡◌, ◌≢◌, ◌⊎◌, ◌++◌, ◌≤◌, ℕ, Bool, false, List, [], Option, None, MatchBool}
+use Rattle.std.specs.Prelude.{◌≡◌, ◌≢◌, ◌⊎◌, ◌++◌, ℕ, Bool, false, List, [], Option, None, MatchBool}
 use Rattle.std.specs.Io.KnownBytes.{Appends}
 use Rattle.std.specs.declared.io.Error.{Error as IoError}
 use Rattle.clap.specs.Values.{kind_of}
@@ -9,8 +9,6 @@ use Rattle.money.specs.declared.refusal.Refusal.{Refusal}
 use Rattle.money.specs.declared.refusal.Refusal.TheVariants.{OutOfMemory, BadInput, Device, BadScale}
 use Rattle.tables.specs.Sizes.{Sizes, IsScale, sizes}
 use Rattle.tables.specs.Database.{Database}
-use Rattle.population_tables.specs.Plain.{IsPlain}
-use Rattle.population_tables.specs.First.{IsSeeded}
 use Rattle.conditions.specs.Report.{IsGood}
 use Rattle.conditions.specs.declared.report.Report.{Report}
 use Rattle.book.specs.Done.{Done}
@@ -28,17 +26,13 @@ use Rattle.program_files.specs.Causes.{CauseView}
 use Rattle.program.specs.Detail.{IsDetail}
 use Rattle.program.specs.Info.{IsInfoTold, IsPlainDetail, IsUntold, first_path, version_line}
 use Rattle.program_files.specs.Logs.{IsShownWith, IsCheckedWith, IsRefusedWith}
-use Rattle.program.specs.Live.{IsUnfinishedRun}
-use Rattle.program.specs.Resumed.{IsResumedDurably, IsUnfinishedResumedRun}
+use Rattle.program_live.specs.Population.{IsPopulation}
+use Rattle.program_live.specs.Live.{IsUnfinishedRun}
+use Rattle.program_live.specs.Resumed.{IsResumedDurably, IsUnfinishedResumedRun}
 
 -- the scale that options ask for
 abbrev pub scale_of : Options → Sizes
 scale_of o = sizes o.warehouses o.districts o.customers o.items o.orders o.commits
-
--- the tables that a run begins with, by the number of its population: plain where it is 0, else drawn from it
-pub record IsPopulation (number : ℕ) (s : Sizes) (t : Database) : Type 0 where
-  pub plain : number ≡ 0 → IsPlain s t
-  pub seeded : 1 ≤ number → IsSeeded s t
 
 -- the script of these bytes was answered to its end from these tables on, and this is its report
 pub record IsAnswered (t0 : Database) (bytes : List ℕ) (old new : Option (List ℕ)) (report : Report) : Type 0 where

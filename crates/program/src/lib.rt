@@ -2,13 +2,9 @@
 #![tactic(auto)]
 
 mod detail;
-mod ended;
 mod ending;
-mod guarded;
 mod info;
-mod live;
 mod memory;
-mod resuming;
 mod running;
 
 pub use ending::{USAGE_FAULT, finish};

@@ -2,9 +2,8 @@
 ghost use Rattle.std.specs.Prelude.{◌≡◌, ◌++◌, ℕ, List, Some, None, [], IfOk, IfErr, OnOk, map};
 ghost use Rattle.std.specs.Prelude.{string_bytes};
 ghost use Rattle.std.specs.Io.KnownBytes.{Appends};
-ghost use Rattle.money.specs.declared.refusal.Refusal.TheVariants.{OutOfMemory};
 ghost use Rattle.population.specs.Initial.{initial, seed_of};
-ghost use Rattle.program.specs.Run.{IsRun, IsWholeRun, IsRefusedRun, IsPopulation, scale_of};
+ghost use Rattle.program.specs.Run.{IsRun, IsWholeRun, IsRefusedRun, scale_of};
 ghost use Rattle.program.specs.Run.{IsDone, IsFailed, IsAnswered, IsBrokenOff, IsHintedAsAsked, IsToldBeside};
 ghost use Rattle.program_files.specs.Causes.{cause_of};
 ghost use Rattle.program.specs.Detail.{IsDetail};
@@ -15,14 +14,13 @@ ghost use Rattle.program.specs.Status.{IsRefusedStatus, refusal_line, WritesBegi
 use crate::detail::detail_of;
 use crate::ending::{GOOD, USAGE_FAULT, finish, finish_refused};
 use crate::info::{info, plain_detail, tell_version};
-use crate::live::live;
-use crate::resuming::go_on;
 use clap::Error;
 use clap::error::ErrorKind;
 use conditions::Report;
 use money::Refusal;
 use population::Population;
 use program_files::{Fault, report, show};
+use program_live::{go_on, population_of, run_anew};
 use program_options::{Asked, Options, ScriptOptions, Subcommand, read_words};
 use program_script::{Hints, NoHints, hinted_script};
 use program_script_hints::Hinted;
@@ -35,7 +33,6 @@ use std::rt::Files;
 use std::sync::Wait;
 use std::thread::Threads;
 use std::time::Clock;
-use tables::Scale;
 
 /// Does what the words of a command line ask for, the first of which is the program's own name, from `input` to
 /// `output`, and answers the exit status. A fault of the words, or the help that they ask for, goes to `errors`, and
@@ -209,7 +206,7 @@ fn answer_over<
         Subcommand::Run(options) if options.resume => {
             go_on(rt, alloc, population, options, output, screen)
         }
-        Subcommand::Run(options) => live(rt, alloc, population, options, output, screen),
+        Subcommand::Run(options) => run_anew(rt, alloc, population, options, output, screen),
         Subcommand::Recover(options) => show(rt, alloc, &population, options, output, screen),
         Subcommand::Check(options) => report(rt, alloc, &population, options, output, screen),
     }
@@ -266,20 +263,6 @@ fn answer_told<T: Wait, R: Read, W: Write, H: Hints>(
             Ok(report)
         }
         Err(refusal) => Err(Fault::of(refusal)),
-    }
-}
-
-/// The population of this number: the plain one for 0, else the one that is drawn from it.
-pub(crate) fn population_of(alloc: Global, scale: Scale, number: u64) -> Result<Population, Refusal>
-    ensures rows { IfOk result (λ population. IsPopulation number scale (initial population)) }
-    ensures scale { IfOk result (λ population. (initial population).scale ≡ scale) }
-    ensures seed { IfOk result (λ population. seed_of population ≡ number) }
-    ensures only_memory { IfErr result (λ refusal. refusal ≡ OutOfMemory) }
-{
-    if number == 0 {
-        Population::plain(alloc, scale)
-    } else {
-        Population::seeded(alloc, scale, number)
     }
 }
 

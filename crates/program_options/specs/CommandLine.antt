@@ -162,10 +162,14 @@ app_for (Run options) = run_app
 app_for (Recover options) = on_logs_app (codes "recover")
 app_for (Check options) = on_logs_app (codes "check")
 
+-- with the subcommands that execute transactions
+abbrev pub executing_app : App
+executing_app = with_subcommand (with_subcommand bare_app script_app.top) run_app.top
+
 -- the program's command, as clap reads it
 abbrev pub program_app : App
-program_app = with_subcommand (with_subcommand (with_subcommand (with_subcommand (with_subcommand bare_app script_app.top)
-    run_app.top) (on_logs_app (codes "recover")).top) (on_logs_app (codes "check")).top) info_app.top
+program_app = with_subcommand (with_subcommand (with_subcommand executing_app (on_logs_app (codes "recover")).top)
+    (on_logs_app (codes "check")).top) info_app.top
 
 -- the subcommand that the words of the program name, and the words after it
 abbrev pub subcommand_words : List Text → Option (Text × List Text)

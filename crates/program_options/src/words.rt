@@ -7,7 +7,7 @@ ghost use Rattle.clap.specs.declared.error.kind.ErrorKind.TheVariants.{InvalidVa
 ghost use Rattle.program_options.specs.CommandLine.{AreGiven, AreLogFiles, AreOptionsWritten, AreRecoverOptions};
 ghost use Rattle.program_options.specs.CommandLine.{AsksFor, HasApp, HasOwnOptions, IsLocal, WritesWithin};
 ghost use Rattle.program_options.specs.CommandLine.{IsOptionsRefusal, folder_option, loggers_option, subcommand_name};
-ghost use Rattle.program_options.specs.CommandLine.{info_app, number_option, on_logs_app, program_app, run_app};
+ghost use Rattle.program_options.specs.CommandLine.{executing_app, info_app, number_option, on_logs_app, program_app, run_app};
 ghost use Rattle.program_options.specs.CommandLine.{seed_option, text_in, threads_option};
 ghost use Rattle.program_options.specs.CommandLine.{with_logs as with_log_options, with_tables as with_table_options};
 
@@ -47,21 +47,23 @@ pub fn read_words(alloc: Global, words: &[String]) -> Result<Asked, Error>
 fn program<'a>(alloc: Global) -> Result<Command<'a>, AllocError>
     ensures app { IfOk result (HasApp program_app) }
 {
-    let script = script(alloc)?;
-    let run = run(alloc)?;
-    let recover = on_log_files(alloc, "recover", RECOVER)?;
-    let check = on_log_files(alloc, "check", CHECK)?;
-    let info = info(alloc)?;
-    Command::new(alloc, "tpcc")
+    let command = executing(alloc)?;
+    let command = command.subcommand(on_log_files(alloc, "recover", RECOVER)?)?;
+    let command = command.subcommand(on_log_files(alloc, "check", CHECK)?)?;
+    command.subcommand(info(alloc)?)
+}
+
+/// The program's command with the subcommands that execute transactions.
+fn executing<'a>(alloc: Global) -> Result<Command<'a>, AllocError>
+    ensures app { IfOk result (HasApp executing_app) }
+{
+    let command = Command::new(alloc, "tpcc")
         .about("TPC-C on Silo's commit, with proofs")
         .version(VERSION_LINE)
         .subcommand_required(true)
-        .arg_required_else_help(true)
-        .subcommand(script)?
-        .subcommand(run)?
-        .subcommand(recover)?
-        .subcommand(check)?
-        .subcommand(info)
+        .arg_required_else_help(true);
+    let command = command.subcommand(script(alloc)?)?;
+    command.subcommand(run(alloc)?)
 }
 
 /// What `recover` is for.

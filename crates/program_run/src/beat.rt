@@ -1,7 +1,7 @@
 //! How often a logger takes a turn.
 
 use crate::screen::Screen;
-use run_threads::{Pace, Progress};
+use run_threads::{Pace, RunProgress};
 use std::io::Write;
 use std::sync::Wait;
 use std::time::{Clock, Duration};
@@ -30,7 +30,7 @@ impl<'a, C: Clock + Wait, S: Write> Beat<'a, C, S> {
     }
 
     /// Waits until the next turn is due: an interval at the longest, and a whole one where the clock can't be read.
-    fn wait(&mut self, progress: &Progress, signals: u64) {
+    fn wait(&mut self, progress: &RunProgress, signals: u64) {
         let left = match self.clock.monotonic() {
             Ok(now) => self.due.saturating_sub(now).min(self.interval),
             Err(_) => self.interval,
@@ -40,7 +40,7 @@ impl<'a, C: Clock + Wait, S: Write> Beat<'a, C, S> {
 }
 
 impl<'a, C: Clock + Wait, S: Write> Pace for Beat<'a, C, S> {
-    fn pause(&mut self, progress: &Progress, signals: u64) {
+    fn pause(&mut self, progress: &RunProgress, signals: u64) {
         self.wait(progress, signals);
         let Ok(now) = self.clock.monotonic() else {
             return;
@@ -51,7 +51,7 @@ impl<'a, C: Clock + Wait, S: Write> Pace for Beat<'a, C, S> {
         }
     }
 
-    fn end(&mut self, progress: &Progress) {
+    fn end(&mut self, progress: &RunProgress) {
         if let Some(screen) = &mut self.screen {
             screen.end(self.clock.monotonic().ok(), progress);
         }

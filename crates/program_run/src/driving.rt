@@ -1,21 +1,19 @@
 //! A run from a population, or from what was restarted, to its report.
-ghost use Rattle.std.specs.Prelude.{◌≡◌, ◌<◌, ◌≤◌, length, map, IfOk, IfErr};
+ghost use Rattle.std.specs.Prelude.{◌≡◌, length, map, IfOk, IfErr};
 ghost use Rattle.money.specs.declared.refusal.Refusal.TheVariants.{OutOfMemory};
-ghost use Rattle.tables.specs.declared.limits.TheConstants.{MAX_LOGGERS, MAX_TERMINALS};
-ghost use Rattle.population.specs.Initial.{initial};
-ghost use Rattle.book.specs.Parts.{IsFresh, IsOpenedAs, base_of, first_of, past_of, loggers_of, terminals_of};
+ghost use Rattle.book.specs.Parts.{IsFresh, IsOpenedAs, IsLedgerOf, base_of, first_of, past_of, loggers_of, terminals_of};
 ghost use Rattle.program_run.specs.Outfit.{AreLogsOf};
 ghost use Rattle.program_run.specs.Told.{AreCounts, IsBrokenBy, IsDriven};
 
-use crate::outfit::{OpenLog, manned, stations};
+use crate::outfit::{manned, stations};
 use crate::shortfall::{Shortfall, shortfall_of};
 use crate::telling::ran;
 use book::{Engine, Parts, Run, Seats};
 use conditions::Report;
 use log_disk::Disk;
+use logfile::LogFile;
 use money::Refusal;
-use population::Population;
-use run_threads::{Desks, Outcome, Pace, run};
+use run_threads::{Desks, Outcome, Pace, Paced, run};
 use std::alloc::Global;
 use std::io::Write;
 use std::marker::Brand;
@@ -26,7 +24,7 @@ use terminals::Gate;
 
 /// What terminals there are, and what they do.
 #[derive(Clone, Copy, Debug, PartialEq, Eq)]
-pub struct Plan {
+pub struct RunPlan {
     /// How many terminals, 1 to 16.
     pub terminals: u16,
     /// How many inputs each has.
@@ -67,54 +65,15 @@ impl From<Broken> for Refusal {
     }
 }
 
-/// Runs an engine over the population, with new log files that are open, as `created` gives them: one for each logger,
-/// in their order; and with a gate for each terminal; and writes what came of it, as `drive_on` does. The records are
-/// made first. May wait, as `run_threads::run` does.
-///
-/// # Errors
-///
-/// As `drive_on`.
-pub fn drive_new<
-    D: Disk + Send + Drop,
-    P: Pace + Send + Drop,
-    G: Gate + Send + Drop,
-    W: Write,
-    R: Threads + Wait + Sync,
->(
-    rt: &R,
-    alloc: Global,
-    population: Population,
-    logs: Vec<OpenLog<D, P>>,
-    gates: Vec<G>,
-    plan: &Plan,
-    writer: &mut W,
-) -> Result<Driven, Broken>
-    requires loggers { (0 < length logs.items) × (length logs.items ≤ MAX_LOGGERS) }
-    requires logs { AreLogsOf (length logs.items) 0 (map (λ log. log.file) logs.items) }
-    requires terminals { (0 < plan.now.terminals) × (plan.now.terminals ≤ MAX_TERMINALS) }
-    requires gates { length gates.items ≡ plan.now.terminals }
-    ensures ran { IfOk result (IsDriven 0 (initial population) plan.now.terminals plan.now.inputs
-        (W.contents writer.old) (W.contents writer.new)) }
-    ensures broken { IfErr result (IsBrokenBy 0 (initial population) plan.now.terminals plan.now.inputs
-        (W.contents writer.old) (W.contents writer.new)) }
-{
-    let loggers = logs.len() as u16;
-    let parts = match Parts::new(rt, alloc, population, loggers, plan.terminals) {
-        Ok(parts) => parts,
-        Err(refusal) => return Err(Broken::Unrun(refusal)),
-    };
-    drive_on(rt, alloc, parts, logs, gates, plan, writer)
-}
-
 /// Runs an engine of these parts, with log files that are open, one for each logger, in their order, each at the mark
-/// at which the parts begin, and a gate for each terminal; and writes what came of it, as `ran` does. So goes on what
-/// was restarted. May wait, as `run_threads::run` does.
+/// at which the parts begin, as `created` gives new ones, and `restart` those that go on; and with a gate for each
+/// terminal; and writes what came of it, as `ran` does. May wait, as `run_threads::run` does.
 ///
 /// # Errors
 ///
 /// `Unrun` by `OutOfMemory`: then no input runs, and nothing is written. `Untold` as `ran`. A disk that fails stops its
 /// logger.
-pub fn drive_on<
+pub fn drive<
     D: Disk + Send + Drop,
     P: Pace + Send + Drop,
     G: Gate + Send + Drop,
@@ -124,13 +83,13 @@ pub fn drive_on<
     rt: &R,
     alloc: Global,
     parts: Parts,
-    logs: Vec<OpenLog<D, P>>,
+    logs: Vec<Paced<LogFile<D>, P>>,
     gates: Vec<G>,
-    plan: &Plan,
+    plan: &RunPlan,
     writer: &mut W,
 ) -> Result<Driven, Broken>
     requires fresh { IsFresh parts }
-    requires logs { AreLogsOf (loggers_of parts) (base_of parts) (map (λ log. log.file) logs.items) }
+    requires logs { AreLogsOf (loggers_of parts) (base_of parts) (map (λ log. log.inner) logs.items) }
     requires terminals { terminals_of parts ≡ plan.now.terminals }
     requires gates { length gates.items ≡ plan.now.terminals }
     ensures ran { IfOk result (IsDriven (past_of parts) (first_of parts) plan.now.terminals plan.now.inputs
@@ -153,18 +112,19 @@ fn drive_parts<
     rt: &R,
     alloc: Global,
     parts: Parts,
-    logs: Vec<OpenLog<D, P>>,
+    logs: Vec<Paced<LogFile<D>, P>>,
     gates: Vec<G>,
-    plan: &Plan,
+    plan: &RunPlan,
     writer: &mut W,
 ) -> Result<Driven, Broken>
-    requires run { IsOpenedAs parts K.population K.first K.past K.cells K.board K.seed K.name K.parts }
-    requires logs { AreLogsOf (loggers_of parts) (base_of parts) (map (λ log. log.file) logs.items) }
+    requires run { IsOpenedAs parts K.run }
+    requires ledger { IsLedgerOf parts K.name K.parts }
+    requires logs { AreLogsOf (loggers_of parts) (base_of parts) (map (λ log. log.inner) logs.items) }
     requires terminals { terminals_of parts ≡ plan.now.terminals }
     requires gates { length gates.items ≡ plan.now.terminals }
-    ensures ran { IfOk result (IsDriven K.past K.first plan.now.terminals plan.now.inputs
+    ensures ran { IfOk result (IsDriven K.run.past K.run.first plan.now.terminals plan.now.inputs
         (W.contents writer.old) (W.contents writer.new)) }
-    ensures broken { IfErr result (IsBrokenBy K.past K.first plan.now.terminals plan.now.inputs
+    ensures broken { IfErr result (IsBrokenBy K.run.past K.run.first plan.now.terminals plan.now.inputs
         (W.contents writer.old) (W.contents writer.new)) }
 {
     let made = match run_parts::<K, D, P, G, R>(rt, alloc, parts, logs, gates, plan) {
@@ -180,7 +140,7 @@ fn drive_parts<
     Ok(Driven { report, shortfall })
 }
 
-/// Runs an engine of these parts, as `drive_on` does, and answers what came of it, with the scale of its database. May
+/// Runs an engine of these parts, as `drive` does, and answers what came of it, with the scale of its database. May
 /// wait, as `run_threads::run` does. `OutOfMemory` is the only refusal; then no input runs.
 pub fn run_parts<
     K: Run + Send + Sync,
@@ -192,17 +152,18 @@ pub fn run_parts<
     rt: &R,
     alloc: Global,
     parts: Parts,
-    logs: Vec<OpenLog<D, P>>,
+    logs: Vec<Paced<LogFile<D>, P>>,
     gates: Vec<G>,
-    plan: &Plan,
+    plan: &RunPlan,
 ) -> Result<(Outcome<K, D>, Scale), Refusal>
-    requires run { IsOpenedAs parts K.population K.first K.past K.cells K.board K.seed K.name K.parts }
-    requires logs { AreLogsOf (loggers_of parts) (base_of parts) (map (λ log. log.file) logs.items) }
+    requires run { IsOpenedAs parts K.run }
+    requires ledger { IsLedgerOf parts K.name K.parts }
+    requires logs { AreLogsOf (loggers_of parts) (base_of parts) (map (λ log. log.inner) logs.items) }
     requires terminals { terminals_of parts ≡ plan.now.terminals }
     requires gates { length gates.items ≡ plan.now.terminals }
     ensures counted { IfOk result
-        (λ x. AreCounts K.past K.first plan.now.terminals plan.now.inputs x.0.closed x.0.tallies.items x.0.counts) }
-    ensures scale { IfOk result (λ x. x.1 ≡ K.first.scale) }
+        (λ x. AreCounts K.run.past K.run.first plan.now.terminals plan.now.inputs x.0.closed x.0.tallies.items x.0.counts) }
+    ensures scale { IfOk result (λ x. x.1 ≡ K.run.first.scale) }
     ensures only_memory { IfErr result (λ refusal. refusal ≡ OutOfMemory) }
 {
     let (engine, seats) = Engine::<K>::open(parts);

@@ -13,8 +13,8 @@ mod waits;
 
 pub use alarm::Alarm;
 pub use beat::Beat;
-pub use driving::{Broken, Driven, Plan, drive_new, drive_on, run_parts};
-pub use outfit::{OpenLog, Slot, created};
+pub use driving::{Broken, Driven, RunPlan, drive, run_parts};
+pub use outfit::created;
 pub use screen::Screen;
 pub use shortfall::Shortfall;
 pub use stopwatch::Stopwatch;

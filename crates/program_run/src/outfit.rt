@@ -14,25 +14,11 @@ use log_header::Header;
 use logfile::LogFile;
 use logger::Logger;
 use money::Refusal;
-use run_threads::{Log, Pace, Station};
+use run_threads::{Pace, Paced, Station};
 use std::alloc::{AllocError, Global};
 use tables::Scale;
 use terminals::Gate;
 use terminals_deck::{Deck, Settings};
-
-/// A disk for a log file, and how its logger waits between its turns.
-#[derive(Drop)]
-pub struct Slot<D: Disk, P: Pace> {
-    pub disk: D,
-    pub pace: P,
-}
-
-/// A log file that is open, and how its logger waits between its turns.
-#[derive(Drop)]
-pub struct OpenLog<D: Disk, P: Pace> {
-    pub file: LogFile<D>,
-    pub pace: P,
-}
 
 /// A station for each of so many terminals: a deck of its own, drawn from the seed, and its gate.
 pub(crate) fn stations<G: Gate + Drop>(
@@ -67,11 +53,11 @@ pub fn created<D: Disk + Drop, P: Pace + Drop>(
     alloc: Global,
     scale: Scale,
     seed: u64,
-    slots: Vec<Slot<D, P>>,
-) -> Result<Vec<OpenLog<D, P>>, Refusal>
+    slots: Vec<Paced<D, P>>,
+) -> Result<Vec<Paced<LogFile<D>, P>>, Refusal>
     requires few { length slots.items ≤ MAX_LOGGERS }
-    requires empty { D.is_modelled → All (λ slot. D.seen slot.disk ≡ []) slots.items }
-    ensures logs { IfOk result (λ logs. AreLogsOf (length slots.items) 0 (map (λ log. log.file) logs.items)) }
+    requires empty { D.is_modelled → All (λ slot. D.seen slot.inner ≡ []) slots.items }
+    ensures logs { IfOk result (λ logs. AreLogsOf (length slots.items) 0 (map (λ log. log.inner) logs.items)) }
     ensures cause { IfErr result (λ refusal. (refusal ≢ OutOfMemory) → refusal ≡ Device) }
 {
     let loggers = slots.len() as u16;
@@ -87,16 +73,16 @@ pub fn created<D: Disk + Drop, P: Pace + Drop>(
 fn new_log<D: Disk + Drop, P: Pace + Drop>(
     alloc: Global,
     header: Header,
-    slot: Slot<D, P>,
-) -> Result<OpenLog<D, P>, Refusal>
-    requires empty { D.is_modelled → D.seen slot.disk ≡ [] }
-    ensures own { IfOk result (λ log. (log.file.header
-        ≡ header_view header.logger header.loggers header.scale header.seed) × (log.file.last.mark ≡ 0)) }
+    slot: Paced<D, P>,
+) -> Result<Paced<LogFile<D>, P>, Refusal>
+    requires empty { D.is_modelled → D.seen slot.inner ≡ [] }
+    ensures own { IfOk result (λ log. (log.inner.header
+        ≡ header_view header.logger header.loggers header.scale header.seed) × (log.inner.last.mark ≡ 0)) }
     ensures cause { IfErr result (λ refusal. (refusal ≢ OutOfMemory) → refusal ≡ Device) }
 {
-    let Slot { disk, pace } = slot;
-    let file = LogFile::create(alloc, disk, header)?;
-    Ok(OpenLog { file, pace })
+    let Paced { inner: disk, pace } = slot;
+    let inner = LogFile::create(alloc, disk, header)?;
+    Ok(Paced { inner, pace })
 }
 
 /// The loggers of these seats, each with its log file, in the order of their numbers.
@@ -104,11 +90,11 @@ pub(crate) fn manned<D: Disk + Drop, P: Pace + Drop>(
     alloc: Global,
     board: &Board,
     seats: Vec<LoggerSeat>,
-    logs: Vec<OpenLog<D, P>>,
-) -> Result<Vec<Log<D, P>>, AllocError>
+    logs: Vec<Paced<LogFile<D>, P>>,
+) -> Result<Vec<Paced<Logger<D>, P>>, AllocError>
     requires seats { seats.items ≡ logger_seats board.now board.now.plan.loggers }
-    requires logs { AreLogsOf board.now.plan.loggers board.now.plan.base (map (λ log. log.file) logs.items) }
-    ensures own { IfOk result (λ manned. All (λ log. log.logger.seat.board ≡ board.now) manned.items) }
+    requires logs { AreLogsOf board.now.plan.loggers board.now.plan.base (map (λ log. log.inner) logs.items) }
+    ensures own { IfOk result (λ manned. All (λ log. log.inner.seat.board ≡ board.now) manned.items) }
 {
     let (mut seats, mut logs) = (seats, logs);
     let mut manned = Vec::new(alloc);
@@ -123,15 +109,15 @@ pub(crate) fn manned<D: Disk + Drop, P: Pace + Drop>(
 }
 
 /// The logger of this seat, with its log file.
-fn log_of<D: Disk, P: Pace>(seat: LoggerSeat, log: OpenLog<D, P>) -> Log<D, P>
-    requires seat { seat ≡ new_seat seat.board (logger_role log.file.header.logger) }
-    requires loggers { seat.board.plan.loggers ≡ log.file.header.loggers }
-    requires base { seat.board.plan.base ≡ log.file.last.mark }
-    ensures own { result.logger.seat.board ≡ seat.board }
+fn log_of<D: Disk, P: Pace>(seat: LoggerSeat, log: Paced<LogFile<D>, P>) -> Paced<Logger<D>, P>
+    requires seat { seat ≡ new_seat seat.board (logger_role log.inner.header.logger) }
+    requires loggers { seat.board.plan.loggers ≡ log.inner.header.loggers }
+    requires base { seat.board.plan.base ≡ log.inner.last.mark }
+    ensures own { result.inner.seat.board ≡ seat.board }
 {
-    let OpenLog { file, pace } = log;
-    Log {
-        logger: Logger::new(file, seat),
+    let Paced { inner: file, pace } = log;
+    Paced {
+        inner: Logger::new(file, seat),
         pace,
     }
 }

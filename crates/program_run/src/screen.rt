@@ -3,7 +3,7 @@
 use crate::alarm::Alarm;
 use crate::waits::Waits;
 use program_streams::ScreenLine;
-use run_threads::Progress;
+use run_threads::RunProgress;
 use std::alloc::{AllocError, Global};
 use std::io::{Error, Write};
 use std::time::Duration;
@@ -53,7 +53,7 @@ impl<'a, S: Write> Screen<'a, S> {
 
     /// Shows how far the run is at this time, if a line is due; and at once which log files can't be written any
     /// longer.
-    pub fn show(&mut self, now: Duration, progress: &Progress) {
+    pub fn show(&mut self, now: Duration, progress: &RunProgress) {
         self.tell_alarms(progress);
         if self.line.is_due(now) {
             self.rewrite(now, progress);
@@ -62,7 +62,7 @@ impl<'a, S: Write> Screen<'a, S> {
 
     /// Leaves the summary of the run at its end, if anything stands there, and ends the line. Where the time isn't
     /// known, the line stays as it is.
-    pub fn end(&mut self, now: Option<Duration>, progress: &Progress) {
+    pub fn end(&mut self, now: Option<Duration>, progress: &RunProgress) {
         self.tell_alarms(progress);
         if !self.line.is_shown() {
             return;
@@ -74,7 +74,7 @@ impl<'a, S: Write> Screen<'a, S> {
     }
 
     /// Tells which log files can't be written any longer, of which that wasn't told yet.
-    fn tell_alarms(&mut self, progress: &Progress) {
+    fn tell_alarms(&mut self, progress: &RunProgress) {
         for (logger, alarm) in self.alarms.iter().enumerate() {
             let Some(error) = alarm.take() else {
                 continue;
@@ -87,8 +87,8 @@ impl<'a, S: Write> Screen<'a, S> {
     }
 
     /// Writes the line anew.
-    fn rewrite(&mut self, now: Duration, progress: &Progress) {
-        let numbers = Numbers::of(progress);
+    fn rewrite(&mut self, now: Duration, progress: &RunProgress) {
+        let numbers = Figures::of(progress);
         let since = millis(self.line.since(), now);
         let rate = per_second(numbers.commits.saturating_sub(self.commits), since);
         let Ok(text) = numbers.text(self.alloc, rate) else {
@@ -99,7 +99,7 @@ impl<'a, S: Write> Screen<'a, S> {
     }
 
     /// Writes the summary of a run that ends now.
-    fn sum_up(&mut self, now: Duration, progress: &Progress) {
+    fn sum_up(&mut self, now: Duration, progress: &RunProgress) {
         let millis = millis(self.began, now);
         let Ok(waits) = self.waits.text(self.alloc) else {
             return;
@@ -159,7 +159,7 @@ fn per_second(count: u64, millis: u64) -> u64 {
 
 /// The numbers of a line.
 #[derive(Clone, Copy, Debug)]
-struct Numbers {
+struct Figures {
     durable: u64,
     acknowledged: u64,
     epoch: u64,
@@ -167,10 +167,10 @@ struct Numbers {
     inputs: u64,
 }
 
-impl Numbers {
+impl Figures {
     /// How far a run is. The numbers are read in such an order that none is ahead of what it is a part of.
-    fn of(progress: &Progress) -> Numbers {
-        Numbers {
+    fn of(progress: &RunProgress) -> Figures {
+        Figures {
             durable: progress.durable(),
             acknowledged: progress.acknowledged(),
             epoch: progress.epoch(),
@@ -181,7 +181,7 @@ impl Numbers {
 
     /// The text of a line.
     fn text(&self, alloc: Global, rate: u64) -> Result<String, AllocError> {
-        let Numbers {
+        let Figures {
             durable,
             acknowledged,
             epoch,

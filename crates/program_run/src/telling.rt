@@ -29,9 +29,9 @@ pub fn ran<K: Run, D: Disk, W: Write>(
     writer: &mut W,
 ) -> Result<Report, Refusal>
     ensures same { outcome.new ≡ outcome.old }
-    ensures told { IfOk result (IsTold (replay K.first outcome.old.closed) outcome.old.counts
+    ensures told { IfOk result (IsTold (replay K.run.first outcome.old.closed) outcome.old.counts
         (W.contents writer.old) (W.contents writer.new)) }
-    ensures cut_short { IfErr result (IsCutShort (replay K.first outcome.old.closed) outcome.old.counts
+    ensures cut_short { IfErr result (IsCutShort (replay K.run.first outcome.old.closed) outcome.old.counts
         (W.contents writer.old) (W.contents writer.new)) }
 {
     let report = outcome.closed.report(alloc)?;

@@ -36,8 +36,8 @@ pub fn answer_line<K: Run, R: Wait>(
     ensures turn { OnOk result ((answer : AnswerValue)
         × IsPrinted (string_bytes output.old) answer (string_bytes output.new)
         × ((bytes : List ℕ) → option_copied line.entry ≡ buffered bytes
-        → IsLineTurn (state_of K.first session.old) number bytes
-        (record { answer = answer; state = state_of K.first session.new }))) }
+        → IsLineTurn (state_of K.run.first session.old) number bytes
+        (record { answer = answer; state = state_of K.run.first session.new }))) }
 {
     let Some(text) = line else {
         return refuse(Refusal::BadLine, number, output);
@@ -60,8 +60,8 @@ fn answer_request<K: Run, R: Wait>(
     ensures memory { IfErr result (λ refusal. refusal ≡ OutOfMemory) }
     ensures turn { OnOk result ((answer : AnswerValue)
         × IsPrinted (string_bytes output.old) answer (string_bytes output.new)
-        × IsRequestTurn (state_of K.first session.old) number request
-        (record { answer = answer; state = state_of K.first session.new })) }
+        × IsRequestTurn (state_of K.run.first session.old) number request
+        (record { answer = answer; state = state_of K.run.first session.new })) }
 {
     let scale = session.population().scale();
     match in_range(&scale, request) {
@@ -91,12 +91,12 @@ fn commit<K: Run, R: Wait>(
     number: u32,
     output: &mut String,
 ) -> Result<Option<Refusal>, Refusal>
-    requires { IsInput K.first.scale input.now }
+    requires { IsInput K.run.first.scale input.now }
     ensures memory { IfErr result (λ refusal. refusal ≡ OutOfMemory) }
     ensures turn { OnOk result ((answer : AnswerValue)
         × IsPrinted (string_bytes output.old) answer (string_bytes output.new)
-        × IsInputTurn (state_of K.first session.old) number input.now
-        (record { answer = answer; state = state_of K.first session.new })) }
+        × IsInputTurn (state_of K.run.first session.old) number input.now
+        (record { answer = answer; state = state_of K.run.first session.new })) }
 {
     match session.commit(rt, input) {
         Ok(()) => tell_last(session.dones(), output),

@@ -7,7 +7,7 @@ ghost use Rattle.money.specs.declared.refusal.Refusal.TheVariants.{OutOfMemory, 
 ghost use Rattle.population.specs.Initial.{initial};
 ghost use Rattle.program_script_text.specs.Lines.{buffered};
 ghost use Rattle.program_script_text.specs.Output.{answer_text};
-ghost use Rattle.book.specs.Parts.{IsOpenedAs, first_of, past_of, population_of, terminals_of};
+ghost use Rattle.book.specs.Parts.{IsAlone, IsOpenedAs};
 ghost use Rattle.program_script.specs.Hints.{TellsMore};
 ghost use Rattle.program_script.specs.Turns.{Turn, IsLineTurn};
 ghost use Rattle.program_script.specs.Written.{HasTooManyLines, IsWhole, IsBeginning};
@@ -101,12 +101,11 @@ fn run<K: Run, R: Read, W: Write, T: Wait, H: Hints>(
     writer: &mut W,
     hints: &mut H,
 ) -> Result<(Report, Vec<Done>), Refusal>
-    requires run { IsOpenedAs parts K.population K.first K.past K.cells K.board K.seed K.name K.parts }
-    requires one { terminals_of parts ≡ 1 }
-    requires begins { (past_of parts ≡ 0) × (first_of parts ≡ population_of parts) }
-    ensures whole { IfOk result (λ closed. WritesWhole K.first (R.remaining reader.old)
+    requires run { IsOpenedAs parts K.run }
+    requires alone { IsAlone parts K.name K.parts }
+    ensures whole { IfOk result (λ closed. WritesWhole K.run.first (R.remaining reader.old)
         (W.contents writer.old) (W.contents writer.new) closed.0 closed.1.items) }
-    ensures beginning { OnErr result (WritesFront K.first (R.remaining reader.old)
+    ensures beginning { OnErr result (WritesFront K.run.first (R.remaining reader.old)
         (W.contents writer.old) (W.contents writer.new)) }
     ensures too_many { IsErrOf result BadInput → (bytes : List ℕ)
         → R.remaining reader.old ≡ Some bytes → HasTooManyLines bytes }
@@ -139,11 +138,10 @@ impl<'e, K: Run> Desk<'e, K> {
         engine: &'e Engine<K>,
         seat: Seat<K>,
     ) -> Result<Desk<'e, K>, Refusal>
-        requires reader { seat.reader.cells ≡ K.cells }
         requires only { seat.share.parts ≡ K.parts }
         requires none { seat.share.commits ≡ 0 }
-        requires begins { (K.past ≡ 0) × (K.first ≡ K.population) }
-        ensures start { IfOk result (λ desk. HasAnswered K.first [] [] (standing_of desk)) }
+        requires begins { (K.run.past ≡ 0) × (K.run.first ≡ K.run.population) }
+        ensures start { IfOk result (λ desk. HasAnswered K.run.first [] [] (standing_of desk)) }
         ensures memory { IfErr result (λ refusal. refusal ≡ OutOfMemory) }
     {
         Ok(Desk {
@@ -164,10 +162,10 @@ impl<'e, K: Run> Desk<'e, K> {
         writer: &mut W,
         hints: &mut H,
     ) -> Result<(Report, Vec<Done>), Refusal>
-        requires start { HasAnswered K.first [] [] (standing_of self) }
-        ensures whole { IfOk result (λ closed. WritesWhole K.first (R.remaining reader.old)
+        requires start { HasAnswered K.run.first [] [] (standing_of self) }
+        ensures whole { IfOk result (λ closed. WritesWhole K.run.first (R.remaining reader.old)
             (W.contents writer.old) (W.contents writer.new) closed.0 closed.1.items) }
-        ensures beginning { OnErr result (WritesFront K.first (R.remaining reader.old)
+        ensures beginning { OnErr result (WritesFront K.run.first (R.remaining reader.old)
             (W.contents writer.old) (W.contents writer.new)) }
         ensures too_many { IsErrOf result BadInput → (bytes : List ℕ)
             → R.remaining reader.old ≡ Some bytes → HasTooManyLines bytes }
@@ -192,16 +190,16 @@ impl<'e, K: Run> Desk<'e, K> {
     ) -> Result<(), Refusal>
         requires { 0 < length piece.old }
         ensures all { OnOk result ((bytes : List ℕ) → R.remaining reader.old ≡ Some bytes
-            → HasAnswered K.first [] [] (standing_of self.old) → (written : List ℕ)
+            → HasAnswered K.run.first [] [] (standing_of self.old) → (written : List ℕ)
             × Appends (W.contents writer.old) (W.contents writer.new) written
-            × HasAnsweredAll K.first bytes written (standing_of self.new)) }
+            × HasAnsweredAll K.run.first bytes written (standing_of self.new)) }
         ensures beginning { OnErr result ((bytes : List ℕ) → R.remaining reader.old ≡ Some bytes
-            → HasAnswered K.first [] [] (standing_of self.old) → (front : List ℕ)
+            → HasAnswered K.run.first [] [] (standing_of self.old) → (front : List ℕ)
             × Appends (W.contents writer.old) (W.contents writer.new) front
-            × IsBeginning K.first bytes front) }
+            × IsBeginning K.run.first bytes front) }
         ensures too_many { IsErrOf result BadInput → (bytes : List ℕ)
             → R.remaining reader.old ≡ Some bytes
-            → HasAnswered K.first [] [] (standing_of self.old) → HasTooManyLines bytes }
+            → HasAnswered K.run.first [] [] (standing_of self.old) → HasTooManyLines bytes }
         ensures refusals { IfErr result IsScriptRefusal }
         ensures told { TellsMore (H.told hints.old) (H.told hints.new) }
     {
@@ -225,10 +223,10 @@ impl<'e, K: Run> Desk<'e, K> {
         hints: &mut H,
     ) -> Result<(), Refusal>
         ensures ok { OnOk result ((text written : List ℕ)
-            → HasAnswered K.first text written (standing_of self.old)
-            → HasAnswered K.first (text ++ piece.now) written (standing_of self.new)) }
+            → HasAnswered K.run.first text written (standing_of self.old)
+            → HasAnswered K.run.first (text ++ piece.now) written (standing_of self.new)) }
         ensures too_many { IsErrOf result BadInput → (text written : List ℕ)
-            → HasAnswered K.first text written (standing_of self.old)
+            → HasAnswered K.run.first text written (standing_of self.old)
             → HasTooMany (text ++ piece.now) }
         ensures refusals { IfErr result (λ refusal. (refusal ≡ OutOfMemory)
             ⊎ (refusal ≡ BadInput)) }
@@ -245,10 +243,10 @@ impl<'e, K: Run> Desk<'e, K> {
     /// Answers a last line that no line feed ends.
     fn answer_last<T: Wait, H: Hints>(&mut self, rt: &T, hints: &mut H) -> Result<(), Refusal>
         ensures ok { OnOk result ((text written : List ℕ)
-            → HasAnswered K.first text written (standing_of self.old)
-            → HasAnsweredAll K.first text written (standing_of self.new)) }
+            → HasAnswered K.run.first text written (standing_of self.old)
+            → HasAnsweredAll K.run.first text written (standing_of self.new)) }
         ensures too_many { IsErrOf result BadInput → (text written : List ℕ)
-            → HasAnswered K.first text written (standing_of self.old) → HasTooManyLines text }
+            → HasAnswered K.run.first text written (standing_of self.old) → HasTooManyLines text }
         ensures refusals { IfErr result (λ refusal. (refusal ≡ OutOfMemory)
             ⊎ (refusal ≡ BadInput)) }
         ensures told { TellsMore (H.told hints.old) (H.told hints.new) }
@@ -263,8 +261,8 @@ impl<'e, K: Run> Desk<'e, K> {
     /// Answers the line that is held.
     fn answer_held<T: Wait, H: Hints>(&mut self, rt: &T, hints: &mut H) -> Result<(), Refusal>
         ensures turn { OnOk result ((bytes : List ℕ) → self.old.line ≡ buffered bytes → (turn : Turn)
-            × IsLineTurn (state_of K.first self.old.session) (self.old.answered + 1) bytes turn
-            × (state_of K.first self.new.session ≡ turn.state)
+            × IsLineTurn (state_of K.run.first self.old.session) (self.old.answered + 1) bytes turn
+            × (state_of K.run.first self.new.session ≡ turn.state)
             × (string_bytes self.new.output
             ≡ string_bytes self.old.output ++ (answer_text turn.answer ++ codes "\n"))) }
         ensures count { OnOk result (self.new.answered ≡ self.old.answered + 1) }
@@ -288,9 +286,9 @@ impl<'e, K: Run> Desk<'e, K> {
     /// Writes the answers that aren't written yet.
     fn write<W: Write>(&mut self, writer: &mut W) -> Result<(), Refusal>
         ensures ok { OnOk result ((text written : List ℕ)
-            → HasAnswered K.first text written (standing_of self.old)
+            → HasAnswered K.run.first text written (standing_of self.old)
             → (more : List ℕ) × Appends (W.contents writer.old) (W.contents writer.new) more
-            × HasAnswered K.first text (written ++ more) (standing_of self.new)) }
+            × HasAnswered K.run.first text (written ++ more) (standing_of self.new)) }
         ensures err { OnErr result ((front rest : List ℕ)
             × (string_bytes self.old.output ≡ front ++ rest)
             × Appends (W.contents writer.old) (W.contents writer.new) front) }
@@ -307,13 +305,13 @@ impl<'e, K: Run> Desk<'e, K> {
     /// Writes the report behind the last answers.
     fn close<W: Write>(self, writer: &mut W) -> Result<(Report, Vec<Done>), Refusal>
         ensures whole { IfOk result (λ closed. (bytes written : List ℕ)
-            → HasAnsweredAll K.first bytes written (standing_of self.entry) → (more : List ℕ)
+            → HasAnsweredAll K.run.first bytes written (standing_of self.entry) → (more : List ℕ)
             × Appends (W.contents writer.old) (W.contents writer.new) more
-            × IsWhole K.first bytes (written ++ more) closed.0 closed.1.items) }
+            × IsWhole K.run.first bytes (written ++ more) closed.0 closed.1.items) }
         ensures beginning { OnErr result ((bytes written : List ℕ)
-            → HasAnsweredAll K.first bytes written (standing_of self.entry) → (more : List ℕ)
+            → HasAnsweredAll K.run.first bytes written (standing_of self.entry) → (more : List ℕ)
             × Appends (W.contents writer.old) (W.contents writer.new) more
-            × IsBeginning K.first bytes (written ++ more)) }
+            × IsBeginning K.run.first bytes (written ++ more)) }
         ensures refusals { IfErr result (λ refusal. (refusal ≡ OutOfMemory) ⊎ (refusal ≡ Device)) }
     {
         let Desk {

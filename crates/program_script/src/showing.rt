@@ -30,9 +30,9 @@ pub(crate) fn show<K: Run>(
     session: &mut Session<'_, K>,
     key: ShowKey,
 ) -> Result<ShownRow, AllocError>
-    requires { IsShowKey K.first.scale key }
+    requires { IsShowKey K.run.first.scale key }
     ensures same { session.new ≡ session.old }
-    ensures row { IfOk result (λ row. row_of (replay K.first session.old.history) key ≡ Some row) }
+    ensures row { IfOk result (λ row. row_of (replay K.run.first session.old.history) key ≡ Some row) }
 {
     let row = match key {
         ShowKey::Warehouse(warehouse) => {
@@ -65,9 +65,9 @@ pub(crate) fn show<K: Run>(
 
 /// The row of WAREHOUSE at a key of the scale.
 fn warehouse_at<K: Run>(session: &mut Session<'_, K>, key: u32) -> Warehouse
-    requires { IsWarehouseKey K.first.scale key }
+    requires { IsWarehouseKey K.run.first.scale key }
     ensures same { session.new ≡ session.old }
-    ensures row { get (replay K.first session.old.history).warehouses key ≡ Some result }
+    ensures row { get (replay K.run.first session.old.history).warehouses key ≡ Some result }
 {
     let columns: WarehouseColumns = present_at(session, key);
     let first = first_tables(session).warehouses.get(&key).unwrap();
@@ -79,9 +79,9 @@ fn warehouse_at<K: Run>(session: &mut Session<'_, K>, key: u32) -> Warehouse
 
 /// The row of DISTRICT at a key of the scale.
 fn district_at<K: Run>(session: &mut Session<'_, K>, key: DistrictKey) -> District
-    requires { IsDistrictKey K.first.scale key }
+    requires { IsDistrictKey K.run.first.scale key }
     ensures same { session.new ≡ session.old }
-    ensures row { get (replay K.first session.old.history).districts key ≡ Some result }
+    ensures row { get (replay K.run.first session.old.history).districts key ≡ Some result }
 {
     let columns: DistrictColumns = present_at(session, key);
     let first = first_tables(session).districts.get(&key).unwrap();
@@ -94,9 +94,9 @@ fn district_at<K: Run>(session: &mut Session<'_, K>, key: DistrictKey) -> Distri
 
 /// The row of CUSTOMER at a key of the scale.
 fn customer_at<K: Run>(session: &mut Session<'_, K>, key: CustomerKey) -> Customer
-    requires { IsCustomerKey K.first.scale key }
+    requires { IsCustomerKey K.run.first.scale key }
     ensures same { session.new ≡ session.old }
-    ensures row { get (replay K.first session.old.history).customers key ≡ Some result }
+    ensures row { get (replay K.run.first session.old.history).customers key ≡ Some result }
 {
     let columns: CustomerColumns = present_at(session, key);
     let first = first_tables(session).customers.get(&key).unwrap();
@@ -115,9 +115,9 @@ fn text_at<K: Run>(
     session: &mut Session<'_, K>,
     key: CustomerKey,
 ) -> Result<CustomerData, AllocError>
-    requires { IsCustomerKey K.first.scale key }
+    requires { IsCustomerKey K.run.first.scale key }
     ensures same { session.new ≡ session.old }
-    ensures row { IfOk result (λ text. get (replay K.first session.old.history).texts key ≡ Some text) }
+    ensures row { IfOk result (λ text. get (replay K.run.first session.old.history).texts key ≡ Some text) }
 {
     let words = text_words(session, key);
     CustomerData::of_words(alloc, &words)
@@ -125,10 +125,10 @@ fn text_at<K: Run>(
 
 /// What the record of a customer's C_DATA holds in the committed tables, which are well-formed.
 fn text_words<K: Run>(session: &mut Session<'_, K>, key: CustomerKey) -> DataWords
-    requires { IsCustomerKey K.first.scale key }
+    requires { IsCustomerKey K.run.first.scale key }
     ensures same { session.new ≡ session.old }
-    ensures words { Some result ≡ row_at (replay K.first session.old.history) (record_key.CustomerData key) }
-    ensures well_formed { IsWellFormed (replay K.first session.old.history) }
+    ensures words { Some result ≡ row_at (replay K.run.first session.old.history) (record_key.CustomerData key) }
+    ensures well_formed { IsWellFormed (replay K.run.first session.old.history) }
 {
     let scale = session.population().scale();
     let number = number_of_key(&scale, RecordKey::CustomerData(key));
@@ -137,19 +137,19 @@ fn text_words<K: Run>(session: &mut Session<'_, K>, key: CustomerKey) -> DataWor
 
 /// The row at a key of the scale, of a table that has one at each.
 fn present_at<T: Present, K: Run>(session: &mut Session<'_, K>, key: T::Key) -> T
-    requires { IsNarrowKey K.first.scale (T.record_of key) }
+    requires { IsNarrowKey K.run.first.scale (T.record_of key) }
     ensures same { session.new ≡ session.old }
-    ensures row { T.at (replay K.first session.old.history) key ≡ Some result }
+    ensures row { T.at (replay K.run.first session.old.history) key ≡ Some result }
 {
     row_at(session, key).unwrap()
 }
 
 /// The row at a key of the scale, as its record holds it, or None where there is none.
 fn row_at<T: Row, K: Run>(session: &mut Session<'_, K>, key: T::Key) -> Option<T>
-    requires { IsNarrowKey K.first.scale (T.record_of key) }
+    requires { IsNarrowKey K.run.first.scale (T.record_of key) }
     ensures same { session.new ≡ session.old }
-    ensures row { T.at (replay K.first session.old.history) key ≡ result }
-    ensures well_formed { IsWellFormed (replay K.first session.old.history) }
+    ensures row { T.at (replay K.run.first session.old.history) key ≡ result }
+    ensures well_formed { IsWellFormed (replay K.run.first session.old.history) }
 {
     let words = words_of(session, T::key(key))?;
     T::read(&session.population().scale(), &words)
@@ -157,18 +157,18 @@ fn row_at<T: Row, K: Run>(session: &mut Session<'_, K>, key: T::Key) -> Option<T
 
 /// The tables that the run began with, which are well-formed.
 fn first_tables<'s, K: Run>(session: &'s Session<'_, K>) -> &'s Tables
-    ensures tables { database result.now ≡ K.first }
-    ensures well_formed { IsWellFormed K.first }
+    ensures tables { database result.now ≡ K.run.first }
+    ensures well_formed { IsWellFormed K.run.first }
 {
     session.population().tables()
 }
 
 /// What the record of a key holds in the committed tables, which are well-formed.
 fn words_of<K: Run>(session: &mut Session<'_, K>, key: RecordKey) -> Option<Payload>
-    requires { IsNarrowKey K.first.scale key }
+    requires { IsNarrowKey K.run.first.scale key }
     ensures same { session.new ≡ session.old }
-    ensures words { result ≡ row_at (replay K.first session.old.history) key }
-    ensures well_formed { IsWellFormed (replay K.first session.old.history) }
+    ensures words { result ≡ row_at (replay K.run.first session.old.history) key }
+    ensures well_formed { IsWellFormed (replay K.run.first session.old.history) }
 {
     let scale = session.population().scale();
     session.record(number_of_key(&scale, key))

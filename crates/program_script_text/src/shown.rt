@@ -80,7 +80,7 @@ impl Display for ShownRow {
                 row: *row,
             }
             .fmt(f),
-            ShownRow::Order { key, row } => OrderLine {
+            ShownRow::Order { key, row } => ShownOrder {
                 key: *key,
                 row: *row,
             }
@@ -145,12 +145,12 @@ impl Display for StockLine {
 
 /// A row of ORDER, or that there is none.
 #[derive(Clone, Copy)]
-struct OrderLine {
+struct ShownOrder {
     key: OrderKey,
     row: Option<Order>,
 }
 
-impl Display for OrderLine {
+impl Display for ShownOrder {
     ghost use Rattle.std.specs.Prelude.{Some};
     ghost use Rattle.std.specs.List.{join_with_byte};
     ghost use Rattle.program_script_text.specs.Output.{shown_order_words};

@@ -1,7 +1,7 @@
 //! A logger's file, and what waits to be appended to it.
 
 use crate::outcome::Written;
-use crate::progress::Progress;
+use crate::progress::RunProgress;
 use book::{Batch, Engine, Run};
 use log_disk::Disk;
 use logger::Logger;
@@ -27,7 +27,7 @@ impl<K: Run, D: Disk> Model for Appender<K, D> {
 
     ghost view = { λ a. record { logger = a.logger; waiting = a.waiting; has_stopped = a.has_stopped } };
 
-    ghost invariant = { λ a. (a.logger.seat.board ≡ K.board) × (a.number < K.board.plan.loggers)
+    ghost invariant = { λ a. (a.logger.seat.board ≡ K.run.board) × (a.number < K.run.board.plan.loggers)
         × (a.has_stopped ≡ true → a.waiting ≡ None) };
 }
 
@@ -37,7 +37,7 @@ impl<K: Run, D: Disk> Appender<K, D> {
 
     /// A logger that has taken nothing yet.
     pub(crate) fn new(logger: Logger<D>) -> Appender<K, D>
-        requires { logger.seat.board ≡ K.board }
+        requires { logger.seat.board ≡ K.run.board }
         ensures { result ≡ record { logger = logger; waiting = None; has_stopped = false } }
     {
         let number = logger.file().header().logger;
@@ -52,7 +52,7 @@ impl<K: Run, D: Disk> Appender<K, D> {
 
     /// What waits is tried again; and then, if nothing waits and the logger hasn't stopped, what it takes of the book
     /// is appended, outside the book's lock.
-    pub(crate) fn turn<R: Wait>(&mut self, rt: &R, engine: &Engine<K>, progress: &Progress)
+    pub(crate) fn turn<R: Wait>(&mut self, rt: &R, engine: &Engine<K>, progress: &RunProgress)
         ensures { Turns self.old self.new }
     {
         self.retry(engine, progress);
@@ -63,7 +63,7 @@ impl<K: Run, D: Disk> Appender<K, D> {
     }
 
     /// Tries again what waits, if something does.
-    fn retry(&mut self, engine: &Engine<K>, progress: &Progress)
+    fn retry(&mut self, engine: &Engine<K>, progress: &RunProgress)
         ensures { Retries self.old self.new }
     {
         if let Some(batch) = self.waiting.take() {
@@ -87,7 +87,7 @@ impl<K: Run, D: Disk> Appender<K, D> {
 
     /// Appends a batch: for want of memory it waits for the next turn, and when the device fails the logger stops for
     /// good. A batch that doesn't begin where the file ends is none of this file's, and stops it too.
-    fn append(&mut self, engine: &Engine<K>, batch: Batch, progress: &Progress)
+    fn append(&mut self, engine: &Engine<K>, batch: Batch, progress: &RunProgress)
         requires { IsAppenderIdle self.old }
         ensures { ComesOf batch self.old self.new }
     {

@@ -3,6 +3,8 @@
 
 mod appender;
 mod counts;
+mod crew;
+mod ending;
 mod outcome;
 mod pace;
 mod progress;
@@ -13,9 +15,10 @@ mod worker;
 mod writer;
 
 pub use counts::Counts;
+pub use crew::Desks;
 pub use outcome::{Outcome, Written};
-pub use pace::{AtOnce, Pace};
-pub use progress::Progress;
+pub use pace::{AtOnce, Pace, Paced};
+pub use progress::RunProgress;
 pub use tally::Tally;
-pub use threads::{Desks, Log, run};
+pub use threads::run;
 pub use worker::Station;

@@ -7,7 +7,7 @@ use std::time::Duration;
 /// How far a run is, as its threads tell it: each number is one that was so, and none need be of the same moment as
 /// another.
 #[derive(Drop)]
-pub struct Progress {
+pub struct RunProgress {
     inputs: AtomicU64,
     commits: AtomicU64,
     acknowledged: AtomicU64,
@@ -18,10 +18,10 @@ pub struct Progress {
     signals: AtomicU64,
 }
 
-impl Progress {
+impl RunProgress {
     /// Of a run that begins, on a board at epoch 1.
-    pub(crate) fn new() -> Progress {
-        Progress {
+    pub(crate) fn new() -> RunProgress {
+        RunProgress {
             inputs: AtomicU64::new(0),
             commits: AtomicU64::new(0),
             acknowledged: AtomicU64::new(0),

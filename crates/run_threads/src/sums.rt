@@ -5,7 +5,7 @@ ghost use Rattle.book.specs.Share.{parts_of, share_commits};
 ghost use Rattle.run_threads.specs.Tally.{commits_in};
 
 use crate::tally::Tally;
-use crate::worker::Worker;
+use crate::worker::TerminalThread;
 use book::{Engine, Run, Share};
 use terminals::Gate;
 use terminals_deck::Deck;
@@ -14,7 +14,7 @@ use terminals_deck::Deck;
 /// in their order. There is room for all three. Answers how many replies were released.
 pub(crate) fn gathered<K: Run, G: Gate + Drop>(
     engine: &Engine<K>,
-    workers: Vec<Worker<K, G>>,
+    workers: Vec<TerminalThread<K, G>>,
     tallies: &mut Vec<Tally>,
     shares: &mut Vec<Share<K>>,
     decks: &mut Vec<Deck>,

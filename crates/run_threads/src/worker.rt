@@ -4,7 +4,7 @@ ghost use Rattle.money.specs.declared.refusal.Refusal.TheVariants.{OutOfMemory};
 ghost use Rattle.run_threads.specs.Inputs.{CameOfInputs};
 ghost use Rattle.run_threads.specs.Tally.{inputs_in};
 
-use crate::progress::Progress;
+use crate::progress::RunProgress;
 use crate::tally::Tally;
 use book::{Engine, Run, Seat, Share};
 use money::Refusal;
@@ -22,7 +22,7 @@ pub struct Station<G: Gate> {
 
 /// A terminal, its gate, and what has come of its inputs. Its share has one part, and as many commits as were counted.
 #[derive(Drop)]
-pub(crate) struct Worker<K: Run, G: Gate> {
+pub(crate) struct TerminalThread<K: Run, G: Gate> {
     pub(crate) terminal: Terminal<K>,
     pub(crate) gate: G,
     pub(crate) tally: Tally,
@@ -32,7 +32,7 @@ pub(crate) struct Worker<K: Run, G: Gate> {
     ghost counted: { terminal.share.commits ≡ tally.commits },
 }
 
-impl<K: Run, G: Gate + Drop> Worker<K, G> {
+impl<K: Run, G: Gate + Drop> TerminalThread<K, G> {
     ghost use Rattle.std.specs.Prelude.{◌≡◌, ◌+◌, IfOk, IfErr};
     ghost use Rattle.board.specs.declared.rule.Role.TheVariants.{Terminal as TerminalRole};
     ghost use Rattle.board.specs.Seats.{new_seat};
@@ -42,12 +42,10 @@ impl<K: Run, G: Gate + Drop> Worker<K, G> {
         alloc: Global,
         seat: Seat<K>,
         station: Station<G>,
-    ) -> Result<Worker<K, G>, Refusal>
-        requires reader { seat.reader.cells ≡ K.cells }
-        requires board { seat.board.board ≡ K.board }
+    ) -> Result<TerminalThread<K, G>, Refusal>
         requires parts { seat.share.parts ≡ 1 }
         requires commits { seat.share.commits ≡ 0 }
-        requires deck { station.deck.scale ≡ K.first.scale }
+        requires deck { station.deck.scale ≡ K.run.first.scale }
         ensures idle { IfOk result (λ worker. inputs_in worker.tally ≡ 0) }
         ensures deck { IfOk result (λ worker. worker.terminal.deck ≡ station.deck) }
         ensures only_memory { IfErr result (λ refusal. refusal ≡ OutOfMemory) }
@@ -59,7 +57,7 @@ impl<K: Run, G: Gate + Drop> Worker<K, G> {
             share,
         } = seat;
         let outbox = Outbox::new(alloc, board, 0)?;
-        Ok(Worker {
+        Ok(TerminalThread {
             terminal: Terminal::new(reader, share, outbox, deck),
             gate,
             tally: Tally::default(),
@@ -74,13 +72,13 @@ impl<K: Run, G: Gate + Drop> Worker<K, G> {
         alloc: Global,
         engine: &Engine<K>,
         inputs: u32,
-        progress: &Progress,
+        progress: &RunProgress,
     )
         requires idle { inputs_in self.old.tally ≡ 0 }
         ensures all { inputs_in self.new.tally ≡ inputs }
-        ensures came { CameOfInputs K.past K.first self.old.terminal.deck inputs self.new.tally self.new.terminal.deck }
+        ensures came { CameOfInputs K.run.past K.run.first self.old.terminal.deck inputs self.new.tally self.new.terminal.deck }
     {
-        let Worker {
+        let TerminalThread {
             terminal,
             gate,
             tally,
@@ -98,7 +96,7 @@ impl<K: Run, G: Gate + Drop> Worker<K, G> {
         ensures commits { result.2.commits ≡ self.tally.commits }
         ensures deck { result.3 ≡ self.terminal.deck }
     {
-        let Worker {
+        let TerminalThread {
             mut terminal,
             mut gate,
             tally,
@@ -120,10 +118,10 @@ fn tally_of<K: Run, G: Gate, R: Wait>(
     terminal: &mut Terminal<K>,
     gate: &mut G,
     inputs: u32,
-    progress: &Progress,
+    progress: &RunProgress,
 ) -> Tally
     ensures all { inputs_in result ≡ inputs }
-    ensures came { CameOfInputs K.past K.first terminal.old.deck inputs result terminal.new.deck }
+    ensures came { CameOfInputs K.run.past K.run.first terminal.old.deck inputs result terminal.new.deck }
     ensures parts { terminal.new.share.parts ≡ terminal.old.share.parts }
     ensures commits { terminal.new.share.commits ≡ terminal.old.share.commits + result.commits }
 {

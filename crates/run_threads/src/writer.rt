@@ -5,7 +5,7 @@ ghost use Rattle.std.specs.Option.{ForSome};
 use crate::appender::Appender;
 use crate::outcome::Written;
 use crate::pace::Pace;
-use crate::progress::Progress;
+use crate::progress::RunProgress;
 use board::ClockSeat;
 use book::{Engine, Run};
 use log_disk::Disk;
@@ -18,7 +18,7 @@ pub(crate) struct Writer<K: Run, D: Disk, P: Pace> {
     pub(crate) appender: Appender<K, D>,
     pub(crate) clock: Option<ClockSeat>,
     pub(crate) pace: P,
-    ghost clocked: { ForSome clock (λ seat. seat.board ≡ K.board) },
+    ghost clocked: { ForSome clock (λ seat. seat.board ≡ K.run.board) },
 }
 
 impl<K: Run, D: Disk, P: Pace + Drop> Writer<K, D, P> {
@@ -26,8 +26,8 @@ impl<K: Run, D: Disk, P: Pace + Drop> Writer<K, D, P> {
 
     /// A logger that has taken nothing yet.
     pub(crate) fn new(logger: Logger<D>, pace: P, clock: Option<ClockSeat>) -> Writer<K, D, P>
-        requires logger { logger.seat.board ≡ K.board }
-        requires clock { IfSome clock (λ seat. seat.board ≡ K.board) }
+        requires logger { logger.seat.board ≡ K.run.board }
+        requires clock { IfSome clock (λ seat. seat.board ≡ K.run.board) }
         ensures logger { result.appender.logger ≡ logger }
         ensures clock { result.clock ≡ clock }
     {
@@ -39,7 +39,7 @@ impl<K: Run, D: Disk, P: Pace + Drop> Writer<K, D, P> {
     }
 
     /// Takes turns until the terminals have ended.
-    pub(crate) fn serve<R: Wait>(&mut self, rt: &R, engine: &Engine<K>, progress: &Progress) {
+    pub(crate) fn serve<R: Wait>(&mut self, rt: &R, engine: &Engine<K>, progress: &RunProgress) {
         for _ in rt.forever() {
             if progress.has_ended() {
                 break;
@@ -52,7 +52,7 @@ impl<K: Run, D: Disk, P: Pace + Drop> Writer<K, D, P> {
     /// One turn: the clock's advances E first, so that the mark of the take is the epoch before. Answers how many
     /// signals there were before the take: an advance that comes later, and that the take may have missed, is one
     /// more.
-    fn turn<R: Wait>(&mut self, rt: &R, engine: &Engine<K>, progress: &Progress) -> u64
+    fn turn<R: Wait>(&mut self, rt: &R, engine: &Engine<K>, progress: &RunProgress) -> u64
         ensures { self.new.appender.has_stopped ≡ false → self.new.appender.logger.file.failed ≡ false }
     {
         self.advance(engine, progress);
@@ -62,7 +62,7 @@ impl<K: Run, D: Disk, P: Pace + Drop> Writer<K, D, P> {
     }
 
     /// Advances E, if this logger has the clock. In the last epoch E stays.
-    fn advance(&mut self, engine: &Engine<K>, progress: &Progress) {
+    fn advance(&mut self, engine: &Engine<K>, progress: &RunProgress) {
         if let Some(clock) = &mut self.clock {
             if let Ok(epoch) = engine.board().advance(clock) {
                 progress.note_epoch(epoch);
@@ -75,7 +75,7 @@ impl<K: Run, D: Disk, P: Pace + Drop> Writer<K, D, P> {
         self,
         rt: &R,
         engine: &Engine<K>,
-        progress: &Progress,
+        progress: &RunProgress,
     ) -> Turned<K, D, P> {
         let mut writer = self;
         writer.turn(rt, engine, progress);
@@ -104,7 +104,7 @@ impl<K: Run, D: Disk, P: Pace + Drop> Turned<K, D, P> {
 
     /// What waits, for want of memory, is tried once more, and then what was committed since: memory may have been
     /// given back.
-    pub(crate) fn retry<R: Wait>(&mut self, rt: &R, engine: &Engine<K>, progress: &Progress) {
+    pub(crate) fn retry<R: Wait>(&mut self, rt: &R, engine: &Engine<K>, progress: &RunProgress) {
         if self.waits() {
             self.appender.turn(rt, engine, progress);
         }

@@ -24,10 +24,10 @@ pub(crate) fn execute_at<K: Run, R: Wait>(
     reader: &mut Reader,
     input: &Input,
 ) -> Result<Work, Refusal>
-    requires input { IsInput K.first.scale input.now }
-    requires reader { reader.old.cells ≡ K.cells }
-    ensures executed { IsExecuted K.first input.now reader.old reader.new result }
-    ensures work { IfOk result (IsWorkOf K.first K.cells reader.new) }
+    requires input { IsInput K.run.first.scale input.now }
+    requires reader { reader.old.cells ≡ K.run.cells }
+    ensures executed { IsExecuted K.run.first input.now reader.old reader.new result }
+    ensures work { IfOk result (IsWorkOf K.run.first K.run.cells reader.new) }
 {
     execute(
         rt,
@@ -47,13 +47,13 @@ pub(crate) fn commit_at<K: Run, R: Wait>(
     share: &mut Share<K>,
     work: Work,
 ) -> Result<Done, Refusal>
-    requires reader { reader.old.cells ≡ K.cells }
-    requires work { IsWorkOf K.first K.cells reader.old work }
+    requires reader { reader.old.cells ≡ K.run.cells }
+    requires work { IsWorkOf K.run.first K.run.cells reader.old work }
     ensures reader { HasGrown reader.old reader.new }
     ensures ok { IfOk result (λ done. (share.new ≡ with_commit share.old)
-        × ((book : BookView) × IsEntered K.past K.first book work.input share.old.terminal done)) }
+        × ((book : BookView) × IsEntered K.run.past K.run.first book work.input share.old.terminal done)) }
     ensures err { IfErr result (λ refusal. (share.new ≡ share.old)
-        × ((book : BookView) × IsSoundBook K.past K.first book × IsTurnedAway K.past K.first book work refusal)) }
+        × ((book : BookView) × IsSoundBook K.run.past K.run.first book × IsTurnedAway K.run.past K.run.first book work refusal)) }
 {
     commit_to(rt, engine, &mut engine.lock(rt), reader, share, work)
 }
@@ -67,14 +67,14 @@ fn commit_to<K: Run, R: Wait>(
     share: &mut Share<K>,
     work: Work,
 ) -> Result<Done, Refusal>
-    requires reader { reader.old.cells ≡ K.cells }
-    requires work { IsWorkOf K.first K.cells reader.old work }
+    requires reader { reader.old.cells ≡ K.run.cells }
+    requires work { IsWorkOf K.run.first K.run.cells reader.old work }
     ensures reader { HasGrown reader.old reader.new }
-    ensures sound { IsSoundBook K.past K.first book.old }
+    ensures sound { IsSoundBook K.run.past K.run.first book.old }
     ensures ok { IfOk result (λ done. (share.new ≡ with_commit share.old)
-        × IsEntered K.past K.first book.old work.input share.old.terminal done) }
+        × IsEntered K.run.past K.run.first book.old work.input share.old.terminal done) }
     ensures err { IfErr result (λ refusal. (share.new ≡ share.old)
-        × IsTurnedAway K.past K.first book.old work refusal) }
+        × IsTurnedAway K.run.past K.run.first book.old work refusal) }
 {
     // The contract of the history says that the book is sound.
     let _ = book.history();

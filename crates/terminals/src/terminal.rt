@@ -40,16 +40,16 @@ impl<K: Run> Model for Terminal<K> {
 
     ghost view = { λ t. record { reader = t.reader; share = t.share; outbox = t.outbox; deck = t.deck } };
 
-    ghost invariant = { λ t. (t.reader.cells ≡ K.cells) × (t.outbox.seat.board ≡ K.board)
-        × (t.deck.scale ≡ K.first.scale) };
+    ghost invariant = { λ t. (t.reader.cells ≡ K.run.cells) × (t.outbox.seat.board ≡ K.run.board)
+        × (t.deck.scale ≡ K.run.first.scale) };
 }
 
 impl<K: Run> Terminal<K> {
     /// A terminal of an engine's seat, with an outbox of that seat and a deck of inputs of its scale. Takes no memory.
     pub fn new(reader: Reader, share: Share<K>, outbox: Outbox, deck: Deck) -> Terminal<K>
-        requires reader { reader.cells ≡ K.cells }
-        requires outbox { outbox.seat.board ≡ K.board }
-        requires deck { deck.scale ≡ K.first.scale }
+        requires reader { reader.cells ≡ K.run.cells }
+        requires outbox { outbox.seat.board ≡ K.run.board }
+        requires deck { deck.scale ≡ K.run.first.scale }
         ensures { result ≡ record { reader = reader; share = share; outbox = outbox; deck = deck } }
     {
         Terminal {
@@ -101,11 +101,11 @@ impl<K: Run> Terminal<K> {
         gate: &mut G,
     ) -> Result<u64, Refusal>
         ensures deck { IsTurned self.old.deck self.new.deck }
-        ensures ok { IfOk result (HasCommitted K.past K.first self.old.deck.next self.old self.new) }
+        ensures ok { IfOk result (HasCommitted K.run.past K.run.first self.old.deck.next self.old self.new) }
         ensures err { OnErr result (HasRefused self.old self.new) }
-        ensures missing { TellsMissing K.first self.old.deck.next result }
+        ensures missing { TellsMissing K.run.first self.old.deck.next result }
         ensures tries { (tries : ℕ)
-            × AreTries K.past K.first self.old.deck.next self.old.reader self.new.reader tries result
+            × AreTries K.run.past K.run.first self.old.deck.next self.old.reader self.new.reader tries result
             × AreCalls tries result (G.calls gate.old) (G.calls gate.new) }
     {
         let input = self.deck.next(alloc)?;
@@ -134,12 +134,12 @@ impl<K: Run> Terminal<K> {
         gate: &mut G,
         input: &Input,
     ) -> Result<u64, Refusal>
-        requires input { IsInput K.first.scale input.now }
+        requires input { IsInput K.run.first.scale input.now }
         ensures deck { self.new.deck ≡ self.old.deck }
-        ensures ok { IfOk result (HasCommitted K.past K.first input.now self.old self.new) }
+        ensures ok { IfOk result (HasCommitted K.run.past K.run.first input.now self.old self.new) }
         ensures err { OnErr result (HasRefused self.old self.new) }
-        ensures missing { TellsMissing K.first input.now result }
-        ensures tried { IfErr result (IsTry K.past K.first input.now self.old.reader self.new.reader) }
+        ensures missing { TellsMissing K.run.first input.now result }
+        ensures tried { IfErr result (IsTry K.run.past K.run.first input.now self.old.reader self.new.reader) }
         ensures calls { AreCalls 1 result (G.calls gate.old) (G.calls gate.new) }
     {
         gate.before_execute();
@@ -155,7 +155,7 @@ impl<K: Run> Terminal<K> {
 
     /// Releases the replies that are durable, as `Outbox::acknowledge` does, and answers how many.
     pub fn acknowledge(&mut self, board: &Board) -> u64
-        requires { board.now ≡ K.board }
+        requires { board.now ≡ K.run.board }
         ensures reader { self.new.reader ≡ self.old.reader }
         ensures share { self.new.share ≡ self.old.share }
         ensures deck { self.new.deck ≡ self.old.deck }

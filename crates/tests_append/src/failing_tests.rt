@@ -1,6 +1,6 @@
 //! Appends to a device that fails.
 ghost use Rattle.std.specs.Prelude.{◌≡◌, ◌+◌, ◌<◌};
-ghost use Rattle.book.specs.Parts.{IsOpenedAs, loggers_of};
+ghost use Rattle.book.specs.Parts.{IsOpenedAs, IsLedgerOf, loggers_of};
 
 use book::{Parts, Run};
 use log_disk::{Disk, Memory};
@@ -44,7 +44,8 @@ fn outcome_of<K: Run, R: Wait>(
     parts: Parts,
     disk: FailingDisk<'_>,
 ) -> Result<Outcome, Refusal>
-    requires run { IsOpenedAs parts K.population K.first K.past K.cells K.board K.seed K.name K.parts }
+    requires run { IsOpenedAs parts K.run }
+    requires ledger { IsLedgerOf parts K.name K.parts }
     requires loggers { loggers_of parts ≡ 1 }
 {
     let mut stage = Stage::<K, FailingDisk<'_>>::open(alloc, parts, disk)?;

@@ -6,7 +6,7 @@ use crate::walking::{Walk, crashes, moments};
 use log_disk::Memory;
 use money::Refusal;
 use population::Population;
-use program_run::Plan;
+use program_run::RunPlan;
 use std::alloc::{AllocError, Global};
 use std::sync::Wait;
 use std::test::Fail;
@@ -41,7 +41,7 @@ fn crashed<R: Threads + Wait + Sync>(
     alloc: Global,
     loggers: u16,
     ways: Ways,
-    plan: &Plan,
+    plan: &RunPlan,
     calls: usize,
 ) -> Result<(Lived, Seen), Refusal> {
     let notes = Notes::new(alloc, COMMITS as usize)?;
@@ -53,7 +53,7 @@ fn crashed<R: Threads + Wait + Sync>(
 
 #[test]
 fn every_crash_of_a_run_is_recovered(rt: HostRuntime) -> Result<(), Fail> {
-    let plan = Plan {
+    let plan = RunPlan {
         terminals: 4,
         inputs: 45,
         seed: 1,
@@ -75,7 +75,7 @@ const LAST_SYNC: Fault = Fault {
 
 #[test]
 fn every_crash_of_a_run_whose_disk_fails_is_recovered(rt: HostRuntime) -> Result<(), Fail> {
-    let plan = Plan {
+    let plan = RunPlan {
         terminals: 4,
         inputs: 40,
         seed: 2,
@@ -198,7 +198,7 @@ fn crashed_again<R: Threads + Wait + Sync>(
     alloc: Global,
     notes: &Notes,
     tapes: &[Tape],
-    plan: &Plan,
+    plan: &RunPlan,
 ) -> Result<(usize, Seen), Refusal> {
     let (mut well, mut seen) = (0usize, Seen::default());
     for (quarters, mix) in STOPS {
@@ -214,7 +214,7 @@ fn crashed_again<R: Threads + Wait + Sync>(
 fn crashed_over_two<R: Threads + Wait + Sync>(
     rt: &R,
     alloc: Global,
-    plan: &Plan,
+    plan: &RunPlan,
 ) -> Result<(usize, Seen), Refusal> {
     let notes = Notes::new(alloc, COMMITS as usize)?;
     let mut tapes = empty(alloc, 2)?;
@@ -224,7 +224,7 @@ fn crashed_over_two<R: Threads + Wait + Sync>(
 
 #[test]
 fn every_crash_of_a_second_life_is_recovered(rt: HostRuntime) -> Result<(), Fail> {
-    let plan = Plan {
+    let plan = RunPlan {
         terminals: 3,
         inputs: 10,
         seed: 3,

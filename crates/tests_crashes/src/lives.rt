@@ -3,10 +3,11 @@ ghost use Rattle.std.specs.Prelude.{◌≡◌, ◌<◌, ◌≤◌, length, map, 
 ghost use Rattle.book.specs.Parts.{IsFresh, base_of, loggers_of, terminals_of};
 ghost use Rattle.program_run.specs.Outfit.{AreLogsOf};
 
+use book::Parts;
 use log_disk::Disk;
 use money::Refusal;
 use population::Population;
-use program_run::{Driven, Plan, created, drive_new, drive_on};
+use program_run::{Driven, RunPlan, created, drive};
 use recover_restart::{Restarted, restart};
 use std::alloc::Global;
 use std::sync::Wait;
@@ -47,7 +48,7 @@ pub(crate) fn begun<R: Threads + Wait + Sync>(
     notes: &Notes,
     tapes: &mut [Tape],
     ways: Ways,
-    plan: &Plan,
+    plan: &RunPlan,
 ) -> Result<Lived, Refusal> {
     let disks = recorded(alloc, notes, tapes, ways)?;
     let gates = tellers(alloc, notes, plan.terminals)?;
@@ -57,7 +58,8 @@ pub(crate) fn begun<R: Threads + Wait + Sync>(
     }
     let (population, mut text) = (plain(alloc)?, Vec::new(alloc));
     let logs = created(alloc, population.scale(), population.seed(), slots)?;
-    let driven = drive_new(rt, alloc, population, logs, gates, plan, &mut text)?;
+    let parts = Parts::new(rt, alloc, population, logs.len() as u16, plan.terminals)?;
+    let driven = drive(rt, alloc, parts, logs, gates, plan, &mut text)?;
     Ok(outcome_of(driven))
 }
 
@@ -68,7 +70,7 @@ pub(crate) fn resumed<R: Threads + Wait + Sync>(
     notes: &Notes,
     tapes: &mut [Tape],
     ways: Ways,
-    plan: &Plan,
+    plan: &RunPlan,
 ) -> Result<Lived, Refusal> {
     let disks = recorded(alloc, notes, tapes, ways)?;
     let gates = tellers(alloc, notes, plan.terminals)?;
@@ -81,7 +83,7 @@ fn resumed_on<R: Threads + Wait + Sync>(
     alloc: Global,
     disks: Vec<Recorded<'_>>,
     gates: Vec<Teller<'_>>,
-    plan: &Plan,
+    plan: &RunPlan,
 ) -> Result<Lived, Refusal>
     requires gates { length gates.items ≡ plan.now.terminals }
 {
@@ -103,7 +105,7 @@ fn driven_on<D: Disk + Send + Drop, R: Threads + Wait + Sync>(
     alloc: Global,
     restarted: Restarted<D>,
     gates: Vec<Teller<'_>>,
-    plan: &Plan,
+    plan: &RunPlan,
 ) -> Result<Lived, Refusal>
     requires fresh { IsFresh restarted.parts }
     requires files { AreLogsOf (loggers_of restarted.parts) (base_of restarted.parts) restarted.files.items }
@@ -113,6 +115,6 @@ fn driven_on<D: Disk + Send + Drop, R: Threads + Wait + Sync>(
     let Restarted { parts, files, .. } = restarted;
     let logs = open_logs(alloc, files)?;
     let mut text = Vec::new(alloc);
-    let driven = drive_on(rt, alloc, parts, logs, gates, plan, &mut text)?;
+    let driven = drive(rt, alloc, parts, logs, gates, plan, &mut text)?;
     Ok(outcome_of(driven))
 }

@@ -1,6 +1,6 @@
 //! An engine behind the tables that an earlier one has left: what that has committed counts, and the rest goes on.
 ghost use Rattle.std.specs.Prelude.{◌≡◌, IfOk};
-ghost use Rattle.book.specs.Parts.{IsFresh, IsOpenedAs, loggers_of};
+ghost use Rattle.book.specs.Parts.{IsFresh, IsOpenedAs, IsLedgerOf, loggers_of};
 
 use crate::lives::{earlier_life, pay, population};
 use book::{Engine, Parts, Run, Seat};
@@ -30,9 +30,7 @@ fn pay_and_take<K: Run, R: Wait>(
     engine: &Engine<K>,
     seat: &mut Seat<K>,
 ) -> Result<Taken, Refusal>
-    requires reader { seat.old.reader.cells ≡ K.cells }
-    requires loggers { K.board.plan.loggers ≡ 1 }
-    ensures { seat.new.reader.cells ≡ K.cells }
+    requires loggers { K.run.board.plan.loggers ≡ 1 }
 {
     let paid = pay(rt, alloc, engine, seat, 4)?;
     let batch = engine.lock(rt).take(engine.board(), 0);
@@ -85,7 +83,8 @@ struct Life {
 }
 
 fn later_life<K: Run, R: Wait>(rt: &R, alloc: Global, parts: Parts) -> Result<Life, Refusal>
-    requires run { IsOpenedAs parts K.population K.first K.past K.cells K.board K.seed K.name K.parts }
+    requires run { IsOpenedAs parts K.run }
+    requires ledger { IsLedgerOf parts K.name K.parts }
     requires loggers { loggers_of parts ≡ 1 }
 {
     let (engine, mut seats) = Engine::<K>::open(parts);

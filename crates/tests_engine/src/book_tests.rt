@@ -1,6 +1,6 @@
 //! Two Payments to one district, both executed before either commits, by threads that take no lock.
 ghost use Rattle.std.specs.Prelude.{◌≡◌, length};
-ghost use Rattle.book.specs.Parts.{IsOpenedAs, cells_of};
+ghost use Rattle.book.specs.Parts.{IsOpenedAs, IsLedgerOf, cells_of};
 
 use crate::engine::{Committed, Executed, both_of, commit_executed, is_good, parts, pay};
 use crate::payments::{history_row, payment_told};
@@ -54,9 +54,7 @@ fn pay_meanwhile<K: Run, R: Wait + Clock>(
     customer: u32,
     held: &AtomicU64,
     executed: &AtomicU64,
-) -> Option<Executed<K>>
-    requires reader { seat.reader.cells ≡ K.cells }
-{
+) -> Option<Executed<K>> {
     if !wait_for(rt, held, 1) {
         return None;
     }
@@ -74,16 +72,13 @@ fn pay_both<K: Run + Send + Sync, R: Threads + Wait + Clock + Sync>(
     right: Seat<K>,
     held: &AtomicU64,
     executed: &AtomicU64,
-) -> (Option<Executed<K>>, Option<Executed<K>>)
-    requires left { left.reader.cells ≡ K.cells }
-    requires right { right.reader.cells ≡ K.cells }
-{
-    let third = move || -> Option<Executed<K>>
-        requires reader { left.reader.cells ≡ K.cells }
-    { pay_meanwhile(rt, alloc, engine, left, 3, held, executed) };
-    let fourth = move || -> Option<Executed<K>>
-        requires reader { right.reader.cells ≡ K.cells }
-    { pay_meanwhile(rt, alloc, engine, right, 4, held, executed) };
+) -> (Option<Executed<K>>, Option<Executed<K>>) {
+    let third = move || -> Option<Executed<K>> {
+        pay_meanwhile(rt, alloc, engine, left, 3, held, executed)
+    };
+    let fourth = move || -> Option<Executed<K>> {
+        pay_meanwhile(rt, alloc, engine, right, 4, held, executed)
+    };
     join(rt, third, fourth)
 }
 
@@ -94,16 +89,12 @@ fn pay_both_meanwhile<K: Run + Send + Sync, R: Threads + Wait + Clock + Sync>(
     engine: &Engine<K>,
     left: Seat<K>,
     right: Seat<K>,
-) -> Option<(Executed<K>, Executed<K>)>
-    requires left { left.reader.cells ≡ K.cells }
-    requires right { right.reader.cells ≡ K.cells }
-{
+) -> Option<(Executed<K>, Executed<K>)> {
     let (held, executed) = (AtomicU64::new(0), AtomicU64::new(0));
     let (held, executed) = (&held, &executed);
-    let payers = move || -> (Option<Executed<K>>, Option<Executed<K>>)
-        requires left { left.reader.cells ≡ K.cells }
-        requires right { right.reader.cells ≡ K.cells }
-    { pay_both(rt, alloc, engine, left, right, held, executed) };
+    let payers = move || -> (Option<Executed<K>>, Option<Executed<K>>) {
+        pay_both(rt, alloc, engine, left, right, held, executed)
+    };
     let (is_executed, paid) = join(rt, move || hold(rt, engine, held, executed), payers);
     if !is_executed {
         return None;
@@ -122,9 +113,9 @@ struct Standing {
 }
 
 fn standing_of<K: Run, R: Wait>(rt: &R, engine: &Engine<K>, reader: &mut Reader) -> Standing
-    requires reader { reader.old.cells ≡ K.cells }
-    requires count { length K.cells.narrow ≡ 1085 }
-    ensures reader { reader.new.cells ≡ K.cells }
+    requires reader { reader.old.cells ≡ K.run.cells }
+    requires count { length K.run.cells.narrow ≡ 1085 }
+    ensures reader { reader.new.cells ≡ K.run.cells }
 {
     let cells = engine.cells();
     let warehouse = cells.read(rt, reader, 0);
@@ -201,7 +192,7 @@ fn commit_both<K: Run, R: Wait>(
     third: Executed<K>,
     fourth: Executed<K>,
 ) -> Commits
-    requires count { length K.cells.narrow ≡ 1085 }
+    requires count { length K.run.cells.narrow ≡ 1085 }
 {
     let (mut left, _, first) = commit_executed(rt, engine, third);
     let before = standing_of(rt, engine, &mut left.reader);
@@ -223,9 +214,7 @@ fn pay_again<K: Run, R: Wait>(
     alloc: Global,
     engine: &Engine<K>,
     seat: Seat<K>,
-) -> Result<Committed, Refusal>
-    requires reader { seat.reader.cells ≡ K.cells }
-{
+) -> Result<Committed, Refusal> {
     let executed = pay(rt, alloc, engine, seat, 4)?;
     commit_executed(rt, engine, executed).2
 }
@@ -246,9 +235,7 @@ fn outcome_of<K: Run + Send + Sync, R: Threads + Wait + Clock + Sync>(
     left: Seat<K>,
     right: Seat<K>,
 ) -> Result<Outcome, Fail>
-    requires count { length K.cells.narrow ≡ 1085 }
-    requires left { left.reader.cells ≡ K.cells }
-    requires right { right.reader.cells ≡ K.cells }
+    requires count { length K.run.cells.narrow ≡ 1085 }
 {
     let mut left = left;
     let terminals = [left.share.terminal(), right.share.terminal()];
@@ -269,7 +256,8 @@ fn pay_twice<K: Run + Send + Sync, R: Threads + Wait + Clock + Sync>(
     alloc: Global,
     parts: Parts,
 ) -> Result<Outcome, Fail>
-    requires run { IsOpenedAs parts K.population K.first K.past K.cells K.board K.seed K.name K.parts }
+    requires run { IsOpenedAs parts K.run }
+    requires ledger { IsLedgerOf parts K.name K.parts }
     requires cells { length (cells_of parts).narrow ≡ 1085 }
 {
     let (engine, mut seats) = Engine::<K>::open(parts);

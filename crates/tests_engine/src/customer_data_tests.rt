@@ -1,7 +1,7 @@
 //! Payments of customers with good and bad credit, and what they leave of C_DATA (TPC-C 2.5.2.2): every tenth customer
 //! has bad credit. The wide cells begin at 1,085, so that of customer 10 in the first district is 1,094.
 ghost use Rattle.std.specs.Prelude.{◌≡◌, length};
-ghost use Rattle.book.specs.Parts.{IsOpenedAs, cells_of};
+ghost use Rattle.book.specs.Parts.{IsOpenedAs, IsLedgerOf, cells_of};
 
 use crate::engine::{attempt, parts};
 use crate::payments::payment;
@@ -40,10 +40,7 @@ fn pay<K: Run, R: Wait>(
     alloc: Global,
     engine: &Engine<K>,
     seat: &mut Seat<K>,
-) -> Result<(), Refusal>
-    requires { seat.old.reader.cells ≡ K.cells }
-    ensures { seat.new.reader.cells ≡ K.cells }
-{
+) -> Result<(), Refusal> {
     let input = Input::payment(&engine.population().scale(), payment(10, 1_234))?;
     attempt(rt, alloc, engine, seat, &input)?;
     Ok(())
@@ -56,10 +53,7 @@ fn pay_times<K: Run, R: Wait>(
     engine: &Engine<K>,
     seat: &mut Seat<K>,
     times: u32,
-) -> Result<(), Refusal>
-    requires { seat.old.reader.cells ≡ K.cells }
-    ensures { seat.new.reader.cells ≡ K.cells }
-{
+) -> Result<(), Refusal> {
     for _turn in 0..times {
         pay(rt, alloc, engine, seat)?;
     }
@@ -68,8 +62,8 @@ fn pay_times<K: Run, R: Wait>(
 
 /// C_DATA of customer 10 in the committed tables, as words.
 fn data_of<K: Run, R: Wait>(rt: &R, engine: &Engine<K>) -> Option<DataWords>
-    requires narrow { length K.cells.narrow ≡ 1085 }
-    requires wide { length K.cells.wide ≡ 20 }
+    requires narrow { length K.run.cells.narrow ≡ 1085 }
+    requires wide { length K.run.cells.wide ≡ 20 }
 {
     engine.lock(rt).record_wide(engine.cells(), 1_094)
 }
@@ -81,7 +75,8 @@ fn data_after<K: Run, R: Wait>(
     parts: Parts,
     payments: u32,
 ) -> Result<Option<DataWords>, Fail>
-    requires run { IsOpenedAs parts K.population K.first K.past K.cells K.board K.seed K.name K.parts }
+    requires run { IsOpenedAs parts K.run }
+    requires ledger { IsLedgerOf parts K.name K.parts }
     requires narrow { length (cells_of parts).narrow ≡ 1085 }
     requires wide { length (cells_of parts).wide ≡ 20 }
 {

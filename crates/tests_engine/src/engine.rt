@@ -24,10 +24,7 @@ pub(crate) fn parts<R: Wait>(rt: &R, alloc: Global) -> Result<Parts, Refusal>
 }
 
 /// The seats of the two terminals.
-pub(crate) fn both_of<K: Run>(seats: &mut TerminalSeats<K>) -> Option<(Seat<K>, Seat<K>)>
-    ensures left { IfSome result (λ both. both.0.reader.cells ≡ K.cells) }
-    ensures right { IfSome result (λ both. both.1.reader.cells ≡ K.cells) }
-{
+pub(crate) fn both_of<K: Run>(seats: &mut TerminalSeats<K>) -> Option<(Seat<K>, Seat<K>)> {
     let left = seats.next()?;
     let right = seats.next()?;
     Some((left, right))
@@ -49,8 +46,8 @@ impl<K: Run> Model for Executed<K> {
 
     ghost view = { λ e. tt };
 
-    ghost invariant = { λ e. (e.seat.reader.cells ≡ K.cells) × (e.work.input ≡ e.input)
-        × IsWorkOf K.first K.cells e.seat.reader e.work };
+    ghost invariant = { λ e. (e.work.input ≡ e.input)
+        × IsWorkOf K.run.first K.run.cells e.seat.reader e.work };
 }
 
 /// Executes a transaction at a terminal.
@@ -61,8 +58,7 @@ pub(crate) fn execute_at<K: Run, R: Wait>(
     seat: Seat<K>,
     input: Input,
 ) -> Result<Executed<K>, Refusal>
-    requires reader { seat.reader.cells ≡ K.cells }
-    requires input { IsInput K.first.scale input }
+    requires input { IsInput K.run.first.scale input }
 {
     let mut seat = seat;
     let (cells, population) = (engine.cells(), engine.population());
@@ -77,9 +73,7 @@ pub(crate) fn pay<K: Run, R: Wait>(
     engine: &Engine<K>,
     seat: Seat<K>,
     customer: u32,
-) -> Result<Executed<K>, Refusal>
-    requires { seat.reader.cells ≡ K.cells }
-{
+) -> Result<Executed<K>, Refusal> {
     let scale = engine.population().scale();
     let input = Input::payment(&scale, payment(customer, 100))?;
     execute_at(rt, alloc, engine, seat, input)
@@ -94,20 +88,25 @@ pub(crate) fn commit_executed<K: Run, R: Wait>(
     engine: &Engine<K>,
     executed: Executed<K>,
 ) -> (Seat<K>, Input, Result<Committed, Refusal>)
-    ensures reader { result.0.reader.cells ≡ K.cells }
-    ensures input { IsInput K.first.scale result.1 }
+    ensures input { IsInput K.run.first.scale result.1 }
 {
-    let Executed {
-        mut seat,
-        input,
-        work,
-    } = executed;
+    let Executed { seat, input, work } = executed;
+    let Seat {
+        mut reader,
+        board,
+        mut share,
+    } = seat;
     let mut book = engine.lock(rt);
-    let (board, cells) = (engine.board(), engine.cells());
+    let (own_board, cells) = (engine.board(), engine.cells());
     let committed = book
-        .commit(rt, board, cells, &mut seat.reader, &mut seat.share, work)
+        .commit(rt, own_board, cells, &mut reader, &mut share, work)
         .map(|done| told_at(&done));
     drop(book);
+    let seat = Seat {
+        reader,
+        board,
+        share,
+    };
     (seat, input, committed)
 }
 
@@ -146,9 +145,7 @@ pub(crate) fn attempt<K: Run, R: Wait>(
     seat: &mut Seat<K>,
     input: &Input,
 ) -> Result<Committed, Refusal>
-    requires reader { seat.old.reader.cells ≡ K.cells }
-    requires input { IsInput K.first.scale input.now }
-    ensures reader { seat.new.reader.cells ≡ K.cells }
+    requires input { IsInput K.run.first.scale input.now }
 {
     let (board, cells, population) = (engine.board(), engine.cells(), engine.population());
     match execute(rt, alloc, cells, &mut seat.reader, population, input) {

@@ -1,6 +1,6 @@
 //! A commit in the epoch that the clock has made.
 ghost use Rattle.std.specs.Prelude.{◌≡◌};
-ghost use Rattle.book.specs.Parts.{IsOpenedAs};
+ghost use Rattle.book.specs.Parts.{IsOpenedAs, IsLedgerOf};
 
 use crate::engine::{Committed, parts, pay_next};
 use crate::payments::payment_told;
@@ -18,7 +18,7 @@ fn advance_and_pay<K: Run, R: Wait>(
     engine: &Engine<K>,
     seats: &mut Seats<K>,
 ) -> Result<(u64, Committed), Refusal>
-    requires clock { seats.old.clock.board ≡ K.board }
+    requires clock { seats.old.clock.board ≡ K.run.board }
 {
     let epoch = engine.board().advance(&mut seats.clock)?;
     let committed = pay_next(rt, alloc, engine, &mut seats.terminals)?;
@@ -30,7 +30,8 @@ fn pay_in_the_next_epoch<K: Run, R: Wait>(
     alloc: Global,
     parts: Parts,
 ) -> Result<(u64, Committed), Refusal>
-    requires run { IsOpenedAs parts K.population K.first K.past K.cells K.board K.seed K.name K.parts }
+    requires run { IsOpenedAs parts K.run }
+    requires ledger { IsLedgerOf parts K.name K.parts }
 {
     let (engine, mut seats) = Engine::<K>::open(parts);
     advance_and_pay(rt, alloc, &engine, &mut seats)

@@ -6,7 +6,7 @@ ghost use Rattle.population.specs.Initial.{initial};
 ghost use Rattle.population_tables.specs.Plain.{IsPlain};
 ghost use Rattle.board.specs.Words.{last_epoch};
 ghost use Rattle.book.specs.Base.{MayBegin};
-ghost use Rattle.book.specs.Parts.{IsOpenedAs, population_of, first_of, past_of};
+ghost use Rattle.book.specs.Parts.{IsOpenedAs, IsLedgerOf, population_of, first_of, past_of};
 
 use crate::engine::attempt;
 use crate::new_orders::{five, line, new_order};
@@ -36,7 +36,8 @@ pub(crate) fn earlier_life<K: Run, R: Wait>(
     alloc: Global,
     parts: Parts,
 ) -> Result<Base, Refusal>
-    requires run { IsOpenedAs parts K.population K.first K.past K.cells K.board K.seed K.name K.parts }
+    requires run { IsOpenedAs parts K.run }
+    requires ledger { IsLedgerOf parts K.name K.parts }
     requires begins { (past_of parts ≡ 0) × (first_of parts ≡ population_of parts) }
     ensures base { IfOk result (λ base.
         MayBegin (first_of parts) (database base.tables) base.rows.items base.commits) }
@@ -60,10 +61,7 @@ fn order<K: Run, R: Wait>(
     seat: &mut Seat<K>,
     customer: u32,
     lines: &[RequestedLine],
-) -> Result<(), Refusal>
-    requires { seat.old.reader.cells ≡ K.cells }
-    ensures { seat.new.reader.cells ≡ K.cells }
-{
+) -> Result<(), Refusal> {
     let input = new_order(alloc, &engine.population().scale(), customer, lines)?;
     attempt(rt, alloc, engine, seat, &input)?;
     Ok(())
@@ -76,10 +74,7 @@ pub(crate) fn pay<K: Run, R: Wait>(
     engine: &Engine<K>,
     seat: &mut Seat<K>,
     customer: u32,
-) -> Result<(u32, u64), Refusal>
-    requires { seat.old.reader.cells ≡ K.cells }
-    ensures { seat.new.reader.cells ≡ K.cells }
-{
+) -> Result<(u32, u64), Refusal> {
     let input = Input::payment(&engine.population().scale(), payment(customer, 100))?;
     let (number, tid, _) = attempt(rt, alloc, engine, seat, &input)?;
     Ok((number, tid))
@@ -87,8 +82,8 @@ pub(crate) fn pay<K: Run, R: Wait>(
 
 /// The committed tables of an engine that began with its population's.
 fn base_of<K: Run, R: Wait>(rt: &R, alloc: Global, engine: &Engine<K>) -> Result<Base, Refusal>
-    requires { (K.past ≡ 0) × (K.first ≡ K.population) }
-    ensures base { IfOk result (λ base. MayBegin K.first (database base.tables) base.rows.items base.commits) }
+    requires { (K.run.past ≡ 0) × (K.run.first ≡ K.run.population) }
+    ensures base { IfOk result (λ base. MayBegin K.run.first (database base.tables) base.rows.items base.commits) }
     ensures epoch { IfOk result (λ base. base.epoch < last_epoch) }
 {
     let first = engine.population().tables().history.len();

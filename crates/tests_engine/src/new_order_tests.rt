@@ -2,7 +2,7 @@
 ghost use Rattle.std.specs.Prelude.{◌≡◌, IfOk};
 ghost use Rattle.readset.specs.Cells.{AreCellsOf};
 ghost use Rattle.population.specs.Initial.{initial};
-ghost use Rattle.book.specs.Parts.{IsFresh, IsOpenedAs};
+ghost use Rattle.book.specs.Parts.{IsFresh, IsOpenedAs, IsLedgerOf};
 
 use crate::engine::{attempt, parts};
 use crate::new_orders::{five, line, new_order, order_told};
@@ -126,10 +126,7 @@ fn commit<K: Run, R: Wait>(
     engine: &Engine<K>,
     seat: &mut Seat<K>,
     lines: &[RequestedLine],
-) -> Result<(u32, Told), Refusal>
-    requires { seat.old.reader.cells ≡ K.cells }
-    ensures { seat.new.reader.cells ≡ K.cells }
-{
+) -> Result<(u32, Told), Refusal> {
     let scale = engine.population().scale();
     let input = new_order(alloc, &scale, 3, lines)?;
     let (number, _, told) = attempt(rt, alloc, engine, seat, &input)?;
@@ -145,7 +142,8 @@ type Tries = (
 );
 
 fn try_both<K: Run, R: Wait>(rt: &R, alloc: Global, parts: Parts) -> Result<Tries, Fail>
-    requires run { IsOpenedAs parts K.population K.first K.past K.cells K.board K.seed K.name K.parts }
+    requires run { IsOpenedAs parts K.run }
+    requires ledger { IsLedgerOf parts K.name K.parts }
 {
     let (engine, mut seats) = Engine::<K>::open(parts);
     let mut seat = seats.terminals.next().ok_or("seat")?;

@@ -1,7 +1,7 @@
 //! Two transactions at two terminals, of which both are executed before either commits.
 ghost use Rattle.std.specs.Prelude.{◌≡◌, IfOk};
 ghost use Rattle.tables.specs.Inputs.{IsInput};
-ghost use Rattle.book.specs.Parts.{IsOpenedAs};
+ghost use Rattle.book.specs.Parts.{IsOpenedAs, IsLedgerOf};
 
 use crate::deliveries::delivery;
 use crate::engine::{self, Executed, both_of, commit_executed, execute_at, is_good, parts};
@@ -105,8 +105,7 @@ fn commit_again<K: Run, R: Wait>(
     seat: Seat<K>,
     input: Input,
 ) -> Result<engine::Committed, Refusal>
-    requires reader { seat.reader.cells ≡ K.cells }
-    requires input { IsInput K.first.scale input }
+    requires input { IsInput K.run.first.scale input }
 {
     let executed = execute_at(rt, alloc, engine, seat, input)?;
     commit_executed(rt, engine, executed).2
@@ -136,9 +135,7 @@ fn execute<K: Run, R: Wait>(
     engine: &Engine<K>,
     seat: Seat<K>,
     asked: Asked,
-) -> Result<Executed<K>, Refusal>
-    requires { seat.reader.cells ≡ K.cells }
-{
+) -> Result<Executed<K>, Refusal> {
     let scale = engine.population().scale();
     let input = input_of(alloc, &scale, asked)?;
     execute_at(rt, alloc, engine, seat, input)
@@ -151,10 +148,7 @@ fn outcome_at<K: Run, R: Wait>(
     left: Seat<K>,
     right: Seat<K>,
     asked: (Asked, Asked),
-) -> Result<Outcome, Refusal>
-    requires left { left.reader.cells ≡ K.cells }
-    requires right { right.reader.cells ≡ K.cells }
-{
+) -> Result<Outcome, Refusal> {
     let first = execute(rt, alloc, engine, left, asked.0)?;
     let second = execute(rt, alloc, engine, right, asked.1)?;
     commit_both(rt, alloc, engine, first, second)
@@ -166,7 +160,8 @@ fn outcome_on<K: Run, R: Wait>(
     parts: Parts,
     asked: (Asked, Asked),
 ) -> Result<Outcome, Fail>
-    requires run { IsOpenedAs parts K.population K.first K.past K.cells K.board K.seed K.name K.parts }
+    requires run { IsOpenedAs parts K.run }
+    requires ledger { IsLedgerOf parts K.name K.parts }
 {
     let (engine, mut seats) = Engine::<K>::open(parts);
     let (left, right) = both_of(&mut seats.terminals).ok_or("seats")?;

@@ -2,7 +2,7 @@
 ghost use Rattle.std.specs.Prelude.{◌≡◌, ◌<◌, IfOk, IfSome};
 ghost use Rattle.board.specs.Steps.{stored_mark};
 ghost use Rattle.board.specs.Opening.{logger_seats};
-ghost use Rattle.book.specs.Parts.{IsFresh, IsOpenedAs, base_of, loggers_of};
+ghost use Rattle.book.specs.Parts.{IsFresh, IsOpenedAs, IsLedgerOf, base_of, loggers_of};
 
 use crate::engine::pay_next;
 use crate::stage::small;
@@ -55,9 +55,9 @@ fn take_turn<K: Run, R: Wait>(
     logger: &mut Logger,
     number: u16,
 ) -> Option<Turn>
-    requires own { logger.old.seat.board ≡ K.board }
-    requires number { number < K.board.plan.loggers }
-    ensures { logger.new.seat.board ≡ K.board }
+    requires own { logger.old.seat.board ≡ K.run.board }
+    requires number { number < K.run.board.plan.loggers }
+    ensures { logger.new.seat.board ≡ K.run.board }
 {
     let board = engine.board();
     let batch = engine.lock(rt).take(board, number);
@@ -98,8 +98,8 @@ impl<K: Run> Model for Stage<K> {
 
     ghost view = { λ s. tt };
 
-    ghost invariant = { λ s. (s.clock.board ≡ K.board) × (s.first.seat.board ≡ K.board)
-        × (s.second.seat.board ≡ K.board) × (K.board.plan.loggers ≡ 2) };
+    ghost invariant = { λ s. (s.clock.board ≡ K.run.board) × (s.first.seat.board ≡ K.run.board)
+        × (s.second.seat.board ≡ K.run.board) × (K.run.board.plan.loggers ≡ 2) };
 }
 
 impl<K: Run> Stage<K> {
@@ -156,7 +156,8 @@ fn both(board: &Board, mut seats: Vec<LoggerSeat>) -> Option<(Logger, Logger)>
 
 /// An engine in epoch 1.
 fn open<K: Run>(parts: Parts) -> Option<Stage<K>>
-    requires run { IsOpenedAs parts K.population K.first K.past K.cells K.board K.seed K.name K.parts }
+    requires run { IsOpenedAs parts K.run }
+    requires ledger { IsLedgerOf parts K.name K.parts }
     requires loggers { (loggers_of parts ≡ 2) × (base_of parts ≡ 0) }
 {
     let (engine, seats) = Engine::<K>::open(parts);
@@ -179,7 +180,8 @@ fn open<K: Run>(parts: Parts) -> Option<Stage<K>>
 type Turns = (Option<Turn>, Option<Turn>);
 
 fn turns_of<K: Run, R: Wait>(rt: &R, alloc: Global, parts: Parts) -> Result<(Turns, Turns), Refusal>
-    requires run { IsOpenedAs parts K.population K.first K.past K.cells K.board K.seed K.name K.parts }
+    requires run { IsOpenedAs parts K.run }
+    requires ledger { IsLedgerOf parts K.name K.parts }
     requires loggers { (loggers_of parts ≡ 2) × (base_of parts ≡ 0) }
 {
     let Some(mut stage) = open::<K>(parts) else {

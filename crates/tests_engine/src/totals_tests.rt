@@ -2,7 +2,7 @@
 //! Delivery.
 ghost use Rattle.std.specs.Prelude.{◌≡◌, IfSome};
 ghost use Rattle.tables.specs.Keys.{IsDistrictKey};
-ghost use Rattle.book.specs.Parts.{IsOpenedAs};
+ghost use Rattle.book.specs.Parts.{IsOpenedAs, IsLedgerOf};
 
 use crate::engine::{attempt, parts};
 use crate::pairs::{Asked, input_of};
@@ -48,10 +48,7 @@ fn totals_after<K: Run, R: Wait>(
     engine: &Engine<K>,
     seat: &mut Seat<K>,
     asked: Asked,
-) -> Result<Both, Refusal>
-    requires { seat.old.reader.cells ≡ K.cells }
-    ensures { seat.new.reader.cells ≡ K.cells }
-{
+) -> Result<Both, Refusal> {
     let input = input_of(alloc, &engine.population().scale(), asked)?;
     attempt(rt, alloc, engine, seat, &input)?;
     totals_of(rt, engine)
@@ -71,9 +68,7 @@ fn course_at<K: Run, R: Wait>(
     alloc: Global,
     engine: &Engine<K>,
     seat: &mut Seat<K>,
-) -> Result<Course, Refusal>
-    requires { seat.old.reader.cells ≡ K.cells }
-{
+) -> Result<Course, Refusal> {
     Ok(Course {
         fresh: totals_of(rt, engine)?,
         ordered: totals_after(rt, alloc, engine, seat, Asked::Order(3))?,
@@ -83,7 +78,8 @@ fn course_at<K: Run, R: Wait>(
 }
 
 fn course_of<K: Run, R: Wait>(rt: &R, alloc: Global, parts: Parts) -> Result<Course, Fail>
-    requires run { IsOpenedAs parts K.population K.first K.past K.cells K.board K.seed K.name K.parts }
+    requires run { IsOpenedAs parts K.run }
+    requires ledger { IsLedgerOf parts K.name K.parts }
 {
     let (engine, mut seats) = Engine::<K>::open(parts);
     let mut seat = seats.terminals.next().ok_or("seat")?;

@@ -23,9 +23,9 @@ fn payment<K: Run, R: Wait>(
     customer: u32,
     cents: i64,
 ) -> Result<Work, Refusal>
-    requires { reader.old.cells ≡ K.cells }
-    ensures reader { reader.new.cells ≡ K.cells }
-    ensures work { IfOk result (λ work. IsWorkOf K.first K.cells reader.new work) }
+    requires { reader.old.cells ≡ K.run.cells }
+    ensures reader { reader.new.cells ≡ K.run.cells }
+    ensures work { IfOk result (λ work. IsWorkOf K.run.first K.run.cells reader.new work) }
 {
     let paid = PaymentInput {
         date: 1,
@@ -47,10 +47,10 @@ fn executed<K: Run, R: Wait>(
     reader: &mut Reader,
     input: &Input,
 ) -> Result<Work, Refusal>
-    requires own { reader.old.cells ≡ K.cells }
-    requires input { IsInput K.first.scale input.now }
-    ensures reader { reader.new.cells ≡ K.cells }
-    ensures work { IfOk result (λ work. IsWorkOf K.first K.cells reader.new work) }
+    requires own { reader.old.cells ≡ K.run.cells }
+    requires input { IsInput K.run.first.scale input.now }
+    ensures reader { reader.new.cells ≡ K.run.cells }
+    ensures work { IfOk result (λ work. IsWorkOf K.run.first K.run.cells reader.new work) }
 {
     let (cells, population) = (engine.cells(), engine.population());
     execute(rt, alloc, cells, reader, population, input)
@@ -71,14 +71,12 @@ impl<K: Run> Model for Desk<K> {
 
     ghost view = { λ d. tt };
 
-    ghost invariant = { λ d. (d.reader.cells ≡ K.cells) × (d.outbox.seat.board ≡ K.board) };
+    ghost invariant = { λ d. (d.reader.cells ≡ K.run.cells) × (d.outbox.seat.board ≡ K.run.board) };
 }
 
 impl<K: Run> Desk<K> {
     /// A terminal that has room for two replies.
-    pub(crate) fn new(alloc: Global, seat: Seat<K>) -> Result<Desk<K>, Refusal>
-        requires { (seat.reader.cells ≡ K.cells) × (seat.board.board ≡ K.board) }
-    {
+    pub(crate) fn new(alloc: Global, seat: Seat<K>) -> Result<Desk<K>, Refusal> {
         let Seat {
             reader,
             board,

@@ -1,7 +1,7 @@
 //! Two loggers: a reply is released once both have made its epoch durable.
 ghost use Rattle.std.specs.Prelude.{◌≡◌, [], IfOk};
 ghost use Rattle.board.specs.Opening.{logger_seats};
-ghost use Rattle.book.specs.Parts.{IsOpenedAs, base_of, loggers_of};
+ghost use Rattle.book.specs.Parts.{IsOpenedAs, IsLedgerOf, base_of, loggers_of};
 
 use crate::stage::{Stage, logger_on, open, parts};
 use board::{Board, LoggerSeat};
@@ -46,8 +46,8 @@ fn both(
 
 /// Both have their turn, and then the terminal looks.
 fn round<K: Run, R: Wait>(rt: &R, stage: &mut Stage<K>, both: &mut Both) -> Result<Answers, Refusal>
-    requires { (both.old.0.seat.board ≡ K.board) × (both.old.1.seat.board ≡ K.board) }
-    ensures { (both.new.0.seat.board ≡ K.board) × (both.new.1.seat.board ≡ K.board) }
+    requires { (both.old.0.seat.board ≡ K.run.board) × (both.old.1.seat.board ≡ K.run.board) }
+    ensures { (both.new.0.seat.board ≡ K.run.board) × (both.new.1.seat.board ≡ K.run.board) }
 {
     let first = stage.take_turn(rt, &mut both.0)?;
     let second = stage.take_turn(rt, &mut both.1)?;
@@ -66,7 +66,7 @@ fn rounds<K: Run, R: Wait>(
     stage: &mut Stage<K>,
     both: &mut Both,
 ) -> Result<(Answers, Answers), Refusal>
-    requires { (both.old.0.seat.board ≡ K.board) × (both.old.1.seat.board ≡ K.board) }
+    requires { (both.old.0.seat.board ≡ K.run.board) × (both.old.1.seat.board ≡ K.run.board) }
 {
     stage.advance()?;
     stage.advance()?;
@@ -82,7 +82,8 @@ fn rounds_of<K: Run, R: Wait>(
     alloc: Global,
     parts: Parts,
 ) -> Result<(Answers, Answers), Refusal>
-    requires run { IsOpenedAs parts K.population K.first K.past K.cells K.board K.seed K.name K.parts }
+    requires run { IsOpenedAs parts K.run }
+    requires ledger { IsLedgerOf parts K.name K.parts }
     requires loggers { (loggers_of parts ≡ 2) × (base_of parts ≡ 0) }
 {
     let (mut stage, seats) = open::<K>(alloc, parts)?;

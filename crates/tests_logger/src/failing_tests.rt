@@ -1,6 +1,6 @@
 //! A logger whose disk fails at one of its calls: what is acknowledged is recovered.
 ghost use Rattle.std.specs.Prelude.{◌≡◌, IfOk};
-ghost use Rattle.book.specs.Parts.{IsOpenedAs, base_of, loggers_of};
+ghost use Rattle.book.specs.Parts.{IsOpenedAs, IsLedgerOf, base_of, loggers_of};
 
 use crate::stage::{Stage, parts};
 use crate::turn_tests::open_one;
@@ -50,8 +50,8 @@ fn round<K: Run, R: Wait, D: Disk>(
     logger: &mut Logger<D>,
     customer: u32,
 ) -> Result<Outcome, Refusal>
-    requires { logger.old.seat.board ≡ K.board }
-    ensures { logger.new.seat.board ≡ K.board }
+    requires { logger.old.seat.board ≡ K.run.board }
+    ensures { logger.new.seat.board ≡ K.run.board }
 {
     stage.pay(rt, alloc, customer, 100)?;
     stage.advance()?;
@@ -76,7 +76,8 @@ fn rounds<K: Run, R: Wait, D: Disk + Drop>(
     parts: Parts,
     disk: D,
 ) -> Result<(Outcome, Option<Outcome>), Refusal>
-    requires run { IsOpenedAs parts K.population K.first K.past K.cells K.board K.seed K.name K.parts }
+    requires run { IsOpenedAs parts K.run }
+    requires ledger { IsLedgerOf parts K.name K.parts }
     requires loggers { (loggers_of parts ≡ 1) × (base_of parts ≡ 0) }
     requires unmodelled { D.is_modelled → ⊥ }
 {

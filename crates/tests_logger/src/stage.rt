@@ -3,7 +3,7 @@ ghost use Rattle.std.specs.Prelude.{◌≡◌, ◌<◌, ◌≤◌, [], IfOk, IfS
 ghost use Rattle.board.specs.declared.rule.Role.TheVariants.{Logger as logger_role};
 ghost use Rattle.board.specs.Seats.{new_seat};
 ghost use Rattle.board.specs.Opening.{logger_seats};
-ghost use Rattle.book.specs.Parts.{IsFresh, IsOpenedAs, base_of, loggers_of};
+ghost use Rattle.book.specs.Parts.{IsFresh, IsOpenedAs, IsLedgerOf, base_of, loggers_of};
 
 use crate::desk::Desk;
 use board::{Board, ClockSeat, LoggerSeat, TerminalSeat};
@@ -45,7 +45,7 @@ impl<K: Run> Model for Stage<K> {
 
     ghost view = { λ s. tt };
 
-    ghost invariant = { λ s. (s.clock.board ≡ K.board) × (s.watch.board ≡ K.board) };
+    ghost invariant = { λ s. (s.clock.board ≡ K.run.board) × (s.watch.board ≡ K.run.board) };
 }
 
 impl<K: Run> Stage<K> {
@@ -72,7 +72,7 @@ impl<K: Run> Stage<K> {
 
     /// What a logger takes.
     pub(crate) fn take<R: Wait, D: Disk>(&self, rt: &R, logger: &Logger<D>) -> Batch
-        requires { logger.now.seat.board ≡ K.board }
+        requires { logger.now.seat.board ≡ K.run.board }
     {
         let header = logger.file().header();
         let board = self.engine.board();
@@ -85,8 +85,8 @@ impl<K: Run> Stage<K> {
         logger: &mut Logger<D>,
         batch: &Batch,
     ) -> Result<u64, Refusal>
-        requires { logger.old.seat.board ≡ K.board }
-        ensures { logger.new.seat.board ≡ K.board }
+        requires { logger.old.seat.board ≡ K.run.board }
+        ensures { logger.new.seat.board ≡ K.run.board }
     {
         if !logger.may_append(batch) {
             return Err(Refusal::Gap);
@@ -100,8 +100,8 @@ impl<K: Run> Stage<K> {
         rt: &R,
         logger: &mut Logger<D>,
     ) -> Result<u64, Refusal>
-        requires { logger.old.seat.board ≡ K.board }
-        ensures { logger.new.seat.board ≡ K.board }
+        requires { logger.old.seat.board ≡ K.run.board }
+        ensures { logger.new.seat.board ≡ K.run.board }
     {
         let batch = self.take(rt, logger);
         self.turn(logger, &batch)
@@ -113,8 +113,9 @@ pub(crate) fn open<K: Run>(
     alloc: Global,
     parts: Parts,
 ) -> Result<(Stage<K>, Vec<LoggerSeat>), Refusal>
-    requires run { IsOpenedAs parts K.population K.first K.past K.cells K.board K.seed K.name K.parts }
-    ensures { IfOk result (λ x. x.1.items ≡ logger_seats K.board K.board.plan.loggers) }
+    requires run { IsOpenedAs parts K.run }
+    requires ledger { IsLedgerOf parts K.name K.parts }
+    ensures { IfOk result (λ x. x.1.items ≡ logger_seats K.run.board K.run.board.plan.loggers) }
 {
     let (engine, seats) = Engine::<K>::open(parts);
     let Seats {

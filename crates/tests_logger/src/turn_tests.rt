@@ -1,6 +1,6 @@
 //! What a turn leaves on the disk.
 ghost use Rattle.std.specs.Prelude.{◌≡◌, [], IfOk};
-ghost use Rattle.book.specs.Parts.{IsOpenedAs, base_of, loggers_of};
+ghost use Rattle.book.specs.Parts.{IsOpenedAs, IsLedgerOf, base_of, loggers_of};
 
 use crate::stage::{Stage, logger_on, open, parts};
 use book::{Parts, Run};
@@ -19,10 +19,11 @@ pub(crate) fn open_one<K: Run, D: Disk + Drop>(
     parts: Parts,
     disk: D,
 ) -> Result<(Stage<K>, Logger<D>), Refusal>
-    requires run { IsOpenedAs parts K.population K.first K.past K.cells K.board K.seed K.name K.parts }
+    requires run { IsOpenedAs parts K.run }
+    requires ledger { IsLedgerOf parts K.name K.parts }
     requires loggers { (loggers_of parts ≡ 1) × (base_of parts ≡ 0) }
     requires empty { D.is_modelled → D.seen disk ≡ [] }
-    ensures { IfOk result (λ x. x.1.seat.board ≡ K.board) }
+    ensures { IfOk result (λ x. x.1.seat.board ≡ K.run.board) }
 {
     let (stage, mut seats) = open::<K>(alloc, parts)?;
     let Some(seat) = seats.pop() else {
@@ -40,7 +41,8 @@ fn turn<K: Run, R: Wait, D: Disk + Drop>(
     disk: D,
     paid: Option<(u32, i64)>,
 ) -> Result<u64, Refusal>
-    requires run { IsOpenedAs parts K.population K.first K.past K.cells K.board K.seed K.name K.parts }
+    requires run { IsOpenedAs parts K.run }
+    requires ledger { IsLedgerOf parts K.name K.parts }
     requires loggers { (loggers_of parts ≡ 1) × (base_of parts ≡ 0) }
     requires empty { D.is_modelled → D.seen disk ≡ [] }
 {

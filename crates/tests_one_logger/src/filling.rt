@@ -1,6 +1,6 @@
 //! A log file that is filled with the batches of a run.
 ghost use Rattle.std.specs.Prelude.{◌≡◌, [], IfOk};
-ghost use Rattle.book.specs.Parts.{IsFresh, IsOpenedAs, loggers_of};
+ghost use Rattle.book.specs.Parts.{IsFresh, IsOpenedAs, IsLedgerOf, loggers_of};
 
 use crate::stage::{Stage, parts};
 use board::Keeper;
@@ -64,7 +64,8 @@ fn fill<K: Run, D: Disk + Drop, R: Wait>(
     disk: D,
     batches: &[&[Paid]],
 ) -> Result<Standing, Refusal>
-    requires run { IsOpenedAs parts K.population K.first K.past K.cells K.board K.seed K.name K.parts }
+    requires run { IsOpenedAs parts K.run }
+    requires ledger { IsLedgerOf parts K.name K.parts }
     requires loggers { loggers_of parts ≡ 1 }
     requires empty { D.is_modelled → D.seen disk ≡ [] }
 {

@@ -1,7 +1,7 @@
 //! The engine, and its file.
 ghost use Rattle.std.specs.Prelude.{◌≡◌, ◌<◌, [], IfOk};
 ghost use Rattle.tables.specs.Inputs.{IsInput};
-ghost use Rattle.book.specs.Parts.{IsFresh, IsOpenedAs, loggers_of};
+ghost use Rattle.book.specs.Parts.{IsFresh, IsOpenedAs, IsLedgerOf, loggers_of};
 
 use board::ClockSeat;
 use book::{Batch, Done, Engine, Parts, Run, Seat, Seats, TerminalSeats};
@@ -40,15 +40,15 @@ impl<K: Run, D: Disk + Drop> Model for Stage<K, D> {
 
     ghost view = { λ s. tt };
 
-    ghost invariant = { λ s. (s.clock.board ≡ K.board) × (s.terminal.reader.cells ≡ K.cells)
-        × (0 < K.board.plan.loggers) };
+    ghost invariant = { λ s. (s.clock.board ≡ K.run.board) × (0 < K.run.board.plan.loggers) };
 }
 
 impl<K: Run, D: Disk + Drop> Stage<K, D> {
     /// An engine in epoch 1 in which nothing has committed, and a new file on an empty disk. Refuses as
     /// `LogFile::create` does.
     pub fn open(alloc: Global, parts: Parts, disk: D) -> Result<Stage<K, D>, Refusal>
-        requires run { IsOpenedAs parts K.population K.first K.past K.cells K.board K.seed K.name K.parts }
+        requires run { IsOpenedAs parts K.run }
+        requires ledger { IsLedgerOf parts K.name K.parts }
         requires loggers { loggers_of parts ≡ 1 }
         requires empty { D.is_modelled → D.seen disk ≡ [] }
     {
@@ -64,7 +64,8 @@ impl<K: Run, D: Disk + Drop> Stage<K, D> {
 
     /// An engine that opens with these parts, and its first logger's file.
     pub fn over(parts: Parts, file: LogFile<D>) -> Result<Stage<K, D>, Refusal>
-        requires { IsOpenedAs parts K.population K.first K.past K.cells K.board K.seed K.name K.parts }
+        requires run { IsOpenedAs parts K.run }
+        requires ledger { IsLedgerOf parts K.name K.parts }
     {
         let (engine, clock, terminal) = opened::<K>(parts)?;
         Ok(Stage {
@@ -99,7 +100,7 @@ impl<K: Run, D: Disk + Drop> Stage<K, D> {
 
     /// The same for any logger.
     pub fn take_of<R: Wait>(&self, rt: &R, logger: u16) -> Batch
-        requires { logger < K.board.plan.loggers }
+        requires { logger < K.run.board.plan.loggers }
     {
         taken(rt, &self.engine, logger)
     }
@@ -117,7 +118,7 @@ impl<K: Run, D: Disk + Drop> Stage<K, D> {
 
 /// What has committed for a logger since the last take.
 fn taken<K: Run, R: Wait>(rt: &R, engine: &Engine<K>, logger: u16) -> Batch
-    requires { logger < K.board.plan.loggers }
+    requires { logger < K.run.board.plan.loggers }
 {
     engine.lock(rt).take(engine.board(), logger)
 }
@@ -133,10 +134,10 @@ pub fn append_to<D: Disk>(file: &mut LogFile<D>, batch: &Batch) -> Result<(), Re
 
 /// The engine that opens with these parts, its clock and its first terminal.
 fn opened<K: Run>(parts: Parts) -> Result<(Engine<K>, ClockSeat, Seat<K>), Refusal>
-    requires { IsOpenedAs parts K.population K.first K.past K.cells K.board K.seed K.name K.parts }
-    ensures clock { IfOk result (λ x. x.1.board ≡ K.board) }
-    ensures terminal { IfOk result (λ x. x.2.reader.cells ≡ K.cells) }
-    ensures loggers { 0 < K.board.plan.loggers }
+    requires run { IsOpenedAs parts K.run }
+    requires ledger { IsLedgerOf parts K.name K.parts }
+    ensures clock { IfOk result (λ x. x.1.board ≡ K.run.board) }
+    ensures loggers { 0 < K.run.board.plan.loggers }
 {
     let (engine, seats) = Engine::<K>::open(parts);
     let Seats {
@@ -148,15 +149,13 @@ fn opened<K: Run>(parts: Parts) -> Result<(Engine<K>, ClockSeat, Seat<K>), Refus
 }
 
 /// The seat of the first terminal.
-fn first_of<K: Run>(terminals: TerminalSeats<K>) -> Result<Seat<K>, Refusal>
-    ensures { IfOk result (λ seat. seat.reader.cells ≡ K.cells) }
-{
+fn first_of<K: Run>(terminals: TerminalSeats<K>) -> Result<Seat<K>, Refusal> {
     let mut terminals = terminals;
     terminals.next().ok_or(Refusal::OutOfMemory)
 }
 
 fn payment_of<K: Run>(engine: &Engine<K>, customer: u32, cents: i64) -> Result<Input, Refusal>
-    ensures { IfOk result (λ input. IsInput K.first.scale input) }
+    ensures { IfOk result (λ input. IsInput K.run.first.scale input) }
 {
     let payment = PaymentInput {
         date: 1,
@@ -178,9 +177,7 @@ pub fn commit<K: Run, R: Wait>(
     terminal: &mut Seat<K>,
     input: &Input,
 ) -> Result<Done, Refusal>
-    requires reader { terminal.old.reader.cells ≡ K.cells }
-    requires input { IsInput K.first.scale input.now }
-    ensures reader { terminal.new.reader.cells ≡ K.cells }
+    requires input { IsInput K.run.first.scale input.now }
 {
     let (board, cells, population) = (engine.board(), engine.cells(), engine.population());
     let work = execute(rt, alloc, cells, &mut terminal.reader, population, input)?;

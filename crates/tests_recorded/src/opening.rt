@@ -3,24 +3,27 @@ ghost use Rattle.std.specs.Prelude.{◌≡◌, ◌<◌, ◌≤◌, map, IfOk, Is
 
 use log_disk::Disk;
 use logfile::LogFile;
-use program_run::{OpenLog, Plan, Slot};
-use run_threads::AtOnce;
+use program_run::RunPlan;
+use run_threads::{AtOnce, Paced};
 use std::alloc::{AllocError, Global};
 
 /// The disks, for new log files.
 pub fn slots<D: Disk + Drop>(
     alloc: Global,
     disks: Vec<D>,
-) -> Result<Vec<Slot<D, AtOnce>>, AllocError> {
+) -> Result<Vec<Paced<D, AtOnce>>, AllocError> {
     let mut slots = Vec::new(alloc);
     for disk in disks {
-        slots.push(Slot { disk, pace: AtOnce })?;
+        slots.push(Paced {
+            inner: disk,
+            pace: AtOnce,
+        })?;
     }
     Ok(slots)
 }
 
 /// Whether there are 1 to 8 loggers, and 1 to 16 terminals.
-pub fn is_possible(loggers: usize, plan: &Plan) -> bool
+pub fn is_possible(loggers: usize, plan: &RunPlan) -> bool
     ensures loggers { IsTrue result → (0 < loggers) × (loggers ≤ 8) }
     ensures terminals { IsTrue result → (0 < plan.now.terminals) × (plan.now.terminals ≤ 16) }
 {
@@ -31,12 +34,15 @@ pub fn is_possible(loggers: usize, plan: &Plan) -> bool
 pub fn open_logs<D: Disk + Drop>(
     alloc: Global,
     files: Vec<LogFile<D>>,
-) -> Result<Vec<OpenLog<D, AtOnce>>, AllocError>
-    ensures { IfOk result (λ logs. map (λ log. log.file) logs.items ≡ files.items) }
+) -> Result<Vec<Paced<LogFile<D>, AtOnce>>, AllocError>
+    ensures { IfOk result (λ logs. map (λ log. log.inner) logs.items ≡ files.items) }
 {
     let mut logs = Vec::new(alloc);
     for file in files {
-        logs.push(OpenLog { file, pace: AtOnce })?;
+        logs.push(Paced {
+            inner: file,
+            pace: AtOnce,
+        })?;
     }
     Ok(logs)
 }

@@ -1,7 +1,7 @@
 //! A terminal whose inputs run, another one that stands in for it, and their logger.
 ghost use Rattle.std.specs.Prelude.{◌≡◌, IfOk};
 ghost use Rattle.population.specs.Initial.{initial};
-ghost use Rattle.book.specs.Parts.{IsFresh, IsOpenedAs, base_of, loggers_of};
+ghost use Rattle.book.specs.Parts.{IsFresh, IsOpenedAs, IsLedgerOf, base_of, loggers_of};
 
 use crate::again::Again;
 use crate::looks::{Look, look_at};
@@ -54,7 +54,7 @@ impl<'a, K: Run> Model for Desk<'a, K> {
 
     ghost view = { λ d. tt };
 
-    ghost invariant = { λ d. (d.clock.board ≡ K.board) × (d.logger.seat.board ≡ K.board) };
+    ghost invariant = { λ d. (d.clock.board ≡ K.run.board) × (d.logger.seat.board ≡ K.run.board) };
 }
 
 impl<K: Run> Desk<'_, K> {
@@ -213,7 +213,8 @@ fn seated<'a, K: Run>(
     file: LogFile<Roomy<'a>>,
     calls: &'a AtomicU64,
 ) -> Result<Desk<'a, K>, Refusal>
-    requires run { IsOpenedAs parts K.population K.first K.past K.cells K.board K.seed K.name K.parts }
+    requires run { IsOpenedAs parts K.run }
+    requires ledger { IsLedgerOf parts K.name K.parts }
     requires loggers { (loggers_of parts ≡ 1) × (base_of parts ≡ 0) }
     requires file { (file.header.logger ≡ 0) × (file.header.loggers ≡ 1) }
 {
@@ -246,7 +247,7 @@ fn terminal_of<K: Run>(
     population: &Population,
     seats: &mut TerminalSeats<K>,
 ) -> Result<Terminal<K>, Refusal>
-    requires { (initial population.now).scale ≡ K.first.scale }
+    requires { (initial population.now).scale ≡ K.run.first.scale }
 {
     let Some(seat) = seats.next() else {
         return Err(Refusal::BadInput);
@@ -298,7 +299,8 @@ fn run_at<'a, K: Run, R: Wait>(
     calls: &'a AtomicU64,
     text: &mut String,
 ) -> Result<(), Refusal>
-    requires run { IsOpenedAs parts K.population K.first K.past K.cells K.board K.seed K.name K.parts }
+    requires run { IsOpenedAs parts K.run }
+    requires ledger { IsLedgerOf parts K.name K.parts }
     requires loggers { (loggers_of parts ≡ 1) × (base_of parts ≡ 0) }
     requires file { (file.header.logger ≡ 0) × (file.header.loggers ≡ 1) }
 {

@@ -86,14 +86,14 @@ fn wide_sum<K: Run>(engine: &Engine<K>, book: &mut Book<K>, narrow: u64) -> u64 
 
 /// How many records are narrow.
 fn narrow_end<K: Run>(engine: &Engine<K>) -> u32
-    ensures { result ≡ narrow_records K.first.scale }
+    ensures { result ≡ narrow_records K.run.first.scale }
 {
     narrow_count(&engine.population().scale())
 }
 
 /// How many there are.
 fn wide_end<K: Run>(engine: &Engine<K>) -> u32
-    ensures { result ≡ all_records K.first.scale }
+    ensures { result ≡ all_records K.run.first.scale }
 {
     record_count(&engine.population().scale())
 }

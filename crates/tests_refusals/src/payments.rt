@@ -1,6 +1,6 @@
 //! A terminal whose customers pay, and the file of its logger.
 ghost use Rattle.std.specs.Prelude.{◌≡◌};
-ghost use Rattle.book.specs.Parts.{IsOpenedAs, loggers_of};
+ghost use Rattle.book.specs.Parts.{IsOpenedAs, IsLedgerOf, loggers_of};
 
 use crate::again::Again;
 use crate::roomy::Roomy;
@@ -66,7 +66,8 @@ fn pay_on<K: Run, R: Wait>(
     disk: &mut Roomy<'_>,
     calls: &AtomicU64,
 ) -> Result<(), Refusal>
-    requires run { IsOpenedAs parts K.population K.first K.past K.cells K.board K.seed K.name K.parts }
+    requires run { IsOpenedAs parts K.run }
+    requires ledger { IsLedgerOf parts K.name K.parts }
     requires loggers { loggers_of parts ≡ 1 }
 {
     let mut till = Till::<K, &mut Roomy<'_>>::open(alloc, parts, disk, calls)?;

@@ -3,7 +3,7 @@ ghost use Rattle.std.specs.Prelude.{◌≡◌, ◌<◌, [], length, All, IfOk};
 ghost use Rattle.board.specs.declared.rule.Role.TheVariants.{Logger as logger_role};
 ghost use Rattle.board.specs.Opening.{logger_seats};
 ghost use Rattle.board.specs.Seats.{new_seat};
-ghost use Rattle.book.specs.Parts.{IsFresh, IsOpenedAs, base_of, loggers_of, terminals_of};
+ghost use Rattle.book.specs.Parts.{IsFresh, IsOpenedAs, IsLedgerOf, base_of, loggers_of, terminals_of};
 
 use crate::roomy::Roomy;
 use board::{Board, LoggerSeat};
@@ -14,7 +14,7 @@ use logfile::LogFile;
 use logger::Logger;
 use money::Refusal;
 use population::Population;
-use run_threads::{AtOnce, Desks, Log, Station, run};
+use run_threads::{AtOnce, Desks, Paced, Station, run};
 use std::alloc::Global;
 use std::marker::Brand;
 use std::sync::Wait;
@@ -59,11 +59,11 @@ fn logs<D: Disk + Drop>(
     board: &Board,
     seats: Vec<LoggerSeat>,
     disk: D,
-) -> Result<Vec<Log<D, AtOnce>>, Refusal>
+) -> Result<Vec<Paced<Logger<D>, AtOnce>>, Refusal>
     requires seats { seats.items ≡ logger_seats board.now 1 }
     requires plan { (board.now.plan.loggers ≡ 1) × (board.now.plan.base ≡ 0) }
     requires empty { D.is_modelled → D.seen disk ≡ [] }
-    ensures { IfOk result (λ logs. All (λ log. log.logger.seat.board ≡ board.now) logs.items) }
+    ensures { IfOk result (λ logs. All (λ log. log.inner.seat.board ≡ board.now) logs.items) }
 {
     let mut seats = seats;
     let Some(seat) = seats.pop() else {
@@ -79,16 +79,16 @@ fn log_on<D: Disk + Drop>(
     population: &Population,
     disk: D,
     seat: LoggerSeat,
-) -> Result<Log<D, AtOnce>, Refusal>
+) -> Result<Paced<Logger<D>, AtOnce>, Refusal>
     requires seat { seat ≡ new_seat seat.board (logger_role 0) }
     requires plan { (seat.board.plan.loggers ≡ 1) × (seat.board.plan.base ≡ 0) }
     requires empty { D.is_modelled → D.seen disk ≡ [] }
-    ensures { IfOk result (λ log. log.logger.seat.board ≡ seat.board) }
+    ensures { IfOk result (λ log. log.inner.seat.board ≡ seat.board) }
 {
     let header = Header::new(population.scale(), population.seed(), 0, 1);
     let file = LogFile::create(alloc, disk, header)?;
-    Ok(Log {
-        logger: Logger::new(file, seat),
+    Ok(Paced {
+        inner: Logger::new(file, seat),
         pace: AtOnce,
     })
 }
@@ -100,7 +100,8 @@ fn ran_on<K: Run + Send + Sync, D: Disk + Send + Drop, R: Threads + Wait + Sync>
     parts: Parts,
     disk: D,
 ) -> Result<u64, Refusal>
-    requires run { IsOpenedAs parts K.population K.first K.past K.cells K.board K.seed K.name K.parts }
+    requires run { IsOpenedAs parts K.run }
+    requires ledger { IsLedgerOf parts K.name K.parts }
     requires loggers { (loggers_of parts ≡ 1) × (base_of parts ≡ 0) }
     requires terminals { terminals_of parts ≡ 1 }
     requires empty { D.is_modelled → D.seen disk ≡ [] }

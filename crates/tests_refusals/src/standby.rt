@@ -37,9 +37,7 @@ pub(crate) fn commit_at<K: Run, R: Wait>(
     engine: &Engine<K>,
     seat: Seat<K>,
     place: u32,
-) -> Result<Done, Refusal>
-    requires { seat.reader.cells ≡ K.cells }
-{
+) -> Result<Done, Refusal> {
     let mut seat = seat;
     let input = input_at(alloc, engine.population().scale(), place)?;
     commit(rt, alloc, engine, &mut seat, &input)

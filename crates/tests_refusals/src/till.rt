@@ -1,7 +1,7 @@
 //! An engine whose terminal pays, and the file of its logger.
 ghost use Rattle.std.specs.Prelude.{◌≡◌, ◌<◌, [], IfOk};
 ghost use Rattle.tables.specs.Inputs.{IsInput};
-ghost use Rattle.book.specs.Parts.{IsOpenedAs, loggers_of};
+ghost use Rattle.book.specs.Parts.{IsOpenedAs, IsLedgerOf, loggers_of};
 
 use crate::again::Again;
 use crate::looks::{Look, look_at};
@@ -36,8 +36,7 @@ impl<'a, K: Run, D: Disk + Drop> Model for Till<'a, K, D> {
 
     ghost view = { λ t. tt };
 
-    ghost invariant = { λ t. (t.clock.board ≡ K.board) × (t.terminal.reader.cells ≡ K.cells)
-        × (0 < K.board.plan.loggers) };
+    ghost invariant = { λ t. (t.clock.board ≡ K.run.board) × (0 < K.run.board.plan.loggers) };
 }
 
 impl<'a, K: Run, D: Disk + Drop> Till<'a, K, D> {
@@ -48,7 +47,8 @@ impl<'a, K: Run, D: Disk + Drop> Till<'a, K, D> {
         disk: D,
         calls: &'a AtomicU64,
     ) -> Result<Till<'a, K, D>, Refusal>
-        requires run { IsOpenedAs parts K.population K.first K.past K.cells K.board K.seed K.name K.parts }
+        requires run { IsOpenedAs parts K.run }
+        requires ledger { IsLedgerOf parts K.name K.parts }
         requires loggers { loggers_of parts ≡ 1 }
         requires empty { D.is_modelled → D.seen disk ≡ [] }
     {
@@ -120,10 +120,10 @@ impl<K: Run, D: Disk + Drop> Till<'_, K, D> {
 
 /// The engine that opens with these parts, its clock and its first terminal.
 fn opened<K: Run>(parts: Parts) -> Result<(Engine<K>, ClockSeat, Seat<K>), Refusal>
-    requires { IsOpenedAs parts K.population K.first K.past K.cells K.board K.seed K.name K.parts }
-    ensures clock { IfOk result (λ x. x.1.board ≡ K.board) }
-    ensures terminal { IfOk result (λ x. x.2.reader.cells ≡ K.cells) }
-    ensures loggers { 0 < K.board.plan.loggers }
+    requires run { IsOpenedAs parts K.run }
+    requires ledger { IsLedgerOf parts K.name K.parts }
+    ensures clock { IfOk result (λ x. x.1.board ≡ K.run.board) }
+    ensures loggers { 0 < K.run.board.plan.loggers }
 {
     let (engine, seats) = Engine::<K>::open(parts);
     let Seats {
@@ -137,7 +137,7 @@ fn opened<K: Run>(parts: Parts) -> Result<(Engine<K>, ClockSeat, Seat<K>), Refus
 
 /// The Payment of 1.00 by a customer of district 1 to that district, with date 1.
 fn payment_of<K: Run>(engine: &Engine<K>, customer: u32) -> Result<Input, Refusal>
-    ensures { IfOk result (λ input. IsInput K.first.scale input) }
+    ensures { IfOk result (λ input. IsInput K.run.first.scale input) }
 {
     let payment = PaymentInput {
         date: 1,

@@ -1,6 +1,6 @@
 //! A Payment behind a restart.
 ghost use Rattle.std.specs.Prelude.{◌≡◌, ◌<◌, length, IfOk};
-ghost use Rattle.book.specs.Parts.{IsFresh, IsOpenedAs, loggers_of};
+ghost use Rattle.book.specs.Parts.{IsFresh, IsOpenedAs, IsLedgerOf, loggers_of};
 
 use crate::restarting::lent;
 use book::{Parts, Run};
@@ -34,7 +34,7 @@ fn append_both<K: Run, D: Disk + Drop, R: Wait>(
     stage: &mut Stage<K, D>,
     second: &mut LogFile<D>,
 ) -> Result<(), Refusal>
-    requires { 1 < K.board.plan.loggers }
+    requires { 1 < K.run.board.plan.loggers }
 {
     stage.advance()?;
     let batch = stage.take(rt);
@@ -50,7 +50,8 @@ fn paid_with<K: Run, D: Disk + Drop, R: Wait>(
     first: LogFile<D>,
     second: &mut LogFile<D>,
 ) -> Result<Paid, Refusal>
-    requires run { IsOpenedAs parts K.population K.first K.past K.cells K.board K.seed K.name K.parts }
+    requires run { IsOpenedAs parts K.run }
+    requires ledger { IsLedgerOf parts K.name K.parts }
     requires loggers { loggers_of parts ≡ 2 }
 {
     let mut stage = Stage::<K, D>::over(parts, first)?;

@@ -1,6 +1,6 @@
 //! Two terminals, whose entries are their decks' inputs, and more inputs than commits that their population takes.
 ghost use Rattle.std.specs.Prelude.{◌≡◌, [], length, All, IfOk};
-ghost use Rattle.book.specs.Parts.{IsOpenedAs, base_of, loggers_of, terminals_of};
+ghost use Rattle.book.specs.Parts.{IsOpenedAs, IsLedgerOf, base_of, loggers_of, terminals_of};
 
 use crate::stage::one_log;
 use book::{Engine, Entry, Parts, Run, Seats};
@@ -147,7 +147,8 @@ fn run_of<K: Run + Send + Sync, R: Threads + Wait + Sync>(
     alloc: Global,
     parts: Parts,
 ) -> Result<(Seen, bool), Refusal>
-    requires run { IsOpenedAs parts K.population K.first K.past K.cells K.board K.seed K.name K.parts }
+    requires run { IsOpenedAs parts K.run }
+    requires ledger { IsLedgerOf parts K.name K.parts }
     requires loggers { (loggers_of parts ≡ 1) × (base_of parts ≡ 0) }
     requires terminals { terminals_of parts ≡ 2 }
 {

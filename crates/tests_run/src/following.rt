@@ -4,7 +4,7 @@ ghost use Rattle.std.specs.Prelude.{◌≡◌, length, All, IfOk};
 use crate::held::Passing;
 use crate::meeting::TURNS;
 use money::Refusal;
-use run_threads::{Pace, Progress, Station};
+use run_threads::{Pace, RunProgress, Station};
 use std::alloc::Global;
 use std::sync::Wait;
 use std::sync::atomic::{AtomicU64, Ordering};
@@ -49,7 +49,7 @@ impl Rounds {
     }
 
     /// The clock's logger ends a round once the follower's turn behind it is over, and all epochs before E are durable.
-    fn settle(&self, progress: &Progress, signals: u64) {
+    fn settle(&self, progress: &RunProgress, signals: u64) {
         for _ in 0..TURNS {
             let is_followed = self.last.load(Ordering::SeqCst) == signals;
             if is_followed && progress.durable().saturating_add(1) >= progress.epoch() {
@@ -76,7 +76,7 @@ impl Rounds {
 }
 
 /// Waits for a signal.
-fn sleep<R: Wait + Clock>(rt: &R, rounds: &Rounds, progress: &Progress, signals: u64) {
+fn sleep<R: Wait + Clock>(rt: &R, rounds: &Rounds, progress: &RunProgress, signals: u64) {
     let longest = Duration::from_secs(LONGEST);
     let begun = rt.monotonic();
     progress.wait(rt, signals, longest);
@@ -88,7 +88,7 @@ fn sleep<R: Wait + Clock>(rt: &R, rounds: &Rounds, progress: &Progress, signals:
 }
 
 /// Looks for a signal, so that a turn begins in the moment in which it comes.
-fn look(rounds: &Rounds, progress: &Progress, signals: u64) {
+fn look(rounds: &Rounds, progress: &RunProgress, signals: u64) {
     for _ in 0..TURNS {
         if progress.signals() != signals || rounds.in_vain() > 0 {
             return;
@@ -109,7 +109,7 @@ pub(crate) struct Round<'a, R: Wait + Clock> {
 
 impl<'a, R: Wait + Clock> Round<'a, R> {
     /// The first logger ends a round. Behind the last it waits for the end of the run.
-    fn lead(&self, progress: &Progress, signals: u64) {
+    fn lead(&self, progress: &RunProgress, signals: u64) {
         if signals == HELD {
             self.passing.wait_for_sync();
         } else {
@@ -128,7 +128,7 @@ impl<'a, R: Wait + Clock> Round<'a, R> {
     }
 
     /// The follower has ended a turn. It sleeps before the one, and looks before the other.
-    fn follow(&self, progress: &Progress, signals: u64) {
+    fn follow(&self, progress: &RunProgress, signals: u64) {
         if signals > 0 {
             self.rounds.followed.fetch_add(1, Ordering::SeqCst);
         }
@@ -142,7 +142,7 @@ impl<'a, R: Wait + Clock> Round<'a, R> {
 }
 
 impl<'a, R: Wait + Clock> Pace for Round<'a, R> {
-    fn pause(&mut self, progress: &Progress, signals: u64) {
+    fn pause(&mut self, progress: &RunProgress, signals: u64) {
         if self.has_clock {
             self.lead(progress, signals);
         } else {

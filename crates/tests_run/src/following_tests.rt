@@ -1,6 +1,6 @@
 //! A logger without the clock, whose turns begin when E has changed.
 ghost use Rattle.std.specs.Prelude.{◌≡◌, [], IfOk};
-ghost use Rattle.book.specs.Parts.{IsOpenedAs, base_of, loggers_of, terminals_of};
+ghost use Rattle.book.specs.Parts.{IsOpenedAs, IsLedgerOf, base_of, loggers_of, terminals_of};
 
 use crate::following::{ROUNDS, Round, Rounds, late_station};
 use crate::held::{Held, Passing};
@@ -59,7 +59,8 @@ fn run_of<K: Run + Send + Sync, R: Threads + Wait + Clock + Sync>(
     parts: Parts,
     shared: &Shared,
 ) -> Result<u64, Refusal>
-    requires run { IsOpenedAs parts K.population K.first K.past K.cells K.board K.seed K.name K.parts }
+    requires run { IsOpenedAs parts K.run }
+    requires ledger { IsLedgerOf parts K.name K.parts }
     requires loggers { (loggers_of parts ≡ 2) × (base_of parts ≡ 0) }
     requires terminals { terminals_of parts ≡ 1 }
 {

@@ -1,6 +1,6 @@
 //! A terminal that commits while its logger syncs.
 ghost use Rattle.std.specs.Prelude.{◌≡◌, [], IfOk};
-ghost use Rattle.book.specs.Parts.{IsOpenedAs, base_of, loggers_of, terminals_of};
+ghost use Rattle.book.specs.Parts.{IsOpenedAs, IsLedgerOf, base_of, loggers_of, terminals_of};
 
 use crate::held::{BESIDE, Held, Passing};
 use crate::stage::{follower, one_log, parts};
@@ -22,7 +22,8 @@ fn run_of<K: Run + Send + Sync, R: Threads + Wait + Sync>(
     parts: Parts,
     passing: &Passing,
 ) -> Result<(u64, u64), Refusal>
-    requires run { IsOpenedAs parts K.population K.first K.past K.cells K.board K.seed K.name K.parts }
+    requires run { IsOpenedAs parts K.run }
+    requires ledger { IsLedgerOf parts K.name K.parts }
     requires loggers { (loggers_of parts ≡ 1) × (base_of parts ≡ 0) }
     requires terminals { terminals_of parts ≡ 1 }
 {

@@ -2,7 +2,7 @@
 ghost use Rattle.std.specs.Prelude.{◌≡◌, []};
 
 use log_disk::{Disk, Memory};
-use run_threads::{Pace, Progress};
+use run_threads::{Pace, RunProgress};
 use std::alloc::Global;
 use std::sync::atomic::{AtomicU64, Ordering};
 use std::thread;
@@ -40,11 +40,11 @@ pub(crate) struct Noting<'a> {
 }
 
 impl<'a> Pace for Noting<'a> {
-    fn pause(&mut self, _progress: &Progress, _signals: u64) {
+    fn pause(&mut self, _progress: &RunProgress, _signals: u64) {
         thread::yield_now();
     }
 
-    fn end(&mut self, progress: &Progress) {
+    fn end(&mut self, progress: &RunProgress) {
         let after = self.ended.fetch_add(1, Ordering::SeqCst);
         self.note.after.store(after, Ordering::SeqCst);
         self.note.epoch.store(progress.epoch(), Ordering::SeqCst);

@@ -1,6 +1,6 @@
 //! An input that is given up, and all behind it.
 ghost use Rattle.std.specs.Prelude.{◌≡◌, [], length, All, IfOk};
-ghost use Rattle.book.specs.Parts.{IsOpenedAs, base_of, loggers_of, terminals_of};
+ghost use Rattle.book.specs.Parts.{IsOpenedAs, IsLedgerOf, base_of, loggers_of, terminals_of};
 
 use crate::overtaking::{Lane, Overtaking};
 use crate::stage::one_log;
@@ -85,7 +85,8 @@ fn run_of<K: Run + Send + Sync, R: Threads + Wait + Sync>(
     parts: Parts,
     overtaking: &Overtaking,
 ) -> Result<(Ends, Ends), Refusal>
-    requires run { IsOpenedAs parts K.population K.first K.past K.cells K.board K.seed K.name K.parts }
+    requires run { IsOpenedAs parts K.run }
+    requires ledger { IsLedgerOf parts K.name K.parts }
     requires loggers { (loggers_of parts ≡ 1) × (base_of parts ≡ 0) }
     requires terminals { terminals_of parts ≡ 2 }
 {

@@ -1,6 +1,6 @@
 //! Four terminals that meet, beside two loggers.
 ghost use Rattle.std.specs.Prelude.{◌≡◌, [], IfOk};
-ghost use Rattle.book.specs.Parts.{IsOpenedAs, base_of, loggers_of, terminals_of};
+ghost use Rattle.book.specs.Parts.{IsOpenedAs, IsLedgerOf, base_of, loggers_of, terminals_of};
 
 use crate::books::{Books, paid};
 use crate::meeting::Meeting;
@@ -56,7 +56,8 @@ fn outcome_of<K: Run + Send + Sync, D: Disk + Send + Drop, R: Threads + Wait + S
     meeting: &Meeting,
     disks: (D, D),
 ) -> Result<Outcome<K, D>, Refusal>
-    requires run { IsOpenedAs parts K.population K.first K.past K.cells K.board K.seed K.name K.parts }
+    requires run { IsOpenedAs parts K.run }
+    requires ledger { IsLedgerOf parts K.name K.parts }
     requires loggers { (loggers_of parts ≡ 2) × (base_of parts ≡ 0) }
     requires terminals { terminals_of parts ≡ 4 }
     requires empty { D.is_modelled → (D.seen disks.0 ≡ []) × (D.seen disks.1 ≡ []) }
@@ -83,7 +84,8 @@ fn run_of<K: Run + Send + Sync, D: Disk + Send + Drop, R: Threads + Wait + Sync>
     meeting: &Meeting,
     disks: (D, D),
 ) -> Result<(Seen, Books, i64), Refusal>
-    requires run { IsOpenedAs parts K.population K.first K.past K.cells K.board K.seed K.name K.parts }
+    requires run { IsOpenedAs parts K.run }
+    requires ledger { IsLedgerOf parts K.name K.parts }
     requires loggers { (loggers_of parts ≡ 2) × (base_of parts ≡ 0) }
     requires terminals { terminals_of parts ≡ 4 }
     requires empty { D.is_modelled → (D.seen disks.0 ≡ []) × (D.seen disks.1 ≡ []) }

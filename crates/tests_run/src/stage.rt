@@ -15,7 +15,7 @@ use logfile::LogFile;
 use logger::Logger;
 use money::Refusal;
 use population::Population;
-use run_threads::{AtOnce, Log, Pace, Station};
+use run_threads::{AtOnce, Pace, Paced, Station};
 use std::alloc::Global;
 use std::sync::Wait;
 use tables::Scale;
@@ -96,11 +96,11 @@ pub(crate) fn logs<D: Disk + Drop, P: Pace + Drop>(
     board: &Board,
     seats: Vec<LoggerSeat>,
     slots: ((D, P), (D, P)),
-) -> Result<Vec<Log<D, P>>, Refusal>
+) -> Result<Vec<Paced<Logger<D>, P>>, Refusal>
     requires seats { seats.items ≡ logger_seats board.now 2 }
     requires plan { (board.now.plan.loggers ≡ 2) × (board.now.plan.base ≡ 0) }
     requires empty { D.is_modelled → (D.seen slots.0.0 ≡ []) × (D.seen slots.1.0 ≡ []) }
-    ensures { IfOk result (λ logs. All (λ log. log.logger.seat.board ≡ board.now) logs.items) }
+    ensures { IfOk result (λ logs. All (λ log. log.inner.seat.board ≡ board.now) logs.items) }
 {
     let mut seats = seats;
     let (Some(second), Some(first)) = (seats.pop(), seats.pop()) else {
@@ -119,11 +119,11 @@ pub(crate) fn one_log<D: Disk + Drop>(
     board: &Board,
     seats: Vec<LoggerSeat>,
     disk: D,
-) -> Result<Vec<Log<D, AtOnce>>, Refusal>
+) -> Result<Vec<Paced<Logger<D>, AtOnce>>, Refusal>
     requires seats { seats.items ≡ logger_seats board.now 1 }
     requires plan { (board.now.plan.loggers ≡ 1) × (board.now.plan.base ≡ 0) }
     requires empty { D.is_modelled → D.seen disk ≡ [] }
-    ensures { IfOk result (λ logs. All (λ log. log.logger.seat.board ≡ board.now) logs.items) }
+    ensures { IfOk result (λ logs. All (λ log. log.inner.seat.board ≡ board.now) logs.items) }
 {
     let mut seats = seats;
     let Some(seat) = seats.pop() else {
@@ -141,18 +141,18 @@ fn log_on<D: Disk + Drop, P: Pace + Drop>(
     slot: (D, P),
     seat: LoggerSeat,
     logger: (u16, u16),
-) -> Result<Log<D, P>, Refusal>
+) -> Result<Paced<Logger<D>, P>, Refusal>
     requires seat { seat ≡ new_seat seat.board (logger_role logger.0) }
     requires plan { (seat.board.plan.loggers ≡ logger.1) × (seat.board.plan.base ≡ 0) }
     requires logger { (logger.0 < logger.1) × (logger.1 ≤ 8) }
     requires empty { D.is_modelled → D.seen slot.0 ≡ [] }
-    ensures { IfOk result (λ log. log.logger.seat.board ≡ seat.board) }
+    ensures { IfOk result (λ log. log.inner.seat.board ≡ seat.board) }
 {
     let ((disk, pace), (number, loggers)) = (slot, logger);
     let header = Header::new(population.scale(), population.seed(), number, loggers);
     let file = LogFile::create(alloc, disk, header)?;
-    Ok(Log {
-        logger: Logger::new(file, seat),
+    Ok(Paced {
+        inner: Logger::new(file, seat),
         pace,
     })
 }

@@ -26,14 +26,12 @@ impl<K: Run> Model for Payer<K> {
 
     ghost view = { λ p. tt };
 
-    ghost invariant = { λ p. p.reader.cells ≡ K.cells };
+    ghost invariant = { λ p. p.reader.cells ≡ K.run.cells };
 }
 
 impl<K: Run> Payer<K> {
     /// At a seat.
-    pub(crate) fn new(seat: Seat<K>) -> Payer<K>
-        requires { seat.reader.cells ≡ K.cells }
-    {
+    pub(crate) fn new(seat: Seat<K>) -> Payer<K> {
         let Seat {
             reader,
             board: _,
@@ -64,7 +62,7 @@ impl<K: Run> Payer<K> {
         engine: &Engine<K>,
         input: &Input,
     ) -> Result<Done, Refusal>
-        requires { IsInput K.first.scale input.now }
+        requires { IsInput K.run.first.scale input.now }
     {
         let (board, cells) = (engine.board(), engine.cells());
         let work = execute(

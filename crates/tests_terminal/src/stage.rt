@@ -1,6 +1,6 @@
 //! An engine with a terminal and its rival.
 ghost use Rattle.std.specs.Prelude.{◌≡◌, IfOk};
-ghost use Rattle.book.specs.Parts.{IsFresh, IsOpenedAs};
+ghost use Rattle.book.specs.Parts.{IsFresh, IsOpenedAs, IsLedgerOf};
 
 use crate::rival::{Payer, Rival};
 use book::{Engine, Parts, Run, Seat, Seats};
@@ -41,7 +41,8 @@ pub(crate) fn two_inputs<K: Run, R: Wait>(
     seed: u64,
     rivals: u32,
 ) -> Result<(Seen, Seen), Refusal>
-    requires run { IsOpenedAs parts K.population K.first K.past K.cells K.board K.seed K.name K.parts }
+    requires run { IsOpenedAs parts K.run }
+    requires ledger { IsLedgerOf parts K.name K.parts }
 {
     let (engine, seats) = Engine::<K>::open(parts);
     let Seats {
@@ -73,9 +74,7 @@ fn terminal_at<K: Run>(
     engine: &Engine<K>,
     seat: Seat<K>,
     seed: u64,
-) -> Result<Terminal<K>, Refusal>
-    requires { (seat.reader.cells ≡ K.cells) × (seat.board.board ≡ K.board) }
-{
+) -> Result<Terminal<K>, Refusal> {
     let Seat {
         reader,
         board,

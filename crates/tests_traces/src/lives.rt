@@ -1,17 +1,18 @@
 //! Lives of a database in memory, recorded.
 ghost use Rattle.std.specs.Prelude.{◌≡◌, ◌<◌, ◌≤◌, [], length, map, All, IfOk, IsTrue};
 ghost use Rattle.std.specs.Arc.{arc_value};
-ghost use Rattle.book.specs.Parts.{IsFresh, IsOpenedAs, base_of, loggers_of, terminals_of};
+ghost use Rattle.book.specs.Parts.{IsFresh, IsOpenedAs, IsLedgerOf, base_of, loggers_of, terminals_of};
 ghost use Rattle.program_run.specs.Outfit.{AreLogsOf};
 
 use crate::record::Made;
 use book::{Entry, Parts, Run};
 use log_disk::{Disk, Memory};
+use logfile::LogFile;
 use money::Refusal;
 use population::Population;
-use program_run::{OpenLog, Plan, Slot, created, run_parts};
+use program_run::{RunPlan, created, run_parts};
 use recover_restart::{Restarted, restart};
-use run_threads::{AtOnce, Pace};
+use run_threads::{AtOnce, Pace, Paced};
 use std::alloc::{AllocError, Global};
 use std::marker::Brand;
 use std::sync::{Arc, Wait};
@@ -56,12 +57,13 @@ fn made_by<
     rt: &R,
     alloc: Global,
     parts: Parts,
-    logs: Vec<OpenLog<D, P>>,
+    logs: Vec<Paced<LogFile<D>, P>>,
     gates: Vec<G>,
-    plan: &Plan,
+    plan: &RunPlan,
 ) -> Result<Made, Refusal>
-    requires run { IsOpenedAs parts K.population K.first K.past K.cells K.board K.seed K.name K.parts }
-    requires logs { AreLogsOf (loggers_of parts) (base_of parts) (map (λ log. log.file) logs.items) }
+    requires run { IsOpenedAs parts K.run }
+    requires ledger { IsLedgerOf parts K.name K.parts }
+    requires logs { AreLogsOf (loggers_of parts) (base_of parts) (map (λ log. log.inner) logs.items) }
     requires terminals { terminals_of parts ≡ plan.now.terminals }
     requires gates { length gates.items ≡ plan.now.terminals }
 {
@@ -77,7 +79,7 @@ pub(crate) fn begun<R: Threads + Wait + Sync>(
     notes: &Notes,
     tapes: &mut [Tape],
     ways: Ways,
-    plan: &Plan,
+    plan: &RunPlan,
 ) -> Result<Made, Refusal> {
     let disks = recorded(alloc, notes, tapes, ways)?;
     let gates = tellers(alloc, notes, plan.terminals)?;
@@ -97,14 +99,14 @@ fn begun_on<
 >(
     rt: &R,
     alloc: Global,
-    slots: Vec<Slot<D, P>>,
+    slots: Vec<Paced<D, P>>,
     gates: Vec<G>,
-    plan: &Plan,
+    plan: &RunPlan,
 ) -> Result<Made, Refusal>
     requires loggers { (0 < length slots.items) × (length slots.items ≤ 8) }
     requires terminals { (0 < plan.now.terminals) × (plan.now.terminals ≤ 16) }
     requires gates { length gates.items ≡ plan.now.terminals }
-    requires empty { D.is_modelled → All (λ slot. D.seen slot.disk ≡ []) slots.items }
+    requires empty { D.is_modelled → All (λ slot. D.seen slot.inner ≡ []) slots.items }
 {
     let population = plain(alloc)?;
     let (scale, seed) = (population.scale(), population.seed());
@@ -151,7 +153,7 @@ pub(crate) fn resumed<R: Threads + Wait + Sync>(
     notes: &Notes,
     tapes: &mut [Tape],
     ways: Ways,
-    plan: &Plan,
+    plan: &RunPlan,
 ) -> Result<Continued, Refusal> {
     let disks = recorded(alloc, notes, tapes, ways)?;
     let gates = tellers(alloc, notes, plan.terminals)?;
@@ -165,7 +167,7 @@ fn resumed_on<R: Threads + Wait + Sync>(
     notes: &Notes,
     disks: Vec<Recorded<'_>>,
     gates: Vec<Teller<'_>>,
-    plan: &Plan,
+    plan: &RunPlan,
 ) -> Result<Continued, Refusal>
     requires gates { length gates.items ≡ plan.now.terminals }
 {
@@ -188,7 +190,7 @@ fn made_behind<D: Disk + Send + Drop, G: Gate + Send + Drop, R: Threads + Wait +
     notes: &Notes,
     restarted: Restarted<D>,
     gates: Vec<G>,
-    plan: &Plan,
+    plan: &RunPlan,
 ) -> Result<Continued, Refusal>
     requires fresh { IsFresh restarted.parts }
     requires files { AreLogsOf (loggers_of restarted.parts) (base_of restarted.parts) restarted.files.items }

@@ -5,7 +5,7 @@ use crate::lives::{COMMITS, begun, empty, memories, resumed};
 use crate::record::{Beginning, Judgements, Made, Record};
 use crate::sights::Sights;
 use money::Refusal;
-use program_run::Plan;
+use program_run::RunPlan;
 use std::alloc::{AllocError, Global};
 use std::sync::Wait;
 use std::test::Fail;
@@ -24,7 +24,7 @@ const RELEASED: usize = 8;
 
 /// How the disks of a run are: of some syncs each is held until its terminals have asked for their replies, one of them
 /// twice.
-fn ways_of(plan: &Plan) -> Ways {
+fn ways_of(plan: &RunPlan) -> Ways {
     Ways {
         fault: None,
         asks: u64::from(plan.terminals).saturating_add(1),
@@ -139,7 +139,7 @@ fn first_life<R: Threads + Wait + Sync>(
     rt: &R,
     alloc: Global,
     loggers: u16,
-    plan: &Plan,
+    plan: &RunPlan,
 ) -> Result<Seen, Refusal> {
     let notes = Notes::new(alloc, COMMITS as usize)?;
     let mut tapes = empty(alloc, loggers)?;
@@ -170,7 +170,7 @@ fn second_life<R: Threads + Wait + Sync>(
     rt: &R,
     alloc: Global,
     loggers: u16,
-    plan: &Plan,
+    plan: &RunPlan,
 ) -> Result<Seen, Refusal> {
     let notes = Notes::new(alloc, COMMITS as usize)?;
     let mut tapes = empty(alloc, loggers)?;
@@ -187,7 +187,7 @@ fn life_on<R: Threads + Wait + Sync>(
     rt: &R,
     alloc: Global,
     left: Vec<Tape>,
-    plan: &Plan,
+    plan: &RunPlan,
 ) -> Result<Seen, Refusal> {
     let notes = Notes::new(alloc, COMMITS as usize)?;
     let mut tapes = left;
@@ -204,7 +204,7 @@ fn first_lives<R: Threads + Wait + Sync>(
 ) -> Result<Verdict, Refusal> {
     let mut verdict = Verdict::default();
     for (loggers, terminals) in sizes {
-        let plan = Plan {
+        let plan = RunPlan {
             terminals: *terminals,
             inputs: (INPUTS / u32::from(*terminals).max(1)).max(8),
             seed: u64::from(*loggers),
@@ -235,7 +235,7 @@ fn runs_of_many_loggers_are_lists_of_events(rt: HostRuntime) -> Result<(), Fail>
 
 #[test]
 fn second_lives_are_lists_of_events(rt: HostRuntime) -> Result<(), Fail> {
-    let plan = Plan {
+    let plan = RunPlan {
         terminals: 4,
         inputs: 12,
         seed: 3,

@@ -6,4 +6,4 @@ use Rattle.bench_run.proofs.memories.Given as goal
 abbrev pub invariant-loop-logger : goal.invariant-loop-logger
 invariant-loop-logger g l =
     (length l.slots.items ≡ l.logger)
-    × All (λ slot. (replayed_calls slot.disk.calls).bytes ≡ []) l.slots.items
+    × All (λ slot. (replayed_calls slot.inner.calls).bytes ≡ []) l.slots.items

@@ -12,7 +12,7 @@ use Rattle.book.proofs.confirming.has_number.Goals as goal
 
 pub returns-in-Some-clause-number : goal.returns-in-Some-clause-number
 returns-in-Some-clause-number g c =
-    let t0 = g.K.Run.first in
+    let t0 = g.K.Run.run.first in
     let history = c.args.book.now.history in
     let number = c.number_of_key-number.ensures.value ∙ ap (λ (k : DistrictKey). number_of_key c.args.scale.now (key.District k)) c.home.ensures
     ∙ ap (λ (s : Sizes). number_of_key s (key.District (home c.args.order.now))) c.requires.scale in
@@ -22,7 +22,7 @@ returns-in-Some-clause-number g c =
 
 pub returns-in-None-clause-number : goal.returns-in-None-clause-number
 returns-in-None-clause-number g c =
-    let t0 = g.K.Run.first in
+    let t0 = g.K.Run.run.first in
     let history = c.args.book.now.history in
     let number = c.number_of_key-number.ensures.value ∙ ap (λ (k : DistrictKey). number_of_key c.args.scale.now (key.District k)) c.home.ensures
     ∙ ap (λ (s : Sizes). number_of_key s (key.District (home c.args.order.now))) c.requires.scale in

@@ -1,7 +1,6 @@
-use Rattle.std.proofs.Common.{◌≡◌}
 use Rattle.book.specs.Book.{IsAsBefore}
 use Rattle.book_session.proofs.attempting.persist.Given as goal
 
--- nothing has committed, and the reader is of these cells
+-- nothing has committed
 abbrev pub invariant-loop : goal.invariant-loop
-invariant-loop g l = IsAsBefore l.fn.book l.book × (l.seat.reader.cells ≡ g.K.Run.cells)
+invariant-loop g l = IsAsBefore l.fn.book l.book

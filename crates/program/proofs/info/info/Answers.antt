@@ -4,7 +4,7 @@ use Rattle.std.proofs.lemmas.Result.{IfErr-weaker}
 use Rattle.program_files.specs.Causes.{cause_of}
 use Rattle.program.specs.Info.{IsUntold, first_path, memory}
 use Rattle.program_files.specs.declared.fault.Fault.{Fault}
-use Rattle.program.proofs.NoMemory.{passed_on}
+use Rattle.program_live.proofs.NoMemory.{passed_on}
 use Rattle.program.proofs.info.info.Goals as goal
 
 pub returns-in_err-path-clause-untold : goal.returns-in_err-path-clause-untold

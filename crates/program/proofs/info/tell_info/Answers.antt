@@ -4,7 +4,7 @@ use Rattle.program_files.specs.Causes.{cause_of}
 use Rattle.program.specs.Info.{IsUntold, begun, info_text, memory}
 use Rattle.program.specs.Status.{WritesBeginning}
 use Rattle.program_files.specs.declared.fault.Fault.{Fault}
-use Rattle.program.proofs.NoMemory.{passed_on}
+use Rattle.program_live.proofs.NoMemory.{passed_on}
 use Rattle.program.proofs.info.tell_info.Goals as goal
 
 pub returns-in_err-text-clause-untold : goal.returns-in_err-text-clause-untold

@@ -3,7 +3,8 @@ use Rattle.std.proofs.lemmas.Result.{IfOk-weaker, IfErr-weaker}
 use Rattle.tables.specs.Sizes.{Sizes}
 use Rattle.population.specs.Initial.{initial}
 use Rattle.program_files.specs.Causes.{cause_of}
-use Rattle.program.specs.Run.{IsPopulation, IsDone, IsFailed, begun}
+use Rattle.program.specs.Run.{IsDone, IsFailed, begun}
+use Rattle.program_live.specs.Population.{IsPopulation}
 use Rattle.program.proofs.running.answer.Goals as goal
 
 pub returns-clause-whole : goal.returns-clause-whole

@@ -12,7 +12,7 @@ run-requires-clause-decks g c κs within =
 pub returns-clause-counted : goal.returns-clause-counted
 returns-clause-counted g c =
     let o = c.in_ok-outcome.outcome in
-    counts_are g.K.Run.first g.K.Ledger.parts c.args.plan.now.terminals g.K.Run.past c.args.plan.now.inputs o.closed o.tallies.items
+    counts_are g.K.Run.run.first g.K.Ledger.parts c.args.plan.now.terminals g.K.Run.run.past c.args.plan.now.inputs o.closed o.tallies.items
     o.counts
-    (sym c.requires.run.parts_are ∙ (c.requires.run.fresh.parts ∙ c.requires.terminals)) c.in_ok-outcome.ensures.history
+    (sym c.requires.ledger.parts_are ∙ (c.requires.run.fresh.parts ∙ c.requires.terminals)) c.in_ok-outcome.ensures.history
     c.in_ok-outcome.ensures.commits c.in_ok-outcome.ensures.counted

@@ -9,5 +9,5 @@ invariant-loop-slot g l =
     (into_iter_len l.slot-iterator ≡ length (into_iter_items l.slot-iterator))
     × (length l.logs.items + length (into_iter_items l.slot-iterator) ≡ l.loggers)
     × (l.loggers ≡ length l.fn.slots.items)
-    × AreFirstLogs (length l.logs.items) l.loggers 0 (map (λ log. log.file) l.logs.items)
-    × (g.D.Disk.is_modelled → All (λ slot. g.D.Disk.seen slot.disk ≡ []) (into_iter_items l.slot-iterator))
+    × AreFirstLogs (length l.logs.items) l.loggers 0 (map (λ log. log.inner) l.logs.items)
+    × (g.D.Disk.is_modelled → All (λ slot. g.D.Disk.seen slot.inner ≡ []) (into_iter_items l.slot-iterator))

@@ -4,8 +4,9 @@ use Rattle.std.proofs.lemmas.List.{map_push}
 use Rattle.std.proofs.lemmas.List.Elements.{All-nil, All-push}
 use Rattle.std.proofs.lemmas.List.Sorted.{All-permutation}
 use Rattle.board.specs.Opening.{logger_seats}
-use Rattle.run_threads.specs.declared.threads.Log.{Log}
-use Rattle.program_run.specs.declared.outfit.OpenLog.{OpenLog}
+use Rattle.logger.specs.Logger.{LoggerView}
+use Rattle.run_threads.specs.declared.pace.Paced.{Paced}
+use Rattle.logfile.specs.Standing.{LogFileView}
 use Rattle.program_run.proofs.Seats.{AreFirstLogs, all_logs, last_pair, seats_count}
 use Rattle.program_run.proofs.outfit.manned.Goals as goal
 
@@ -14,48 +15,48 @@ loop-seat-init g c =
     let board = c.args.board.now in
     let count : length c.args.seats.items ≡ board.plan.loggers = ap length c.requires.seats ∙ seats_count board board.plan.loggers in
     let are : c.args.seats.items ≡ logger_seats board (length c.args.seats.items) = c.requires.seats ∙ ap (logger_seats board) (sym count) in
-    let first = subst (λ n. AreFirstLogs n board.plan.loggers board.plan.base (map (λ (log : OpenLog g.row.D.Denot g.row.P.Denot). log.file) c.args.logs.items))
+    let first = subst (λ n. AreFirstLogs n board.plan.loggers board.plan.base (map (λ (log : Paced (LogFileView g.row.D.Denot) g.row.P.Denot). log.inner) c.args.logs.items))
     (sym count) (all_logs c.requires.logs) in
-    let none = All-nil (λ (log : Log g.row.D.Denot g.row.P.Denot). log.logger.seat.board ≡ board) in
+    let none = All-nil (λ (log : Paced (LoggerView g.row.D.Denot) g.row.P.Denot). log.inner.seat.board ≡ board) in
     (are, first, search rules)
 
 pub log_of-requires-clause-seat : goal.log_of-requires-clause-seat
 log_of-requires-clause-seat g c =
     (last_pair c.loop-seat.invariant.0 c.loop-seat.invariant.1 (c.pop.ensures.items ∙ ap (λ r. c.pop.new.self.items ++ option_to_list r) c.in-Some.is)
-    (ap (map (λ (log : OpenLog g.row.D.Denot g.row.P.Denot). log.file))
+    (ap (map (λ (log : Paced (LogFileView g.row.D.Denot) g.row.P.Denot). log.inner))
     (c.pop-in-Some.ensures.items ∙ ap (λ r. c.pop-in-Some.new.self.items ++ option_to_list r) c.in-Some-pop.is)
-    ∙ map_push (λ (log : OpenLog g.row.D.Denot g.row.P.Denot). log.file) c.pop-in-Some.new.self.items c.in-Some-pop.log)).number
+    ∙ map_push (λ (log : Paced (LogFileView g.row.D.Denot) g.row.P.Denot). log.inner) c.pop-in-Some.new.self.items c.in-Some-pop.log)).number
 
 pub log_of-requires-clause-loggers : goal.log_of-requires-clause-loggers
 log_of-requires-clause-loggers g c =
     (last_pair c.loop-seat.invariant.0 c.loop-seat.invariant.1 (c.pop.ensures.items ∙ ap (λ r. c.pop.new.self.items ++ option_to_list r) c.in-Some.is)
-    (ap (map (λ (log : OpenLog g.row.D.Denot g.row.P.Denot). log.file))
+    (ap (map (λ (log : Paced (LogFileView g.row.D.Denot) g.row.P.Denot). log.inner))
     (c.pop-in-Some.ensures.items ∙ ap (λ r. c.pop-in-Some.new.self.items ++ option_to_list r) c.in-Some-pop.is)
-    ∙ map_push (λ (log : OpenLog g.row.D.Denot g.row.P.Denot). log.file) c.pop-in-Some.new.self.items c.in-Some-pop.log)).loggers
+    ∙ map_push (λ (log : Paced (LogFileView g.row.D.Denot) g.row.P.Denot). log.inner) c.pop-in-Some.new.self.items c.in-Some-pop.log)).loggers
 
 pub log_of-requires-clause-base : goal.log_of-requires-clause-base
 log_of-requires-clause-base g c =
     (last_pair c.loop-seat.invariant.0 c.loop-seat.invariant.1 (c.pop.ensures.items ∙ ap (λ r. c.pop.new.self.items ++ option_to_list r) c.in-Some.is)
-    (ap (map (λ (log : OpenLog g.row.D.Denot g.row.P.Denot). log.file))
+    (ap (map (λ (log : Paced (LogFileView g.row.D.Denot) g.row.P.Denot). log.inner))
     (c.pop-in-Some.ensures.items ∙ ap (λ r. c.pop-in-Some.new.self.items ++ option_to_list r) c.in-Some-pop.is)
-    ∙ map_push (λ (log : OpenLog g.row.D.Denot g.row.P.Denot). log.file) c.pop-in-Some.new.self.items c.in-Some-pop.log)).base
+    ∙ map_push (λ (log : Paced (LogFileView g.row.D.Denot) g.row.P.Denot). log.inner) c.pop-in-Some.new.self.items c.in-Some-pop.log)).base
 
 pub loop-seat-preserved : goal.loop-seat-preserved
 loop-seat-preserved g c =
     let last = last_pair c.loop-seat.invariant.0 c.loop-seat.invariant.1
     (c.pop.ensures.items ∙ ap (λ r. c.pop.new.self.items ++ option_to_list r) c.in-Some.is)
-    (ap (map (λ (log : OpenLog g.row.D.Denot g.row.P.Denot). log.file))
+    (ap (map (λ (log : Paced (LogFileView g.row.D.Denot) g.row.P.Denot). log.inner))
     (c.pop-in-Some.ensures.items ∙ ap (λ r. c.pop-in-Some.new.self.items ++ option_to_list r) c.in-Some-pop.is)
-    ∙ map_push (λ (log : OpenLog g.row.D.Denot g.row.P.Denot). log.file) c.pop-in-Some.new.self.items c.in-Some-pop.log) in
-    let own = All-push (λ (log : Log g.row.D.Denot g.row.P.Denot). log.logger.seat.board ≡ c.args.board.now)
+    ∙ map_push (λ (log : Paced (LogFileView g.row.D.Denot) g.row.P.Denot). log.inner) c.pop-in-Some.new.self.items c.in-Some-pop.log) in
+    let own = All-push (λ (log : Paced (LoggerView g.row.D.Denot) g.row.P.Denot). log.inner.seat.board ≡ c.args.board.now)
     c.loop-seat.manned.items c.log_of.result c.loop-seat.invariant.2 (c.log_of.ensures.own ∙ last.same_board) in (
       last.seats_left,
       last.files_left,
-      subst (All (λ (log : Log g.row.D.Denot g.row.P.Denot). log.logger.seat.board ≡ c.args.board.now)) (sym c.in_ok-push.ensures.items) own,
+      subst (All (λ (log : Paced (LoggerView g.row.D.Denot) g.row.P.Denot). log.inner.seat.board ≡ c.args.board.now)) (sym c.in_ok-push.ensures.items) own,
     )
 
 pub returns : goal.returns
 returns g c = record {
-  own = All-permutation (λ (log : Log g.row.D.Denot g.row.P.Denot). log.logger.seat.board ≡ c.args.board.now)
+  own = All-permutation (λ (log : Paced (LoggerView g.row.D.Denot) g.row.P.Denot). log.inner.seat.board ≡ c.args.board.now)
       c.loop-seat.manned.items c.reverse.new.self.items c.reverse.ensures.permutation c.loop-seat.invariant.2;
 }

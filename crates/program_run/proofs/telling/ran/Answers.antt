@@ -15,7 +15,7 @@ pub returns-in_err-report-clause-cut_short : goal.returns-in_err-report-clause-c
 returns-in_err-report-clause-cut_short g c =
     let o = c.args.outcome.now in
     let w = g.W.Write.contents c.args.writer.now in
-    let short : IsCutShort (replay g.K.Run.first o.closed) o.counts w w
+    let short : IsCutShort (replay g.K.Run.run.first o.closed) o.counts w w
     c.in_err-report.field-0.0 = unreported c.in_err-report.ensures.only_memory (Appends-nil w) in
     search rules
 

@@ -8,13 +8,13 @@ use Rattle.program_script.proofs.answering.answer_line.Goals as goal
 
 pub returns-in_default-clause-turn : goal.returns-in_default-clause-turn
 returns-in_default-clause-turn g c =
-    let s = state_of g.K.Run.first c.args.session.now in
+    let s = state_of g.K.Run.run.first c.args.session.now in
     rw c.in_default.is (on_ok_weaker c.refuse.result (λ told. (answer.Refused BadLine c.args.number, told, long_turn s c.args.number))
     c.refuse.ensures.told)
 
 pub returns-in-Ok-clause-turn : goal.returns-in-Ok-clause-turn
 returns-in-Ok-clause-turn g c =
-    let before = state_of g.K.Run.first c.args.session.now in
+    let before = state_of g.K.Run.run.first c.args.session.now in
     let read = c.in-Ok.ensures in
     rw c.in-Some.is (on_ok_weaker c.answer_request.result (λ told. (
       told.0,
@@ -24,7 +24,7 @@ returns-in-Ok-clause-turn g c =
 
 pub returns-in-Err-clause-turn : goal.returns-in-Err-clause-turn
 returns-in-Err-clause-turn g c =
-    let s = state_of g.K.Run.first c.args.session.now in
+    let s = state_of g.K.Run.run.first c.args.session.now in
     let refusal = c.in-Err.refusal in
     rw c.in-Some.is (on_ok_weaker c.decline.result (λ told. (
       answer.Refused refusal c.args.number,

@@ -12,7 +12,7 @@ use Rattle.program_script.proofs.answering.answer_request.Goals as goal
 
 pub returns-in-Ok-Transaction-clause-turn : goal.returns-in-Ok-Transaction-clause-turn
 returns-in-Ok-Transaction-clause-turn g c =
-    let t0 = g.K.Run.first in
+    let t0 = g.K.Run.run.first in
     let scale = c.scale-scale.ensures ∙ ap (λ (t : Database). t.scale) c.population.ensures in
     let ok = c.in-Ok-Transaction.ensures.ranges in
     let in_range = subst (λ (s : Sizes). IsInRange s c.args.request) scale ok.1 in
@@ -25,7 +25,7 @@ returns-in-Ok-Transaction-clause-turn g c =
 
 pub returns-in_ok-row-in-Ok-Show-clause-turn : goal.returns-in_ok-row-in-Ok-Show-clause-turn
 returns-in_ok-row-in-Ok-Show-clause-turn g c =
-    let t0 = g.K.Run.first in
+    let t0 = g.K.Run.run.first in
     let scale = c.scale-scale.ensures ∙ ap (λ (t : Database). t.scale) c.population.ensures in
     let ok = c.in-Ok-Show.ensures.ranges in
     let in_range = subst (λ (s : Sizes). IsInRange s c.args.request) scale ok.1 in
@@ -42,7 +42,7 @@ returns-in_ok-row-in-Ok-Show-clause-turn g c =
 
 pub returns-in-Err-clause-turn : goal.returns-in-Err-clause-turn
 returns-in-Err-clause-turn g c =
-    let t0 = g.K.Run.first in
+    let t0 = g.K.Run.run.first in
     let scale = c.scale-scale.ensures ∙ ap (λ (t : Database). t.scale) c.population.ensures in
     let wrong = c.in-Err.ensures.ranges in
     on_ok_weaker c.refuse.result (λ told. (

@@ -12,7 +12,7 @@ returns-in-Ok-clause-turn g c =
     on_ok_weaker c.tell_last.result (λ told. (
       answer.Reply next.0.reply,
       told,
-      committed_turn g.K.Run.first c.args.session.now c.commit.new.self c.args.number c.args.input.now next.0
+      committed_turn g.K.Run.run.first c.args.session.now c.commit.new.self c.args.number c.args.input.now next.0
           c.in-Ok.ensures.count next.2 next.1,
     )) (c.tell_last.ensures.last c.args.session.now.dones next.0 (c.dones.ensures ∙ next.2))
 
@@ -20,7 +20,7 @@ pub returns-in-Err-clause-turn : goal.returns-in-Err-clause-turn
 returns-in-Err-clause-turn g c =
     let is = c.in-Err.ensures in
     let refusal = c.in-Err.refusal in
-    let t0 = g.K.Run.first in
+    let t0 = g.K.Run.run.first in
     let history = c.args.session.now.history in
     on_ok_weaker c.decline.result (λ told. (
       answer.Refused refusal c.args.number,

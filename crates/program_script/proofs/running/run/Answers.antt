@@ -5,4 +5,4 @@ use Rattle.program_script.proofs.running.run.Goals as goal
 
 pub returns-in_err-desk-clause-beginning : goal.returns-in_err-desk-clause-beginning
 returns-in_err-desk-clause-beginning g c =
-    on_err _ c.from_residual.result (λ bytes left. ([], Appends-nil (g.W.Write.contents c.args.writer.now), begun_none g.K.Run.first bytes))
+    on_err _ c.from_residual.result (λ bytes left. ([], Appends-nil (g.W.Write.contents c.args.writer.now), begun_none g.K.Run.run.first bytes))

@@ -16,7 +16,7 @@ unwrap-first-requires g c =
 
 pub returns-clause-row : goal.returns-clause-row
 returns-clause-row g c =
-    let t0 = g.K.Run.first in
+    let t0 = g.K.Run.run.first in
     let history = c.args.session.now.history in
     let first = c.first_tables in
     let found = row_there exact_customer first.result.now.customers c.args.key c.get.result c.unwrap-first.result c.get.ensures.value c.unwrap-first.ensures in

@@ -8,7 +8,7 @@ use Rattle.program_script.proofs.showing.present_at.Goals as goal
 
 pub unwrap-requires : goal.unwrap-requires
 unwrap-requires g c =
-    let t0 = g.K.Run.first in
+    let t0 = g.K.Run.run.first in
     let history = c.args.session.now.history in
     let key = of_narrow (replay t0 history).scale (g.T.Keyed.record_of c.args.key)
     (subst (λ (s : Sizes). IsNarrowKey s (g.T.Keyed.record_of c.args.key)) (sym (replay-scale t0 history)) c.requires) in

@@ -12,13 +12,13 @@ use Rattle.program_script.proofs.showing.row_at.Goals as goal
 
 pub returns-in_err-words-clause-row : goal.returns-in_err-words-clause-row
 returns-in_err-words-clause-row g c =
-    let t = replay g.K.Run.first c.args.session.now.history in
+    let t = replay g.K.Run.run.first c.args.session.now.history in
     no_row g.T.Keyed.words_of (g.T.Keyed.at t c.args.key) (c.in_err-words.ensures.words ∙ (ap (row_at t) c.key.ensures ∙ g.met.T.Keyed.record_holds_row t c.args.key))
     ∙ sym c.from_residual.ensures
 
 pub returns-clause-row : goal.returns-clause-row
 returns-clause-row g c =
-    let t0 = g.K.Run.first in
+    let t0 = g.K.Run.run.first in
     let t = replay t0 c.args.session.now.history in
     let scale : t.scale ≡ c.scale.result = replay-scale t0 c.args.session.now.history ∙ sym (c.scale.ensures ∙ ap (λ (t : Database). t.scale) c.population.ensures) in
     let at_key = of_narrow t.scale (g.T.Keyed.record_of c.args.key)

@@ -6,6 +6,6 @@ use Rattle.program_script.proofs.showing.text_at.Goals as goal
 
 pub returns-clause-row : goal.returns-clause-row
 returns-clause-row g c =
-    let t = replay g.K.Run.first c.args.session.now.history in
+    let t = replay g.K.Run.run.first c.args.session.now.history in
     let told = text_of_record t c.text_words-words.ensures.well_formed c.args.key c.text_words-words.result c.text_words-words.ensures.words in
     IfOk-weaker c.of_words.result _ _ (λ kept is. told.there ∙ ap Some (sym is)) (c.of_words.ensures told.text told.is told.words_are)

@@ -24,7 +24,7 @@ record_wide-requires g c =
 
 pub unwrap-requires : goal.unwrap-requires
 unwrap-requires g c =
-    let t0 = g.K.Run.first in
+    let t0 = g.K.Run.run.first in
     let history = c.args.session.now.history in
     let held = record_held t0 (replay t0 history) (replay-IsOf t0 history) (key.CustomerData c.args.key) c.requires c.scale-scale.result _ _
     (c.scale-scale.ensures ∙ ap (λ (t : Database). t.scale) c.population.ensures) c.number_of_key-number.ensures.value c.record_wide.ensures.words in
@@ -34,7 +34,7 @@ unwrap-requires g c =
 
 pub returns-clause-words : goal.returns-clause-words
 returns-clause-words g c =
-    let t0 = g.K.Run.first in
+    let t0 = g.K.Run.run.first in
     let history = c.args.session.now.history in
     sym c.unwrap.ensures
     ∙ record_held t0 (replay t0 history) (replay-IsOf t0 history) (key.CustomerData c.args.key) c.requires c.scale-scale.result _ _

@@ -10,14 +10,14 @@ use Rattle.program_script.proofs.showing.words_of.Goals as goal
 
 pub returns-clause-words : goal.returns-clause-words
 returns-clause-words g c =
-    let t0 = g.K.Run.first in
+    let t0 = g.K.Run.run.first in
     let history = c.args.session.now.history in
     record_held t0 (replay t0 history) (replay-IsOf t0 history) c.args.key (of_narrow t0.scale c.args.key c.requires) c.scale-scale.result _ _
     (c.scale-scale.ensures ∙ ap (λ (t : Database). t.scale) c.population.ensures) c.number_of_key.ensures.value c.record.ensures.words
 
 pub number_of_key-requires : goal.number_of_key-requires
 number_of_key-requires g c = subst (λ (z : Sizes). IsRecordKey z c.args.key)
-    (sym (c.scale-scale.ensures ∙ ap (λ (t : Database). t.scale) c.population.ensures)) (of_narrow g.K.Run.first.scale c.args.key c.requires)
+    (sym (c.scale-scale.ensures ∙ ap (λ (t : Database). t.scale) c.population.ensures)) (of_narrow g.K.Run.run.first.scale c.args.key c.requires)
 
 pub record-requires : goal.record-requires
 record-requires g c =

@@ -7,7 +7,7 @@ use Rattle.book.specs.Share.{parts_of, share_commits}
 use Rattle.terminals_deck.specs.Deck.{DeckView}
 use Rattle.run_threads.specs.Tally.{commits_in}
 use Rattle.run_threads.specs.declared.tally.Tally.{Tally}
-use Rattle.run_threads.specs.declared.worker.Worker.{Worker}
+use Rattle.run_threads.specs.declared.worker.TerminalThread.{TerminalThread}
 use Rattle.run_threads.proofs.sums.gathered.Goals as goal
 
 pub push_reserved-requires : goal.push_reserved-requires
@@ -16,7 +16,7 @@ push_reserved-requires g c =
     let b = c.into_iter-worker-iterator.ensures.into_iter_gives in
     let turn = YieldsList-turn (YieldsList-from_vec {s = c.into_iter-worker-iterator.result} c.args.workers.items b.0 (b.1 ∙ c.args.workers.ok.0))
     c.loop-worker.yielded c.loop-worker.worker-iterator c.loop-worker.yielded_by c.next.result c.next.new.self c.in-Some.worker c.in-Some.is c.next.ensures.steps in
-    let count = ap length i.tallies ∙ length-map c.loop-worker.yielded (λ (worker : Worker g.row.K.Denot g.row.G.Denot g.K.Run g.G.Gate). worker.tally) in
+    let count = ap length i.tallies ∙ length-map c.loop-worker.yielded (λ (worker : TerminalThread g.row.K.Denot g.row.G.Denot g.K.Run g.G.Gate). worker.tally) in
     omega (arith, turn.0, count, i.room_for_tallies, c.requires.tallies, c.loop-worker.tallies.ok.0)
 
 pub push_reserved-requires-in-loop-worker : goal.push_reserved-requires-in-loop-worker
@@ -30,10 +30,10 @@ push_reserved-requires-in-loop-worker g c =
 pub loop-worker-preserved : goal.loop-worker-preserved
 loop-worker-preserved g c =
     let i = c.loop-worker.invariant in
-    let tally_of : Worker g.row.K.Denot g.row.G.Denot g.K.Run g.G.Gate → Tally = λ worker. worker.tally in
+    let tally_of : TerminalThread g.row.K.Denot g.row.G.Denot g.K.Run g.G.Gate → Tally = λ worker. worker.tally in
     let tally : Tally = c.end-acknowledged.result.0 in
     let share = c.end-acknowledged.result.2 in
-    let deck_of : Worker g.row.K.Denot g.row.G.Denot g.K.Run g.G.Gate → DeckView = λ worker. worker.terminal.deck in
+    let deck_of : TerminalThread g.row.K.Denot g.row.G.Denot g.K.Run g.G.Gate → DeckView = λ worker. worker.terminal.deck in
     let deck : DeckView = c.end-acknowledged.result.3 in
     let parts = ap (sum_by parts_of) c.push_reserved-in-loop-worker.ensures.items ∙ sum_by_push parts_of c.loop-worker.shares.items share in
     let commits = ap (sum_by share_commits) c.push_reserved-in-loop-worker.ensures.items ∙ sum_by_push share_commits c.loop-worker.shares.items share in
@@ -61,7 +61,7 @@ returns-clause-tallies g c =
     let b = c.into_iter-worker-iterator.ensures.into_iter_gives in
     let end = YieldsList-end (YieldsList-from_vec {s = c.into_iter-worker-iterator.result} c.args.workers.items b.0 (b.1 ∙ c.args.workers.ok.0))
     c.loop-worker.yielded c.loop-worker.worker-iterator c.loop-worker.yielded_by c.next.result c.next.new.self c.in-None.is c.next.ensures.steps in
-    let tally_of : Worker g.row.K.Denot g.row.G.Denot g.K.Run g.G.Gate → Tally = λ worker. worker.tally in
+    let tally_of : TerminalThread g.row.K.Denot g.row.G.Denot g.K.Run g.G.Gate → Tally = λ worker. worker.tally in
     c.loop-worker.invariant.tallies ∙ ap (map tally_of) (sym (map-id c.loop-worker.yielded) ∙ end.0)
 
 pub returns-clause-decks : goal.returns-clause-decks
@@ -69,7 +69,7 @@ returns-clause-decks g c =
     let b = c.into_iter-worker-iterator.ensures.into_iter_gives in
     let end = YieldsList-end (YieldsList-from_vec {s = c.into_iter-worker-iterator.result} c.args.workers.items b.0 (b.1 ∙ c.args.workers.ok.0))
     c.loop-worker.yielded c.loop-worker.worker-iterator c.loop-worker.yielded_by c.next.result c.next.new.self c.in-None.is c.next.ensures.steps in
-    let deck_of : Worker g.row.K.Denot g.row.G.Denot g.K.Run g.G.Gate → DeckView = λ worker. worker.terminal.deck in
+    let deck_of : TerminalThread g.row.K.Denot g.row.G.Denot g.K.Run g.G.Gate → DeckView = λ worker. worker.terminal.deck in
     c.loop-worker.invariant.decks ∙ ap (map deck_of) (sym (map-id c.loop-worker.yielded) ∙ end.0)
 
 pub returns-clause-parts : goal.returns-clause-parts

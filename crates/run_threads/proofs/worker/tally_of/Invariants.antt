@@ -7,6 +7,6 @@ use Rattle.run_threads.proofs.worker.tally_of.Given as goal
 abbrev pub invariant-loop : goal.invariant-loop
 invariant-loop g l =
     (inputs_in l.tally ≡ l.counter)
-    × CameOfInputs g.K.Run.past g.K.Run.first l.fn.terminal.deck l.counter l.tally l.terminal.deck
+    × CameOfInputs g.K.Run.run.past g.K.Run.run.first l.fn.terminal.deck l.counter l.tally l.terminal.deck
     × (l.terminal.share.parts ≡ l.fn.terminal.share.parts)
     × (l.terminal.share.commits ≡ l.fn.terminal.share.commits + l.tally.commits)

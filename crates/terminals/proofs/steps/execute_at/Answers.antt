@@ -28,5 +28,5 @@ returns-clause-executed g c =
 
 pub returns-clause-work : goal.returns-clause-work
 returns-clause-work g c =
-    subst (λ (cells : CellsView). IfOk c.execute.result (IsWorkOf g.K.Run.first cells c.execute.new.reader)) c.requires.reader
-    (work_executed g.K.Run.first c.args.input.now c.args.reader.now c.execute.new.reader c.execute.result c.requires.input (returns-clause-executed g c))
+    subst (λ (cells : CellsView). IfOk c.execute.result (IsWorkOf g.K.Run.run.first cells c.execute.new.reader)) c.requires.reader
+    (work_executed g.K.Run.run.first c.args.input.now c.args.reader.now c.execute.new.reader c.execute.result c.requires.input (returns-clause-executed g c))

@@ -6,4 +6,4 @@ use Rattle.tests_recorded.proofs.opening.open_logs.Given as goal
 abbrev pub invariant-loop-file : goal.invariant-loop-file
 invariant-loop-file g l =
     (into_iter_len l.file-iterator ≡ length (into_iter_items l.file-iterator))
-    × (map (λ log. log.file) l.logs.items ++ into_iter_items l.file-iterator ≡ l.fn.files.items)
+    × (map (λ log. log.inner) l.logs.items ++ into_iter_items l.file-iterator ≡ l.fn.files.items)

@@ -57,7 +57,7 @@ returns-in-Err-clause-declined g c =
     let streams = c.self.inside.streams.items in
     let place = c.share.inside.terminal % c.len.result in
     record {
-      cause = subst (λ (q : BookView × ShareView × ℕ). IsDeclined g.K.Run.first q.0 (g.K.Run.past + length q.0.history)
+      cause = subst (λ (q : BookView × ShareView × ℕ). IsDeclined g.K.Run.run.first q.0 (g.K.Run.run.past + length q.0.history)
           (tid_for q.0.history q.1.terminal q.2 c.args.work.reads) c.args.work c.in-Err.refusal)
           (λ i. (view i, c.share.view_is i, sym (ap found_epoch c.epoch-epoch.ensures.step) i))
           (declined_by _ _ c.in-Err.refusal (is_due found) (subst (λ (q : ℕ × ℕ × Option ℕ). IsHindered q.0 q.1 q.2 c.in-Err.refusal)
@@ -90,7 +90,7 @@ returns-in-Err-clause-cap_first g c =
 
 pub returns-in-Err-clause-refused : goal.returns-in-Err-clause-refused
 returns-in-Err-clause-refused g c =
-    refused_there g.K.Run.past g.K.Run.first c.args.self.now _ c.args.work c.in-Err.refusal
+    refused_there g.K.Run.run.past g.K.Run.run.first c.args.self.now _ c.args.work c.in-Err.refusal
     (returns-in-Err-clause-cap_first g c) (returns-in-Err-clause-declined g c).cause
 
 pub store_counted-requires-clause-counted : goal.store_counted-requires-clause-counted
@@ -101,7 +101,7 @@ store_counted-requires-clause-counted g c =
     let count = count_of c.self.invariant (sym (length-map c.self.inside.history.items arc_value)) in
     let below = subst (λ (q : ℕ × ℕ). q.0 < q.1) (λ i. (count i, cap i)) c.in-Ok.ensures.prepared.below in
     let stored : c.deref-2.result.now ≡ entry_of _ c.in-Ok.prepared.tid c.share.inside.terminal c.args.work = c.deref-2.ensures ∙ c.in-Ok.ensures.prepared.entry in
-    let t = replay g.K.Run.first (map arc_value c.self.inside.history.items) in (
+    let t = replay g.K.Run.run.first (map arc_value c.self.inside.history.items) in (
       t,
       c.args.work.input,
       c.args.work.reply,
@@ -119,7 +119,7 @@ store_counted-requires-clause-may g c =
       own = search rules;
       within = subst (λ (q : CellsView × Entry). (n : ℕ) (value : Option (List ℕ)) → value_for q.1.writes n ≡ Some value → n < cell_count q.0)
           (λ i. (sym c.requires.cells i, sym stored i))
-          (written_within g.K.Run.cells c.args.reader.now c.args.work.reads c.args.work.writes c.requires.work.read
+          (written_within g.K.Run.run.cells c.args.reader.now c.args.work.reads c.args.work.writes c.requires.work.read
           c.requires.work.limits.writes_read);
       kinds = subst (λ (q : CellsView × Entry). AreWrittenOfKind q.0 q.1.writes) (λ i. (sym c.requires.cells i, sym stored i))
           c.requires.work.limits.writes_kinds;
@@ -147,12 +147,12 @@ invariant_of-self-2 g c =
     let cap = cap_of c.self.invariant c.commits.ensures.value (c.scale.ensures ∙ ap (λ (p : Population). (initial p).scale) c.deref.ensures) in
     let count = count_of c.self.invariant (sym (length-map c.self.inside.history.items arc_value)) in
     let below = subst (λ (q : ℕ × ℕ). q.0 < q.1) (λ i. (count i, cap i)) c.in-Ok.ensures.prepared.below in
-    let here : Entry = entry_of (g.K.Run.past + length items + 1) c.in-Ok.prepared.tid c.share.inside.terminal c.args.work in
+    let here : Entry = entry_of (g.K.Run.run.past + length items + 1) c.in-Ok.prepared.tid c.share.inside.terminal c.args.work in
     let entry : arc_value c.in-Ok.prepared.entry ≡ here =
     c.in-Ok.ensures.prepared.entry ∙ (λ i. entry_of (count i + 1) c.in-Ok.prepared.tid c.share.inside.terminal c.args.work) in
     let stored : c.deref-2.result.now ≡ here = c.deref-2.ensures ∙ entry in
     let cells = c.store_counted.ensures.stores.cells ∙ ap (λ (w : PenView). w.cells) c.validate.ensures.pen in
-    let t = replay g.K.Run.first items in
+    let t = replay g.K.Run.run.first items in
     kept_committed found c.in-Ok.ensures.prepared.lawful c.in-Ok.ensures.prepared.tid below c.store_counted.new.pen cells
     (λ n. c.store_counted.ensures.stores.versions n
     ∙ (λ i. at (c.validate.ensures.pen i).all n ++ new_versions (stored i).tid (stored i).writes.values n))
@@ -177,17 +177,17 @@ returns-clause-committed g c =
     c.share.invariant.1 c.index.ensures in
     let cap = cap_of c.self.invariant c.commits.ensures.value (c.scale.ensures ∙ ap (λ (p : Population). (initial p).scale) c.deref.ensures) in
     let count = count_of c.self.invariant (sym (length-map c.self.inside.history.items arc_value)) in
-    let here : Entry = entry_of (g.K.Run.past + length items + 1) c.in-Ok.prepared.tid c.share.inside.terminal c.args.work in
+    let here : Entry = entry_of (g.K.Run.run.past + length items + 1) c.in-Ok.prepared.tid c.share.inside.terminal c.args.work in
     let entry : arc_value c.in-Ok.prepared.entry ≡ here =
     c.in-Ok.ensures.prepared.entry ∙ (λ i. entry_of (count i + 1) c.in-Ok.prepared.tid c.share.inside.terminal c.args.work) in
     let stored : c.deref-2.result.now ≡ here = c.deref-2.ensures ∙ entry in
-    let of : c.in-Ok.prepared.done ≡ record { number = g.K.Run.past + length items + 1; tid = c.in-Ok.prepared.tid; reply = c.args.work.reply } =
+    let of : c.in-Ok.prepared.done ≡ record { number = g.K.Run.run.past + length items + 1; tid = c.in-Ok.prepared.tid; reply = c.args.work.reply } =
     c.in-Ok.ensures.prepared.done ∙ (λ i. record { number = count i + 1; tid = c.in-Ok.prepared.tid; reply = c.args.work.reply }) in
     let seat : c.commit_step.new.seat ≡ noted (noted c.self.inside.seat (LoadEpoch c.epoch-epoch.result)) (CountCommit c.epoch-epoch.result) =
     c.commit_step.ensures ∙ ap (λ (s : SeatView). noted s (CountCommit c.epoch-epoch.result)) c.epoch-epoch.ensures.step in
     let streams = c.self.inside.streams.items in
     let place = c.share.inside.terminal % c.len.result in
-    subst (λ (q : BookView × ShareView × Done × SeatView). CommitsWork g.K.Run.past g.K.Run.first q.0 (record {
+    subst (λ (q : BookView × ShareView × Done × SeatView). CommitsWork g.K.Run.run.past g.K.Run.run.first q.0 (record {
       written = c.store_counted.new.pen;
       history = map arc_value c.push_reserved.new.self.items;
       seat = q.3;

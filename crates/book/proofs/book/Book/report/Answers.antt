@@ -25,16 +25,16 @@ asked t v s b same_sums same_bounds are well_formed =
 pub returns-clause-report : goal.returns-clause-report
 returns-clause-report g c =
     let history = map arc_value c.self.inside.history.items in
-    let t = replay g.K.Run.first history in
+    let t = replay g.K.Run.run.first history in
     let i = c.self.invariant in
-    subst (λ (q : BookView). IsReportOf (replay g.K.Run.first q.history) c.report_of.result) c.self.view_is
+    subst (λ (q : BookView). IsReportOf (replay g.K.Run.run.first q.history) c.report_of.result) c.self.view_is
     (c.report_of.ensures.report t (asked t c.self.inside.totals c.sums.result.now c.bounds.result.now c.sums.ensures c.bounds.ensures i.totals i.sound.well_formed)
     (held_there i.sound i.ready.of_population.scale))
 
 pub returns-clause-good : goal.returns-clause-good
 returns-clause-good g c =
     let history = map arc_value c.self.inside.history.items in
-    let t = replay g.K.Run.first history in
+    let t = replay g.K.Run.run.first history in
     let i = c.self.invariant in
     c.report_of.ensures.good t (asked t c.self.inside.totals c.sums.result.now c.bounds.result.now c.sums.ensures c.bounds.ensures i.totals i.sound.well_formed)
     (held_there i.sound i.ready.of_population.scale) i.sound.consistent

@@ -55,13 +55,13 @@ returns-clause-tables g c =
     (are_made c.self.inside.pen (ap initial c.deref-3.ensures ∙ kept.population)
     (c.deref-4.ensures.value ∙ c.in_ok-added.ensures
     ∙ (λ i. c.deref.ensures.value i ++ rows_added (map arc_value (c.deref-2.ensures.value i)))) is)
-    ∙ ap (λ (q : BookView). replay g.K.Run.first q.history) c.self.view_is)
+    ∙ ap (λ (q : BookView). replay g.K.Run.run.first q.history) c.self.view_is)
     c.tables_of.ensures.is
 
 pub returns-clause-sound : goal.returns-clause-sound
 returns-clause-sound g c =
     IfOk-weaker c.tables_of.result _ _
-    (λ made is. subst (IsSound g.K.Run.past g.K.Run.first c.args.self.now.written c.args.self.now.history) (sym is)
-    (subst (λ (q : BookView). IsSound g.K.Run.past g.K.Run.first q.written q.history (replay g.K.Run.first q.history)) c.self.view_is
+    (λ made is. subst (IsSound g.K.Run.run.past g.K.Run.run.first c.args.self.now.written c.args.self.now.history) (sym is)
+    (subst (λ (q : BookView). IsSound g.K.Run.run.past g.K.Run.run.first q.written q.history (replay g.K.Run.run.first q.history)) c.self.view_is
     c.self.invariant.sound))
     (returns-clause-tables g c)

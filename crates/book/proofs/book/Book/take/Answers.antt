@@ -31,7 +31,7 @@ at_least a b n p q = omega (arith, p, q)
 pub overflow_sub-mark : goal.overflow_sub-mark
 overflow_sub-mark g c =
     let i = c.self.invariant in
-    let is = found g.K.Run.board.plan (found_epoch c.self.inside.seat) c.args.logger (map arc_value c.self.inside.history.items)
+    let is = found g.K.Run.run.board.plan (found_epoch c.self.inside.seat) c.args.logger (map arc_value c.self.inside.history.items)
     c.self.inside.streams.items c.index_mut-stream.result.now i.streams c.requires.logger c.index_mut-stream.ensures.value in
     (begun c.index_mut-stream.result.now.mark (found_epoch c.self.inside.seat) c.floor-epoch.result is.mark
     (found_later c.self.inside.seat i.board c.requires.board c.floor-epoch.ensures.later)).0
@@ -44,20 +44,20 @@ few past a b d e f = omega (arith, a, b, d, e, f)
 pub take-entries-requires : goal.take-entries-requires
 take-entries-requires g c =
     let i = c.self.invariant in
-    let plan = g.K.Run.board.plan in
+    let plan = g.K.Run.run.board.plan in
     let loggers = plan.loggers in
     let history = map arc_value c.self.inside.history.items in
     let s = c.index_mut-stream.result.now in
     let is = found plan (found_epoch c.self.inside.seat) c.args.logger history c.self.inside.streams.items s i.streams c.requires.logger
     c.index_mut-stream.ensures.value in
-    few g.K.Run.past is.taken (sym (length-map s.waiting.items arc_value) ∙ ap length is.waiting ∙ length-drop s.taken (stream loggers c.args.logger history))
+    few g.K.Run.run.past is.taken (sym (length-map s.waiting.items arc_value) ∙ ap length is.waiting ∙ length-drop s.taken (stream loggers c.args.logger history))
     (stream_within loggers c.args.logger history) i.ready.cap i.ready.few
 
 pub invariant_of-self : goal.invariant_of-self
 invariant_of-self g c =
     let i = c.self.invariant in
-    let t0 = g.K.Run.first in
-    let plan = g.K.Run.board.plan in
+    let t0 = g.K.Run.run.first in
+    let plan = g.K.Run.run.board.plan in
     let loggers = plan.loggers in
     let seat = c.self.inside.seat in
     let epoch = c.floor-epoch.result in
@@ -80,7 +80,7 @@ invariant_of-self g c =
       past = i.past;
       become = i.become;
       sound = i.sound;
-      ready = subst (λ (q : SeatView). IsReady g.K.Run.past t0 g.K.Run.cells (found_epoch q) c.self.inside.pen (map arc_value c.self.inside.history.items)
+      ready = subst (λ (q : SeatView). IsReady g.K.Run.run.past t0 g.K.Run.run.cells (found_epoch q) c.self.inside.pen (map arc_value c.self.inside.history.items)
           (replay t0 (map arc_value c.self.inside.history.items))) (sym step)
           (ready_loaded seat i.board c.requires.board c.floor-epoch.ensures.later i.ready);
       totals = i.totals;
@@ -88,7 +88,7 @@ invariant_of-self g c =
       lasts = i.lasts;
       board = ap (λ (q : SeatView). q.board) step ∙ i.board;
       counted = subst (λ (q : SeatView). HasCounted q (map arc_value c.self.inside.history.items)) (sym step) i.counted;
-      streams = subst (λ (q : SeatView). AreStreams g.K.Run.board.plan (found_epoch q) (map arc_value c.self.inside.history.items)
+      streams = subst (λ (q : SeatView). AreStreams g.K.Run.run.board.plan (found_epoch q) (map arc_value c.self.inside.history.items)
           (slice_set c.self.inside.streams.items c.args.logger c.take-entries.new.self)) (sym step) taken;
       loggable = i.loggable;
     }
@@ -96,7 +96,7 @@ invariant_of-self g c =
 pub invariant_of-result : goal.invariant_of-result
 invariant_of-result g c =
     let i = c.self.invariant in
-    let plan = g.K.Run.board.plan in
+    let plan = g.K.Run.run.board.plan in
     let seat = c.self.inside.seat in
     let history = map arc_value c.self.inside.history.items in
     let s = c.index_mut-stream.result.now in
@@ -112,7 +112,7 @@ invariant_of-result g c =
 pub returns-clause-batch : goal.returns-clause-batch
 returns-clause-batch g c =
     let i = c.self.invariant in
-    let plan = g.K.Run.board.plan in
+    let plan = g.K.Run.run.board.plan in
     let loggers = plan.loggers in
     let seat = c.self.inside.seat in
     let history = map arc_value c.self.inside.history.items in
@@ -125,7 +125,7 @@ returns-clause-batch g c =
     let count : c.len-loggers.result ≡ length streams = search rules in
     let entries : map arc_value c.take-entries.result.items ≡ drop s.taken (stream loggers c.args.logger history) =
     ap (map arc_value) c.take-entries.ensures.entries ∙ is.waiting in
-    subst (λ (q : BookView). IsBatchOf g.K.Run.board.plan.loggers c.args.logger q (record {
+    subst (λ (q : BookView). IsBatchOf g.K.Run.run.board.plan.loggers c.args.logger q (record {
       logger = c.args.logger;
       loggers = c.len-loggers.result;
       scale = c.scale.result;
@@ -154,7 +154,7 @@ returns-clause-batch g c =
 pub returns-clause-taken : goal.returns-clause-taken
 returns-clause-taken g c =
     let i = c.self.invariant in
-    let plan = g.K.Run.board.plan in
+    let plan = g.K.Run.run.board.plan in
     let streams = c.self.inside.streams.items in
     let history = map arc_value c.self.inside.history.items in
     let s = c.index_mut-stream.result.now in
@@ -166,7 +166,7 @@ returns-clause-taken g c =
       history = ap (λ (q : BookView). q.history) c.self.view_is;
       taken = map-set (λ (t : Untaken). t.taken) streams c.args.logger c.take-entries.new.self
           ∙ ap (slice_set (map (λ (t : Untaken). t.taken) streams) c.args.logger) all
-          ∙ ap (λ (q : BookView). slice_set q.taken c.args.logger (length (stream g.K.Run.board.plan.loggers c.args.logger q.history))) c.self.view_is;
+          ∙ ap (λ (q : BookView). slice_set q.taken c.args.logger (length (stream g.K.Run.run.board.plan.loggers c.args.logger q.history))) c.self.view_is;
       marks = map-set (λ (t : Untaken). t.mark) streams c.args.logger c.take-entries.new.self
           ∙ (λ j. slice_set (c.self.view_is j).marks c.args.logger (c.take-entries.ensures.mark j));
     }

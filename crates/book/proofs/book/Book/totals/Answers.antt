@@ -37,7 +37,7 @@ of_district-requires-clause-bounds g c =
 
 pub returns : goal.returns
 returns g c =
-    let t = replay g.K.Run.first (map arc_value c.self.inside.history.items) in
-    subst (λ (q : BookView). AreDistrictTotals (replay g.K.Run.first q.history) c.args.key c.of_district.result) c.self.view_is
+    let t = replay g.K.Run.run.first (map arc_value c.self.inside.history.items) in
+    subst (λ (q : BookView). AreDistrictTotals (replay g.K.Run.run.first q.history) c.args.key c.of_district.result) c.self.view_is
     (of_tables t c.self.inside.totals c.args.key c.of_district.result c.self.invariant.totals
     (subst (λ (s : Sizes). IsDistrictKey s c.args.key) (sym c.self.invariant.ready.of_population.scale) c.requires) c.of_district.ensures)

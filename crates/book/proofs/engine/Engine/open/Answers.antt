@@ -27,7 +27,7 @@ use Rattle.book.proofs.engine.Engine.open.Goals as goal
 
 pub invariant_of-book : goal.invariant_of-book
 invariant_of-book g c =
-    let run = c.requires in
+    let run = c.requires.run in
     let fresh = run.fresh in
     let start = fresh.start.tables in
     let unused = fresh.unused in
@@ -62,7 +62,7 @@ invariant_of-book g c =
           (λ i. (run.first_is i, sym none i)) fresh.start.totals;
       shares = c.open-shares.ensures.total ∙ sym (ap length none);
       lasts = subst (λ (h : List Entry). AreLast g.K.Ledger.parts h made.lasts.items) (sym none)
-          (first_lasts unused.lasts (sym fresh.parts ∙ run.parts_are));
+          (first_lasts unused.lasts (sym fresh.parts ∙ c.requires.ledger.parts_are));
       board = ap (λ (s : SeatView). s.board) unused.board.book ∙ run.board_is;
       counted = subst (λ (q : SeatView × List Entry). HasCounted q.0 q.1)
           (λ i. (sym unused.board.book i, sym none i)) (λ i. []);
@@ -70,26 +70,26 @@ invariant_of-book g c =
           AreStreams q.0.plan (found_epoch q.1) q.2 made.streams.items)
           (λ i. (run.board_is i, sym unused.board.book i, sym none i))
           (first_streams made.board.plan made.streams.items fresh.loggers.0 fresh.loggers.1 unused.streams);
-      loggable = subst (AreLoggable g.K.Run.first.scale g.K.Ledger.parts) (sym none)
-          (first_loggable g.K.Run.first.scale g.K.Ledger.parts
-          (subst (λ n. n ≤ MAX_TERMINALS) (sym fresh.parts ∙ run.parts_are) fresh.few));
+      loggable = subst (AreLoggable g.K.Run.run.first.scale g.K.Ledger.parts) (sym none)
+          (first_loggable g.K.Run.run.first.scale g.K.Ledger.parts
+          (subst (λ n. n ≤ MAX_TERMINALS) (sym fresh.parts ∙ c.requires.ledger.parts_are) fresh.few));
     }
 
 pub invariant_of-terminals : goal.invariant_of-terminals
 invariant_of-terminals g c =
-    let run = c.requires in
+    let run = c.requires.run in
     let fresh = run.fresh in
     let unused = fresh.unused in
     let count = length c.args.parts.fresh.records.readers.items in
     let seat = new_seat c.args.parts.fresh.board Terminal in
     record {
       own = λ k d h. ap (λ (r : ReaderView). r.cells) (unused.records.readers k d h) ∙ unused.records.cells ∙ run.cells_are;
-      new = subst (All (λ (s : SeatView). s ≡ new_seat g.K.Run.board Terminal)) (sym unused.board.terminals)
-          (All-replicate (λ (s : SeatView). s ≡ new_seat g.K.Run.board Terminal) count seat
+      new = subst (All (λ (s : SeatView). s ≡ new_seat g.K.Run.run.board Terminal)) (sym unused.board.terminals)
+          (All-replicate (λ (s : SeatView). s ≡ new_seat g.K.Run.run.board Terminal) count seat
           (ap (λ (b : BoardView). new_seat b Terminal) run.board_is));
       as_many = ap length unused.board.terminals ∙ length-replicate count seat;
       shares = search rules;
       none = search rules;
-      all = omega (arith, sym fresh.parts ∙ run.parts_are);
-      few = omega (arith, sym fresh.parts ∙ run.parts_are, fresh.few);
+      all = omega (arith, sym fresh.parts ∙ c.requires.ledger.parts_are);
+      few = omega (arith, sym fresh.parts ∙ c.requires.ledger.parts_are, fresh.few);
     }

@@ -8,6 +8,6 @@ use Rattle.book_session.proofs.session.Session.close.Goals as goal
 
 pub returns-clause-report : goal.returns-clause-report
 returns-clause-report g c =
-    subst (λ (h : List Entry). IsReportOf (replay g.K.Run.first h) c.in_ok-report.report)
+    subst (λ (h : List Entry). IsReportOf (replay g.K.Run.run.first h) c.in_ok-report.report)
     (ap (λ (b : BookView). b.history) c.deref_mut.ensures.value ∙ ap (λ (v : SessionView). v.history) c.self.view_is)
     c.in_ok-report.ensures.report

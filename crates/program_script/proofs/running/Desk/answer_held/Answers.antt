@@ -6,7 +6,7 @@ pub returns-clause-turn : goal.returns-clause-turn
 returns-clause-turn g c =
     let told = c.in_ok-refused.ensures.turn in
     λ bytes is. (
-      record { answer = told.0; state = (state_of g.K.Run.first c.answer_line.new.session) },
+      record { answer = told.0; state = (state_of g.K.Run.run.first c.answer_line.new.session) },
       told.2 bytes
           (c.line-line.ensures ∙ is),
       refl,

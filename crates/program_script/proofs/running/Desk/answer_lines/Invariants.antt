@@ -9,6 +9,6 @@ decreases-loop-after g l = length l.rest
 
 -- the lines that are taken are answered, and some text was told
 abbrev pub invariant-loop-after : goal.invariant-loop-after
-invariant-loop-after g l = ((text written : List ℕ) → HasAnswered g.K.Run.first text written (standing_of l.fn.self) → (taken : List ℕ)
-    × (l.piece ≡ taken ++ l.rest) × HasAnswered g.K.Run.first (text ++ taken) written (standing_of l.self))
+invariant-loop-after g l = ((text written : List ℕ) → HasAnswered g.K.Run.run.first text written (standing_of l.fn.self) → (taken : List ℕ)
+    × (l.piece ≡ taken ++ l.rest) × HasAnswered g.K.Run.run.first (text ++ taken) written (standing_of l.self))
     × TellsMore (g.H.Hints.told l.fn.hints) (g.H.Hints.told l.hints)

@@ -5,7 +5,7 @@ use Rattle.program_script.proofs.running.Desk.run.Goals as goal
 
 pub returns-in_err-piece-clause-beginning : goal.returns-in_err-piece-clause-beginning
 returns-in_err-piece-clause-beginning g c =
-    on_err _ c.from_residual.result (λ bytes left. ([], Appends-nil (g.W.Write.contents c.args.writer.now), begun_none (g.K.Run.first) bytes))
+    on_err _ c.from_residual.result (λ bytes left. ([], Appends-nil (g.W.Write.contents c.args.writer.now), begun_none (g.K.Run.run.first) bytes))
 
 pub returns-in_err-answer_all : goal.returns-in_err-answer_all
 returns-in_err-answer_all g c =

@@ -8,8 +8,8 @@ use Rattle.terminals.proofs.terminal.Terminal.attempt.Goals as goal
 pub returns-in_err-done-clause-tried : goal.returns-in_err-done-clause-tried
 returns-in_err-done-clause-tried g c =
     let away = c.in_err-done.ensures.err.1 in
-    let try : IsTry g.K.Run.past g.K.Run.first c.args.input.now c.self.inside.reader c.commit_at.new.reader c.in_err-done.field-0.0
+    let try : IsTry g.K.Run.run.past g.K.Run.run.first c.args.input.now c.self.inside.reader c.commit_at.new.reader c.in_err-done.field-0.0
     = uncommitted c.execute_at.new.reader c.in_ok-work.work away.0 c.in_ok-work.ensures.executed c.in_err-done.ensures.reader away.1 away.2 in
     let p = err_from_is_err_and c.from_residual-in_err-done.result c.from_residual-in_err-done.ensures.1 in
-    rw (p.1, p.2) (subst (λ (reader : ReaderView). IsTry g.K.Run.past g.K.Run.first c.args.input.now reader c.commit_at.new.reader c.in_err-done.field-0.0)
+    rw (p.1, p.2) (subst (λ (reader : ReaderView). IsTry g.K.Run.run.past g.K.Run.run.first c.args.input.now reader c.commit_at.new.reader c.in_err-done.field-0.0)
     (ap (λ (t : TerminalView). t.reader) c.self.view_is) try)

@@ -16,9 +16,9 @@ loop-init g c = record {
   deck = search rules;
   refused = search rules;
   tried =
-      subst (λ (reader : ReaderView). AreTriedAgain g.K.Run.past g.K.Run.first c.in_ok-input.input reader 0 c.self.inside.reader)
+      subst (λ (reader : ReaderView). AreTriedAgain g.K.Run.run.past g.K.Run.run.first c.in_ok-input.input reader 0 c.self.inside.reader)
       (ap (λ (t : TerminalView). t.reader) c.self.view_is)
-      (tried_none g.K.Run.past g.K.Run.first c.in_ok-input.input c.self.inside.reader);
+      (tried_none g.K.Run.run.past g.K.Run.run.first c.in_ok-input.input c.self.inside.reader);
   calls = calls_none GaveUp (g.G.Gate.calls c.args.gate.now);
 }
 
@@ -27,7 +27,7 @@ returns-in_default-clause-tries g c =
     let i = c.loop.invariant in
     let made = c.attempt-outcome.ensures in
     let final : ¬ IsAgain c.attempt-outcome.result = search rules in
-    tries_of g.K.Run.past g.K.Run.first _ _ i.next c.args.self.now.reader c.loop.self.reader c.attempt-outcome.new.self.reader
+    tries_of g.K.Run.run.past g.K.Run.run.first _ _ i.next c.args.self.now.reader c.loop.self.reader c.attempt-outcome.new.self.reader
     c.loop.counter c.attempt-outcome.result (g.G.Gate.calls c.args.gate.now) (g.G.Gate.calls c.loop.gate) (g.G.Gate.calls c.attempt-outcome.new.gate)
     (search rules) i.tried final made.tried i.calls made.calls
 
@@ -36,7 +36,7 @@ returns-then-not-is_retried-clause-tries g c =
     let i = c.loop.invariant in
     let made = c.in-Err.ensures in
     let final : ¬ IsAgain (Err c.in-Err.refusal) = search rules in
-    tries_of g.K.Run.past g.K.Run.first _ _ i.next c.args.self.now.reader c.loop.self.reader c.attempt-outcome.new.self.reader
+    tries_of g.K.Run.run.past g.K.Run.run.first _ _ i.next c.args.self.now.reader c.loop.self.reader c.attempt-outcome.new.self.reader
     c.loop.counter (Err c.in-Err.refusal) (g.G.Gate.calls c.args.gate.now) (g.G.Gate.calls c.loop.gate) (g.G.Gate.calls c.attempt-outcome.new.gate)
     (search rules) i.tried final made.tried i.calls made.calls
 
@@ -51,7 +51,7 @@ loop-preserved g c =
       deck = search rules;
       refused = refused_again c.args.self.now c.loop.self c.attempt-outcome.new.self c.attempt-outcome.result again i.refused made.err;
       tried =
-          tried_again g.K.Run.past g.K.Run.first _ c.args.self.now.reader c.loop.self.reader c.attempt-outcome.new.self.reader c.loop.counter
+          tried_again g.K.Run.run.past g.K.Run.run.first _ c.args.self.now.reader c.loop.self.reader c.attempt-outcome.new.self.reader c.loop.counter
           c.attempt-outcome.result i.tried again made.tried;
       calls =
           calls_again c.loop.counter GaveUp c.attempt-outcome.result (g.G.Gate.calls c.args.gate.now) (g.G.Gate.calls c.loop.gate)
@@ -61,5 +61,5 @@ loop-preserved g c =
 pub returns-clause-missing : goal.returns-clause-missing
 returns-clause-missing g c =
     let i = c.loop.invariant in
-    subst (NoneMissing g.K.Run.first) i.next
-    (none_missing_of g.K.Run.past g.K.Run.first _ c.args.self.now.reader c.loop.self.reader c.loop.counter (omega (arith, c.loop-test.false)) i.tried)
+    subst (NoneMissing g.K.Run.run.first) i.next
+    (none_missing_of g.K.Run.run.past g.K.Run.run.first _ c.args.self.now.reader c.loop.self.reader c.loop.counter (omega (arith, c.loop-test.false)) i.tried)

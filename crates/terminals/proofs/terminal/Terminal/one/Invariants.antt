@@ -10,9 +10,9 @@ use Rattle.terminals.proofs.terminal.Terminal.one.Given as goal
 abbrev pub invariant-loop : goal.invariant-loop
 invariant-loop g l = record {
   next : l.input ≡ l.fn.self.deck.next;
-  valid : IsInput g.K.Run.first.scale l.input;
+  valid : IsInput g.K.Run.run.first.scale l.input;
   deck : IsTurned l.fn.self.deck l.self.deck;
   refused : HasRefused l.fn.self l.self;
-  tried : AreTriedAgain g.K.Run.past g.K.Run.first l.input l.fn.self.reader l.counter l.self.reader;
+  tried : AreTriedAgain g.K.Run.run.past g.K.Run.run.first l.input l.fn.self.reader l.counter l.self.reader;
   calls : AreCalls l.counter (Err GaveUp) (g.G.Gate.calls l.fn.gate) (g.G.Gate.calls l.gate);
 }

@@ -1,9 +1,0 @@
-use Rattle.std.proofs.Common.{◌≡◌, ◌++◌, length, map}
-use Rattle.std.specs.Vec.Iter.{into_iter_items, into_iter_len}
-use Rattle.program.proofs.live.paced.Given as goal
-
--- each file so far has its beat, and the others are to come
-abbrev pub invariant-loop-file : goal.invariant-loop-file
-invariant-loop-file g l =
-    (into_iter_len l.file-iterator ≡ length (into_iter_items l.file-iterator))
-    × (map (λ log. log.file) l.logs.items ++ into_iter_items l.file-iterator ≡ l.fn.files.items)

@@ -1,8 +1,0 @@
-use Rattle.program.proofs.Resumed.{IfOk-pair}
-use Rattle.program.proofs.resuming.fn.restarted.work.Goals as goal
-
-pub returns : goal.returns
-returns g c = (
-  IfOk-pair _ _ _ (λ r goes stand. ((goes.0, goes.2), stand)) c.restart.result c.restart.ensures.goes_on c.restart.ensures.stand,
-  c.restart.ensures.others,
-)

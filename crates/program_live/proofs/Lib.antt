@@ -1,0 +1,3 @@
+mod Durable
+pub mod NoMemory
+mod Resumed

@@ -1,0 +1,4 @@
+pub mod Population
+pub mod Live
+pub mod Resumed
+pub mod Breaks
