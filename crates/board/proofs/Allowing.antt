@@ -1,5 +1,5 @@
 -- Each kind of step is allowed.
-use Rattle.std.proofs.Common.{◌≡◌, ◌≢◌, ℕ, ◌+◌, ◌^◌, ◌%◌, ◌<◌, ◌≤◌, max, List, ◌∷◌, set, length, refl, sym, ap, ◌∙◌, subst, arith, add-one, ◌-◌}
+use Rattle.std.proofs.Common.{◌≡◌, ◌≢◌, false, ℕ, ◌+◌, ◌^◌, ◌%◌, ◌<◌, ◌≤◌, max, List, ◌∷◌, set, length, refl, sym, ap, ◌∙◌, subst, arith, add-one, ◌-◌}
 use Rattle.std.specs.Prelude.{slice_index}
 use Rattle.std.proofs.lemmas.List.{get_or-set_other, get_or-set_same}
 use Rattle.std.proofs.Math.ListN.{length-set}
@@ -10,21 +10,21 @@ use Rattle.atomic_table.specs.Table.{Allows, Me}
 use Rattle.board.specs.declared.rule.Plan.{Plan}
 use Rattle.board.specs.declared.rule.View.{View}
 use Rattle.board.specs.declared.rule.Role.{Role}
-use Rattle.board.specs.declared.rule.Role.TheVariants.{Terminal, Book, Clock, Logger}
+use Rattle.board.specs.declared.rule.Role.TheVariants.{Terminal, Book, Clock, Logger, Gone}
 use Rattle.board.specs.declared.rule.WordStep.{WordStep}
 use Rattle.board.specs.declared.rule.WordStep.TheVariants.{LoadEpoch, AddEpoch, CountCommit, StoreFloor, StoreMark, LoadMark, RaiseDurable, LoadDurable}
 use Rattle.board.specs.Words.{mark_in, floor_in, epoch_in, count_in, durable_in}
 use Rattle.board.specs.Steps.{known_epoch, counted_epochs, stored_mark, seen_durable, RespectsFloors, AllStand}
-use Rattle.board.specs.Rule.{role_number, KnowsOwn, IsLawfulBoard}
+use Rattle.board.specs.Rule.{role_number, is_gone, KnowsOwn, IsLawfulBoard}
 use Rattle.board.specs.Plays.{with_step, IsUpToMarks}
 use Rattle.board.specs.Plays.{LoadsEpochOf, AddsEpochOf, CountsCommitOf, StoresFloorOf, StoresMarkOf, LoadsMarkOf, RaisesDurableOf, LoadsDurableOf}
 use Rattle.board.proofs.Standing.{Rise, known_stands, durable_stands, floors_up_to}
 use Rattle.board.proofs.Owned.{IsElsewhere, owns_still, owns_epoch, owns_mark, owns_durable, owns_raise}
 use Rattle.board.proofs.Moves.{IsMove, stays, allows}
 
-pub loads_epoch : (plan : Plan) (slots seat : ℕ) (me : Me (Unit {0}) View)
+pub loads_epoch : (plan : Plan) (slots seat : ℕ) (me : Me (Unit {0}) View) → is_gone me.0.role ≡ false
     → Allows (λ s. IsLawfulBoard plan s.words s.views) slots seat me 16 (λ n. n) (λ found after. LoadsEpochOf me.0 found after.0)
-loads_epoch plan slots seat me =
+loads_epoch plan slots seat me here =
     allows plan slots seat 16 me (λ n. n) (λ found after. LoadsEpochOf me.0 found after.0)
     (λ words views lawful at.
     let v = me.0 in
@@ -34,9 +34,9 @@ loads_epoch plan slots seat me =
           (owns_epoch plan words v.role v.steps lawful.floors fits.owns),
       record {
         step = refl;
-        later = subst (λ (p : Plan). known_epoch p.base v.steps ≤ epoch_in words) (sym fits.planned)
+        later = subst (λ (p : Plan). known_epoch p.base v.steps ≤ epoch_in words) (sym (fits.planned here))
             (known_stands plan.base words v.steps lawful.begun fits.stand);
-        clock = λ role. ap (λ (p : Plan). known_epoch p.base v.steps) fits.planned ∙ sym (subst (λ r. KnowsOwn plan words r v.steps) role fits.owns);
+        clock = λ role. ap (λ (p : Plan). known_epoch p.base v.steps) (fits.planned here) ∙ sym (subst (λ r. KnowsOwn plan words r v.steps) role fits.owns);
         bound = lawful.ends;
         respects = fits.respects;
       },
@@ -55,21 +55,29 @@ loads_mark plan slots seat i me =
       refl,
     ))
 
-pub loads_durable : (plan : Plan) (slots seat : ℕ) (me : Me (Unit {0}) View)
-    → Allows (λ s. IsLawfulBoard plan s.words s.views) slots seat me 18 (λ n. n) (λ found after. LoadsDurableOf me.0 found after.0)
-loads_durable plan slots seat me =
-    allows plan slots seat 18 me (λ n. n) (λ found after. LoadsDurableOf me.0 found after.0)
+pub loads_durable : (plan : Plan) (slots seat : ℕ) (me : Me (Unit {0}) View) → is_gone me.0.role ≡ false
+    → Allows (λ s. IsLawfulBoard plan s.words s.views) slots seat me 18 (λ n. n) (λ found after. (after.1 ≡ me.1) × LoadsDurableOf me.0 found after.0)
+loads_durable plan slots seat me here =
+    allows plan slots seat 18 me (λ n. n) (λ found after. (after.1 ≡ me.1) × LoadsDurableOf me.0 found after.0)
     (λ words views lawful at.
     let v = me.0 in
     let fits = lawful.seats seat v at in (
       LoadDurable (durable_in words),
       stays plan words views v 18 (LoadDurable (durable_in words)) lawful (omega arith) fits.respects
           (owns_durable plan words v.role v.steps (durable_in words) fits.owns),
-      record {
-        step = refl;
-        later = subst (λ (p : Plan). seen_durable p.base v.steps ≤ durable_in words) (sym fits.planned)
-            (durable_stands plan.base words v.steps lawful.lasting fits.stand);
-      },
+      (
+        refl,
+        record {
+          step = refl;
+          later = subst (λ (p : Plan). seen_durable p.base v.steps ≤ durable_in words) (sym (fits.planned here))
+              (durable_stands plan.base words v.steps lawful.lasting fits.stand);
+          own = λ l role.
+              let known : KnowsOwn plan words (Logger l) v.steps = subst (λ r. KnowsOwn plan words r v.steps) role fits.owns in
+              let low = lawful.durable l known.0 in
+              let mark = known.1 in
+              subst (λ (p : Plan). durable_in words ≤ stored_mark p.base v.steps) (sym (fits.planned here)) (omega arith);
+        },
+      ),
     ))
 
 rises_at : (words : List ℕ) (i n : ℕ) → i < length words → slice_index words i ≤ n → Rise words (set words i n)
@@ -86,30 +94,35 @@ others_still plan words i n number elsewhere r steps other h = owns_still plan w
 
 beside_epoch : (plan : Plan) → plan.loggers ≤ 8 → (r : Role) → role_number r ≢ 2 → IsElsewhere plan 16 r
 beside_epoch plan few Terminal other = tt
+beside_epoch plan few Gone other = tt
 beside_epoch plan few Book other = ((λ e. omega arith), λ l low e. omega arith)
 beside_epoch plan few Clock other = absurd (other refl)
 beside_epoch plan few (Logger l) other = λ within e. omega arith
 
 beside_count : (plan : Plan) → plan.loggers ≤ 8 → (r : Role) → role_number r ≢ 1 → IsElsewhere plan 17 r
 beside_count plan few Terminal other = tt
+beside_count plan few Gone other = tt
 beside_count plan few Book other = absurd (other refl)
 beside_count plan few Clock other = λ e. omega arith
 beside_count plan few (Logger l) other = λ within e. omega arith
 
 beside_floor : (plan : Plan) (logger : ℕ) → logger < 8 → plan.loggers ≤ 8 → (r : Role) → role_number r ≢ 1 → IsElsewhere plan (8 + logger) r
 beside_floor plan logger low few Terminal other = tt
+beside_floor plan logger low few Gone other = tt
 beside_floor plan logger low few Book other = absurd (other refl)
 beside_floor plan logger low few Clock other = λ e. omega arith
 beside_floor plan logger low few (Logger l) other = λ within e. omega arith
 
 beside_mark : (plan : Plan) (logger : ℕ) → logger < 8 → plan.loggers ≤ 8 → (r : Role) → role_number r ≢ logger + 3 → IsElsewhere plan logger r
 beside_mark plan logger low few Terminal other = tt
+beside_mark plan logger low few Gone other = tt
 beside_mark plan logger low few Book other = ((λ e. omega arith), λ l small e. omega arith)
 beside_mark plan logger low few Clock other = λ e. omega arith
 beside_mark plan logger low few (Logger l) other = λ within e. other (ap (λ (n : ℕ). n + 3) e)
 
 beside_durable : (plan : Plan) → plan.loggers ≤ 8 → (r : Role) → IsElsewhere plan 18 r
 beside_durable plan few Terminal = tt
+beside_durable plan few Gone = tt
 beside_durable plan few Book = ((λ e. omega arith), λ l low e. omega arith)
 beside_durable plan few Clock = λ e. omega arith
 beside_durable plan few (Logger l) = λ within e. omega arith
@@ -147,7 +160,7 @@ adds_epoch plan slots seat me role room =
     let fits = lawful.seats seat v at in
     let e = epoch_in words in
     let own : epoch_in words ≡ known_epoch plan.base v.steps = subst (λ r. KnowsOwn plan words r v.steps) role fits.owns in
-    let known : known_epoch v.plan.base v.steps ≡ epoch_in words = ap (λ (p : Plan). known_epoch p.base v.steps) fits.planned ∙ sym own in
+    let known : known_epoch v.plan.base v.steps ≡ epoch_in words = ap (λ (p : Plan). known_epoch p.base v.steps) (fits.planned (ap is_gone role)) ∙ sym own in
     let whole : (e + 1) % 2 ^ 64 ≡ e + 1 = mod-eq_of_lt (omega arith) in (
       AddEpoch (e + 1),
       subst (λ n. IsMove plan words (set words 16 n) v (AddEpoch (e + 1))) (sym whole)
@@ -194,7 +207,7 @@ counts_commit plan slots seat me role room =
     let own : KnowsOwn plan words Book v.steps = subst (λ r. KnowsOwn plan words r v.steps) role fits.owns in
     let count : count_in words ≡ length (counted_epochs v.steps) = own.0 in
     let epoch = known_epoch v.plan.base v.steps in
-    let known : known_epoch v.plan.base v.steps ≡ known_epoch plan.base v.steps = ap (λ (p : Plan). known_epoch p.base v.steps) fits.planned in
+    let known : known_epoch v.plan.base v.steps ≡ known_epoch plan.base v.steps = ap (λ (p : Plan). known_epoch p.base v.steps) (fits.planned (ap is_gone role)) in
     let whole : (count_in words + 1) % 2 ^ 64 ≡ count_in words + 1 = mod-eq_of_lt (omega arith) in (
       CountCommit epoch,
       subst (λ n. IsMove plan words (set words 17 n) v (CountCommit epoch)) (sym whole)
@@ -244,7 +257,7 @@ stores_floor plan slots seat logger epoch me role within loaded =
     let v = me.0 in
     let fits = lawful.seats seat v at in
     let own : KnowsOwn plan words Book v.steps = subst (λ r. KnowsOwn plan words r v.steps) role fits.owns in
-    let known : epoch ≡ known_epoch plan.base v.steps = loaded ∙ ap (λ (p : Plan). known_epoch p.base v.steps) fits.planned in (
+    let known : epoch ≡ known_epoch plan.base v.steps = loaded ∙ ap (λ (p : Plan). known_epoch p.base v.steps) (fits.planned (ap is_gone role)) in (
       StoreFloor logger epoch,
       floor_moves plan words views v logger epoch lawful role within known fits.stand own fits.respects,
       λ l is. ap (λ (k : ℕ). with_step v (StoreFloor k epoch)) (omega arith),
@@ -281,7 +294,7 @@ stores_mark plan slots seat logger mark me role more =
     let v = me.0 in
     let fits = lawful.seats seat v at in
     let own : KnowsOwn plan words (Logger logger) v.steps = subst (λ r. KnowsOwn plan words r v.steps) role fits.owns in
-    let known : stored_mark v.plan.base v.steps ≡ stored_mark plan.base v.steps = ap (λ (p : Plan). stored_mark p.base v.steps) fits.planned in
+    let known : stored_mark v.plan.base v.steps ≡ stored_mark plan.base v.steps = ap (λ (p : Plan). stored_mark p.base v.steps) (fits.planned (ap is_gone role)) in
     let was = own.1 in
     (StoreMark logger mark, mark_moves plan words views v logger mark lawful role own.0 (omega arith) fits.respects, refl))
 
@@ -308,15 +321,15 @@ durable_moves plan words views v epoch lawful marks respects own =
       others = λ r steps other h. owns_still plan words 18 n r steps (beside_durable plan few r) h;
     }
 
-pub raises_durable : (plan : Plan) (slots seat epoch : ℕ) (me : Me (Unit {0}) View) → IsUpToMarks me.0 epoch
+pub raises_durable : (plan : Plan) (slots seat epoch : ℕ) (me : Me (Unit {0}) View) → is_gone me.0.role ≡ false → IsUpToMarks me.0 epoch
     → Allows (λ s. IsLawfulBoard plan s.words s.views) slots seat me 18 (λ n. max n epoch) (λ _ after. RaisesDurableOf epoch me.0 after.0)
-raises_durable plan slots seat epoch me below =
+raises_durable plan slots seat epoch me here below =
     allows plan slots seat 18 me (λ n. max n epoch) (λ _ after. RaisesDurableOf epoch me.0 after.0)
     (λ words views lawful at.
     let v = me.0 in
     let fits = lawful.seats seat v at in (
       RaiseDurable epoch,
       durable_moves plan words views v epoch lawful
-          (λ l within. below words fits.stand l (subst (λ (p : Plan). l < p.loggers) (sym fits.planned) within)) fits.respects fits.owns,
+          (λ l within. below words fits.stand l (subst (λ (p : Plan). l < p.loggers) (sym (fits.planned here)) within)) fits.respects fits.owns,
       refl,
     ))

@@ -1,17 +1,21 @@
 -- A board opens as its rule has it, and so do its seats.
 use Rattle.std.proofs.Common.{◌≡◌, ◌≢◌, ◌⊎◌, ℕ, zero, suc, ◌+◌, ◌-◌, ◌<◌, ◌≤◌, cond, eqb, eq-eqb, ne_eqb, List}
-use Rattle.std.proofs.Common.{[], ◌∷◌, ◌++◌, set, length, replicate, refl, sym, ap, ◌∙◌, subst, ⊎_elim, inl, inr, arith}
+use Rattle.std.proofs.Common.{false, true≢false, [], ◌∷◌, ◌++◌, set, length, replicate, refl, sym, ap, ◌∙◌, subst, ⊎_elim, inl, inr, arith}
 use mathlib.Core.Option.{some, some-ne-none, some-injective}
 use lib.ListN.{get_elem?}
-use Rattle.atomic_table.specs.Table.{Splits}
+use Rattle.atomic_table.specs.Table.{Splits, Joins}
 use Rattle.atomic_table.proofs.Lists.{at_set, set_again}
 use Rattle.board.specs.declared.rule.Plan.{Plan}
 use Rattle.board.specs.declared.rule.View.{View}
 use Rattle.board.specs.declared.rule.Role.{Role}
-use Rattle.board.specs.declared.rule.Role.TheVariants.{Terminal, Book, Clock, Logger}
-use Rattle.board.specs.Words.{floor_in, mark_in}
-use Rattle.board.specs.Rule.{role_number, KnowsOwn, FitsWords, IsLawfulBoard}
-use Rattle.board.specs.Dealing.{IsDealer, first_view, dealt_on, clock_view, logger_view, terminal_view}
+use Rattle.board.specs.declared.rule.Role.TheVariants.{Terminal, Book, Clock, Logger, Gone}
+use Rattle.board.specs.Words.{floor_in, mark_in, durable_in}
+use Rattle.board.specs.Steps.{seen_durable, RespectsFloors, AllStand}
+use Rattle.board.specs.Rule.{role_number, is_gone, KnowsOwn, FitsWords, IsLawfulBoard}
+use Rattle.board.specs.Dealing.{IsDealer, first_view, dealt_on, clock_view, logger_view, terminal_view, told_view, gone_view}
+use Rattle.board.specs.Plays.{with_seen}
+use Rattle.board.proofs.Owned.{owns_durable}
+use Rattle.board.proofs.Standing.{durable_stands}
 
 -- a list with one more: an element is an earlier one, or the new one at the end
 at_end : (l : List View) (a b : View) (j : ℕ) → get_elem? (l ++ a ∷ []) j ≡ some b → (get_elem? l j ≡ some b) ⊎ ((j ≡ length l) × (a ≡ b))
@@ -75,7 +79,7 @@ module _ (plan : Plan) (words : List ℕ) (views : List View) (seat : ℕ) (v : 
 
   new_fits : (j : ℕ) → j ≡ place → FitsWords seat_of (lawful.dealt + 1) plan words j (new_view v.plan role)
   new_fits j last = record {
-    planned = fits.planned;
+    planned = λ _. fits.planned (ap is_gone book);
     alone = λ some. with_seat_new lawful.seat_of lawful.dealt place (role_number role) number ∙ sym last;
     below = omega arith;
     dealer = λ e. absurd (let one = ap role_number e in let more = some_dealt in omega arith);
@@ -117,6 +121,61 @@ module _ (plan : Plan) (words : List ℕ) (views : List View) (seat : ℕ) (v : 
         (at_end (set views seat (dealt_on v)) (new_view v.plan role) u j e);
   }
 
+-- a seat knows something else that fits
+replaced : (plan : Plan) (words : List ℕ) (views : List View) (seat : ℕ) (lawful : IsLawfulBoard plan words views) (w : View)
+    → FitsWords lawful.seat_of lawful.dealt plan words seat w → IsLawfulBoard plan words (set views seat w)
+replaced plan words views seat lawful w fits = record {
+  seat_of = lawful.seat_of;
+  dealt = lawful.dealt;
+  few = lawful.few;
+  size = lawful.size;
+  begun = lawful.begun;
+  ends = lawful.ends;
+  floors = lawful.floors;
+  lasting = lawful.lasting;
+  durable = lawful.durable;
+  idle = lawful.idle;
+  seats = λ j u e.
+      ⊎_elim
+      (λ (x : (j ≡ seat) × (w ≡ u)).
+      subst (λ (y : ℕ × View). FitsWords lawful.seat_of lawful.dealt plan words y.0 y.1) (λ i. (sym x.0 i, x.1 i)) fits)
+      (λ (x : (j ≢ seat) × (get_elem? views j ≡ some u)). lawful.seats j u x.1)
+      (at_set views seat j w u e);
+}
+
+-- a terminal's seat more, whose steps stand
+one_more : (plan : Plan) (words : List ℕ) (views : List View) (seat : ℕ) (v : View) → IsLawfulBoard plan words views → get_elem? views seat ≡ some v
+    → (w : View) → w.role ≡ Terminal → w.plan ≡ plan → AllStand words w.steps → RespectsFloors w.steps
+    → IsLawfulBoard plan words (set views seat v ++ w ∷ [])
+one_more plan words views seat v lawful at w terminal planned stand respects =
+    record {
+      seat_of = lawful.seat_of;
+      dealt = lawful.dealt;
+      few = lawful.few;
+      size = lawful.size;
+      begun = lawful.begun;
+      ends = lawful.ends;
+      floors = lawful.floors;
+      lasting = lawful.lasting;
+      durable = lawful.durable;
+      idle = lawful.idle;
+      seats = λ j u e.
+          ⊎_elim
+          (λ was. lawful.seats j u (subst (λ l. get_elem? l j ≡ some u) (set_again views seat v at) was))
+          (λ (x : (j ≡ length (set views seat v)) × (w ≡ u)).
+          subst (λ (y : View). FitsWords lawful.seat_of lawful.dealt plan words j y) x.1
+          (record {
+            planned = λ _. planned;
+            alone = λ some. absurd (let none = ap role_number terminal in omega arith);
+            below = (let below = (lawful.seats seat v at).below in let none = ap role_number terminal in omega arith);
+            dealer = λ e. absurd (let zero_one = ap role_number (sym terminal ∙ e) in omega arith);
+            stand = stand;
+            respects = respects;
+            owns = subst (λ r. KnowsOwn plan words r w.steps) (sym terminal) tt;
+          }))
+          (at_end (set views seat v) w u j e);
+    }
+
 -- a seat for the clock, for a logger and for a terminal
 pub deals_clock : (plan : Plan) (seat : ℕ) (v : View) → IsDealer v.plan 2 v
     → Splits {S = Unit {0}} (λ s. IsLawfulBoard plan s.words s.views) seat v (dealt_on v) (clock_view v)
@@ -132,39 +191,49 @@ deals_logger plan seat v number within dealer s lawful at =
     let book = ap (λ (u : View). u.role) dealer in
     let here : v.dealt ≡ number + 3 = ap (λ (u : View). u.dealt) dealer in
     let dealt : v.dealt ≡ lawful.dealt = fits.dealer book in
-    let inside = subst (λ (p : Plan). number < p.loggers) fits.planned within in
+    let inside = subst (λ (p : Plan). number < p.loggers) (fits.planned (ap is_gone book)) within in
     dealt_role plan s.words s.views seat v lawful at book (Logger (v.dealt - 3)) (omega arith) (omega arith)
 
-pub deals_terminal : (plan : Plan) (seat : ℕ) (v : View) → Splits {S = Unit {0}} (λ s. IsLawfulBoard plan s.words s.views) seat v v (terminal_view v)
-deals_terminal plan seat v s lawful at =
+pub deals_terminal : (plan : Plan) (seat : ℕ) (v : View) → is_gone v.role ≡ false → Splits {S = Unit {0}} (λ s. IsLawfulBoard plan s.words s.views) seat v v (terminal_view v)
+deals_terminal plan seat v here s lawful at =
     let mine = lawful.seats seat v at in
-    record {
-      seat_of = lawful.seat_of;
-      dealt = lawful.dealt;
-      few = lawful.few;
-      size = lawful.size;
-      begun = lawful.begun;
-      ends = lawful.ends;
-      floors = lawful.floors;
-      lasting = lawful.lasting;
-      durable = lawful.durable;
-      idle = lawful.idle;
-      seats = λ j u e.
-          ⊎_elim
-          (λ was. lawful.seats j u (subst (λ l. get_elem? l j ≡ some u) (set_again s.views seat v at) was))
-          (λ (x : (j ≡ length (set s.views seat v)) × (terminal_view v ≡ u)).
-          subst (λ (y : View). FitsWords lawful.seat_of lawful.dealt plan s.words j y) x.1
-          (record {
-            planned = mine.planned;
-            alone = λ some. absurd (omega arith);
-            below = (let below = mine.below in omega arith);
-            dealer = λ e. absurd (let zero_one = ap role_number e in omega arith);
-            stand = tt;
-            respects = tt;
-            owns = tt;
-          }))
-          (at_end (set s.views seat v) (terminal_view v) u j e);
-    }
+    one_more plan s.words s.views seat v lawful at (terminal_view v) refl (mine.planned here) tt tt
+
+-- and a terminal's seat that knows what this one knows
+pub tells_durable : (plan : Plan) (seat : ℕ) (v : View) → is_gone v.role ≡ false
+    → Splits {S = Unit {0}} (λ s. IsLawfulBoard plan s.words s.views) seat v v (told_view v)
+tells_durable plan seat v here s lawful at =
+    let mine = lawful.seats seat v at in
+    one_more plan s.words s.views seat v lawful at (told_view v) refl (mine.planned here) mine.stand mine.respects
+
+-- a seat that learns what another one has seen of D, which is then gone
+pub gathers_durable : (plan : Plan) (seat : ℕ) (v : View) (other : ℕ) (w : View) → is_gone w.role ≡ false
+    → Joins {S = Unit {0}} (λ s. IsLawfulBoard plan s.words s.views) seat v other w (with_seen v w) gone_view
+gathers_durable plan seat v other w here s lawful at apart there =
+    let seen = seen_durable w.plan.base w.steps in
+    let theirs = ⊎_elim (λ (t : (other ≡ seat) × (with_seen v w ≡ w)). absurd (apart t.0))
+    (λ (t : (other ≢ seat) × (get_elem? s.views other ≡ some w)). lawful.seats other w t.1) (at_set s.views seat other (with_seen v w) w there) in
+    let stands : seen ≤ durable_in s.words = subst (λ (p : Plan). seen_durable p.base w.steps ≤ durable_in s.words) (sym (theirs.planned here))
+    (durable_stands plan.base s.words w.steps lawful.lasting theirs.stand) in
+    let mine = lawful.seats seat v at in
+    let first = replaced plan s.words s.views seat lawful (with_seen v w) (record {
+      planned = mine.planned;
+      alone = mine.alone;
+      below = mine.below;
+      dealer = mine.dealer;
+      stand = (stands, mine.stand);
+      respects = mine.respects;
+      owns = owns_durable plan s.words v.role v.steps seen mine.owns;
+    }) in
+    replaced plan s.words (set s.views seat (with_seen v w)) other first gone_view (record {
+      planned = λ e. absurd (true≢false e);
+      alone = λ some. absurd (omega arith);
+      below = (let below = (first.seats other w there).below in omega arith);
+      dealer = λ e. absurd (let zero_one = ap role_number e in omega arith);
+      stand = tt;
+      respects = tt;
+      owns = tt;
+    })
 
 -- the words as a board opens
 abbrev pub opening_words : ℕ → List ℕ
@@ -195,6 +264,7 @@ opening_mark base (suc (suc (suc (suc (suc (suc (suc (suc l)))))))) low = absurd
 opening_idle : (plan : Plan) → plan.loggers ≤ 8 → (r : Role) → 2 ≤ role_number r → role_number r < plan.loggers + 3
     → KnowsOwn plan (opening_words plan.base) r []
 opening_idle plan few Terminal late inside = absurd (omega arith)
+opening_idle plan few Gone late inside = absurd (omega arith)
 opening_idle plan few Book late inside = absurd (omega arith)
 opening_idle plan few Clock late inside = refl
 opening_idle plan few (Logger l) late inside = (omega arith, opening_mark plan.base l (omega arith))
@@ -217,7 +287,7 @@ opens plan few room = record {
     one : (j : ℕ) (u : View) → get_elem? (first_view plan ∷ []) j ≡ some u → FitsWords (λ _. 0) 2 plan (opening_words plan.base) j u
     one zero u e = subst (λ (y : View). FitsWords (λ _. 0) 2 plan (opening_words plan.base) 0 y) (some-injective (first_view plan) u e)
         (record {
-          planned = refl;
+          planned = λ _. refl;
           alone = λ some. refl;
           below = omega arith;
           dealer = λ same. refl;

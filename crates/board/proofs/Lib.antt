@@ -1,6 +1,6 @@
-mod Standing
+pub mod Standing
 mod Owned
 mod Moves
 mod Allowing
-mod Dealing
+pub mod Dealing
 mod Loads

@@ -3,7 +3,7 @@
 use Rattle.std.specs.Prelude.{◌≡◌, ℕ, ◌+◌, ◌-◌, []}
 use Rattle.board.specs.declared.rule.Plan.{Plan}
 use Rattle.board.specs.declared.rule.View.{View}
-use Rattle.board.specs.declared.rule.Role.TheVariants.{Terminal, Book, Clock, Logger}
+use Rattle.board.specs.declared.rule.Role.TheVariants.{Terminal, Book, Clock, Logger, Gone}
 
 -- the book's seat at first, and what it knows once one role more has a seat
 abbrev pub first_view : Plan → View
@@ -21,6 +21,13 @@ logger_view v = record { plan = v.plan; role = Logger (v.dealt - 3); dealt = 0; 
 
 abbrev pub terminal_view : View → View
 terminal_view v = record { plan = v.plan; role = Terminal; dealt = 0; steps = [] }
+
+-- a terminal's seat that knows what this one knows, and a seat that is gone
+abbrev pub told_view : View → View
+told_view v = record { plan = v.plan; role = Terminal; dealt = 0; steps = v.steps }
+
+abbrev pub gone_view : View
+gone_view = record { plan = record { loggers = 0; base = 0 }; role = Gone; dealt = 0; steps = [] }
 
 -- the book's seat before any step, with which this many role numbers are dealt
 abbrev pub IsDealer : Plan → ℕ → View → Type 0

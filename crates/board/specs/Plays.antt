@@ -7,10 +7,10 @@ use Rattle.board.specs.declared.steps.TheConstants.{FLOORS}
 use Rattle.board.specs.declared.rule.View.{View}
 use Rattle.board.specs.declared.rule.WordStep.TheVariants.{LoadEpoch, AddEpoch, CountCommit, StoreFloor}
 use Rattle.board.specs.declared.rule.WordStep.TheVariants.{StoreMark, LoadMark, RaiseDurable, LoadDurable}
-use Rattle.board.specs.declared.rule.Role.TheVariants.{Clock}
+use Rattle.board.specs.declared.rule.Role.TheVariants.{Clock, Logger}
 use Rattle.board.specs.declared.rule.WordStep.{WordStep}
 use Rattle.board.specs.Words.{mark_in, last_epoch}
-use Rattle.board.specs.Steps.{known_epoch, seen_durable, RespectsFloors, AllStand}
+use Rattle.board.specs.Steps.{known_epoch, stored_mark, seen_durable, RespectsFloors, AllStand}
 
 -- a seat of the table with this id, which has a board's words
 abbrev pub HasSeatAt : TableId → Seat (Unit {0}) View → Type 0
@@ -24,6 +24,10 @@ IsUpToMarks v epoch = (words : List ℕ) → AllStand words v.steps → (l : ℕ
 -- what a seat knows once it has made this step
 abbrev pub with_step : View → WordStep → View
 with_step v step = record { plan = v.plan; role = v.role; dealt = v.dealt; steps = step ∷ v.steps }
+
+-- what a seat knows once it has learnt what another one has seen of D
+abbrev pub with_seen : View → View → View
+with_seen v w = with_step v (LoadDurable (seen_durable w.plan.base w.steps))
 
 pub record LoadsEpochOf (v : View) (found : ℕ) (w : View) : Type 0 where
   pub step : w ≡ with_step v (LoadEpoch found)
@@ -54,3 +58,4 @@ RaisesDurableOf epoch v w = w ≡ with_step v (RaiseDurable epoch)
 pub record LoadsDurableOf (v : View) (found : ℕ) (w : View) : Type 0 where
   pub step : w ≡ with_step v (LoadDurable found)
   pub later : seen_durable v.plan.base v.steps ≤ found
+  pub own : (l : ℕ) → v.role ≡ Logger l → found ≤ stored_mark v.plan.base v.steps

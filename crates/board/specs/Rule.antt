@@ -1,5 +1,5 @@
 -- The rule of a board: what holds of its words and of what its seats know, between any two steps.
-use Rattle.std.specs.Prelude.{◌≡◌, ℕ, ◌+◌, ◌<◌, ◌≤◌, List, [], length}
+use Rattle.std.specs.Prelude.{◌≡◌, ℕ, ◌+◌, ◌<◌, ◌≤◌, Bool, true, false, List, [], length}
 use mathlib.Core.Option.{some}
 use lib.ListN.{get_elem?}
 use Rattle.tables.specs.declared.limits.TheConstants.{MAX_LOGGERS}
@@ -7,31 +7,39 @@ use Rattle.board.specs.declared.steps.TheConstants.{WORDS}
 use Rattle.board.specs.declared.rule.Plan.{Plan}
 use Rattle.board.specs.declared.rule.View.{View}
 use Rattle.board.specs.declared.rule.Role.{Role}
-use Rattle.board.specs.declared.rule.Role.TheVariants.{Terminal, Book, Clock, Logger}
+use Rattle.board.specs.declared.rule.Role.TheVariants.{Terminal, Book, Clock, Logger, Gone}
 use Rattle.board.specs.declared.rule.WordStep.{WordStep}
 use Rattle.board.specs.Words.{mark_in, floor_in, epoch_in, count_in, durable_in, last_epoch}
 use Rattle.board.specs.Steps.{known_epoch, counted_epochs, stored_mark, RespectsFloors, AllStand}
 
--- the number of a role. Terminals share theirs; each other role has one seat
+-- nobody steps with a seat of this role any more
+abbrev pub is_gone : Role → Bool
+is_gone Gone = true
+is_gone _ = false
+
+-- the number of a role. Terminals and seats that are gone share theirs; each other role has one seat
 abbrev pub role_number : Role → ℕ
 role_number Terminal = 0
 role_number Book = 1
 role_number Clock = 2
 role_number (Logger logger) = logger + 3
+role_number Gone = 0
 
 -- a seat knows the words that only its role changes: the book's the commit count, and no floor is above the last E
 -- that it knows; the clock's E; a logger's its local mark, which is what it has noted as kept
 abbrev pub KnowsOwn : Plan → List ℕ → Role → List WordStep → Type 0
 KnowsOwn plan words Terminal steps = Unit {0}
+KnowsOwn plan words Gone steps = Unit {0}
 KnowsOwn plan words Book steps = (count_in words ≡ length (counted_epochs steps))
     × ((l : ℕ) → l < MAX_LOGGERS → floor_in words l ≤ known_epoch plan.base steps)
 KnowsOwn plan words Clock steps = epoch_in words ≡ known_epoch plan.base steps
 KnowsOwn plan words (Logger logger) steps = (logger < plan.loggers)
     × (mark_in words logger ≡ stored_mark plan.base steps)
 
--- one seat fits the words. Its role, unless it is a terminal's, has no other seat, and is one of those dealt so far
+-- one seat fits the words. It is of the board's plan, unless it is gone. Its role, unless it is a terminal's, has no
+-- other seat, and is one of those dealt so far
 pub record FitsWords (seat_of : ℕ → ℕ) (dealt : ℕ) (plan : Plan) (words : List ℕ) (seat : ℕ) (v : View) : Type 0 where
-  pub planned : v.plan ≡ plan
+  pub planned : is_gone v.role ≡ false → v.plan ≡ plan
   pub alone : 0 < role_number v.role → seat_of (role_number v.role) ≡ seat
   pub below : role_number v.role < dealt
   pub dealer : v.role ≡ Book → v.dealt ≡ dealt

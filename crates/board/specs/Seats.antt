@@ -4,7 +4,7 @@ use Rattle.atomic_table.specs.Seated.{TableId}
 use Rattle.board.specs.declared.rule.Plan.{Plan}
 use Rattle.board.specs.declared.rule.View.{View}
 use Rattle.board.specs.declared.rule.Role.{Role}
-use Rattle.board.specs.declared.rule.Role.TheVariants.{Terminal, Book, Clock, Logger}
+use Rattle.board.specs.declared.rule.Role.TheVariants.{Terminal, Book, Clock, Logger, Gone}
 use Rattle.board.specs.declared.rule.WordStep.{WordStep}
 
 -- which words a board has, and what it opened with
@@ -32,6 +32,7 @@ logger_number Terminal = 0
 logger_number Book = 0
 logger_number Clock = 0
 logger_number (Logger logger) = logger
+logger_number Gone = 0
 
 -- what is seen of a seat of this table that knows this
 abbrev pub seat_view : TableId → View → SeatView

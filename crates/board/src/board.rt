@@ -13,8 +13,8 @@ use crate::keeper::Keeper;
 use crate::rule::{EpochRule, Plan, View};
 use crate::seats::{BookSeat, ClockSeat, LoggerSeat, TerminalSeat};
 use crate::steps::{
-    DURABLE, add_epoch, count_commit, load_durable, load_epoch, load_mark, raise_durable,
-    store_floor, store_mark,
+    DURABLE, add_epoch, count_commit, learn_durable, load_durable, load_epoch, load_mark,
+    raise_durable, store_floor, store_mark, tell_durable,
 };
 use atomic_table::Table;
 use money::Refusal;
@@ -145,6 +145,31 @@ impl Board {
         ensures later { seen_durable self.now.plan.base seat.old.steps ≤ result }
     {
         load_durable(&self.table.shared, &mut seat.seat)
+    }
+
+    /// Lets a terminal's seat know what another one, which is given up, has seen of D. One load.
+    pub fn gather_durable(&self, seat: &mut TerminalSeat, other: TerminalSeat)
+        requires { (seat.old.board ≡ self.now) × (other.board ≡ self.now) }
+        ensures { seat.new ≡ noted seat.old (LoadDurable (seen_durable self.now.plan.base other.steps)) }
+    {
+        learn_durable(&self.table.shared, &mut seat.seat, other.seat);
+    }
+
+    /// D, by a logger: no lower than this terminal's seat has found it, and no more than the logger has noted as kept.
+    /// Three loads.
+    pub fn durable_of(&self, seat: &mut LoggerSeat, terminal: &mut TerminalSeat) -> u64
+        requires { (seat.old.board ≡ self.now) × (terminal.old.board ≡ self.now) }
+        ensures same { terminal.new ≡ terminal.old }
+        ensures own { (seat.new.board ≡ seat.old.board) × (seat.new.role ≡ seat.old.role) }
+        ensures local { stored_mark self.now.plan.base seat.new.steps
+            ≡ stored_mark self.now.plan.base seat.old.steps }
+        ensures seen { seen_durable self.now.plan.base terminal.old.steps ≤ result }
+        ensures kept { result ≤ stored_mark self.now.plan.base seat.old.steps }
+    {
+        let words = &self.table.shared;
+        let told = tell_durable(words, &mut terminal.seat);
+        learn_durable(words, &mut seat.seat, told);
+        load_durable(words, &mut seat.seat)
     }
 
     /// The last D, once no thread shares the board any more: what a logger that gives its seat back has seen, or more,

@@ -121,7 +121,8 @@ fn logger_seat(words: &Words, book: &mut WordSeat, number: u64) -> LoggerSeat
 
 // A terminal's seat.
 fn terminal_seat(words: &Words, book: &mut WordSeat) -> TerminalSeat
-    requires { HasSeatAt words.now.table_id book.old }
+    requires own { HasSeatAt words.now.table_id book.old }
+    requires here { book.old.me.0.role ≡ Book }
     ensures own { book.new.table_id ≡ book.old.table_id }
     ensures same { book.new.me.0 ≡ book.old.me.0 }
     ensures seat { result ≡ new_seat (seat_view book.old.table_id book.old.me.0).board Terminal }
@@ -160,7 +161,8 @@ fn terminal_seats(
     book: &mut WordSeat,
     terminals: u64,
 ) -> Result<Vec<TerminalSeat>, Refusal>
-    requires { HasSeatAt words.now.table_id book.old }
+    requires own { HasSeatAt words.now.table_id book.old }
+    requires here { book.old.me.0.role ≡ Book }
     ensures own { book.new.table_id ≡ book.old.table_id }
     ensures same { book.new.me.0 ≡ book.old.me.0 }
     ensures ok { IfOk result (λ seats.

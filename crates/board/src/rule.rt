@@ -1,6 +1,6 @@
 //! The rule of the board's words: what they promise to all seats, and what a seat's own steps have told it.
 
-use atomic_table::{Play, Split, TableRule};
+use atomic_table::{Join, Play, Split, TableRule};
 use std::collections::LinkedList;
 
 /// What a board opens with.
@@ -22,6 +22,8 @@ pub enum Role {
     Clock,
     /// Keeps commits, and raises D. Of this seat there is one for each logger, from logger 0.
     Logger(u64),
+    /// Nobody: what its seat knew, another one knows.
+    Gone,
 }
 
 /// One step at one word, with what it found or wrote. No value of it is made.
@@ -98,6 +100,29 @@ impl Split<View> for DealsTerminal {
     ghost right = { terminal_view };
 }
 
+/// A terminal's seat more, that knows what this one knows.
+pub(crate) struct TellsDurable;
+
+impl Split<View> for TellsDurable {
+    ghost use Rattle.board.specs.Dealing.{told_view};
+
+    ghost left = { λ v. v };
+
+    ghost right = { told_view };
+}
+
+/// A seat learns what another one has seen of D, which is then gone.
+pub(crate) struct GathersDurable;
+
+impl Join<View> for GathersDurable {
+    ghost use Rattle.board.specs.Dealing.{gone_view};
+    ghost use Rattle.board.specs.Plays.{with_seen};
+
+    ghost both = { with_seen };
+
+    ghost spent = { gone_view };
+}
+
 /// E is loaded: at least the last E that the seat knows.
 pub(crate) struct LoadsEpoch;
 
@@ -165,7 +190,8 @@ impl Play<(), View> for RaisesDurable {
 pub(crate) struct LoadsDurable;
 
 impl Play<(), View> for LoadsDurable {
+    ghost use Rattle.std.specs.Prelude.{◌≡◌};
     ghost use Rattle.board.specs.Plays.{LoadsDurableOf};
 
-    ghost then = { λ _ v found w. LoadsDurableOf v.0 found w.0 };
+    ghost then = { λ _ v found w. (w.1 ≡ v.1) × LoadsDurableOf v.0 found w.0 };
 }

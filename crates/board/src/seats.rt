@@ -70,7 +70,7 @@ pub struct TerminalSeat {
 }
 
 impl Model for TerminalSeat {
-    ghost use Rattle.std.specs.Prelude.{◌≡◌};
+    ghost use Rattle.std.specs.Prelude.{◌≡◌, []};
     ghost use Rattle.board.specs.declared.rule.Role.TheVariants.{Terminal};
     ghost use Rattle.board.specs.Seats.{SeatView, seat_view};
 
@@ -78,5 +78,5 @@ impl Model for TerminalSeat {
 
     ghost view = { λ s. seat_view s.seat.table_id s.seat.me.0 };
 
-    ghost invariant = { λ s. s.seat.me.0.role ≡ Terminal };
+    ghost invariant = { λ s. (s.seat.me.0.role ≡ Terminal) × (s.seat.me.1 ≡ []) };
 }

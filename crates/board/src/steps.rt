@@ -1,18 +1,20 @@
-//! The eight kinds of step, each at one word.
+//! The eight kinds of step, each at one word, and how a seat tells another one of D.
 //!
 //! A method of a ruled table is dear to prove where it is called, so each is called in one small function.
-ghost use Rattle.std.specs.Prelude.{◌≡◌, ℕ, ◌+◌, ◌-◌, ◌^◌, ◌<◌, ◌≤◌, length};
+ghost use Rattle.std.specs.Prelude.{◌≡◌, ℕ, ◌+◌, ◌-◌, ◌^◌, ◌<◌, ◌≤◌, false, [], length};
 ghost use Rattle.tables.specs.declared.limits.TheConstants.{MAX_LOGGERS};
 ghost use Rattle.board.specs.declared.rule.Role.TheVariants.{Book, Clock, Logger};
 ghost use Rattle.board.specs.declared.rule.WordStep.TheVariants.{AddEpoch, CountCommit, StoreFloor};
 ghost use Rattle.board.specs.declared.rule.WordStep.TheVariants.{StoreMark, LoadMark, RaiseDurable};
 ghost use Rattle.board.specs.Steps.{known_epoch, counted_epochs, stored_mark};
 ghost use Rattle.board.specs.Words.{last_epoch};
-ghost use Rattle.board.specs.Plays.{HasSeatAt, IsUpToMarks, with_step, LoadsEpochOf, LoadsDurableOf};
+ghost use Rattle.board.specs.Rule.{is_gone};
+ghost use Rattle.board.specs.Dealing.{told_view};
+ghost use Rattle.board.specs.Plays.{HasSeatAt, IsUpToMarks, with_step, with_seen, LoadsEpochOf, LoadsDurableOf};
 
 use crate::rule::{
-    AddsEpoch, CountsCommit, EpochRule, LoadsDurable, LoadsEpoch, LoadsMark, Plan, RaisesDurable,
-    StoresFloor, StoresMark, View,
+    AddsEpoch, CountsCommit, EpochRule, GathersDurable, LoadsDurable, LoadsEpoch, LoadsMark, Plan,
+    RaisesDurable, StoresFloor, StoresMark, TellsDurable, View,
 };
 use crate::seats::WordSeat;
 use atomic_table::Shared;
@@ -35,7 +37,8 @@ pub(crate) const WORDS: usize = EPOCH + 3;
 
 // Loads E.
 pub(crate) fn load_epoch(words: &Words, seat: &mut WordSeat) -> u64
-    requires { HasSeatAt words.now.table_id seat.old }
+    requires own { HasSeatAt words.now.table_id seat.old }
+    requires here { is_gone seat.old.me.0.role ≡ false }
     ensures own { seat.new.table_id ≡ seat.old.table_id }
     ensures told { LoadsEpochOf seat.old.me.0 result seat.new.me.0 }
 {
@@ -102,6 +105,7 @@ pub(crate) fn load_mark(words: &Words, seat: &mut WordSeat, logger: u64) -> u64
 // Raises D to an epoch that is at most every local mark.
 pub(crate) fn raise_durable(words: &Words, seat: &mut WordSeat, epoch: u64)
     requires own { HasSeatAt words.now.table_id seat.old }
+    requires here { is_gone seat.old.me.0.role ≡ false }
     requires below { IsUpToMarks seat.old.me.0 epoch }
     ensures own { seat.new.table_id ≡ seat.old.table_id }
     ensures told { seat.new.me.0 ≡ with_step seat.old.me.0 (RaiseDurable epoch) }
@@ -111,9 +115,31 @@ pub(crate) fn raise_durable(words: &Words, seat: &mut WordSeat, epoch: u64)
 
 // Loads D.
 pub(crate) fn load_durable(words: &Words, seat: &mut WordSeat) -> u64
-    requires { HasSeatAt words.now.table_id seat.old }
+    requires own { HasSeatAt words.now.table_id seat.old }
+    requires here { is_gone seat.old.me.0.role ≡ false }
     ensures own { seat.new.table_id ≡ seat.old.table_id }
-    ensures told { LoadsDurableOf seat.old.me.0 result seat.new.me.0 }
+    ensures told { (seat.new.me.1 ≡ seat.old.me.1) × LoadsDurableOf seat.old.me.0 result seat.new.me.0 }
 {
     words.load::<LoadsDurable>(seat, DURABLE)
+}
+
+// A terminal's seat that knows what this one knows.
+pub(crate) fn tell_durable(words: &Words, seat: &mut WordSeat) -> WordSeat
+    requires own { HasSeatAt words.now.table_id seat.old }
+    requires here { is_gone seat.old.me.0.role ≡ false }
+    ensures same { (seat.new.table_id ≡ seat.old.table_id) × (seat.new.me ≡ seat.old.me) }
+    ensures told { (result.table_id ≡ seat.old.table_id) × (result.me ≡ (told_view seat.old.me.0, [])) }
+{
+    words.split_seat::<TellsDurable>(seat)
+}
+
+// Lets a seat know what another one has seen of D.
+pub(crate) fn learn_durable(words: &Words, seat: &mut WordSeat, other: WordSeat)
+    requires own { HasSeatAt words.now.table_id seat.old }
+    requires other { (other.table_id ≡ words.now.table_id) × (other.me.1 ≡ []) }
+    requires here { is_gone other.me.0.role ≡ false }
+    ensures own { seat.new.table_id ≡ seat.old.table_id }
+    ensures told { seat.new.me ≡ (with_seen seat.old.me.0 other.me.0, seat.old.me.1) }
+{
+    words.join_seat::<GathersDurable>(seat, other);
 }

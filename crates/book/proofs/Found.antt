@@ -37,7 +37,7 @@ use Rattle.book.proofs.Replaying.{replay_push}
 use Rattle.book.proofs.Sound.{done_there}
 use Rattle.book.proofs.Stamped.{lasts_next}
 use Rattle.book.proofs.Streams.{streams_later, streams_reserved, streams_added}
-use Rattle.book.proofs.Taken.{same_next, there_is, taken_above, next_kept}
+use Rattle.book.proofs.AboveTids.{same_next, there_is, taken_above, next_kept}
 use Rattle.book.proofs.TotalsKept.{may_follow, held_there}
 
 -- what contracts see of a book that has these parts

@@ -1,5 +1,5 @@
 -- What records hold by their newest versions is what the committed tables have.
-use Rattle.std.proofs.Common.{◌≡◌, ◌≢◌, ℕ, ◌+◌, ◌<◌, ◌≤◌, ◌++◌, List, [], ◌∷◌, Option, length, sym, ap, ◌∙◌, subst, arith}
+use Rattle.std.proofs.Common.{◌≡◌, ◌≢◌, ℕ, ◌+◌, ◌<◌, ◌++◌, List, [], ◌∷◌, Option, sym, ap, ◌∙◌, subst}
 use Rattle.tables.specs.Sizes.{Sizes}
 use Rattle.tables.specs.Constant.{IsOf}
 use Rattle.tables.specs.WellFormed.{IsWellFormed}

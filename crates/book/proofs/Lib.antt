@@ -4,8 +4,9 @@ mod Held
 mod Stores
 pub mod Stamped
 mod Sound
-mod Taken
+mod AboveTids
 mod Loaded
+mod Kept
 mod Streams
 mod Runs
 mod Showing

@@ -42,7 +42,7 @@ use Rattle.book.specs.Ready.{IsReady, IsFree}
 use Rattle.book.specs.Shows.{reads_of, Mirrors, IsCommitRun, IsFullRun, IsStaleRun}
 use Rattle.book.proofs.Held.{has_newest}
 use Rattle.book.proofs.Sound.{value_in_version, last_one}
-use Rattle.book.proofs.Taken.{whole}
+use Rattle.book.proofs.AboveTids.{whole}
 
 -- what the machine's look-ups find is what the book's do
 same_number : (a b : ℕ) → (a == b) ≡ is_eq (nat_cmp b a)

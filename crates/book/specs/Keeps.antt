@@ -1,4 +1,5 @@
 -- What the types of the book, of the engine and of its seats keep, each part by its name.
+use Rattle.annals.specs.Passes.{AnnalsView, AnnalistView}
 use Rattle.std.specs.Prelude.{◌≡◌, ℕ, ◌+◌, ◌<◌, ◌^◌, List, length}
 use Rattle.std.specs.List.{All}
 use Rattle.tables.specs.Database.{Database}
@@ -56,14 +57,26 @@ pub record KeepsBook (run : RunView) (parts : ℕ) (book : BookParts) : Type 0 w
   pub streams : AreStreams run.board.plan (found_epoch book.seat) book.history book.streams
   pub loggable : AreLoggable run.first.scale parts book.history
 
--- what the engine's type keeps of its population, its cells and its board, in a run of so many parts
+-- what it keeps of the pass with which the run's annals are kept: that knows the history, up to a mark that is below
+-- the epoch which the book's seat has found
+pub record KeepsAnnals (run : RunView) (seat : SeatView) (history : List Entry) (annals : AnnalsView)
+    (knows : AnnalistView Entry) : Type 0 where
+  pub own : annals ≡ run.annals
+  pub keeper : knows.annals ≡ run.annals
+  pub base : run.annals.base ≡ run.board.plan.base
+  pub whole : knows.history ≡ history
+  pub mark : knows.mark < found_epoch seat
+
+-- what the engine's type keeps of its population, its cells, its board and its annals, in a run of so many parts
 pub record IsEngineOf (run : RunView) (parts : ℕ) (population : Database) (cells : CellsView) (board : BoardView)
-    : Type 0 where
+    (annals : AnnalsView) : Type 0 where
   pub population_is : population ≡ run.population
   pub of_population : IsOf run.population run.first
   pub cells_are : cells ≡ run.cells
   pub count : AreCellsOf run.first.scale run.cells
   pub board_is : board ≡ run.board
+  pub annals_are : annals ≡ run.annals
+  pub annals_base : run.annals.base ≡ run.board.plan.base
   pub some : 0 < parts
 
 -- what the type of the terminals' seats keeps of those that are left, in a run of so many parts: the readers and the seats of the board, the parts and the commits of the share that they have together, and

@@ -7,6 +7,7 @@ pub mod Loggable
 pub mod Book
 pub mod Base
 pub mod Batches
+pub mod Dates
 pub mod Next
 pub mod Ready
 pub mod Run

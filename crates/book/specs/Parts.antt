@@ -15,6 +15,8 @@ use Rattle.board.specs.Opening.{Opens}
 use Rattle.book.specs.Base.{IsStart}
 use Rattle.book.specs.Run.{RunView}
 use Rattle.book.specs.declared.untaken.Untaken.{Untaken}
+use Rattle.annals.specs.Passes.{AnnalsView}
+use Rattle.book.specs.declared.parts.BlankAnnals.{BlankAnnals}
 use Rattle.book.specs.declared.parts.Fresh.{Fresh}
 use Rattle.book.specs.declared.parts.Parts.{Parts}
 use Rattle.book.specs.declared.parts.Records.{Records}
@@ -22,7 +24,7 @@ use Rattle.tables.specs.declared.limits.TheConstants.{MAX_LOGGERS, MAX_TERMINALS
 
 -- the population of a run of these parts, the tables that it begins with, which are the population's own where no
 -- others were handed in, how many commits made them, the seed of its population, its cells, its board and what that
--- opened with, its ledger, and how many loggers and terminals it has
+-- opened with, its annals, its ledger, and how many loggers and terminals it has
 abbrev pub population_of : Parts → Database
 population_of p = initial (arc_value p.population)
 
@@ -41,6 +43,9 @@ cells_of p = p.fresh.records.cells
 abbrev pub board_of : Parts → BoardView
 board_of p = p.fresh.board
 
+abbrev pub annals_of : Parts → AnnalsView
+annals_of p = arc_value p.fresh.blank.annals
+
 abbrev pub ledger_name : Parts → ℕ
 ledger_name p = p.blank.name
 
@@ -56,6 +61,7 @@ run_of p = record {
   past = past_of p;
   cells = cells_of p;
   board = board_of p;
+  annals = annals_of p;
 }
 
 abbrev pub base_of : Parts → ℕ
@@ -80,13 +86,20 @@ pub record AreUnwritten (first : Database) (terminals : ℕ) (r : Records) : Typ
   pub readers : All (λ reader. reader ≡ seen_all r.pen) r.readers.items
   pub as_many : length r.readers.items ≡ terminals
 
+-- annals behind an epoch in which nothing stands, which two have, and the pass with which they are kept
+pub record AreBlank (epoch : ℕ) (blank : BlankAnnals) : Type 0 where
+  pub lent : arc_value blank.lent ≡ arc_value blank.annals
+  pub base : (arc_value blank.annals).base ≡ epoch
+  pub keeper : blank.annalist ≡ record { annals = arc_value blank.annals; history = []; mark = epoch }
+
 -- nobody has read, stepped, committed or taken anything yet: the records of these tables have one version, the board is
--- behind this epoch, the streams are empty at it, and no terminal has a TID
+-- behind this epoch, the streams are empty at it, no terminal has a TID, and annals behind it are blank
 pub record IsUnused (first : Database) (epoch loggers terminals : ℕ) (f : Fresh) : Type 0 where
   pub records : AreUnwritten first terminals f.records
   pub board : Opens (record { loggers = loggers; base = epoch }) terminals f.board f.seats
   pub streams : AreEmpty loggers epoch f.streams.items
   pub lasts : f.lasts.items ≡ replicate terminals 0
+  pub blank : AreBlank epoch f.blank
 
 -- nothing has committed behind the tables that the run begins with, and the ledger has a part a terminal. Both that
 -- have the population have the same
@@ -121,6 +134,7 @@ pub record IsOpenedAs (p : Parts) (run : RunView) : Type 0 where
   pub past_is : past_of p ≡ run.past
   pub cells_are : cells_of p ≡ run.cells
   pub board_is : board_of p ≡ run.board
+  pub annals_are : annals_of p ≡ run.annals
 
 -- and these are the name of its ledger, and how many parts that has
 pub record IsLedgerOf (p : Parts) (name parts : ℕ) : Type 0 where

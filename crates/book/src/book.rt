@@ -5,6 +5,7 @@ use crate::history_rows::joined_rows;
 use crate::run::Run;
 use crate::share::Share;
 use crate::untaken::Untaken;
+use annals::{Annalist, Annals};
 use board::BookSeat;
 use cells::{Cells, Pen};
 use conditions::Report;
@@ -26,7 +27,8 @@ use totals_report::report_of;
 /// that it is ready for the next commit, that it has each terminal's last TID, that the terminals' shares sum to the
 /// length of the history, that its seat of the board has counted each commit of the history, with its epoch, that what
 /// waits for a logger is what of its stream was not taken, each entry above the mark of the last take, that each entry
-/// may be written to a log file, and that its totals are those of the committed tables.
+/// may be written to a log file, that its totals are those of the committed tables, and that it keeps the run's annals,
+/// in which just the history stands (`KeepsAnnals`).
 #[derive(Drop)]
 pub struct Book<K: Run> {
     pub(crate) pen: Pen,
@@ -39,6 +41,8 @@ pub struct Book<K: Run> {
     pub(crate) lasts: Vec<TidWord>,
     pub(crate) shares: ledger::Book<K>,
     pub(crate) seat: BookSeat,
+    pub(crate) annals: Arc<Annals<Entry>, Global>,
+    pub(crate) annalist: Annalist<Entry>,
 }
 
 impl<K: Run> Model for Book<K> {
@@ -46,7 +50,7 @@ impl<K: Run> Model for Book<K> {
     ghost use Rattle.std.specs.Arc.{arc_value};
     ghost use Rattle.population.specs.Initial.{initial, seed_of};
     ghost use Rattle.book.specs.Book.{BookView};
-    ghost use Rattle.book.specs.Keeps.{KeepsBook};
+    ghost use Rattle.book.specs.Keeps.{KeepsBook, KeepsAnnals};
 
     ghost Value = { BookView };
 
@@ -71,7 +75,8 @@ impl<K: Run> Model for Book<K> {
           lasts = b.lasts.items;
           shares = b.shares.total;
           seat = b.seat;
-        }) };
+        })
+        × KeepsAnnals K.run b.seat (map arc_value b.history.items) (arc_value b.annals) b.annalist };
 }
 
 impl<K: Run> Book<K> {

@@ -8,6 +8,7 @@ ghost use Rattle.tables.specs.Database.{database};
 ghost use Rattle.tables.specs.WellFormed.{IsWellFormed};
 ghost use Rattle.tables.specs.declared.limits.TheConstants.{MAX_COMMITS};
 ghost use Rattle.conditions.specs.Report.{IsReportOf, IsGood};
+ghost use Rattle.book.specs.Dates.{Bears};
 ghost use Rattle.book.specs.History.{IsLegal, replay};
 ghost use Rattle.book.specs.Loggable.{AreLoggable};
 ghost use Rattle.book.specs.Share.{parts_of, share_commits};
@@ -18,6 +19,7 @@ use crate::engine::Engine;
 use crate::entry::Entry;
 use crate::run::Run;
 use crate::share::Share;
+use annals::Pass;
 use cells::Cells;
 use conditions::Report;
 use money::Refusal;
@@ -79,6 +81,15 @@ impl<K: Run> Closed<K> {
         self.book.tables(&self.cells)
     }
 
+    /// For proofs: what a pass of the run's annals claims is so of the history. Three loads.
+    pub fn hear(&mut self, pass: &mut Pass<Entry>)
+        requires { pass.old.table ≡ K.run.annals.table }
+        ensures same { (self.new ≡ self.old) × (pass.new ≡ pass.old) }
+        ensures bears { Bears K.run.board.plan.base self.old pass.old.claim }
+    {
+        self.book.hear(pass);
+    }
+
     /// Which conditions the committed tables meet: all. Costs what `Book::report` does. `OutOfMemory` is the only
     /// refusal.
     pub fn report(&mut self, alloc: Global) -> Result<Report, Refusal>
@@ -102,6 +113,7 @@ impl<K: Run> Engine<K> {
             population: _,
             cells,
             board: _,
+            annals: _,
             book,
         } = self;
         let mut book = book.into_inner();

@@ -13,6 +13,7 @@ ghost use Rattle.book.specs.Shows.{Mirrors, IsCommitRun, IsFailedRun, reads_of};
 use crate::book::Book;
 use crate::counting::store_counted;
 use crate::done::Done;
+use crate::keeping::keep;
 use crate::prepare::{Place, Prepared, prepare};
 use crate::run::Run;
 use crate::share::Share;
@@ -105,6 +106,7 @@ impl<K: Run> Book<K> {
             Err(refusal) => return Err(refusal),
         };
         store_counted(rt, cells, &mut self.pen, reader, &mut self.totals, &entry);
+        keep(&self.annals, &mut self.annalist, epoch, &entry);
         stream.add(waiting);
         self.history.push_reserved(entry);
         self.lasts[share.terminal as usize] = tid;

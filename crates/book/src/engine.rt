@@ -9,9 +9,11 @@ ghost use Rattle.board.specs.Opening.{logger_seats};
 ghost use Rattle.book.specs.Parts.{IsOpenedAs, IsLedgerOf, terminals_of};
 
 use crate::book::Book;
-use crate::parts::{Begun, Fresh, Parts, Records};
+use crate::entry::Entry;
+use crate::parts::{Begun, BlankAnnals, Fresh, Parts, Records};
 use crate::run::Run;
 use crate::share::Share;
+use annals::Annals;
 use board::{Board, BoardSeats, ClockSeat, LoggerSeat, TerminalSeat};
 use cells::{Cells, Reader};
 use population::Population;
@@ -31,13 +33,14 @@ const PAUSES: u32 = 16;
 /// sleeps: some 200 microseconds where no other wants to run.
 const TURNS: u32 = 200;
 
-/// An engine: the population, the record cells, which terminals read without a lock, the board of epoch words, and the
-/// book under one lock (Silo, section 4.1). Contracts see nothing of it but that it is of the run that `K` names.
+/// An engine: the population, the record cells, which terminals read without a lock, the board of epoch words, the
+/// annals, and the book under one lock (Silo, section 4.1). Contracts see nothing of it but that it is of the run that `K` names.
 #[derive(Drop)]
 pub struct Engine<K: Run> {
     pub(crate) population: Arc<Population, Global>,
     pub(crate) cells: Cells,
     pub(crate) board: Board,
+    pub(crate) annals: Arc<Annals<Entry>, Global>,
     pub(crate) book: Mutex<Book<K>>,
 }
 
@@ -51,7 +54,7 @@ impl<K: Run> Model for Engine<K> {
     ghost view = { λ e. tt };
 
     ghost invariant = { λ e. IsEngineOf K.run K.parts
-        (initial (arc_value e.population)) e.cells e.board };
+        (initial (arc_value e.population)) e.cells e.board (arc_value e.annals) };
 }
 
 impl<K: Run> Engine<K> {
@@ -85,7 +88,13 @@ impl<K: Run> Engine<K> {
             seats,
             streams,
             lasts,
+            blank: made,
         } = fresh;
+        let BlankAnnals {
+            annals,
+            lent: lent_annals,
+            annalist,
+        } = made;
         let Records {
             cells,
             pen,
@@ -111,11 +120,14 @@ impl<K: Run> Engine<K> {
             lasts,
             shares,
             seat,
+            annals: lent_annals,
+            annalist,
         };
         let engine = Engine {
             population,
             cells,
             board,
+            annals,
             book: Mutex::new(book),
         };
         let terminals = TerminalSeats {
@@ -154,6 +166,15 @@ impl<K: Run> Engine<K> {
         ensures { result.now ≡ K.run.board }
     {
         &self.board
+    }
+
+    /// The annals of the run, which the book keeps: its history stands there, as far as a pass can know. They began
+    /// where the board did.
+    pub fn annals(&self) -> &Annals<Entry>
+        ensures value { result.now ≡ K.run.annals }
+        ensures base { K.run.annals.base ≡ K.run.board.plan.base }
+    {
+        &self.annals
     }
 
     /// The book, once no other thread has it. While the lock is free, the committed tables are consistent and are

@@ -1,5 +1,6 @@
 //! What has committed.
 
+use annals::Dated;
 use readset::WriteList;
 use tables::{Input, Reply};
 use tidword::TidWord;
@@ -16,4 +17,10 @@ pub struct Entry {
     pub input: Input,
     pub reply: Reply,
     pub writes: WriteList,
+}
+
+impl Dated for Entry {
+    ghost use Rattle.book.specs.Dates.{date_of};
+
+    ghost date = { date_of };
 }

@@ -11,11 +11,12 @@ ghost use Rattle.population.specs.Initial.{initial, seed_of};
 ghost use Rattle.totals.specs.Totals.{AreTotals};
 ghost use Rattle.board.specs.Words.{last_epoch};
 ghost use Rattle.book.specs.Base.{MayBegin, IsStart};
-ghost use Rattle.book.specs.Parts.{ArePartsOf, AreEmpty, AreUnwritten, IsUnused};
+ghost use Rattle.book.specs.Parts.{ArePartsOf, AreBlank, AreEmpty, AreUnwritten, IsUnused};
 
 use crate::entry::Entry;
 use crate::shared::shared;
 use crate::untaken::Untaken;
+use annals::{Annalist, Annals};
 use board::{Board, BoardSeats};
 use cells::{Cells, Pen, Reader};
 use encoding::{first_texts, first_versions};
@@ -60,7 +61,7 @@ pub(crate) struct Records {
 }
 
 /// What a run begins with in which nothing has committed: its records, a board at which nobody has stepped, the
-/// loggers' streams, and the terminals' last TIDs.
+/// loggers' streams, the terminals' last TIDs, and annals.
 #[derive(Drop)]
 pub(crate) struct Fresh {
     pub(crate) records: Records,
@@ -68,6 +69,15 @@ pub(crate) struct Fresh {
     pub(crate) seats: BoardSeats,
     pub(crate) streams: Vec<Untaken>,
     pub(crate) lasts: Vec<TidWord>,
+    pub(crate) blank: BlankAnnals,
+}
+
+/// Annals in which nothing stands, as the engine and the book have them, and the pass with which the book keeps them.
+#[derive(Drop)]
+pub(crate) struct BlankAnnals {
+    pub(crate) annals: Arc<Annals<Entry>, Global>,
+    pub(crate) lent: Arc<Annals<Entry>, Global>,
+    pub(crate) annalist: Annalist<Entry>,
 }
 
 /// Tables that a run goes on from, as recovery gives them: the HISTORY rows that they have behind the population's, how
@@ -244,12 +254,27 @@ fn fresh_of(
 {
     let (streams, lasts) = lists_of(alloc, loggers, terminals, epoch)?;
     let (board, seats) = Board::behind(alloc, epoch, u64::from(loggers), u64::from(terminals))?;
+    let blank = blank_annals(alloc, epoch)?;
     Ok(Fresh {
         records,
         board,
         seats,
         streams,
         lasts,
+        blank,
+    })
+}
+
+/// Annals behind this epoch in which nothing stands.
+fn blank_annals(alloc: Global, epoch: u64) -> Result<BlankAnnals, AllocError>
+    ensures { IfOk result (AreBlank epoch) }
+{
+    let (annals, annalist) = Annals::new(alloc, epoch)?;
+    let (annals, lent) = shared(alloc, annals)?;
+    Ok(BlankAnnals {
+        annals,
+        lent,
+        annalist,
     })
 }
 

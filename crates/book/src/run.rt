@@ -4,7 +4,7 @@ use std::marker::Brand;
 use std::sync::ledger::Ledger;
 
 /// Names one run: its population with the seed of that, the tables that it began with and how many commits made them,
-/// its record cells, its board of epoch words, and, as a `Ledger`, its terminals' shares.
+/// its record cells, its board of epoch words, its annals, and, as a `Ledger`, its terminals' shares.
 pub trait Run: Ledger {
     ghost use Rattle.book.specs.Run.{RunView};
 
@@ -15,6 +15,7 @@ pub trait Run: Ledger {
 /// Only so that there is one: a call at `Brand` names its own.
 impl Run for Brand {
     ghost use Rattle.std.specs.Prelude.{[]};
+    ghost use Rattle.book.specs.Run.{no_table};
     ghost use Rattle.tables.specs.Sizes.{sizes};
     ghost use Rattle.tables.specs.Database.{empty_database};
 
@@ -24,17 +25,7 @@ impl Run for Brand {
       first = empty_database (sizes 1 1 10 20 10 1);
       past = 0;
       cells = record { narrow = []; wide = [] };
-      board = record {
-        table = record {
-          words = 0;
-          slots = 0;
-          views_name = 0;
-          atom = 0;
-          block = 0;
-          offset = 0;
-          slot_names = [];
-        };
-        plan = record { loggers = 1; base = 0 };
-      };
+      board = record { table = no_table; plan = record { loggers = 1; base = 0 } };
+      annals = record { table = no_table; base = 0 };
     } };
 }

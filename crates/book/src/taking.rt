@@ -1,5 +1,5 @@
 //! Taking what a logger is to write.
-ghost use Rattle.std.specs.Prelude.{◌≡◌, ◌+◌, ◌<◌, ◌≤◌};
+ghost use Rattle.std.specs.Prelude.{◌≡◌, ◌+◌, ◌<◌, ◌≤◌, []};
 ghost use Rattle.board.specs.Seats.{noted};
 ghost use Rattle.board.specs.declared.rule.WordStep.TheVariants.{LoadEpoch, StoreFloor};
 ghost use Rattle.book.specs.Epochs.{found_epoch};
@@ -8,7 +8,9 @@ ghost use Rattle.book.specs.Batches.{IsBatchOf, IsTaken};
 use crate::batch::Batch;
 use crate::book::Book;
 use crate::run::Run;
+use crate::taken::Taken;
 use board::Board;
+use std::marker::PhantomData;
 
 impl<K: Run> Book<K> {
     /// Takes what has committed of a logger's stream since the last take, for the logger to write outside the lock
@@ -41,6 +43,28 @@ impl<K: Run> Book<K> {
             mark_before,
             entries,
             mark,
+        }
+    }
+
+    /// The same, with a pass that knows the history of then. Nothing more comes of epochs up to the mark, as the annals
+    /// then say too. Constant time, without memory.
+    pub fn taken(&mut self, board: &Board, logger: u16) -> Taken<K>
+        requires board { board.now ≡ K.run.board }
+        requires logger { logger < K.run.board.plan.loggers }
+        ensures floor { self.new.seat ≡ noted (noted self.old.seat (LoadEpoch (result.batch.mark + 1)))
+            (StoreFloor logger (result.batch.mark + 1)) }
+        ensures later { found_epoch self.old.seat ≤ result.batch.mark + 1 }
+        ensures batch { IsBatchOf K.run.board.plan.loggers logger self.old result.batch }
+        ensures taken { IsTaken K.run.board.plan.loggers logger self.old result.batch self.new }
+        ensures claim { result.claim
+            ≡ record { front = self.old.history; mark = result.batch.mark; has = [] } }
+    {
+        let batch = self.take(board, logger);
+        let pass = self.mark(batch.mark());
+        Taken {
+            batch,
+            pass,
+            run: PhantomData,
         }
     }
 }

@@ -271,6 +271,13 @@ impl<D: Disk> LogFile<D> {
         self.kept()
     }
 
+    /// Whether the device has failed in an append: each one is refused then.
+    pub fn has_failed(&self) -> bool
+        ensures { result ≡ self.now.failed }
+    {
+        self.failed
+    }
+
     /// Whether a batch begins where the file ends, as `append` asks: outside of one hold of the book's lock nothing
     /// else tells it.
     pub fn is_continued_by(&self, batch: &Batch) -> bool

@@ -1,8 +1,12 @@
 -- The seats of loggers and their log files, taken from the last to the first.
 use Rattle.std.proofs.Common.{◌≡◌, ◌≤◌, ⊎_elim, ◌∙◌, ◌+◌, ◌++◌, ◌∷◌, ◌<◌, ℕ, List, [], ap, ap₂, arith, get_or, length, refl, subst, suc, sym, zero}
 use Rattle.std.proofs.lemmas.Bool.{cases_lt}
-use Rattle.std.proofs.lemmas.List.{get_or_append_left, get_or_push, length-append, same_from_push}
+use Rattle.std.proofs.lemmas.List.{append_assoc, get_or-append-add, get_or_append_left, get_or_push, length-append, same_from_push}
+use Rattle.log_disk.specs.Calls.{Call}
 use Rattle.logfile.specs.Standing.{LogFileView}
+use Rattle.recover_opening.specs.Opening.{file_on}
+use Rattle.lane_logger.specs.Found.{as_they_are}
+use Rattle.lane_logger.proofs.Found.{found_there}
 use Rattle.program_run.specs.Outfit.{IsLogOf, AreLogsOf}
 use Rattle.board.specs.declared.rule.Role.TheVariants.{Logger}
 use Rattle.board.specs.Opening.{logger_seats}
@@ -91,6 +95,7 @@ pub record IsLastPair {D : Type 0} (board : BoardView) (seats : List SeatView) (
   pub number : seat ≡ new_seat seat.board (Logger file.header.logger)
   pub loggers : seat.board.plan.loggers ≡ file.header.loggers
   pub base : seat.board.plan.base ≡ file.last.mark
+  pub place : file.header.logger ≡ length files
 
 pub last_pair : {D : Type 0} {board : BoardView} {all_seats seats : List SeatView} {all_files files : List (LogFileView D)} {seat : SeatView}
     {file : LogFileView D} → all_seats ≡ logger_seats board (length all_seats)
@@ -111,4 +116,22 @@ last_pair {D} {board} {all_seats} {seats} {all_files} {files} {seat} {file} are 
       number = seated.1 ∙ ap₂ (λ (b : BoardView) (n : ℕ). new_seat b (Logger n)) (sym same_board) number;
       loggers = ap (λ (b : BoardView). b.plan.loggers) same_board ∙ sym filed.1.loggers_are;
       base = ap (λ (b : BoardView). b.plan.base) same_board ∙ sym filed.1.mark_is;
+      place = filed.1.logger_is;
     }
+
+-- log files that are left of all of them, and the last is found at its place
+abbrev pub AreLeftOf : {X : Type 0} → List X → List X → Type 0
+AreLeftOf {X} all left = (behind : List X) × (all ≡ left ++ behind)
+
+pub left_next : {X : Type 0} (all some left : List X) (x : X) → some ≡ left ++ x ∷ [] → AreLeftOf all some → AreLeftOf all left
+left_next all some left x is are = (x ∷ are.0, are.1 ∙ ap (λ l. l ++ are.0) is ∙ append_assoc left (x ∷ []) are.0)
+
+pub found_last : {D : Type 0} (seen_of : D → List ℕ) (story_of : D → List Call) (all some left : List (LogFileView D)) (file : LogFileView D) (k : ℕ)
+    → some ≡ left ++ file ∷ [] → AreLeftOf all some → k ≡ length left → as_they_are seen_of story_of all k ≡ file_on seen_of story_of file
+found_last seen_of story_of all some left file k is are number =
+    let whole : all ≡ left ++ (file ∷ are.0) = are.1 ∙ ap (λ l. l ++ are.0) is ∙ append_assoc left (file ∷ []) are.0 in
+    let here : length left ≡ length left + 0 = omega arith in
+    found_there seen_of story_of all (length left) k file number
+    (let long = ap length whole ∙ length-append left (file ∷ are.0) in omega arith)
+    (ap (λ l. get_or l (length left) file) whole ∙ ap (λ n. get_or (left ++ (file ∷ are.0)) n file) here
+    ∙ get_or-append-add left (file ∷ are.0) 0 file)

@@ -2,14 +2,16 @@
 ghost use Rattle.std.specs.Prelude.{◌≡◌, length, map, IfOk, IfErr};
 ghost use Rattle.money.specs.declared.refusal.Refusal.TheVariants.{OutOfMemory};
 ghost use Rattle.book.specs.Parts.{IsFresh, IsOpenedAs, IsLedgerOf, base_of, first_of, past_of, loggers_of, terminals_of};
+ghost use Rattle.lane_logger.specs.Found.{as_they_are};
 ghost use Rattle.program_run.specs.Outfit.{AreLogsOf};
 ghost use Rattle.program_run.specs.Told.{AreCounts, IsBrokenBy, IsDriven};
 
 use crate::outfit::{manned, stations};
 use crate::shortfall::{Shortfall, shortfall_of};
 use crate::telling::ran;
-use book::{Engine, Parts, Run, Seats};
+use book::{Engine, Parts, Seats};
 use conditions::Report;
+use lane_logger::LoggedRun;
 use log_disk::Disk;
 use logfile::LogFile;
 use money::Refusal;
@@ -102,7 +104,7 @@ pub fn drive<
 
 /// Runs an engine of these parts, and writes what came of it.
 fn drive_parts<
-    K: Run + Send + Sync,
+    K: LoggedRun + Send + Sync,
     D: Disk + Send + Drop,
     P: Pace + Send + Drop,
     G: Gate + Send + Drop,
@@ -120,6 +122,7 @@ fn drive_parts<
     requires run { IsOpenedAs parts K.run }
     requires ledger { IsLedgerOf parts K.name K.parts }
     requires logs { AreLogsOf (loggers_of parts) (base_of parts) (map (λ log. log.inner) logs.items) }
+    requires named { K.found ≡ as_they_are D.seen D.story (map (λ log. log.inner) logs.items) }
     requires terminals { terminals_of parts ≡ plan.now.terminals }
     requires gates { length gates.items ≡ plan.now.terminals }
     ensures ran { IfOk result (IsDriven K.run.past K.run.first plan.now.terminals plan.now.inputs
@@ -143,7 +146,7 @@ fn drive_parts<
 /// Runs an engine of these parts, as `drive` does, and answers what came of it, with the scale of its database. May
 /// wait, as `run_threads::run` does. `OutOfMemory` is the only refusal; then no input runs.
 pub fn run_parts<
-    K: Run + Send + Sync,
+    K: LoggedRun + Send + Sync,
     D: Disk + Send + Drop,
     P: Pace + Send + Drop,
     G: Gate + Send + Drop,
@@ -159,6 +162,7 @@ pub fn run_parts<
     requires run { IsOpenedAs parts K.run }
     requires ledger { IsLedgerOf parts K.name K.parts }
     requires logs { AreLogsOf (loggers_of parts) (base_of parts) (map (λ log. log.inner) logs.items) }
+    requires named { K.found ≡ as_they_are D.seen D.story (map (λ log. log.inner) logs.items) }
     requires terminals { terminals_of parts ≡ plan.now.terminals }
     requires gates { length gates.items ≡ plan.now.terminals }
     ensures counted { IfOk result

@@ -6,6 +6,7 @@ ghost use Rattle.log_header.specs.Header.{header_view};
 ghost use Rattle.board.specs.declared.rule.Role.TheVariants.{Logger as logger_role};
 ghost use Rattle.board.specs.Opening.{logger_seats};
 ghost use Rattle.board.specs.Seats.{new_seat};
+ghost use Rattle.lane_logger.specs.Found.{IsFoundIn, as_they_are};
 ghost use Rattle.program_run.specs.Outfit.{AreLogsOf};
 
 use board::{Board, LoggerSeat};
@@ -94,7 +95,9 @@ pub(crate) fn manned<D: Disk + Drop, P: Pace + Drop>(
 ) -> Result<Vec<Paced<Logger<D>, P>>, AllocError>
     requires seats { seats.items ≡ logger_seats board.now board.now.plan.loggers }
     requires logs { AreLogsOf board.now.plan.loggers board.now.plan.base (map (λ log. log.inner) logs.items) }
-    ensures own { IfOk result (λ manned. All (λ log. log.inner.seat.board ≡ board.now) manned.items) }
+    ensures found { IfOk result (λ manned. All (λ log. IsFoundIn board.now
+        (as_they_are D.seen D.story (map (λ log. log.inner) logs.items)) D.is_modelled D.seen D.story log.inner)
+        manned.items) }
 {
     let (mut seats, mut logs) = (seats, logs);
     let mut manned = Vec::new(alloc);
@@ -113,7 +116,7 @@ fn log_of<D: Disk, P: Pace>(seat: LoggerSeat, log: Paced<LogFile<D>, P>) -> Pace
     requires seat { seat ≡ new_seat seat.board (logger_role log.inner.header.logger) }
     requires loggers { seat.board.plan.loggers ≡ log.inner.header.loggers }
     requires base { seat.board.plan.base ≡ log.inner.last.mark }
-    ensures own { result.inner.seat.board ≡ seat.board }
+    ensures own { result.inner ≡ record { file = log.inner; seat = seat } }
 {
     let Paced { inner: file, pace } = log;
     Paced {

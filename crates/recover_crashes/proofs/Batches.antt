@@ -17,9 +17,10 @@ use Rattle.book.specs.declared.entry.Entry.{Entry}
 use Rattle.recover_crashes.specs.World.{Life, Idle, World, header_of}
 use Rattle.recover_crashes.specs.Events.{MayTake}
 use Rattle.recover_crashes.specs.Recovering.{IsFitForLogs}
+use Rattle.recover_crashes.specs.Lanes.{taken_in, FitsLane}
 use Rattle.recover_crashes.proofs.Lists.{all_behind}
 use Rattle.recover_crashes.proofs.Histories.{stream_rises, stream_stamped}
-use Rattle.recover_crashes.proofs.Lanes.{FitsLane, taken, all_that_waits}
+use Rattle.recover_crashes.proofs.Lanes.{all_that_waits}
 
 module _ (life : Life) (w : World) (k : ℕ) (batch : BatchView) (old : List BodyView) (landed : List BatchView) (local : ℕ)
     (lane : FitsLane (header_of life k) life.past w.found (stream life.plan.loggers k w.history) old landed (w.logger k).file Idle local)
@@ -31,7 +32,7 @@ module _ (life : Life) (w : World) (k : ℕ) (batch : BatchView) (old : List Bod
 
     -- what holds of a logger's entries holds of those in the batch
     of_stream : (P : Entry → Type 0) → All P (stream life.plan.loggers k w.history) → All P batch.entries
-    of_stream P all = subst (All P) (sym waits) (all_behind P (taken landed) lane.waiting (subst (All P) lane.all all))
+    of_stream P all = subst (All P) (sym waits) (all_behind P (taken_in landed) lane.waiting (subst (All P) lane.all all))
 
     pub of_history : (P : Entry → Type 0) → All P w.history → All P batch.entries
     of_history P all = of_stream P (All-filter (λ (e : Entry). e.terminal % life.plan.loggers == k) P w.history all)
@@ -51,12 +52,12 @@ module _ (life : Life) (w : World) (k : ℕ) (batch : BatchView) (old : List Bod
         record {
           logger = omega (arith, logger, loggers, may.within);
           few = omega (arith, loggers, lane.disk.file.header.loggers.1);
-          rise = stream_rises life.past life.first w.history (λ (e : Entry). e.terminal % life.plan.loggers == k) (taken landed) batch.entries
-              batch.number_before replays (lane.all ∙ ap (λ (l : List Entry). taken landed ++ l) (sym waits))
+          rise = stream_rises life.past life.first w.history (λ (e : Entry). e.terminal % life.plan.loggers == k) (taken_in landed) batch.entries
+              batch.number_before replays (lane.all ∙ ap (λ (l : List Entry). taken_in landed ++ l) (sym waits))
               (omega (arith, may.continues.number_before, lane.number));
           cap = λ i d lt. subst (λ (s : Sizes). (slice_index_or batch.entries i d).number ≤ s.commits) (sym scale) (fits i d lt).cap;
-          stamped = stream_stamped w.history (λ (e : Entry). e.terminal % life.plan.loggers == k) (taken landed) batch.entries stamped
-              (lane.all ∙ ap (λ (l : List Entry). taken landed ++ l) (sym waits));
+          stamped = stream_stamped w.history (λ (e : Entry). e.terminal % life.plan.loggers == k) (taken_in landed) batch.entries stamped
+              (lane.all ∙ ap (λ (l : List Entry). taken_in landed ++ l) (sym waits));
           epochs = λ i d lt. (omega (arith, may.continues.mark_before, above i d lt), omega (arith, may.later, found i d lt));
           marks_rise = omega (arith, may.continues.mark_before, lane.low, may.later);
           last_mark = omega (arith, may.loaded, ends);

@@ -24,11 +24,12 @@ use Rattle.recover_found.proofs.Elements.{has_from, has_to, passed}
 use Rattle.recover_crashes.specs.World.{Life, World, header_of}
 use Rattle.recover_crashes.specs.Recovering.{Crashes, HoldsStream, HoldTheHistory, IsBase, IsFitForLogs, Recovers, is_void, counts_in, cut}
 use Rattle.recover_crashes.specs.Keeping.{IsLawfulEpoch}
+use Rattle.recover_crashes.specs.Lanes.{taken_in, bodies_of, IsAbove}
 use Rattle.recover_crashes.proofs.Lists.{all_in_front, IsLeast, least_of, chosen_below, test_of_map, in_front, in_map}
 use Rattle.recover_crashes.proofs.Histories.{counts_low, counts_alive}
 use Rattle.recover_crashes.proofs.Joins.{void_behind, any_same, filter_same, filter_all, replays_join, stamped_join}
 use Rattle.recover_crashes.proofs.Holding.{tells}
-use Rattle.recover_crashes.proofs.Lanes.{IsAbove, IsLeft, lane_left, taken, bodies_of}
+use Rattle.recover_crashes.proofs.Lanes.{IsLeft, lane_left}
 use Rattle.recover_crashes.proofs.Sound.{IsSound, MayTell, local_of}
 
 module _ (t0 : Database) (life : Life) (old : ℕ → List BodyView) (past earlier : List Entry) (base : IsBase t0 life old past earlier) (w : World)
@@ -90,34 +91,34 @@ module _ (t0 : Database) (life : Life) (old : ℕ → List BodyView) (past earli
         ∙ old_has l lt
 
     module _ (strings : ℕ → List ℕ) (is_left : (l : ℕ) → l < n → IsLeftAt strings l (batches l)) where
-      new_above : (l : ℕ) → l < n → All (λ e. life.plan.base < epoch_of e.tid) (taken (batches l))
-      new_above l lt = all_in_front (λ (e : Entry). life.plan.base < epoch_of e.tid) (taken (batches l)) (is_left l lt).behind
+      new_above : (l : ℕ) → l < n → All (λ e. life.plan.base < epoch_of e.tid) (taken_in (batches l))
+      new_above l lt = all_in_front (λ (e : Entry). life.plan.base < epoch_of e.tid) (taken_in (batches l)) (is_left l lt).behind
           (subst (All (λ (e : Entry). life.plan.base < epoch_of e.tid)) (is_left l lt).all
           (All-filter (λ (e : Entry). e.terminal % n == l) (λ (e : Entry). life.plan.base < epoch_of e.tid) w.history sound.new))
 
-      new_logged : (l : ℕ) → l < n → entries_of (bodies_of (batches l)) ≡ map (logged_entry t0.scale) (taken (batches l))
-      new_logged l lt = (is_left l lt).logged ∙ ap (λ (s : Sizes). map (logged_entry s) (taken (batches l))) scale
+      new_logged : (l : ℕ) → l < n → entries_of (bodies_of (batches l)) ≡ map (logged_entry t0.scale) (taken_in (batches l))
+      new_logged l lt = (is_left l lt).logged ∙ ap (λ (s : Sizes). map (logged_entry s) (taken_in (batches l))) scale
 
-      new_live : (l : ℕ) → l < n → filter live (entries_of (bodies_of (batches l))) ≡ map (logged_entry t0.scale) (taken (batches l))
+      new_live : (l : ℕ) → l < n → filter live (entries_of (bodies_of (batches l))) ≡ map (logged_entry t0.scale) (taken_in (batches l))
       new_live l lt =
           ap (filter live) (new_logged l lt)
-          ∙ test_of_map live (logged_entry t0.scale) (taken (batches l))
-          ∙ ap (map (logged_entry t0.scale)) (filter_all (λ (e : Entry). not (is_void n left (epoch_of e.tid))) (taken (batches l))
+          ∙ test_of_map live (logged_entry t0.scale) (taken_in (batches l))
+          ∙ ap (map (logged_entry t0.scale)) (filter_all (λ (e : Entry). not (is_void n left (epoch_of e.tid))) (taken_in (batches l))
           (All-weaker (λ (e : Entry). life.plan.base < epoch_of e.tid) (λ (e : Entry). not (is_void n left (epoch_of e.tid)) ≡ true)
-          (λ e above. ap not (void_same (epoch_of e.tid) ∙ base.alive (epoch_of e.tid) above)) (taken (batches l)) (new_above l lt)))
+          (λ e above. ap not (void_same (epoch_of e.tid) ∙ base.alive (epoch_of e.tid) above)) (taken_in (batches l)) (new_above l lt)))
 
       holds_stream : (l : ℕ) → l < n → HoldsStream t0.scale (is_void n left) (left l) (stream n l whole_history)
       holds_stream l lt = record {
-        front = stream n l past ++ taken (batches l);
+        front = stream n l past ++ taken_in (batches l);
         behind = (is_left l lt).behind;
         beginning = filter-append (λ (e : Entry). e.terminal % n == l) past w.history
             ∙ ap (λ (es : List Entry). stream n l past ++ es) (is_left l lt).all
-            ∙ sym (append_assoc (stream n l past) (taken (batches l)) (is_left l lt).behind);
+            ∙ sym (append_assoc (stream n l past) (taken_in (batches l)) (is_left l lt).behind);
         same =
             ap (filter live) (flat_map-append entries_in (old l) (bodies_of (batches l)))
             ∙ filter-append live (entries_of (old l)) (entries_of (bodies_of (batches l)))
             ∙ (λ i. old_live l lt i ++ new_live l lt i)
-            ∙ sym (map-append (logged_entry t0.scale) (stream n l past) (taken (batches l)));
+            ∙ sym (map-append (logged_entry t0.scale) (stream n l past) (taken_in (batches l)));
         later = (is_left l lt).above;
       }
 
@@ -194,10 +195,10 @@ module _ (t0 : Database) (life : Life) (old : ℕ → List BodyView) (past earli
       → (e : Entry) → Contains (stream n l w.history) e → epoch_of e.tid ≤ local_of w l
       → Contains (entries_of (bodies_of batches)) (logged_entry t0.scale e)
   in_new l bytes batches is_left e there low =
-      let front = in_front (IsAbove (last_mark 0 (old l ++ bodies_of batches))) (taken batches) is_left.behind e
+      let front = in_front (IsAbove (last_mark 0 (old l ++ bodies_of batches))) (taken_in batches) is_left.behind e
       (λ late. omega (arith, low, late, is_left.kept)) is_left.above (subst (λ (es : List Entry). Contains es e) is_left.all there) in
       subst (λ (es : List EntryView). Contains es (logged_entry t0.scale e))
-      (sym (is_left.logged ∙ ap (λ (s : Sizes). map (logged_entry s) (taken batches)) scale)) (in_map (logged_entry t0.scale) (taken batches) e front)
+      (sym (is_left.logged ∙ ap (λ (s : Sizes). map (logged_entry s) (taken_in batches)) scale)) (in_map (logged_entry t0.scale) (taken_in batches) e front)
 
   -- D is lawful: it is at most each local mark, and so at most the last mark of what a crash leaves
   pub is_lawful : IsLawfulEpoch life past w w.durable

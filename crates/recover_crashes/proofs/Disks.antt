@@ -1,50 +1,19 @@
 -- A logger's disk while a body is appended: what stands there at each stage, and what a crash may leave.
-use Rattle.std.proofs.Common.{◌≡◌, ◌≢◌, ℕ, ◌+◌, Some, List, [], ◌∷◌, ◌++◌, length, drop, Result, Ok, Err, true, sym, ◌∙◌, subst, inl, inr}
+use Rattle.std.proofs.Common.{◌≡◌, ℕ, ◌+◌, Some, List, [], ◌∷◌, ◌++◌, length, drop, Result, Ok, Err, true, sym, ◌∙◌, subst, inl, inr}
 use Rattle.money.specs.declared.refusal.Refusal.{Refusal}
 use Rattle.log_disk.specs.Calls.{Call, Synced}
 use Rattle.log_disk.specs.Crashes.{MayLeave, Leaves}
-use Rattle.log_header.specs.Header.{HeaderView, IsHeader, header_text}
-use Rattle.log_text.specs.Bodies.{BodyView, body_after, bodies_after, start}
-use Rattle.log_text.specs.File.{opened}
+use Rattle.log_header.specs.Header.{HeaderView}
+use Rattle.log_text.specs.Bodies.{BodyView, body_after}
 use Rattle.log_text.specs.declared.last.Last.{Last}
-use Rattle.log_entries.specs.Following.{body_of_batch}
-use Rattle.logfile.specs.Staged.{IsSettled, HasGate, IsStaged}
+use Rattle.logfile.specs.Staged.{IsSettled, IsStaged}
 use Rattle.logfile.specs.Standing.{LogFileView, Stands, IsWithOrWithout}
 use Rattle.logfile.proofs.Moments.{wrote_left, synced_left, only_last}
 use Rattle.logfile.proofs.Staging.{text_seen, gate_seen, text_moments, gate_moments}
 use Rattle.logfile.proofs.Appending.{at_gate, staged_is, stands}
-use Rattle.recover_crashes.specs.World.{DiskView, Stage, BatchTaken, TextWritten, TextSynced, GateOpened, DeviceFailed, Flight, Idle, Flying}
+use Rattle.recover_crashes.specs.World.{DiskView, Stage, BatchTaken, TextWritten, TextSynced, GateOpened, DeviceFailed}
 use Rattle.recover_crashes.specs.Events.{IsCalled, text_of, on_disk}
-
--- what stands in front of the gate that ends a file's text
-abbrev pub front_of : HeaderView → List BodyView → List ℕ
-front_of h bodies = header_text h ++ opened bodies
-
--- the file stands behind these bodies, and the gate that ends its text has its place
-pub record IsPlaced (h : HeaderView) (bodies : List BodyView) (file : LogFileView DiskView) : Type 0 where
-  pub header : IsHeader h
-  pub lawful : bodies_after h start bodies ≡ Some file.last
-  pub place : length (front_of h bodies) ≡ file.end
-
--- what a read gives at each stage, and whether a crash leaves just that
-abbrev pub IsReady : Stage → ℕ → List ℕ → ℕ → List ℕ → DiskView → Type 0
-IsReady BatchTaken end front gate text d = IsSettled d.seen d.story × ((rest : List ℕ) × HasGate end front gate rest d.seen)
-IsReady TextWritten end front gate text d = (rest : List ℕ) × HasGate end front gate (text ++ rest) d.seen
-IsReady TextSynced end front gate text d = IsSettled d.seen d.story × ((rest : List ℕ) × HasGate end front gate (text ++ rest) d.seen)
-IsReady GateOpened end front gate text d = (rest : List ℕ) × (d.seen ≡ front ++ 1 ∷ (text ++ rest))
-IsReady DeviceFailed end front gate text d = Unit {0}
-
--- a body is on its way into the file
-pub record IsFlying (h : HeaderView) (bodies : List BodyView) (stage : Stage) (body : BodyView) (file : LogFileView DiskView) : Type 0 where
-  pub placed : IsPlaced h bodies file
-  pub gate : ℕ
-  pub closed : gate ≢ 1
-  pub leaves : Leaves (IsStaged (front_of h bodies) gate (text_of body)) file.disk.story
-  pub ready : IsReady stage file.end (front_of h bodies) gate (text_of body) file.disk
-
-abbrev pub FitsDisk : HeaderView → List BodyView → Flight → LogFileView DiskView → Type 0
-FitsDisk h bodies Idle file = Stands h bodies file.end file.last file.disk.seen file.disk.story
-FitsDisk h bodies (Flying stage batch) file = IsFlying h bodies stage (body_of_batch batch) file
+use Rattle.recover_crashes.specs.Lanes.{file_front, IsPlaced, IsFlying}
 
 pub placed_there : (h : HeaderView) (bodies : List BodyView) (file : LogFileView DiskView)
     → Stands h bodies file.end file.last file.disk.seen file.disk.story → IsPlaced h bodies file
@@ -68,7 +37,7 @@ settled_by old new seen story = λ bytes may. subst (λ (s : List Call). MayLeav
 
 module _ (h : HeaderView) (bodies : List BodyView) (body : BodyView) (file : LogFileView DiskView) (disk : DiskView) where
   abbrev front : List ℕ
-  front = front_of h bodies
+  front = file_front h bodies
 
   abbrev text : List ℕ
   text = text_of body

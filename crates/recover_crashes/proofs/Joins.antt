@@ -14,8 +14,8 @@ use Rattle.book.specs.Stamps.{AreStamped, Follows}
 use Rattle.book.specs.declared.entry.Entry.{Entry}
 use Rattle.recover_found.specs.Found.{last_mark, void_in}
 use Rattle.recover_crashes.specs.Recovering.{any_below}
+use Rattle.recover_crashes.specs.Lanes.{bodies_of}
 use Rattle.recover_crashes.proofs.Lists.{kept_here}
-use Rattle.recover_crashes.proofs.Lanes.{bodies_of}
 
 -- ---- bodies
 pub mark_join : (before : ℕ) (xs ys : List BodyView) → last_mark before (xs ++ ys) ≡ last_mark (last_mark before xs) ys

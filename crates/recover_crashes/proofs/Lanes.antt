@@ -1,7 +1,6 @@
 -- A logger: its stream is what its file has, what is on its way there, and what waits; and what a crash leaves of it.
-use Rattle.std.proofs.Common.{◌≡◌, ℕ, ◌+◌, ◌<◌, ◌≤◌, Some, List, [], ◌∷◌, ◌++◌, length, drop, map, Bool, true, Result, Ok, Err, sym, ap, ◌∙◌, subst, ⊎_elim, arith}
+use Rattle.std.proofs.Common.{◌≡◌, ℕ, ◌+◌, ◌≤◌, Some, List, [], ◌∷◌, ◌++◌, length, drop, map, Bool, true, Result, Ok, Err, sym, ap, ◌∙◌, subst, ⊎_elim, arith}
 use Rattle.std.proofs.Common.{append_assoc, append-nil, length-append}
-use Rattle.std.specs.Prelude.{flat_map}
 use Rattle.std.specs.List.{All}
 use Rattle.std.proofs.lemmas.List.{map-append}
 use Rattle.std.proofs.lemmas.List.Elements.{All-append, All-nil}
@@ -24,57 +23,16 @@ use Rattle.log_text.proofs.OneFile.{after_push}
 use Rattle.logfile.specs.Standing.{LogFileView, Stands}
 use Rattle.recover_crashes.specs.World.{DiskView, Stage, BatchTaken, TextWritten, TextSynced, GateOpened, DeviceFailed, Flight, Idle, Flying, Logger}
 use Rattle.recover_crashes.specs.Events.{IsCalled, text_of, on_disk, with_batch, called}
+use Rattle.recover_crashes.specs.Lanes.{IsFlying, taken_in, flying, bodies_of, IsAbove, FitsNextBatch, FitsLane}
 use Rattle.recover_found.specs.Found.{last_mark, entries_of}
 use Rattle.recover_crashes.proofs.Histories.{last_number_rises, last_number_joined}
 use Rattle.recover_crashes.proofs.Marks.{last_is}
-use Rattle.recover_crashes.proofs.Disks.{FitsDisk, IsFlying, takes, text_is_written, text_is_synced, gate_is_opened}
+use Rattle.recover_crashes.proofs.Disks.{takes, text_is_written, text_is_synced, gate_is_opened}
 use Rattle.recover_crashes.proofs.Disks.{body_is_there, has_failed, with_or_without}
-
--- the entries of batches, and of the one under way
-abbrev pub taken : List BatchView → List Entry
-taken batches = flat_map (λ b. b.entries) batches
-
-abbrev pub flying : Flight → List Entry
-flying Idle = []
-flying (Flying stage batch) = batch.entries
-
-abbrev pub bodies_of : List BatchView → List BodyView
-bodies_of batches = map body_of_batch batches
-
-abbrev pub IsAbove : ℕ → Entry → Type 0
-IsAbove mark e = mark < epoch_of e.tid
-
--- a batch that is under way: it goes on where the file ends, its entries may stand there, and what waits is above its mark
-pub record IsNext (found : ℕ) (waiting : List Entry) (batch : BatchView) (file : LogFileView DiskView) : Type 0 where
-  pub is_batch : IsBatch batch
-  pub continues : Continues file.header file.count file.number file.last batch
-  pub versions : All (IsOfVersion file.header.version file.header.scale) batch.entries
-  pub low : batch.mark < found
-  pub above : All (IsAbove batch.mark) waiting
-
-abbrev pub FitsNext : ℕ → List Entry → Flight → LogFileView DiskView → Type 0
-FitsNext found waiting Idle file = Unit {0}
-FitsNext found waiting (Flying stage batch) file = IsNext found waiting batch file
-
--- a logger's file, what it has under way and its local mark fit its stream, of which these batches came into the file behind the old bodies
-pub record FitsLane (h : HeaderView) (past found : ℕ) (entries : List Entry) (old : List BodyView) (landed : List BatchView)
-    (file : LogFileView DiskView) (flight : Flight) (local : ℕ) : Type 0 where
-  pub header : file.header ≡ h
-  pub disk : FitsDisk h (old ++ bodies_of landed) flight file
-  pub waiting : List Entry
-  pub all : entries ≡ taken landed ++ (flying flight ++ waiting)
-  pub count : file.count ≡ length (taken landed)
-  pub number : file.number ≤ last_number past (taken landed)
-  pub logged : entries_of (bodies_of landed) ≡ map (logged_entry h.scale) (taken landed)
-  pub near : file.last.epoch ≤ file.last.mark + 1
-  pub low : file.last.mark < found
-  pub above : All (IsAbove file.last.mark) (flying flight ++ waiting)
-  pub next : FitsNext found waiting flight file
-  pub kept : local ≤ file.last.mark
 
 -- ---- the book goes on
 next_later : (found later : ℕ) (waiting more : List Entry) (flight : Flight) (file : LogFileView DiskView) → found ≤ later
-    → All (λ e. later ≤ epoch_of e.tid) more → FitsNext found waiting flight file → FitsNext later (waiting ++ more) flight file
+    → All (λ e. later ≤ epoch_of e.tid) more → FitsNextBatch found waiting flight file → FitsNextBatch later (waiting ++ more) flight file
 next_later found later waiting more Idle file no_less new next = tt
 next_later found later waiting more (Flying stage batch) file no_less new next = record {
   is_batch = next.is_batch;
@@ -94,8 +52,8 @@ module _ (h : HeaderView) (past found : ℕ) (entries : List Entry) (old : List 
       header = lane.header;
       disk = lane.disk;
       waiting = lane.waiting ++ more;
-      all = ap (λ (l : List Entry). l ++ more) lane.all ∙ append_assoc (taken landed) (flying flight ++ lane.waiting) more
-          ∙ ap (λ (l : List Entry). taken landed ++ l) (append_assoc (flying flight) lane.waiting more);
+      all = ap (λ (l : List Entry). l ++ more) lane.all ∙ append_assoc (taken_in landed) (flying flight ++ lane.waiting) more
+          ∙ ap (λ (l : List Entry). taken_in landed ++ l) (append_assoc (flying flight) lane.waiting more);
       count = lane.count;
       number = lane.number;
       logged = lane.logged;
@@ -134,7 +92,7 @@ pub all_that_waits : (h : HeaderView) (past found : ℕ) (entries : List Entry) 
     (local : ℕ) (batch : BatchView) → (lane : FitsLane h past found entries old landed file Idle local)
     → Continues file.header file.count file.number file.last batch → batch.entries ≡ drop batch.first entries → batch.entries ≡ lane.waiting
 all_that_waits h past found entries old landed file local batch lane continues rest =
-    rest ∙ (λ i. drop ((continues.first ∙ lane.count) i) (lane.all i)) ∙ drop-append_seam (taken landed) lane.waiting
+    rest ∙ (λ i. drop ((continues.first ∙ lane.count) i) (lane.all i)) ∙ drop-append_seam (taken_in landed) lane.waiting
 
 pub lane_takes : (h : HeaderView) (past found : ℕ) (entries : List Entry) (old : List BodyView) (landed : List BatchView) (file : LogFileView DiskView)
     (local : ℕ) (batch : BatchView) → FitsLane h past found entries old landed file Idle local → IsBatch batch
@@ -146,7 +104,7 @@ lane_takes h past found entries old landed file local batch lane is versions con
       header = lane.header;
       disk = takes h (old ++ bodies_of landed) (body_of_batch batch) file lane.disk;
       waiting = [];
-      all = lane.all ∙ ap (λ (l : List Entry). taken landed ++ l) (sym waits ∙ sym (append-nil batch.entries));
+      all = lane.all ∙ ap (λ (l : List Entry). taken_in landed ++ l) (sym waits ∙ sym (append-nil batch.entries));
       count = lane.count;
       number = lane.number;
       logged = lane.logged;
@@ -186,20 +144,20 @@ module _ (h : HeaderView) (past found : ℕ) (entries : List Entry) (old : List 
     after = batch_follows h file.count file.number file.last batch versions lane.next.is_batch continues lane.near
         (subst IsScale (sym scale) lane.disk.placed.header.scale)
 
-    taken_landed : taken landed ++ batch.entries ≡ taken (landed ++ batch ∷ [])
-    taken_landed = ap (λ (l : List Entry). taken landed ++ l) (sym (append-nil batch.entries))
+    taken_landed : taken_in landed ++ batch.entries ≡ taken_in (landed ++ batch ∷ [])
+    taken_landed = ap (λ (l : List Entry). taken_in landed ++ l) (sym (append-nil batch.entries))
         ∙ sym (flat_map-append (λ (b : BatchView). b.entries) landed (batch ∷ []))
 
-    pub all_landed : entries ≡ taken (landed ++ batch ∷ []) ++ lane.waiting
-    all_landed = lane.all ∙ sym (append_assoc (taken landed) batch.entries lane.waiting)
+    pub all_landed : entries ≡ taken_in (landed ++ batch ∷ []) ++ lane.waiting
+    all_landed = lane.all ∙ sym (append_assoc (taken_in landed) batch.entries lane.waiting)
         ∙ ap (λ (l : List Entry). l ++ lane.waiting) taken_landed
 
-    pub logged_landed : entries_of (bodies_of (landed ++ batch ∷ [])) ≡ map (logged_entry h.scale) (taken (landed ++ batch ∷ []))
+    pub logged_landed : entries_of (bodies_of (landed ++ batch ∷ [])) ≡ map (logged_entry h.scale) (taken_in (landed ++ batch ∷ []))
     logged_landed =
         ap entries_of (map-append body_of_batch landed (batch ∷ []))
         ∙ flat_map-append entries_in (bodies_of landed) (body_of_batch batch ∷ [])
         ∙ (λ i. lane.logged i ++ append-nil (map (logged_entry (scale i)) batch.entries) i)
-        ∙ sym (map-append (logged_entry h.scale) (taken landed) batch.entries)
+        ∙ sym (map-append (logged_entry h.scale) (taken_in landed) batch.entries)
         ∙ ap (map (logged_entry h.scale)) taken_landed
 
     pub bodies_landed : (old ++ bodies_of landed) ++ body_of_batch batch ∷ [] ≡ old ++ bodies_of (landed ++ batch ∷ [])
@@ -244,12 +202,12 @@ module _ (h : HeaderView) (past found : ℕ) (entries : List Entry) (old : List 
       count = omega (
         arith,
         lane.count,
-        length-append (taken landed) batch.entries,
+        length-append (taken_in landed) batch.entries,
         ap length taken_landed,
       );
       number = subst (λ (l : List Entry). last_number file.number batch.entries ≤ last_number past l) taken_landed
-          (subst (λ (n : ℕ). last_number file.number batch.entries ≤ n) (sym (last_number_joined past (taken landed) batch.entries))
-          (last_number_rises file.number (last_number past (taken landed)) batch.entries lane.number));
+          (subst (λ (n : ℕ). last_number file.number batch.entries ≤ n) (sym (last_number_joined past (taken_in landed) batch.entries))
+          (last_number_rises file.number (last_number past (taken_in landed)) batch.entries lane.number));
       logged = logged_landed;
       near = batch_near file.last batch lane.next.is_batch lane.next.continues.mark_before lane.near;
       low = lane.next.low;
@@ -297,9 +255,9 @@ lane_called h past found entries old landed x DeviceFailed batch (Err refusal) d
 pub record IsLeft (h : HeaderView) (entries : List Entry) (old : List BodyView) (local : ℕ) (bytes : List ℕ) (batches : List BatchView) : Type 0 where
   pub behind : List Entry
   pub file : IsFile bytes h (old ++ bodies_of batches)
-  pub all : entries ≡ taken batches ++ behind
+  pub all : entries ≡ taken_in batches ++ behind
   pub above : All (IsAbove (last_mark 0 (old ++ bodies_of batches))) behind
-  pub logged : entries_of (bodies_of batches) ≡ map (logged_entry h.scale) (taken batches)
+  pub logged : entries_of (bodies_of batches) ≡ map (logged_entry h.scale) (taken_in batches)
   pub kept : local ≤ last_mark 0 (old ++ bodies_of batches)
 
 module _ (h : HeaderView) (past found : ℕ) (entries : List Entry) (old : List BodyView) (landed : List BatchView) (file : LogFileView DiskView) (local : ℕ)
@@ -307,8 +265,8 @@ module _ (h : HeaderView) (past found : ℕ) (entries : List Entry) (old : List 
   where
     -- the bodies that are sure
     sure : (behind : List Entry) → IsFile bytes h (old ++ bodies_of landed) → bodies_after h start (old ++ bodies_of landed) ≡ Some file.last
-        → entries ≡ taken landed ++ behind → All (IsAbove file.last.mark) behind
-        → entries_of (bodies_of landed) ≡ map (logged_entry h.scale) (taken landed) → local ≤ file.last.mark → IsLeft h entries old local bytes landed
+        → entries ≡ taken_in landed ++ behind → All (IsAbove file.last.mark) behind
+        → entries_of (bodies_of landed) ≡ map (logged_entry h.scale) (taken_in landed) → local ≤ file.last.mark → IsLeft h entries old local bytes landed
     sure behind is lawful all above logged kept =
         let mark : last_mark 0 (old ++ bodies_of landed) ≡ file.last.mark = last_is h start (old ++ bodies_of landed) file.last lawful in
         record {

@@ -12,13 +12,13 @@ use Rattle.logfile.specs.Standing.{LogFileView, Stands}
 use Rattle.recover_found.specs.Found.{last_mark}
 use Rattle.recover_crashes.specs.World.{Life, DiskView, Idle, header_of, opening, IsOpened, IsFirst}
 use Rattle.recover_crashes.specs.Recovering.{IsBase, IsFitForLogs}
+use Rattle.recover_crashes.specs.Lanes.{IsAbove, FitsLane}
 use Rattle.recover_crashes.proofs.Joins.{any_false}
 use Rattle.recover_crashes.proofs.Marks.{last_is}
-use Rattle.recover_crashes.proofs.Lanes.{FitsLane, IsAbove}
 use Rattle.recover_crashes.proofs.Sound.{IsSound, MayTell}
 
 -- a file of these bodies, whose last mark is the board's base
-lane_begins : (h : HeaderView) (past base : ℕ) (old : List BodyView) (file : LogFileView DiskView) → IsOpened h old file → file.last.mark ≡ base
+pub lane_begins : (h : HeaderView) (past base : ℕ) (old : List BodyView) (file : LogFileView DiskView) → IsOpened h old file → file.last.mark ≡ base
     → FitsLane h past (base + 1) [] old [] file Idle base
 lane_begins h past base old file begins mark = record {
   header = begins.header;

@@ -19,9 +19,10 @@ use Rattle.recover_crashes.specs.World.{Life, DiskView, Stage, BatchTaken, TextW
 use Rattle.recover_crashes.specs.Events.{Event, Commit, Take, LoadEpoch, Advance, CallDevice, Confirm, LoadMark, RaiseDurable, Release}
 use Rattle.recover_crashes.specs.Events.{MayTake, MayCall, MayHappen, with_logger, on_disk, called, confirmed, with_mark, published, world_after, MayHappenInTurn, world_after_all}
 use Rattle.recover_crashes.specs.Recovering.{IsFitForLogs}
+use Rattle.recover_crashes.specs.Lanes.{FitsLane}
 use Rattle.recover_crashes.proofs.Lists.{each_set, each_set_two}
 use Rattle.recover_crashes.proofs.Batches.{of_history, is_batch}
-use Rattle.recover_crashes.proofs.Lanes.{FitsLane, landed_by, lane_goes_on, lane_later, lane_confirmed, lane_takes, lane_called}
+use Rattle.recover_crashes.proofs.Lanes.{landed_by, lane_goes_on, lane_later, lane_confirmed, lane_takes, lane_called}
 
 -- the marks that a publication has loaded, newest first, are no larger than the loggers' local marks
 abbrev pub AreLoaded : (ℕ → ℕ) → List ℕ → Type 0

@@ -9,7 +9,8 @@ use Rattle.log_text.specs.declared.last.Last.{Last}
 use Rattle.logfile.specs.Standing.{LogFileView, Stands}
 use Rattle.recover_crashes.specs.World.{DiskView, Stage, BatchTaken, TextWritten, TextSynced, GateOpened, DeviceFailed, IsOpened}
 use Rattle.recover_crashes.specs.Events.{IsCalled, text_of, on_disk}
-use Rattle.recover_crashes.proofs.Disks.{IsFlying, takes, text_is_written, text_is_synced, gate_is_opened, body_is_there, has_failed, with_or_without}
+use Rattle.recover_crashes.specs.Lanes.{IsFlying}
+use Rattle.recover_crashes.proofs.Disks.{takes, text_is_written, text_is_synced, gate_is_opened, body_is_there, has_failed, with_or_without}
 use Rattle.recover_lives.specs.World.{Declaring, Waits, Declares, Declared}
 use Rattle.recover_lives.specs.Events.{void_body, MayDeclare, with_void, step_after, file_after}
 use Rattle.recover_lives.proofs.Voids.{with_body}

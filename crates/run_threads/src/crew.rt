@@ -1,6 +1,7 @@
 //! Those who go to work in a run.
 ghost use Rattle.std.specs.Prelude.{◌≡◌, ◌≤◌, length, map, All, Some, IfOk, vec_capacity, [], IfErr};
 ghost use Rattle.money.specs.declared.refusal.Refusal.TheVariants.{OutOfMemory};
+ghost use Rattle.lane_logger.specs.Found.{IsFoundIn};
 ghost use Rattle.run_threads.specs.Clocks.{clocks};
 ghost use Rattle.run_threads.specs.Tally.{inputs_in};
 
@@ -9,7 +10,8 @@ use crate::pace::{Pace, Paced};
 use crate::worker::{Station, TerminalThread};
 use crate::writer::Writer;
 use board::ClockSeat;
-use book::{Run, TerminalSeats};
+use book::{Engine, Run, TerminalSeats};
+use lane_logger::LoggedRun;
 use log_disk::Disk;
 use logger::Logger;
 use money::Refusal;
@@ -25,7 +27,7 @@ pub struct Desks<K: Run> {
 
 /// Those who go to work in a run, with the memory that their ends take.
 #[derive(Drop)]
-pub(crate) struct Crew<K: Run, G: Gate, D: Disk, P: Pace> {
+pub(crate) struct Crew<K: LoggedRun, G: Gate, D: Disk, P: Pace> {
     pub(crate) workers: Vec<TerminalThread<K, G>>,
     pub(crate) writers: Vec<Writer<K, D, P>>,
     pub(crate) ends: TerminalRoom<K>,
@@ -33,14 +35,15 @@ pub(crate) struct Crew<K: Run, G: Gate, D: Disk, P: Pace> {
 }
 
 /// The terminals and loggers that go to work. `OutOfMemory` is the only refusal.
-pub(crate) fn crew_of<K: Run, G: Gate + Drop, D: Disk + Drop, P: Pace + Drop>(
+pub(crate) fn crew_of<K: LoggedRun, G: Gate + Drop, D: Disk + Drop, P: Pace + Drop>(
     alloc: Global,
+    engine: &Engine<K>,
     desks: Desks<K>,
     logs: Vec<Paced<Logger<D>, P>>,
     stations: Vec<Station<G>>,
 ) -> Result<Crew<K, G, D, P>, Refusal>
     requires clock { desks.clock.board ≡ K.run.board }
-    requires logs { All (λ log. log.inner.seat.board ≡ K.run.board) logs.items }
+    requires logs { All (λ log. IsFoundIn K.run.board K.found D.is_modelled D.seen D.story log.inner) logs.items }
     requires terminals { (desks.terminals.left ≡ K.parts) × (length stations.items ≡ K.parts) }
     requires decks { All (λ station. station.deck.scale ≡ K.run.first.scale) stations.items }
     ensures count { IfOk result (λ crew. length crew.workers.items ≡ K.parts) }
@@ -62,8 +65,8 @@ pub(crate) fn crew_of<K: Run, G: Gate + Drop, D: Disk + Drop, P: Pace + Drop>(
     ensures only_memory { IfErr result (λ refusal. refusal ≡ OutOfMemory) }
 {
     let Desks { clock, terminals } = desks;
-    let workers = staffed(alloc, terminals, stations)?;
-    let writers = manned(alloc, clock, logs)?;
+    let workers = staffed(alloc, engine, terminals, stations)?;
+    let writers = manned(alloc, engine, clock, logs)?;
     let ends = TerminalRoom::new(alloc, workers.len())?;
     let turns = LoggerRoom::new(alloc, writers.len())?;
     Ok(Crew {
@@ -77,6 +80,7 @@ pub(crate) fn crew_of<K: Run, G: Gate + Drop, D: Disk + Drop, P: Pace + Drop>(
 /// The terminals at their stations. `OutOfMemory` is the only refusal.
 fn staffed<K: Run, G: Gate + Drop>(
     alloc: Global,
+    engine: &Engine<K>,
     seats: TerminalSeats<K>,
     stations: Vec<Station<G>>,
 ) -> Result<Vec<TerminalThread<K, G>>, Refusal>
@@ -95,28 +99,29 @@ fn staffed<K: Run, G: Gate + Drop>(
         let Some(seat) = seats.next() else {
             unreachable!()
         };
-        workers.push(TerminalThread::new(alloc, seat, station)?)?;
+        workers.push(TerminalThread::new(alloc, engine, seat, station)?)?;
     }
     Ok(workers)
 }
 
 /// The loggers at work, the first of them with the clock.
-fn manned<K: Run, D: Disk + Drop, P: Pace + Drop>(
+fn manned<K: LoggedRun, D: Disk + Drop, P: Pace + Drop>(
     alloc: Global,
+    engine: &Engine<K>,
     clock: ClockSeat,
     logs: Vec<Paced<Logger<D>, P>>,
 ) -> Result<Vec<Writer<K, D, P>>, AllocError>
     requires clock { clock.board ≡ K.run.board }
-    requires logs { All (λ log. log.inner.seat.board ≡ K.run.board) logs.items }
+    requires logs { All (λ log. IsFoundIn K.run.board K.found D.is_modelled D.seen D.story log.inner) logs.items }
     ensures loggers { IfOk result (λ writers.
-        map (λ writer. writer.appender.logger) writers.items ≡ map (λ log. log.inner) logs.items) }
+        map (λ writer. writer.appender.logger.logger) writers.items ≡ map (λ log. log.inner) logs.items) }
     ensures clocks { IfOk result (λ writers.
         map (λ writer. writer.clock) writers.items ≡ clocks (Some clock) (length logs.items)) }
 {
     let mut clock = Some(clock);
     let mut writers = Vec::new(alloc);
     for log in logs {
-        writers.push(Writer::new(log.inner, log.pace, clock.take()))?;
+        writers.push(Writer::new(engine, log.inner, log.pace, clock.take()))?;
     }
     Ok(writers)
 }

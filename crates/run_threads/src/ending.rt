@@ -14,6 +14,7 @@ use crate::tally::Tally;
 use crate::worker::TerminalThread;
 use crate::writer::{Turned, Writer};
 use book::{Closed, Engine, Run, Share};
+use lane_logger::LoggedRun;
 use log_disk::Disk;
 use std::alloc::{AllocError, Global};
 use std::sync::Wait;
@@ -45,13 +46,13 @@ impl<K: Run> TerminalRoom<K> {
 
 /// The memory that the end of loggers' work takes.
 #[derive(Drop)]
-pub(crate) struct LoggerRoom<K: Run, D: Disk, P: Pace> {
+pub(crate) struct LoggerRoom<K: LoggedRun, D: Disk, P: Pace> {
     pub(crate) turned: Vec<Turned<K, D, P>>,
     pub(crate) files: Vec<Written<D>>,
     pub(crate) paces: Vec<P>,
 }
 
-impl<K: Run, D: Disk + Drop, P: Pace + Drop> LoggerRoom<K, D, P> {
+impl<K: LoggedRun, D: Disk + Drop, P: Pace + Drop> LoggerRoom<K, D, P> {
     /// For so many loggers.
     pub(crate) fn new(alloc: Global, loggers: usize) -> Result<LoggerRoom<K, D, P>, AllocError>
         ensures turned { IfOk result (λ room. (room.turned.items ≡ []) × (loggers ≤ vec_capacity room.turned)) }
@@ -67,7 +68,7 @@ impl<K: Run, D: Disk + Drop, P: Pace + Drop> LoggerRoom<K, D, P> {
 }
 
 /// The end of a run: loggers take their last turns, terminals acknowledge, and the engine is closed.
-pub(crate) fn settled<K: Run, G: Gate + Drop, D: Disk + Drop, P: Pace + Drop, R: Wait>(
+pub(crate) fn settled<K: LoggedRun, G: Gate + Drop, D: Disk + Drop, P: Pace + Drop, R: Wait>(
     rt: &R,
     engine: Engine<K>,
     workers: Vec<TerminalThread<K, G>>,
@@ -142,7 +143,7 @@ fn end_pace<P: Pace + Drop>(pace: P, progress: &RunProgress) {
 }
 
 /// Each logger takes its last turn, the first first; there is room for what they are then.
-fn last_turns<K: Run, D: Disk + Drop, P: Pace + Drop, R: Wait>(
+fn last_turns<K: LoggedRun, D: Disk + Drop, P: Pace + Drop, R: Wait>(
     rt: &R,
     engine: &Engine<K>,
     writers: Vec<Writer<K, D, P>>,
@@ -158,7 +159,7 @@ fn last_turns<K: Run, D: Disk + Drop, P: Pace + Drop, R: Wait>(
 }
 
 /// Each logger ends, the first first, and gives its file and its pace, for which there is room.
-fn end_turns<K: Run, D: Disk + Drop, P: Pace + Drop, R: Wait>(
+fn end_turns<K: LoggedRun, D: Disk + Drop, P: Pace + Drop, R: Wait>(
     rt: &R,
     engine: &Engine<K>,
     turned: Vec<Turned<K, D, P>>,

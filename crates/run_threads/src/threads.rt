@@ -1,6 +1,7 @@
 //! The threads of a run.
 ghost use Rattle.std.specs.Prelude.{◌≡◌, ◌^◌, ◌<◌, ◌≤◌, length, map, All, IfOk, IfErr, vec_len, vec_capacity, []};
 ghost use Rattle.money.specs.declared.refusal.Refusal.TheVariants.{OutOfMemory};
+ghost use Rattle.lane_logger.specs.Found.{IsFoundIn};
 ghost use Rattle.run_threads.specs.History.{IsMadeBy};
 ghost use Rattle.run_threads.specs.Inputs.{CameOfInputs, HaveRun};
 ghost use Rattle.run_threads.specs.Tally.{IsCounted, inputs_in};
@@ -13,6 +14,7 @@ use crate::progress::RunProgress;
 use crate::worker::{Station, TerminalThread};
 use crate::writer::Writer;
 use book::{Engine, Run};
+use lane_logger::LoggedRun;
 use log_disk::Disk;
 use logger::Logger;
 use money::Refusal;
@@ -26,14 +28,15 @@ use terminals::Gate;
 /// has the clock, and advances E before each of its takes. A terminal goes on after any refusal; a logger tries a batch
 /// again after want of memory, and stops for good when its device fails. After all inputs E is advanced once more, each
 /// logger that hasn't stopped takes its last turn, and each terminal acknowledges what is durable. Stations are those
-/// of terminals in order of their numbers; their decks are given back, behind these inputs. May wait, for the book's
-/// lock and at records' cells.
+/// of terminals in order of their numbers; their decks are given back, behind these inputs. Logs are as the run names
+/// them (`IsFoundIn`): by its type each logger's file is then a lane of its stream at every moment. May wait, for the
+/// book's lock and at records' cells.
 ///
 /// # Errors
 ///
 /// `OutOfMemory`, before any input runs, and no other.
 pub fn run<
-    K: Run + Send + Sync,
+    K: LoggedRun + Send + Sync,
     G: Gate + Send + Drop,
     D: Disk + Send + Drop,
     P: Pace + Send + Drop,
@@ -48,7 +51,7 @@ pub fn run<
     inputs: u32,
 ) -> Result<Outcome<K, D>, Refusal>
     requires clock { desks.clock.board ≡ K.run.board }
-    requires logs { All (λ log. log.inner.seat.board ≡ K.run.board) logs.items }
+    requires logs { All (λ log. IsFoundIn K.run.board K.found D.is_modelled D.seen D.story log.inner) logs.items }
     requires terminals { (desks.terminals.left ≡ K.parts) × (length stations.items ≡ K.parts) }
     requires few { K.parts < 2 ^ 16 }
     requires decks { All (λ station. station.deck.scale ≡ K.run.first.scale) stations.items }
@@ -59,13 +62,13 @@ pub fn run<
         (map (λ station. station.deck) stations.items) outcome.tallies.items outcome.decks.items) }
     ensures memory { IfErr result (λ refusal. refusal ≡ OutOfMemory) }
 {
-    let crew = crew_of(alloc, desks, logs, stations)?;
+    let crew = crew_of(alloc, &engine, desks, logs, stations)?;
     Ok(run_crew(rt, alloc, engine, crew, inputs))
 }
 
 /// All of them do their work, and the run ends.
 fn run_crew<
-    K: Run + Send + Sync,
+    K: LoggedRun + Send + Sync,
     G: Gate + Send + Drop,
     D: Disk + Send + Drop,
     P: Pace + Send + Drop,
@@ -99,7 +102,7 @@ fn run_crew<
 
 /// The terminals do their inputs, in threads of their own, while the loggers take turns in theirs.
 fn in_threads<
-    K: Run + Send + Sync,
+    K: LoggedRun + Send + Sync,
     G: Gate + Send + Drop,
     D: Disk + Send + Drop,
     P: Pace + Send + Drop,
@@ -164,7 +167,7 @@ fn work_all<K: Run + Send + Sync, G: Gate + Send + Drop, R: Threads + Wait + Syn
 
 /// The loggers take turns, in threads of their own, until the terminals have ended.
 fn serve_all<
-    K: Run + Send + Sync,
+    K: LoggedRun + Send + Sync,
     D: Disk + Send + Drop,
     P: Pace + Send + Drop,
     R: Threads + Wait + Sync,

@@ -40,6 +40,7 @@ impl<K: Run, G: Gate + Drop> TerminalThread<K, G> {
     /// A terminal that has done no input, at a seat and a station. `OutOfMemory` is the only refusal.
     pub(crate) fn new(
         alloc: Global,
+        engine: &Engine<K>,
         seat: Seat<K>,
         station: Station<G>,
     ) -> Result<TerminalThread<K, G>, Refusal>
@@ -58,7 +59,7 @@ impl<K: Run, G: Gate + Drop> TerminalThread<K, G> {
         } = seat;
         let outbox = Outbox::new(alloc, board, 0)?;
         Ok(TerminalThread {
-            terminal: Terminal::new(reader, share, outbox, deck),
+            terminal: Terminal::new(engine, reader, share, outbox, deck),
             gate,
             tally: Tally::default(),
             forgotten: 0,

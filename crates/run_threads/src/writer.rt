@@ -7,32 +7,39 @@ use crate::outcome::Written;
 use crate::pace::Pace;
 use crate::progress::RunProgress;
 use board::ClockSeat;
-use book::{Engine, Run};
+use book::Engine;
+use lane_logger::LoggedRun;
 use log_disk::Disk;
 use logger::Logger;
 use std::sync::Wait;
 
 /// A logger, with how it waits between its turns, and the clock, if it has that.
 #[derive(Drop)]
-pub(crate) struct Writer<K: Run, D: Disk, P: Pace> {
+pub(crate) struct Writer<K: LoggedRun, D: Disk, P: Pace> {
     pub(crate) appender: Appender<K, D>,
     pub(crate) clock: Option<ClockSeat>,
     pub(crate) pace: P,
     ghost clocked: { ForSome clock (λ seat. seat.board ≡ K.run.board) },
 }
 
-impl<K: Run, D: Disk, P: Pace + Drop> Writer<K, D, P> {
+impl<K: LoggedRun, D: Disk, P: Pace + Drop> Writer<K, D, P> {
     ghost use Rattle.std.specs.Prelude.{◌≡◌, false, IfSome};
+    ghost use Rattle.lane_logger.specs.Found.{IsFoundIn};
 
     /// A logger that has taken nothing yet.
-    pub(crate) fn new(logger: Logger<D>, pace: P, clock: Option<ClockSeat>) -> Writer<K, D, P>
-        requires logger { logger.seat.board ≡ K.run.board }
+    pub(crate) fn new(
+        engine: &Engine<K>,
+        logger: Logger<D>,
+        pace: P,
+        clock: Option<ClockSeat>,
+    ) -> Writer<K, D, P>
+        requires logger { IsFoundIn K.run.board K.found D.is_modelled D.seen D.story logger }
         requires clock { IfSome clock (λ seat. seat.board ≡ K.run.board) }
-        ensures logger { result.appender.logger ≡ logger }
+        ensures logger { result.appender.logger.logger ≡ logger }
         ensures clock { result.clock ≡ clock }
     {
         Writer {
-            appender: Appender::new(logger),
+            appender: Appender::new(engine, logger),
             clock,
             pace,
         }
@@ -53,7 +60,7 @@ impl<K: Run, D: Disk, P: Pace + Drop> Writer<K, D, P> {
     /// signals there were before the take: an advance that comes later, and that the take may have missed, is one
     /// more.
     fn turn<R: Wait>(&mut self, rt: &R, engine: &Engine<K>, progress: &RunProgress) -> u64
-        ensures { self.new.appender.has_stopped ≡ false → self.new.appender.logger.file.failed ≡ false }
+        ensures { self.new.appender.has_stopped ≡ false → self.new.appender.logger.logger.file.failed ≡ false }
     {
         self.advance(engine, progress);
         let signals = progress.signals();
@@ -90,13 +97,13 @@ impl<K: Run, D: Disk, P: Pace + Drop> Writer<K, D, P> {
 
 /// A logger that has taken its last turn of a run.
 #[derive(Drop)]
-pub(crate) struct Turned<K: Run, D: Disk, P: Pace> {
+pub(crate) struct Turned<K: LoggedRun, D: Disk, P: Pace> {
     appender: Appender<K, D>,
     pace: P,
-    ghost told: { appender.has_stopped ≡ false → appender.logger.file.failed ≡ false },
+    ghost told: { appender.has_stopped ≡ false → appender.logger.logger.file.failed ≡ false },
 }
 
-impl<K: Run, D: Disk, P: Pace + Drop> Turned<K, D, P> {
+impl<K: LoggedRun, D: Disk, P: Pace + Drop> Turned<K, D, P> {
     /// Whether it had no memory for what it was to append.
     pub(crate) fn waits(&self) -> bool {
         self.appender.waits()

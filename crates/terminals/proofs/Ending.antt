@@ -1,5 +1,5 @@
 -- How the tries of an input end that is refused.
-use Rattle.std.proofs.Common.{◌≡◌, ℕ, inl, inr, Result, Ok, Err, IfErr, refl, sym, subst}
+use Rattle.std.proofs.Common.{ℕ, inl, inr, Result, Ok, Err, IfErr, refl, sym, subst}
 use Rattle.money.specs.declared.refusal.Refusal.{Refusal}
 use Rattle.money.specs.declared.refusal.Refusal.TheVariants.{OutOfMemory, ItemNotValid, OrdersFull, CommitsFull, Stale, Conflict}
 use Rattle.tables.specs.Database.{Database}

@@ -4,3 +4,4 @@ mod Counting
 mod Following
 mod Executing
 pub mod Ending
+mod Telling

@@ -4,10 +4,12 @@ ghost use Rattle.tables.specs.Inputs.{IsInput};
 ghost use Rattle.cells.specs.Records.{HasGrown};
 ghost use Rattle.readset.specs.Transaction.{IsExecuted};
 ghost use Rattle.book.specs.Book.{BookView, IsWorkOf};
+ghost use Rattle.terminals.specs.Telling.{IsCited};
 ghost use Rattle.terminals.specs.Terminal.{IsEntered, with_commit};
 ghost use Rattle.terminals.specs.Tries.{IsSoundBook, IsTurnedAway};
 
-use book::{Book, Done, Engine, Run, Share};
+use annals::Pass;
+use book::{Book, Done, Engine, Entry, Run, Share};
 use cells::Reader;
 use money::Refusal;
 use readset::Work;
@@ -39,19 +41,20 @@ pub(crate) fn execute_at<K: Run, R: Wait>(
     )
 }
 
-/// Commits a work under the book's lock, as `Book::commit` does.
+/// Commits a work under the book's lock, as `Book::commit` does, and cites the commit in the same hold.
 pub(crate) fn commit_at<K: Run, R: Wait>(
     rt: &R,
     engine: &Engine<K>,
     reader: &mut Reader,
     share: &mut Share<K>,
     work: Work,
-) -> Result<Done, Refusal>
+) -> Result<(Done, Pass<Entry>), Refusal>
     requires reader { reader.old.cells ≡ K.run.cells }
     requires work { IsWorkOf K.run.first K.run.cells reader.old work }
     ensures reader { HasGrown reader.old reader.new }
-    ensures ok { IfOk result (λ done. (share.new ≡ with_commit share.old)
-        × ((book : BookView) × IsEntered K.run.past K.run.first book work.input share.old.terminal done)) }
+    ensures ok { IfOk result (λ told. (share.new ≡ with_commit share.old)
+        × ((book : BookView) × IsEntered K.run.past K.run.first book work.input share.old.terminal told.0)) }
+    ensures cited { IfOk result (λ told. IsCited K.run.annals told.0 told.1) }
     ensures err { IfErr result (λ refusal. (share.new ≡ share.old)
         × ((book : BookView) × IsSoundBook K.run.past K.run.first book × IsTurnedAway K.run.past K.run.first book work refusal)) }
 {
@@ -66,17 +69,21 @@ fn commit_to<K: Run, R: Wait>(
     reader: &mut Reader,
     share: &mut Share<K>,
     work: Work,
-) -> Result<Done, Refusal>
+) -> Result<(Done, Pass<Entry>), Refusal>
     requires reader { reader.old.cells ≡ K.run.cells }
     requires work { IsWorkOf K.run.first K.run.cells reader.old work }
     ensures reader { HasGrown reader.old reader.new }
     ensures sound { IsSoundBook K.run.past K.run.first book.old }
-    ensures ok { IfOk result (λ done. (share.new ≡ with_commit share.old)
-        × IsEntered K.run.past K.run.first book.old work.input share.old.terminal done) }
+    ensures ok { IfOk result (λ told. (share.new ≡ with_commit share.old)
+        × IsEntered K.run.past K.run.first book.old work.input share.old.terminal told.0) }
+    ensures cited { IfOk result (λ told. IsCited K.run.annals told.0 told.1) }
     ensures err { IfErr result (λ refusal. (share.new ≡ share.old)
         × IsTurnedAway K.run.past K.run.first book.old work refusal) }
 {
     // The contract of the history says that the book is sound.
     let _ = book.history();
-    book.commit(rt, engine.board(), engine.cells(), reader, share, work)
+    match book.commit(rt, engine.board(), engine.cells(), reader, share, work) {
+        Ok(done) => Ok((done, book.cite())),
+        Err(refusal) => Err(refusal),
+    }
 }

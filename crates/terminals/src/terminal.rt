@@ -1,5 +1,5 @@
 //! A terminal, and one input of it.
-ghost use Rattle.std.specs.Prelude.{◌≡◌, ℕ, IfOk, IfErr, OnErr};
+ghost use Rattle.std.specs.Prelude.{◌≡◌, ℕ, [], IfOk, IfErr, OnErr};
 ghost use Rattle.tables.specs.Inputs.{IsInput};
 ghost use Rattle.terminals.specs.Calls.{AreCalls};
 ghost use Rattle.terminals.specs.Outbox.{Acknowledges, ForgetsReleased};
@@ -9,8 +9,9 @@ ghost use Rattle.terminals.specs.Tries.{AreTries, IsTry, TellsMissing};
 use crate::gate::Gate;
 use crate::outbox::Outbox;
 use crate::steps::{commit_at, execute_at};
+use annals::Pass;
 use board::Board;
-use book::{Done, Engine, Run, Share};
+use book::{Done, Engine, Entry, Run, Share};
 use cells::Reader;
 use money::Refusal;
 use std::alloc::Global;
@@ -22,18 +23,22 @@ use terminals_deck::Deck;
 /// How often an input is tried before its terminal gives up.
 pub const TRIES: u32 = 64;
 
-/// A terminal of an engine: the reader by which it reads cells, its share of the commits, its outbox, and the deck
-/// that its inputs come from.
+/// A terminal of an engine: the reader by which it reads cells, its share of the commits, its outbox, the deck that its
+/// inputs come from, and a pass of the run's annals. Its type keeps that each of its replies tells of an entry of the
+/// history, and that those released are of epochs up to the D that it has seen (`KeepsReplies`).
 #[derive(Drop)]
 pub struct Terminal<K: Run> {
     reader: Reader,
     share: Share<K>,
     outbox: Outbox,
     deck: Deck,
+    // It has the entries that the replies tell of.
+    pass: Pass<Entry>,
 }
 
 impl<K: Run> Model for Terminal<K> {
     ghost use Rattle.std.specs.Prelude.{◌≡◌};
+    ghost use Rattle.terminals.specs.Telling.{KeepsReplies};
     ghost use Rattle.terminals.specs.Terminal.{TerminalView};
 
     ghost Value = { TerminalView };
@@ -41,14 +46,22 @@ impl<K: Run> Model for Terminal<K> {
     ghost view = { λ t. record { reader = t.reader; share = t.share; outbox = t.outbox; deck = t.deck } };
 
     ghost invariant = { λ t. (t.reader.cells ≡ K.run.cells) × (t.outbox.seat.board ≡ K.run.board)
-        × (t.deck.scale ≡ K.run.first.scale) };
+        × (t.deck.scale ≡ K.run.first.scale) × (t.pass.table ≡ K.run.annals.table)
+        × KeepsReplies t.pass.claim.has t.outbox };
 }
 
 impl<K: Run> Terminal<K> {
-    /// A terminal of an engine's seat, with an outbox of that seat and a deck of inputs of its scale. Takes no memory.
-    pub fn new(reader: Reader, share: Share<K>, outbox: Outbox, deck: Deck) -> Terminal<K>
+    /// A terminal of an engine's seat, with a new outbox of that seat and a deck of inputs of its scale. Takes no memory.
+    pub fn new(
+        engine: &Engine<K>,
+        reader: Reader,
+        share: Share<K>,
+        outbox: Outbox,
+        deck: Deck,
+    ) -> Terminal<K>
         requires reader { reader.cells ≡ K.run.cells }
         requires outbox { outbox.seat.board ≡ K.run.board }
+        requires empty { (outbox.released ≡ []) × (outbox.waiting ≡ []) }
         requires deck { deck.scale ≡ K.run.first.scale }
         ensures { result ≡ record { reader = reader; share = share; outbox = outbox; deck = deck } }
     {
@@ -57,6 +70,7 @@ impl<K: Run> Terminal<K> {
             share,
             outbox,
             deck,
+            pass: engine.annals().begin(),
         }
     }
 
@@ -71,6 +85,7 @@ impl<K: Run> Terminal<K> {
             share,
             outbox,
             deck,
+            pass: _,
         } = self;
         (share, outbox, deck)
     }
@@ -146,9 +161,10 @@ impl<K: Run> Terminal<K> {
         self.outbox.reserve()?;
         let work = execute_at(rt, alloc, engine, &mut self.reader, input)?;
         gate.before_commit();
-        let done = commit_at(rt, engine, &mut self.reader, &mut self.share, work)?;
+        let (done, cited) = commit_at(rt, engine, &mut self.reader, &mut self.share, work)?;
         gate.after_commit();
         let number = u64::from(done.number());
+        engine.annals().gather(&mut self.pass, cited);
         self.outbox.hold(done);
         Ok(number)
     }

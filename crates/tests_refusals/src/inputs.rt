@@ -1,6 +1,5 @@
 //! A terminal whose inputs run, another one that stands in for it, and their logger.
 ghost use Rattle.std.specs.Prelude.{◌≡◌, IfOk};
-ghost use Rattle.population.specs.Initial.{initial};
 ghost use Rattle.book.specs.Parts.{IsFresh, IsOpenedAs, IsLedgerOf, base_of, loggers_of};
 
 use crate::again::Again;
@@ -14,7 +13,6 @@ use log_header::Header;
 use logfile::LogFile;
 use logger::Logger;
 use money::Refusal;
-use population::Population;
 use program_script_text::print_reply;
 use std::alloc::Global;
 use std::fmt::Write;
@@ -229,7 +227,7 @@ fn seated<'a, K: Run>(
     };
     let logger = Logger::new(file, seat);
     let mut others = terminals;
-    let terminal = terminal_of(alloc, engine.population(), &mut others)?;
+    let terminal = terminal_of(alloc, &engine, &mut others)?;
     Ok(Desk {
         engine,
         clock,
@@ -244,11 +242,9 @@ fn seated<'a, K: Run>(
 /// The next terminal, whose outbox has no room yet.
 fn terminal_of<K: Run>(
     alloc: Global,
-    population: &Population,
+    engine: &Engine<K>,
     seats: &mut TerminalSeats<K>,
-) -> Result<Terminal<K>, Refusal>
-    requires { (initial population.now).scale ≡ K.run.first.scale }
-{
+) -> Result<Terminal<K>, Refusal> {
     let Some(seat) = seats.next() else {
         return Err(Refusal::BadInput);
     };
@@ -258,7 +254,8 @@ fn terminal_of<K: Run>(
         share,
     } = seat;
     let outbox = Outbox::new(alloc, board, 0)?;
-    Ok(Terminal::new(reader, share, outbox, deck(population.scale())))
+    let deck = deck(engine.population().scale());
+    Ok(Terminal::new(engine, reader, share, outbox, deck))
 }
 
 /// A new file of the one logger.

@@ -3,11 +3,14 @@ ghost use Rattle.std.specs.Prelude.{◌≡◌, ◌<◌, [], length, All, IfOk};
 ghost use Rattle.board.specs.declared.rule.Role.TheVariants.{Logger as logger_role};
 ghost use Rattle.board.specs.Opening.{logger_seats};
 ghost use Rattle.board.specs.Seats.{new_seat};
+ghost use Rattle.population.specs.Initial.{initial};
+ghost use Rattle.lane_logger.specs.Found.{IsFoundIn, new_files};
 ghost use Rattle.book.specs.Parts.{IsFresh, IsOpenedAs, IsLedgerOf, base_of, loggers_of, terminals_of};
 
 use crate::roomy::Roomy;
 use board::{Board, LoggerSeat};
-use book::{Engine, Parts, Run, Seats};
+use book::{Engine, Parts, Seats};
+use lane_logger::LoggedRun;
 use log_disk::Disk;
 use log_header::Header;
 use logfile::LogFile;
@@ -62,8 +65,9 @@ fn logs<D: Disk + Drop>(
 ) -> Result<Vec<Paced<Logger<D>, AtOnce>>, Refusal>
     requires seats { seats.items ≡ logger_seats board.now 1 }
     requires plan { (board.now.plan.loggers ≡ 1) × (board.now.plan.base ≡ 0) }
-    requires empty { D.is_modelled → D.seen disk ≡ [] }
-    ensures { IfOk result (λ logs. All (λ log. log.inner.seat.board ≡ board.now) logs.items) }
+    requires empty { D.is_modelled → (D.seen disk ≡ []) × (D.story disk ≡ []) }
+    ensures { IfOk result (λ logs. All (λ log. IsFoundIn board.now (new_files 1 (initial population.now).scale 0)
+        D.is_modelled D.seen D.story log.inner) logs.items) }
 {
     let mut seats = seats;
     let Some(seat) = seats.pop() else {
@@ -82,10 +86,12 @@ fn log_on<D: Disk + Drop>(
 ) -> Result<Paced<Logger<D>, AtOnce>, Refusal>
     requires seat { seat ≡ new_seat seat.board (logger_role 0) }
     requires plan { (seat.board.plan.loggers ≡ 1) × (seat.board.plan.base ≡ 0) }
-    requires empty { D.is_modelled → D.seen disk ≡ [] }
-    ensures { IfOk result (λ log. log.inner.seat.board ≡ seat.board) }
+    requires empty { D.is_modelled → (D.seen disk ≡ []) × (D.story disk ≡ []) }
+    ensures { IfOk result (λ log. IsFoundIn seat.board (new_files 1 (initial population.now).scale 0)
+        D.is_modelled D.seen D.story log.inner) }
 {
-    let header = Header::new(population.scale(), population.seed(), 0, 1);
+    // Plain populations have seed 0.
+    let header = Header::new(population.scale(), 0, 0, 1);
     let file = LogFile::create(alloc, disk, header)?;
     Ok(Paced {
         inner: Logger::new(file, seat),
@@ -94,7 +100,7 @@ fn log_on<D: Disk + Drop>(
 }
 
 /// Runs the inputs. Answers how many there were.
-fn ran_on<K: Run + Send + Sync, D: Disk + Send + Drop, R: Threads + Wait + Sync>(
+fn ran_on<K: LoggedRun + Send + Sync, D: Disk + Send + Drop, R: Threads + Wait + Sync>(
     rt: &R,
     alloc: Global,
     parts: Parts,
@@ -102,9 +108,10 @@ fn ran_on<K: Run + Send + Sync, D: Disk + Send + Drop, R: Threads + Wait + Sync>
 ) -> Result<u64, Refusal>
     requires run { IsOpenedAs parts K.run }
     requires ledger { IsLedgerOf parts K.name K.parts }
+    requires named { K.found ≡ new_files 1 K.run.first.scale 0 }
     requires loggers { (loggers_of parts ≡ 1) × (base_of parts ≡ 0) }
     requires terminals { terminals_of parts ≡ 1 }
-    requires empty { D.is_modelled → D.seen disk ≡ [] }
+    requires empty { D.is_modelled → (D.seen disk ≡ []) × (D.story disk ≡ []) }
 {
     let (engine, seats) = Engine::<K>::open(parts);
     let Seats {

@@ -1,9 +1,11 @@
 //! A terminal whose district takes two orders more, and all that it asks for besides.
 ghost use Rattle.std.specs.Prelude.{◌≡◌, [], length, All, IfOk};
+ghost use Rattle.lane_logger.specs.Found.{new_files};
 ghost use Rattle.book.specs.Parts.{IsOpenedAs, IsLedgerOf, base_of, loggers_of, terminals_of};
 
 use crate::stage::one_log;
 use book::{Closed, Engine, Parts, Run, Seats};
+use lane_logger::LoggedRun;
 use log_disk::Memory;
 use money::Refusal;
 use population::Population;
@@ -110,13 +112,14 @@ fn wanted(alloc: Global, scale: Scale) -> Result<Seen, Refusal> {
 }
 
 /// Runs the inputs of the terminal.
-fn run_of<K: Run + Send + Sync, R: Threads + Wait + Sync>(
+fn run_of<K: LoggedRun + Send + Sync, R: Threads + Wait + Sync>(
     rt: &R,
     alloc: Global,
     parts: Parts,
 ) -> Result<Seen, Refusal>
     requires run { IsOpenedAs parts K.run }
     requires ledger { IsLedgerOf parts K.name K.parts }
+    requires named { K.found ≡ new_files 1 K.run.first.scale 0 }
     requires loggers { (loggers_of parts ≡ 1) × (base_of parts ≡ 0) }
     requires terminals { terminals_of parts ≡ 1 }
 {

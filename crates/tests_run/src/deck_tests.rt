@@ -1,9 +1,11 @@
 //! Two terminals, whose entries are their decks' inputs, and more inputs than commits that their population takes.
 ghost use Rattle.std.specs.Prelude.{◌≡◌, [], length, All, IfOk};
+ghost use Rattle.lane_logger.specs.Found.{new_files};
 ghost use Rattle.book.specs.Parts.{IsOpenedAs, IsLedgerOf, base_of, loggers_of, terminals_of};
 
 use crate::stage::one_log;
 use book::{Engine, Entry, Parts, Run, Seats};
+use lane_logger::LoggedRun;
 use log_disk::{Disk, Memory};
 use money::Refusal;
 use population::Population;
@@ -142,13 +144,14 @@ fn is_told<K: Run, D: Disk + Drop>(alloc: Global, outcome: Outcome<K, D>) -> Res
 }
 
 /// Runs the inputs of two terminals. Answers what is seen of the run, and whether other counts are told.
-fn run_of<K: Run + Send + Sync, R: Threads + Wait + Sync>(
+fn run_of<K: LoggedRun + Send + Sync, R: Threads + Wait + Sync>(
     rt: &R,
     alloc: Global,
     parts: Parts,
 ) -> Result<(Seen, bool), Refusal>
     requires run { IsOpenedAs parts K.run }
     requires ledger { IsLedgerOf parts K.name K.parts }
+    requires named { K.found ≡ new_files 1 K.run.first.scale 0 }
     requires loggers { (loggers_of parts ≡ 1) × (base_of parts ≡ 0) }
     requires terminals { terminals_of parts ≡ 2 }
 {

@@ -1,11 +1,13 @@
 //! A logger without the clock, whose turns begin when E has changed.
 ghost use Rattle.std.specs.Prelude.{◌≡◌, [], IfOk};
+ghost use Rattle.lane_logger.specs.Found.{new_files};
 ghost use Rattle.book.specs.Parts.{IsOpenedAs, IsLedgerOf, base_of, loggers_of, terminals_of};
 
 use crate::following::{ROUNDS, Round, Rounds, late_station};
 use crate::held::{Held, Passing};
 use crate::stage::{logs, parts};
-use book::{Engine, Parts, Run, Seats};
+use book::{Engine, Parts, Seats};
+use lane_logger::LoggedRun;
 use log_disk::{Disk, Memory};
 use money::Refusal;
 use run_threads::{Desks, run};
@@ -33,7 +35,7 @@ fn slot<'a, R: Wait + Clock>(
     shared: &'a Shared,
     has_clock: bool,
 ) -> (Held<'a, Memory>, Round<'a, R>)
-    ensures { ⟦<Memory as Disk>⟧.seen result.0.disk ≡ [] }
+    ensures { (⟦<Memory as Disk>⟧.seen result.0.disk ≡ []) × (⟦<Memory as Disk>⟧.story result.0.disk ≡ []) }
 {
     let disk = Held {
         disk: Memory::new(alloc),
@@ -53,7 +55,7 @@ fn slot<'a, R: Wait + Clock>(
 }
 
 /// A run of one input at one terminal, beside two loggers. Answers how many commits were acknowledged.
-fn run_of<K: Run + Send + Sync, R: Threads + Wait + Clock + Sync>(
+fn run_of<K: LoggedRun + Send + Sync, R: Threads + Wait + Clock + Sync>(
     rt: &R,
     alloc: Global,
     parts: Parts,
@@ -61,6 +63,7 @@ fn run_of<K: Run + Send + Sync, R: Threads + Wait + Clock + Sync>(
 ) -> Result<u64, Refusal>
     requires run { IsOpenedAs parts K.run }
     requires ledger { IsLedgerOf parts K.name K.parts }
+    requires named { K.found ≡ new_files 2 K.run.first.scale 0 }
     requires loggers { (loggers_of parts ≡ 2) × (base_of parts ≡ 0) }
     requires terminals { terminals_of parts ≡ 1 }
 {

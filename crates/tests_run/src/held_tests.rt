@@ -1,10 +1,12 @@
 //! A terminal that commits while its logger syncs.
 ghost use Rattle.std.specs.Prelude.{◌≡◌, [], IfOk};
+ghost use Rattle.lane_logger.specs.Found.{new_files};
 ghost use Rattle.book.specs.Parts.{IsOpenedAs, IsLedgerOf, base_of, loggers_of, terminals_of};
 
 use crate::held::{BESIDE, Held, Passing};
 use crate::stage::{follower, one_log, parts};
-use book::{Engine, Parts, Run, Seats};
+use book::{Engine, Parts, Seats};
+use lane_logger::LoggedRun;
 use log_disk::Memory;
 use money::Refusal;
 use run_threads::{Desks, run};
@@ -16,7 +18,7 @@ use std::thread::Threads;
 
 /// Runs 200 inputs at one terminal, beside a logger of which a sync is held. Answers how many have committed, and how
 /// many were acknowledged.
-fn run_of<K: Run + Send + Sync, R: Threads + Wait + Sync>(
+fn run_of<K: LoggedRun + Send + Sync, R: Threads + Wait + Sync>(
     rt: &R,
     alloc: Global,
     parts: Parts,
@@ -24,6 +26,7 @@ fn run_of<K: Run + Send + Sync, R: Threads + Wait + Sync>(
 ) -> Result<(u64, u64), Refusal>
     requires run { IsOpenedAs parts K.run }
     requires ledger { IsLedgerOf parts K.name K.parts }
+    requires named { K.found ≡ new_files 1 K.run.first.scale 0 }
     requires loggers { (loggers_of parts ≡ 1) × (base_of parts ≡ 0) }
     requires terminals { terminals_of parts ≡ 1 }
 {

@@ -56,7 +56,8 @@ pub(crate) fn noted<'a>(
     alloc: Global,
     notes: &'a Notes,
 ) -> ((Memory, Noting<'a>), (Memory, Noting<'a>))
-    ensures { (⟦<Memory as Disk>⟧.seen result.0.0 ≡ []) × (⟦<Memory as Disk>⟧.seen result.1.0 ≡ []) }
+    ensures first { (⟦<Memory as Disk>⟧.seen result.0.0 ≡ []) × (⟦<Memory as Disk>⟧.story result.0.0 ≡ []) }
+    ensures second { (⟦<Memory as Disk>⟧.seen result.1.0 ≡ []) × (⟦<Memory as Disk>⟧.story result.1.0 ≡ []) }
 {
     let first = Noting {
         ended: &notes.ended,

@@ -1,11 +1,13 @@
 //! The last turns of two loggers, of which the first has the clock.
 ghost use Rattle.std.specs.Prelude.{◌≡◌, [], IfOk};
+ghost use Rattle.lane_logger.specs.Found.{new_files};
 ghost use Rattle.book.specs.Parts.{IsOpenedAs, IsLedgerOf, base_of, loggers_of, terminals_of};
 
 use crate::held::Passing;
 use crate::noting::{Notes, noted};
 use crate::stage::{follower, logs, parts};
-use book::{Engine, Parts, Run, Seats};
+use book::{Engine, Parts, Seats};
+use lane_logger::LoggedRun;
 use money::Refusal;
 use run_threads::{Desks, run};
 use std::alloc::Global;
@@ -15,7 +17,7 @@ use std::test::Fail;
 use std::thread::Threads;
 
 /// A run of one terminal without inputs, beside two loggers that note when they end. Answers the last D.
-fn run_of<K: Run + Send + Sync, R: Threads + Wait + Sync>(
+fn run_of<K: LoggedRun + Send + Sync, R: Threads + Wait + Sync>(
     rt: &R,
     alloc: Global,
     parts: Parts,
@@ -24,6 +26,7 @@ fn run_of<K: Run + Send + Sync, R: Threads + Wait + Sync>(
 ) -> Result<u64, Refusal>
     requires run { IsOpenedAs parts K.run }
     requires ledger { IsLedgerOf parts K.name K.parts }
+    requires named { K.found ≡ new_files 2 K.run.first.scale 0 }
     requires loggers { (loggers_of parts ≡ 2) × (base_of parts ≡ 0) }
     requires terminals { terminals_of parts ≡ 1 }
 {

@@ -1,10 +1,12 @@
 //! An input that is given up, and all behind it.
 ghost use Rattle.std.specs.Prelude.{◌≡◌, [], length, All, IfOk};
+ghost use Rattle.lane_logger.specs.Found.{new_files};
 ghost use Rattle.book.specs.Parts.{IsOpenedAs, IsLedgerOf, base_of, loggers_of, terminals_of};
 
 use crate::overtaking::{Lane, Overtaking};
 use crate::stage::one_log;
-use book::{Engine, Parts, Run, Seats};
+use book::{Engine, Parts, Seats};
+use lane_logger::LoggedRun;
 use log_disk::Memory;
 use money::Refusal;
 use population::Population;
@@ -79,7 +81,7 @@ impl Ends {
 }
 
 /// Runs the two terminals.
-fn run_of<K: Run + Send + Sync, R: Threads + Wait + Sync>(
+fn run_of<K: LoggedRun + Send + Sync, R: Threads + Wait + Sync>(
     rt: &R,
     alloc: Global,
     parts: Parts,
@@ -87,6 +89,7 @@ fn run_of<K: Run + Send + Sync, R: Threads + Wait + Sync>(
 ) -> Result<(Ends, Ends), Refusal>
     requires run { IsOpenedAs parts K.run }
     requires ledger { IsLedgerOf parts K.name K.parts }
+    requires named { K.found ≡ new_files 1 K.run.first.scale 0 }
     requires loggers { (loggers_of parts ≡ 1) × (base_of parts ≡ 0) }
     requires terminals { terminals_of parts ≡ 2 }
 {

@@ -1,11 +1,13 @@
 //! Four terminals that meet, beside two loggers.
 ghost use Rattle.std.specs.Prelude.{◌≡◌, [], IfOk};
+ghost use Rattle.lane_logger.specs.Found.{new_files};
 ghost use Rattle.book.specs.Parts.{IsOpenedAs, IsLedgerOf, base_of, loggers_of, terminals_of};
 
 use crate::books::{Books, paid};
 use crate::meeting::Meeting;
 use crate::stage::{logs, parts, stations};
 use book::{Engine, Parts, Run, Seats};
+use lane_logger::LoggedRun;
 use log_disk::{Disk, Memory};
 use money::Refusal;
 use run_threads::{AtOnce, Desks, Outcome, run};
@@ -49,7 +51,7 @@ fn seen_of<K: Run, D: Disk + Drop>(
 }
 
 /// Runs 500 inputs at each of four terminals.
-fn outcome_of<K: Run + Send + Sync, D: Disk + Send + Drop, R: Threads + Wait + Sync>(
+fn outcome_of<K: LoggedRun + Send + Sync, D: Disk + Send + Drop, R: Threads + Wait + Sync>(
     rt: &R,
     alloc: Global,
     parts: Parts,
@@ -58,9 +60,11 @@ fn outcome_of<K: Run + Send + Sync, D: Disk + Send + Drop, R: Threads + Wait + S
 ) -> Result<Outcome<K, D>, Refusal>
     requires run { IsOpenedAs parts K.run }
     requires ledger { IsLedgerOf parts K.name K.parts }
+    requires named { K.found ≡ new_files 2 K.run.first.scale 0 }
     requires loggers { (loggers_of parts ≡ 2) × (base_of parts ≡ 0) }
     requires terminals { terminals_of parts ≡ 4 }
-    requires empty { D.is_modelled → (D.seen disks.0 ≡ []) × (D.seen disks.1 ≡ []) }
+    requires first { D.is_modelled → (D.seen disks.0 ≡ []) × (D.story disks.0 ≡ []) }
+    requires second { D.is_modelled → (D.seen disks.1 ≡ []) × (D.story disks.1 ≡ []) }
 {
     let (engine, seats) = Engine::<K>::open(parts);
     let Seats {
@@ -77,7 +81,7 @@ fn outcome_of<K: Run + Send + Sync, D: Disk + Send + Drop, R: Threads + Wait + S
 
 /// The same. Answers what is seen of the run, what it comes to, and what W_YTD is to be, in cents: 200.00, as at the
 /// start, and all that was paid.
-fn run_of<K: Run + Send + Sync, D: Disk + Send + Drop, R: Threads + Wait + Sync>(
+fn run_of<K: LoggedRun + Send + Sync, D: Disk + Send + Drop, R: Threads + Wait + Sync>(
     rt: &R,
     alloc: Global,
     parts: Parts,
@@ -86,9 +90,11 @@ fn run_of<K: Run + Send + Sync, D: Disk + Send + Drop, R: Threads + Wait + Sync>
 ) -> Result<(Seen, Books, i64), Refusal>
     requires run { IsOpenedAs parts K.run }
     requires ledger { IsLedgerOf parts K.name K.parts }
+    requires named { K.found ≡ new_files 2 K.run.first.scale 0 }
     requires loggers { (loggers_of parts ≡ 2) × (base_of parts ≡ 0) }
     requires terminals { terminals_of parts ≡ 4 }
-    requires empty { D.is_modelled → (D.seen disks.0 ≡ []) × (D.seen disks.1 ≡ []) }
+    requires first { D.is_modelled → (D.seen disks.0 ≡ []) × (D.story disks.0 ≡ []) }
+    requires second { D.is_modelled → (D.seen disks.1 ≡ []) × (D.story disks.1 ≡ []) }
 {
     let mut outcome = outcome_of::<K, D, R>(rt, alloc, parts, meeting, disks)?;
     told_of(alloc, &mut outcome)

@@ -3,6 +3,8 @@ ghost use Rattle.std.specs.Prelude.{◌≡◌, ◌<◌, ◌≤◌, [], length, A
 ghost use Rattle.board.specs.declared.rule.Role.TheVariants.{Logger as logger_role};
 ghost use Rattle.board.specs.Opening.{logger_seats};
 ghost use Rattle.board.specs.Seats.{new_seat};
+ghost use Rattle.population.specs.Initial.{initial};
+ghost use Rattle.lane_logger.specs.Found.{IsFoundIn, new_files};
 ghost use Rattle.book.specs.Parts.{IsFresh, base_of, loggers_of, terminals_of};
 
 use crate::held::{Follower, Passing};
@@ -99,8 +101,10 @@ pub(crate) fn logs<D: Disk + Drop, P: Pace + Drop>(
 ) -> Result<Vec<Paced<Logger<D>, P>>, Refusal>
     requires seats { seats.items ≡ logger_seats board.now 2 }
     requires plan { (board.now.plan.loggers ≡ 2) × (board.now.plan.base ≡ 0) }
-    requires empty { D.is_modelled → (D.seen slots.0.0 ≡ []) × (D.seen slots.1.0 ≡ []) }
-    ensures { IfOk result (λ logs. All (λ log. log.inner.seat.board ≡ board.now) logs.items) }
+    requires first { D.is_modelled → (D.seen slots.0.0 ≡ []) × (D.story slots.0.0 ≡ []) }
+    requires second { D.is_modelled → (D.seen slots.1.0 ≡ []) × (D.story slots.1.0 ≡ []) }
+    ensures { IfOk result (λ logs. All (λ log. IsFoundIn board.now (new_files 2 (initial population.now).scale 0)
+        D.is_modelled D.seen D.story log.inner) logs.items) }
 {
     let mut seats = seats;
     let (Some(second), Some(first)) = (seats.pop(), seats.pop()) else {
@@ -122,8 +126,9 @@ pub(crate) fn one_log<D: Disk + Drop>(
 ) -> Result<Vec<Paced<Logger<D>, AtOnce>>, Refusal>
     requires seats { seats.items ≡ logger_seats board.now 1 }
     requires plan { (board.now.plan.loggers ≡ 1) × (board.now.plan.base ≡ 0) }
-    requires empty { D.is_modelled → D.seen disk ≡ [] }
-    ensures { IfOk result (λ logs. All (λ log. log.inner.seat.board ≡ board.now) logs.items) }
+    requires empty { D.is_modelled → (D.seen disk ≡ []) × (D.story disk ≡ []) }
+    ensures { IfOk result (λ logs. All (λ log. IsFoundIn board.now (new_files 1 (initial population.now).scale 0)
+        D.is_modelled D.seen D.story log.inner) logs.items) }
 {
     let mut seats = seats;
     let Some(seat) = seats.pop() else {
@@ -134,7 +139,7 @@ pub(crate) fn one_log<D: Disk + Drop>(
     Ok(logs)
 }
 
-/// A logger with a new file on a disk.
+/// A logger with a new file on a disk. Plain populations have seed 0.
 fn log_on<D: Disk + Drop, P: Pace + Drop>(
     alloc: Global,
     population: &Population,
@@ -145,11 +150,12 @@ fn log_on<D: Disk + Drop, P: Pace + Drop>(
     requires seat { seat ≡ new_seat seat.board (logger_role logger.0) }
     requires plan { (seat.board.plan.loggers ≡ logger.1) × (seat.board.plan.base ≡ 0) }
     requires logger { (logger.0 < logger.1) × (logger.1 ≤ 8) }
-    requires empty { D.is_modelled → D.seen slot.0 ≡ [] }
-    ensures { IfOk result (λ log. log.inner.seat.board ≡ seat.board) }
+    requires empty { D.is_modelled → (D.seen slot.0 ≡ []) × (D.story slot.0 ≡ []) }
+    ensures { IfOk result (λ log. IsFoundIn seat.board (new_files logger.1 (initial population.now).scale 0)
+        D.is_modelled D.seen D.story log.inner) }
 {
     let ((disk, pace), (number, loggers)) = (slot, logger);
-    let header = Header::new(population.scale(), population.seed(), number, loggers);
+    let header = Header::new(population.scale(), 0, number, loggers);
     let file = LogFile::create(alloc, disk, header)?;
     Ok(Paced {
         inner: Logger::new(file, seat),

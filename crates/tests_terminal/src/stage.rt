@@ -82,7 +82,7 @@ fn terminal_at<K: Run>(
     } = seat;
     let outbox = Outbox::new(alloc, board, 2)?;
     let deck = Deck::new(engine.population().scale(), Settings::usual(), seed, 0);
-    Ok(Terminal::new(reader, share, outbox, deck))
+    Ok(Terminal::new(engine, reader, share, outbox, deck))
 }
 
 /// Runs the next input.

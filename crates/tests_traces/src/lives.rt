@@ -2,10 +2,12 @@
 ghost use Rattle.std.specs.Prelude.{◌≡◌, ◌<◌, ◌≤◌, [], length, map, All, IfOk, IsTrue};
 ghost use Rattle.std.specs.Arc.{arc_value};
 ghost use Rattle.book.specs.Parts.{IsFresh, IsOpenedAs, IsLedgerOf, base_of, loggers_of, terminals_of};
+ghost use Rattle.lane_logger.specs.Found.{as_they_are};
 ghost use Rattle.program_run.specs.Outfit.{AreLogsOf};
 
 use crate::record::Made;
-use book::{Entry, Parts, Run};
+use book::{Entry, Parts};
+use lane_logger::LoggedRun;
 use log_disk::{Disk, Memory};
 use logfile::LogFile;
 use money::Refusal;
@@ -48,7 +50,7 @@ fn copied(
 
 /// Runs an engine of these parts. Answers what has committed.
 fn made_by<
-    K: Run + Send + Sync,
+    K: LoggedRun + Send + Sync,
     D: Disk + Send + Drop,
     P: Pace + Send + Drop,
     G: Gate + Send + Drop,
@@ -64,6 +66,7 @@ fn made_by<
     requires run { IsOpenedAs parts K.run }
     requires ledger { IsLedgerOf parts K.name K.parts }
     requires logs { AreLogsOf (loggers_of parts) (base_of parts) (map (λ log. log.inner) logs.items) }
+    requires named { K.found ≡ as_they_are D.seen D.story (map (λ log. log.inner) logs.items) }
     requires terminals { terminals_of parts ≡ plan.now.terminals }
     requires gates { length gates.items ≡ plan.now.terminals }
 {

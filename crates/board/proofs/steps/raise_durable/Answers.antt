@@ -3,4 +3,4 @@ use Rattle.board.proofs.Allowing.{raises_durable}
 use Rattle.board.proofs.steps.raise_durable.Goals as goal
 
 pub fetch_max-requires : goal.fetch_max-requires
-fetch_max-requires c = (search rules, search rules, raises_durable _ _ _ c.args.epoch _ c.requires.below)
+fetch_max-requires c = (search rules, search rules, raises_durable _ _ _ c.args.epoch _ c.requires.here c.requires.below)

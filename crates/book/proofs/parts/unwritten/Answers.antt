@@ -1,4 +1,4 @@
-use Rattle.std.proofs.Common.{◌≡◌, ◌<◌, ◌∷◌, [], ◌++◌, List, length, sym, ap, ◌∙◌, subst}
+use Rattle.std.proofs.Common.{◌++◌, List, length, ap, ◌∙◌}
 use Rattle.tables.specs.Database.{database}
 use Rattle.cells.specs.First.{firsts, wide_firsts}
 use Rattle.cells.specs.Records.{PenView, at}

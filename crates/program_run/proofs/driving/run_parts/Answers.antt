@@ -1,9 +1,10 @@
 use Rattle.std.proofs.Common.{◌∙◌, sym}
 use Rattle.program_run.proofs.Counted.{counts_are}
+use Rattle.lane_logger.proofs.Found.{found_as}
 use Rattle.program_run.proofs.driving.run_parts.Goals as goal
 
 pub run-requires-clause-logs : goal.run-requires-clause-logs
-run-requires-clause-logs g c κs within = λ k d h. c.in_ok-logs.ensures.own k d h ∙ c.board.ensures
+run-requires-clause-logs g c κs within = λ k d h. found_as c.requires.named c.board.ensures (c.in_ok-logs.ensures.found k d h)
 
 pub run-requires-clause-decks : goal.run-requires-clause-decks
 run-requires-clause-decks g c κs within =

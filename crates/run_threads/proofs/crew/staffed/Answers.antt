@@ -4,7 +4,7 @@ use Rattle.book.specs.Share.{share_commits, parts_of}
 use Rattle.run_threads.specs.Tally.{inputs_in}
 use Rattle.run_threads.specs.declared.worker.Station.{Station}
 use Rattle.run_threads.specs.declared.worker.TerminalThread.{TerminalThread}
-use Rattle.run_threads.proofs.Inputs.{decks_all_staffed, decks_staffed, none_staffed}
+use Rattle.run_threads.proofs.Inputs.{decks_staffed}
 use Rattle.run_threads.proofs.crew.staffed.Goals as goal
 
 pub loop-station-preserved : goal.loop-station-preserved

@@ -25,6 +25,7 @@ use Rattle.book.specs.declared.entry.Entry.{Entry}
 use Rattle.book.specs.declared.untaken.Untaken.{Untaken}
 use Rattle.book.proofs.Found.{view_here, kept_loaded, cap_of, count_of, never_full, no_conflict, none_taken, declined_by, found_of, is_due, same_tid}
 use Rattle.book.proofs.Found.{has_tid, follows, kept_reserved, larger, kept_committed, may_count_one}
+use Rattle.book.proofs.Kept.{annals_loaded, annals_below, annals_kept}
 use Rattle.book.proofs.Loaded.{ready_loaded}
 use Rattle.book.proofs.NextCommit.{is_next}
 use Rattle.book.proofs.RefusedThere.{refused_there}
@@ -37,23 +38,31 @@ conflict_not_full : Conflict ≢ EpochFull
 conflict_not_full h = cc
 
 pub invariant_of-self : goal.invariant_of-self
-invariant_of-self g c =
-    kept_loaded c.self.invariant c.requires.board c.epoch-epoch.ensures.later c.validate.ensures.pen c.epoch-epoch.ensures.step
+invariant_of-self g c = (
+  kept_loaded c.self.invariant.0 c.requires.board c.epoch-epoch.ensures.later c.validate.ensures.pen c.epoch-epoch.ensures.step,
+  annals_loaded c.self.invariant.1 c.requires.board c.self.invariant.0.board c.epoch-epoch.ensures.later c.epoch-epoch.ensures.step refl,
+)
 
 pub invariant_of-self-in-Err : goal.invariant_of-self-in-Err
 invariant_of-self-in-Err g c =
-    let found = found_of c.self.invariant c.requires.board c.epoch-epoch.ensures.later c.requires.work c.in_order.ensures c.in-Some.ensures.latest
-    c.share.invariant.1 c.index.ensures in
-    kept_reserved found (search rules) c.index_mut-stream.result.now c.prepare.new.stream c.index_mut-stream.ensures.value c.prepare.ensures.stream
-    c.validate.ensures.pen (ap (map arc_value) c.prepare.ensures.history) c.epoch-epoch.ensures.step
+    let found = found_of c.self.invariant.0 c.requires.board c.epoch-epoch.ensures.later c.requires.work c.in_order.ensures c.in-Some.ensures.latest
+    c.share.invariant.1 c.index.ensures in (
+      kept_reserved found (search rules) c.index_mut-stream.result.now c.prepare.new.stream c.index_mut-stream.ensures.value c.prepare.ensures.stream
+          c.validate.ensures.pen (ap (map arc_value) c.prepare.ensures.history) c.epoch-epoch.ensures.step,
+      annals_loaded c.self.invariant.1 c.requires.board c.self.invariant.0.board c.epoch-epoch.ensures.later c.epoch-epoch.ensures.step
+          (ap (map arc_value) c.prepare.ensures.history),
+    )
+
+pub keep-requires-clause-mark : goal.keep-requires-clause-mark
+keep-requires-clause-mark g c = annals_below c.self.invariant.1 c.requires.board c.self.invariant.0.board c.epoch-epoch.ensures.later
 
 pub returns-in-Err-clause-declined : goal.returns-in-Err-clause-declined
 returns-in-Err-clause-declined g c =
-    let found = found_of c.self.invariant c.requires.board c.epoch-epoch.ensures.later c.requires.work c.in_order.ensures c.in-Some.ensures.latest
+    let found = found_of c.self.invariant.0 c.requires.board c.epoch-epoch.ensures.later c.requires.work c.in_order.ensures c.in-Some.ensures.latest
     c.share.invariant.1 c.index.ensures in
     let view = c.self.view_is in
-    let cap = cap_of c.self.invariant c.commits.ensures.value (c.scale.ensures ∙ ap (λ (p : Population). (initial p).scale) c.deref.ensures) in
-    let count = count_of c.self.invariant (sym (length-map c.self.inside.history.items arc_value)) in
+    let cap = cap_of c.self.invariant.0 c.commits.ensures.value (c.scale.ensures ∙ ap (λ (p : Population). (initial p).scale) c.deref.ensures) in
+    let count = count_of c.self.invariant.0 (sym (length-map c.self.inside.history.items arc_value)) in
     let streams = c.self.inside.streams.items in
     let place = c.share.inside.terminal % c.len.result in
     record {
@@ -81,10 +90,10 @@ returns-in-Err-clause-declined g c =
 
 pub returns-in-Err-clause-cap_first : goal.returns-in-Err-clause-cap_first
 returns-in-Err-clause-cap_first g c =
-    let found = found_of c.self.invariant c.requires.board c.epoch-epoch.ensures.later c.requires.work c.in_order.ensures c.in-Some.ensures.latest
+    let found = found_of c.self.invariant.0 c.requires.board c.epoch-epoch.ensures.later c.requires.work c.in_order.ensures c.in-Some.ensures.latest
     c.share.invariant.1 c.index.ensures in
-    let cap = cap_of c.self.invariant c.commits.ensures.value (c.scale.ensures ∙ ap (λ (p : Population). (initial p).scale) c.deref.ensures) in
-    let count = count_of c.self.invariant (sym (length-map c.self.inside.history.items arc_value)) in
+    let cap = cap_of c.self.invariant.0 c.commits.ensures.value (c.scale.ensures ∙ ap (λ (p : Population). (initial p).scale) c.deref.ensures) in
+    let count = count_of c.self.invariant.0 (sym (length-map c.self.inside.history.items arc_value)) in
     never_full c.in-Err.refusal c.in-Err.ensures.refused
     (λ below. has_tid found (subst (λ (q : ℕ × ℕ). q.0 < q.1) (λ i. (count i, cap i)) below))
 
@@ -95,10 +104,10 @@ returns-in-Err-clause-refused g c =
 
 pub store_counted-requires-clause-counted : goal.store_counted-requires-clause-counted
 store_counted-requires-clause-counted g c =
-    let found = found_of c.self.invariant c.requires.board c.epoch-epoch.ensures.later c.requires.work c.in_order.ensures c.in-Some.ensures.latest
+    let found = found_of c.self.invariant.0 c.requires.board c.epoch-epoch.ensures.later c.requires.work c.in_order.ensures c.in-Some.ensures.latest
     c.share.invariant.1 c.index.ensures in
-    let cap = cap_of c.self.invariant c.commits.ensures.value (c.scale.ensures ∙ ap (λ (p : Population). (initial p).scale) c.deref.ensures) in
-    let count = count_of c.self.invariant (sym (length-map c.self.inside.history.items arc_value)) in
+    let cap = cap_of c.self.invariant.0 c.commits.ensures.value (c.scale.ensures ∙ ap (λ (p : Population). (initial p).scale) c.deref.ensures) in
+    let count = count_of c.self.invariant.0 (sym (length-map c.self.inside.history.items arc_value)) in
     let below = subst (λ (q : ℕ × ℕ). q.0 < q.1) (λ i. (count i, cap i)) c.in-Ok.ensures.prepared.below in
     let stored : c.deref-2.result.now ≡ entry_of _ c.in-Ok.prepared.tid c.share.inside.terminal c.args.work = c.deref-2.ensures ∙ c.in-Ok.ensures.prepared.entry in
     let t = replay g.K.Run.run.first (map arc_value c.self.inside.history.items) in (
@@ -111,7 +120,7 @@ store_counted-requires-clause-counted g c =
 
 pub store_counted-requires-clause-may : goal.store_counted-requires-clause-may
 store_counted-requires-clause-may g c =
-    let found = found_of c.self.invariant c.requires.board c.epoch-epoch.ensures.later c.requires.work c.in_order.ensures c.in-Some.ensures.latest
+    let found = found_of c.self.invariant.0 c.requires.board c.epoch-epoch.ensures.later c.requires.work c.in_order.ensures c.in-Some.ensures.latest
     c.share.invariant.1 c.index.ensures in
     let stored : c.deref-2.result.now ≡ entry_of _ c.in-Ok.prepared.tid c.share.inside.terminal c.args.work =
     c.deref-2.ensures ∙ c.in-Ok.ensures.prepared.entry in
@@ -131,10 +140,10 @@ store_counted-requires-clause-may g c =
 
 pub commit_step-requires-clause-room : goal.commit_step-requires-clause-room
 commit_step-requires-clause-room g c =
-    let cap = cap_of c.self.invariant c.commits.ensures.value (c.scale.ensures ∙ ap (λ (p : Population). (initial p).scale) c.deref.ensures) in
-    let count = count_of c.self.invariant (sym (length-map c.self.inside.history.items arc_value)) in
+    let cap = cap_of c.self.invariant.0 c.commits.ensures.value (c.scale.ensures ∙ ap (λ (p : Population). (initial p).scale) c.deref.ensures) in
+    let count = count_of c.self.invariant.0 (sym (length-map c.self.inside.history.items arc_value)) in
     let below = subst (λ (q : ℕ × ℕ). q.0 < q.1) (λ i. (count i, cap i)) c.in-Ok.ensures.prepared.below in
-    subst (λ (s : SeatView). length (counted_epochs s.steps) < 2 ^ 64 - 1) (sym c.epoch-epoch.ensures.step) (may_count_one c.self.invariant below)
+    subst (λ (s : SeatView). length (counted_epochs s.steps) < 2 ^ 64 - 1) (sym c.epoch-epoch.ensures.step) (may_count_one c.self.invariant.0 below)
 
 pub returns-clause-reader : goal.returns-clause-reader
 returns-clause-reader g c = grown_twice c.args.reader.now c.validate.new.reader c.store_counted.new.reader c.validate.ensures.reader c.store_counted.ensures.stores.reader
@@ -142,10 +151,10 @@ returns-clause-reader g c = grown_twice c.args.reader.now c.validate.new.reader 
 pub invariant_of-self-2 : goal.invariant_of-self-2
 invariant_of-self-2 g c =
     let items : List Entry = map arc_value c.self.inside.history.items in
-    let found = found_of c.self.invariant c.requires.board c.epoch-epoch.ensures.later c.requires.work c.in_order.ensures c.in-Some.ensures.latest
+    let found = found_of c.self.invariant.0 c.requires.board c.epoch-epoch.ensures.later c.requires.work c.in_order.ensures c.in-Some.ensures.latest
     c.share.invariant.1 c.index.ensures in
-    let cap = cap_of c.self.invariant c.commits.ensures.value (c.scale.ensures ∙ ap (λ (p : Population). (initial p).scale) c.deref.ensures) in
-    let count = count_of c.self.invariant (sym (length-map c.self.inside.history.items arc_value)) in
+    let cap = cap_of c.self.invariant.0 c.commits.ensures.value (c.scale.ensures ∙ ap (λ (p : Population). (initial p).scale) c.deref.ensures) in
+    let count = count_of c.self.invariant.0 (sym (length-map c.self.inside.history.items arc_value)) in
     let below = subst (λ (q : ℕ × ℕ). q.0 < q.1) (λ i. (count i, cap i)) c.in-Ok.ensures.prepared.below in
     let here : Entry = entry_of (g.K.Run.run.past + length items + 1) c.in-Ok.prepared.tid c.share.inside.terminal c.args.work in
     let entry : arc_value c.in-Ok.prepared.entry ≡ here =
@@ -153,30 +162,42 @@ invariant_of-self-2 g c =
     let stored : c.deref-2.result.now ≡ here = c.deref-2.ensures ∙ entry in
     let cells = c.store_counted.ensures.stores.cells ∙ ap (λ (w : PenView). w.cells) c.validate.ensures.pen in
     let t = replay g.K.Run.run.first items in
-    kept_committed found c.in-Ok.ensures.prepared.lawful c.in-Ok.ensures.prepared.tid below c.store_counted.new.pen cells
-    (λ n. c.store_counted.ensures.stores.versions n
-    ∙ (λ i. at (c.validate.ensures.pen i).all n ++ new_versions (stored i).tid (stored i).writes.values n))
-    c.store_counted.new.totals
-    (c.store_counted.ensures.totals t c.args.work.input c.args.work.reply
-    (subst (λ (q : PenView × WriteSetView). MayFollow t c.args.work.input c.args.work.reply c.self.inside.totals q.0 q.1)
-    (λ i. (sym c.validate.ensures.pen i, (sym stored i).writes)) (follows found below)))
-    (search rules) c.index_mut-stream.result.now c.add.new.self c.index_mut-stream.ensures.value
-    (c.add.ensures.same.0 ∙ c.prepare.ensures.stream.taken) (c.add.ensures.same.1 ∙ c.prepare.ensures.stream.last_taken)
-    (c.add.ensures.same.2 ∙ c.prepare.ensures.stream.mark)
-    (ap (map arc_value) c.add.ensures.waiting ∙ map-append arc_value c.prepare.new.stream.waiting.items (c.in-Ok.prepared.waiting ∷ [])
-    ∙ (λ i. map arc_value (c.prepare.ensures.stream.waiting i) ++ (c.in-Ok.ensures.prepared.waiting ∙ entry) i ∷ []))
-    (ap (map arc_value) c.push_reserved.ensures.items ∙ map-append arc_value c.prepare.new.history.items (c.in-Ok.prepared.entry ∷ [])
-    ∙ (λ i. map arc_value (c.prepare.ensures.history i) ++ entry i ∷ []))
-    c.add-2.ensures.total
-    (c.commit_step.ensures ∙ ap (λ (s : SeatView). noted s (CountCommit c.epoch-epoch.result)) c.epoch-epoch.ensures.step)
+    let longer : map arc_value c.push_reserved.new.self.items ≡ items ++ here ∷ [] =
+    ap (map arc_value) c.push_reserved.ensures.items ∙ map-append arc_value c.prepare.new.history.items (c.in-Ok.prepared.entry ∷ [])
+    ∙ (λ i. map arc_value (c.prepare.ensures.history i) ++ entry i ∷ []) in
+    let step = c.commit_step.ensures ∙ ap (λ (s : SeatView). noted s (CountCommit c.epoch-epoch.result)) c.epoch-epoch.ensures.step in (
+      kept_committed found c.in-Ok.ensures.prepared.lawful c.in-Ok.ensures.prepared.tid below c.store_counted.new.pen cells
+          (λ n. c.store_counted.ensures.stores.versions n
+          ∙ (λ i. at (c.validate.ensures.pen i).all n ++ new_versions (stored i).tid (stored i).writes.values n))
+          c.store_counted.new.totals
+          (c.store_counted.ensures.totals t c.args.work.input c.args.work.reply
+          (subst (λ (q : PenView × WriteSetView). MayFollow t c.args.work.input c.args.work.reply c.self.inside.totals q.0 q.1)
+          (λ i. (sym c.validate.ensures.pen i, (sym stored i).writes)) (follows found below)))
+          (search rules) c.index_mut-stream.result.now c.add.new.self c.index_mut-stream.ensures.value
+          (c.add.ensures.same.0 ∙ c.prepare.ensures.stream.taken) (c.add.ensures.same.1 ∙ c.prepare.ensures.stream.last_taken)
+          (c.add.ensures.same.2 ∙ c.prepare.ensures.stream.mark)
+          (ap (map arc_value) c.add.ensures.waiting ∙ map-append arc_value c.prepare.new.stream.waiting.items (c.in-Ok.prepared.waiting ∷ [])
+          ∙ (λ i. map arc_value (c.prepare.ensures.stream.waiting i) ++ (c.in-Ok.ensures.prepared.waiting ∙ entry) i ∷ []))
+          longer
+          c.add-2.ensures.total
+          step,
+      annals_kept c.self.invariant.1 (annals_below c.self.invariant.1 c.requires.board c.self.invariant.0.board c.epoch-epoch.ensures.later)
+          (ap found_epoch step) here
+          (c.keep.ensures ∙ ap (λ (e : Entry). record {
+            annals = c.self.inside.annalist.annals;
+            history = c.self.inside.annalist.history ++ e ∷ [];
+            mark = c.epoch-epoch.result - 1;
+          }) (c.deref-4.ensures ∙ entry))
+          longer,
+    )
 
 pub returns-clause-committed : goal.returns-clause-committed
 returns-clause-committed g c =
     let items : List Entry = map arc_value c.self.inside.history.items in
-    let found = found_of c.self.invariant c.requires.board c.epoch-epoch.ensures.later c.requires.work c.in_order.ensures c.in-Some.ensures.latest
+    let found = found_of c.self.invariant.0 c.requires.board c.epoch-epoch.ensures.later c.requires.work c.in_order.ensures c.in-Some.ensures.latest
     c.share.invariant.1 c.index.ensures in
-    let cap = cap_of c.self.invariant c.commits.ensures.value (c.scale.ensures ∙ ap (λ (p : Population). (initial p).scale) c.deref.ensures) in
-    let count = count_of c.self.invariant (sym (length-map c.self.inside.history.items arc_value)) in
+    let cap = cap_of c.self.invariant.0 c.commits.ensures.value (c.scale.ensures ∙ ap (λ (p : Population). (initial p).scale) c.deref.ensures) in
+    let count = count_of c.self.invariant.0 (sym (length-map c.self.inside.history.items arc_value)) in
     let here : Entry = entry_of (g.K.Run.run.past + length items + 1) c.in-Ok.prepared.tid c.share.inside.terminal c.args.work in
     let entry : arc_value c.in-Ok.prepared.entry ≡ here =
     c.in-Ok.ensures.prepared.entry ∙ (λ i. entry_of (count i + 1) c.in-Ok.prepared.tid c.share.inside.terminal c.args.work) in
@@ -222,8 +243,8 @@ returns-clause-next g c = is_next (returns-clause-committed g c)
 pub returns-in_default-clause-section : goal.returns-in_default-clause-section
 returns-in_default-clause-section g c m w shows =
     record {
-      conflict = λ _. stale_run (view_here c.self.invariant) c.self.invariant.sound
-          (ready_loaded c.self.inside.seat c.self.invariant.board c.requires.board c.epoch-epoch.ensures.later c.self.invariant.ready)
+      conflict = λ _. stale_run (view_here c.self.invariant.0) c.self.invariant.0.sound
+          (ready_loaded c.self.inside.seat c.self.invariant.0.board c.requires.board c.epoch-epoch.ensures.later c.self.invariant.0.ready)
           c.requires.work c.in_order.ensures c.args.share.now.terminal w m
           (subst (λ (q : BookView × ℕ). Mirrors q.0 c.args.share.now.terminal q.1 c.args.work.reads m w)
           (λ i. (sym c.self.view_is i, ap found_epoch c.epoch-epoch.ensures.step i)) shows)
@@ -233,11 +254,11 @@ returns-in_default-clause-section g c m w shows =
 
 pub returns-in-Err-clause-section : goal.returns-in-Err-clause-section
 returns-in-Err-clause-section g c m w shows =
-    let found = found_of c.self.invariant c.requires.board c.epoch-epoch.ensures.later c.requires.work c.in_order.ensures c.in-Some.ensures.latest
+    let found = found_of c.self.invariant.0 c.requires.board c.epoch-epoch.ensures.later c.requires.work c.in_order.ensures c.in-Some.ensures.latest
     c.share.invariant.1 c.index.ensures in
     record {
       conflict = λ e. absurd (no_conflict _ _ _ c.in-Err.refusal c.in-Err.ensures.refused e);
-      epoch_full = λ e. full_run (view_here c.self.invariant) c.self.invariant.sound found.ready c.requires.work c.in_order.ensures
+      epoch_full = λ e. full_run (view_here c.self.invariant.0) c.self.invariant.0.sound found.ready c.requires.work c.in_order.ensures
           c.share.inside.terminal w m
           (subst (λ (q : BookView × ShareView × ℕ). Mirrors q.0 q.1.terminal q.2 c.args.work.reads m w)
           (λ i. (sym c.self.view_is i, sym c.share.view_is i, ap found_epoch c.epoch-epoch.ensures.step i)) shows) found.latest
@@ -246,14 +267,14 @@ returns-in-Err-clause-section g c m w shows =
 
 pub returns-clause-section : goal.returns-clause-section
 returns-clause-section g c m w shows =
-    let found = found_of c.self.invariant c.requires.board c.epoch-epoch.ensures.later c.requires.work c.in_order.ensures c.in-Some.ensures.latest
+    let found = found_of c.self.invariant.0 c.requires.board c.epoch-epoch.ensures.later c.requires.work c.in_order.ensures c.in-Some.ensures.latest
     c.share.invariant.1 c.index.ensures in
     let seat : c.commit_step.new.seat ≡ noted (noted c.self.inside.seat (LoadEpoch c.epoch-epoch.result)) (CountCommit c.epoch-epoch.result) =
     c.commit_step.ensures ∙ ap (λ (s : SeatView). noted s (CountCommit c.epoch-epoch.result)) c.epoch-epoch.ensures.step in
     let stored : c.deref-2.result.now ≡ entry_of _ c.in-Ok.prepared.tid c.share.inside.terminal c.args.work = c.deref-2.ensures ∙ c.in-Ok.ensures.prepared.entry in
     subst (λ (n : ℕ). IsCommitRun m w (reads_of c.args.work.reads) c.args.work.writes.values n c.store_counted.new.pen)
     (sym (ap (λ (done : Done). done.tid) c.in-Ok.ensures.prepared.done))
-    (run (view_here c.self.invariant) c.self.invariant.sound found.ready c.requires.work c.in_order.ensures c.share.inside.terminal w m
+    (run (view_here c.self.invariant.0) c.self.invariant.0.sound found.ready c.requires.work c.in_order.ensures c.share.inside.terminal w m
     (subst (λ (q : BookView × ShareView × ℕ). Mirrors q.0 q.1.terminal q.2 c.args.work.reads m w)
     (λ i. (sym c.self.view_is i, sym c.share.view_is i, ap found_epoch seat i)) shows)
     found.latest c.in-Ok.prepared.tid c.store_counted.new.pen (sym (same_tid found) ∙ c.in-Ok.ensures.prepared.tid) c.in-Ok.ensures.prepared.lawful.bits

@@ -7,5 +7,5 @@ use Rattle.book.proofs.book.Book.record_wide.Goals as goal
 
 pub returns-clause-held : goal.returns-clause-held
 returns-clause-held g c =
-    c.held_wide.ensures.held ∙ value_held c.self.invariant.sound c.args.number c.requires.is_record.1
+    c.held_wide.ensures.held ∙ value_held c.self.invariant.0.sound c.args.number c.requires.is_record.1
     ∙ ap (λ (q : BookView). rows (replay g.K.Run.run.first q.history) c.args.number) c.self.view_is

@@ -26,7 +26,7 @@ pub returns-clause-report : goal.returns-clause-report
 returns-clause-report g c =
     let history = map arc_value c.self.inside.history.items in
     let t = replay g.K.Run.run.first history in
-    let i = c.self.invariant in
+    let i = c.self.invariant.0 in
     subst (λ (q : BookView). IsReportOf (replay g.K.Run.run.first q.history) c.report_of.result) c.self.view_is
     (c.report_of.ensures.report t (asked t c.self.inside.totals c.sums.result.now c.bounds.result.now c.sums.ensures c.bounds.ensures i.totals i.sound.well_formed)
     (held_there i.sound i.ready.of_population.scale))
@@ -35,6 +35,6 @@ pub returns-clause-good : goal.returns-clause-good
 returns-clause-good g c =
     let history = map arc_value c.self.inside.history.items in
     let t = replay g.K.Run.run.first history in
-    let i = c.self.invariant in
+    let i = c.self.invariant.0 in
     c.report_of.ensures.good t (asked t c.self.inside.totals c.sums.result.now c.bounds.result.now c.sums.ensures c.bounds.ensures i.totals i.sound.well_formed)
     (held_there i.sound i.ready.of_population.scale) i.sound.consistent

@@ -22,17 +22,17 @@ are_there a b = subst (λ (q : Database × CellsView). AreCellsOf q.0.scale q.1)
 
 pub tables_of-requires-clause-narrow : goal.tables_of-requires-clause-narrow
 tables_of-requires-clause-narrow g c =
-    let kept = c.self.invariant in
+    let kept = c.self.invariant.0 in
     (are_there (ap initial c.deref-3.ensures ∙ kept.population) c.requires (cells_there kept.sound kept.ready kept.become)).narrow
 
 pub tables_of-requires-clause-wide : goal.tables_of-requires-clause-wide
 tables_of-requires-clause-wide g c =
-    let kept = c.self.invariant in
+    let kept = c.self.invariant.0 in
     (are_there (ap initial c.deref-3.ensures ∙ kept.population) c.requires (cells_there kept.sound kept.ready kept.become)).wide
 
 pub tables_of-requires-clause-lawful : goal.tables_of-requires-clause-lawful
 tables_of-requires-clause-lawful g c =
-    let kept = c.self.invariant in
+    let kept = c.self.invariant.0 in
     subst (λ (t : Database). AreLawful t.scale (held_by c.self.inside.pen)) (sym (ap initial c.deref-3.ensures ∙ kept.population))
     (lawful_there kept.sound kept.ready kept.become)
 
@@ -49,7 +49,7 @@ are_made pen {made = made} a d =
 
 pub returns-clause-tables : goal.returns-clause-tables
 returns-clause-tables g c =
-    let kept = c.self.invariant in
+    let kept = c.self.invariant.0 in
     IfOk-weaker c.tables_of.result _ _
     (λ made is. are_committed kept.sound kept.ready kept.become (database made) refl
     (are_made c.self.inside.pen (ap initial c.deref-3.ensures ∙ kept.population)
@@ -63,5 +63,5 @@ returns-clause-sound g c =
     IfOk-weaker c.tables_of.result _ _
     (λ made is. subst (IsSound g.K.Run.run.past g.K.Run.run.first c.args.self.now.written c.args.self.now.history) (sym is)
     (subst (λ (q : BookView). IsSound g.K.Run.run.past g.K.Run.run.first q.written q.history (replay g.K.Run.run.first q.history)) c.self.view_is
-    c.self.invariant.sound))
+    c.self.invariant.0.sound))
     (returns-clause-tables g c)

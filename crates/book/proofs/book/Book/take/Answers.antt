@@ -18,6 +18,7 @@ use Rattle.book.specs.Batches.{IsBatchOf}
 use Rattle.book.specs.declared.entry.Entry.{Entry}
 use Rattle.book.specs.declared.untaken.Untaken.{Untaken}
 use Rattle.book.proofs.Batched.{epochs_left, lawful_batch}
+use Rattle.book.proofs.Kept.{annals_floored}
 use Rattle.book.proofs.Loaded.{found_later, ready_loaded}
 use Rattle.book.proofs.Streams.{all_of, found, streams_later, stream_set, stream_taken, stream_within}
 use Rattle.book.proofs.book.Book.take.Goals as goal
@@ -30,7 +31,7 @@ at_least a b n p q = omega (arith, p, q)
 
 pub overflow_sub-mark : goal.overflow_sub-mark
 overflow_sub-mark g c =
-    let i = c.self.invariant in
+    let i = c.self.invariant.0 in
     let is = found g.K.Run.run.board.plan (found_epoch c.self.inside.seat) c.args.logger (map arc_value c.self.inside.history.items)
     c.self.inside.streams.items c.index_mut-stream.result.now i.streams c.requires.logger c.index_mut-stream.ensures.value in
     (begun c.index_mut-stream.result.now.mark (found_epoch c.self.inside.seat) c.floor-epoch.result is.mark
@@ -43,7 +44,7 @@ few past a b d e f = omega (arith, a, b, d, e, f)
 
 pub take-entries-requires : goal.take-entries-requires
 take-entries-requires g c =
-    let i = c.self.invariant in
+    let i = c.self.invariant.0 in
     let plan = g.K.Run.run.board.plan in
     let loggers = plan.loggers in
     let history = map arc_value c.self.inside.history.items in
@@ -55,7 +56,7 @@ take-entries-requires g c =
 
 pub invariant_of-self : goal.invariant_of-self
 invariant_of-self g c =
-    let i = c.self.invariant in
+    let i = c.self.invariant.0 in
     let t0 = g.K.Run.run.first in
     let plan = g.K.Run.run.board.plan in
     let loggers = plan.loggers in
@@ -73,29 +74,31 @@ invariant_of-self g c =
     (streams_later plan (found_epoch seat) epoch history streams later i.streams) c.requires.logger (λ k _. refl)
     (stream_taken plan.base (found_epoch seat) epoch (epoch - 1) (stream loggers c.args.logger history) s c.take-entries.new.self is
     (at_least plan.base s.mark (epoch - 1) is.least mark.1) mark.2
-    left.taken left.last_taken left.mark left.waiting) in
-    record {
-      population = i.population;
-      seed = i.seed;
-      past = i.past;
-      become = i.become;
-      sound = i.sound;
-      ready = subst (λ (q : SeatView). IsReady g.K.Run.run.past t0 g.K.Run.run.cells (found_epoch q) c.self.inside.pen (map arc_value c.self.inside.history.items)
-          (replay t0 (map arc_value c.self.inside.history.items))) (sym step)
-          (ready_loaded seat i.board c.requires.board c.floor-epoch.ensures.later i.ready);
-      totals = i.totals;
-      shares = i.shares;
-      lasts = i.lasts;
-      board = ap (λ (q : SeatView). q.board) step ∙ i.board;
-      counted = subst (λ (q : SeatView). HasCounted q (map arc_value c.self.inside.history.items)) (sym step) i.counted;
-      streams = subst (λ (q : SeatView). AreStreams g.K.Run.run.board.plan (found_epoch q) (map arc_value c.self.inside.history.items)
-          (slice_set c.self.inside.streams.items c.args.logger c.take-entries.new.self)) (sym step) taken;
-      loggable = i.loggable;
-    }
+    left.taken left.last_taken left.mark left.waiting) in (
+      record {
+        population = i.population;
+        seed = i.seed;
+        past = i.past;
+        become = i.become;
+        sound = i.sound;
+        ready = subst (λ (q : SeatView). IsReady g.K.Run.run.past t0 g.K.Run.run.cells (found_epoch q) c.self.inside.pen (map arc_value c.self.inside.history.items)
+            (replay t0 (map arc_value c.self.inside.history.items))) (sym step)
+            (ready_loaded seat i.board c.requires.board c.floor-epoch.ensures.later i.ready);
+        totals = i.totals;
+        shares = i.shares;
+        lasts = i.lasts;
+        board = ap (λ (q : SeatView). q.board) step ∙ i.board;
+        counted = subst (λ (q : SeatView). HasCounted q (map arc_value c.self.inside.history.items)) (sym step) i.counted;
+        streams = subst (λ (q : SeatView). AreStreams g.K.Run.run.board.plan (found_epoch q) (map arc_value c.self.inside.history.items)
+            (slice_set c.self.inside.streams.items c.args.logger c.take-entries.new.self)) (sym step) taken;
+        loggable = i.loggable;
+      },
+      annals_floored c.self.invariant.1 later step,
+    )
 
 pub invariant_of-result : goal.invariant_of-result
 invariant_of-result g c =
-    let i = c.self.invariant in
+    let i = c.self.invariant.0 in
     let plan = g.K.Run.run.board.plan in
     let seat = c.self.inside.seat in
     let history = map arc_value c.self.inside.history.items in
@@ -111,7 +114,7 @@ invariant_of-result g c =
 
 pub returns-clause-batch : goal.returns-clause-batch
 returns-clause-batch g c =
-    let i = c.self.invariant in
+    let i = c.self.invariant.0 in
     let plan = g.K.Run.run.board.plan in
     let loggers = plan.loggers in
     let seat = c.self.inside.seat in
@@ -153,7 +156,7 @@ returns-clause-batch g c =
 
 pub returns-clause-taken : goal.returns-clause-taken
 returns-clause-taken g c =
-    let i = c.self.invariant in
+    let i = c.self.invariant.0 in
     let plan = g.K.Run.run.board.plan in
     let streams = c.self.inside.streams.items in
     let history = map arc_value c.self.inside.history.items in

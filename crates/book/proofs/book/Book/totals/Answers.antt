@@ -29,15 +29,15 @@ of_tables t v k r are is of = record {
 
 pub of_district-requires-clause-sums : goal.of_district-requires-clause-sums
 of_district-requires-clause-sums g c =
-    subst (λ (s : Sizes). IsDistrictKey s c.args.key) (sym (c.self.invariant.totals.sums_scale ∙ c.self.invariant.ready.of_population.scale)) c.requires
+    subst (λ (s : Sizes). IsDistrictKey s c.args.key) (sym (c.self.invariant.0.totals.sums_scale ∙ c.self.invariant.0.ready.of_population.scale)) c.requires
 
 pub of_district-requires-clause-bounds : goal.of_district-requires-clause-bounds
 of_district-requires-clause-bounds g c =
-    subst (λ (s : Sizes). IsDistrictKey s c.args.key) (sym (c.self.invariant.totals.bounds_scale ∙ c.self.invariant.ready.of_population.scale)) c.requires
+    subst (λ (s : Sizes). IsDistrictKey s c.args.key) (sym (c.self.invariant.0.totals.bounds_scale ∙ c.self.invariant.0.ready.of_population.scale)) c.requires
 
 pub returns : goal.returns
 returns g c =
     let t = replay g.K.Run.run.first (map arc_value c.self.inside.history.items) in
     subst (λ (q : BookView). AreDistrictTotals (replay g.K.Run.run.first q.history) c.args.key c.of_district.result) c.self.view_is
-    (of_tables t c.self.inside.totals c.args.key c.of_district.result c.self.invariant.totals
-    (subst (λ (s : Sizes). IsDistrictKey s c.args.key) (sym c.self.invariant.ready.of_population.scale) c.requires) c.of_district.ensures)
+    (of_tables t c.self.inside.totals c.args.key c.of_district.result c.self.invariant.0.totals
+    (subst (λ (s : Sizes). IsDistrictKey s c.args.key) (sym c.self.invariant.0.ready.of_population.scale) c.requires) c.of_district.ensures)

@@ -8,6 +8,7 @@ use Rattle.tables.specs.declared.limits.TheConstants.{MAX_COMMITS}
 use Rattle.population.specs.Initial.{initial, seed_of}
 use Rattle.population.specs.declared.population.Population.{Population}
 use Rattle.cells.specs.Records.{CellsView, ReaderView}
+use Rattle.annals.specs.Passes.{AnnalsView, AnnalistView}
 use Rattle.book.specs.Base.{HasBecome}
 use Rattle.book.specs.History.{replay}
 use Rattle.book.specs.Book.{IsSound}
@@ -47,33 +48,42 @@ invariant_of-book g c =
     let ready =
     first_ready unused.records begun.past (found_epoch seat) start.room start.cap
     (subst (λ (s : Sizes). s.commits ≤ MAX_COMMITS) (sym start.become.of_population.scale) few) in
-    record {
-      population = ap initial fresh.lent ∙ run.population_is;
-      seed = ap seed_of fresh.lent ∙ run.seed_is;
-      past = run.past_is;
-      become = subst (λ (q : Database × Database). HasBecome q.0 q.1 begun.rows.items)
-          (λ i. (run.population_is i, run.first_is i)) start.become;
-      sound = subst (λ (q : Database × ℕ × List Entry). IsSound q.1 q.0 made.records.pen q.2 (replay q.0 q.2))
-          (λ i. (run.first_is i, run.past_is i, sym none i)) sound;
-      ready = subst (λ (q : Database × ℕ × CellsView × List Entry).
-          IsReady q.1 q.0 q.2 (found_epoch seat) made.records.pen q.3 (replay q.0 q.3))
-          (λ i. (run.first_is i, run.past_is i, run.cells_are i, sym none i)) ready;
-      totals = subst (λ (q : Database × List Entry). AreTotals (replay q.0 q.1) begun.totals)
-          (λ i. (run.first_is i, sym none i)) fresh.start.totals;
-      shares = c.open-shares.ensures.total ∙ sym (ap length none);
-      lasts = subst (λ (h : List Entry). AreLast g.K.Ledger.parts h made.lasts.items) (sym none)
-          (first_lasts unused.lasts (sym fresh.parts ∙ c.requires.ledger.parts_are));
-      board = ap (λ (s : SeatView). s.board) unused.board.book ∙ run.board_is;
-      counted = subst (λ (q : SeatView × List Entry). HasCounted q.0 q.1)
-          (λ i. (sym unused.board.book i, sym none i)) (λ i. []);
-      streams = subst (λ (q : BoardView × SeatView × List Entry).
-          AreStreams q.0.plan (found_epoch q.1) q.2 made.streams.items)
-          (λ i. (run.board_is i, sym unused.board.book i, sym none i))
-          (first_streams made.board.plan made.streams.items fresh.loggers.0 fresh.loggers.1 unused.streams);
-      loggable = subst (AreLoggable g.K.Run.run.first.scale g.K.Ledger.parts) (sym none)
-          (first_loggable g.K.Run.run.first.scale g.K.Ledger.parts
-          (subst (λ n. n ≤ MAX_TERMINALS) (sym fresh.parts ∙ c.requires.ledger.parts_are) fresh.few));
-    }
+    let blank = unused.blank in (
+      record {
+        population = ap initial fresh.lent ∙ run.population_is;
+        seed = ap seed_of fresh.lent ∙ run.seed_is;
+        past = run.past_is;
+        become = subst (λ (q : Database × Database). HasBecome q.0 q.1 begun.rows.items)
+            (λ i. (run.population_is i, run.first_is i)) start.become;
+        sound = subst (λ (q : Database × ℕ × List Entry). IsSound q.1 q.0 made.records.pen q.2 (replay q.0 q.2))
+            (λ i. (run.first_is i, run.past_is i, sym none i)) sound;
+        ready = subst (λ (q : Database × ℕ × CellsView × List Entry).
+            IsReady q.1 q.0 q.2 (found_epoch seat) made.records.pen q.3 (replay q.0 q.3))
+            (λ i. (run.first_is i, run.past_is i, run.cells_are i, sym none i)) ready;
+        totals = subst (λ (q : Database × List Entry). AreTotals (replay q.0 q.1) begun.totals)
+            (λ i. (run.first_is i, sym none i)) fresh.start.totals;
+        shares = c.open-shares.ensures.total ∙ sym (ap length none);
+        lasts = subst (λ (h : List Entry). AreLast g.K.Ledger.parts h made.lasts.items) (sym none)
+            (first_lasts unused.lasts (sym fresh.parts ∙ c.requires.ledger.parts_are));
+        board = ap (λ (s : SeatView). s.board) unused.board.book ∙ run.board_is;
+        counted = subst (λ (q : SeatView × List Entry). HasCounted q.0 q.1)
+            (λ i. (sym unused.board.book i, sym none i)) (λ i. []);
+        streams = subst (λ (q : BoardView × SeatView × List Entry).
+            AreStreams q.0.plan (found_epoch q.1) q.2 made.streams.items)
+            (λ i. (run.board_is i, sym unused.board.book i, sym none i))
+            (first_streams made.board.plan made.streams.items fresh.loggers.0 fresh.loggers.1 unused.streams);
+        loggable = subst (AreLoggable g.K.Run.run.first.scale g.K.Ledger.parts) (sym none)
+            (first_loggable g.K.Run.run.first.scale g.K.Ledger.parts
+            (subst (λ n. n ≤ MAX_TERMINALS) (sym fresh.parts ∙ c.requires.ledger.parts_are) fresh.few));
+      },
+      record {
+        own = blank.lent ∙ run.annals_are;
+        keeper = ap (λ (k : AnnalistView Entry). k.annals) blank.keeper ∙ run.annals_are;
+        base = sym (ap (λ (a : AnnalsView). a.base) run.annals_are) ∙ blank.base ∙ ap (λ (b : BoardView). b.plan.base) run.board_is;
+        whole = ap (λ (k : AnnalistView Entry). k.history) blank.keeper ∙ sym none;
+        mark = omega (arith, ap (λ (k : AnnalistView Entry). k.mark) blank.keeper, ap found_epoch unused.board.book);
+      },
+    )
 
 pub invariant_of-terminals : goal.invariant_of-terminals
 invariant_of-terminals g c =

@@ -1,0 +1,4 @@
+pub mod Claims
+pub mod Rule
+pub mod Plays
+pub mod Passes

@@ -1,0 +1,4 @@
+mod Called
+mod Agreed
+mod Turned
+pub mod Found
